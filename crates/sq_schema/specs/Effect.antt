@@ -1,0 +1,117 @@
+-- What a transaction does to the rows of its root key, and what it is answered.
+use Rattle.std.specs.Prelude.{ℕ, ℤ, Bool, true, false, ◌+◌, ◌-◌, ◌^◌, ◌+ℤ◌, ◌==◌, ◌&&◌, not, nat_lt, if◌then◌else◌, List, [], ◌∷◌, length, fold, Option, Some, None, Result, Ok, Err, is_some, pos, negsuc}
+use Rattle.std.specs.Ordering.{eq_by_cmp, int_cmp, is_lt}
+use Rattle.std.specs.FinMap.Entries.{find, put, where_key}
+use Rattle.sq_schema.specs.declared.row.RowKey.{RowKey}
+use Rattle.sq_schema.specs.declared.txn.Op.{Op}
+use Rattle.sq_schema.specs.declared.txn.Op.TheVariants.{Get, Put, Add, Del, Check}
+use Rattle.sq_schema.specs.declared.txn.OpAnswer.{OpAnswer}
+use Rattle.sq_schema.specs.declared.txn.OpAnswer.TheVariants.{Found, Number, Done}
+use Rattle.sq_schema.specs.declared.txn.Cause.{Cause}
+use Rattle.sq_schema.specs.declared.txn.Cause.TheVariants.{Absent, Small, Range, NoRoot, Children}
+use Rattle.sq_schema.specs.declared.txn.Reply.{Reply}
+use Rattle.sq_schema.specs.declared.txn.Reply.TheVariants.{Committed, Aborted}
+use Rattle.sq_schema.specs.Values.{RowValue}
+use Rattle.sq_schema.specs.Keys.{key_cmp}
+use Rattle.sq_schema.specs.TxnValue.{TxnValue}
+
+-- the rows of one root key, by key in rising order
+abbrev pub RowList : Type 0
+RowList = List (RowKey × RowValue)
+
+abbrev pub root_key : RowKey
+root_key = record { table = 0; sub = 0 }
+
+abbrev pub row_at : RowList → RowKey → Option RowValue
+row_at rows key = find key_cmp key rows
+
+abbrev pub with_row : RowList → RowKey → RowValue → RowList
+with_row rows key row = put key_cmp key row rows
+
+abbrev pub without_row : RowList → RowKey → RowList
+without_row rows key = where_key key_cmp (λ other. not (eq_by_cmp key_cmp key other)) rows
+
+-- a number that an `i64` holds
+abbrev pub is_i64 : ℤ → Bool
+is_i64 (pos n) = nat_lt n (2 ^ 63)
+is_i64 (negsuc n) = nat_lt n (2 ^ 63)
+
+-- what an operation comes to: the rows after it and its answer, or why it aborts
+abbrev pub Outcome : Type 0
+Outcome = Result (RowList × OpAnswer) Cause
+
+-- a row of another table than the root table stands only under its root row
+abbrev pub put_outcome : RowList → RowKey → RowValue → Outcome
+put_outcome rows key row =
+    if not (key.table == 0) && not (is_some (row_at rows root_key)) then Err NoRoot else Ok (with_row rows key row, Done)
+
+abbrev pub add_outcome : RowList → RowKey → ℤ → Option RowValue → Outcome
+add_outcome rows key by None = Err Absent
+add_outcome rows key by (Some row) =
+    if is_i64 (row.number +ℤ by)
+    then Ok (with_row rows key (record { number = row.number +ℤ by; note = row.note }), Number (row.number +ℤ by))
+    else Err Range
+
+abbrev pub del_outcome : RowList → RowKey → Option RowValue → Outcome
+del_outcome rows key None = Err Absent
+del_outcome rows key (Some row) =
+    if eq_by_cmp key_cmp key root_key && not (length rows == 1) then Err Children else Ok (without_row rows key, Done)
+
+abbrev pub check_outcome : RowList → ℤ → Option RowValue → Outcome
+check_outcome rows least None = Err Absent
+check_outcome rows least (Some row) = if is_lt (int_cmp row.number least) then Err Small else Ok (rows, Done)
+
+abbrev pub op_outcome : RowList → Op → Outcome
+op_outcome rows (Get key) = Ok (rows, Found (row_at rows key))
+op_outcome rows (Put key row) = put_outcome rows key row
+op_outcome rows (Add key by) = add_outcome rows key by (row_at rows key)
+op_outcome rows (Del key) = del_outcome rows key (row_at rows key)
+op_outcome rows (Check key least) = check_outcome rows least (row_at rows key)
+
+-- what operations come to: the rows after them and their answers, or the position and the cause of the first abort
+abbrev pub OpsOutcome : Type 0
+OpsOutcome = Result (RowList × List OpAnswer) (ℕ × Cause)
+
+abbrev pub with_answer : OpAnswer → OpsOutcome → OpsOutcome
+with_answer answer (Ok told) = Ok (told.0, answer ∷ told.1)
+with_answer answer (Err abort) = Err abort
+
+-- the operation at this position, and then the rest
+abbrev pub then_rest : ℕ → (RowList → OpsOutcome) → Outcome → OpsOutcome
+then_rest at rest (Ok done) = with_answer done.1 (rest done.0)
+then_rest at rest (Err cause) = Err (at, cause)
+
+abbrev pub ops_outcome : ℕ → List Op → RowList → OpsOutcome
+ops_outcome at [] rows = Ok (rows, [])
+ops_outcome at (op ∷ ops) rows = then_rest at (ops_outcome (at + 1) ops) (op_outcome rows op)
+
+abbrev pub rows_after : RowList → OpsOutcome → RowList
+rows_after rows (Ok told) = told.0
+rows_after rows (Err abort) = rows
+
+abbrev pub reply_of : OpsOutcome → Reply
+reply_of (Ok told) = Committed told.1
+reply_of (Err abort) = Aborted abort.0 abort.1
+
+-- the rows of its root key after the transaction, which are those before it where it aborts
+abbrev pub effect : RowList → TxnValue → RowList
+effect rows txn = rows_after rows (ops_outcome 0 txn.ops rows)
+
+-- what the transaction is answered on these rows
+abbrev pub reply : RowList → TxnValue → Reply
+reply rows txn = reply_of (ops_outcome 0 txn.ops rows)
+
+-- the rows of one root key after transactions on it, one after another
+abbrev pub replay_rows : RowList → List TxnValue → RowList
+replay_rows rows txns = fold effect rows txns
+
+-- a table that isn't partitioned: the rows of each root key
+abbrev pub RowTable : Type 0
+RowTable = ℕ → RowList
+
+abbrev pub table_after : RowTable → TxnValue → RowTable
+table_after table txn root = if txn.root == root then effect (table root) txn else table root
+
+-- the table after transactions, one after another
+abbrev pub replay : RowTable → List TxnValue → RowTable
+replay table txns = fold table_after table txns

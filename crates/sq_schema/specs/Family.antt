@@ -1,0 +1,25 @@
+-- A family: the rows of one root key, with the rows that its log starts from and the transactions that committed since.
+use Rattle.std.specs.Prelude.{ℕ, Bool, ◌+◌, ◌==◌, ◌||◌, not, List, length, sum_by}
+use Rattle.sq_schema.specs.Effect.{RowList, replay_rows}
+use Rattle.sq_schema.specs.TxnValue.{TxnValue}
+
+pub record FamilyValue : Type 0 where
+  pub root : ℕ
+  pub base : RowList
+  pub log : List TxnValue
+
+-- its rows are the replay of its log on its base
+abbrev pub rows_of : FamilyValue → RowList
+rows_of family = replay_rows family.base family.log
+
+-- a log holds this many transactions at most
+abbrev pub log_limit : ℕ
+log_limit = 4096
+
+-- the size in bytes of a family with these rows
+abbrev pub rows_size : RowList → ℕ
+rows_size rows = 32 + sum_by (λ entry. 24 + length entry.1.note) rows
+
+-- a family stands that has rows to start from, or a log
+abbrev pub family_stands : FamilyValue → Bool
+family_stands family = not (length family.base == 0) || not (length family.log == 0)

@@ -1,0 +1,6 @@
+-- A row without where it lies in memory.
+use Rattle.std.specs.Prelude.{ℕ, ℤ, List}
+
+pub record RowValue : Type 0 where
+  pub number : ℤ
+  pub note : List ℕ

@@ -1,0 +1,42 @@
+// The keys by which tables are cut into partitions.
+ghost use Rattle.std.specs.Prelude.{◌≡◌, ◌<◌, ◌^◌};
+ghost use Rattle.std.specs.Option.{SomeIff};
+
+use std::marker::Model;
+
+/// Root keys are the whole numbers below this.
+pub const ROOT_END: u64 = 4_294_967_296;
+
+/// A root key. To a contract it is the number.
+#[derive(Clone, Copy, Debug, PartialEq, Eq, PartialOrd, Ord)]
+pub struct Root(u32);
+
+impl Model for Root {
+    ghost use Rattle.std.specs.Prelude.{ℕ};
+
+    ghost Value = { ℕ };
+
+    ghost view = { λ r. r.0 };
+
+    ghost inverse = { λ n. record { 0 = n } };
+}
+
+impl Root {
+    /// The root key of this number; `None` from [`ROOT_END`] on.
+    pub fn new(key: u64) -> Option<Root>
+        ensures { SomeIff result (key < ROOT_END) key }
+    {
+        match u32::try_from(key) {
+            Ok(key) => Some(Root(key)),
+            Err(_) => None,
+        }
+    }
+
+    /// The number, below [`ROOT_END`].
+    pub fn number(self) -> u64
+        ensures number { result ≡ self }
+        ensures bound { result < ROOT_END }
+    {
+        u64::from(self.0)
+    }
+}
