@@ -1,0 +1,36 @@
+-- Partition plans, and the owner of a key.
+use Rattle.std.specs.Prelude.{◌≡◌, ℕ, Bool, true, false, ◌==◌, ◌&&◌, ◌≤◌, nat_lt, nat_le, List, [], ◌∷◌, length, find, Option, Some, None, IsTrue}
+use Rattle.std.specs.List.{list_all}
+use Rattle.sq_plan.specs.declared.plan.PlanRange.{PlanRange}
+
+pub record PlanValue : Type 0 where
+  pub parts : ℕ
+  pub ranges : List PlanRange
+
+-- where root keys end
+abbrev pub root_end : ℕ
+root_end = 4294967296
+
+-- ranges that follow one another from this key to the end of the root keys, none of them empty
+abbrev pub is_tiling : ℕ → List PlanRange → Bool
+is_tiling lo [] = lo == root_end
+is_tiling lo (range ∷ ranges) = (range.lo == lo) && (nat_lt range.lo range.hi && is_tiling range.hi ranges)
+
+pub record IsPlan (plan : PlanValue) : Type 0 where
+  pub some_part : 1 ≤ plan.parts
+  pub few_parts : plan.parts ≤ 16
+  pub few_ranges : length plan.ranges ≤ 256
+  pub tiling : is_tiling 0 plan.ranges ≡ true
+  pub owners : list_all (λ range. nat_lt range.owner plan.parts) plan.ranges ≡ true
+
+-- the range holds the key
+abbrev pub holds : PlanRange → ℕ → Bool
+holds range key = nat_le range.lo key && nat_lt key range.hi
+
+abbrev pub owner_in : Option PlanRange → ℕ
+owner_in None = 0
+owner_in (Some range) = range.owner
+
+-- the partition that owns a root key
+abbrev pub owner : PlanValue → ℕ → ℕ
+owner plan key = owner_in (find (λ range. holds range key) plan.ranges)

@@ -1,0 +1,2 @@
+pub mod ReconValue
+pub mod Moves
