@@ -1,4 +1,7 @@
 // Chunks and their notes.
+ghost use Rattle.std.specs.Prelude.{◌≡◌, ◌↔◌, [], length, IsTrue};
+ghost use Rattle.sq_chunk.specs.ChunkValue.{are_within};
+
 use sq_plan::PartId;
 use sq_schema::Family;
 use std::marker::Model;
@@ -41,4 +44,53 @@ impl Model for Chunk {
     ghost view = { λ c. record { note = c.note; families = c.families.items } };
 
     ghost invariant = { λ c. IsTrue (are_within c.note.lo c.note.hi c.families.items) };
+}
+
+impl Chunk {
+    /// A chunk of these families, whose roots rise strictly from the note's `lo` on and stay below its `hi`.
+    pub fn new(note: Note, families: Vec<Family>) -> Chunk
+        requires { IsTrue (are_within note.lo note.hi families.items) }
+        ensures { result ≡ record { note = note; families = families.items } }
+    {
+        Chunk { note, families }
+    }
+
+    /// What it covers.
+    pub fn note(&self) -> Note
+        ensures { result ≡ self.now.note }
+    {
+        self.note
+    }
+
+    /// Its families, by root in rising order, with each root within what the note covers.
+    pub fn families(&self) -> &[Family]
+        ensures families { result.now ≡ self.now.families }
+        ensures within { IsTrue (are_within self.now.note.lo self.now.note.hi self.now.families) }
+    {
+        self.families.as_slice()
+    }
+
+    /// How many families it has.
+    pub fn len(&self) -> usize
+        ensures { result ≡ length self.now.families }
+    {
+        self.families.len()
+    }
+
+    /// Whether it has no family.
+    pub fn is_empty(&self) -> bool
+        ensures { IsTrue result ↔ (self.now.families ≡ []) }
+    {
+        self.families.is_empty()
+    }
+
+    /// Its note and its families, in the same room: `Chunk::new` puts them together again without memory.
+    pub fn into_parts(self) -> (Note, Vec<Family>)
+        ensures note { result.0 ≡ self.note }
+        ensures families { result.1.items ≡ self.families }
+        ensures within { IsTrue (are_within self.note.lo self.note.hi self.families) }
+    {
+        let Chunk { note, families } = self;
+        (note, families)
+    }
 }

@@ -4,3 +4,6 @@
 mod chunk;
 
 pub use chunk::{Chunk, Note};
+
+#[cfg(test)]
+mod tests;

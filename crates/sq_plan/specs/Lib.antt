@@ -1,1 +1,5 @@
 pub mod PlanValue
+pub mod Fault
+pub mod Spelling
+pub mod Reading
+pub mod Draft

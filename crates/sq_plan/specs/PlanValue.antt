@@ -1,5 +1,5 @@
 -- Partition plans, and the owner of a key.
-use Rattle.std.specs.Prelude.{◌≡◌, ℕ, Bool, true, false, ◌==◌, ◌&&◌, ◌≤◌, nat_lt, nat_le, List, [], ◌∷◌, length, find, Option, Some, None, IsTrue}
+use Rattle.std.specs.Prelude.{◌≡◌, ℕ, Bool, true, ◌==◌, ◌&&◌, ◌<◌, ◌≤◌, nat_lt, nat_le, List, [], ◌∷◌, length, filter, find, Option, Some, None}
 use Rattle.std.specs.List.{list_all}
 use Rattle.sq_plan.specs.declared.plan.PlanRange.{PlanRange}
 
@@ -34,3 +34,9 @@ owner_in (Some range) = range.owner
 -- the partition that owns a root key
 abbrev pub owner : PlanValue → ℕ → ℕ
 owner plan key = owner_in (find (λ range. holds range key) plan.ranges)
+
+-- the range alone holds the key, and its owner is the key's: one of the plan's partitions
+pub record IsHolder (plan : PlanValue) (key : ℕ) (range : PlanRange) : Type 0 where
+  pub alone : filter (λ range. holds range key) plan.ranges ≡ range ∷ []
+  pub owns : owner plan key ≡ range.owner
+  pub exists : range.owner < plan.parts

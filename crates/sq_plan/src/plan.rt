@@ -1,5 +1,11 @@
 // Plans.
+ghost use Rattle.std.specs.Prelude.{◌≡◌, ◌<◌, ◌≤◌, nat_le, length, IfOk};
+
+use crate::fault::PlanFault;
 use crate::part::PartId;
+use crate::read::{json_in, plan_of};
+use sq_schema::Root;
+use std::alloc::Global;
 use std::marker::Model;
 
 /// The root keys from `lo` up to `hi`, and the partition that owns them.
@@ -29,4 +35,70 @@ impl Model for Plan {
     ghost view = { λ p. record { parts = p.parts; ranges = p.ranges.items } };
 
     ghost invariant = { λ p. IsPlan (record { parts = p.parts; ranges = p.ranges.items }) };
+}
+
+impl Plan {
+    ghost use Rattle.std.specs.Prelude.{Ok, Err, Some, None};
+    ghost use Rattle.serde_json.specs.Data.{Data};
+    ghost use Rattle.sq_plan.specs.PlanValue.{PlanValue, IsPlan, owner};
+    ghost use Rattle.sq_plan.specs.Spelling.{Spells};
+    ghost use Rattle.sq_plan.specs.Reading.{Gives, json_of, plan_in};
+
+    /// A plan of this many partitions with these ranges.
+    pub(crate) fn of(parts: u8, ranges: Vec<PlanRange>) -> Plan
+        requires { IsPlan (record { parts = parts; ranges = ranges.items }) }
+        ensures { result ≡ record { parts = parts; ranges = ranges.items } }
+    {
+        Plan { parts, ranges }
+    }
+
+    /// The plan that the bytes spell in JSON, as `{"version":1,"partitions":P,"ranges":[[lo,hi,owner],..]}`: the
+    /// fields in any order and among others. Otherwise the fault of the first check that fails, in the order that
+    /// [`PlanFault`] has. Want of memory may come in place of any answer, for bytes that aren't empty.
+    pub fn read(alloc: Global, bytes: &[u8]) -> Result<Plan, PlanFault>
+        // The plan, or the fault of the first check that fails.
+        ensures exact { Gives result (plan_in bytes.now) }
+        // What is read is a plan, and the bytes spell it.
+        ensures found { IfOk result (λ plan. IsPlan plan
+            × ((value : Data) × (json_of bytes.now ≡ Some value) × Spells value plan)) }
+        // Each plan that bytes spell is read from them, unless memory runs out.
+        ensures only { (value : Data) (plan : PlanValue) → json_of bytes.now ≡ Some value
+            → Spells value plan → IsPlan plan → Gives result (Ok plan) }
+        // Only what is no JSON text is refused as none.
+        ensures no_json { result ≡ Err PlanFault.NotJson → json_of bytes.now ≡ None }
+        ensures memory { result ≡ Err PlanFault.Memory → 0 < length bytes.now }
+    {
+        let value = json_in(alloc, bytes)?;
+        plan_of(alloc, &value)
+    }
+
+    /// The owner of a root key.
+    pub fn owner(&self, root: Root) -> PartId
+        ensures owner { result ≡ owner self.now root }
+        ensures exists { result < self.now.parts }
+    {
+        let key = root.number();
+        let at = self.ranges.as_slice().partition_point(
+            |range: &PlanRange| -> bool
+                ensures { result ≡ nat_le range.now.hi key }
+            { range.hi <= key },
+        );
+        self.ranges[at].owner
+    }
+
+    /// How many partitions there are, from 1 to 16.
+    pub fn parts(&self) -> u8
+        ensures parts { result ≡ self.now.parts }
+        ensures plan { IsPlan self.now }
+    {
+        self.parts
+    }
+
+    /// The ranges, in key order.
+    pub fn ranges(&self) -> &[PlanRange]
+        ensures ranges { result.now ≡ self.now.ranges }
+        ensures plan { IsPlan self.now }
+    {
+        &self.ranges
+    }
 }

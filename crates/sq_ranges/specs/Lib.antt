@@ -1,2 +1,6 @@
 pub mod ReconValue
 pub mod Moves
+pub mod Between
+pub mod Sweep
+pub mod CutEnd
+pub mod OpeningValue

@@ -1,6 +1,7 @@
 -- What moves between two plans.
-use Rattle.std.specs.Prelude.{◌≡◌, ◌≢◌, ℕ, ◌≤◌, ◌<◌, ◌⊎◌, List, [], ◌∷◌, true, IsTrue, All}
-use Rattle.std.specs.List.{list_any}
+use Rattle.std.specs.Prelude.{◌≡◌, ◌≢◌, ℕ, Bool, ◌≤◌, ◌<◌, ◌==◌, ◌&&◌, not, nat_lt, min, max, if◌then◌else◌, List, [], ◌∷◌, map, filter, true, All}
+use Rattle.std.specs.List.{list_any, flat_map}
+use Rattle.sq_plan.specs.declared.plan.PlanRange.{PlanRange}
 use Rattle.sq_plan.specs.PlanValue.{PlanValue, owner, root_end}
 use Rattle.sq_ranges.specs.declared.recon.Range.{Range}
 use Rattle.sq_ranges.specs.ReconValue.{holds}
@@ -27,3 +28,32 @@ pub record AreMoves (old new : PlanValue) (ranges : List Range) : Type 0 where
   pub runs : All (IsRun old new) ranges
   pub maximal : AreMaximal ranges
   pub each : (key : ℕ) → key < root_end → owner old key ≢ owner new key → list_any (λ range. holds range key) ranges ≡ true
+
+-- these are the moves, and no other list is
+pub record AreTheMoves (old new : PlanValue) (ranges : List Range) : Type 0 where
+  pub moves : AreMoves old new ranges
+  pub alone : (others : List Range) → AreMoves old new others → others ≡ ranges
+
+-- the keys that a range of the old plan and one of the new have in common, with both owners
+abbrev pub overlap : PlanRange → PlanRange → Range
+overlap one other = record { lo = max one.lo other.lo; hi = min one.hi other.hi; src = one.owner; dst = other.owner }
+
+-- it has keys, and they move
+abbrev pub moves_keys : Range → Bool
+moves_keys range = nat_lt range.lo range.hi && not (range.src == range.dst)
+
+-- a range put before those that follow it; one with the next where that goes on from it with the same owners
+abbrev pub joined_with : Range → List Range → List Range
+joined_with range [] = range ∷ []
+joined_with range (next ∷ ranges) =
+    if (range.hi == next.lo) && ((range.src == next.src) && (range.dst == next.dst))
+    then record { lo = range.lo; hi = next.hi; src = next.src; dst = next.dst } ∷ ranges
+    else range ∷ next ∷ ranges
+
+abbrev pub joined : List Range → List Range
+joined [] = []
+joined (range ∷ ranges) = joined_with range (joined ranges)
+
+-- the moves, made of the overlaps of the two plans' ranges
+unfoldable pub moves_of : PlanValue → PlanValue → List Range
+moves_of old new = joined (flat_map (λ one. filter moves_keys (map (overlap one) new.ranges)) old.ranges)

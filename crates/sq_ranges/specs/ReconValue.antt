@@ -1,9 +1,14 @@
 -- Reconfiguration ranges, segments, and where their nodes and leaves lie.
-use Rattle.std.specs.Prelude.{ℕ, Bool, ◌+◌, ◌-◌, ◌*◌, ◌/◌, ◌==◌, ◌&&◌, nat_lt, nat_le, min, List, map, position, Option}
+use Rattle.std.specs.Prelude.{◌≡◌, ◌↔◌, ℕ, Bool, true, ◌+◌, ◌-◌, ◌*◌, ◌/◌, ◌==◌, ◌&&◌, ◌≤◌, not, nat_lt, nat_le, min, if◌then◌else◌, List, [], ◌∷◌, length, map, position, slice_get, Option, Some, None, option_map, option_and_then, Contains}
 use Rattle.std.specs.List.{list_any, flat_map, range_with_len}
-use Rattle.sq_tree.specs.Node.{span, first_leaf}
+use Rattle.std.specs.List.Sorted.{IsStrictlySortedBy}
+use Rattle.std.specs.declared.cmp.Ordering.{Ordering}
+use Rattle.std.specs.Ordering.{nat_cmp, ordering_then}
+use Rattle.sq_plan.specs.PlanValue.{root_end}
+use Rattle.sq_tree.specs.Node.{span, first_leaf, is_node}
 use Rattle.sq_ranges.specs.declared.recon.Range.{Range}
 use Rattle.sq_ranges.specs.declared.recon.Extent.{Extent}
+use Rattle.sq_ranges.specs.declared.recon.Link.{Link}
 
 pub record ReconValue : Type 0 where
   pub width : ℕ
@@ -37,6 +42,27 @@ segments_in width range = map (segment_at width range) (range_with_len 0 (segmen
 abbrev pub segments_of : ℕ → List Range → List Range
 segments_of width ranges = flat_map (segments_in width) ranges
 
+-- how many segments there are at most
+abbrev pub segment_limit : ℕ
+segment_limit = 256
+
+-- a leaf has 1 to 65,536 keys
+abbrev pub is_width : ℕ → Bool
+is_width width = nat_le 1 width && nat_le width 65536
+
+-- ranges in key order from this key on, none of them empty, each from one partition to another
+abbrev pub are_rising : ℕ → List Range → Bool
+are_rising lo [] = true
+are_rising lo (range ∷ ranges) =
+    nat_le lo range.lo && (nat_lt range.lo range.hi && (nat_le range.hi root_end && (not (range.src == range.dst) && are_rising range.hi ranges)))
+
+-- what holds of each reconfiguration, whatever its plans
+pub record IsRecon (recon : ReconValue) : Type 0 where
+  pub leaf : is_width recon.width ≡ true
+  pub rising : are_rising 0 recon.ranges ≡ true
+  pub cut : recon.segments ≡ segments_of recon.width recon.ranges
+  pub few : length recon.segments ≤ segment_limit
+
 -- the number of the segment that holds a key
 abbrev pub segment_of : List Range → ℕ → Option ℕ
 segment_of segments key = position (λ segment. holds segment key) segments
@@ -54,6 +80,27 @@ abbrev pub extent : ℕ → Range → ℕ → Extent
 extent width segment n =
     record { lo = leaf_start width segment (first_leaf n); hi = leaf_start width segment (first_leaf n + span n) }
 
+-- the segment and the leaf that hold a key; none where no segment holds it
+abbrev pub leaf_at : ReconValue → ℕ → Option (ℕ × ℕ)
+leaf_at recon key =
+    option_and_then (λ i. option_map (λ segment. (i, leaf_of recon.width segment key)) (slice_get recon.segments i)) (segment_of recon.segments key)
+
+-- the keys of a node of a segment; none where there is no such segment or node
+abbrev pub extent_at : ReconValue → ℕ → ℕ → Option Extent
+extent_at recon seg n = if is_node n then option_map (λ segment. extent recon.width segment n) (slice_get recon.segments seg) else None
+
+abbrev pub link_of : Range → Link
+link_of range = record { src = range.src; dst = range.dst }
+
 -- some range goes from one partition to the other
 abbrev pub is_link : List Range → ℕ → ℕ → Bool
 is_link ranges src dst = list_any (λ range. (range.src == src) && (range.dst == dst)) ranges
+
+-- links in their order: by source, and then by destination
+abbrev pub link_cmp : Link → Link → Ordering
+link_cmp one other = ordering_then (nat_cmp one.src other.src) (nat_cmp one.dst other.dst)
+
+-- the links of these ranges, strictly rising
+pub record AreLinks (ranges : List Range) (links : List Link) : Type 0 where
+  pub rising : IsStrictlySortedBy link_cmp links
+  pub all : (link : Link) → Contains links link ↔ (is_link ranges link.src link.dst ≡ true)

@@ -1,6 +1,13 @@
 //! What a reconfiguration from one plan to another moves: ranges, segments and the extents of their nodes.
 #![tactic(auto)]
 
+mod cut;
+mod fault;
+mod node;
+mod opening;
 mod recon;
+mod sweep;
 
-pub use recon::{Extent, Range, Recon, SegId};
+pub use fault::ReconFault;
+pub use opening::Config;
+pub use recon::{Extent, Leaf, Link, Range, Recon, SegId};

@@ -1,9 +1,25 @@
 // The ranges of a reconfiguration, and the segments that they are cut into.
-use sq_plan::PartId;
+ghost use Rattle.std.specs.Prelude.{◌≡◌, ◌<◌, ◌≤◌, true, false, nat_le, length, None, IfOk, IfSome, MatchResult, unwrap_or};
+ghost use Rattle.std.specs.List.Sorted.{IsPartitionPoint};
+ghost use Rattle.sq_plan.specs.PlanValue.{root_end};
+ghost use Rattle.sq_ranges.specs.ReconValue.{is_width, are_rising, leaf_start};
+
+use crate::cut::{fits, links, moves, segments};
+use crate::fault::ReconFault;
+use crate::node::{first_leaf, is_node, span};
+use sq_plan::{PartId, Plan};
+use sq_schema::Root;
+use std::alloc::Global;
 use std::marker::Model;
+
+/// How many root keys a leaf has at most.
+const MAX_WIDTH: u64 = 65_536;
 
 /// A segment, by its number from 0 in key order.
 pub type SegId = u64;
+
+/// A leaf of a segment, from 0 to 31 in key order.
+pub type Leaf = u64;
 
 /// The root keys from `lo` up to `hi`, which move from one partition to another: a reconfiguration range
 /// (Elmore et al., Squall, SIGMOD 2015), or a segment of one.
@@ -28,18 +44,165 @@ pub struct Extent {
     pub hi: u64,
 }
 
+/// Two partitions between which some range moves.
+#[derive(Clone, Copy, Debug, PartialEq, Eq, PartialOrd, Ord)]
+pub struct Link {
+    /// The partition that keys leave.
+    pub src: PartId,
+    /// The partition that they come to.
+    pub dst: PartId,
+}
+
 /// What moves between two plans. To a contract it is a `ReconValue`.
 #[derive(Debug, Drop)]
 pub struct Recon {
     width: u64,
     ranges: Vec<Range>,
     segments: Vec<Range>,
+    links: Vec<Link>,
 }
 
 impl Model for Recon {
-    ghost use Rattle.sq_ranges.specs.ReconValue.{ReconValue};
+    ghost use Rattle.sq_ranges.specs.ReconValue.{ReconValue, IsRecon, AreLinks};
 
     ghost Value = { ReconValue };
 
     ghost view = { λ r. record { width = r.width; ranges = r.ranges.items; segments = r.segments.items } };
+
+    ghost invariant = { λ r. IsRecon (record { width = r.width; ranges = r.ranges.items; segments = r.segments.items }) × AreLinks r.ranges.items r.links.items };
+}
+
+impl Recon {
+    ghost use Rattle.sq_ranges.specs.ReconValue.{IsRecon, AreLinks, leaf_at, extent_at};
+    ghost use Rattle.sq_ranges.specs.Moves.{AreTheMoves, moves_of};
+    ghost use Rattle.sq_ranges.specs.Between.{recon_fault, recon_of, IsReconOf};
+
+    /// What moves between two plans, cut into segments of 32 leaves of `width` root keys each. Refused are, in
+    /// this order: plans of different numbers of partitions, a width that isn't from 1 to 65,536, and moves that
+    /// come to more than 256 segments. Memory is taken, and may be wanted, only for what isn't refused.
+    #[tactic(auto, using(crate::proofs::Runs::the_moves))]
+    pub fn between(
+        alloc: Global,
+        old: &Plan,
+        new: &Plan,
+        width: u64,
+    ) -> Result<Recon, ReconFault>
+        ensures answer { MatchResult result
+            (λ recon. (recon_fault old.now new.now width ≡ None) × (recon ≡ recon_of old.now new.now width))
+            (λ fault. fault ≡ unwrap_or (recon_fault old.now new.now width) ReconFault.Memory) }
+        ensures ok { IfOk result (IsReconOf old.now new.now width) }
+        // Two plans have one list of moves.
+        ensures moves { AreTheMoves old.now new.now (moves_of old.now new.now) }
+    {
+        if old.parts() != new.parts() {
+            return Err(ReconFault::PartitionsDiffer);
+        }
+        if !is_width(width) {
+            return Err(ReconFault::Width);
+        }
+        if !fits(old, new, width) {
+            return Err(ReconFault::TooManySegments);
+        }
+        let ranges = moves(alloc, old, new)?;
+        let segments = segments(alloc, ranges.as_slice(), width)?;
+        let links = links(alloc, ranges.as_slice())?;
+        Ok(Recon {
+            width,
+            ranges,
+            segments,
+            links,
+        })
+    }
+
+    /// How many root keys a leaf has at most, from 1 to 65,536.
+    pub fn width(&self) -> u64
+        ensures width { result ≡ self.now.width }
+        ensures recon { IsRecon self.now }
+    {
+        self.width
+    }
+
+    /// The reconfiguration ranges, in key order.
+    pub fn ranges(&self) -> &[Range]
+        ensures ranges { result.now ≡ self.now.ranges }
+        ensures recon { IsRecon self.now }
+    {
+        self.ranges.as_slice()
+    }
+
+    /// The segments, in key order over all ranges; at most 256.
+    pub fn segments(&self) -> &[Range]
+        ensures segments { result.now ≡ self.now.segments }
+        ensures recon { IsRecon self.now }
+    {
+        self.segments.as_slice()
+    }
+
+    /// The links of the ranges, each once, by source and then by destination.
+    pub fn links(&self) -> &[Link]
+        ensures { AreLinks self.now.ranges result.now }
+    {
+        self.links.as_slice()
+    }
+
+    /// The segment that holds a root key, and the leaf of it; `None` where no segment does.
+    pub fn find(&self, root: Root) -> Option<(SegId, Leaf)>
+        ensures found { result ≡ leaf_at self.now root }
+        ensures leaf { IfSome result (λ found. found.1 < 32) }
+    {
+        let key = root.number();
+        let at = count_up_to(self.segments.as_slice(), key);
+        let segment = self.segments.as_slice().get(at)?;
+        if key < segment.lo {
+            return None;
+        }
+        Some((at as SegId, (key - segment.lo) / self.width))
+    }
+
+    /// The root keys of a node of a segment; `None` where there is no such segment, or where the node isn't one
+    /// of 1 to 63.
+    pub fn extent(&self, seg: SegId, node: u64) -> Option<Extent>
+        ensures { result ≡ extent_at self.now seg node }
+    {
+        if !is_node(node) {
+            return None;
+        }
+        let segment = self.segments.as_slice().get(seg as usize)?;
+        let first = first_leaf(node);
+        Some(Extent {
+            lo: leaf_start(segment, self.width, first),
+            hi: leaf_start(segment, self.width, first + span(node)),
+        })
+    }
+}
+
+// Whether a leaf may have this many root keys.
+fn is_width(width: u64) -> bool
+    ensures { result ≡ is_width width }
+{
+    (1..=MAX_WIDTH).contains(&width)
+}
+
+// How many of the segments end at a key or before it.
+fn count_up_to(segments: &[Range], key: u64) -> usize
+    requires { are_rising 0 segments.now ≡ true }
+    ensures bound { result ≤ length segments.now }
+    ensures point { IsPartitionPoint (λ segment. nat_le segment.hi key ≡ true) (λ segment. nat_le segment.hi key ≡ false) segments.now result }
+{
+    segments.partition_point(
+        |segment: &Range| -> bool
+            ensures { result ≡ nat_le segment.now.hi key }
+        { segment.hi <= key },
+    )
+}
+
+// Where a leaf of a segment begins; past the segment's end, that end.
+fn leaf_start(segment: &Range, width: u64, leaf: u64) -> u64
+    requires leaf { leaf ≤ 32 }
+    requires width { width ≤ 65536 }
+    requires within { segment.now.hi ≤ root_end }
+    requires some { segment.now.lo ≤ segment.now.hi }
+    ensures { result ≡ leaf_start width segment.now leaf }
+{
+    segment.hi.min(segment.lo + leaf * width)
 }

@@ -1,5 +1,8 @@
 -- A family: the rows of one root key, with the rows that its log starts from and the transactions that committed since.
-use Rattle.std.specs.Prelude.{ℕ, Bool, ◌+◌, ◌==◌, ◌||◌, not, List, length, sum_by}
+use Rattle.std.specs.Prelude.{ℕ, Bool, ◌+◌, ◌==◌, ◌||◌, not, List, [], ◌∷◌, ◌++◌, length, sum_by}
+use Rattle.sq_schema.specs.declared.txn.Reply.{Reply}
+use Rattle.sq_schema.specs.declared.txn.Reply.TheVariants.{Committed, Aborted}
+use Rattle.sq_schema.specs.Values.{RowValue}
 use Rattle.sq_schema.specs.Effect.{RowList, replay_rows}
 use Rattle.sq_schema.specs.TxnValue.{TxnValue}
 
@@ -16,10 +19,23 @@ rows_of family = replay_rows family.base family.log
 abbrev pub log_limit : ℕ
 log_limit = 4096
 
+-- the size in bytes of a row in its family
+abbrev pub row_size : RowValue → ℕ
+row_size row = 24 + length row.note
+
 -- the size in bytes of a family with these rows
 abbrev pub rows_size : RowList → ℕ
-rows_size rows = 32 + sum_by (λ entry. 24 + length entry.1.note) rows
+rows_size rows = 32 + sum_by (λ entry. row_size entry.1) rows
 
 -- a family stands that has rows to start from, or a log
 abbrev pub family_stands : FamilyValue → Bool
 family_stands family = not (length family.base == 0) || not (length family.log == 0)
+
+-- a family whose log has one more transaction
+abbrev pub logged : FamilyValue → TxnValue → FamilyValue
+logged family txn = record family { log = family.log ++ txn ∷ [] }
+
+-- a family after a transaction that was answered so: a commit goes to the end of the log, and an abort doesn't
+abbrev pub answered : FamilyValue → TxnValue → Reply → FamilyValue
+answered family txn (Committed answers) = logged family txn
+answered family txn (Aborted at cause) = family

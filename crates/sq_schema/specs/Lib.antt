@@ -3,3 +3,9 @@ pub mod Keys
 pub mod TxnValue
 pub mod Effect
 pub mod Family
+pub mod Refusals
+pub mod Rows
+pub mod Writes
+pub mod Runs
+pub mod Standing
+pub mod Table

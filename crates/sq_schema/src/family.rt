@@ -1,23 +1,149 @@
-// Families.
+// Families: the rows of a root key, with what led to them.
+ghost use Rattle.std.specs.Prelude.{◌≡◌, ◌≤◌, ◌↔◌, true, [], length, IfOk, IfErr, OnErr, IsErrOf, IsTrue};
+ghost use Rattle.std.specs.List.{All};
+ghost use Rattle.sq_schema.specs.Effect.{reply};
+ghost use Rattle.sq_schema.specs.Family.{rows_of, rows_size, log_limit, family_stands, answered};
+ghost use Rattle.sq_schema.specs.Rows.{is_rooted};
+
+use crate::draft::{Outcome, run};
+use crate::fault::ApplyFault;
 use crate::root::Root;
-use crate::row::Rows;
-use crate::txn::Txn;
+use crate::rows::Rows;
+use crate::txn::{Reply, Txn};
+use std::alloc::Global;
 use std::marker::Model;
 
-/// The rows of one root key, with the rows that its log starts from and the transactions that committed
-/// since. To a contract it is a `FamilyValue`.
+/// The most transactions that a log holds.
+pub const MAX_LOG: usize = 4096;
+
+/// A family: a root key with its rows, the rows that its log starts from, and its log. The rows are the replay of the
+/// log on those. To a contract it is a `FamilyValue`.
 #[derive(Debug, Drop)]
 pub struct Family {
     root: Root,
     base: Rows,
     rows: Rows,
+    size: u64,
     log: Vec<Txn>,
 }
 
 impl Model for Family {
     ghost use Rattle.sq_schema.specs.Family.{FamilyValue};
+    ghost use Rattle.sq_schema.specs.Standing.{IsKept};
 
     ghost Value = { FamilyValue };
 
     ghost view = { λ f. record { root = f.root; base = f.base; log = f.log.items } };
+
+    ghost invariant = { λ f. IsKept (record { root = f.root; base = f.base; log = f.log.items }) f.rows f.size };
+}
+
+impl Family {
+    /// A family of this root key without rows.
+    pub fn empty(alloc: Global, root: Root) -> Family
+        ensures { result ≡ record { root = root; base = []; log = [] } }
+    {
+        Family {
+            root,
+            base: Rows::new(alloc),
+            rows: Rows::new(alloc),
+            size: 32,
+            log: Vec::new(alloc),
+        }
+    }
+
+    /// A family of this root key that starts from these rows, of which those of other tables stand only under the
+    /// root row. Where there is no memory for their copy they come back.
+    pub fn opened(alloc: Global, root: Root, rows: Rows) -> Result<Family, Rows>
+        requires { IsTrue (is_rooted rows) }
+        ensures ok { IfOk result (λ family. family ≡ record { root = root; base = rows; log = [] }) }
+        ensures err { IfErr result (λ back. back ≡ rows) }
+    {
+        let Ok(base) = rows.clone() else {
+            return Err(rows);
+        };
+        let size = rows.size();
+        Ok(Family {
+            root,
+            base,
+            rows,
+            size,
+            log: Vec::new(alloc),
+        })
+    }
+
+    /// Runs a transaction of this root key on the rows. Where it commits, it goes to the end of the log; where it
+    /// aborts, and on an error, the family stays as it was. A full log refuses before any operation is looked at.
+    pub fn apply(&mut self, txn: &Txn) -> Result<Reply, ApplyFault>
+        requires { txn.now.root ≡ self.old.root }
+        ensures full { IsErrOf result ApplyFault.LogFull ↔ (log_limit ≤ length self.old.log) }
+        ensures reply { IfOk result (λ r. r ≡ reply (rows_of self.old) txn.now) }
+        ensures family { IfOk result (λ r. self.new ≡ answered self.old txn.now r) }
+        ensures err { OnErr result (self.new ≡ self.old) }
+    {
+        if self.log.len() >= MAX_LOG {
+            return Err(ApplyFault::LogFull);
+        }
+        let alloc = *self.log.allocator();
+        match run(alloc, &self.rows, self.size, txn.ops())? {
+            Outcome::Aborted { at, cause } => Ok(Reply::Aborted { at, cause }),
+            Outcome::Committed {
+                answers,
+                writes,
+                size,
+            } => {
+                let entry = txn.clone()?;
+                self.log.reserve(1)?;
+                self.rows.write_all(writes)?;
+                self.size = size;
+                self.log.push_reserved(entry);
+                Ok(Reply::Committed(answers))
+            }
+        }
+    }
+
+    /// The root key.
+    pub fn root(&self) -> Root
+        ensures { result ≡ self.now.root }
+    {
+        self.root
+    }
+
+    /// The rows.
+    pub fn rows(&self) -> &Rows
+        ensures { result.now ≡ rows_of self.now }
+    {
+        &self.rows
+    }
+
+    /// The rows that the log starts from.
+    pub fn base(&self) -> &Rows
+        ensures rows { result.now ≡ self.now.base }
+        ensures rooted { IsTrue (is_rooted result.now) }
+    {
+        &self.base
+    }
+
+    /// The transactions that committed, in their order: at most [`MAX_LOG`].
+    pub fn log(&self) -> &[Txn]
+        ensures log { result.now ≡ self.now.log }
+        ensures short { length result.now ≤ log_limit }
+        ensures own { All (λ txn. txn.root ≡ self.now.root) result.now }
+    {
+        &self.log
+    }
+
+    /// The size in bytes: 32, and 24 and the length of the note for each row.
+    pub fn size(&self) -> u64
+        ensures { result ≡ rows_size (rows_of self.now) }
+    {
+        self.size
+    }
+
+    /// Whether it has rows to start from, or a log.
+    pub fn stands(&self) -> bool
+        ensures { result ≡ family_stands self.now }
+    {
+        !self.base.is_empty() || !self.log.is_empty()
+    }
 }

@@ -1,12 +1,19 @@
 //! Rows, families and transactions of one root key, and what a transaction does to them.
 #![tactic(auto)]
 
+mod draft;
 mod family;
+mod fault;
 mod root;
 mod row;
+mod rows;
+mod schema;
 mod txn;
 
-pub use family::Family;
+pub use family::{Family, MAX_LOG};
+pub use fault::{ApplyFault, TxnFault};
 pub use root::{ROOT_END, Root};
-pub use row::{Row, RowKey, Rows};
-pub use txn::{Cause, Op, OpAnswer, OpAnswers, Reply, Txn};
+pub use row::{Row, RowKey};
+pub use rows::Rows;
+pub use schema::{MAX_NOTE, MAX_TABLES, Schema};
+pub use txn::{Cause, MAX_OPS, Op, OpAnswer, OpAnswers, Reply, Txn};

@@ -1,4 +1,7 @@
 // Rows, by table and sub key.
+ghost use Rattle.std.specs.Prelude.{◌≡◌, IfOk};
+
+use std::alloc::AllocError;
 use std::marker::Model;
 
 /// Where a row stands within its root key. Table 0 is the root table, and its only sub key is 0.
@@ -8,6 +11,11 @@ pub struct RowKey {
     pub table: u8,
     /// The sub key within the table.
     pub sub: u32,
+}
+
+impl RowKey {
+    /// The key of the root row.
+    pub const ROOT: RowKey = RowKey { table: 0, sub: 0 };
 }
 
 /// A row: a number and a note. To a contract it is a `RowValue`.
@@ -25,22 +33,58 @@ impl Model for Row {
     ghost view = { λ r. record { number = r.number; note = r.note.items } };
 }
 
-/// The rows of one root key, by key in rising order. To a contract they are the list of key and row.
-#[derive(Debug, Drop)]
-pub struct Rows {
-    rows: Vec<(RowKey, Row)>,
+impl Row {
+    /// The row of this number and note.
+    pub fn new(number: i64, note: Vec<u8>) -> Row
+        ensures number { result.number ≡ number }
+        ensures note { result.note ≡ note.items }
+    {
+        Row { number, note }
+    }
+
+    /// Its number.
+    pub fn number(&self) -> i64
+        ensures { result ≡ self.now.number }
+    {
+        self.number
+    }
+
+    /// Its note.
+    pub fn note(&self) -> &[u8]
+        ensures { result.now ≡ self.now.note }
+    {
+        &self.note
+    }
 }
 
-impl Model for Rows {
-    ghost use Rattle.std.specs.Prelude.{List, IsTrue};
-    ghost use Rattle.std.specs.FinMap.{is_sorted};
-    ghost use Rattle.sq_schema.specs.Values.{RowValue};
-    ghost use Rattle.sq_schema.specs.declared.row.RowKey.{RowKey};
-    ghost use Rattle.sq_schema.specs.Keys.{key_cmp};
+impl Row {
+    ghost use Rattle.sq_schema.specs.Family.{row_size};
 
-    ghost Value = { List (RowKey × RowValue) };
+    // Its size in bytes in its family.
+    pub(crate) fn size(&self) -> u64
+        ensures { result ≡ row_size self.now }
+    {
+        24 + self.note.len() as u64
+    }
 
-    ghost view = { λ r. r.rows.items };
+    // A row with the same note and this number.
+    pub(crate) fn with_number(&self, number: i64) -> Result<Row, AllocError>
+        ensures { IfOk result (λ row. row ≡ record { number = number; note = self.now.note }) }
+    {
+        Ok(Row {
+            number,
+            note: self.note.clone()?,
+        })
+    }
+}
 
-    ghost invariant = { λ r. IsTrue (is_sorted key_cmp r.rows.items) };
+impl Clone for Row {
+    ghost is_clone = { λ row copy. copy ≡ row };
+
+    fn clone(&self) -> Result<Row, AllocError> {
+        Ok(Row {
+            number: self.number,
+            note: self.note.clone()?,
+        })
+    }
 }

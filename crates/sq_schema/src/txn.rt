@@ -1,10 +1,20 @@
 // Transactions: what they ask, and what they are answered.
+ghost use Rattle.std.specs.Prelude.{◌≡◌, ◌≤◌, None, length, IfOk, IfErr};
+ghost use Rattle.std.specs.Option.{option_map};
+ghost use Rattle.std.specs.Result.{result_err};
+
+use crate::fault::TxnFault;
 use crate::root::Root;
 use crate::row::{Row, RowKey};
+use crate::schema::{Schema, check_key, check_row};
+use std::alloc::AllocError;
 use std::marker::Model;
 
+/// The most operations that a transaction has.
+pub const MAX_OPS: usize = 64;
+
 /// One operation of a transaction, on a row of its root key.
-#[derive(Debug, Drop)]
+#[derive(Clone, Debug, Drop)]
 pub enum Op {
     /// Answers the row, or that there is none.
     Get(RowKey),
@@ -19,8 +29,24 @@ pub enum Op {
     Check(RowKey, i64),
 }
 
+impl Op {
+    ghost use Rattle.sq_schema.specs.Refusals.{op_fault};
+
+    // Refuses a key or a row that no schema of so many tables has.
+    fn check(&self, tables: u8) -> Result<(), TxnFault>
+        ensures { result_err result ≡ op_fault tables self.now }
+    {
+        match self {
+            Op::Get(key) | Op::Add(key, _) | Op::Del(key) | Op::Check(key, _) => {
+                check_key(tables, *key)
+            }
+            Op::Put(key, row) => check_row(tables, *key, row),
+        }
+    }
+}
+
 /// What an operation answers.
-#[derive(Debug, Drop)]
+#[derive(Clone, Debug, Drop)]
 pub enum OpAnswer {
     /// The row that was asked for, or none.
     Found(Option<Row>),
@@ -60,8 +86,41 @@ impl Model for OpAnswers {
     ghost view = { λ a. a.answers.items };
 }
 
+impl OpAnswers {
+    /// These answers.
+    pub fn new(answers: Vec<OpAnswer>) -> OpAnswers
+        ensures { result ≡ answers.items }
+    {
+        OpAnswers { answers }
+    }
+
+    /// The answers in their order.
+    pub fn as_slice(&self) -> &[OpAnswer]
+        ensures { result.now ≡ self.now }
+    {
+        &self.answers
+    }
+
+    /// The answers in their order.
+    pub fn into_vec(self) -> Vec<OpAnswer>
+        ensures { result.items ≡ self }
+    {
+        self.answers
+    }
+}
+
+impl Clone for OpAnswers {
+    ghost is_clone = { λ answers copy. copy ≡ answers };
+
+    fn clone(&self) -> Result<OpAnswers, AllocError> {
+        Ok(OpAnswers {
+            answers: self.answers.clone()?,
+        })
+    }
+}
+
 /// What a transaction is answered.
-#[derive(Debug, Drop)]
+#[derive(Clone, Debug, Drop)]
 pub enum Reply {
     /// It committed, with these answers.
     Committed(OpAnswers),
@@ -83,9 +142,80 @@ pub struct Txn {
 }
 
 impl Model for Txn {
+    ghost use Rattle.std.specs.Prelude.{◌≡◌, None};
     ghost use Rattle.sq_schema.specs.TxnValue.{TxnValue};
+    ghost use Rattle.sq_schema.specs.Refusals.{txn_fault};
 
     ghost Value = { TxnValue };
 
     ghost view = { λ t. record { id = t.id; root = t.root; ops = t.ops.items } };
+
+    ghost invariant = { λ t. txn_fault 8 t.root t.ops.items ≡ None };
+}
+
+impl Txn {
+    ghost use Rattle.sq_schema.specs.Refusals.{ops_limit, ops_fault, txn_fault};
+
+    /// The transaction of this id on this root key. Refused, with the operations back, for the first of these:
+    /// the count of operations, the root key, and then operation by operation the table, the sub key and the note.
+    pub fn new(
+        schema: &Schema,
+        id: u64,
+        root: u64,
+        ops: Vec<Op>,
+    ) -> Result<Txn, (TxnFault, Vec<Op>)>
+        ensures fault { option_map (λ refused. refused.0) (result_err result) ≡ txn_fault schema.now root ops.items }
+        ensures ok { IfOk result (λ txn. txn ≡ record { id = id; root = root; ops = ops.items }) }
+        ensures ops_returned { IfErr result (λ refused. refused.1.items ≡ ops.items) }
+    {
+        if ops.is_empty() || ops.len() > MAX_OPS {
+            return Err((TxnFault::BadOps, ops));
+        }
+        let Some(root) = Root::new(root) else {
+            return Err((TxnFault::BadRoot, ops));
+        };
+        let tables = schema.tables();
+        for op in &ops {
+            if let Err(fault) = op.check(tables) {
+                return Err((fault, ops));
+            }
+        }
+        Ok(Txn { id, root, ops })
+    }
+
+    /// Its id.
+    pub fn id(&self) -> u64
+        ensures { result ≡ self.now.id }
+    {
+        self.id
+    }
+
+    /// Its root key.
+    pub fn root(&self) -> Root
+        ensures { result ≡ self.now.root }
+    {
+        self.root
+    }
+
+    /// Its operations: 1 to [`MAX_OPS`].
+    pub fn ops(&self) -> &[Op]
+        ensures ops { result.now ≡ self.now.ops }
+        ensures some { 1 ≤ length result.now }
+        ensures few { length result.now ≤ ops_limit }
+        ensures sound { ops_fault 8 result.now ≡ None }
+    {
+        &self.ops
+    }
+}
+
+impl Clone for Txn {
+    ghost is_clone = { λ txn copy. copy ≡ txn };
+
+    fn clone(&self) -> Result<Txn, AllocError> {
+        Ok(Txn {
+            id: self.id,
+            root: self.root,
+            ops: self.ops.clone()?,
+        })
+    }
 }

@@ -1,2 +1,4 @@
+pub mod Answer
 pub mod Node
 pub mod Status
+pub mod Tree

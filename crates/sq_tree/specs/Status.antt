@@ -50,6 +50,21 @@ abbrev pub is_split : Status → Bool
 is_split Split = true
 is_split _ = false
 
+-- a pull asked for the node, and its rows are at the source
+abbrev pub is_claimed : Status → Bool
+is_claimed (Claimed p) = true
+is_claimed _ = false
+
+-- its rows are on their way
+abbrev pub is_partial : Status → Bool
+is_partial (Partial p) = true
+is_partial _ = false
+
+-- all its rows are at the destination
+abbrev pub is_complete : Status → Bool
+is_complete (Complete p) = true
+is_complete _ = false
+
 -- the source gave the node up
 abbrev pub is_begun : Status → Bool
 is_begun (Partial p) = true

@@ -2,7 +2,15 @@
 #![tactic(auto)]
 
 mod fault;
+mod node;
+mod plain;
 mod status;
+mod word;
 
 pub use fault::{BeginFault, ClaimFault, CompleteFault, SplitFault};
+pub use node::is_node;
+pub use plain::PlainTree;
 pub use status::{Reading, Status};
+
+#[cfg(test)]
+mod tests;

@@ -1,5 +1,6 @@
 // What a node's word says, and what a node reads as.
 ghost use Rattle.std.specs.Prelude.{◌≡◌, ◌↔◌, IsTrue};
+ghost use Rattle.sq_tree.specs.Status.{both};
 
 /// The status of a node. A pull is named by its number: odd numbers are reactive pulls, even ones
 /// asynchronous.
@@ -35,5 +36,18 @@ impl Status {
         ensures { IsTrue result ↔ (self ≡ Status.Split) }
     {
         matches!(self, Status::Split)
+    }
+}
+
+impl Reading {
+    // What two halves read as together.
+    pub(crate) fn with(self, other: Reading) -> Reading
+        ensures { result ≡ both self other }
+    {
+        if self == other {
+            self
+        } else {
+            Reading::Partial
+        }
     }
 }

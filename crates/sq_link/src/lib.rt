@@ -1,0 +1,12 @@
+//! Links: the way that chunks take from one partition to another, in order and whole, in every schedule of the two.
+#![tactic(auto)]
+
+mod link;
+mod order;
+mod pass;
+
+pub use link::Link;
+pub use pass::{RecvPass, SendPass};
+
+#[cfg(test)]
+mod tests;

@@ -1,0 +1,129 @@
+// Links.
+ghost use Rattle.std.specs.Prelude.{◌≡◌, ◌<◌, ◌≤◌, [], ◌∷◌, ◌++◌, length, IfOk, IfErr, IfSome, IfNone, OnOk, OnErr};
+ghost use Rattle.crossbeam_queue.specs.Fifo.{Held};
+ghost use Rattle.sq_link.specs.Order.{IsEndOf, ComesAfter};
+
+use crate::order::{Ends, Queue, Receives, Sends, Whole};
+use crate::pass::{RecvPass, SendPass};
+use sq_chunk::Chunk;
+use sq_plan::PartId;
+use std::alloc::{AllocError, Global};
+use std::marker::Model;
+use std::sync::Wait;
+
+/// The way of chunks from one partition to another, which the two threads share by `&`. To a contract it is a `LinkValue`.
+#[derive(Drop)]
+pub struct Link {
+    src: PartId,
+    dst: PartId,
+    queue: Queue,
+    room: Vec<Chunk>,
+}
+
+impl Model for Link {
+    ghost use Rattle.std.specs.Prelude.{◌≡◌, ◌≤◌, vec_len, vec_capacity};
+    ghost use Rattle.sq_link.specs.Values.{LinkValue};
+
+    ghost Value = { LinkValue };
+
+    ghost use Rattle.crossbeam_queue.specs.Passes.{ruled_capacity};
+
+    ghost view = { λ l. record { queue = l.queue.table.shared.table_id; src = l.src; dst = l.dst; capacity = ruled_capacity l.queue } };
+
+    ghost invariant = { λ l. (vec_len l.room ≡ 0) × (ruled_capacity l.queue ≤ vec_capacity l.room) };
+}
+
+impl Link {
+    /// An empty link from `src` to `dst` with room for `capacity` chunks, and its two ends.
+    pub fn open(
+        alloc: Global,
+        src: PartId,
+        dst: PartId,
+        capacity: u64,
+    ) -> Result<(Link, SendPass, RecvPass), AllocError>
+        requires { 0 < capacity }
+        ensures link { IfOk result (λ opened. (opened.0.src ≡ src) × (opened.0.dst ≡ dst) × (opened.0.capacity ≡ capacity)) }
+        ensures sender { IfOk result (λ opened. opened.1 ≡ record { queue = opened.0.queue; sent = [] }) }
+        ensures receiver { IfOk result (λ opened. opened.2 ≡ record { queue = opened.0.queue; received = [] }) }
+    {
+        let capacity = capacity as usize;
+        let room = Vec::with_capacity(alloc, capacity)?;
+        let (queue, mut sender) = Queue::ruled(alloc, capacity)?;
+        let receiver = queue.another::<Ends>(&mut sender);
+        let link = Link {
+            src,
+            dst,
+            queue,
+            room,
+        };
+        Ok((link, SendPass { end: sender }, RecvPass { end: receiver }))
+    }
+
+    /// The partition that it leads from.
+    pub fn src(&self) -> PartId
+        ensures { result ≡ self.now.src }
+    {
+        self.src
+    }
+
+    /// The partition that it leads to.
+    pub fn dst(&self) -> PartId
+        ensures { result ≡ self.now.dst }
+    {
+        self.dst
+    }
+
+    /// How many chunks it holds.
+    pub fn capacity(&self) -> u64
+        ensures { result ≡ self.now.capacity }
+    {
+        self.queue.capacity() as u64
+    }
+
+    /// Sends the chunk, or hands it back where the link was full at one moment of the call.
+    pub fn send<R: Wait>(&self, rt: &R, pass: &mut SendPass, chunk: Chunk) -> Result<(), Chunk>
+        requires { pass.old.queue ≡ self.now.queue }
+        ensures sent { OnOk result (pass.new ≡ record pass.old { sent = pass.old.sent ++ chunk ∷ [] }) }
+        ensures refused { IfErr result (λ back. (back ≡ chunk) × (pass.new ≡ pass.old)) }
+        ensures full { OnErr result (Held self.now.capacity (IsEndOf pass.old.sent)) }
+    {
+        self.queue.push_as::<Sends, R>(rt, &mut pass.end, chunk)
+    }
+
+    /// The chunk that was sent first of those not received; `None` where the link was empty at one moment of the call.
+    pub fn recv<R: Wait>(&self, rt: &R, pass: &mut RecvPass) -> Option<Chunk>
+        requires { pass.old.queue ≡ self.now.queue }
+        ensures received { IfSome result (λ chunk. pass.new ≡ record pass.old { received = pass.old.received ++ chunk ∷ [] }) }
+        ensures none { IfNone result (pass.new ≡ pass.old) }
+        ensures empty { IfNone result (Held 0 (ComesAfter pass.old.received)) }
+    {
+        self.queue.pop_as::<Receives, R>(rt, &mut pass.end)
+    }
+
+    /// The chunks that were sent and not received, in order, in the room that `open` took.
+    pub fn close<R: Wait>(self, rt: &R, sender: SendPass, receiver: RecvPass) -> Vec<Chunk>
+        requires sender { sender.queue ≡ self.queue }
+        requires receiver { receiver.queue ≡ self.queue }
+        ensures rest { sender.sent ≡ receiver.received ++ result.items }
+        ensures few { length result.items ≤ self.capacity }
+    {
+        let Link {
+            src: _,
+            dst: _,
+            queue,
+            room: mut rest,
+        } = self;
+        let SendPass { end: mut both } = sender;
+        let RecvPass { end: other } = receiver;
+        queue.absorb::<Ends>(&mut both, other);
+        let count = queue.len_as::<Whole, R>(rt, &mut both);
+        for _ in 0..count {
+            match queue.pop_as::<Whole, R>(rt, &mut both) {
+                Some(chunk) => rest.push_reserved(chunk),
+                None => return rest,
+            }
+        }
+        queue.learn_as::<Whole>(&mut both);
+        rest
+    }
+}

@@ -1,0 +1,98 @@
+// The rule of a link's queue, and what its steps tell.
+use crossbeam_queue::protocol::{Join, Lesson, Outcome, Protocol, Split};
+use crossbeam_queue::{Pass, RuledArrayQueue};
+use sq_chunk::Chunk;
+use std::collections::LinkedList;
+
+// What a pass knows: which ends of the link it has, what it sent and what it received. No value of it is made.
+pub struct View {
+    pub sends: bool,
+    pub receives: bool,
+    pub sent: LinkedList<Chunk>,
+    pub received: LinkedList<Chunk>,
+}
+
+pub type End = Pass<Chunk, View>;
+
+pub type Queue = RuledArrayQueue<Chunk, View, InOrder>;
+
+// What was sent is what was received and then what the queue holds.
+pub struct InOrder;
+
+impl Protocol<Chunk, View> for InOrder {
+    ghost use Rattle.std.specs.Prelude.{true, []};
+    ghost use Rattle.sq_link.specs.Order.{ends, IsInOrder};
+
+    ghost holds = { IsInOrder };
+
+    ghost first = { ends true true [] [] };
+}
+
+// The two ends, from one pass into two and back.
+pub struct Ends;
+
+impl Split<View> for Ends {
+    ghost use Rattle.std.specs.Prelude.{true, false, []};
+    ghost use Rattle.sq_link.specs.Order.{ends};
+
+    ghost left = { λ v. ends true false v.sent [] };
+
+    ghost right = { λ v. ends false true [] v.received };
+}
+
+impl Join<View> for Ends {
+    ghost use Rattle.std.specs.Prelude.{true, false, []};
+    ghost use Rattle.sq_link.specs.Order.{ends};
+
+    ghost both = { λ v w. ends true true v.sent w.received };
+
+    ghost spent = { ends false false [] [] };
+}
+
+// A push, and what a sender knows of a full queue.
+pub struct Sends;
+
+impl Outcome<Chunk, View> for Sends {
+    ghost use Rattle.std.specs.Prelude.{◌≡◌, [], ◌∷◌, ◌++◌};
+    ghost use Rattle.sq_link.specs.Order.{ends};
+
+    ghost then = { λ v chunk w. w ≡ ends v.sends v.receives (v.sent ++ chunk ∷ []) v.received };
+}
+
+impl Lesson<Chunk, View> for Sends {
+    ghost use Rattle.sq_link.specs.Order.{IsEndOf};
+
+    ghost fact = { λ v. IsEndOf v.sent };
+}
+
+// A pop, and what a receiver knows of an empty queue.
+pub struct Receives;
+
+impl Outcome<Chunk, View> for Receives {
+    ghost use Rattle.std.specs.Prelude.{◌≡◌, [], ◌∷◌, ◌++◌};
+    ghost use Rattle.sq_link.specs.Order.{ends};
+
+    ghost then = { λ v chunk w. w ≡ ends v.sends v.receives v.sent (v.received ++ chunk ∷ []) };
+}
+
+impl Lesson<Chunk, View> for Receives {
+    ghost use Rattle.sq_link.specs.Order.{ComesAfter};
+
+    ghost fact = { λ v. ComesAfter v.received };
+}
+
+// What a pass with both ends knows: what was sent and isn't received is what the queue holds.
+pub struct Whole;
+
+impl Outcome<Chunk, View> for Whole {
+    ghost use Rattle.std.specs.Prelude.{◌≡◌, [], ◌∷◌, ◌++◌};
+    ghost use Rattle.sq_link.specs.Order.{ends};
+
+    ghost then = { λ v chunk w. w ≡ ends v.sends v.receives v.sent (v.received ++ chunk ∷ []) };
+}
+
+impl Lesson<Chunk, View> for Whole {
+    ghost use Rattle.std.specs.Prelude.{◌≡◌, ◌++◌};
+
+    ghost fact = { λ v items. v.sent ≡ v.received ++ items };
+}

@@ -1,0 +1,13 @@
+pub mod Apart
+pub mod Counts
+pub mod Keys
+pub mod Link
+pub mod Lists
+pub mod Notes
+pub mod Numbers
+pub mod Orderly
+pub mod Phases
+pub mod Routing
+pub mod Statuses
+pub mod Steps
+pub mod Tiles

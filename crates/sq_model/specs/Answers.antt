@@ -1,0 +1,206 @@
+-- The answer to each step, as the trace before it determines it.
+use Rattle.std.specs.Prelude.{ℕ, Bool, true, false, ◌+◌, ◌-◌, ◌==◌, ◌&&◌, ◌||◌, not, nat_le, nat_lt, if◌then◌else◌, List, [], ◌∷◌, find, filter, length, Option, Some, None, Result, Ok, Err, slice_get}
+use Rattle.std.specs.List.{list_any, list_all, range_with_len}
+use Rattle.sq_schema.specs.TxnValue.{TxnValue}
+use Rattle.sq_schema.specs.Effect.{reply}
+use Rattle.sq_tree.specs.declared.status.Reading.{Reading}
+use Rattle.sq_tree.specs.declared.status.Reading.TheVariants as reads
+use Rattle.sq_tree.specs.declared.fault.ClaimFault.{ClaimFault}
+use Rattle.sq_tree.specs.declared.fault.ClaimFault.TheVariants as claim
+use Rattle.sq_tree.specs.declared.fault.BeginFault.{BeginFault}
+use Rattle.sq_tree.specs.declared.fault.BeginFault.TheVariants as begin
+use Rattle.sq_tree.specs.declared.fault.CompleteFault.{CompleteFault}
+use Rattle.sq_tree.specs.declared.fault.CompleteFault.TheVariants as complete
+use Rattle.sq_tree.specs.Status.{reading}
+use Rattle.sq_tree.specs.Answer.{claim_answer, begin_answer, complete_answer}
+use Rattle.sq_chunk.specs.declared.chunk.Note.{Note}
+use Rattle.sq_ranges.specs.declared.recon.Range.{Range}
+use Rattle.sq_ranges.specs.ReconValue.{is_link, segment_of, leaf_of}
+use Rattle.sq_ranges.specs.OpeningValue.{OpeningValue}
+use Rattle.sq_model.specs.declared.step.Step.{Step}
+use Rattle.sq_model.specs.declared.step.Step.TheVariants.{Prepare, Start, Submit, Claim, Begin, Cut, Push, Pop, Load, Complete, Report, Finish}
+use Rattle.sq_model.specs.declared.answer.Answer.{Answer}
+use Rattle.sq_model.specs.declared.answer.Answer.TheVariants.{Done, Replied, Moved, Waits, WasCut, WasLoaded, Refused}
+use Rattle.sq_model.specs.declared.answer.Refusal.TheVariants.{NotMoving, NoSuchSegment, NoSuchNode, NotFree, NotLive, NotClaimed, WrongPull, NothingToCut, OutboxFull, OutboxEmpty, LinkFull, LinkEmpty, InboxFull, InboxEmpty, NotLoaded, AlreadyMoving, NotFinished, NoSuchPartition, WaitFull, LogFull, NoSuchLink, NotPartial, NotPrepared}
+use Rattle.sq_model.specs.Trace.{Trace, notes, loads, link, cut_count, push_count, pop_count, load_count}
+use Rattle.sq_model.specs.Leader.{is_moving, is_started, is_prepared, is_reported}
+use Rattle.sq_model.specs.Nodes.{Item, status_of}
+use Rattle.sq_model.specs.Tables.{now, is_full}
+use Rattle.sq_model.specs.Place.{destination, runner}
+use Rattle.sq_model.specs.Links.{has_last, open_items, next_item, next_note, family_count}
+use Rattle.sq_model.specs.Waiting.{waiting, wait_limit, has_to_wait}
+
+-- the answer, where the partition is one of the plan's
+abbrev pub at_partition : OpeningValue → ℕ → Answer → Answer
+at_partition o part answer = if nat_le o.old.parts part then Refused NoSuchPartition else answer
+
+-- the answer, where the move is under way
+abbrev pub while_moving : Trace → Answer → Answer
+while_moving t answer = if not (is_moving t) then Refused NotMoving else answer
+
+-- the answer, where there is such a segment
+abbrev pub in_segment : OpeningValue → ℕ → Answer → Answer
+in_segment o seg answer = if nat_le (length o.recon.segments) seg then Refused NoSuchSegment else answer
+
+-- the answer, where some range goes from the one partition to the other
+abbrev pub on_link : OpeningValue → ℕ → ℕ → Answer → Answer
+on_link o src dst answer = if not (is_link o.recon.ranges src dst) then Refused NoSuchLink else answer
+
+abbrev pub prepare_answer : OpeningValue → Trace → ℕ → Answer
+prepare_answer o t part = at_partition o part (if is_started t then Refused AlreadyMoving else Done)
+
+-- the numbers of the partitions
+abbrev pub partitions : OpeningValue → List ℕ
+partitions o = range_with_len 0 o.old.parts
+
+abbrev pub start_answer : OpeningValue → Trace → Answer
+start_answer o t =
+    if is_started t then Refused AlreadyMoving
+    else if not (list_all (is_prepared t) (partitions o)) then Refused NotPrepared
+    else Done
+
+abbrev pub leaf_in : ℕ → Option Range → ℕ → ℕ
+leaf_in width None root = 0
+leaf_in width (Some segment) root = leaf_of width segment root
+
+-- the transaction waits for the segment and the leaf of its root key
+abbrev pub waits_at : OpeningValue → TxnValue → Option ℕ → Answer
+waits_at o txn None = Waits txn.id 0 0
+waits_at o txn (Some seg) = Waits txn.id seg (leaf_in o.recon.width (slice_get o.recon.segments seg) txn.root)
+
+abbrev pub wait_answer : OpeningValue → Trace → ℕ → TxnValue → Answer
+wait_answer o t part txn =
+    if nat_le wait_limit (length (waiting t part)) then Refused WaitFull
+    else waits_at o txn (segment_of o.recon.segments txn.root)
+
+abbrev pub run_answer : OpeningValue → Trace → TxnValue → Answer
+run_answer o t txn = if is_full t txn.root then Refused LogFull else Replied txn.id (reply (now o t txn.root) txn)
+
+-- at the runner the transaction runs; elsewhere it is told the runner, or the destination where there is none
+abbrev pub routed : OpeningValue → Trace → ℕ → TxnValue → Option ℕ → Answer
+routed o t part txn None = Moved txn.id (destination o txn.root)
+routed o t part txn (Some who) = if who == part then run_answer o t txn else Moved txn.id who
+
+abbrev pub submit_answer : OpeningValue → Trace → ℕ → TxnValue → Answer
+submit_answer o t part txn =
+    at_partition o part (
+      if has_to_wait o t part txn.root then wait_answer o t part txn else routed o t part txn (runner o t txn.root)
+    )
+
+abbrev pub claim_told : Result (Unit {0}) ClaimFault → Answer
+claim_told (Ok done) = Done
+claim_told (Err claim.NoSuchNode) = Refused NoSuchNode
+claim_told (Err claim.NotLive) = Refused NotLive
+claim_told (Err (claim.NotFree found)) = Refused NotFree
+
+abbrev pub begin_told : Result (Unit {0}) BeginFault → Answer
+begin_told (Ok done) = Done
+begin_told (Err begin.NoSuchNode) = Refused NoSuchNode
+begin_told (Err (begin.NotClaimed found)) = Refused NotClaimed
+begin_told (Err begin.WrongPull) = Refused WrongPull
+
+-- a node is complete once its last chunk is loaded
+abbrev pub complete_told : Bool → Result (Unit {0}) CompleteFault → Answer
+complete_told loaded (Ok done) = if loaded then Done else Refused NotLoaded
+complete_told loaded (Err complete.NoSuchNode) = Refused NoSuchNode
+complete_told loaded (Err (complete.NotPartial found)) = Refused NotPartial
+complete_told loaded (Err complete.WrongPull) = Refused WrongPull
+
+abbrev pub claim_step : OpeningValue → Trace → ℕ → ℕ → ℕ → Answer
+claim_step o t seg node pull = while_moving t (in_segment o seg (claim_told (claim_answer (status_of t seg) node pull)))
+
+abbrev pub begin_step : OpeningValue → Trace → ℕ → ℕ → ℕ → Answer
+begin_step o t seg node pull = while_moving t (in_segment o seg (begin_told (begin_answer (status_of t seg) node pull)))
+
+abbrev pub complete_step : OpeningValue → Trace → ℕ → ℕ → ℕ → Answer
+complete_step o t seg node pull =
+    while_moving t (in_segment o seg (complete_told (has_last seg node (loads t)) (complete_answer (status_of t seg) node pull)))
+
+abbrev pub cut_for : OpeningValue → Trace → ℕ → ℕ → Option Item → Answer
+cut_for o t src dst None = Refused NothingToCut
+cut_for o t src dst (Some item) =
+    let note = next_note o t src dst item in WasCut note (family_count o t note)
+
+abbrev pub cut_answer : OpeningValue → Trace → ℕ → ℕ → Answer
+cut_answer o t src dst =
+    while_moving t (on_link o src dst (
+      if nat_lt (push_count t src dst) (cut_count t src dst) then Refused OutboxFull
+      else cut_for o t src dst (next_item (open_items o t src dst))
+    ))
+
+abbrev pub push_answer : OpeningValue → Trace → ℕ → ℕ → Answer
+push_answer o t src dst =
+    while_moving t (on_link o src dst (
+      if cut_count t src dst == push_count t src dst then Refused OutboxEmpty
+      else if nat_le o.config.capacity (push_count t src dst - pop_count t src dst) then Refused LinkFull
+      else Done
+    ))
+
+abbrev pub pop_answer : OpeningValue → Trace → ℕ → ℕ → Answer
+pop_answer o t src dst =
+    while_moving t (on_link o src dst (
+      if nat_lt (load_count t src dst) (pop_count t src dst) then Refused InboxFull
+      else if pop_count t src dst == push_count t src dst then Refused LinkEmpty
+      else Done
+    ))
+
+-- the next chunk of the link is loaded
+abbrev pub load_of : OpeningValue → Trace → Option Note → Answer
+load_of o t None = Refused InboxEmpty
+load_of o t (Some note) = WasLoaded note (family_count o t note)
+
+abbrev pub load_answer : OpeningValue → Trace → ℕ → ℕ → Answer
+load_answer o t src dst =
+    while_moving t (on_link o src dst (
+      if load_count t src dst == pop_count t src dst then Refused InboxEmpty
+      else load_of o t (find (λ note. note.number == load_count t src dst) (link src dst (notes t)))
+    ))
+
+abbrev pub is_complete_reading : Reading → Bool
+is_complete_reading reads.Complete = true
+is_complete_reading _ = false
+
+-- the segment of this number is whole at its destination
+abbrev pub is_whole : Trace → ℕ → Bool
+is_whole t seg = is_complete_reading (reading (status_of t seg) 1)
+
+abbrev pub goes_into : Option Range → ℕ → Bool
+goes_into None part = false
+goes_into (Some segment) part = segment.dst == part
+
+-- the segment of this number moves into the partition
+abbrev pub is_into : OpeningValue → ℕ → ℕ → Bool
+is_into o part seg = goes_into (slice_get o.recon.segments seg) part
+
+-- the numbers of the segments
+abbrev pub segment_numbers : OpeningValue → List ℕ
+segment_numbers o = range_with_len 0 (length o.recon.segments)
+
+-- each segment into the partition is whole
+abbrev pub has_all : OpeningValue → Trace → ℕ → Bool
+has_all o t part = list_all (λ seg. not (is_into o part seg) || is_whole t seg) (segment_numbers o)
+
+abbrev pub report_answer : OpeningValue → Trace → ℕ → Answer
+report_answer o t part = while_moving t (at_partition o part (if has_all o t part then Done else Refused NotFinished))
+
+-- a partition that no segment goes into counts as reported
+abbrev pub counts_reported : OpeningValue → Trace → ℕ → Bool
+counts_reported o t part = is_reported t part || not (list_any (is_into o part) (segment_numbers o))
+
+abbrev pub finish_answer : OpeningValue → Trace → Answer
+finish_answer o t =
+    while_moving t (if list_all (counts_reported o t) (partitions o) then Done else Refused NotFinished)
+
+abbrev pub answer : OpeningValue → Trace → Step → Answer
+answer o t (Prepare part) = prepare_answer o t part
+answer o t Start = start_answer o t
+answer o t (Submit part txn) = submit_answer o t part txn
+answer o t (Claim seg node pull) = claim_step o t seg node pull
+answer o t (Begin seg node pull) = begin_step o t seg node pull
+answer o t (Cut src dst) = cut_answer o t src dst
+answer o t (Push src dst) = push_answer o t src dst
+answer o t (Pop src dst) = pop_answer o t src dst
+answer o t (Load src dst) = load_answer o t src dst
+answer o t (Complete seg node pull) = complete_step o t seg node pull
+answer o t (Report part) = report_answer o t part
+answer o t Finish = finish_answer o t

@@ -1,0 +1,55 @@
+-- How far the leader is, and what the partitions told it.
+use Rattle.std.specs.Prelude.{ℕ, Bool, true, false, ◌==◌, ◌||◌, List, [], ◌∷◌}
+use Rattle.sq_model.specs.declared.step.Step.{Step}
+use Rattle.sq_model.specs.declared.step.Step.TheVariants.{Prepare, Start, Report, Finish}
+use Rattle.sq_model.specs.declared.step.Phase.{Phase}
+use Rattle.sq_model.specs.declared.step.Phase.TheVariants.{Idle, Preparing, Moving, Ended}
+use Rattle.sq_model.specs.declared.answer.Answer.{Answer}
+use Rattle.sq_model.specs.declared.answer.Answer.TheVariants.{Done}
+use Rattle.sq_model.specs.Trace.{Trace}
+
+abbrev pub turns_phase : Step → Answer → Phase → Phase
+turns_phase (Prepare part) Done now = Preparing
+turns_phase Start Done now = Moving
+turns_phase Finish Done now = Ended
+turns_phase _ _ now = now
+
+-- the phase: the first Prepare leads to preparing, Start to moving, Finish to ended
+abbrev pub phase : Trace → Phase
+phase [] = Idle
+phase ((step, answer) ∷ trace) = turns_phase step answer (phase trace)
+
+abbrev pub is_moving_phase : Phase → Bool
+is_moving_phase Moving = true
+is_moving_phase _ = false
+
+abbrev pub is_started_phase : Phase → Bool
+is_started_phase Moving = true
+is_started_phase Ended = true
+is_started_phase _ = false
+
+-- the move is under way
+abbrev pub is_moving : Trace → Bool
+is_moving t = is_moving_phase (phase t)
+
+-- the move was started
+abbrev pub is_started : Trace → Bool
+is_started t = is_started_phase (phase t)
+
+abbrev pub prepares : Step → Answer → ℕ → Bool → Bool
+prepares (Prepare which) Done part before = (which == part) || before
+prepares _ _ part before = before
+
+-- the partition prepared
+abbrev pub is_prepared : Trace → ℕ → Bool
+is_prepared [] part = false
+is_prepared ((step, answer) ∷ trace) part = prepares step answer part (is_prepared trace part)
+
+abbrev pub reports : Step → Answer → ℕ → Bool → Bool
+reports (Report which) Done part before = (which == part) || before
+reports _ _ part before = before
+
+-- the partition reported
+abbrev pub is_reported : Trace → ℕ → Bool
+is_reported [] part = false
+is_reported ((step, answer) ∷ trace) part = reports step answer part (is_reported trace part)

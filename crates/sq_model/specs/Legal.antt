@@ -1,0 +1,34 @@
+-- The traces whose answers are those that the definitions give.
+use Rattle.std.specs.Prelude.{◌≡◌, ◌⊎◌, Bool, true, false, IsTrue, List, [], ◌∷◌}
+use Rattle.sq_ranges.specs.OpeningValue.{OpeningValue}
+use Rattle.sq_model.specs.declared.step.Step.{Step}
+use Rattle.sq_model.specs.declared.step.Step.TheVariants.{Submit, Begin, Cut, Load}
+use Rattle.sq_model.specs.declared.answer.Answer.{Answer}
+use Rattle.sq_model.specs.declared.answer.Answer.TheVariants.{Done, Replied, Waits, WasCut, WasLoaded, Refused}
+use Rattle.sq_model.specs.declared.answer.Refusal.TheVariants.{Memory}
+use Rattle.sq_model.specs.Trace.{Trace}
+use Rattle.sq_model.specs.Answers.{answer}
+
+-- a step with this answer takes memory: a transaction that runs or waits, and a Begin, a Cut or a Load that goes
+abbrev pub takes_memory : Step → Answer → Bool
+takes_memory (Submit part txn) (Replied id reply) = true
+takes_memory (Submit part txn) (Waits id seg leaf) = true
+takes_memory (Begin seg node pull) Done = true
+takes_memory (Cut src dst) (WasCut note families) = true
+takes_memory (Load src dst) (WasLoaded note families) = true
+takes_memory _ _ = false
+
+-- the answer is the one that the trace determines, or that there is no memory, where the step takes some
+abbrev pub IsAnswer : OpeningValue → Trace → Step → Answer → Type 0
+IsAnswer o t step told =
+    (told ≡ answer o t step) ⊎ ((told ≡ Refused Memory) × IsTrue (takes_memory step (answer o t step)))
+
+-- each answer is right after the trace before it
+abbrev pub IsLegal : OpeningValue → Trace → Type 0
+IsLegal o [] = Unit {0}
+IsLegal o ((step, told) ∷ trace) = IsAnswer o trace step told × IsLegal o trace
+
+-- the answers to steps, one after another, where memory never lacks
+abbrev pub answers : OpeningValue → Trace → List Step → List Answer
+answers o t [] = []
+answers o t (step ∷ steps) = answer o t step ∷ answers o ((step, answer o t step) ∷ t) steps

@@ -1,0 +1,12 @@
+pub mod Opening
+pub mod Trace
+pub mod Leader
+pub mod Nodes
+pub mod Tables
+pub mod Place
+pub mod Links
+pub mod Waiting
+pub mod Answers
+pub mod Legal
+pub mod Orderly
+pub mod Worked

@@ -1,0 +1,74 @@
+-- Where the family of a root key is, and who runs transactions on it.
+use Rattle.std.specs.Prelude.{ℕ, Bool, true, false, ◌==◌, ◌&&◌, ◌||◌, not, nat_le, nat_lt, if◌then◌else◌, List, find, Option, Some, None, is_some}
+use Rattle.std.specs.List.{list_any}
+use Rattle.std.specs.Prelude.{slice_get}
+use Rattle.sq_plan.specs.PlanValue.{owner}
+use Rattle.sq_chunk.specs.declared.chunk.Note.{Note}
+use Rattle.sq_chunk.specs.ChunkValue.{covers}
+use Rattle.sq_ranges.specs.declared.recon.Range.{Range}
+use Rattle.sq_ranges.specs.declared.recon.Extent.{Extent}
+use Rattle.sq_ranges.specs.ReconValue.{extent}
+use Rattle.sq_ranges.specs.OpeningValue.{OpeningValue}
+use Rattle.sq_model.specs.Trace.{Trace, notes, loads}
+use Rattle.sq_model.specs.Leader.{is_started}
+use Rattle.sq_model.specs.Nodes.{Item, items}
+
+-- who owned a root key before the move, and who owns it after
+abbrev pub source : OpeningValue → ℕ → ℕ
+source o root = owner o.old root
+
+abbrev pub destination : OpeningValue → ℕ → ℕ
+destination o root = owner o.new root
+
+-- the root key moves
+abbrev pub moves : OpeningValue → ℕ → Bool
+moves o root = not (source o root == destination o root)
+
+-- one of the notes covers the root key
+abbrev pub is_covered : List Note → ℕ → Bool
+is_covered notes root = list_any (λ note. covers note root) notes
+
+-- the keys of a node; none where there is no such segment
+abbrev pub extent_in : ℕ → Option Range → ℕ → Extent
+extent_in width None node = record { lo = 0; hi = 0 }
+extent_in width (Some segment) node = extent width segment node
+
+abbrev pub extent_of : OpeningValue → ℕ → ℕ → Extent
+extent_of o seg node = extent_in o.recon.width (slice_get o.recon.segments seg) node
+
+abbrev pub is_within : Extent → ℕ → Bool
+is_within keys root = nat_le keys.lo root && nat_lt root keys.hi
+
+-- a node that was begun covers the root key
+abbrev pub is_begun_over : OpeningValue → Trace → ℕ → Bool
+is_begun_over o t root = list_any (λ item. is_within (extent_of o item.seg item.node) root) (items t)
+
+-- a place: a partition, or a chunk under way
+pub data Place : Type 0 where
+  At : (part : ℕ) → Place
+  Under_way : (note : Note) → Place
+
+-- a key that no note covers is where it was; one that a note covers is under way in that chunk until this is loaded
+abbrev pub cut_place : OpeningValue → ℕ → Option Note → Place
+cut_place o root None = At (source o root)
+cut_place o root (Some note) = Under_way note
+
+abbrev pub loaded_place : Place → Option Note → Place
+loaded_place before None = before
+loaded_place before (Some note) = At note.dst
+
+abbrev pub place : OpeningValue → Trace → ℕ → Place
+place o t root =
+    loaded_place (cut_place o root (find (λ note. covers note root) (notes t))) (find (λ note. covers note root) (loads t))
+
+-- the partition that runs transactions on a root key: the source until a node over it was begun, nobody from then until it is loaded, and then the destination
+abbrev pub runner : OpeningValue → Trace → ℕ → Option ℕ
+runner o t root =
+    if is_covered (loads t) root then Some (destination o root)
+    else if is_begun_over o t root then None
+    else Some (source o root)
+
+-- the root key comes to this partition, and isn't loaded
+abbrev pub is_coming : OpeningValue → Trace → ℕ → ℕ → Bool
+is_coming o t part root =
+    is_started t && (moves o root && ((destination o root == part) && not (is_covered (loads t) root)))

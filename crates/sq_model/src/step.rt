@@ -1,0 +1,85 @@
+// The steps of a reconfiguration, and its phases.
+use sq_schema::Txn;
+
+/// One step. Its numbers may be any: a wrong one is refused.
+#[derive(Debug, Drop)]
+pub enum Step {
+    /// A partition prepares for the reconfiguration.
+    Prepare(u64),
+    /// The leader starts the move.
+    Start,
+    /// A transaction is submitted at a partition.
+    Submit(u64, Txn),
+    /// A node of a segment is claimed for a pull.
+    Claim {
+        /// The segment.
+        seg: u64,
+        /// The node.
+        node: u64,
+        /// The pull: odd for a reactive one, even for an asynchronous one.
+        pull: u32,
+    },
+    /// The source gives a claimed node up.
+    Begin {
+        /// The segment.
+        seg: u64,
+        /// The node.
+        node: u64,
+        /// The pull that claimed it.
+        pull: u32,
+    },
+    /// The source cuts the next chunk for a destination.
+    Cut {
+        /// The source.
+        src: u64,
+        /// The destination.
+        dst: u64,
+    },
+    /// The chunk that was cut goes onto its link.
+    Push {
+        /// The source.
+        src: u64,
+        /// The destination.
+        dst: u64,
+    },
+    /// The oldest chunk on the link comes to the destination.
+    Pop {
+        /// The source.
+        src: u64,
+        /// The destination.
+        dst: u64,
+    },
+    /// The destination loads the chunk that came.
+    Load {
+        /// The source.
+        src: u64,
+        /// The destination.
+        dst: u64,
+    },
+    /// A node is completed, all of which was loaded.
+    Complete {
+        /// The segment.
+        seg: u64,
+        /// The node.
+        node: u64,
+        /// The pull that began it.
+        pull: u32,
+    },
+    /// A partition reports that all that moves to it is complete.
+    Report(u64),
+    /// The leader ends the reconfiguration.
+    Finish,
+}
+
+/// How far the leader is.
+#[derive(Clone, Copy, Debug, PartialEq, Eq)]
+pub enum Phase {
+    /// No partition has prepared.
+    Idle,
+    /// Some partition has prepared.
+    Preparing,
+    /// The move was started.
+    Moving,
+    /// All is moved.
+    Ended,
+}

@@ -1,0 +1,25 @@
+-- How a plan stands in JSON: {"version":1,"partitions":P,"ranges":[[lo,hi,owner],..]}, the fields in any order and among others.
+use Rattle.std.specs.Prelude.{◌≡◌, ℕ, List, [], ◌∷◌, Some, codes}
+use Rattle.serde_json.specs.Data.{Data, Items, number, unsigned, array, no_items, item}
+use Rattle.serde_json.specs.Find.{get}
+use Rattle.sq_plan.specs.declared.plan.PlanRange.{PlanRange}
+use Rattle.sq_plan.specs.PlanValue.{PlanValue}
+
+-- a whole number, as JSON has it
+abbrev pub whole : ℕ → Data
+whole n = number (unsigned n)
+
+-- a range: [lo,hi,owner]
+abbrev pub range_data : PlanRange → Data
+range_data range = array (item (whole range.lo) (item (whole range.hi) (item (whole range.owner) no_items)))
+
+-- ranges, one after another
+abbrev pub ranges_data : List PlanRange → Items
+ranges_data [] = no_items
+ranges_data (range ∷ ranges) = item (range_data range) (ranges_data ranges)
+
+-- the JSON value has the fields of the plan
+pub record Spells (value : Data) (plan : PlanValue) : Type 0 where
+  pub version : get (codes "version") value ≡ Some (whole 1)
+  pub partitions : get (codes "partitions") value ≡ Some (whole plan.parts)
+  pub ranges : get (codes "ranges") value ≡ Some (array (ranges_data plan.ranges))

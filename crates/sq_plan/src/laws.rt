@@ -1,0 +1,22 @@
+// What holds of plans and of what spells them.
+ghost use Rattle.std.specs.Prelude.{◌≡◌, ℕ, ◌<◌, ◌↔◌, length, slice_index_or, true, Ok};
+ghost use Rattle.serde_json.specs.Data.{Data};
+ghost use Rattle.sq_plan.specs.declared.plan.PlanRange.{PlanRange};
+ghost use Rattle.sq_plan.specs.PlanValue.{PlanValue, IsPlan, IsHolder, root_end, holds, owner};
+ghost use Rattle.sq_plan.specs.Spelling.{Spells};
+ghost use Rattle.sq_plan.specs.Reading.{plan_of};
+
+/// A plan is read from a JSON value exactly where the value spells it, whichever checks come first.
+pub fn each_plan_is_read()
+    ensures { (value : Data) (plan : PlanValue)
+        → (plan_of value ≡ Ok plan) ↔ (Spells value plan × IsPlan plan) }
+{}
+
+/// Just one range of a plan holds each root key, and each key that a range holds has the range's owner.
+pub fn one_range_holds_each_key()
+    ensures one { (plan : PlanValue) (key : ℕ) → IsPlan plan → key < root_end
+        → (range : PlanRange) × IsHolder plan key range }
+    ensures each { (plan : PlanValue) (key i : ℕ) (range : PlanRange) → IsPlan plan
+        → i < length plan.ranges → range ≡ slice_index_or plan.ranges i range
+        → holds range key ≡ true → owner plan key ≡ range.owner }
+{}

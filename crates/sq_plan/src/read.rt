@@ -1,0 +1,196 @@
+// Reading a plan from JSON.
+ghost use Rattle.std.specs.Prelude.{◌≡◌, ◌<◌, ◌⊎◌, nat_lt, List, length, true, Some, None, Ok, Err, MatchResult, IfOk, IsOk, IsSomeAnd, option_map};
+ghost use Rattle.std.specs.List.{list_all};
+ghost use Rattle.sq_plan.specs.declared.plan.PlanRange.{PlanRange};
+ghost use Rattle.sq_plan.specs.Draft.{layout, IsDraft};
+ghost use Rattle.serde_json.specs.View.{view, items_view};
+ghost use Rattle.sq_plan.specs.Reading.{Gives, json_of, whole_at, range_in, ranges_in, checked, plan_of as plan_of_json};
+
+use crate::fault::PlanFault;
+use crate::part::PartId;
+use crate::plan::{Plan, PlanRange};
+use serde_json::Value;
+use sq_schema::ROOT_END;
+use std::alloc::{AllocError, Global};
+use std::marker::Model;
+
+const MAX_PARTS: u64 = 16;
+
+const MAX_RANGES: usize = 256;
+
+/// A range as the JSON has it, whose owner may be no partition. To a contract it is the range.
+#[derive(Clone, Copy)]
+struct Entry {
+    lo: u64,
+    hi: u64,
+    owner: u64,
+}
+
+impl Model for Entry {
+    ghost use Rattle.sq_plan.specs.declared.plan.PlanRange.{PlanRange};
+
+    ghost Value = { PlanRange };
+
+    ghost view = { λ e. record { lo = e.lo; hi = e.hi; owner = e.owner } };
+
+    ghost inverse = { λ r. record { lo = r.lo; hi = r.hi; owner = r.owner } };
+}
+
+impl Entry {
+    // Three whole numbers.
+    fn of(item: &Value) -> Option<Entry>
+        ensures { result ≡ range_in (view item.now) }
+    {
+        let [lo, hi, owner] = item.as_array()?.as_slice() else {
+            return None;
+        };
+        Some(Entry {
+            lo: lo.as_u64()?,
+            hi: hi.as_u64()?,
+            owner: owner.as_u64()?,
+        })
+    }
+
+    // The range, whose owner is the number of a partition.
+    fn range(self) -> PlanRange
+        requires { self.owner < 256 }
+        ensures { result ≡ self }
+    {
+        PlanRange {
+            lo: self.lo,
+            hi: self.hi,
+            owner: PartId::new(self.owner as u8),
+        }
+    }
+}
+
+// The JSON value that the bytes are.
+pub(crate) fn json_in(alloc: Global, bytes: &[u8]) -> Result<Value, PlanFault>
+    ensures { MatchResult result
+        (λ value. json_of bytes.now ≡ Some (view value))
+        (λ fault. ((fault ≡ PlanFault.Memory) × (0 < length bytes.now))
+        ⊎ ((fault ≡ PlanFault.NotJson) × (json_of bytes.now ≡ None))) }
+{
+    match Value::from_slice(alloc, bytes) {
+        Ok(value) => Ok(value),
+        Err(error) if error.is_memory() => Err(PlanFault::Memory),
+        Err(_) => Err(PlanFault::NotJson),
+    }
+}
+
+// The whole number of a field.
+fn whole_number(value: &Value, name: &str) -> Option<u64>
+    ensures { result ≡ whole_at name.now (view value.now) }
+{
+    value.get(name).and_then(Value::as_u64)
+}
+
+/// What the items of `ranges` come to, each of them three whole numbers.
+#[derive(Clone, Copy)]
+struct Layout {
+    /// The ranges follow one another from 0 to the end of the root keys, none of them empty.
+    tiling: bool,
+    /// Each owner is a partition.
+    owned: bool,
+}
+
+// What the items come to; `None` where one isn't three whole numbers.
+fn layout_of(items: &[Value], parts: u64) -> Option<Layout>
+    ensures { result ≡ option_map (layout parts) (ranges_in (items_view items.now)) }
+{
+    let mut at = 0;
+    let mut ordered = true;
+    let mut owned = true;
+    for item in items {
+        let entry = Entry::of(item)?;
+        ordered = ordered && entry.lo == at && entry.lo < entry.hi;
+        owned = owned && entry.owner < parts;
+        at = entry.hi;
+    }
+    Some(Layout {
+        tiling: ordered && at == ROOT_END,
+        owned,
+    })
+}
+
+/// What the fields say.
+#[derive(Clone, Copy)]
+struct Draft<'a> {
+    parts: u64,
+    items: &'a [Value],
+    layout: Layout,
+}
+
+// What the fields say, or the fault of the first check of them that fails.
+fn draft_of(value: &Value) -> Result<Draft<'_>, PlanFault>
+    ensures { MatchResult result
+        (λ draft. (ranges : List PlanRange) × IsDraft draft ranges
+        × (plan_of_json (view value.now) ≡ checked draft.parts ranges))
+        (λ fault. plan_of_json (view value.now) ≡ Err fault) }
+{
+    let version = whole_number(value, "version").ok_or(PlanFault::Shape)?;
+    if version != 1 {
+        return Err(PlanFault::Version);
+    }
+    let parts = whole_number(value, "partitions").ok_or(PlanFault::Shape)?;
+    let items = value
+        .get("ranges")
+        .and_then(Value::as_array)
+        .ok_or(PlanFault::Shape)?;
+    let layout = layout_of(items, parts).ok_or(PlanFault::Shape)?;
+    Ok(Draft {
+        parts,
+        items,
+        layout,
+    })
+}
+
+// How many partitions there are, or the fault of the first check that fails.
+fn parts_of(draft: Draft<'_>) -> Result<u8, PlanFault>
+    ensures { (ranges : List PlanRange) → IsDraft draft.entry ranges → MatchResult result
+        (λ parts. checked draft.entry.parts ranges ≡ Ok (record { parts = parts; ranges = ranges }))
+        (λ fault. checked draft.entry.parts ranges ≡ Err fault) }
+{
+    if !(1..=MAX_PARTS).contains(&draft.parts) {
+        return Err(PlanFault::PartitionCount);
+    }
+    if draft.items.len() > MAX_RANGES {
+        return Err(PlanFault::TooManyRanges);
+    }
+    if !draft.layout.tiling {
+        return Err(PlanFault::RangeOrder);
+    }
+    if !draft.layout.owned {
+        return Err(PlanFault::PartitionNumber);
+    }
+    Ok(draft.parts as u8)
+}
+
+// The ranges of the items.
+fn ranges_of(alloc: Global, items: &[Value]) -> Result<Vec<PlanRange>, AllocError>
+    requires { IsSomeAnd (ranges_in (items_view items.now))
+        (λ ranges. list_all (λ range. nat_lt range.owner 256) ranges ≡ true) }
+    ensures { IfOk result (λ ranges. ranges_in (items_view items.now) ≡ Some ranges.items) }
+{
+    let mut ranges = Vec::with_capacity(alloc, items.len())?;
+    for item in items {
+        let Some(entry) = Entry::of(item) else {
+            unreachable!()
+        };
+        ranges.push_reserved(entry.range());
+    }
+    Ok(ranges)
+}
+
+// The plan that a JSON value spells. Memory is looked for after each check.
+pub(crate) fn plan_of(alloc: Global, value: &Value) -> Result<Plan, PlanFault>
+    ensures gives { Gives result (plan_of_json (view value.now)) }
+    ensures memory { result ≡ Err PlanFault.Memory → IsOk (plan_of_json (view value.now)) }
+{
+    let draft = draft_of(value)?;
+    let parts = parts_of(draft)?;
+    match ranges_of(alloc, draft.items) {
+        Ok(ranges) => Ok(Plan::of(parts, ranges)),
+        Err(AllocError) => Err(PlanFault::Memory),
+    }
+}

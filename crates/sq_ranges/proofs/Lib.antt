@@ -1,0 +1,13 @@
+pub mod Rows
+pub mod Tilings
+pub mod Joins
+pub mod Overlaps
+pub mod Runs
+pub mod Sweeps
+pub mod Cuts
+pub mod Found
+pub mod Segments
+pub mod Extents
+pub mod Links
+pub mod Made
+pub mod Search

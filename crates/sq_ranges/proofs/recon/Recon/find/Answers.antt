@@ -1,0 +1,57 @@
+use Rattle.std.proofs.Common.{◌≡◌, ◌≤◌, ◌<◌, ◌∙◌, List, length, sym, ap, subst, arith}
+use Rattle.std.specs.List.Sorted.{IsPartitionPoint}
+use Rattle.sq_ranges.specs.declared.recon.Range.{Range}
+use Rattle.sq_ranges.specs.ReconValue.{ReconValue, are_rising}
+use Rattle.sq_ranges.proofs.Search.{found_past, found_behind, found_here, found_within, segment_read, IsPoint}
+use Rattle.sq_ranges.proofs.Extents.{leaf_below}
+use Rattle.sq_ranges.proofs.Segments.{segment_stands, segments_rising, width_bounds}
+use Rattle.sq_ranges.proofs.recon.Recon.find.Goals as goal
+
+pub count_up_to-at-requires : goal.count_up_to-at-requires
+count_up_to-at-requires c =
+    let recon : ReconValue = record { width = c.self.inside.width; ranges = c.self.inside.ranges.items; segments = c.self.inside.segments.items } in
+    ap (are_rising 0) c.as_slice.ensures.value ∙ segments_rising recon c.self.invariant.0
+
+pub returns-in_err-segment-clause-found : goal.returns-in_err-segment-clause-found
+returns-in_err-segment-clause-found c =
+    let recon : ReconValue = record { width = c.self.inside.width; ranges = c.self.inside.ranges.items; segments = c.self.inside.segments.items } in
+    let key = c.number-key.result in
+    let i = c.count_up_to-at.result in
+    let point = subst (IsPoint key i) c.as_slice.ensures.value c.count_up_to-at.ensures.point in
+    let past : length recon.segments ≤ i = subst (λ (xs : List Range). length xs ≤ i) c.as_slice-2.ensures.value c.in_err-segment.ensures.lookup.3 in
+    c.from_residual.ensures ∙ rw (← c.self.view_is, ← c.number-key.ensures.number) (found_past recon c.self.invariant.0 key i point past)
+
+pub returns-then-key-segment-clause-found : goal.returns-then-key-segment-clause-found
+returns-then-key-segment-clause-found c =
+    let recon : ReconValue = record { width = c.self.inside.width; ranges = c.self.inside.ranges.items; segments = c.self.inside.segments.items } in
+    let key = c.number-key.result in
+    let i = c.count_up_to-at.result in
+    let point = subst (IsPoint key i) c.as_slice.ensures.value c.count_up_to-at.ensures.point in
+    let segment = c.in_ok-segment.segment.now in
+    let there = c.in_ok-segment.ensures.lookup.3 in
+    let at = segment_read recon.segments c.as_slice-2.result.now i segment c.as_slice-2.ensures.value there.0 (there.1 segment) in
+    rw (← c.self.view_is, ← c.number-key.ensures.number) (found_behind recon c.self.invariant.0 key i point segment at.0 at.1 c.if-key-segment.true)
+
+pub returns-clause-found : goal.returns-clause-found
+returns-clause-found c =
+    let recon : ReconValue = record { width = c.self.inside.width; ranges = c.self.inside.ranges.items; segments = c.self.inside.segments.items } in
+    let key = c.number-key.result in
+    let i = c.count_up_to-at.result in
+    let point = subst (IsPoint key i) c.as_slice.ensures.value c.count_up_to-at.ensures.point in
+    let segment = c.in_ok-segment.segment.now in
+    let there = c.in_ok-segment.ensures.lookup.3 in
+    let at = segment_read recon.segments c.as_slice-2.result.now i segment c.as_slice-2.ensures.value there.0 (there.1 segment) in
+    rw (← c.self.view_is, ← c.number-key.ensures.number) (found_here recon c.self.invariant.0 key i point segment at.0 at.1 c.if-key-segment.false)
+
+pub returns-clause-leaf : goal.returns-clause-leaf
+returns-clause-leaf c =
+    let recon : ReconValue = record { width = c.self.inside.width; ranges = c.self.inside.ranges.items; segments = c.self.inside.segments.items } in
+    let key = c.number-key.result in
+    let i = c.count_up_to-at.result in
+    let point = subst (IsPoint key i) c.as_slice.ensures.value c.count_up_to-at.ensures.point in
+    let segment = c.in_ok-segment.segment.now in
+    let there = c.in_ok-segment.ensures.lookup.3 in
+    let at = segment_read recon.segments c.as_slice-2.result.now i segment c.as_slice-2.ensures.value there.0 (there.1 segment) in
+    let held = found_within recon c.self.invariant.0 key i point segment at.0 at.1 c.if-key-segment.false in
+    let stands = segment_stands recon c.self.invariant.0 i segment at.2 in
+    leaf_below recon.width segment (width_bounds recon.width c.self.invariant.0.leaf).0 key held stands.is.short

@@ -1,0 +1,24 @@
+-- The reconfiguration between two plans, and why there is none.
+use Rattle.std.specs.Prelude.{◌≡◌, ℕ, ◌==◌, not, nat_lt, if◌then◌else◌, length, Option, Some, None}
+use Rattle.sq_plan.specs.PlanValue.{PlanValue}
+use Rattle.sq_ranges.specs.declared.fault.ReconFault.{ReconFault}
+use Rattle.sq_ranges.specs.declared.fault.ReconFault.TheVariants.{PartitionsDiffer, Width, TooManySegments}
+use Rattle.sq_ranges.specs.ReconValue.{ReconValue, IsRecon, segments_of, segment_limit, is_width}
+use Rattle.sq_ranges.specs.Moves.{moves_of, AreMoves}
+
+-- the first cause for which there is no reconfiguration between two plans with leaves of this width
+abbrev pub recon_fault : PlanValue → PlanValue → ℕ → Option ReconFault
+recon_fault old new width =
+    if not (old.parts == new.parts) then Some PartitionsDiffer
+    else if not (is_width width) then Some Width
+    else if nat_lt segment_limit (length (segments_of width (moves_of old new))) then Some TooManySegments
+    else None
+
+abbrev pub recon_of : PlanValue → PlanValue → ℕ → ReconValue
+recon_of old new width = record { width = width; ranges = moves_of old new; segments = segments_of width (moves_of old new) }
+
+-- this is the reconfiguration between two plans
+pub record IsReconOf (old new : PlanValue) (width : ℕ) (recon : ReconValue) : Type 0 where
+  pub moves : AreMoves old new recon.ranges
+  pub leaf : recon.width ≡ width
+  pub whole : IsRecon recon

@@ -1,0 +1,14 @@
+-- What a world opens with: the plans, what moves between them, the sizes, and the rows.
+use Rattle.std.specs.Prelude.{ℕ}
+use Rattle.sq_schema.specs.Table.{TableValue}
+use Rattle.sq_plan.specs.PlanValue.{PlanValue}
+use Rattle.sq_ranges.specs.declared.opening.Config.{Config}
+use Rattle.sq_ranges.specs.ReconValue.{ReconValue}
+
+pub record OpeningValue : Type 0 where
+  pub tables : ℕ
+  pub old : PlanValue
+  pub new : PlanValue
+  pub recon : ReconValue
+  pub config : Config
+  pub table : TableValue

@@ -1,0 +1,119 @@
+// The moves between two plans, and the segments that they are cut into.
+ghost use Rattle.std.specs.Prelude.{◌≡◌, ◌≤◌, ◌<◌, ◌++◌, true, nat_le, length, map, IfOk, OnOk};
+ghost use Rattle.sq_ranges.specs.ReconValue.{is_width, segment_at, segment_count, segments_in, segments_of, segment_limit, are_rising, link_of, AreLinks};
+ghost use Rattle.sq_plan.specs.PlanValue.{root_end};
+ghost use Rattle.sq_ranges.specs.Moves.{moves_of};
+
+use crate::recon::{Link, Range};
+use crate::sweep::Sweep;
+use sq_plan::Plan;
+use std::alloc::{AllocError, Global};
+
+/// How many segments a reconfiguration has at most.
+const SEGMENT_LIMIT: u64 = 256;
+
+/// How many leaves a segment has.
+const LEAVES: u64 = 32;
+
+/// Whether the moves between two plans come to at most [`SEGMENT_LIMIT`] segments.
+pub(crate) fn fits(old: &Plan, new: &Plan, width: u64) -> bool
+    requires { is_width width ≡ true }
+    ensures { result ≡ nat_le (length (segments_of width (moves_of old.now new.now))) segment_limit }
+{
+    let mut count = 0;
+    let mut sweep = Sweep::new(old, new);
+    while let Some(run) = sweep.next_run() {
+        count += segment_count(&run, width);
+        if count > SEGMENT_LIMIT {
+            return false;
+        }
+    }
+    true
+}
+
+/// The moves between two plans, in key order.
+pub(crate) fn moves(alloc: Global, old: &Plan, new: &Plan) -> Result<Vec<Range>, AllocError>
+    ensures { IfOk result (λ moves. moves.items ≡ moves_of old.now new.now) }
+{
+    let mut moves = Vec::new(alloc);
+    let mut sweep = Sweep::new(old, new);
+    while let Some(run) = sweep.next_run() {
+        moves.push(run)?;
+    }
+    Ok(moves)
+}
+
+/// The segments of ranges, in key order.
+pub(crate) fn segments(alloc: Global, ranges: &[Range], width: u64) -> Result<Vec<Range>, AllocError>
+    requires width { is_width width ≡ true }
+    requires rising { are_rising 0 ranges.now ≡ true }
+    ensures { IfOk result (λ segments. segments.items ≡ segments_of width ranges.now) }
+{
+    let mut segments = Vec::new(alloc);
+    for range in ranges {
+        push_segments(&mut segments, range, width)?;
+    }
+    Ok(segments)
+}
+
+// Puts the segments of a range behind others.
+fn push_segments(segments: &mut Vec<Range>, range: &Range, width: u64) -> Result<(), AllocError>
+    requires width { is_width width ≡ true }
+    requires some { range.now.lo < range.now.hi }
+    requires within { range.now.hi ≤ root_end }
+    ensures { OnOk result (segments.new.items ≡ segments.old.items ++ segments_in width range.now) }
+{
+    for i in 0..segment_count(range, width) {
+        segments.push(segment_at(range, width, i))?;
+    }
+    Ok(())
+}
+
+// How many segments a range is cut into.
+fn segment_count(range: &Range, width: u64) -> u64
+    requires width { is_width width ≡ true }
+    requires some { range.now.lo < range.now.hi }
+    requires within { range.now.hi ≤ root_end }
+    ensures count { result ≡ segment_count width range.now }
+    ensures bound { result ≤ root_end }
+{
+    (range.hi - range.lo).div_ceil(LEAVES * width)
+}
+
+// The segment of this number within a range.
+fn segment_at(range: &Range, width: u64, i: u64) -> Range
+    requires width { is_width width ≡ true }
+    requires within { range.now.hi ≤ root_end }
+    requires there { i < segment_count width range.now }
+    ensures { result ≡ segment_at width range.now i }
+{
+    let lo = range.lo + i * LEAVES * width;
+    Range {
+        lo,
+        hi: range.hi.min(lo + LEAVES * width),
+        ..*range
+    }
+}
+
+/// The links of ranges, strictly rising.
+pub(crate) fn links(alloc: Global, ranges: &[Range]) -> Result<Vec<Link>, AllocError>
+    ensures { IfOk result (λ links. AreLinks ranges.now links.items) }
+{
+    let mut links = each_link(alloc, ranges)?;
+    links.sort_unstable();
+    links.dedup();
+    Ok(links)
+}
+
+// The link of each range.
+fn each_link(alloc: Global, ranges: &[Range]) -> Result<Vec<Link>, AllocError>
+    ensures { IfOk result (λ links. links.items ≡ map link_of ranges.now) }
+{
+    ranges
+        .iter()
+        .map(|range| Link {
+            src: range.src,
+            dst: range.dst,
+        })
+        .collect(alloc)
+}

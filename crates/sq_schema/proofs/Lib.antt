@@ -1,0 +1,10 @@
+pub mod Entries
+pub mod Kept
+pub mod KeyOrder
+pub mod Places
+pub mod Sizes
+pub mod Sound
+pub mod Weights
+pub mod Latest
+pub mod Drafts
+pub mod Runs

@@ -1,0 +1,51 @@
+-- Why a transaction is refused before it runs.
+use Rattle.std.specs.Prelude.{ℕ, ◌==◌, ◌&&◌, ◌||◌, not, nat_lt, if◌then◌else◌, List, [], ◌∷◌, length, Option, Some, None}
+use Rattle.std.specs.Option.{option_or}
+use Rattle.sq_schema.specs.Values.{RowValue}
+use Rattle.sq_schema.specs.declared.root.TheConstants.{ROOT_END}
+use Rattle.sq_schema.specs.declared.row.RowKey.{RowKey}
+use Rattle.sq_schema.specs.declared.txn.Op.{Op}
+use Rattle.sq_schema.specs.declared.txn.Op.TheVariants.{Get, Put, Add, Del, Check}
+use Rattle.sq_schema.specs.declared.fault.TxnFault.{TxnFault}
+use Rattle.sq_schema.specs.declared.fault.TxnFault.TheVariants.{BadOps, BadRoot, BadTable, BadSub, BadNote}
+
+-- a transaction has this many operations at most
+abbrev pub ops_limit : ℕ
+ops_limit = 64
+
+-- a note has this many bytes at most
+abbrev pub note_limit : ℕ
+note_limit = 255
+
+-- a key of a schema with so many tables: the table is one of them, and the root table has the sub key 0 only
+abbrev pub key_fault : ℕ → RowKey → Option TxnFault
+key_fault tables key =
+    if not (nat_lt key.table tables)
+    then Some BadTable
+    else (if key.table == 0 && not (key.sub == 0) then Some BadSub else None)
+
+abbrev pub note_fault : List ℕ → Option TxnFault
+note_fault note = if nat_lt note_limit (length note) then Some BadNote else None
+
+-- a row of such a schema: its key, and then its note
+abbrev pub row_fault : ℕ → RowKey → RowValue → Option TxnFault
+row_fault tables key row = option_or (key_fault tables key) (note_fault row.note)
+
+abbrev pub op_fault : ℕ → Op → Option TxnFault
+op_fault tables (Get key) = key_fault tables key
+op_fault tables (Put key row) = row_fault tables key row
+op_fault tables (Add key by) = key_fault tables key
+op_fault tables (Del key) = key_fault tables key
+op_fault tables (Check key least) = key_fault tables key
+
+-- the fault of the first operation that has one
+abbrev pub ops_fault : ℕ → List Op → Option TxnFault
+ops_fault tables [] = None
+ops_fault tables (op ∷ ops) = option_or (op_fault tables op) (ops_fault tables ops)
+
+-- the first fault of a transaction: of its count of operations, its root key, and then operation by operation
+abbrev pub txn_fault : ℕ → ℕ → List Op → Option TxnFault
+txn_fault tables root ops =
+    if length ops == 0 || nat_lt ops_limit (length ops)
+    then Some BadOps
+    else (if not (nat_lt root ROOT_END) then Some BadRoot else ops_fault tables ops)

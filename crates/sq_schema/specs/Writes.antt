@@ -1,0 +1,45 @@
+-- Writes of rows that wait to be made.
+use Rattle.std.specs.Prelude.{◌≡◌, ℕ, Bool, true, List, fold, length, Option, Some, None, Ok, Err}
+use Rattle.std.specs.List.{AllPass}
+use Rattle.sq_schema.specs.declared.row.RowKey.{RowKey}
+use Rattle.sq_schema.specs.declared.txn.Op.{Op}
+use Rattle.sq_schema.specs.Values.{RowValue}
+use Rattle.sq_schema.specs.Effect.{RowList, with_row, without_row}
+use Rattle.sq_schema.specs.Family.{rows_size}
+use Rattle.sq_schema.specs.Rows.{is_entry, IsRowList}
+
+-- the row that a key is to have, or none
+abbrev pub Write : Type 0
+Write = RowKey × Option RowValue
+
+abbrev pub with_write : RowList → RowKey → Option RowValue → RowList
+with_write rows key (Some row) = with_row rows key row
+with_write rows key None = without_row rows key
+
+-- the rows after these writes, in their order
+abbrev pub with_writes : RowList → List Write → RowList
+with_writes rows writes = fold (λ now write. with_write now write.0 write.1) rows writes
+
+-- what is written is sound
+abbrev pub is_sound : RowKey → Option RowValue → Bool
+is_sound key None = true
+is_sound key (Some row) = is_entry (key, row)
+
+abbrev pub is_write : Write → Bool
+is_write write = is_sound write.0 write.1
+
+-- rows, with writes that wait
+pub record DraftValue : Type 0 where
+  pub base : RowList
+  pub writes : List Write
+
+-- the rows after the writes
+abbrev pub drafted : DraftValue → RowList
+drafted draft = with_writes draft.base draft.writes
+
+-- a draft's rows and writes are sound, and so many rows of this size stand after the writes
+pub record IsDraft (draft : DraftValue) (many large : ℕ) : Type 0 where
+  pub rows : IsRowList (drafted draft)
+  pub writes : AllPass is_write draft.writes
+  pub count : many ≡ length (drafted draft)
+  pub size : large ≡ rows_size (drafted draft)

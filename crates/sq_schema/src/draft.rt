@@ -1,0 +1,251 @@
+// Operations on the rows of a root key, whose writes wait until all of them have run.
+ghost use Rattle.std.specs.Prelude.{◌≡◌, ◌≤◌, ◌++◌, ◌∷◌, [], None, Ok, length, IfOk, IfErr, IfSome, OnOk, OnErr};
+ghost use Rattle.std.specs.Option.{option_copied, option_map_or};
+ghost use Rattle.sq_schema.specs.Family.{row_size, rows_size};
+ghost use Rattle.sq_schema.specs.Refusals.{ops_fault};
+ghost use Rattle.sq_schema.specs.Runs.{EndsBy};
+
+use crate::row::{Row, RowKey};
+use crate::rows::Rows;
+use crate::txn::{Cause, Op, OpAnswer, OpAnswers};
+use std::alloc::{AllocError, Global};
+use std::marker::Model;
+
+/// Rows, with writes that wait. To a contract it is a `DraftValue`.
+#[derive(Drop)]
+pub(crate) struct Draft<'a> {
+    rows: &'a Rows,
+    writes: Vec<(RowKey, Option<Row>)>,
+    count: usize,
+    size: u64,
+}
+
+impl<'a> Model for Draft<'a> {
+    ghost use Rattle.sq_schema.specs.Writes.{DraftValue, IsDraft};
+
+    ghost Value = { DraftValue };
+
+    ghost view = { λ d. record { base = d.rows.now; writes = d.writes.items } };
+
+    ghost invariant = { λ d. IsDraft (record { base = d.rows.now; writes = d.writes.items }) d.count d.size };
+}
+
+/// Why an operation has no answer.
+#[derive(Clone, Copy, Debug)]
+pub(crate) enum Stop {
+    /// It aborts its transaction.
+    Abort(Cause),
+    /// There is no memory.
+    Memory,
+}
+
+/// What running operations comes to.
+#[derive(Drop)]
+pub(crate) enum Outcome {
+    /// All have an answer.
+    Committed {
+        /// The answers.
+        answers: OpAnswers,
+        /// The writes that they wait for.
+        writes: Vec<(RowKey, Option<Row>)>,
+        /// The size in bytes of a family with the rows after these writes.
+        size: u64,
+    },
+    /// One of them aborts.
+    Aborted {
+        /// Its position, from 0.
+        at: usize,
+        /// Why it aborts.
+        cause: Cause,
+    },
+}
+
+impl From<Cause> for Stop {
+    ghost use Rattle.std.specs.Prelude.{◌≡◌};
+    ghost use Rattle.sq_schema.specs.declared.draft.Stop.TheVariants.{Abort};
+
+    ghost from_gives = { λ cause stop. stop ≡ Abort cause };
+
+    fn from(cause: Cause) -> Stop {
+        Stop::Abort(cause)
+    }
+}
+
+impl From<AllocError> for Stop {
+    ghost use Rattle.std.specs.Prelude.{◌≡◌};
+    ghost use Rattle.sq_schema.specs.declared.draft.Stop.TheVariants.{Memory};
+
+    ghost from_gives = { λ _ stop. stop ≡ Memory };
+
+    fn from(_error: AllocError) -> Stop {
+        Stop::Memory
+    }
+}
+
+impl<'a> Draft<'a> {
+    ghost use Rattle.sq_schema.specs.Effect.{row_at, op_outcome, put_outcome, add_outcome, del_outcome, check_outcome};
+    ghost use Rattle.sq_schema.specs.Family.{rows_size};
+    ghost use Rattle.sq_schema.specs.Refusals.{op_fault, note_limit};
+    ghost use Rattle.sq_schema.specs.Writes.{is_write, drafted};
+    ghost use Rattle.sq_schema.specs.Runs.{StopsBy};
+
+    // These rows of a family of this size, and no writes.
+    fn new(alloc: Global, rows: &'a Rows, size: u64) -> Draft<'a>
+        requires { size ≡ rows_size rows.now }
+        ensures rows { result.base ≡ rows.now }
+        ensures writes { result.writes ≡ [] }
+    {
+        Draft {
+            count: rows.len(),
+            rows,
+            writes: Vec::new(alloc),
+            size,
+        }
+    }
+
+    // The row of a key after the writes.
+    fn get(&self, key: RowKey) -> Option<&Row>
+        ensures row { option_copied result ≡ row_at (drafted self.now) key }
+        ensures short { IfSome result (λ row. length row.now.note ≤ note_limit) }
+    {
+        match self.writes.iter().rev().find(|write| write.0 == key) {
+            Some((_, row)) => row.as_ref(),
+            None => self.rows.get(key),
+        }
+    }
+
+    // Adds a write.
+    fn write(&mut self, key: RowKey, row: Option<Row>) -> Result<(), AllocError>
+        requires { IfSome row (λ row. length row.note ≤ note_limit) }
+        ensures base { self.new.base ≡ self.old.base }
+        ensures ok { OnOk result (self.new.writes ≡ self.old.writes ++ (key, row) ∷ []) }
+    {
+        let (old_count, old_size) = weight(self.get(key));
+        let (new_count, new_size) = weight(row.as_ref());
+        self.writes.push((key, row))?;
+        self.count = self.count + new_count - old_count;
+        self.size = self.size + new_size - old_size;
+        Ok(())
+    }
+
+    // Runs an operation.
+    fn run(&mut self, op: &Op) -> Result<OpAnswer, Stop>
+        requires { op_fault 8 op.now ≡ None }
+        ensures base { self.new.base ≡ self.old.base }
+        ensures ok { IfOk result (λ answer. op_outcome (drafted self.old) op.now ≡ Ok (drafted self.new, answer)) }
+        ensures err { IfErr result (StopsBy (op_outcome (drafted self.old) op.now)) }
+    {
+        match op {
+            Op::Get(key) => self.find(*key),
+            Op::Put(key, row) => self.put(*key, row),
+            Op::Add(key, by) => self.add(*key, *by),
+            Op::Del(key) => self.del(*key),
+            Op::Check(key, least) => self.check(*key, *least),
+        }
+    }
+
+    fn find(&self, key: RowKey) -> Result<OpAnswer, Stop>
+        ensures ok { IfOk result (λ answer. answer ≡ OpAnswer.Found (row_at (drafted self.now) key)) }
+        ensures err { IfErr result (λ stop. stop ≡ Stop.Memory) }
+    {
+        match self.get(key) {
+            Some(row) => Ok(OpAnswer::Found(Some(row.clone()?))),
+            None => Ok(OpAnswer::Found(None)),
+        }
+    }
+
+    fn put(&mut self, key: RowKey, row: &Row) -> Result<OpAnswer, Stop>
+        requires { length row.now.note ≤ note_limit }
+        ensures base { self.new.base ≡ self.old.base }
+        ensures ok { IfOk result (λ answer. put_outcome (drafted self.old) key row.now ≡ Ok (drafted self.new, answer)) }
+        ensures err { IfErr result (StopsBy (put_outcome (drafted self.old) key row.now)) }
+    {
+        if key.table != 0 && self.get(RowKey::ROOT).is_none() {
+            return Err(Stop::Abort(Cause::NoRoot));
+        }
+        self.write(key, Some(row.clone()?))?;
+        Ok(OpAnswer::Done)
+    }
+
+    fn add(&mut self, key: RowKey, by: i64) -> Result<OpAnswer, Stop>
+        ensures base { self.new.base ≡ self.old.base }
+        ensures ok { IfOk result (λ answer. add_outcome (drafted self.old) key by (row_at (drafted self.old) key) ≡ Ok (drafted self.new, answer)) }
+        ensures err { IfErr result (StopsBy (add_outcome (drafted self.old) key by (row_at (drafted self.old) key))) }
+    {
+        let row = self.get(key).ok_or(Cause::Absent)?;
+        let number = row.number().checked_add(by).ok_or(Cause::Range)?;
+        let row = row.with_number(number)?;
+        self.write(key, Some(row))?;
+        Ok(OpAnswer::Number(number))
+    }
+
+    fn del(&mut self, key: RowKey) -> Result<OpAnswer, Stop>
+        ensures base { self.new.base ≡ self.old.base }
+        ensures ok { IfOk result (λ answer. del_outcome (drafted self.old) key (row_at (drafted self.old) key) ≡ Ok (drafted self.new, answer)) }
+        ensures err { IfErr result (StopsBy (del_outcome (drafted self.old) key (row_at (drafted self.old) key))) }
+    {
+        if self.get(key).is_none() {
+            return Err(Stop::Abort(Cause::Absent));
+        }
+        if key == RowKey::ROOT && self.count != 1 {
+            return Err(Stop::Abort(Cause::Children));
+        }
+        self.write(key, None)?;
+        Ok(OpAnswer::Done)
+    }
+
+    fn check(&self, key: RowKey, least: i64) -> Result<OpAnswer, Stop>
+        ensures ok { IfOk result (λ answer. check_outcome (drafted self.now) least (row_at (drafted self.now) key) ≡ Ok (drafted self.now, answer)) }
+        ensures err { IfErr result (StopsBy (check_outcome (drafted self.now) least (row_at (drafted self.now) key))) }
+    {
+        let row = self.get(key).ok_or(Cause::Absent)?;
+        if row.number() < least {
+            return Err(Stop::Abort(Cause::Small));
+        }
+        Ok(OpAnswer::Done)
+    }
+}
+
+/// Runs operations on the rows of a family of this size, up to the first that aborts. The rows stay as they are.
+pub(crate) fn run(
+    alloc: Global,
+    rows: &Rows,
+    size: u64,
+    ops: &[Op],
+) -> Result<Outcome, AllocError>
+    requires size { size ≡ rows_size rows.now }
+    requires ops { ops_fault 8 ops.now ≡ None }
+    ensures { IfOk result (EndsBy rows.now ops.now) }
+{
+    let mut draft = Draft::new(alloc, rows, size);
+    let mut answers = Vec::with_capacity(alloc, ops.len())?;
+    for (at, op) in ops.iter().enumerate() {
+        match draft.run(op) {
+            Ok(answer) => answers.push(answer)?,
+            Err(Stop::Abort(cause)) => return Ok(Outcome::Aborted { at, cause }),
+            Err(Stop::Memory) => return Err(AllocError),
+        }
+    }
+    let Draft {
+        rows: _,
+        writes,
+        count: _,
+        size,
+    } = draft;
+    Ok(Outcome::Committed {
+        answers: OpAnswers::new(answers),
+        writes,
+        size,
+    })
+}
+
+// How many rows this is, and their size.
+fn weight(row: Option<&Row>) -> (usize, u64)
+    ensures count { result.0 ≡ option_map_or (λ row. 1) (option_copied row.entry) 0 }
+    ensures size { result.1 ≡ option_map_or row_size (option_copied row.entry) 0 }
+{
+    match row {
+        Some(row) => (1, row.size()),
+        None => (0, 0),
+    }
+}

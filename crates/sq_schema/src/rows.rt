@@ -1,0 +1,159 @@
+// The rows of one root key.
+ghost use Rattle.std.specs.Prelude.{◌≡◌, ◌+◌, ◌*◌, ◌^◌, ◌<◌, ◌≤◌, ◌==◌, true, [], length, vec_len, vec_capacity, OnOk, OnErr, IfErr, IfSome};
+ghost use Rattle.std.specs.Option.{option_copied};
+ghost use Rattle.std.specs.List.{AllPass};
+ghost use Rattle.std.specs.FinMap.Entries.{is_sorted};
+ghost use Rattle.sq_schema.specs.Keys.{key_cmp};
+ghost use Rattle.sq_schema.specs.Effect.{row_at, with_row};
+ghost use Rattle.sq_schema.specs.Family.{rows_size};
+ghost use Rattle.sq_schema.specs.Refusals.{note_limit};
+ghost use Rattle.sq_schema.specs.Rows.{IsRowList, IsPlace};
+ghost use Rattle.sq_schema.specs.Writes.{is_write, with_write, with_writes};
+
+use crate::row::{Row, RowKey};
+use std::alloc::{AllocError, AllocFailed, Global};
+use std::marker::Model;
+
+/// The rows of one root key, by key in rising order. To a contract they are the list of key and row.
+#[derive(Debug, Drop)]
+pub struct Rows {
+    rows: Vec<(RowKey, Row)>,
+}
+
+impl Model for Rows {
+    ghost use Rattle.std.specs.Prelude.{List};
+    ghost use Rattle.sq_schema.specs.Values.{RowValue};
+    ghost use Rattle.sq_schema.specs.declared.row.RowKey.{RowKey};
+    ghost use Rattle.sq_schema.specs.Rows.{IsRowList};
+
+    ghost Value = { List (RowKey × RowValue) };
+
+    ghost view = { λ r. r.rows.items };
+
+    ghost invariant = { λ r. IsRowList r.rows.items };
+}
+
+impl Rows {
+    /// No rows.
+    pub fn new(alloc: Global) -> Rows
+        ensures { result ≡ [] }
+    {
+        Rows {
+            rows: Vec::new(alloc),
+        }
+    }
+
+    /// How many rows there are.
+    pub fn len(&self) -> usize
+        ensures count { result ≡ length self.now }
+        ensures sound { IsRowList self.now }
+    {
+        self.rows.len()
+    }
+
+    /// Whether there are none.
+    pub fn is_empty(&self) -> bool
+        ensures { result ≡ (length self.now == 0) }
+    {
+        self.rows.is_empty()
+    }
+
+    /// The rows with their keys, in rising order.
+    pub fn as_slice(&self) -> &[(RowKey, Row)]
+        ensures all { result.now ≡ self.now }
+        ensures sound { IsRowList self.now }
+    {
+        &self.rows
+    }
+
+    /// The row of a key.
+    pub fn get(&self, key: RowKey) -> Option<&Row>
+        ensures { option_copied result ≡ row_at self.now key }
+    {
+        match place(&self.rows, key) {
+            Ok(at) => Some(&self.rows[at].1),
+            Err(_) => None,
+        }
+    }
+
+    /// The size in bytes of a family with these rows: 32, and 24 and the length of the note for each row.
+    pub fn size(&self) -> u64
+        ensures size { result ≡ rows_size self.now }
+    {
+        let mut size = 32;
+        for (_, row) in &self.rows {
+            size += row.size();
+        }
+        size
+    }
+
+    /// Puts a row, new or in place of the one that stands. Where there is no memory the row comes back.
+    pub fn insert(&mut self, key: RowKey, row: Row) -> Result<(), AllocFailed<Row>>
+        requires { length row.note ≤ note_limit }
+        ensures ok { OnOk result (self.new ≡ with_row self.old key row) }
+        ensures err { OnErr result (self.new ≡ self.old) }
+        ensures row_returned { IfErr result (λ failed. failed.value ≡ row) }
+    {
+        if self.rows.reserve(1).is_err() {
+            return Err(AllocFailed { value: row });
+        }
+        write(&mut self.rows, key, Some(row));
+        Ok(())
+    }
+
+    // Makes these writes in their order, or none where there is no memory.
+    pub(crate) fn write_all(
+        &mut self,
+        writes: Vec<(RowKey, Option<Row>)>,
+    ) -> Result<(), AllocError>
+        requires { AllPass is_write writes.items }
+        ensures ok { OnOk result (self.new ≡ with_writes self.old writes.items) }
+        ensures err { OnErr result (self.new ≡ self.old) }
+    {
+        self.rows.reserve(writes.len())?;
+        for (key, row) in writes {
+            write(&mut self.rows, key, row);
+        }
+        Ok(())
+    }
+}
+
+impl Clone for Rows {
+    ghost is_clone = { λ rows copy. copy ≡ rows };
+
+    fn clone(&self) -> Result<Rows, AllocError> {
+        Ok(Rows {
+            rows: self.rows.clone()?,
+        })
+    }
+}
+
+// Where the row of a key is, or where it would go.
+fn place(rows: &[(RowKey, Row)], key: RowKey) -> Result<usize, usize>
+    requires { is_sorted key_cmp rows.now ≡ true }
+    ensures { IsPlace rows.now key result }
+{
+    rows.binary_search_by_key(&key, |(key, _)| *key)
+}
+
+// Makes a write, for which there is room.
+fn write(rows: &mut Vec<(RowKey, Row)>, key: RowKey, row: Option<Row>)
+    requires rising { is_sorted key_cmp rows.old.items ≡ true }
+    requires room { vec_len rows.old < vec_capacity rows.old }
+    ensures rows { rows.new.items ≡ with_write rows.old.items key row }
+    ensures room { vec_capacity rows.new ≡ vec_capacity rows.old }
+    ensures len { vec_len rows.new ≤ vec_len rows.old + 1 }
+{
+    match (place(rows, key), row) {
+        (Ok(at), Some(row)) => rows[at].1 = row,
+        (Ok(at), None) => {
+            rows.remove(at);
+        }
+        (Err(at), Some(row)) => {
+            let Ok(()) = rows.insert(at, (key, row)) else {
+                unreachable!()
+            };
+        }
+        (Err(_), None) => {}
+    }
+}

@@ -1,0 +1,87 @@
+// Which tables there are, and which rows they may hold.
+ghost use Rattle.std.specs.Prelude.{◌≡◌, ◌≤◌};
+ghost use Rattle.std.specs.Option.{SomeIff};
+ghost use Rattle.std.specs.Result.{result_err};
+ghost use Rattle.sq_schema.specs.Refusals.{key_fault, row_fault};
+
+use crate::fault::TxnFault;
+use crate::row::{Row, RowKey};
+use std::marker::Model;
+
+/// The most tables that a schema has.
+pub const MAX_TABLES: u8 = 8;
+
+/// The most bytes that a note has.
+pub const MAX_NOTE: usize = 255;
+
+/// The tables of a database: 1 to 8 of them, numbered from 0. To a contract it is their count.
+#[derive(Clone, Copy, Debug, PartialEq, Eq)]
+pub struct Schema {
+    tables: u8,
+}
+
+impl Model for Schema {
+    ghost use Rattle.std.specs.Prelude.{ℕ, ◌≤◌};
+
+    ghost Value = { ℕ };
+
+    ghost view = { λ s. s.tables };
+
+    ghost invariant = { λ s. (1 ≤ s.tables) × (s.tables ≤ 8) };
+
+    ghost inverse = { λ n. record { tables = n } };
+}
+
+impl Schema {
+    /// The schema of so many tables; `None` unless there are 1 to 8.
+    pub fn new(tables: u8) -> Option<Schema>
+        ensures { SomeIff result ((1 ≤ tables) × (tables ≤ 8)) tables }
+    {
+        if (1..=MAX_TABLES).contains(&tables) {
+            Some(Schema { tables })
+        } else {
+            None
+        }
+    }
+
+    /// How many tables there are, 1 to 8.
+    pub fn tables(self) -> u8
+        ensures count { result ≡ self }
+        ensures some { 1 ≤ result }
+        ensures most { result ≤ 8 }
+    {
+        self.tables
+    }
+
+    /// Refuses a row whose table isn't in the schema, then one of the root table with another sub key than 0, and
+    /// then one whose note has over [`MAX_NOTE`] bytes.
+    pub fn check_row(self, key: RowKey, row: &Row) -> Result<(), TxnFault>
+        ensures { result_err result ≡ row_fault self key row.now }
+    {
+        check_row(self.tables, key, row)
+    }
+}
+
+// Refuses a key that no schema of so many tables has.
+pub(crate) fn check_key(tables: u8, key: RowKey) -> Result<(), TxnFault>
+    ensures { result_err result ≡ key_fault tables key }
+{
+    if key.table >= tables {
+        return Err(TxnFault::BadTable);
+    }
+    if key.table == 0 && key.sub != 0 {
+        return Err(TxnFault::BadSub);
+    }
+    Ok(())
+}
+
+// Refuses such a key, and then a row with too long a note.
+pub(crate) fn check_row(tables: u8, key: RowKey, row: &Row) -> Result<(), TxnFault>
+    ensures { result_err result ≡ row_fault tables key row.now }
+{
+    check_key(tables, key)?;
+    if row.note().len() > MAX_NOTE {
+        return Err(TxnFault::BadNote);
+    }
+    Ok(())
+}

@@ -1,0 +1,9 @@
+pub mod Totals
+pub mod Sights
+pub mod Steps
+pub mod Exchanges
+pub mod Hands
+pub mod Ends
+pub mod Tellings
+pub mod Walking
+pub mod Searching

@@ -1,0 +1,118 @@
+// The tree and its seats.
+ghost use Rattle.std.specs.Prelude.{◌≡◌, ℕ, true, false, List, [], ◌∷◌, map, IfOk};
+ghost use Rattle.std.specs.Slots.{slots_items, slots_len, IsFull};
+ghost use mathlib.Core.Option.{some};
+ghost use lib.ListN.{get_elem?};
+ghost use Rattle.sq_tree.specs.Status.{word_of};
+ghost use Rattle.sq_status.specs.declared.view.View.{View};
+ghost use Rattle.sq_status.specs.View.{fresh, gave, took};
+ghost use Rattle.sq_status.specs.Rule.{IsTreeOf, Kept};
+
+mod calls;
+mod walks;
+
+pub use walks::LeafClaim;
+
+use crate::rule::{Handing, TreeRule};
+use crate::view::View;
+use atomic_table::{Closed, Seat, Table};
+use sq_tree::Status;
+use std::alloc::{AllocError, Global};
+use std::marker::Model;
+
+/// The statuses of the 63 nodes of a segment, in words that threads share without a lock. A contract sees
+/// which tree it is.
+#[derive(Drop)]
+pub struct StatusTree {
+    table: Table<(), View, (), TreeRule, Global>,
+}
+
+impl Model for StatusTree {
+    ghost use Rattle.std.specs.Prelude.{◌≡◌};
+    ghost use Rattle.atomic_table.specs.Seated.{TableId};
+
+    ghost Value = { TableId };
+
+    ghost view = { λ t. t.table.shared.table_id };
+
+    ghost invariant = { λ t. (t.table.shared.table_id.words ≡ 63) × (t.table.shared.table_id.slots ≡ 0) };
+}
+
+/// The right to make steps on a tree. It has no bytes. A contract sees its tree and its view.
+#[derive(Drop)]
+pub struct TreeSeat {
+    seat: Seat<(), View>,
+}
+
+impl Model for TreeSeat {
+    ghost use Rattle.std.specs.Prelude.{◌≡◌, false, []};
+    ghost use Rattle.sq_status.specs.Seat.{SeatValue};
+
+    ghost Value = { SeatValue };
+
+    ghost view = { λ s. record { tree = s.seat.table_id; view = s.seat.me.0 } };
+
+    ghost invariant = { λ s. (s.seat.me.0.spent ≡ false) × (s.seat.me.1 ≡ []) };
+}
+
+impl StatusTree {
+    /// A tree whose nodes are all free, and its first seat.
+    pub fn open(alloc: Global) -> Result<(StatusTree, TreeSeat), AllocError>
+        ensures { IfOk result (λ t. (t.1.tree ≡ t.0) × (t.1.view ≡ fresh true false)) }
+    {
+        let (table, seat) = Table::of_words(alloc, &[0; 63], &())?;
+        Ok((StatusTree { table }, TreeSeat { seat }))
+    }
+
+    /// Shares out one more seat, which has done and seen nothing.
+    pub fn share(&self, seat: &mut TreeSeat) -> TreeSeat
+        requires tree { seat.old.tree ≡ self.now }
+        requires first { seat.old.view.first ≡ true }
+        ensures tree { (seat.new.tree ≡ self.now) × (result.tree ≡ self.now) }
+        ensures given { seat.new.view ≡ gave seat.old.view }
+        ensures fresh { result.view ≡ fresh false false }
+    {
+        TreeSeat {
+            seat: self.table.shared.split_seat::<Handing>(&mut seat.seat),
+        }
+    }
+
+    /// Joins a seat that was shared out: the first seat has all that it did and saw.
+    pub fn join(&self, seat: &mut TreeSeat, other: TreeSeat)
+        requires tree { (seat.old.tree ≡ self.now) × (other.tree ≡ self.now) }
+        requires first { seat.old.view.first ≡ true }
+        ensures tree { seat.new.tree ≡ self.now }
+        ensures taken { seat.new.view ≡ took seat.old.view other.view }
+    {
+        let TreeSeat { seat: other } = other;
+        self.table.shared.join_seat::<Handing>(&mut seat.seat, other);
+    }
+
+    /// The statuses of all nodes, that of node 1 first. Where each seat that was given was also taken, they
+    /// are those that the first seat's lists name.
+    pub fn close(self, seat: TreeSeat) -> [Status; 63]
+        requires tree { seat.tree ≡ self }
+        ensures rule { (id : ℕ) × (views : List View) × IsTreeOf result views × (get_elem? views id ≡ some seat.view) }
+        ensures all { seat.view.first ≡ true → seat.view.given ≡ seat.view.taken → IsTreeOf result (seat.view ∷ []) }
+    {
+        let StatusTree { table } = self;
+        let TreeSeat { seat } = seat;
+        let closed = table.close_with(seat);
+        let statuses = statuses_of(&closed);
+        closed.free();
+        statuses
+    }
+}
+
+// The statuses that a closed table's words are.
+fn statuses_of(closed: &Closed<(), Global>) -> [Status; 63]
+    requires full { IsFull closed.now.words × (slots_len closed.now.words ≡ 63) }
+    requires kept { (views : List View) × Kept (slots_items closed.now.words) views }
+    ensures { slots_items closed.now.words ≡ map word_of result }
+{
+    let mut statuses = [Status::Free; 63];
+    for (i, status) in statuses.iter_mut().enumerate() {
+        *status = Status::from_word(closed.word(i));
+    }
+    statuses
+}

@@ -1,0 +1,9 @@
+pub mod Covering
+pub mod Grown
+pub mod Live
+pub mod Nested
+pub mod Placed
+pub mod Readings
+pub mod Statuses
+pub mod Went
+pub mod Words

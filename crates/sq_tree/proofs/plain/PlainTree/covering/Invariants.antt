@@ -1,0 +1,11 @@
+use Rattle.std.proofs.Common.{◌-◌}
+use Rattle.sq_tree.specs.Status.{covering}
+use Rattle.sq_tree.specs.Tree.{status_at}
+use Rattle.sq_tree.proofs.Covering.{LooksFrom}
+use Rattle.sq_tree.proofs.plain.PlainTree.covering.Given as goal
+
+abbrev pub invariant-loop-low : goal.invariant-loop-low
+invariant-loop-low l = LooksFrom (status_at l.self) l.leaf l.node (covering (status_at l.self) l.leaf)
+
+abbrev pub decreases-loop-low : goal.decreases-loop-low
+decreases-loop-low l = 64 - l.node

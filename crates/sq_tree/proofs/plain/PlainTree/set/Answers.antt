@@ -1,0 +1,29 @@
+use Rattle.std.proofs.Common.{◌≡◌, inl, inr, ◌-◌, ◌<◌, ◌∙◌, true, List, sym, ap, subst, length, slice_set, arith}
+use Rattle.std.proofs.lemmas.Bool.{cases_Bool}
+use Rattle.sq_tree.specs.declared.status.Status.{Status}
+use Rattle.sq_tree.specs.Status.{is_free, is_live}
+use Rattle.sq_tree.specs.Tree.{status_at, with_status, IsGrown}
+use Rattle.sq_tree.proofs.Nested.{node_bounds}
+use Rattle.sq_tree.proofs.Placed.{placed-set, statuses-with_status}
+use Rattle.sq_tree.proofs.Grown.{grown-set_at}
+use Rattle.sq_tree.proofs.plain.PlainTree.set.Goals as goal
+
+written : (c : goal.After-way_told-1) → slice_set c.self.inside.statuses (c.args.node - 1) c.args.status ≡ with_status c.args.self.now c.args.node c.args.status
+written c =
+    let bounds = node_bounds c.args.node c.requires.node in
+    let within : c.args.node - 1 < length c.self.inside.statuses = omega arith in
+    sym (placed-set c.self.inside.statuses (c.args.node - 1) c.args.status within) ∙ ap (λ sts. with_status sts c.args.node c.args.status) c.self.view_is
+
+pub invariant_of-self : goal.invariant_of-self
+invariant_of-self c =
+    let status = status_at c.args.self.now in
+    let grown : IsGrown status = subst (λ (sts : List Status). IsGrown (status_at sts)) c.self.view_is c.self.invariant in
+    let live : is_live status c.args.node ≡ true = elim (cases_Bool (is_free (status c.args.node))) [
+      | inl free ↦ c.requires.live free
+      | inr touched ↦ grown.live c.args.node touched
+    ] in
+    let after = grown-set_at status c.args.node c.args.status grown c.requires.node live c.requires.whole c.requires.leaf in
+    subst (λ (sts : List Status). IsGrown (status_at sts)) (sym (written c)) (subst IsGrown (sym (statuses-with_status c.args.self.now c.args.node c.args.status c.requires.node)) after)
+
+pub returns : goal.returns
+returns c = written c

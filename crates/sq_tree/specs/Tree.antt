@@ -1,0 +1,44 @@
+-- The tree of one segment: the statuses of its nodes, as a list from node 1 on or looked up by node.
+use Rattle.std.specs.Prelude.{◌≡◌, ℕ, zero, suc, ◌-◌, true, false, ◌==◌, if◌then◌else◌, List, [], ◌∷◌, slice_index_or}
+use Rattle.sq_tree.specs.declared.status.Status.{Status}
+use Rattle.sq_tree.specs.declared.status.Status.TheVariants.{Free}
+use Rattle.sq_tree.specs.declared.status.Reading.{Reading}
+use Rattle.sq_tree.specs.Node.{is_node, is_leaf, is_above, parent}
+use Rattle.sq_tree.specs.Status.{is_free, is_split, is_live, reading_of}
+
+-- the status of a node; what isn't in the list is free
+abbrev pub status_at : List Status → ℕ → Status
+status_at sts n = slice_index_or (Free ∷ sts) n Free
+
+-- the list with this status at this place, counted from 0; a list that ends before is filled up with free ones
+abbrev pub placed : List Status → ℕ → Status → List Status
+placed [] zero st = st ∷ []
+placed [] (suc place) st = Free ∷ placed [] place st
+placed (first ∷ rest) zero st = st ∷ rest
+placed (first ∷ rest) (suc place) st = first ∷ placed rest place st
+
+-- the list in which node n has this status, and each other node the one that it had
+abbrev pub with_status : List Status → ℕ → Status → List Status
+with_status sts n st = placed sts (n - 1) st
+
+-- the same where statuses are looked up by node
+abbrev pub set_at : (ℕ → Status) → ℕ → Status → ℕ → Status
+set_at status n st m = if m == n then st else status m
+
+-- what steps that went from a free tree lead to: a node that isn't free is live, and no leaf is split
+pub record IsGrown (status : ℕ → Status) : Type 0 where
+  pub live : (n : ℕ) → is_free (status n) ≡ false → is_live status n ≡ true
+  pub leaves : (n : ℕ) → is_leaf n ≡ true → is_split (status n) ≡ false
+
+-- the one node above a leaf that is live and isn't split
+pub record IsCovering (status : ℕ → Status) (leaf n : ℕ) : Type 0 where
+  pub node : is_node n ≡ true
+  pub above : is_above n leaf ≡ true
+  pub live : is_live status n ≡ true
+  pub whole : is_split (status n) ≡ false
+  pub only : (m : ℕ) → is_node m ≡ true → is_above m leaf ≡ true → is_live status m ≡ true → is_split (status m) ≡ false → m ≡ n
+
+-- the rule of readings: a live node reads by its status, a split one by its halves, and one that isn't live as the node that it is a half of
+pub record IsReading (status : ℕ → Status) (reads : ℕ → Reading) : Type 0 where
+  pub live : (n : ℕ) → is_node n ≡ true → is_live status n ≡ true → reads n ≡ reading_of reads n (status n)
+  pub rest : (n : ℕ) → is_node n ≡ true → is_live status n ≡ false → reads n ≡ reads (parent n)

@@ -1,0 +1,59 @@
+// A status as one word of memory that threads share.
+ghost use Rattle.std.specs.Prelude.{◌≡◌, ◌^◌, ◌<◌};
+ghost use Rattle.sq_tree.specs.declared.status.Status.{Status};
+ghost use Rattle.sq_tree.specs.Status.{word_of, pull_of};
+
+use crate::status::Status;
+
+impl Status {
+    /// The word of the status: 0 where free, 1 where split, and 2, 3 or 4 more than eight times the pull's
+    /// number where claimed, partial or complete.
+    pub fn word(self) -> u64
+        ensures { result ≡ word_of self }
+    {
+        match self {
+            Status::Free => 0,
+            Status::Split => 1,
+            Status::Claimed(pull) => 2 + 8 * u64::from(pull),
+            Status::Partial(pull) => 3 + 8 * u64::from(pull),
+            Status::Complete(pull) => 4 + 8 * u64::from(pull),
+        }
+    }
+
+    /// The status that has this word. No other has it.
+    pub fn from_word(word: u64) -> Status
+        requires { (st : Status) × (pull_of st < 2 ^ 32) × (word ≡ word_of st) }
+        ensures word { word ≡ word_of result }
+        ensures only { (st : Status) → word ≡ word_of st → result ≡ st }
+    {
+        let pull = (word / 8) as u32;
+        match word % 8 {
+            0 => Status::Free,
+            1 => Status::Split,
+            2 => Status::Claimed(pull),
+            3 => Status::Partial(pull),
+            _ => Status::Complete(pull),
+        }
+    }
+}
+
+#[cfg(test)]
+mod tests {
+    use crate::status::Status;
+
+    #[test]
+    fn words_of_a_pull(rt: HostRuntime) {
+        let words = [
+            (0, Status::Free),
+            (1, Status::Split),
+            (26, Status::Claimed(3)),
+            (27, Status::Partial(3)),
+            (28, Status::Complete(3)),
+            (34_359_738_362, Status::Claimed(u32::MAX)),
+        ];
+        for (word, status) in words {
+            assert_eq!(rt; status.word(), word);
+            assert_eq!(rt; Status::from_word(status.word()), status);
+        }
+    }
+}
