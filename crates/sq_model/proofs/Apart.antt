@@ -61,12 +61,14 @@ module _ (o : OpeningValue) (is : IsOpening o) (t : Trace) (legal : IsLegal o t)
   begun_over root g n within begun =
       let below = under o is root g n within in
       let at = found_in_segment o is root g below.found in
-      let same : below.segment ≡ at.0 = let e = sym below.there ∙ at.1.there in cc in
-      (at.0, record {
-        found = below.found;
-        at = at.1;
-        node = begun_covers root g n at.0 at.1 (subst (λ (s : Range). is_above n (leaf_of o.recon.width s root) ≡ true) same below.above) begun;
-      })
+      let same : below.segment ≡ at.0 = let e = sym below.there ∙ at.1.there in cc in (
+        at.0,
+        record {
+          found = below.found;
+          at = at.1;
+          node = begun_covers root g n at.0 at.1 (subst (λ (s : Range). is_above n (leaf_of o.recon.width s root) ≡ true) same below.above) begun;
+        },
+      )
 
   pub one_begun : (root g n h m : ℕ) → is_within (extent_of o g n) root ≡ true → is_begun (status_of t g n) ≡ true → is_within (extent_of o h m) root ≡ true → is_begun (status_of t h m) ≡ true → (g ≡ h) × (n ≡ m)
   one_begun root g n h m within begun within' begun' =
@@ -80,8 +82,8 @@ module _ (o : OpeningValue) (is : IsOpening o) (t : Trace) (legal : IsLegal o t)
   pub one_node : (root : ℕ) (one other : Note) → Contains (notes t) one → Contains (notes t) other → covers one root ≡ true → covers other root ≡ true → (one.seg ≡ other.seg) × (one.node ≡ other.node)
   one_node root one other has has' covered covered' =
       one_begun root one.seg one.node other.seg other.node
-          (covers_extent o (notes t) one root (tile o (notes t) (tiles_notes o t legal) one has) covered) (note_begun o t legal one has)
-          (covers_extent o (notes t) other root (tile o (notes t) (tiles_notes o t legal) other has') covered') (note_begun o t legal other has')
+      (covers_extent o (notes t) one root (tile o (notes t) (tiles_notes o t legal) one has) covered) (note_begun o t legal one has)
+      (covers_extent o (notes t) other root (tile o (notes t) (tiles_notes o t legal) other has') covered') (note_begun o t legal other has')
 
   pub apart : AreApart (notes t)
   apart i j one other root at at' covered covered' =
@@ -93,7 +95,7 @@ pub one_tile : (o : OpeningValue) (ns : List Note) → Tiles o ns → (root : �
 one_tile o [] tiles root same one other has has' covered covered' = absurd (Contains-nothing one has)
 one_tile o (next ∷ ns) tiles root same one other has has' covered covered' =
     by_cases (Contains-cases next ns one has) (Contains-cases next ns other has')
-        (λ older older'. one_tile o ns tiles.1 root (λ a b in_a in_b. same a b (Contains-later next ns a in_a) (Contains-later next ns b in_b)) one other older older' covered covered')
+    (λ older older'. one_tile o ns tiles.1 root (λ a b in_a in_b. same a b (Contains-later next ns a in_a) (Contains-later next ns b in_b)) one other older older' covered covered')
   where
     past : (note : Note) → Contains ns note → covers note root ≡ true → covers next root ≡ true → (next.seg ≡ note.seg) × (next.node ≡ note.node) → ⊥
     past note older covers_older covers_next at =
@@ -102,6 +104,7 @@ one_tile o (next ∷ ns) tiles root same one other has has' covered covered' =
         let low = (covers_bounds next root covers_next).0 in
         let high = (covers_bounds note root covers_older).1 in
         omega arith
+
     by_cases : (next ≡ one) ⊎ Contains ns one → (next ≡ other) ⊎ Contains ns other → (Contains ns one → Contains ns other → one ≡ other) → one ≡ other
     by_cases (inl a) (inl b) older = sym a ∙ b
     by_cases (inl a) (inr b) older =

@@ -44,73 +44,73 @@ counts o ((Cut from to, WasCut note families) ∷ t) legal src dst =
     let goes = cut_goes o t from to note families legal.0 in
     let of = cut_is_of o t from to note families goes in
     link_at (λ list. AreInOrder (is_link o.recon.ranges src dst) o.config.capacity (length list) (push_count t src dst) (pop_count t src dst) (load_count t src dst)) src dst note (notes t)
-        (λ is.
-            let here : CutGoes o t src dst note families = subst₂ (λ a b. CutGoes o t a b note families) (sym of.source ∙ is.source) (sym of.destination ∙ is.destination) goes in
-            let room = here.room in
-            record {
-              inbox = before.inbox;
-              queue = before.queue;
-              outbox = omega arith;
-              one_in = before.one_in;
-              fits = before.fits;
-              one_out = omega arith;
-              absent = λ no_link. absurd (true≢false (sym here.on_link ∙ no_link));
-            })
-        before
+    (λ is.
+    let here : CutGoes o t src dst note families = subst₂ (λ a b. CutGoes o t a b note families) (sym of.source ∙ is.source) (sym of.destination ∙ is.destination) goes in
+    let room = here.room in
+    record {
+      inbox = before.inbox;
+      queue = before.queue;
+      outbox = omega arith;
+      one_in = before.one_in;
+      fits = before.fits;
+      one_out = omega arith;
+      absent = λ no_link. absurd (true≢false (sym here.on_link ∙ no_link));
+    })
+    before
 counts o ((Load from to, WasLoaded note families) ∷ t) legal src dst =
     let before = counts o t legal.1 src dst in
     let goes = load_goes o t from to note families legal.0 in
     let of = (load_is_of o t from to note families goes).1 in
     link_at (λ list. AreInOrder (is_link o.recon.ranges src dst) o.config.capacity (cut_count t src dst) (push_count t src dst) (pop_count t src dst) (length list)) src dst note (loads t)
-        (λ is.
-            let here : LoadGoes o t src dst note families = subst₂ (λ a b. LoadGoes o t a b note families) (sym of.source ∙ is.source) (sym of.destination ∙ is.destination) goes in
-            let some = eqb-false (load_count t src dst) (pop_count t src dst) here.some in
-            record {
-              inbox = omega arith;
-              queue = before.queue;
-              outbox = before.outbox;
-              one_in = omega arith;
-              fits = before.fits;
-              one_out = before.one_out;
-              absent = before.absent;
-            })
-        before
+    (λ is.
+    let here : LoadGoes o t src dst note families = subst₂ (λ a b. LoadGoes o t a b note families) (sym of.source ∙ is.source) (sym of.destination ∙ is.destination) goes in
+    let some = eqb-false (load_count t src dst) (pop_count t src dst) here.some in
+    record {
+      inbox = omega arith;
+      queue = before.queue;
+      outbox = before.outbox;
+      one_in = omega arith;
+      fits = before.fits;
+      one_out = before.one_out;
+      absent = before.absent;
+    })
+    before
 counts o ((Push from to, Done) ∷ t) legal src dst =
     let before = counts o t legal.1 src dst in
     cond_both ((from == src) && (to == dst)) (push_count t src dst + 1) (push_count t src dst) (λ n. AreInOrder (is_link o.recon.ranges src dst) o.config.capacity (cut_count t src dst) n (pop_count t src dst) (load_count t src dst))
-        (λ test.
-            let same = same_ends from to src dst test in
-            let here : PushGoes o t src dst = subst₂ (PushGoes o t) same.0 same.1 (push_goes o t from to legal.0) in
-            let some = eqb-false (cut_count t src dst) (push_count t src dst) here.some in
-            let room = here.room in
-            record {
-              inbox = before.inbox;
-              queue = omega arith;
-              outbox = omega arith;
-              one_in = before.one_in;
-              fits = omega arith;
-              one_out = omega arith;
-              absent = before.absent;
-            })
-        (λ other. before)
+    (λ test.
+    let same = same_ends from to src dst test in
+    let here : PushGoes o t src dst = subst₂ (PushGoes o t) same.0 same.1 (push_goes o t from to legal.0) in
+    let some = eqb-false (cut_count t src dst) (push_count t src dst) here.some in
+    let room = here.room in
+    record {
+      inbox = before.inbox;
+      queue = omega arith;
+      outbox = omega arith;
+      one_in = before.one_in;
+      fits = omega arith;
+      one_out = omega arith;
+      absent = before.absent;
+    })
+    (λ other. before)
 counts o ((Pop from to, Done) ∷ t) legal src dst =
     let before = counts o t legal.1 src dst in
     cond_both ((from == src) && (to == dst)) (pop_count t src dst + 1) (pop_count t src dst) (λ n. AreInOrder (is_link o.recon.ranges src dst) o.config.capacity (cut_count t src dst) (push_count t src dst) n (load_count t src dst))
-        (λ test.
-            let same = same_ends from to src dst test in
-            let here : PopGoes o t src dst = subst₂ (PopGoes o t) same.0 same.1 (pop_goes o t from to legal.0) in
-            let some = eqb-false (pop_count t src dst) (push_count t src dst) here.some in
-            let room = here.room in
-            record {
-              inbox = omega arith;
-              queue = omega arith;
-              outbox = before.outbox;
-              one_in = omega arith;
-              fits = omega arith;
-              one_out = before.one_out;
-              absent = before.absent;
-            })
-        (λ other. before)
+    (λ test.
+    let same = same_ends from to src dst test in
+    let here : PopGoes o t src dst = subst₂ (PopGoes o t) same.0 same.1 (pop_goes o t from to legal.0) in
+    let some = eqb-false (pop_count t src dst) (push_count t src dst) here.some in
+    let room = here.room in
+    record {
+      inbox = omega arith;
+      queue = omega arith;
+      outbox = before.outbox;
+      one_in = omega arith;
+      fits = omega arith;
+      one_out = before.one_out;
+      absent = before.absent;
+    })
+    (λ other. before)
 counts o ((step, told) ∷ t) legal src dst = counts o t legal.1 src dst
 
 -- where there is no such link, nothing goes

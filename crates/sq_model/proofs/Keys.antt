@@ -59,23 +59,25 @@ module _ (o : OpeningValue) (is : IsOpening o) where
   -- an opening has a reconfiguration
   pub recon_is : IsRecon o.recon
   recon_is = record {
-      leaf = and_from (nat_le 1 o.recon.width) (nat_le o.recon.width 65536) (le-leb 1 o.recon.width is.some_width) (le-leb o.recon.width 65536 is.small_width);
-      rising = moves-rising o.old o.new o.recon.ranges is.moves;
-      cut = is.segments;
-      few = is.few_segments;
-    }
+    leaf = and_from (nat_le 1 o.recon.width) (nat_le o.recon.width 65536) (le-leb 1 o.recon.width is.some_width) (le-leb o.recon.width 65536 is.small_width);
+    rising = moves-rising o.old o.new o.recon.ranges is.moves;
+    cut = is.segments;
+    few = is.few_segments;
+  }
 
   pub found_in_segment : (root g : ℕ) → segment_of o.recon.segments root ≡ Some g → (segment : Range) × IsIn o root g segment
   found_in_segment root g found =
       let at = found_owners o.recon recon_is o.old o.new is.moves root g found in
-      let stands = segment_stands o.recon recon_is g at.0 at.1 in
-      (at.0, record {
-        there = at.1;
-        held = at.2;
-        source_is = at.3;
-        destination_is = at.4;
-        leaf = leaf_below o.recon.width at.0 is.some_width root at.2 stands.is.short;
-      })
+      let stands = segment_stands o.recon recon_is g at.0 at.1 in (
+        at.0,
+        record {
+          there = at.1;
+          held = at.2;
+          source_is = at.3;
+          destination_is = at.4;
+          leaf = leaf_below o.recon.width at.0 is.some_width root at.2 stands.is.short;
+        },
+      )
 
   pub in_segment_found : (root g : ℕ) (segment : Range) → slice_get o.recon.segments g ≡ Some segment → holds segment root ≡ true → segment_of o.recon.segments root ≡ Some g
   in_segment_found root g segment there held = segment_of_held o.recon recon_is root g segment there held

@@ -31,7 +31,7 @@ Contains-link src dst notes note has is = Contains-filter (λ (other : Note). (o
 pub link_at : (P : List Note → Type 0) (src dst : ℕ) (note : Note) (notes : List Note) → (IsOf src dst note → P (note ∷ link src dst notes)) → P (link src dst notes) → P (link src dst (note ∷ notes))
 link_at P src dst note notes more same =
     cond_both ((note.src == src) && (note.dst == dst)) (note ∷ link src dst notes) (link src dst notes) P
-        (λ test. more (is_of_test src dst note test)) (λ other. same)
+    (λ test. more (is_of_test src dst note test)) (λ other. same)
 
 pub link-first : (src dst : ℕ) (note : Note) (notes : List Note) → IsOf src dst note → link src dst (note ∷ notes) ≡ note ∷ link src dst notes
 link-first src dst note notes is = filter-first (λ (other : Note). (other.src == src) && (other.dst == dst)) note notes (test_is_of src dst note is)

@@ -33,12 +33,12 @@ pub found_in : {X : Type 0} (p : X → Bool) (xs : List X) (x : X) → find p xs
 found_in p [] x found = absurd cc
 found_in p (y ∷ xs) x found =
     elim (cases_Bool (p y)) [
-      inl passes ↦
-        let same : y ≡ x = let e = sym (cond-true (p y) (Some y) (find p xs) passes) ∙ found in cc in
-        (subst (Contains (y ∷ xs)) same (Contains-first y xs), ap p (sym same) ∙ passes)
-    | inr fails ↦
-        let rest = found_in p xs x (sym (cond-false (p y) (Some y) (find p xs) fails) ∙ found) in
-        (Contains-later y xs x rest.0, rest.1)
+      | inl passes ↦
+          let same : y ≡ x = let e = sym (cond-true (p y) (Some y) (find p xs) passes) ∙ found in cc in
+          (subst (Contains (y ∷ xs)) same (Contains-first y xs), ap p (sym same) ∙ passes)
+      | inr fails ↦
+          let rest = found_in p xs x (sym (cond-false (p y) (Some y) (find p xs) fails) ∙ found) in
+          (Contains-later y xs x rest.0, rest.1)
     ]
 
 -- what isn't found isn't there
@@ -46,12 +46,12 @@ pub not_found : {X : Type 0} (p : X → Bool) (xs : List X) → find p xs ≡ No
 not_found p [] none x has = absurd (Contains-nothing x has)
 not_found p (y ∷ xs) none x has =
     elim (cases_Bool (p y)) [
-      inl passes ↦ absurd (let e = sym (cond-true (p y) (Some y) (find p xs) passes) ∙ none in cc)
-    | inr fails ↦
-        elim (Contains-cases y xs x has) [
-          inl same ↦ ap p (sym same) ∙ fails
-        | inr later ↦ not_found p xs (sym (cond-false (p y) (Some y) (find p xs) fails) ∙ none) x later
-        ]
+      | inl passes ↦ absurd (let e = sym (cond-true (p y) (Some y) (find p xs) passes) ∙ none in cc)
+      | inr fails ↦
+          elim (Contains-cases y xs x has) [
+            | inl same ↦ ap p (sym same) ∙ fails
+            | inr later ↦ not_found p xs (sym (cond-false (p y) (Some y) (find p xs) fails) ∙ none) x later
+          ]
     ]
 
 pub any_in : {X : Type 0} (p : X → Bool) (xs : List X) → list_any p xs ≡ true → (x : X) × Contains xs x × (p x ≡ true)
@@ -61,8 +61,8 @@ pub list_any-Contains : {X : Type 0} (p : X → Bool) (xs : List X) (x : X) → 
 list_any-Contains p [] x has passes = absurd (Contains-nothing x has)
 list_any-Contains p (y ∷ xs) x has passes =
     elim (Contains-cases y xs x has) [
-      inl same ↦ or_left (p y) (list_any p xs) (ap p same ∙ passes)
-    | inr later ↦ or_right (p y) (list_any p xs) (list_any-Contains p xs x later passes)
+      | inl same ↦ or_left (p y) (list_any p xs) (ap p same ∙ passes)
+      | inr later ↦ or_right (p y) (list_any p xs) (list_any-Contains p xs x later passes)
     ]
 
 -- what a filter keeps
@@ -77,27 +77,27 @@ pub Contains-filter : {X : Type 0} (p : X → Bool) (xs : List X) (x : X) → Co
 Contains-filter p [] x has passes = has
 Contains-filter p (y ∷ xs) x has passes =
     elim (Contains-cases y xs x has) [
-      inl same ↦ subst (λ ys. Contains ys x) (sym (filter-first p y xs (ap p same ∙ passes))) (subst (Contains (y ∷ filter p xs)) same (Contains-first y (filter p xs)))
-    | inr later ↦
-        let kept = Contains-filter p xs x later passes in
-        elim (cases_Bool (p y)) [
-          inl first ↦ subst (λ ys. Contains ys x) (sym (filter-first p y xs first)) (Contains-later y (filter p xs) x kept)
-        | inr other ↦ subst (λ ys. Contains ys x) (sym (filter-other p y xs other)) kept
-        ]
+      | inl same ↦ subst (λ ys. Contains ys x) (sym (filter-first p y xs (ap p same ∙ passes))) (subst (Contains (y ∷ filter p xs)) same (Contains-first y (filter p xs)))
+      | inr later ↦
+          let kept = Contains-filter p xs x later passes in
+          elim (cases_Bool (p y)) [
+            | inl first ↦ subst (λ ys. Contains ys x) (sym (filter-first p y xs first)) (Contains-later y (filter p xs) x kept)
+            | inr other ↦ subst (λ ys. Contains ys x) (sym (filter-other p y xs other)) kept
+          ]
     ]
 
 pub kept_in : {X : Type 0} (p : X → Bool) (xs : List X) (x : X) → Contains (filter p xs) x → Contains xs x × (p x ≡ true)
 kept_in p [] x has = absurd (Contains-nothing x has)
 kept_in p (y ∷ xs) x has =
     elim (cases_Bool (p y)) [
-      inl passes ↦
-        elim (Contains-cases y (filter p xs) x (subst (λ ys. Contains ys x) (filter-first p y xs passes) has)) [
-          inl same ↦ (subst (Contains (y ∷ xs)) same (Contains-first y xs), ap p (sym same) ∙ passes)
-        | inr later ↦ let rest = kept_in p xs x later in (Contains-later y xs x rest.0, rest.1)
-        ]
-    | inr fails ↦
-        let rest = kept_in p xs x (subst (λ ys. Contains ys x) (filter-other p y xs fails) has) in
-        (Contains-later y xs x rest.0, rest.1)
+      | inl passes ↦
+          elim (Contains-cases y (filter p xs) x (subst (λ ys. Contains ys x) (filter-first p y xs passes) has)) [
+            | inl same ↦ (subst (Contains (y ∷ xs)) same (Contains-first y xs), ap p (sym same) ∙ passes)
+            | inr later ↦ let rest = kept_in p xs x later in (Contains-later y xs x rest.0, rest.1)
+          ]
+      | inr fails ↦
+          let rest = kept_in p xs x (subst (λ ys. Contains ys x) (filter-other p y xs fails) has) in
+          (Contains-later y xs x rest.0, rest.1)
     ]
 
 -- what is looked for passes the filter
@@ -107,10 +107,10 @@ find-filter p q [] passes = refl
 find-filter p q (x ∷ xs) passes =
     let rest = find-filter p q xs (λ y has. passes y (Contains-later x xs y has)) in
     elim (cases_Bool (q x)) [
-      inl first ↦ ap (find p) (filter-first q x xs first) ∙ ap (λ found. if p x then Some x else found) rest
-    | inr other ↦
-        ap (find p) (filter-other q x xs other) ∙ rest
-        ∙ sym (cond-false (p x) (Some x) (find p xs) (false_from_ne_true (p x) (λ wanted. true≢false (sym (passes x (Contains-first x xs) wanted) ∙ other))))
+      | inl first ↦ ap (find p) (filter-first q x xs first) ∙ ap (λ found. if p x then Some x else found) rest
+      | inr other ↦
+          ap (find p) (filter-other q x xs other) ∙ rest
+          ∙ sym (cond-false (p x) (Some x) (find p xs) (false_from_ne_true (p x) (λ wanted. true≢false (sym (passes x (Contains-first x xs) wanted) ∙ other))))
     ]
 
 pub list_any-filter : {X : Type 0} (p q : X → Bool) (xs : List X) → ((x : X) → Contains xs x → p x ≡ true → q x ≡ true) → list_any p (filter q xs) ≡ list_any p xs
@@ -118,10 +118,10 @@ list_any-filter p q [] passes = refl
 list_any-filter p q (x ∷ xs) passes =
     let rest = list_any-filter p q xs (λ y has. passes y (Contains-later x xs y has)) in
     elim (cases_Bool (q x)) [
-      inl first ↦ ap (list_any p) (filter-first q x xs first) ∙ ap (λ b. p x || b) rest
-    | inr other ↦
-        ap (list_any p) (filter-other q x xs other) ∙ rest
-        ∙ ap (λ b. b || list_any p xs) (sym (false_from_ne_true (p x) (λ wanted. true≢false (sym (passes x (Contains-first x xs) wanted) ∙ other))))
+      | inl first ↦ ap (list_any p) (filter-first q x xs first) ∙ ap (λ b. p x || b) rest
+      | inr other ↦
+          ap (list_any p) (filter-other q x xs other) ∙ rest
+          ∙ ap (λ b. b || list_any p xs) (sym (false_from_ne_true (p x) (λ wanted. true≢false (sym (passes x (Contains-first x xs) wanted) ∙ other))))
     ]
 
 -- numbers in a row
@@ -130,6 +130,6 @@ pub row_bounds : (a n x : ℕ) → Contains (range_with_len a n) x → (a ≤ x)
 row_bounds a zero x has = absurd (Contains-nothing x has)
 row_bounds a (suc n) x has =
     elim (Contains-cases a (range_with_len (a + 1) n) x has) [
-      inl same ↦ (omega arith, omega arith)
-    | inr later ↦ let rest = row_bounds (a + 1) n x later in (omega arith, omega arith)
+      | inl same ↦ (omega arith, omega arith)
+      | inr later ↦ let rest = row_bounds (a + 1) n x later in (omega arith, omega arith)
     ]

@@ -77,11 +77,11 @@ pub note_goes : (o : OpeningValue) (t : Trace) → IsLegal o t → (note : Note)
 note_goes o [] legal note has = absurd (Contains-nothing note has)
 note_goes o ((Cut src dst, WasCut next families) ∷ t) legal note has =
     elim (Contains-cases next (notes t) note has) [
-      inl same ↦
-        let cut = cut_goes o t src dst next families legal.0 in
-        let item = cut_item o t src dst cut.item cut.next in
-        subst (λ (n : Note). SegmentGoes o n.seg n.src n.dst) (sym cut.noted ∙ same) item.segment
-    | inr older ↦ note_goes o t legal.1 note older
+      | inl same ↦
+          let cut = cut_goes o t src dst next families legal.0 in
+          let item = cut_item o t src dst cut.item cut.next in
+          subst (λ (n : Note). SegmentGoes o n.seg n.src n.dst) (sym cut.noted ∙ same) item.segment
+      | inr older ↦ note_goes o t legal.1 note older
     ]
 note_goes o ((step, told) ∷ t) legal note has = note_goes o t legal.1 note has
 
@@ -90,11 +90,11 @@ pub note_begun : (o : OpeningValue) (t : Trace) → IsLegal o t → (note : Note
 note_begun o [] legal note has = absurd (Contains-nothing note has)
 note_begun o ((Cut src dst, WasCut next families) ∷ t) legal note has =
     elim (Contains-cases next (notes t) note has) [
-      inl same ↦
-        let cut = cut_goes o t src dst next families legal.0 in
-        let item = cut_item o t src dst cut.item cut.next in
-        subst (λ (n : Note). is_begun (status_of t n.seg n.node) ≡ true) (sym cut.noted ∙ same) (item_begun o t legal.1 cut.item item.among).begun
-    | inr older ↦ note_begun o t legal.1 note older
+      | inl same ↦
+          let cut = cut_goes o t src dst next families legal.0 in
+          let item = cut_item o t src dst cut.item cut.next in
+          subst (λ (n : Note). is_begun (status_of t n.seg n.node) ≡ true) (sym cut.noted ∙ same) (item_begun o t legal.1 cut.item item.among).begun
+      | inr older ↦ note_begun o t legal.1 note older
     ]
 note_begun o ((Claim seg node pull, Done) ∷ t) legal note has = (stays_begun o t (Claim seg node pull) Done legal note.seg note.node (note_begun o t legal.1 note has)).0
 note_begun o ((Begin seg node pull, Done) ∷ t) legal note has = (stays_begun o t (Begin seg node pull) Done legal note.seg note.node (note_begun o t legal.1 note has)).0
@@ -109,8 +109,8 @@ numbered o ((Cut from to, WasCut note families) ∷ t) legal src dst =
     let cut = cut_goes o t from to note families legal.0 in
     let of = cut_is_of o t from to note families cut in
     link_at AreNumbered src dst note (notes t)
-        (λ is. (ap (λ (n : Note). n.number) cut.noted ∙ ap₂ (λ a b. length (link a b (notes t))) (sym of.source ∙ is.source) (sym of.destination ∙ is.destination), before))
-        before
+    (λ is. (ap (λ (n : Note). n.number) cut.noted ∙ ap₂ (λ a b. length (link a b (notes t))) (sym of.source ∙ is.source) (sym of.destination ∙ is.destination), before))
+    before
 numbered o ((step, told) ∷ t) legal src dst = numbered o t legal.1 src dst
 
 -- the next note of an item goes on where those before it end
@@ -138,8 +138,8 @@ pub record LoadNext (t : Trace) (src dst : ℕ) (note : Note) : Type 0 where
 next_from : (t : Trace) (src dst : ℕ) (note : Note) → AreNumbered (link src dst (notes t)) → IsPrefix t src dst → find (λ other. other.number == load_count t src dst) (link src dst (notes t)) ≡ Some note → LoadNext t src dst note
 next_from t src dst note numbers before found =
     let next = found_next before.0 (link src dst (loads t)) note
-          (subst AreNumbered (sym before.1) numbers)
-          (ap (find (λ (other : Note). other.number == load_count t src dst)) before.1 ∙ found) in
+    (subst AreNumbered (sym before.1) numbers)
+    (ap (find (λ (other : Note). other.number == load_count t src dst)) before.1 ∙ found) in
     record {
       front = next.0;
       notes_are = sym (append_assoc next.0 (note ∷ []) (link src dst (loads t))) ∙ ap (λ way. way ++ link src dst (loads t)) (sym next.1) ∙ before.1;
@@ -151,18 +151,18 @@ prefix o [] legal src dst = ([], refl)
 prefix o ((Cut from to, WasCut note families) ∷ t) legal src dst =
     let before = prefix o t legal.1 src dst in
     link_at (λ list. (way : List Note) × (way ++ link src dst (loads t) ≡ list)) src dst note (notes t)
-        (λ is. (note ∷ before.0, ap (λ rest. note ∷ rest) before.1))
-        before
+    (λ is. (note ∷ before.0, ap (λ rest. note ∷ rest) before.1))
+    before
 prefix o ((Load from to, WasLoaded note families) ∷ t) legal src dst =
     let before = prefix o t legal.1 src dst in
     let load = load_goes o t from to note families legal.0 in
     let of = (load_is_of o t from to note families load).1 in
     link_at (λ list. (way : List Note) × (way ++ list ≡ link src dst (notes t))) src dst note (loads t)
-        (λ is.
-            let here : LoadGoes o t src dst note families = subst₂ (λ a b. LoadGoes o t a b note families) (sym of.source ∙ is.source) (sym of.destination ∙ is.destination) load in
-            let next = next_from t src dst note (numbered o t legal.1 src dst) before here.found in
-            (next.front, next.notes_are))
-        before
+    (λ is.
+    let here : LoadGoes o t src dst note families = subst₂ (λ a b. LoadGoes o t a b note families) (sym of.source ∙ is.source) (sym of.destination ∙ is.destination) load in
+    let next = next_from t src dst note (numbered o t legal.1 src dst) before here.found in
+    (next.front, next.notes_are))
+    before
 prefix o ((step, told) ∷ t) legal src dst = prefix o t legal.1 src dst
 
 pub load_next : (o : OpeningValue) (t : Trace) → IsLegal o t → (src dst : ℕ) (note : Note) (families : ℕ) → LoadGoes o t src dst note families → LoadNext t src dst note
@@ -193,7 +193,7 @@ reached-link o ns all src dst seg node goes =
 pub has_last-link : (o : OpeningValue) (ns : List Note) → ((note : Note) → Contains ns note → SegmentGoes o note.seg note.src note.dst) → (src dst seg node : ℕ) → SegmentGoes o seg src dst → has_last seg node (link src dst ns) ≡ has_last seg node ns
 has_last-link o ns all src dst seg node goes =
     list_any-filter (λ (note : Note). is_about seg node note && note.last) (λ (note : Note). (note.src == src) && (note.dst == dst)) ns
-        (λ note has test. same_link o ns all src dst seg node goes note has (and_parts (is_about seg node note) note.last test).0)
+    (λ note has test. same_link o ns all src dst seg node goes note has (and_parts (is_about seg node note) note.last test).0)
 
 -- a note that goes on from notes whose node stands alike goes on from the others
 goes_on_like : (o : OpeningValue) (note : Note) (ns others : List Note) → reached o note.seg note.node ns ≡ reached o note.seg note.node others → has_last note.seg note.node ns ≡ has_last note.seg note.node others → GoesOn o note ns → GoesOn o note others
@@ -214,9 +214,9 @@ goes_on_link o [] tiles all src dst [] note before e = absurd cc
 goes_on_link o [] tiles all src dst (first ∷ front) note before e = absurd cc
 goes_on_link o (next ∷ ns) tiles all src dst front note before e =
     link_at (λ list. list ≡ front ++ note ∷ before → GoesOn o note before) src dst next ns
-        (λ is same. at_first front is same (λ more f. goes_on_link o ns tiles.1 (λ other has. all other (Contains-later next ns other has)) src dst more note before f))
-        (λ f. goes_on_link o ns tiles.1 (λ other has. all other (Contains-later next ns other has)) src dst front note before f)
-        e
+    (λ is same. at_first front is same (λ more f. goes_on_link o ns tiles.1 (λ other has. all other (Contains-later next ns other has)) src dst more note before f))
+    (λ f. goes_on_link o ns tiles.1 (λ other has. all other (Contains-later next ns other has)) src dst front note before f)
+    e
   where
     at_first : (front : List Note) → IsOf src dst next → next ∷ link src dst ns ≡ front ++ note ∷ before → ((front : List Note) → link src dst ns ≡ front ++ note ∷ before → GoesOn o note before) → GoesOn o note before
     at_first [] is same older =
@@ -233,8 +233,7 @@ tiles_loads o ((Load src dst, WasLoaded note families) ∷ t) legal =
     let of = load_is_of o t src dst note families load in
     let next = load_next o t legal.1 src dst note families load in
     let segment : SegmentGoes o note.seg src dst = subst₂ (SegmentGoes o note.seg) of.1.source of.1.destination (note_goes o t legal.1 note of.0) in
-    let all : AllGo o (loads t) = λ other has. note_goes o t legal.1 other (loaded_in o t legal.1 other has) in
-    (
+    let all : AllGo o (loads t) = λ other has. note_goes o t legal.1 other (loaded_in o t legal.1 other has) in (
       goes_on_like o note (link src dst (loads t)) (loads t)
           (reached-link o (loads t) all src dst note.seg note.node segment)
           (has_last-link o (loads t) all src dst note.seg note.node segment)
@@ -265,13 +264,13 @@ pub complete_loaded : (o : OpeningValue) (t : Trace) → IsLegal o t → (g n : 
 complete_loaded o [] legal g n complete = absurd (true≢false (sym complete))
 complete_loaded o ((Claim seg node pull, Done) ∷ t) legal g n complete =
     set_if_at (λ st. is_complete st ≡ true → has_last g n (loads t) ≡ true) seg node (Claimed pull) g n (status_of t g n)
-        (λ same there is. absurd (true≢false (sym is))) (complete_loaded o t legal.1 g n) complete
+    (λ same there is. absurd (true≢false (sym is))) (complete_loaded o t legal.1 g n) complete
 complete_loaded o ((Begin seg node pull, Done) ∷ t) legal g n complete =
     set_if_at (λ st. is_complete st ≡ true → has_last g n (loads t) ≡ true) seg node (Partial pull) g n (status_of t g n)
-        (λ same there is. absurd (true≢false (sym is))) (complete_loaded o t legal.1 g n) complete
+    (λ same there is. absurd (true≢false (sym is))) (complete_loaded o t legal.1 g n) complete
 complete_loaded o ((Complete_step seg node pull, Done) ∷ t) legal g n complete =
     set_if_at (λ st. is_complete st ≡ true → has_last g n (loads t) ≡ true) seg node (Complete pull) g n (status_of t g n)
-        (λ same there is. subst₂ (λ a b. has_last a b (loads t) ≡ true) same there (complete_goes o t seg node pull legal.0).loaded) (complete_loaded o t legal.1 g n) complete
+    (λ same there is. subst₂ (λ a b. has_last a b (loads t) ≡ true) same there (complete_goes o t seg node pull legal.0).loaded) (complete_loaded o t legal.1 g n) complete
 complete_loaded o ((Load src dst, WasLoaded note families) ∷ t) legal g n complete =
     or_right (is_about g n note && note.last) (has_last g n (loads t)) (complete_loaded o t legal.1 g n complete)
 complete_loaded o ((step, told) ∷ t) legal g n complete = complete_loaded o t legal.1 g n complete
@@ -281,17 +280,15 @@ pub leaves_complete : (o : OpeningValue) (t : Trace) → IsLegal o t → AllLeav
 leaves_complete o [] legal = tt
 leaves_complete o ((Cut src dst, WasCut note families) ∷ t) legal =
     let cut = cut_goes o t src dst note families legal.0 in
-    let item = cut_item o t src dst cut.item cut.next in
-    (
+    let item = cut_item o t src dst cut.item cut.next in (
       subst (λ (n : Note). is_complete (status_of t n.seg n.node) ≡ false) (sym cut.noted)
           (false_from_ne_true (is_complete (status_of t cut.item.seg cut.item.node)) (λ complete.
-              true≢false (sym (last_cut o t legal.1 cut.item.seg cut.item.node (complete_loaded o t legal.1 cut.item.seg cut.item.node complete)) ∙ item.unfinished))),
+          true≢false (sym (last_cut o t legal.1 cut.item.seg cut.item.node (complete_loaded o t legal.1 cut.item.seg cut.item.node complete)) ∙ item.unfinished))),
       leaves_complete o t legal.1,
     )
-leaves_complete o ((Load src dst, WasLoaded note families) ∷ t) legal =
-    (
-      false_from_ne_true (is_complete (status_of t note.seg note.node)) (λ complete.
-          true≢false (sym (complete_loaded o t legal.1 note.seg note.node complete) ∙ (tiles_loads o ((Load src dst, WasLoaded note families) ∷ t) legal).0.first_last)),
-      leaves_complete o t legal.1,
-    )
+leaves_complete o ((Load src dst, WasLoaded note families) ∷ t) legal = (
+  false_from_ne_true (is_complete (status_of t note.seg note.node)) (λ complete.
+      true≢false (sym (complete_loaded o t legal.1 note.seg note.node complete) ∙ (tiles_loads o ((Load src dst, WasLoaded note families) ∷ t) legal).0.first_last)),
+  leaves_complete o t legal.1,
+)
 leaves_complete o ((step, told) ∷ t) legal = (tt, leaves_complete o t legal.1)

@@ -14,8 +14,8 @@ pub number_below : (ns : List Note) → AreNumbered ns → (note : Note) → Con
 number_below [] numbered note has = absurd (Contains-nothing note has)
 number_below (next ∷ ns) numbered note has =
     elim (Contains-cases next ns note has) [
-      inl same ↦ subst (λ (k : Note). k.number < suc (length ns)) same (omega (arith, numbered.0))
-    | inr older ↦ omega (arith, number_below ns numbered.1 note older)
+      | inl same ↦ subst (λ (k : Note). k.number < suc (length ns)) same (omega (arith, numbered.0))
+      | inr older ↦ omega (arith, number_below ns numbered.1 note older)
     ]
 
 pub numbered_rest : (front ns : List Note) → AreNumbered (front ++ ns) → AreNumbered ns
@@ -27,7 +27,7 @@ pub find_next : (front : List Note) (note : Note) (ns : List Note) → AreNumber
 find_next [] note ns numbered = cond-true (note.number == length ns) (Some note) (find (has_number (length ns)) ns) (eq-eqb note.number (length ns) numbered.0)
 find_next (next ∷ front) note ns numbered =
     cond-false (next.number == length ns) (Some next) (find (has_number (length ns)) (front ++ note ∷ ns))
-        (ne_eqb next.number (length ns) (λ e. omega (arith, e, numbered.0, length-append front (note ∷ ns))))
+    (ne_eqb next.number (length ns) (λ e. omega (arith, e, numbered.0, length-append front (note ∷ ns))))
     ∙ find_next front note ns numbered.1
 
 -- and it is among those that come after them
@@ -37,11 +37,11 @@ found_next [] ns note numbered found =
     absurd (omega (arith, number_below ns numbered note at.0, eqb-true note.number (length ns) at.1))
 found_next (next ∷ way) ns note numbered found =
     elim (cases_Bool (next.number == length ns)) [
-      inl here ↦
-        let none : length way ≡ 0 = omega (arith, eqb-true next.number (length ns) here, numbered.0, length-append way ns) in
-        let same : next ≡ note = let e = sym (cond-true (next.number == length ns) (Some next) (find (has_number (length ns)) (way ++ ns)) here) ∙ found in cc in
-        ([], ap (λ rest. next ∷ rest) (nil_from_length way none) ∙ ap (λ n. n ∷ []) same)
-    | inr other ↦
-        let rest = found_next way ns note numbered.1 (sym (cond-false (next.number == length ns) (Some next) (find (has_number (length ns)) (way ++ ns)) other) ∙ found) in
-        (next ∷ rest.0, ap (λ more. next ∷ more) rest.1)
+      | inl here ↦
+          let none : length way ≡ 0 = omega (arith, eqb-true next.number (length ns) here, numbered.0, length-append way ns) in
+          let same : next ≡ note = let e = sym (cond-true (next.number == length ns) (Some next) (find (has_number (length ns)) (way ++ ns)) here) ∙ found in cc in
+          ([], ap (λ rest. next ∷ rest) (nil_from_length way none) ∙ ap (λ n. n ∷ []) same)
+      | inr other ↦
+          let rest = found_next way ns note numbered.1 (sym (cond-false (next.number == length ns) (Some next) (find (has_number (length ns)) (way ++ ns)) other) ∙ found) in
+          (next ∷ rest.0, ap (λ more. next ∷ more) rest.1)
     ]

@@ -10,9 +10,9 @@ use Rattle.sq_model.proofs.Apart.{apart}
 
 pub legal_orderly : (o : OpeningValue) (t : Trace) → IsOpening o → IsLegal o t → IsOrderly o t
 legal_orderly o t is legal = record {
-    prefix = prefix o t legal;
-    numbered = numbered o t legal;
-    tiles = tiles_notes o t legal;
-    apart = apart o is t legal;
-    complete = leaves_complete o t legal;
-  }
+  prefix = prefix o t legal;
+  numbered = numbered o t legal;
+  tiles = tiles_notes o t legal;
+  apart = apart o is t legal;
+  complete = leaves_complete o t legal;
+}

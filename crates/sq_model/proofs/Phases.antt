@@ -60,14 +60,14 @@ nobody_has_to o t part root before early =
 -- before the move is started
 pub untouched : (o : OpeningValue) (t : Trace) → IsLegal o t → is_started t ≡ false → IsUntouched t
 untouched o [] legal early = record {
-    free = λ g n. refl;
-    no_items = refl;
-    no_notes = refl;
-    no_loads = refl;
-    none_pushed = λ src dst. refl;
-    none_popped = λ src dst. refl;
-    none_waits = λ part. refl;
-  }
+  free = λ g n. refl;
+  no_items = refl;
+  no_notes = refl;
+  no_loads = refl;
+  none_pushed = λ src dst. refl;
+  none_popped = λ src dst. refl;
+  none_waits = λ part. refl;
+}
 untouched o ((Claim seg node pull, Done) ∷ t) legal early = too_early t (claim_goes o t seg node pull legal.0).moving early
 untouched o ((Begin seg node pull, Done) ∷ t) legal early = too_early t (begin_goes o t seg node pull legal.0).moving early
 untouched o ((Complete seg node pull, Done) ∷ t) legal early = too_early t (complete_goes o t seg node pull legal.0).moving early

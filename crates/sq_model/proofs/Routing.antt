@@ -35,10 +35,10 @@ module _ (o : OpeningValue) (is : IsOpening o) (t : Trace) (legal : IsLegal o t)
   pub begun_over_none : (root : ℕ) → segment_of o.recon.segments root ≡ None → is_begun_over o t root ≡ false
   begun_over_none root none =
       false_from_ne_true (is_begun_over o t root) (λ any.
-          let at = any_in (λ (item : Item). is_within (extent_of o item.seg item.node) root) (items t) any in
-          let over = begun_over o is t legal root at.0.seg at.0.node at.2 (item_begun o t legal at.0 at.1).begun in
-          let e : Some at.0.seg ≡ None = sym over.1.found ∙ none in
-          absurd cc)
+      let at = any_in (λ (item : Item). is_within (extent_of o item.seg item.node) root) (items t) any in
+      let over = begun_over o is t legal root at.0.seg at.0.node at.2 (item_begun o t legal at.0 at.1).begun in
+      let e : Some at.0.seg ≡ None = sym over.1.found ∙ none in
+      absurd cc)
 
   -- where notes cover a key, they are about the node that covers it
   covered_at : (ns : List Note) → Tiles o ns → ((note : Note) → Contains ns note → is_begun (status_of t note.seg note.node) ≡ true) → (root : ℕ) → is_covered ns root ≡ true
@@ -54,9 +54,9 @@ module _ (o : OpeningValue) (is : IsOpening o) (t : Trace) (legal : IsLegal o t)
   covered_none : (ns : List Note) → Tiles o ns → ((note : Note) → Contains ns note → is_begun (status_of t note.seg note.node) ≡ true) → (root : ℕ) → segment_of o.recon.segments root ≡ None → is_covered ns root ≡ false
   covered_none ns tiles begun root none =
       false_from_ne_true (is_covered ns root) (λ any.
-          let at = covered_at ns tiles begun root any in
-          let e : Some at.0.seg ≡ None = sym at.2 ∙ none in
-          absurd cc)
+      let at = covered_at ns tiles begun root any in
+      let e : Some at.0.seg ≡ None = sym at.2 ∙ none in
+      absurd cc)
 
   loads_begun : (note : Note) → Contains (loads t) note → is_begun (status_of t note.seg note.node) ≡ true
   loads_begun note has = note_begun o t legal note (loaded_in o t legal note has)
@@ -103,6 +103,7 @@ module _ (o : OpeningValue) (is : IsOpening o) (t : Trace) (legal : IsLegal o t)
             let over = begun_over o is t legal root at.0.seg at.0.node at.2 begun in
             let same = same_node at.0.seg at.0.node over.0 over.1.found over.1.at over.1.node in
             subst₂ (λ k n. is_begun (status_of t k n) ≡ true) same.0 same.1 begun
+
         back : is_begun (status_of t g node) ≡ true → is_begun_over o t root ≡ true
         back begun =
             list_any-Contains (λ (item : Item). is_within (extent_of o item.seg item.node) root) (items t) (item_for g node (status_of t g node)) (begun_item o t legal g node begun) node_within
@@ -115,7 +116,8 @@ module _ (o : OpeningValue) (is : IsOpening o) (t : Trace) (legal : IsLegal o t)
             let at = covered_at ns tiles begun root any in
             let same = same_node at.0.seg at.0.node at.1 at.2 at.3 at.4 in
             subst₂ (λ k n. (is_begun (status_of t k n) && nat_lt root (reached o k n ns)) ≡ true) same.0 same.1
-                (and_from (is_begun (status_of t at.0.seg at.0.node)) (nat_lt root (reached o at.0.seg at.0.node ns)) at.5 (lt-ltb root (reached o at.0.seg at.0.node ns) at.6))
+            (and_from (is_begun (status_of t at.0.seg at.0.node)) (nat_lt root (reached o at.0.seg at.0.node ns)) at.5 (lt-ltb root (reached o at.0.seg at.0.node ns) at.6))
+
         back : (is_begun (status_of t g node) && nat_lt root (reached o g node ns)) ≡ true → is_covered ns root ≡ true
         back both =
             let parts = and_parts (is_begun (status_of t g node)) (nat_lt root (reached o g node ns)) both in

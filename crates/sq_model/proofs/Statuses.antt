@@ -33,10 +33,10 @@ set_if-set_at sts seg node g st n = grind (arith, nat_tests)
 grown-set_if : (sts : ℕ → ℕ → Status) (seg node g : ℕ) (st : Status) → IsGrown (sts g) → IsGrown (set_at (sts seg) node st) → IsGrown (λ n. set_if seg node st g n (sts g n))
 grown-set_if sts seg node g st other here =
     subst IsGrown (λ i n. sym (set_if-set_at sts seg node g st n) i)
-        (elim (cases_Bool (seg == g)) [
-            inl same ↦ subst (λ b. IsGrown (λ n. if b then set_at (sts seg) node st n else sts g n)) (sym same) here
-          | inr apart ↦ subst (λ b. IsGrown (λ n. if b then set_at (sts seg) node st n else sts g n)) (sym apart) other
-          ])
+    (elim (cases_Bool (seg == g)) [
+      | inl same ↦ subst (λ b. IsGrown (λ n. if b then set_at (sts seg) node st n else sts g n)) (sym same) here
+      | inr apart ↦ subst (λ b. IsGrown (λ n. if b then set_at (sts seg) node st n else sts g n)) (sym apart) other
+    ])
 
 -- a node that isn't free is live, and no leaf is split
 pub grown : (o : OpeningValue) (t : Trace) → IsLegal o t → (g : ℕ) → IsGrown (status_of t g)
@@ -44,25 +44,25 @@ grown o [] legal g = grown-free (λ n. Free) (λ n. refl)
 grown o ((Claim seg node pull, Done) ∷ t) legal g =
     let was = (claim_goes o t seg node pull legal.0).claims in
     grown-set_if (status_of t) seg node g (Claimed pull) (grown o t legal.1 g)
-        (grown-set_at (status_of t seg) node (Claimed pull) (grown o t legal.1 seg) was.node was.live (ap is_split was.free) (λ leaf. refl))
+    (grown-set_at (status_of t seg) node (Claimed pull) (grown o t legal.1 seg) was.node was.live (ap is_split was.free) (λ leaf. refl))
 grown o ((Begin seg node pull, Done) ∷ t) legal g =
     let was = (begin_goes o t seg node pull legal.0).begins in
     let before = grown o t legal.1 seg in
     grown-set_if (status_of t) seg node g (Partial pull) (grown o t legal.1 g)
-        (grown-set_at (status_of t seg) node (Partial pull) before was.node (before.live node (ap is_free was.claimed)) (ap is_split was.claimed) (λ leaf. refl))
+    (grown-set_at (status_of t seg) node (Partial pull) before was.node (before.live node (ap is_free was.claimed)) (ap is_split was.claimed) (λ leaf. refl))
 grown o ((Complete_step seg node pull, Done) ∷ t) legal g =
     let was = (complete_goes o t seg node pull legal.0).completes in
     let before = grown o t legal.1 seg in
     grown-set_if (status_of t) seg node g (Complete pull) (grown o t legal.1 g)
-        (grown-set_at (status_of t seg) node (Complete pull) before was.node (before.live node (ap is_free was.begun)) (ap is_split was.begun) (λ leaf. refl))
+    (grown-set_at (status_of t seg) node (Complete pull) before was.node (before.live node (ap is_free was.begun)) (ap is_split was.begun) (λ leaf. refl))
 grown o ((step, told) ∷ t) legal g = grown o t legal.1 g
 
 -- what is set at a node is there, and the others keep what they have
 pub set_if_at : (P : Status → Type 0) (seg node : ℕ) (new : Status) (g n : ℕ) (before : Status) → (seg ≡ g → node ≡ n → P new) → P before → P (set_if seg node new g n before)
 set_if_at P seg node new g n before here there =
     cond_both ((seg == g) && (node == n)) new before P
-        (λ same. let parts = and_parts (seg == g) (node == n) same in here (eqb-true seg g parts.0) (eqb-true node n parts.1))
-        (λ other. there)
+    (λ same. let parts = and_parts (seg == g) (node == n) same in here (eqb-true seg g parts.0) (eqb-true node n parts.1))
+    (λ other. there)
 
 set_if_same : (seg node : ℕ) (new before : Status) → set_if seg node new seg node before ≡ new
 set_if_same seg node new before = grind (arith, nat_tests)
@@ -78,16 +78,16 @@ is_past-same (Complete p) = eq-eqb p p refl
 pub later : (o : OpeningValue) (t : Trace) (step : Step) (told : Answer) → IsLegal o ((step, told) ∷ t) → (g n : ℕ) → is_past (status_of t g n) (status_of ((step, told) ∷ t) g n) ≡ true
 later o t (Claim seg node pull) Done legal g n =
     set_if_at (λ st. is_past (status_of t g n) st ≡ true) seg node (Claimed pull) g n (status_of t g n)
-        (λ same there. let was = (claim_goes o t seg node pull legal.0).claims.free in let e : status_of t g n ≡ Free = cc in subst (λ st. is_past st (Claimed pull) ≡ true) (sym e) refl)
-        (is_past-same (status_of t g n))
+    (λ same there. let was = (claim_goes o t seg node pull legal.0).claims.free in let e : status_of t g n ≡ Free = cc in subst (λ st. is_past st (Claimed pull) ≡ true) (sym e) refl)
+    (is_past-same (status_of t g n))
 later o t (Begin seg node pull) Done legal g n =
     set_if_at (λ st. is_past (status_of t g n) st ≡ true) seg node (Partial pull) g n (status_of t g n)
-        (λ same there. let was = (begin_goes o t seg node pull legal.0).begins.claimed in let e : status_of t g n ≡ Claimed pull = cc in subst (λ st. is_past st (Partial pull) ≡ true) (sym e) (eq-eqb pull pull refl))
-        (is_past-same (status_of t g n))
+    (λ same there. let was = (begin_goes o t seg node pull legal.0).begins.claimed in let e : status_of t g n ≡ Claimed pull = cc in subst (λ st. is_past st (Partial pull) ≡ true) (sym e) (eq-eqb pull pull refl))
+    (is_past-same (status_of t g n))
 later o t (Complete_step seg node pull) Done legal g n =
     set_if_at (λ st. is_past (status_of t g n) st ≡ true) seg node (Complete pull) g n (status_of t g n)
-        (λ same there. let was = (complete_goes o t seg node pull legal.0).completes.begun in let e : status_of t g n ≡ Partial pull = cc in subst (λ st. is_past st (Complete pull) ≡ true) (sym e) (eq-eqb pull pull refl))
-        (is_past-same (status_of t g n))
+    (λ same there. let was = (complete_goes o t seg node pull legal.0).completes.begun in let e : status_of t g n ≡ Partial pull = cc in subst (λ st. is_past st (Complete pull) ≡ true) (sym e) (eq-eqb pull pull refl))
+    (is_past-same (status_of t g n))
 later o t step told legal g n = is_past-same (status_of t g n)
 
 begun_past : (one other : Status) → is_past one other ≡ true → is_begun one ≡ true → (is_begun other ≡ true) × (pull_of other ≡ pull_of one)
@@ -108,8 +108,8 @@ pub record IsThere (o : OpeningValue) (g n : ℕ) : Type 0 where
 there_if : (o : OpeningValue) (seg node : ℕ) (new : Status) (g n : ℕ) (before : Status) → IsThere o seg node → (is_free before ≡ false → IsThere o g n) → is_free (set_if seg node new g n before) ≡ false → IsThere o g n
 there_if o seg node new g n before here other =
     set_if_at (λ st. is_free st ≡ false → IsThere o g n) seg node new g n before
-        (λ same there touched. subst (λ k. IsThere o k n) same (subst (λ k. IsThere o seg k) there here))
-        other
+    (λ same there touched. subst (λ k. IsThere o k n) same (subst (λ k. IsThere o seg k) there here))
+    other
 
 pub is_there : (o : OpeningValue) (t : Trace) → IsLegal o t → (g n : ℕ) → is_free (status_of t g n) ≡ false → IsThere o g n
 is_there o [] legal g n touched = absurd (true≢false touched)
@@ -128,15 +128,15 @@ is_there o ((step, told) ∷ t) legal g n touched = is_there o t legal.1 g n tou
 pub free_past : (o : OpeningValue) (t : Trace) → IsLegal o t → (g n : ℕ) → length o.recon.segments ≤ g → status_of t g n ≡ Free
 free_past o t legal g n beyond =
     elim (cases_Bool (is_free (status_of t g n))) [
-      inl free ↦ free_is (status_of t g n) free
-    | inr touched ↦ absurd (omega (arith, (is_there o t legal g n touched).segment))
+      | inl free ↦ free_is (status_of t g n) free
+      | inr touched ↦ absurd (omega (arith, (is_there o t legal g n touched).segment))
     ]
 
 pub free_nowhere : (o : OpeningValue) (t : Trace) → IsLegal o t → (g n : ℕ) → is_node n ≡ false → status_of t g n ≡ Free
 free_nowhere o t legal g n nowhere =
     elim (cases_Bool (is_free (status_of t g n))) [
-      inl free ↦ free_is (status_of t g n) free
-    | inr touched ↦ absurd (true≢false (sym (is_there o t legal g n touched).node ∙ nowhere))
+      | inl free ↦ free_is (status_of t g n) free
+      | inr touched ↦ absurd (true≢false (sym (is_there o t legal g n touched).node ∙ nowhere))
     ]
 
 -- a node is begun for this pull
@@ -149,13 +149,13 @@ pub item_begun : (o : OpeningValue) (t : Trace) → IsLegal o t → (item : Item
 item_begun o [] legal item has = absurd (Contains-nothing item has)
 item_begun o ((Begin seg node pull, Done) ∷ t) legal item has =
     elim (Contains-push_cases (items t) (record { seg = seg; node = node; pull = pull }) item has) [
-      inl older ↦
-        let before = item_begun o t legal.1 item older in
-        let after = stays_begun o t (Begin seg node pull) Done legal item.seg item.node before.begun in
-        record { begun = after.0; pull_is = after.1 ∙ before.pull_is }
-    | inr new ↦
-        subst (λ (other : Item). IsBegunFor (set_if seg node (Partial pull) other.seg other.node (status_of t other.seg other.node)) other.pull) new
-            (subst (λ st. IsBegunFor st pull) (sym (set_if_same seg node (Partial pull) (status_of t seg node))) (record { begun = refl; pull_is = refl }))
+      | inl older ↦
+          let before = item_begun o t legal.1 item older in
+          let after = stays_begun o t (Begin seg node pull) Done legal item.seg item.node before.begun in
+          record { begun = after.0; pull_is = after.1 ∙ before.pull_is }
+      | inr new ↦
+          subst (λ (other : Item). IsBegunFor (set_if seg node (Partial pull) other.seg other.node (status_of t other.seg other.node)) other.pull) new
+          (subst (λ st. IsBegunFor st pull) (sym (set_if_same seg node (Partial pull) (status_of t seg node))) (record { begun = refl; pull_is = refl }))
     ]
 item_begun o ((Claim seg node pull, Done) ∷ t) legal item has =
     let before = item_begun o t legal.1 item has in
@@ -176,22 +176,22 @@ pub begun_item : (o : OpeningValue) (t : Trace) → IsLegal o t → (g n : ℕ) 
 begun_item o [] legal g n begun = absurd (true≢false (sym begun))
 begun_item o ((Claim seg node pull, Done) ∷ t) legal g n begun =
     set_if_at (λ st. is_begun st ≡ true → Contains (items t) (item_for g n st)) seg node (Claimed pull) g n (status_of t g n)
-        (λ same there no_begun. absurd (true≢false (sym no_begun)))
-        (begun_item o t legal.1 g n) begun
+    (λ same there no_begun. absurd (true≢false (sym no_begun)))
+    (begun_item o t legal.1 g n) begun
 begun_item o ((Begin seg node pull, Done) ∷ t) legal g n begun =
     set_if_at (λ st. is_begun st ≡ true → Contains (items t ++ record { seg = seg; node = node; pull = pull } ∷ []) (item_for g n st)) seg node (Partial pull) g n (status_of t g n)
-        (λ same there is. subst (λ k. Contains (items t ++ record { seg = seg; node = node; pull = pull } ∷ []) (record { seg = k; node = n; pull = pull })) same
-            (subst (λ k. Contains (items t ++ record { seg = seg; node = node; pull = pull } ∷ []) (record { seg = seg; node = k; pull = pull })) there
-                (Contains-push (items t) (record { seg = seg; node = node; pull = pull }))))
-        (λ is. Contains-append_left (items t) (record { seg = seg; node = node; pull = pull } ∷ []) (item_for g n (status_of t g n)) (begun_item o t legal.1 g n is))
-        begun
+    (λ same there is. subst (λ k. Contains (items t ++ record { seg = seg; node = node; pull = pull } ∷ []) (record { seg = k; node = n; pull = pull })) same
+    (subst (λ k. Contains (items t ++ record { seg = seg; node = node; pull = pull } ∷ []) (record { seg = seg; node = k; pull = pull })) there
+    (Contains-push (items t) (record { seg = seg; node = node; pull = pull }))))
+    (λ is. Contains-append_left (items t) (record { seg = seg; node = node; pull = pull } ∷ []) (item_for g n (status_of t g n)) (begun_item o t legal.1 g n is))
+    begun
 begun_item o ((Complete_step seg node pull, Done) ∷ t) legal g n begun =
     set_if_at (λ st. is_begun st ≡ true → Contains (items t) (item_for g n st)) seg node (Complete pull) g n (status_of t g n)
-        (λ same there is.
-            let was = (complete_goes o t seg node pull legal.0).completes.begun in
-            let e : status_of t g n ≡ Partial pull = cc in
-            subst (λ p. Contains (items t) (record { seg = g; node = n; pull = p })) (ap pull_of e) (begun_item o t legal.1 g n (ap is_begun e)))
-        (begun_item o t legal.1 g n) begun
+    (λ same there is.
+    let was = (complete_goes o t seg node pull legal.0).completes.begun in
+    let e : status_of t g n ≡ Partial pull = cc in
+    subst (λ p. Contains (items t) (record { seg = g; node = n; pull = p })) (ap pull_of e) (begun_item o t legal.1 g n (ap is_begun e)))
+    (begun_item o t legal.1 g n) begun
 begun_item o ((step, told) ∷ t) legal g n begun = begun_item o t legal.1 g n begun
 
 -- two items are of one node
@@ -200,10 +200,10 @@ is_same_node one other = (one.seg == other.seg) && (one.node == other.node)
 
 same_node_laws : IsEquivalence is_same_node
 same_node_laws = record {
-    refl = λ x. grind (arith, nat_tests);
-    symm = λ x y. grind (arith, nat_tests);
-    congr = λ x y z same. grind (arith, nat_tests);
-  }
+  refl = λ x. grind (arith, nat_tests);
+  symm = λ x y. grind (arith, nat_tests);
+  congr = λ x y z same. grind (arith, nat_tests);
+}
 
 -- no node has two items
 pub distinct_items : (o : OpeningValue) (t : Trace) → IsLegal o t → IsDistinct is_same_node (items t)
@@ -211,15 +211,15 @@ unfolding IsDistinct
 distinct_items o [] legal = tt
 distinct_items o ((Begin seg node pull, Done) ∷ t) legal =
     IsDistinct-push same_node_laws (items t) (record { seg = seg; node = node; pull = pull }) (distinct_items o t legal.1)
-        (false_from_ne_true (list_any (is_same_node (record { seg = seg; node = node; pull = pull })) (items t)) (λ any.
-            let other = any_in (is_same_node (record { seg = seg; node = node; pull = pull })) (items t) any in
-            let parts = and_parts (seg == other.0.seg) (node == other.0.node) other.2 in
-            let same = eqb-true seg other.0.seg parts.0 in
-            let there = eqb-true node other.0.node parts.1 in
-            let begun = (item_begun o t legal.1 other.0 other.1).begun in
-            let was = (begin_goes o t seg node pull legal.0).begins.claimed in
-            let e : status_of t other.0.seg other.0.node ≡ Claimed pull = cc in
-            true≢false (sym begun ∙ ap is_begun e)))
+    (false_from_ne_true (list_any (is_same_node (record { seg = seg; node = node; pull = pull })) (items t)) (λ any.
+    let other = any_in (is_same_node (record { seg = seg; node = node; pull = pull })) (items t) any in
+    let parts = and_parts (seg == other.0.seg) (node == other.0.node) other.2 in
+    let same = eqb-true seg other.0.seg parts.0 in
+    let there = eqb-true node other.0.node parts.1 in
+    let begun = (item_begun o t legal.1 other.0 other.1).begun in
+    let was = (begin_goes o t seg node pull legal.0).begins.claimed in
+    let e : status_of t other.0.seg other.0.node ≡ Claimed pull = cc in
+    true≢false (sym begun ∙ ap is_begun e)))
 distinct_items o ((step, told) ∷ t) legal = distinct_items o t legal.1
 
 -- so the items of one node are one

@@ -301,42 +301,42 @@ waits_at_waits o txn (Some seg) = refl
 wait_is_no_reply : (o : OpeningValue) (t : Trace) (part : ℕ) (txn : TxnValue) → is_reply (wait_answer o t part txn) ≡ false
 wait_is_no_reply o t part txn =
     cond_both (nat_le wait_limit (length (waiting t part))) (Refused WaitFull) (waits_at o txn (segment_of o.recon.segments txn.root)) (λ told. is_reply told ≡ false)
-        (λ crowd. refl) (λ room. waits_at_waits o txn (segment_of o.recon.segments txn.root))
+    (λ crowd. refl) (λ room. waits_at_waits o txn (segment_of o.recon.segments txn.root))
 
 routed_is_no_wait : (o : OpeningValue) (t : Trace) (part : ℕ) (txn : TxnValue) (who : Option ℕ) → is_wait (routed o t part txn who) ≡ false
 routed_is_no_wait o t part txn None = refl
 routed_is_no_wait o t part txn (Some who) =
     cond_both (who == part) (run_answer o t txn) (Moved txn.id who) (λ told. is_wait told ≡ false)
-        (λ here. cond_both (is_full t txn.root) (Refused LogFull) (Replied txn.id (reply (now o t txn.root) txn)) (λ told. is_wait told ≡ false) (λ full. refl) (λ room. refl))
-        (λ there. refl)
+    (λ here. cond_both (is_full t txn.root) (Refused LogFull) (Replied txn.id (reply (now o t txn.root) txn)) (λ told. is_wait told ≡ false) (λ full. refl) (λ room. refl))
+    (λ there. refl)
 
 routed_reply : (o : OpeningValue) (t : Trace) (part : ℕ) (txn : TxnValue) (who : Option ℕ) (told : Answer) → is_reply told ≡ true → told ≡ routed o t part txn who → (who ≡ Some part) × (told ≡ run_answer o t txn)
 routed_reply o t part txn None told is e = absurd (true≢false (sym is ∙ ap is_reply e))
 routed_reply o t part txn (Some who) told is e =
     elim (cases_Bool (who == part)) [
-      inl here ↦ (ap Some (eqb-true who part here), e ∙ cond-true (who == part) (run_answer o t txn) (Moved txn.id who) here)
-    | inr there ↦ absurd (true≢false (sym is ∙ ap is_reply (e ∙ cond-false (who == part) (run_answer o t txn) (Moved txn.id who) there)))
+      | inl here ↦ (ap Some (eqb-true who part here), e ∙ cond-true (who == part) (run_answer o t txn) (Moved txn.id who) here)
+      | inr there ↦ absurd (true≢false (sym is ∙ ap is_reply (e ∙ cond-false (who == part) (run_answer o t txn) (Moved txn.id who) there)))
     ]
 
 pub wait_goes : (o : OpeningValue) (t : Trace) (part : ℕ) (txn : TxnValue) (id seg leaf : ℕ) → IsAnswer o t (Submit part txn) (Waits id seg leaf) → WaitGoes o t part txn (Waits id seg leaf)
 wait_goes o t part txn id seg leaf told =
     let a = past _ _ _ (Waits id seg leaf) refl (answered o t (Submit part txn) (Waits id seg leaf) refl told) in
     elim (cases_Bool (has_to_wait o t part txn.root)) [
-      inl has_to ↦
-        let b = past _ _ _ (Waits id seg leaf) refl (a.1 ∙ cond-true (has_to_wait o t part txn.root) (wait_answer o t part txn) (routed o t part txn (runner o t txn.root)) has_to) in
-        record { partition = leb-false o.old.parts part a.0; has_to = has_to; room = leb-false wait_limit (length (waiting t part)) b.0; waits = b.1 }
-    | inr at_once ↦
-        absurd (true≢false (ap is_wait (a.1 ∙ cond-false (has_to_wait o t part txn.root) (wait_answer o t part txn) (routed o t part txn (runner o t txn.root)) at_once) ∙ routed_is_no_wait o t part txn (runner o t txn.root)))
+      | inl has_to ↦
+          let b = past _ _ _ (Waits id seg leaf) refl (a.1 ∙ cond-true (has_to_wait o t part txn.root) (wait_answer o t part txn) (routed o t part txn (runner o t txn.root)) has_to) in
+          record { partition = leb-false o.old.parts part a.0; has_to = has_to; room = leb-false wait_limit (length (waiting t part)) b.0; waits = b.1 }
+      | inr at_once ↦
+          absurd (true≢false (ap is_wait (a.1 ∙ cond-false (has_to_wait o t part txn.root) (wait_answer o t part txn) (routed o t part txn (runner o t txn.root)) at_once) ∙ routed_is_no_wait o t part txn (runner o t txn.root)))
     ]
 
 pub run_goes : (o : OpeningValue) (t : Trace) (part : ℕ) (txn : TxnValue) (id : ℕ) (answers : Reply) → IsAnswer o t (Submit part txn) (Replied id answers) → RunGoes o t part txn (Replied id answers)
 run_goes o t part txn id answers told =
     let a = past _ _ _ (Replied id answers) refl (answered o t (Submit part txn) (Replied id answers) refl told) in
     elim (cases_Bool (has_to_wait o t part txn.root)) [
-      inl has_to ↦
-        absurd (true≢false (ap is_reply (a.1 ∙ cond-true (has_to_wait o t part txn.root) (wait_answer o t part txn) (routed o t part txn (runner o t txn.root)) has_to) ∙ wait_is_no_reply o t part txn))
-    | inr at_once ↦
-        let b = routed_reply o t part txn (runner o t txn.root) (Replied id answers) refl (a.1 ∙ cond-false (has_to_wait o t part txn.root) (wait_answer o t part txn) (routed o t part txn (runner o t txn.root)) at_once) in
-        let c = past _ _ _ (Replied id answers) refl b.1 in
-        record { partition = leb-false o.old.parts part a.0; at_once = at_once; runs = b.0; room = c.0; replied = c.1 }
+      | inl has_to ↦
+          absurd (true≢false (ap is_reply (a.1 ∙ cond-true (has_to_wait o t part txn.root) (wait_answer o t part txn) (routed o t part txn (runner o t txn.root)) has_to) ∙ wait_is_no_reply o t part txn))
+      | inr at_once ↦
+          let b = routed_reply o t part txn (runner o t txn.root) (Replied id answers) refl (a.1 ∙ cond-false (has_to_wait o t part txn.root) (wait_answer o t part txn) (routed o t part txn (runner o t txn.root)) at_once) in
+          let c = past _ _ _ (Replied id answers) refl b.1 in
+          record { partition = leb-false o.old.parts part a.0; at_once = at_once; runs = b.0; room = c.0; replied = c.1 }
     ]

@@ -43,8 +43,8 @@ is_about-from seg node note same there = and_from (note.seg == seg) (note.node =
 pub node_at : (P : ℕ → Bool → Type 0) (o : OpeningValue) (seg node : ℕ) (note : Note) (ns : List Note) → (note.seg ≡ seg → note.node ≡ node → P note.hi (note.last || has_last seg node ns)) → P (reached o seg node ns) (has_last seg node ns) → P (reached o seg node (note ∷ ns)) (has_last seg node (note ∷ ns))
 node_at P o seg node note ns here before =
     elim (cases_Bool (is_about seg node note)) [
-      inl about ↦ let is = about_is seg node note about in subst by_test (sym about) (here is.0 is.1)
-    | inr other ↦ subst by_test (sym other) before
+      | inl about ↦ let is = about_is seg node note about in subst by_test (sym about) (here is.0 is.1)
+      | inr other ↦ subst by_test (sym other) before
     ]
   where
     by_test : Bool → Type 0
@@ -66,8 +66,8 @@ pub reached_within : (o : OpeningValue) (ns : List Note) → Tiles o ns → (seg
 reached_within o [] tiles seg node = record { from = omega arith; upto = extent_rises o seg node }
 reached_within o (note ∷ ns) tiles seg node =
     node_at (λ end _. IsWithin o seg node end) o seg node note ns
-        (λ same there. subst₂ (λ g n. IsWithin o g n note.hi) same there (ends_within o note ns tiles.0 (reached_within o ns tiles.1 note.seg note.node)))
-        (reached_within o ns tiles.1 seg node)
+    (λ same there. subst₂ (λ g n. IsWithin o g n note.hi) same there (ends_within o note ns tiles.0 (reached_within o ns tiles.1 note.seg note.node)))
+    (reached_within o ns tiles.1 seg node)
 
 -- each note lies within the extent of its node, and is reached
 pub record IsTile (o : OpeningValue) (ns : List Note) (note : Note) : Type 0 where
@@ -93,13 +93,13 @@ first_tile o note ns goes tiles =
 
 later_tile : (o : OpeningValue) (next : Note) (ns : List Note) (note : Note) → GoesOn o next ns → IsTile o ns note → IsTile o (next ∷ ns) note
 later_tile o next ns note goes t = record {
-    from = t.from;
-    rises = t.rises;
-    upto = t.upto;
-    behind = node_at (λ end _. note.hi ≤ end) o note.seg note.node next ns
-        (λ same there. after (subst₂ (λ g n. next.lo ≡ reached o g n ns) same there goes.begins) goes.rises t.behind)
-        t.behind;
-  }
+  from = t.from;
+  rises = t.rises;
+  upto = t.upto;
+  behind = node_at (λ end _. note.hi ≤ end) o note.seg note.node next ns
+      (λ same there. after (subst₂ (λ g n. next.lo ≡ reached o g n ns) same there goes.begins) goes.rises t.behind)
+      t.behind;
+}
   where
     after : next.lo ≡ reached o note.seg note.node ns → next.lo ≤ next.hi → note.hi ≤ reached o note.seg note.node ns → note.hi ≤ next.hi
     after begins rises behind = omega arith
@@ -108,8 +108,8 @@ pub tile : (o : OpeningValue) (ns : List Note) → Tiles o ns → (note : Note) 
 tile o [] tiles note has = absurd (Contains-nothing note has)
 tile o (next ∷ ns) tiles note has =
     elim (Contains-cases next ns note has) [
-      inl same ↦ subst (IsTile o (next ∷ ns)) same (first_tile o next ns tiles.0 tiles.1)
-    | inr older ↦ later_tile o next ns note tiles.0 (tile o ns tiles.1 note older)
+      | inl same ↦ subst (IsTile o (next ∷ ns)) same (first_tile o next ns tiles.0 tiles.1)
+      | inr older ↦ later_tile o next ns note tiles.0 (tile o ns tiles.1 note older)
     ]
 
 -- where a node has its last note among them, they reach its high end
@@ -117,13 +117,14 @@ pub last_reached : (o : OpeningValue) (ns : List Note) → Tiles o ns → (seg n
 last_reached o [] tiles seg node last = absurd (true≢false (sym last))
 last_reached o (note ∷ ns) tiles seg node last =
     node_at (λ end has. has ≡ true → end ≡ (extent_of o seg node).hi) o seg node note ns
-        (λ same there. ends (subst₂ (λ g n. note.last ≡ (note.hi == (extent_of o g n).hi)) same there tiles.0.last) (subst₂ (λ g n. has_last g n ns ≡ false) same there tiles.0.first_last))
-        (last_reached o ns tiles.1 seg node)
-        last
+    (λ same there. ends (subst₂ (λ g n. note.last ≡ (note.hi == (extent_of o g n).hi)) same there tiles.0.last) (subst₂ (λ g n. has_last g n ns ≡ false) same there tiles.0.first_last))
+    (last_reached o ns tiles.1 seg node)
+    last
   where
     either_left : (a b : Bool) → b ≡ false → (a || b) ≡ true → a ≡ true
     either_left true b none either = refl
     either_left false b none either = absurd (true≢false (sym either ∙ none))
+
     ends : note.last ≡ (note.hi == (extent_of o seg node).hi) → has_last seg node ns ≡ false → (note.last || has_last seg node ns) ≡ true → note.hi ≡ (extent_of o seg node).hi
     ends last_is none either =
         eqb-true note.hi (extent_of o seg node).hi (sym last_is ∙ either_left note.last (has_last seg node ns) none either)
@@ -140,17 +141,17 @@ covered_is o [] tiles seg node root = nothing (extent_of o seg node).lo root
 covered_is o (note ∷ ns) tiles seg node root =
     let before = covered_is o ns tiles.1 seg node root in
     elim (cases_Bool (is_about seg node note)) [
-      inl about ↦
-        let is = about_is seg node note about in
-        let begins : note.lo ≡ reached o seg node ns = subst₂ (λ g n. note.lo ≡ reached o g n ns) is.0 is.1 tiles.0.begins in
-        ap (λ b. (b && covers note root) || list_any (covers_of seg node root) ns) about
-        ∙ ap (λ b. covers note root || b) before
-        ∙ joined (extent_of o seg node).lo (reached o seg node ns) note.lo note.hi root begins tiles.0.rises (reached_within o ns tiles.1 seg node).from
-        ∙ ap (λ b. nat_le (extent_of o seg node).lo root && nat_lt root (end_of_note (extent_of o seg node).lo (if b then Some note else find (is_about seg node) ns))) (sym about)
-    | inr other ↦
-        ap (λ b. (b && covers note root) || list_any (covers_of seg node root) ns) other
-        ∙ before
-        ∙ ap (λ b. nat_le (extent_of o seg node).lo root && nat_lt root (end_of_note (extent_of o seg node).lo (if b then Some note else find (is_about seg node) ns))) (sym other)
+      | inl about ↦
+          let is = about_is seg node note about in
+          let begins : note.lo ≡ reached o seg node ns = subst₂ (λ g n. note.lo ≡ reached o g n ns) is.0 is.1 tiles.0.begins in
+          ap (λ b. (b && covers note root) || list_any (covers_of seg node root) ns) about
+          ∙ ap (λ b. covers note root || b) before
+          ∙ joined (extent_of o seg node).lo (reached o seg node ns) note.lo note.hi root begins tiles.0.rises (reached_within o ns tiles.1 seg node).from
+          ∙ ap (λ b. nat_le (extent_of o seg node).lo root && nat_lt root (end_of_note (extent_of o seg node).lo (if b then Some note else find (is_about seg node) ns))) (sym about)
+      | inr other ↦
+          ap (λ b. (b && covers note root) || list_any (covers_of seg node root) ns) other
+          ∙ before
+          ∙ ap (λ b. nat_le (extent_of o seg node).lo root && nat_lt root (end_of_note (extent_of o seg node).lo (if b then Some note else find (is_about seg node) ns))) (sym other)
     ]
   where
     joined : (low upto lo hi root : ℕ) → lo ≡ upto → lo ≤ hi → low ≤ upto → ((nat_le lo root && nat_lt root hi) || (nat_le low root && nat_lt root upto)) ≡ (nat_le low root && nat_lt root hi)
@@ -161,8 +162,8 @@ end_within_in : (P : ℕ → Type 0) (size : ℕ → ℕ) (hi room : ℕ) (roots
 end_within_in P size hi room [] at_end each = at_end
 end_within_in P size hi room (root ∷ roots) at_end each =
     cond_both (nat_le (size root) room) (end_within size hi (room - size root) roots) root P
-        (λ fits. end_within_in P size hi (room - size root) roots at_end (λ other has. each other (Contains-later root roots other has)))
-        (λ full. each root (Contains-first root roots))
+    (λ fits. end_within_in P size hi (room - size root) roots at_end (λ other has. each other (Contains-later root roots other has)))
+    (λ full. each root (Contains-first root roots))
 
 end_of_in : (P : ℕ → Type 0) (size : ℕ → ℕ) (hi limit : ℕ) (roots : List ℕ) → P hi → ((root : ℕ) → Contains roots root → P root) → P (end_of size hi limit roots)
 end_of_in P size hi limit [] at_end each = at_end
@@ -171,4 +172,4 @@ end_of_in P size hi limit (root ∷ roots) at_end each = end_within_in P size hi
 pub cut_end_within : (o : OpeningValue) (t : Trace) (lo hi : ℕ) → lo ≤ hi → (lo ≤ cut_end o t lo hi) × (cut_end o t lo hi ≤ hi)
 cut_end_within o t lo hi rises =
     end_of_in (λ end. (lo ≤ end) × (end ≤ hi)) (size_of o t) hi o.config.limit (standing o t lo hi) (rises, omega arith)
-        (λ root has. let bounds = row_bounds lo (hi - lo) root (kept_in (stands o t) (range_with_len lo (hi - lo)) root has).0 in (bounds.0, omega arith))
+    (λ root has. let bounds = row_bounds lo (hi - lo) root (kept_in (stands o t) (range_with_len lo (hi - lo)) root has).0 in (bounds.0, omega arith))

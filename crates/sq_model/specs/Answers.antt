@@ -84,7 +84,7 @@ routed o t part txn (Some who) = if who == part then run_answer o t txn else Mov
 abbrev pub submit_answer : OpeningValue → Trace → ℕ → TxnValue → Answer
 submit_answer o t part txn =
     at_partition o part (
-      if has_to_wait o t part txn.root then wait_answer o t part txn else routed o t part txn (runner o t txn.root)
+    if has_to_wait o t part txn.root then wait_answer o t part txn else routed o t part txn (runner o t txn.root)
     )
 
 abbrev pub claim_told : Result (Unit {0}) ClaimFault → Answer
@@ -124,24 +124,24 @@ cut_for o t src dst (Some item) =
 abbrev pub cut_answer : OpeningValue → Trace → ℕ → ℕ → Answer
 cut_answer o t src dst =
     while_moving t (on_link o src dst (
-      if nat_lt (push_count t src dst) (cut_count t src dst) then Refused OutboxFull
-      else cut_for o t src dst (next_item (open_items o t src dst))
+    if nat_lt (push_count t src dst) (cut_count t src dst) then Refused OutboxFull
+    else cut_for o t src dst (next_item (open_items o t src dst))
     ))
 
 abbrev pub push_answer : OpeningValue → Trace → ℕ → ℕ → Answer
 push_answer o t src dst =
     while_moving t (on_link o src dst (
-      if cut_count t src dst == push_count t src dst then Refused OutboxEmpty
-      else if nat_le o.config.capacity (push_count t src dst - pop_count t src dst) then Refused LinkFull
-      else Done
+    if cut_count t src dst == push_count t src dst then Refused OutboxEmpty
+    else if nat_le o.config.capacity (push_count t src dst - pop_count t src dst) then Refused LinkFull
+    else Done
     ))
 
 abbrev pub pop_answer : OpeningValue → Trace → ℕ → ℕ → Answer
 pop_answer o t src dst =
     while_moving t (on_link o src dst (
-      if nat_lt (load_count t src dst) (pop_count t src dst) then Refused InboxFull
-      else if pop_count t src dst == push_count t src dst then Refused LinkEmpty
-      else Done
+    if nat_lt (load_count t src dst) (pop_count t src dst) then Refused InboxFull
+    else if pop_count t src dst == push_count t src dst then Refused LinkEmpty
+    else Done
     ))
 
 -- the next chunk of the link is loaded
@@ -152,8 +152,8 @@ load_of o t (Some note) = WasLoaded note (family_count o t note)
 abbrev pub load_answer : OpeningValue → Trace → ℕ → ℕ → Answer
 load_answer o t src dst =
     while_moving t (on_link o src dst (
-      if load_count t src dst == pop_count t src dst then Refused InboxEmpty
-      else load_of o t (find (λ note. note.number == load_count t src dst) (link src dst (notes t)))
+    if load_count t src dst == pop_count t src dst then Refused InboxEmpty
+    else load_of o t (find (λ note. note.number == load_count t src dst) (link src dst (notes t)))
     ))
 
 abbrev pub is_complete_reading : Reading → Bool

@@ -3,9 +3,6 @@ ghost use Rattle.std.specs.Prelude.{◌≡◌, ◌≤◌, ◌<◌, ℕ, [], leng
 ghost use Rattle.sq_schema.specs.TxnValue.{TxnValue};
 ghost use Rattle.sq_ranges.specs.OpeningValue.{OpeningValue};
 ghost use Rattle.sq_model.specs.Trace.{Trace};
-
-use crate::answer::{Answer, Refusal};
-use crate::step::Step;
 ghost use Rattle.sq_model.specs.Tables.{is_full};
 ghost use Rattle.sq_model.specs.Place.{runner};
 ghost use Rattle.sq_model.specs.Waiting.{waiting, wait_limit, has_to_wait};
@@ -15,75 +12,66 @@ ghost use Rattle.sq_model.specs.Legal.{IsLegal, answers};
 ghost use Rattle.sq_model.specs.Orderly.{IsOrderly};
 ghost use Rattle.sq_model.specs.Worked.{one_row, whole_path, whole_path_told, given_up, given_up_told, begun_again, begun_again_told, two_families, two_chunks, two_chunks_told, large_family, large_chunk, large_chunk_told, three_families, full_link, full_link_told, out_of_order, out_of_order_told, waits_for_rows, waits_for_rows_told, too_soon, too_soon_told};
 
+use crate::answer::{Answer, Refusal};
+use crate::step::Step;
+
 /// The shortest whole path: the keys 4 to 7 move, and the row is read at its new place.
 pub fn moves_four_keys()
     ensures { answers one_row [] whole_path ≡ whole_path_told }
-{
-}
+{}
 
 /// The source runs transactions until it gives a node up, and not from then on.
 pub fn gives_up_once_begun()
     ensures { answers one_row [] given_up ≡ given_up_told }
-{
-}
+{}
 
 /// A node is begun once, by the pull that claimed it.
 pub fn begins_once()
     ensures { answers one_row [] begun_again ≡ begun_again_told }
-{
-}
+{}
 
 /// A chunk holds as many families as fit, and ends at the first one that doesn't.
 pub fn cuts_by_size()
     ensures { answers two_families [] two_chunks ≡ two_chunks_told }
-{
-}
+{}
 
 /// A family that is larger than a chunk goes alone.
 pub fn cuts_a_large_family()
     ensures { answers large_family [] large_chunk ≡ large_chunk_told }
-{
-}
+{}
 
 /// A full link takes no chunk, and nothing is cut while one waits for the link.
 pub fn waits_for_the_link()
     ensures { answers three_families [] full_link ≡ full_link_told }
-{
-}
+{}
 
 /// Steps in the wrong order, or with wrong numbers, are refused.
 pub fn refuses_out_of_order()
     ensures { answers one_row [] out_of_order ≡ out_of_order_told }
-{
-}
+{}
 
 /// A transaction waits at the destination for its rows, and is sent on from a partition that it has nothing to do with.
 pub fn waits_for_its_rows()
     ensures { answers one_row [] waits_for_rows ≡ waits_for_rows_told }
-{
-}
+{}
 
 /// Nothing is complete, reported or finished before its rows are loaded.
 pub fn refuses_too_soon()
     ensures { answers one_row [] too_soon ≡ too_soon_told }
-{
-}
+{}
 
 /// A log that is full takes no further transaction, whatever came before.
 pub fn refuses_at_a_full_log()
     ensures { (o : OpeningValue) (t : Trace) (part : ℕ) (txn : TxnValue) → part < o.old.parts → has_to_wait o t part txn.root ≡ false → runner o t txn.root ≡ Some part → is_full t txn.root ≡ true → answer o t (Step.Submit part txn) ≡ Answer.Refused Refusal.LogFull }
-{
-}
+{}
 
 /// Where as many wait as can, a further transaction isn't let in, whatever came before.
 pub fn refuses_a_crowd()
     ensures { (o : OpeningValue) (t : Trace) (part : ℕ) (txn : TxnValue) → part < o.old.parts → has_to_wait o t part txn.root ≡ true → wait_limit ≤ length (waiting t part) → answer o t (Step.Submit part txn) ≡ Answer.Refused Refusal.WaitFull }
-{
-}
+{}
 
 /// Whatever the steps: each family of a range that moves is cut at most once and loaded at most once, in the order
 /// that its link numbered it, and nothing of a complete node moves.
 pub fn moves_in_order()
     ensures { (o : OpeningValue) (t : Trace) → IsOpening o → IsLegal o t → IsOrderly o t }
-{
-}
+{}

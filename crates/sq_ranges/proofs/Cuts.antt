@@ -63,9 +63,9 @@ module _ (width : ℕ) (some : 1 ≤ width) where
   segments_of-row P Q lo hi [] parts row = row
   segments_of-row P Q lo hi (range ∷ ranges) parts row =
       row_lower Q range.lo lo hi (segments_in width range ++ segments_of width ranges) row.0
-          (row-append Q range.lo range.hi hi (segments_in width range) (segments_of width ranges)
-              (segments_in-row Q range (omega (arith, row.1)) (parts range row.2))
-              (segments_of-row P Q range.hi hi ranges parts row.3))
+      (row-append Q range.lo range.hi hi (segments_in width range) (segments_of width ranges)
+      (segments_in-row Q range (omega (arith, row.1)) (parts range row.2))
+      (segments_of-row P Q range.hi hi ranges parts row.3))
 
   -- one of them holds each key of the range
   pub segments_in-cover : (range : Range) (key : ℕ) → holds range key ≡ true → any_holds (segments_in width range) key ≡ true
@@ -88,18 +88,18 @@ module _ (width : ℕ) (some : 1 ≤ width) where
   segments_of-cover [] key held = held
   segments_of-cover (range ∷ ranges) key held =
       list_any-append (λ r. holds r key) (segments_in width range) (segments_of width ranges) ∙ ⊎_elim
-          (λ (here : holds range key ≡ true). or_left (any_holds (segments_in width range) key) (any_holds (segments_of width ranges) key) (segments_in-cover range key here))
-          (λ (further : any_holds ranges key ≡ true). or_right (any_holds (segments_in width range) key) (any_holds (segments_of width ranges) key) (segments_of-cover ranges key further))
-          (or_cases (holds range key) (any_holds ranges key) held)
+      (λ (here : holds range key ≡ true). or_left (any_holds (segments_in width range) key) (any_holds (segments_of width ranges) key) (segments_in-cover range key here))
+      (λ (further : any_holds ranges key ≡ true). or_right (any_holds (segments_in width range) key) (any_holds (segments_of width ranges) key) (segments_of-cover ranges key further))
+      (or_cases (holds range key) (any_holds ranges key) held)
 
 -- a part of a run is a run
 pub run_parts : (old new : PlanValue) (width : ℕ) (range : Range) → IsRun old new range → OfParts width (IsRun old new) range
 run_parts old new width range run lo hi low some high short = record {
-    some = some;
-    within = omega (arith, run.within);
-    moves = run.moves;
-    owned = λ key from to. run.owned key (omega arith) (omega arith);
-  }
+  some = some;
+  within = omega (arith, run.within);
+  moves = run.moves;
+  owned = λ key from to. run.owned key (omega arith) (omega arith);
+}
 
 -- a segment goes from one partition to another, and isn't longer than its leaves
 pub record IsSegment (width : ℕ) (segment : Range) : Type 0 where
@@ -134,10 +134,10 @@ rising_from_row P moves lo [] row = refl
 rising_from_row P moves lo (range ∷ ranges) row =
     let rest = row_bounds P range.hi root_end ranges row.3 in
     and_from (nat_le lo range.lo) (nat_lt range.lo range.hi && (nat_le range.hi root_end && (not (range.src == range.dst) && are_rising range.hi ranges))) (le-leb lo range.lo row.0)
-        (and_from (nat_lt range.lo range.hi) (nat_le range.hi root_end && (not (range.src == range.dst) && are_rising range.hi ranges)) (lt-ltb range.lo range.hi row.1)
-            (and_from (nat_le range.hi root_end) (not (range.src == range.dst) && are_rising range.hi ranges) (le-leb range.hi root_end rest)
-                (and_from (not (range.src == range.dst)) (are_rising range.hi ranges) (not_from_false (range.src == range.dst) (ne_eqb range.src range.dst (moves range row.2)))
-                    (rising_from_row P moves range.hi ranges row.3))))
+    (and_from (nat_lt range.lo range.hi) (nat_le range.hi root_end && (not (range.src == range.dst) && are_rising range.hi ranges)) (lt-ltb range.lo range.hi row.1)
+    (and_from (nat_le range.hi root_end) (not (range.src == range.dst) && are_rising range.hi ranges) (le-leb range.hi root_end rest)
+    (and_from (not (range.src == range.dst)) (are_rising range.hi ranges) (not_from_false (range.src == range.dst) (ne_eqb range.src range.dst (moves range row.2)))
+    (rising_from_row P moves range.hi ranges row.3))))
 
 -- how many segments there are
 pub length-segments_in : (width : ℕ) (range : Range) → length (segments_in width range) ≡ segment_count width range

@@ -104,8 +104,8 @@ module _ (width : ℕ) (segment : Range) where
     above_from_covers n covers =
         let leaf = leaf_of width segment key in
         and_from (nat_le (first_leaf n) leaf) (nat_lt leaf (first_leaf n + span n))
-            (le-leb (first_leaf n) leaf (⊎_elim (λ (less : leaf < first_leaf n). let behind = begins_behind (first_leaf n) less in absurd (omega (arith, covers.low))) (λ (le : first_leaf n ≤ leaf). le) (cases_lt leaf (first_leaf n))))
-            (lt-ltb leaf (first_leaf n + span n) (⊎_elim (λ (less : leaf < first_leaf n + span n). less) (λ (le : first_leaf n + span n ≤ leaf). let before = begins_before (first_leaf n + span n) le in absurd (omega (arith, covers.high))) (cases_lt leaf (first_leaf n + span n))))
+        (le-leb (first_leaf n) leaf (⊎_elim (λ (less : leaf < first_leaf n). let behind = begins_behind (first_leaf n) less in absurd (omega (arith, covers.low))) (λ (le : first_leaf n ≤ leaf). le) (cases_lt leaf (first_leaf n))))
+        (lt-ltb leaf (first_leaf n + span n) (⊎_elim (λ (less : leaf < first_leaf n + span n). less) (λ (le : first_leaf n + span n ≤ leaf). let before = begins_before (first_leaf n + span n) le in absurd (omega (arith, covers.high))) (cases_lt leaf (first_leaf n + span n))))
 
     -- its leaf is one of 0 to 31
     pub leaf_below : segment.hi ≤ segment.lo + segment_width width → leaf_of width segment key < 32

@@ -44,21 +44,21 @@ one_holder P lo hi ranges i j key one other row at at' held held' =
     let bounds = holds_bounds one key held in
     let bounds' = holds_bounds other key held' in
     ⊎_elim
-        (λ (same : i ≡ j). same)
-        (λ (differ : (i < j) ⊎ (j < i)). ⊎_elim
-            (λ (before : i < j). let apart = row_apart P lo hi ranges i j one other row at at' before in absurd (omega arith))
-            (λ (behind : j < i). let apart = row_apart P lo hi ranges j i other one row at' at behind in absurd (omega arith))
-            differ)
-        (cases_order i j)
+    (λ (same : i ≡ j). same)
+    (λ (differ : (i < j) ⊎ (j < i)). ⊎_elim
+    (λ (before : i < j). let apart = row_apart P lo hi ranges i j one other row at at' before in absurd (omega arith))
+    (λ (behind : j < i). let apart = row_apart P lo hi ranges j i other one row at' at behind in absurd (omega arith))
+    differ)
+    (cases_order i j)
 
 -- the segment that holds a key is the one of its number
 pub segment_of-some : (P : Range → Type 0) (lo hi : ℕ) (segments : List Range) (key i : ℕ) (segment : Range) → Row P lo hi segments → slice_get segments i ≡ Some segment → holds segment key ≡ true → segment_of segments key ≡ Some i
 segment_of-some P lo hi segments key i segment row at held =
     let within = slice_get_within segments i segment at in
     position_at (λ r. holds r key) segments i segment within (ap (λ (r : Range). holds r key) (get_or_from_slice_get segments i segment segment at) ∙ held)
-        (λ k less. false_from_ne_true (holds (get_or segments k segment) key) (λ there.
-          let same = one_holder P lo hi segments k i key (get_or segments k segment) segment row (slice_get-get_or segments k segment (omega arith)) at there held in
-          omega arith))
+    (λ k less. false_from_ne_true (holds (get_or segments k segment) key) (λ there.
+    let same = one_holder P lo hi segments k i key (get_or segments k segment) segment row (slice_get-get_or segments k segment (omega arith)) at there held in
+    omega arith))
 
 -- and the segment of that number holds it
 pub segment_of-holds : (segments : List Range) (key i : ℕ) → segment_of segments key ≡ Some i → (segment : Range) × (slice_get segments i ≡ Some segment) × (holds segment key ≡ true)

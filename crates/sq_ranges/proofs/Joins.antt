@@ -60,40 +60,40 @@ module _ (old new : PlanValue) where
 
   join_first : (lo hi : ℕ) (range : Range) (ranges result : List Range) → lo ≤ range.lo → range.lo < range.hi → IsRun old new range → Joined range.hi hi ranges result → Joined lo hi (range ∷ ranges) (joined_with range result)
   join_first lo hi range ranges [] low some run rest = record {
-      row = (low, some, run, rest.row);
-      maximal = tt;
-      each = λ key held. ⊎_elim
-          (λ (here : holds range key ≡ true). or_left (holds range key) false here)
-          (λ (behind : any_holds ranges key ≡ true). or_right (holds range key) false (rest.each key behind))
-          (or_cases (holds range key) (any_holds ranges key) held);
-    }
+    row = (low, some, run, rest.row);
+    maximal = tt;
+    each = λ key held. ⊎_elim
+        (λ (here : holds range key ≡ true). or_left (holds range key) false here)
+        (λ (behind : any_holds ranges key ≡ true). or_right (holds range key) false (rest.each key behind))
+        (or_cases (holds range key) (any_holds ranges key) held);
+  }
   join_first lo hi range ranges (next ∷ nexts) low some run rest =
       elim (goes_on range next) as (λ b. goes_on range next ≡ b → Joined lo hi (range ∷ ranges) (if b then both range next ∷ nexts else range ∷ next ∷ nexts)) [
-        true ↦ λ on.
-          let parts = goes_on_parts range next on in
-          record {
-            row = (low, omega (arith, rest.row.1), both_run range next on run rest.row.2, rest.row.3);
-            maximal = maximal_both nexts rest.maximal;
-            each = λ key held. ⊎_elim
-                (λ (here : holds range key ≡ true).
+        | true ↦ λ on.
+            let parts = goes_on_parts range next on in
+            record {
+              row = (low, omega (arith, rest.row.1), both_run range next on run rest.row.2, rest.row.3);
+              maximal = maximal_both nexts rest.maximal;
+              each = λ key held. ⊎_elim
+                  (λ (here : holds range key ≡ true).
                   let bounds = holds_bounds range key here in
                   or_left (holds (both range next) key) (any_holds nexts key) (holds_within (both range next) key bounds.0 (omega (arith, rest.row.1))))
-                (λ (behind : any_holds ranges key ≡ true). ⊎_elim
-                    (λ (there : holds next key ≡ true).
-                      let bounds = holds_bounds next key there in
-                      or_left (holds (both range next) key) (any_holds nexts key) (holds_within (both range next) key (omega arith) bounds.1))
-                    (λ (further : any_holds nexts key ≡ true). or_right (holds (both range next) key) (any_holds nexts key) further)
-                    (or_cases (holds next key) (any_holds nexts key) (rest.each key behind)))
-                (or_cases (holds range key) (any_holds ranges key) held);
-          }
-      | false ↦ λ off. record {
-            row = (low, some, run, rest.row);
-            maximal = ((rest.row.0, apart_parts range next off), rest.maximal);
-            each = λ key held. ⊎_elim
-                (λ (here : holds range key ≡ true). or_left (holds range key) (any_holds (next ∷ nexts) key) here)
-                (λ (behind : any_holds ranges key ≡ true). or_right (holds range key) (any_holds (next ∷ nexts) key) (rest.each key behind))
-                (or_cases (holds range key) (any_holds ranges key) held);
-          }
+                  (λ (behind : any_holds ranges key ≡ true). ⊎_elim
+                  (λ (there : holds next key ≡ true).
+                  let bounds = holds_bounds next key there in
+                  or_left (holds (both range next) key) (any_holds nexts key) (holds_within (both range next) key (omega arith) bounds.1))
+                  (λ (further : any_holds nexts key ≡ true). or_right (holds (both range next) key) (any_holds nexts key) further)
+                  (or_cases (holds next key) (any_holds nexts key) (rest.each key behind)))
+                  (or_cases (holds range key) (any_holds ranges key) held);
+            }
+        | false ↦ λ off. record {
+          row = (low, some, run, rest.row);
+          maximal = ((rest.row.0, apart_parts range next off), rest.maximal);
+          each = λ key held. ⊎_elim
+              (λ (here : holds range key ≡ true). or_left (holds range key) (any_holds (next ∷ nexts) key) here)
+              (λ (behind : any_holds ranges key ≡ true). or_right (holds range key) (any_holds (next ∷ nexts) key) (rest.each key behind))
+              (or_cases (holds range key) (any_holds ranges key) held);
+        }
       ] refl
     where
       maximal_both : (others : List Range) → AreMaximal (next ∷ others) → AreMaximal (both range next ∷ others)

@@ -44,9 +44,9 @@ link_of_some ranges link it =
     let within : it.0 < length ranges = subst (λ (n : ℕ). it.0 < n) (length-map ranges link_of) it.1 in
     let is : link_of (get_or ranges it.0 default) ≡ link = sym (get_or-map link_of ranges it.0 default link within) ∙ it.2 in
     list_any_at (λ range. (range.src == link.src) && (range.dst == link.dst)) ranges it.0 default within
-        (and_from ((get_or ranges it.0 default).src == link.src) ((get_or ranges it.0 default).dst == link.dst)
-            (eq-eqb (get_or ranges it.0 default).src link.src (ap (λ (l : Link). l.src) is))
-            (eq-eqb (get_or ranges it.0 default).dst link.dst (ap (λ (l : Link). l.dst) is)))
+    (and_from ((get_or ranges it.0 default).src == link.src) ((get_or ranges it.0 default).dst == link.dst)
+    (eq-eqb (get_or ranges it.0 default).src link.src (ap (λ (l : Link). l.src) is))
+    (eq-eqb (get_or ranges it.0 default).dst link.dst (ap (λ (l : Link). l.dst) is)))
 
 some_of_link : (ranges : List Range) (link : Link) → is_link ranges link.src link.dst ≡ true → Contains (map link_of ranges) link
 some_of_link ranges link is =
@@ -54,15 +54,15 @@ some_of_link ranges link is =
     let within : any.0 < length (map link_of ranges) = subst (λ (n : ℕ). any.0 < n) (sym (length-map ranges link_of)) any.2 in
     let there = Contains-get_or (map link_of ranges) any.0 link within in
     let same : get_or (map link_of ranges) any.0 link ≡ link =
-      get_or-map link_of ranges any.0 any.1 link any.2 ∙ ap link_of any.3 ∙ link_parts (link_of any.1) link any.4 in
+    get_or-map link_of ranges any.0 any.1 link any.2 ∙ ap link_of any.3 ∙ link_parts (link_of any.1) link any.4 in
     subst (Contains (map link_of ranges)) same there
 
 -- sorted and without repeats they are the links of the ranges
 pub are_links : (ranges : List Range) (sorted links : List Link) → IsPermutation (map link_of ranges) sorted → IsSorted link_cmp sorted → links ≡ dedup same_link sorted → AreLinks ranges links
 are_links ranges sorted links moved in_order is = record {
-    rising = subst (IsStrictlySortedBy link_cmp) (sym is) (IsStrictlySortedBy-dedup link_total link_ties sorted in_order);
-    all = λ link. (
-      λ it. link_of_some ranges link (Contains-permutation sorted (map link_of ranges) link (IsPermutation-sym (map link_of ranges) sorted moved) (Contains-from_dedup same_link sorted link (subst (λ (ls : List Link). Contains ls link) is it))),
-      λ some. subst (λ (ls : List Link). Contains ls link) (sym is) (Contains-dedup same_link_equiv link_parts sorted link (Contains-permutation (map link_of ranges) sorted link moved (some_of_link ranges link some))),
-    );
-  }
+  rising = subst (IsStrictlySortedBy link_cmp) (sym is) (IsStrictlySortedBy-dedup link_total link_ties sorted in_order);
+  all = λ link. (
+    λ it. link_of_some ranges link (Contains-permutation sorted (map link_of ranges) link (IsPermutation-sym (map link_of ranges) sorted moved) (Contains-from_dedup same_link sorted link (subst (λ (ls : List Link). Contains ls link) is it))),
+    λ some. subst (λ (ls : List Link). Contains ls link) (sym is) (Contains-dedup same_link_equiv link_parts sorted link (Contains-permutation (map link_of ranges) sorted link moved (some_of_link ranges link some))),
+  );
+}

@@ -15,15 +15,15 @@ moves_of-rising old new is_old is_new = moves-rising old new (moves_of old new) 
 module _ (old new : PlanValue) (is_old : IsPlan old) (is_new : IsPlan new) (width : ℕ) (leaf : is_width width ≡ true) (few : nat_le (length (segments_of width (moves_of old new))) segment_limit ≡ true) where
   is_recon_of : IsReconOf old new width (recon_of old new width)
   is_recon_of = record {
-      moves = moves_of-moves old new is_old is_new;
-      leaf = refl;
-      whole = record {
-        leaf = leaf;
-        rising = moves_of-rising old new is_old is_new;
-        cut = refl;
-        few = leb-true (length (segments_of width (moves_of old new))) segment_limit few;
-      };
-    }
+    moves = moves_of-moves old new is_old is_new;
+    leaf = refl;
+    whole = record {
+      leaf = leaf;
+      rising = moves_of-rising old new is_old is_new;
+      cut = refl;
+      few = leb-true (length (segments_of width (moves_of old new))) segment_limit few;
+    };
+  }
 
   -- so is one of the same ranges and segments
   pub made : (ranges segments : List Range) → ranges ≡ moves_of old new → segments ≡ segments_of width ranges → IsReconOf old new width (record { width = width; ranges = ranges; segments = segments })

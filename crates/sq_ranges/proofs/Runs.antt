@@ -21,9 +21,9 @@ module _ (old new : PlanValue) where
   held_from run (next ∷ runs) key all maximal held = ⊎_elim
       (λ (here : holds run key ≡ true). (holds_bounds run key here).0)
       (λ (behind : any_holds (next ∷ runs) key ≡ true).
-        let low = held_from next runs key (All-tail (IsRun old new) run (next ∷ runs) all) maximal.1 behind in
-        let is = All-head (IsRun old new) run (next ∷ runs) all in
-        omega (arith, is.some, maximal.0.0))
+      let low = held_from next runs key (All-tail (IsRun old new) run (next ∷ runs) all) maximal.1 behind in
+      let is = All-head (IsRun old new) run (next ∷ runs) all in
+      omega (arith, is.some, maximal.0.0))
       (or_cases (holds run key) (any_holds (next ∷ runs) key) held)
 
   -- they begin from this key on
@@ -59,8 +59,8 @@ module _ (old new : PlanValue) where
           before = λ key low high. ⊎_elim
               (λ (same : owner old key ≡ owner new key). same)
               (λ (differ : owner old key ≢ owner new key).
-                let later = held_from run runs key all maximal (each key low (omega (arith, is.some, is.within)) differ) in
-                absurd (omega arith))
+              let later = held_from run runs key all maximal (each key low (omega (arith, is.some, is.within)) differ) in
+              absurd (omega arith))
               (cases_eq (owner old key) (owner new key));
           after = λ within src dst. ⊎_elim
               (λ (here : holds run run.hi ≡ true). let bounds = holds_bounds run run.hi here in absurd (omega arith))

@@ -40,13 +40,13 @@ module _ (P : Range → Type 0) (ranges : List Range) (row : Row P 0 root_end ra
   pub ends_first : (key : ℕ) → IsPartitionedBy (ends_by key) ranges
   ends_first key i j d le within ends =
       ⊎_elim
-          (λ (less : i < j).
-            let apart = at_apart i j d less within in
-            let stands = at_stands j d within in
-            let bound = leb-true (get_or ranges j d).hi key ends in
-            le-leb (get_or ranges i d).hi key (omega (arith, stands.some)))
-          (λ (ge : j ≤ i). let same : i ≡ j = omega arith in subst (λ (k : ℕ). ends_by key (get_or ranges k d) ≡ true) (sym same) ends)
-          (cases_lt i j)
+      (λ (less : i < j).
+      let apart = at_apart i j d less within in
+      let stands = at_stands j d within in
+      let bound = leb-true (get_or ranges j d).hi key ends in
+      le-leb (get_or ranges i d).hi key (omega (arith, stands.some)))
+      (λ (ge : j ≤ i). let same : i ≡ j = omega arith in subst (λ (k : ℕ). ends_by key (get_or ranges k d) ≡ true) (sym same) ends)
+      (cases_lt i j)
 
 module _ (recon : ReconValue) (is : IsRecon recon) (key : ℕ) where
   abbrev P : Range → Type 0
@@ -75,13 +75,13 @@ module _ (recon : ReconValue) (is : IsRecon recon) (key : ℕ) where
           each k inside = ⊎_elim
               (λ (same : k ≡ i). held_not_before (get_or recon.segments k segment) key (subst (λ (r : Range). key < r.lo) (at ∙ ap (λ (j : ℕ). get_or recon.segments j segment) (sym same)) less))
               (λ (other : (k < i) ⊎ (i < k)). ⊎_elim
-                  (λ (before : k < i). none_before k segment before)
-                  (λ (behind : i < k).
-                    let apart = at_apart P recon.segments (segments_row recon is) i k segment behind inside in
-                    let stands = at_stands P recon.segments (segments_row recon is) i segment within in
-                    let low = ap (λ (r : Range). r.lo) at in
-                    held_not_before (get_or recon.segments k segment) key (omega (arith, stands.some)))
-                  other)
+              (λ (before : k < i). none_before k segment before)
+              (λ (behind : i < k).
+              let apart = at_apart P recon.segments (segments_row recon is) i k segment behind inside in
+              let stands = at_stands P recon.segments (segments_row recon is) i segment within in
+              let low = ap (λ (r : Range). r.lo) at in
+              held_not_before (get_or recon.segments k segment) key (omega (arith, stands.some)))
+              other)
               (cases_order k i)
 
       -- or it holds the key

@@ -43,7 +43,7 @@ module _ (recon : ReconValue) (is : IsRecon recon) where
   pub segments_row : Row (IsSegment recon.width) 0 root_end recon.segments
   segments_row =
       subst (Row (IsSegment recon.width) 0 root_end) (sym is.cut)
-          (segments_of-row recon.width some_width Moves (IsSegment recon.width) 0 root_end recon.ranges (λ range moves. segment_parts recon.width range moves) ranges_row)
+      (segments_of-row recon.width some_width Moves (IsSegment recon.width) 0 root_end recon.ranges (λ range moves. segment_parts recon.width range moves) ranges_row)
 
   pub segments_rising : are_rising 0 recon.segments ≡ true
   segments_rising = rising_from_row (IsSegment recon.width) (λ segment it. it.moves) 0 recon.segments segments_row
@@ -68,7 +68,7 @@ module _ (recon : ReconValue) (is : IsRecon recon) where
     pub segments_are_runs : Row (IsRun old new) 0 root_end recon.segments
     segments_are_runs =
         subst (Row (IsRun old new) 0 root_end) (sym is.cut)
-            (segments_of-row recon.width some_width (IsRun old new) (IsRun old new) 0 root_end recon.ranges (λ range run. run_parts old new recon.width range run) (moves-row old new recon.ranges moves))
+        (segments_of-row recon.width some_width (IsRun old new) (IsRun old new) 0 root_end recon.ranges (λ range run. run_parts old new recon.width range run) (moves-row old new recon.ranges moves))
 
     pub segment_run : (i : ℕ) (segment : Range) → slice_get recon.segments i ≡ Some segment → IsRun old new segment
     segment_run i segment at = (row_at (IsRun old new) 0 root_end recon.segments i segment segments_are_runs at).is

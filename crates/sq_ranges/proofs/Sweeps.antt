@@ -20,12 +20,12 @@ ends_behind lo at (range ∷ ranges) tiling le = let parts = tiling_parts lo ran
 -- the whole of a plan lies ahead of its first key
 ahead_whole : (plan : PlanValue) (ranges : List PlanRange) → IsPlan plan → ranges ≡ plan.ranges → AreAhead plan 0 ranges
 ahead_whole plan ranges is same = record {
-    start = 0;
-    begun = omega arith;
-    tiling = ap (is_tiling 0) same ∙ is.tiling;
-    behind = ends_behind 0 0 ranges (ap (is_tiling 0) same ∙ is.tiling) (omega arith);
-    owners = λ key low. ap (λ rs. owner_among rs key) same;
-  }
+  start = 0;
+  begun = omega arith;
+  tiling = ap (is_tiling 0) same ∙ is.tiling;
+  behind = ends_behind 0 0 ranges (ap (is_tiling 0) same ∙ is.tiling) (omega arith);
+  owners = λ key low. ap (λ rs. owner_among rs key) same;
+}
 
 -- a range ahead is the plan's up to where it ends
 pub record IsFirst (plan : PlanValue) (at : ℕ) (range : PlanRange) : Type 0 where
@@ -50,24 +50,24 @@ ahead_past : (plan : PlanValue) (at to : ℕ) (range : PlanRange) (ranges : List
 ahead_past plan at to range ranges ahead le ge =
     let parts = tiling_parts ahead.start range ranges ahead.tiling in
     elim (range.hi == to) as (λ b. (range.hi == to) ≡ b → AreAhead plan to (cond b ranges (range ∷ ranges))) [
-      true ↦ λ ends.
-        let is = eqb-true range.hi to ends in
-        record {
-          start = range.hi;
-          begun = omega arith;
-          tiling = parts.2;
-          behind = ends_behind range.hi to ranges parts.2 (omega arith);
-          owners = λ key low. sym (owner_among-rest range ranges key (omega arith)) ∙ ahead.owners key (omega arith);
-        }
-    | false ↦ λ on.
-        let isn't = eqb-false range.hi to on in
-        record {
-          start = ahead.start;
-          begun = omega (arith, ahead.begun);
-          tiling = ahead.tiling;
-          behind = omega arith;
-          owners = λ key low. ahead.owners key (omega arith);
-        }
+      | true ↦ λ ends.
+          let is = eqb-true range.hi to ends in
+          record {
+            start = range.hi;
+            begun = omega arith;
+            tiling = parts.2;
+            behind = ends_behind range.hi to ranges parts.2 (omega arith);
+            owners = λ key low. sym (owner_among-rest range ranges key (omega arith)) ∙ ahead.owners key (omega arith);
+          }
+      | false ↦ λ on.
+          let isn't = eqb-false range.hi to on in
+          record {
+            start = ahead.start;
+            begun = omega (arith, ahead.begun);
+            tiling = ahead.tiling;
+            behind = omega arith;
+            owners = λ key low. ahead.owners key (omega arith);
+          }
     ] refl
 
 -- the keys from here on with one owner by each plan, and what lies ahead of the key behind them
@@ -125,9 +125,9 @@ piece_fewer at (one ∷ olds) [] piece e = absurd (none-some piece e)
 piece_fewer at (one ∷ olds) (other ∷ news) piece e =
     let hi : min one.hi other.hi ≡ piece.hi = ap (λ (p : Range). p.hi) (same_Some (record { lo = at; hi = min one.hi other.hi; src = one.owner; dst = other.owner }) piece e) in
     fewer_by (length (past (one ∷ olds) piece.hi)) (length (past (other ∷ news) piece.hi)) (length (one ∷ olds)) (length (other ∷ news)) (⊎_elim
-        (λ (less : one.hi < other.hi). inl (past_one piece.hi one olds (omega arith), past_fewer piece.hi other news))
-        (λ (le : other.hi ≤ one.hi). inr (past_fewer piece.hi one olds, past_one piece.hi other news (omega arith)))
-        (cases_lt one.hi other.hi))
+    (λ (less : one.hi < other.hi). inl (past_one piece.hi one olds (omega arith), past_fewer piece.hi other news))
+    (λ (le : other.hi ≤ one.hi). inr (past_fewer piece.hi one olds, past_one piece.hi other news (omega arith)))
+    (cases_lt one.hi other.hi))
 
 -- a sweep that went past a piece
 pub record Went (before after : Sweep) (piece : Range) : Type 0 where
@@ -163,8 +163,8 @@ module _ (old new : PlanValue) where
           moves = is.moves;
           from = ⊎_elim
               (λ (early : run.lo < to).
-                let owners = is.moves.owned run.lo (omega arith) is.moves.some in
-                absurd (is.moves.moves (sym owners.0 ∙ same run.lo is.from early ∙ owners.1)))
+              let owners = is.moves.owned run.lo (omega arith) is.moves.some in
+              absurd (is.moves.moves (sym owners.0 ∙ same run.lo is.from early ∙ owners.1)))
               (λ (late : to ≤ run.lo). late)
               (cases_lt run.lo to);
           before = λ key low high. is.before key (omega arith) high;
@@ -213,8 +213,8 @@ module _ (old new : PlanValue) where
       record {
         reaches = reaches;
         after = λ within src dst.
-          let owners = is.owned run.hi (omega (arith, reaches.end)) (omega (arith, reaches.end, is.some)) in
-          differ (sym owners.0 ∙ src) (sym owners.1 ∙ dst);
+            let owners = is.owned run.hi (omega (arith, reaches.end)) (omega (arith, reaches.end, is.some)) in
+            differ (sym owners.0 ∙ src) (sym owners.1 ∙ dst);
       }
 
   -- so do the ends of the plans
@@ -262,15 +262,15 @@ comes_none sweep runs comes none =
 -- the whole of two plans comes to their moves
 pub comes_whole : (old new : PlanValue) (sweep : Sweep) → IsPlan old → IsPlan new → sweep.at ≡ 0 → sweep.olds.now ≡ old.ranges → sweep.news.now ≡ new.ranges → ComesTo sweep (moves_of old new)
 comes_whole old new sweep is_old is_new at olds news = record {
-    old = old;
-    new = new;
-    sweeps = record {
-      within = omega arith;
-      olds = subst (λ (at : ℕ). AreAhead old at sweep.olds.now) (sym at) (ahead_whole old sweep.olds.now is_old olds);
-      news = subst (λ (at : ℕ). AreAhead new at sweep.news.now) (sym at) (ahead_whole new sweep.news.now is_new news);
-    };
-    moves = subst (λ (at : ℕ). AreMovesFrom old new at (moves_of old new)) (sym at) (moves_of-from old new is_old is_new);
-  }
+  old = old;
+  new = new;
+  sweeps = record {
+    within = omega arith;
+    olds = subst (λ (at : ℕ). AreAhead old at sweep.olds.now) (sym at) (ahead_whole old sweep.olds.now is_old olds);
+    news = subst (λ (at : ℕ). AreAhead new at sweep.news.now) (sym at) (ahead_whole new sweep.news.now is_new news);
+  };
+  moves = subst (λ (at : ℕ). AreMovesFrom old new at (moves_of old new)) (sym at) (moves_of-from old new is_old is_new);
+}
 
 -- the next of the runs has keys
 pub comes_within : (sweep : Sweep) (run : Range) (runs rest : List Range) → ComesTo sweep runs → runs ≡ run ∷ rest → (run.lo < run.hi) × (run.hi ≤ root_end)

@@ -44,7 +44,11 @@ pub(crate) fn moves(alloc: Global, old: &Plan, new: &Plan) -> Result<Vec<Range>,
 }
 
 /// The segments of ranges, in key order.
-pub(crate) fn segments(alloc: Global, ranges: &[Range], width: u64) -> Result<Vec<Range>, AllocError>
+pub(crate) fn segments(
+    alloc: Global,
+    ranges: &[Range],
+    width: u64,
+) -> Result<Vec<Range>, AllocError>
     requires width { is_width width ≡ true }
     requires rising { are_rising 0 ranges.now ≡ true }
     ensures { IfOk result (λ segments. segments.items ≡ segments_of width ranges.now) }

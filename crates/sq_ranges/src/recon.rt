@@ -81,12 +81,7 @@ impl Recon {
     /// this order: plans of different numbers of partitions, a width that isn't from 1 to 65,536, and moves that
     /// come to more than 256 segments. Memory is taken, and may be wanted, only for what isn't refused.
     #[tactic(auto, using(crate::proofs::Runs::the_moves))]
-    pub fn between(
-        alloc: Global,
-        old: &Plan,
-        new: &Plan,
-        width: u64,
-    ) -> Result<Recon, ReconFault>
+    pub fn between(alloc: Global, old: &Plan, new: &Plan, width: u64) -> Result<Recon, ReconFault>
         ensures answer { MatchResult result
             (λ recon. (recon_fault old.now new.now width ≡ None) × (recon ≡ recon_of old.now new.now width))
             (λ fault. fault ≡ unwrap_or (recon_fault old.now new.now width) ReconFault.Memory) }

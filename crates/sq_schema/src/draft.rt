@@ -207,12 +207,7 @@ impl<'a> Draft<'a> {
 }
 
 /// Runs operations on the rows of a family of this size, up to the first that aborts. The rows stay as they are.
-pub(crate) fn run(
-    alloc: Global,
-    rows: &Rows,
-    size: u64,
-    ops: &[Op],
-) -> Result<Outcome, AllocError>
+pub(crate) fn run(alloc: Global, rows: &Rows, size: u64, ops: &[Op]) -> Result<Outcome, AllocError>
     requires size { size ≡ rows_size rows.now }
     requires ops { ops_fault 8 ops.now ≡ None }
     ensures { IfOk result (EndsBy rows.now ops.now) }

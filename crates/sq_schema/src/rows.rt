@@ -102,10 +102,7 @@ impl Rows {
     }
 
     // Makes these writes in their order, or none where there is no memory.
-    pub(crate) fn write_all(
-        &mut self,
-        writes: Vec<(RowKey, Option<Row>)>,
-    ) -> Result<(), AllocError>
+    pub(crate) fn write_all(&mut self, writes: Vec<(RowKey, Option<Row>)>) -> Result<(), AllocError>
         requires { AllPass is_write writes.items }
         ensures ok { OnOk result (self.new ≡ with_writes self.old writes.items) }
         ensures err { OnErr result (self.new ≡ self.old) }

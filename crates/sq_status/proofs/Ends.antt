@@ -76,9 +76,9 @@ alone statuses views tree id v at first live all =
     let count = tree.seats id v at first in
     let mine : alive v ≡ 1 = ap (λ (b : Bool). one_if (not b)) live in
     let others : (seat : ℕ) (u : View) → seat ≢ id → get_elem? views seat ≡ some u → HasNoLists u =
-        λ seat u apart at'.
-            let two = two_le_total alive views id seat v u at at' apart in
-            tree.joined seat u at' (is_spent u.spent (omega (arith, two, count.1, mine)))
+    λ seat u apart at'.
+    let two = two_le_total alive views id seat v u at at' apart in
+    tree.joined seat u at' (is_spent u.spent (omega (arith, two, count.1, mine)))
     in
     record {
       count = tree.count;

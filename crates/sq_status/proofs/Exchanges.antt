@@ -91,36 +91,36 @@ advances slots id me i n new next within live may s kept len at small =
     let may' : MayBring me.0 (i + 1) new = subst (λ (k : ℕ). MayBring me.0 k new) next may in
     let then : ℕ → Seat → Type 0 = Advanced (step slots i (word_of (before new)) (word_of new) none) me in
     exchanged (slice_index s.words i) (word_of (before new)) (word_of new)
-        (λ (word : ℕ). (w : View) × (a : Act (Unit {0})) × Valid s.homes me.1 a × Table (stepped s i word id me.1 w a) × then (slice_index s.words i) (w, carried_after me.1 a))
-        (λ hit.
-            let was : found ≡ before new = same_status found (before new) (sym is ∙ hit) in (
-              won me.0 (i + 1) new,
-              keeps,
-              tt,
-              won_after s kept.0 kept.1 kept.2 id i me.0 within live at new may' was,
-              λ m st here first second. (
-                found,
-                is,
-                refl,
-                inl (was ∙ ap before (same_status new st second), won_there s kept.0 kept.1 kept.2 id i me.0 within live at new may' was m st here second),
-              ),
-            ))
-        (λ miss. (
-          saw me.0 (i + 1) found,
-          keeps,
-          tt,
-          seen_after s kept.0 kept.1 kept.2 id i me.0 within live at,
-          λ m st here first second. (
-            found,
-            is,
-            refl,
-            inr ((λ e. miss (is ∙ ap word_of e ∙ sym first)), found_there s kept.0 kept.1 kept.2 id i me.0 within live at m here),
-          ),
-        ))
+    (λ (word : ℕ). (w : View) × (a : Act (Unit {0})) × Valid s.homes me.1 a × Table (stepped s i word id me.1 w a) × then (slice_index s.words i) (w, carried_after me.1 a))
+    (λ hit.
+    let was : found ≡ before new = same_status found (before new) (sym is ∙ hit) in (
+      won me.0 (i + 1) new,
+      keeps,
+      tt,
+      won_after s kept.0 kept.1 kept.2 id i me.0 within live at new may' was,
+      λ m st here first second. (
+        found,
+        is,
+        refl,
+        inl (was ∙ ap before (same_status new st second), won_there s kept.0 kept.1 kept.2 id i me.0 within live at new may' was m st here second),
+      ),
+    ))
+    (λ miss. (
+      saw me.0 (i + 1) found,
+      keeps,
+      tt,
+      seen_after s kept.0 kept.1 kept.2 id i me.0 within live at,
+      λ m st here first second. (
+        found,
+        is,
+        refl,
+        inr ((λ e. miss (is ∙ ap word_of e ∙ sym first)), found_there s kept.0 kept.1 kept.2 id i me.0 within live at m here),
+      ),
+    ))
 
 -- the same of words that are computed before
 pub advances_by : (slots id : ℕ) (me : Seat) (i n : ℕ) (old new : Status) (expected written : ℕ) → n ≡ i + 1 → i < 63 → me.0.spent ≡ false → old ≡ before new → expected ≡ word_of old → written ≡ word_of new → MayBring me.0 n new
     → Allows Table slots id me i (λ word. either (eqb word expected) written word) (Advanced (step slots i expected written none) me)
 advances_by slots id me i n old new expected written next within live step_from first second may =
     subst (λ (x : ℕ × ℕ). Allows Table slots id me i (λ word. either (eqb word x.0) x.1 word) (Advanced (step slots i x.0 x.1 none) me))
-        (λ k. (sym (first ∙ ap word_of step_from) k, sym second k)) (advances slots id me i n new next within live may)
+    (λ k. (sym (first ∙ ap word_of step_from) k, sym second k)) (advances slots id me i n new next within live may)

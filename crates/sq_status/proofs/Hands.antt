@@ -76,47 +76,47 @@ module _ (statuses : List Status) (views : List View) (tree : IsTreeOf statuses 
             omega (arith, changed, longer, old, same, none);
         looks = λ seat u at' n st seen.
             ⊎_elim
-                (λ (old : get_elem? views' seat ≡ some u).
-                    ⊎_elim
-                        (λ (here : (seat ≡ id) × (gave v ≡ u)). tree.looks id v at n st (subst (λ (x : View). HasSeen x n st) (sym here.1) seen))
-                        (λ (there : (seat ≢ id) × (get_elem? views seat ≡ some u)). tree.looks seat u there.1 n st seen)
-                        (at_set views id seat (gave v) u old))
-                (λ (is : new ≡ u). absurd (none_seen u n st (ap (λ (x : View). x.looked) (sym is)) seen))
-                (at_snoc views' new u seat at');
+            (λ (old : get_elem? views' seat ≡ some u).
+            ⊎_elim
+            (λ (here : (seat ≡ id) × (gave v ≡ u)). tree.looks id v at n st (subst (λ (x : View). HasSeen x n st) (sym here.1) seen))
+            (λ (there : (seat ≢ id) × (get_elem? views seat ≡ some u)). tree.looks seat u there.1 n st seen)
+            (at_set views id seat (gave v) u old))
+            (λ (is : new ≡ u). absurd (none_seen u n st (ap (λ (x : View). x.looked) (sym is)) seen))
+            (at_snoc views' new u seat at');
         joined = λ seat u at' spent.
             ⊎_elim
-                (λ (old : get_elem? views' seat ≡ some u).
-                    ⊎_elim
-                        (λ (here : (seat ≡ id) × (gave v ≡ u)). absurd (true≢false (sym spent ∙ ap (λ (x : View). x.spent) (sym here.1) ∙ live)))
-                        (λ (there : (seat ≢ id) × (get_elem? views seat ≡ some u)). tree.joined seat u there.1 spent)
-                        (at_set views id seat (gave v) u old))
-                (λ (is : new ≡ u). absurd (true≢false (sym spent ∙ ap (λ (x : View). x.spent) (sym is))))
-                (at_snoc views' new u seat at');
+            (λ (old : get_elem? views' seat ≡ some u).
+            ⊎_elim
+            (λ (here : (seat ≡ id) × (gave v ≡ u)). absurd (true≢false (sym spent ∙ ap (λ (x : View). x.spent) (sym here.1) ∙ live)))
+            (λ (there : (seat ≢ id) × (get_elem? views seat ≡ some u)). tree.joined seat u there.1 spent)
+            (at_set views id seat (gave v) u old))
+            (λ (is : new ≡ u). absurd (true≢false (sym spent ∙ ap (λ (x : View). x.spent) (sym is))))
+            (at_snoc views' new u seat at');
         seats = λ seat u at' first'.
             ⊎_elim
-                (λ (old : get_elem? views' seat ≡ some u).
-                    ⊎_elim
-                        (λ (here : (seat ≡ id) × (gave v ≡ u)).
-                            let was = tree.seats id v at first in
-                            let changed = total_set alive views id v (gave v) at in
-                            let same = alive_gave in
-                            let longer = total_snoc alive views' new in
-                            let given : u.given ≡ v.given + 1 = ap (λ (x : View). x.given) (sym here.1) in
-                            let taken : u.taken ≡ v.taken = ap (λ (x : View). x.taken) (sym here.1) in
-                            (here.0 ∙ was.0, omega (arith, was.1, changed, same, longer)))
-                        (λ (there : (seat ≢ id) × (get_elem? views seat ≡ some u)). only_first _ seat u there.0 there.1 first')
-                        (at_set views id seat (gave v) u old))
-                (λ (is : new ≡ u). absurd (true≢false (sym first' ∙ ap (λ (x : View). x.first) (sym is))))
-                (at_snoc views' new u seat at');
+            (λ (old : get_elem? views' seat ≡ some u).
+            ⊎_elim
+            (λ (here : (seat ≡ id) × (gave v ≡ u)).
+            let was = tree.seats id v at first in
+            let changed = total_set alive views id v (gave v) at in
+            let same = alive_gave in
+            let longer = total_snoc alive views' new in
+            let given : u.given ≡ v.given + 1 = ap (λ (x : View). x.given) (sym here.1) in
+            let taken : u.taken ≡ v.taken = ap (λ (x : View). x.taken) (sym here.1) in
+            (here.0 ∙ was.0, omega (arith, was.1, changed, same, longer)))
+            (λ (there : (seat ≢ id) × (get_elem? views seat ≡ some u)). only_first _ seat u there.0 there.1 first')
+            (at_set views id seat (gave v) u old))
+            (λ (is : new ≡ u). absurd (true≢false (sym first' ∙ ap (λ (x : View). x.first) (sym is))))
+            (at_snoc views' new u seat at');
       }
 
   module _ (other : ℕ) (w : View) (apart : other ≢ id) (at_other : get_elem? (set views id (took v w)) other ≡ some w) (live_other : w.spent ≡ false) where
     at_other_old : get_elem? views other ≡ some w
     at_other_old =
         ⊎_elim
-            (λ (here : (other ≡ id) × (took v w ≡ w)). absurd (apart here.0))
-            (λ (there : (other ≢ id) × (get_elem? views other ≡ some w)). there.1)
-            (at_set views id other (took v w) w at_other)
+        (λ (here : (other ≡ id) × (took v w ≡ w)). absurd (apart here.0))
+        (λ (there : (other ≢ id) × (get_elem? views other ≡ some w)). there.1)
+        (at_set views id other (took v w) w at_other)
 
     join_kept : IsTreeOf statuses (set (set views id (took v w)) other (fresh false true))
     join_kept =
@@ -136,41 +136,41 @@ module _ (statuses : List Status) (views : List View) (tree : IsTreeOf statuses 
               omega (arith, changed, then, old, both, none);
           looks = λ seat u at' n st seen.
               ⊎_elim
-                  (λ (is : (seat ≡ other) × (gone ≡ u)). absurd (none_seen u n st (ap (λ (x : View). x.looked) (sym is.1)) seen))
-                  (λ (old : (seat ≢ other) × (get_elem? views' seat ≡ some u)).
-                      ⊎_elim
-                          (λ (here : (seat ≡ id) × (took v w ≡ u)).
-                              ⊎_elim (λ (mine : HasSeen v n st). tree.looks id v at n st mine) (λ (its : HasSeen w n st). tree.looks other w at_other_old n st its)
-                                  (Contains-append_cases v.looked w.looked (n, st) (subst (λ (x : View). HasSeen x n st) (sym here.1) seen)))
-                          (λ (there : (seat ≢ id) × (get_elem? views seat ≡ some u)). tree.looks seat u there.1 n st seen)
-                          (at_set views id seat (took v w) u old.1))
-                  (at_set views' other seat gone u at');
+              (λ (is : (seat ≡ other) × (gone ≡ u)). absurd (none_seen u n st (ap (λ (x : View). x.looked) (sym is.1)) seen))
+              (λ (old : (seat ≢ other) × (get_elem? views' seat ≡ some u)).
+              ⊎_elim
+              (λ (here : (seat ≡ id) × (took v w ≡ u)).
+              ⊎_elim (λ (mine : HasSeen v n st). tree.looks id v at n st mine) (λ (its : HasSeen w n st). tree.looks other w at_other_old n st its)
+              (Contains-append_cases v.looked w.looked (n, st) (subst (λ (x : View). HasSeen x n st) (sym here.1) seen)))
+              (λ (there : (seat ≢ id) × (get_elem? views seat ≡ some u)). tree.looks seat u there.1 n st seen)
+              (at_set views id seat (took v w) u old.1))
+              (at_set views' other seat gone u at');
           joined = λ seat u at' spent.
               ⊎_elim
-                  (λ (is : (seat ≡ other) × (gone ≡ u)). subst (λ (x : View). HasNoLists x) is.1 (refl, refl, refl, refl, refl))
-                  (λ (old : (seat ≢ other) × (get_elem? views' seat ≡ some u)).
-                      ⊎_elim
-                          (λ (here : (seat ≡ id) × (took v w ≡ u)). absurd (true≢false (sym spent ∙ ap (λ (x : View). x.spent) (sym here.1) ∙ live)))
-                          (λ (there : (seat ≢ id) × (get_elem? views seat ≡ some u)). tree.joined seat u there.1 spent)
-                          (at_set views id seat (took v w) u old.1))
-                  (at_set views' other seat gone u at');
+              (λ (is : (seat ≡ other) × (gone ≡ u)). subst (λ (x : View). HasNoLists x) is.1 (refl, refl, refl, refl, refl))
+              (λ (old : (seat ≢ other) × (get_elem? views' seat ≡ some u)).
+              ⊎_elim
+              (λ (here : (seat ≡ id) × (took v w ≡ u)). absurd (true≢false (sym spent ∙ ap (λ (x : View). x.spent) (sym here.1) ∙ live)))
+              (λ (there : (seat ≢ id) × (get_elem? views seat ≡ some u)). tree.joined seat u there.1 spent)
+              (at_set views id seat (took v w) u old.1))
+              (at_set views' other seat gone u at');
           seats = λ seat u at' first'.
               ⊎_elim
-                  (λ (is : (seat ≡ other) × (gone ≡ u)). absurd (true≢false (sym first' ∙ ap (λ (x : View). x.first) (sym is.1))))
-                  (λ (old : (seat ≢ other) × (get_elem? views' seat ≡ some u)).
-                      ⊎_elim
-                          (λ (here : (seat ≡ id) × (took v w ≡ u)).
-                              let was = tree.seats id v at first in
-                              let changed = total_set alive views id v (took v w) at in
-                              let then = total_set alive views' other w gone at_other in
-                              let same : alive (took v w) ≡ alive v = refl in
-                              let one : alive w ≡ 1 = ap (λ (b : Bool). one_if (not b)) live_other in
-                              let given : u.given ≡ v.given = ap (λ (x : View). x.given) (sym here.1) in
-                              let taken : u.taken ≡ v.taken + 1 = ap (λ (x : View). x.taken) (sym here.1) in
-                              (here.0 ∙ was.0, omega (arith, was.1, changed, then, same, one)))
-                          (λ (there : (seat ≢ id) × (get_elem? views seat ≡ some u)). only_first _ seat u there.0 there.1 first')
-                          (at_set views id seat (took v w) u old.1))
-                  (at_set views' other seat gone u at');
+              (λ (is : (seat ≡ other) × (gone ≡ u)). absurd (true≢false (sym first' ∙ ap (λ (x : View). x.first) (sym is.1))))
+              (λ (old : (seat ≢ other) × (get_elem? views' seat ≡ some u)).
+              ⊎_elim
+              (λ (here : (seat ≡ id) × (took v w ≡ u)).
+              let was = tree.seats id v at first in
+              let changed = total_set alive views id v (took v w) at in
+              let then = total_set alive views' other w gone at_other in
+              let same : alive (took v w) ≡ alive v = refl in
+              let one : alive w ≡ 1 = ap (λ (b : Bool). one_if (not b)) live_other in
+              let given : u.given ≡ v.given = ap (λ (x : View). x.given) (sym here.1) in
+              let taken : u.taken ≡ v.taken + 1 = ap (λ (x : View). x.taken) (sym here.1) in
+              (here.0 ∙ was.0, omega (arith, was.1, changed, then, same, one)))
+              (λ (there : (seat ≢ id) × (get_elem? views seat ≡ some u)). only_first _ seat u there.0 there.1 first')
+              (at_set views id seat (took v w) u old.1))
+              (at_set views' other seat gone u at');
         }
 
 pub shares : (id : ℕ) (v : View) → v.first ≡ true → v.spent ≡ false → Splits Table id v (gave v) (fresh false false)

@@ -50,17 +50,17 @@ halves_by n size some least whole left right =
 pub halves : (n : ℕ) → 0 < n → n < 32 → Halves n
 halves n some_node inner =
     dite (dec_le 2 n)
-        (λ from_2.
-            dite (dec_le 4 n)
-                (λ from_4.
-                    dite (dec_le 8 n)
-                        (λ from_8.
-                            dite (dec_le 16 n)
-                                (λ from_16. halves_by n 1 (omega arith) (omega arith) (span_2 n from_16 inner) (span_of_leaf (2 * n) (omega arith)) (span_of_leaf (2 * n + 1) (omega arith)))
-                                (λ below. halves_by n 2 (omega arith) (omega arith) (span_4 n from_8 (omega arith)) (span_2 (2 * n) (omega arith) (omega arith)) (span_2 (2 * n + 1) (omega arith) (omega arith))))
-                        (λ below. halves_by n 4 (omega arith) (omega arith) (span_8 n from_4 (omega arith)) (span_4 (2 * n) (omega arith) (omega arith)) (span_4 (2 * n + 1) (omega arith) (omega arith))))
-                (λ below. halves_by n 8 (omega arith) (omega arith) (span_16 n from_2 (omega arith)) (span_8 (2 * n) (omega arith) (omega arith)) (span_8 (2 * n + 1) (omega arith) (omega arith))))
-        (λ below. halves_by n 16 (omega arith) (omega arith) (span_32 n (omega arith)) (span_16 (2 * n) (omega arith) (omega arith)) (span_16 (2 * n + 1) (omega arith) (omega arith)))
+    (λ from_2.
+    dite (dec_le 4 n)
+    (λ from_4.
+    dite (dec_le 8 n)
+    (λ from_8.
+    dite (dec_le 16 n)
+    (λ from_16. halves_by n 1 (omega arith) (omega arith) (span_2 n from_16 inner) (span_of_leaf (2 * n) (omega arith)) (span_of_leaf (2 * n + 1) (omega arith)))
+    (λ below. halves_by n 2 (omega arith) (omega arith) (span_4 n from_8 (omega arith)) (span_2 (2 * n) (omega arith) (omega arith)) (span_2 (2 * n + 1) (omega arith) (omega arith))))
+    (λ below. halves_by n 4 (omega arith) (omega arith) (span_8 n from_4 (omega arith)) (span_4 (2 * n) (omega arith) (omega arith)) (span_4 (2 * n + 1) (omega arith) (omega arith))))
+    (λ below. halves_by n 8 (omega arith) (omega arith) (span_16 n from_2 (omega arith)) (span_8 (2 * n) (omega arith) (omega arith)) (span_8 (2 * n + 1) (omega arith) (omega arith))))
+    (λ below. halves_by n 16 (omega arith) (omega arith) (span_32 n (omega arith)) (span_16 (2 * n) (omega arith) (omega arith)) (span_16 (2 * n + 1) (omega arith) (omega arith)))
 
 -- what the tests on leaves say
 both_le : (a b c d : ℕ) → a ≤ b → c ≤ d → (nat_le a b && nat_le c d) ≡ true
@@ -142,8 +142,7 @@ pub search_left : (n pull m : ℕ) (v u w : View) → Halves n → Found v n Spl
 search_left n pull m v u w half found left =
     let looks = left.2.0 in
     let two = length-append looks ((n, Split) ∷ []) in
-    let count = fewer_left n (length looks + 1) half left.2.4 in
-    (
+    let count = fewer_left n (length looks + 1) half left.2.4 in (
       left.0,
       in_left n m half left.1,
       (
@@ -175,15 +174,14 @@ module _ (n pull : ℕ) (v u x w : View) (half : Halves n) (found : Found v n Sp
   search_neither right =
       let two = length-append left.0 ((n, Split) ∷ []) in
       let all = length-append right.0 before in
-      let count = fewer n (length left.0) (length right.0) half left.2 right.2 in
-      (
+      let count = fewer n (length left.0) (length right.0) half left.2 right.2 in (
         right.0 ++ before,
         Added-then v x w [] [] before right.0 added_before right.1,
         omega (arith, two, all, count),
         λ leaf above.
             let b = above_bounds n leaf above in
             by_half leaf (HeldAbove (right.0 ++ before) leaf) (λ first. held_more right.0 before leaf (held_left leaf (leaf_in_left n leaf half b.0 first)))
-                (λ second. held_before right.0 before leaf (right.3 leaf (leaf_in_right n leaf half second b.1))),
+            (λ second. held_before right.0 before leaf (right.3 leaf (leaf_in_right n leaf half second b.1))),
       )
 
   pub search_right : (m : ℕ) → Searched (2 * n + 1) pull x w (Some m) → Searched n pull v w (Some m)
@@ -191,8 +189,7 @@ module _ (n pull : ℕ) (v u x w : View) (half : Halves n) (found : Found v n Sp
       let looks = right.2.0 in
       let two = length-append left.0 ((n, Split) ∷ []) in
       let all = length-append looks before in
-      let count = fewer n (length left.0) (length looks + 1) half left.2 right.2.4 in
-      (
+      let count = fewer n (length left.0) (length looks + 1) half left.2 right.2.4 in (
         right.0,
         in_right n m half right.1,
         (
@@ -203,7 +200,7 @@ module _ (n pull : ℕ) (v u x w : View) (half : Halves n) (found : Found v n Sp
           omega (arith, two, all, count),
           λ leaf low high.
               by_half leaf (HeldAbove (looks ++ before) leaf) (λ first. held_more looks before leaf (held_left leaf (leaf_in_left n leaf half low first)))
-                  (λ second. held_before looks before leaf (right.2.5 leaf second high)),
+              (λ second. held_before looks before leaf (right.2.5 leaf second high)),
         ),
       )
 

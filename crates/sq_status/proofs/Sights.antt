@@ -153,7 +153,7 @@ only_element a b h = only_at a b h.0 h.1 h.2
 pub HasSeen-saw : (v : View) (n m : ℕ) (found st : Status) → HasSeen (saw v n found) m st → ((m ≡ n) × (st ≡ found)) ⊎ HasSeen v m st
 HasSeen-saw v n m found st h =
     ⊎_elim (λ (here : Contains ((n, found) ∷ []) (m, st)). inl (ap (λ (x : ℕ × Status). x.0) (only_element (n, found) (m, st) here), ap (λ (x : ℕ × Status). x.1) (only_element (n, found) (m, st) here))) (λ (there : HasSeen v m st). inr there)
-        (Contains-append_cases ((n, found) ∷ []) v.looked (m, st) h)
+    (Contains-append_cases ((n, found) ∷ []) v.looked (m, st) h)
 
 pub HasSeen-saw_old : (v : View) (n m : ℕ) (found st : Status) → HasSeen v m st → HasSeen (saw v n found) m st
 HasSeen-saw_old v n m found st h = Contains-append_right ((n, found) ∷ []) v.looked (m, st) h

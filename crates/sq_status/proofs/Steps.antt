@@ -55,9 +55,9 @@ module _ (statuses : List Status) (views : List View) (tree : IsTreeOf statuses 
   pub is_split : (seat : ℕ) (v : View) → get_elem? views seat ≡ some v → (n : ℕ) → KnowsSplit v n → status_at statuses n ≡ Split
   is_split seat v at n knows =
       ⊎_elim
-          (λ (seen : HasSeen v n Split). IsPast-split (status_at statuses n) (tree.looks seat v at n Split seen))
-          (λ (some_won : 0 < times_won n Split v). IsPast-split (status_at statuses n) (won_past seat v at n Split some_won))
-          knows
+      (λ (seen : HasSeen v n Split). IsPast-split (status_at statuses n) (tree.looks seat v at n Split seen))
+      (λ (some_won : 0 < times_won n Split v). IsPast-split (status_at statuses n) (won_past seat v at n Split some_won))
+      knows
 
 -- the clause on the first seat, where one seat's view changes and not its role
 seats_kept : (statuses : List Status) (views : List View) → IsTreeOf statuses views → (id : ℕ) (v w : View) → get_elem? views id ≡ some v → SameRole v w
@@ -67,24 +67,24 @@ seats_kept statuses views tree id v w at role seat u at' first =
     let changed = total_set alive views id v w at in
     let total_same : total alive (set views id w) ≡ total alive views = omega arith in
     ⊎_elim
-        (λ (here : (seat ≡ id) × (w ≡ u)).
-            let first_w : w.first ≡ true = ap (λ (x : View). x.first) here.1 ∙ first in
-            let old = tree.seats id v at (sym role.first ∙ first_w) in
-            let given : u.given ≡ v.given = ap (λ (x : View). x.given) (sym here.1) ∙ role.given in
-            let taken : u.taken ≡ v.taken = ap (λ (x : View). x.taken) (sym here.1) ∙ role.taken in
-            (here.0 ∙ old.0, omega (arith, old.1)))
-        (λ (there : (seat ≢ id) × (get_elem? views seat ≡ some u)).
-            let old = tree.seats seat u there.1 first in (old.0, omega (arith, old.1)))
-        (at_set views id seat w u at')
+    (λ (here : (seat ≡ id) × (w ≡ u)).
+    let first_w : w.first ≡ true = ap (λ (x : View). x.first) here.1 ∙ first in
+    let old = tree.seats id v at (sym role.first ∙ first_w) in
+    let given : u.given ≡ v.given = ap (λ (x : View). x.given) (sym here.1) ∙ role.given in
+    let taken : u.taken ≡ v.taken = ap (λ (x : View). x.taken) (sym here.1) ∙ role.taken in
+    (here.0 ∙ old.0, omega (arith, old.1)))
+    (λ (there : (seat ≢ id) × (get_elem? views seat ≡ some u)).
+    let old = tree.seats seat u there.1 first in (old.0, omega (arith, old.1)))
+    (at_set views id seat w u at')
 
 -- no joined seat has lists, where the view that changes isn't a joined seat's
 joined_kept : (statuses : List Status) (views : List View) → IsTreeOf statuses views → (id : ℕ) (v w : View) → v.spent ≡ false → SameRole v w
     → (seat : ℕ) (u : View) → get_elem? (set views id w) seat ≡ some u → u.spent ≡ true → HasNoLists u
 joined_kept statuses views tree id v w live role seat u at' spent =
     ⊎_elim
-        (λ (here : (seat ≡ id) × (w ≡ u)). absurd (true≢false (sym spent ∙ ap (λ (x : View). x.spent) (sym here.1) ∙ role.spent ∙ live)))
-        (λ (there : (seat ≢ id) × (get_elem? views seat ≡ some u)). tree.joined seat u there.1 spent)
-        (at_set views id seat w u at')
+    (λ (here : (seat ≡ id) × (w ≡ u)). absurd (true≢false (sym spent ∙ ap (λ (x : View). x.spent) (sym here.1) ∙ role.spent ∙ live)))
+    (λ (there : (seat ≢ id) × (get_elem? views seat ≡ some u)). tree.joined seat u there.1 spent)
+    (at_set views id seat w u at')
 
 -- a look
 pub look_kept : (statuses : List Status) (views : List View) → IsTreeOf statuses views → (id : ℕ) (v : View) → get_elem? views id ≡ some v → v.spent ≡ false → (n : ℕ)
@@ -105,13 +105,13 @@ look_kept statuses views tree id v at live n =
           omega (arith, changed, same, old);
       looks = λ seat u at' m st seen.
           ⊎_elim
-              (λ (here : (seat ≡ id) × (w ≡ u)).
-                  ⊎_elim
-                      (λ (new : (m ≡ n) × (st ≡ found)). subst (λ (x : ℕ × Status). IsPast x.1 (status_at statuses x.0)) (λ k. (sym new.0 k, sym new.1 k)) (IsPast-refl found))
-                      (λ (old : HasSeen v m st). tree.looks id v at m st old)
-                      (HasSeen-saw v n m found st (subst (λ (x : View). HasSeen x m st) (sym here.1) seen)))
-              (λ (there : (seat ≢ id) × (get_elem? views seat ≡ some u)). tree.looks seat u there.1 m st seen)
-              (at_set views id seat w u at');
+          (λ (here : (seat ≡ id) × (w ≡ u)).
+          ⊎_elim
+          (λ (new : (m ≡ n) × (st ≡ found)). subst (λ (x : ℕ × Status). IsPast x.1 (status_at statuses x.0)) (λ k. (sym new.0 k, sym new.1 k)) (IsPast-refl found))
+          (λ (old : HasSeen v m st). tree.looks id v at m st old)
+          (HasSeen-saw v n m found st (subst (λ (x : View). HasSeen x m st) (sym here.1) seen)))
+          (λ (there : (seat ≢ id) × (get_elem? views seat ≡ some u)). tree.looks seat u there.1 m st seen)
+          (at_set views id seat w u at');
       joined = joined_kept statuses views tree id v w live role;
       seats = seats_kept statuses views tree id v w at role;
     }
@@ -145,38 +145,38 @@ module _ (statuses : List Status) (views : List View) (tree : IsTreeOf statuses 
   later : (m : ℕ) (st : Status) → IsPast st (status_at statuses m) → IsPast st (status_at after m)
   later m st past =
       dite (ℕ_discrete m n)
-          (λ e. let old : IsPast st (before new) = subst (λ (x : Status). IsPast st x) (ap (status_at statuses) e ∙ was) past in
-              subst (λ (x : Status). IsPast st x) (sym (ap (status_at after) e ∙ at_node)) (IsPast-before st new old))
-          (λ ne. subst (λ (x : Status). IsPast st x) (sym (at_other m ne)) past)
+      (λ e. let old : IsPast st (before new) = subst (λ (x : Status). IsPast st x) (ap (status_at statuses) e ∙ was) past in
+      subst (λ (x : Status). IsPast st x) (sym (ap (status_at after) e ∙ at_node)) (IsPast-before st new old))
+      (λ ne. subst (λ (x : Status). IsPast st x) (sym (at_other m ne)) past)
 
   pulls_kept : (m : ℕ) → pull_of (status_at after m) < 2 ^ 32
   pulls_kept m =
       dite (ℕ_discrete m n)
-          (λ e. subst (λ (x : Status). pull_of x < 2 ^ 32) (sym (ap (status_at after) e ∙ at_node)) may.fits.0)
-          (λ ne. subst (λ (x : Status). pull_of x < 2 ^ 32) (sym (at_other m ne)) (tree.pulls m))
+      (λ e. subst (λ (x : Status). pull_of x < 2 ^ 32) (sym (ap (status_at after) e ∙ at_node)) may.fits.0)
+      (λ ne. subst (λ (x : Status). pull_of x < 2 ^ 32) (sym (at_other m ne)) (tree.pulls m))
 
   leaves_kept : (m : ℕ) → 32 ≤ m → status_at after m ≢ Split
   leaves_kept m leaf e =
       dite (ℕ_discrete m n)
-          (λ same. let inner = may.fits.1 (sym at_node ∙ ap (status_at after) (sym same) ∙ e) in absurd (omega arith))
-          (λ ne. tree.leaves m leaf (sym (at_other m ne) ∙ e))
+      (λ same. let inner = may.fits.1 (sym at_node ∙ ap (status_at after) (sym same) ∙ e) in absurd (omega arith))
+      (λ ne. tree.leaves m leaf (sym (at_other m ne) ∙ e))
 
   -- the parent of the node is split, whichever step it is
   parent_split : 1 < n → status_at statuses (parent n) ≡ Split
   parent_split h =
       from_free (status_at statuses (parent n) ≡ Split) new
-          (λ free. is_split statuses views tree id v at (parent n) (may.under free h))
-          (λ taken. tree.above n h (λ e. taken (sym was ∙ e)))
+      (λ free. is_split statuses views tree id v at (parent n) (may.under free h))
+      (λ taken. tree.above n h (λ e. taken (sym was ∙ e)))
 
   above_kept : (m : ℕ) → 1 < m → status_at after m ≢ Free → status_at after (parent m) ≡ Split
   above_kept m h taken =
       dite (ℕ_discrete m n)
-          (λ same. let h' : 1 < n = omega arith in ap (λ (k : ℕ). status_at after (parent k)) same ∙ at_other (parent n) (half_below n h') ∙ parent_split h')
-          (λ ne.
-              let up = tree.above m h (λ e. taken (at_other m ne ∙ e)) in
-              dite (ℕ_discrete (parent m) n)
-                  (λ same. absurd (before-split new (sym was ∙ ap (status_at statuses) (sym same) ∙ up)))
-                  (λ ne'. at_other (parent m) ne' ∙ up))
+      (λ same. let h' : 1 < n = omega arith in ap (λ (k : ℕ). status_at after (parent k)) same ∙ at_other (parent n) (half_below n h') ∙ parent_split h')
+      (λ ne.
+      let up = tree.above m h (λ e. taken (at_other m ne ∙ e)) in
+      dite (ℕ_discrete (parent m) n)
+      (λ same. absurd (before-split new (sym was ∙ ap (status_at statuses) (sym same) ∙ up)))
+      (λ ne'. at_other (parent m) ne' ∙ up))
 
   once_here : (st : Status) → st ≢ Free → total (times_won n st) (set views id (won v n new)) ≡ one_if (is_past st (status_at after n))
   once_here st ne =
@@ -190,13 +190,13 @@ module _ (statuses : List Status) (views : List View) (tree : IsTreeOf statuses 
   once_kept : (m : ℕ) (st : Status) → st ≢ Free → total (times_won m st) (set views id (won v n new)) ≡ one_if (is_past st (status_at after m))
   once_kept m st ne =
       dite (ℕ_discrete m n)
-          (λ same. subst (λ (k : ℕ). total (times_won k st) (set views id (won v n new)) ≡ one_if (is_past st (status_at after k))) (sym same) (once_here st ne))
-          (λ other.
-              let changed = total_set (times_won m st) views id v (won v n new) at in
-              let same = times_won-won_other m n st new v other in
-              let old = tree.once m st ne in
-              let status : one_if (is_past st (status_at after m)) ≡ one_if (is_past st (status_at statuses m)) = ap (λ (x : Status). one_if (is_past st x)) (at_other m other) in
-              omega (arith, changed, same, old, status))
+      (λ same. subst (λ (k : ℕ). total (times_won k st) (set views id (won v n new)) ≡ one_if (is_past st (status_at after k))) (sym same) (once_here st ne))
+      (λ other.
+      let changed = total_set (times_won m st) views id v (won v n new) at in
+      let same = times_won-won_other m n st new v other in
+      let old = tree.once m st ne in
+      let status : one_if (is_past st (status_at after m)) ≡ one_if (is_past st (status_at statuses m)) = ap (λ (x : Status). one_if (is_past st x)) (at_other m other) in
+      omega (arith, changed, same, old, status))
 
   role : SameRole v (won v n new)
   role = SameRole-won v n new
@@ -204,11 +204,11 @@ module _ (statuses : List Status) (views : List View) (tree : IsTreeOf statuses 
   looks_kept : (seat : ℕ) (u : View) → get_elem? (set views id (won v n new)) seat ≡ some u → (m : ℕ) (st : Status) → HasSeen u m st → IsPast st (status_at after m)
   looks_kept seat u at' m st seen =
       ⊎_elim
-          (λ (here : (seat ≡ id) × (won v n new ≡ u)).
-              let old : HasSeen v m st = subst (λ (l : List (ℕ × Status)). Contains l (m, st)) (ap (λ (x : View). x.looked) (sym here.1) ∙ looked-won v n new) seen in
-              later m st (tree.looks id v at m st old))
-          (λ (there : (seat ≢ id) × (get_elem? views seat ≡ some u)). later m st (tree.looks seat u there.1 m st seen))
-          (at_set views id seat (won v n new) u at')
+      (λ (here : (seat ≡ id) × (won v n new ≡ u)).
+      let old : HasSeen v m st = subst (λ (l : List (ℕ × Status)). Contains l (m, st)) (ap (λ (x : View). x.looked) (sym here.1) ∙ looked-won v n new) seen in
+      later m st (tree.looks id v at m st old))
+      (λ (there : (seat ≢ id) × (get_elem? views seat ≡ some u)). later m st (tree.looks seat u there.1 m st seen))
+      (at_set views id seat (won v n new) u at')
 
   pub win_kept : IsTreeOf (set statuses i new) (set views id (won v n new))
   unfolding after

@@ -54,17 +54,17 @@ module _ (n : ℕ) (old st : Status) (expected : ℕ) (me : Seat) (word : ℕ) (
   pub hit : word ≡ expected → Won me.0 n st me'.0
   hit same =
       ⊎_elim (λ (hit : (t.found ≡ before st) × Won me.0 n st me'.0). hit.1)
-          (λ (miss : (t.found ≢ before st) × Found me.0 n t.found me'.0). absurd (miss.0 (same_status t.found (before st) (sym t.is ∙ same ∙ first ∙ ap word_of step_from))))
-          t.telling
+      (λ (miss : (t.found ≢ before st) × Found me.0 n t.found me'.0). absurd (miss.0 (same_status t.found (before st) (sym t.is ∙ same ∙ first ∙ ap word_of step_from))))
+      t.telling
 
   pub miss : word ≢ expected → (read : Status) → read ≡ t.found → (read ≢ old) × Found me.0 n read me'.0
   miss other read same =
       ⊎_elim (λ (hit : (t.found ≡ before st) × Won me.0 n st me'.0). absurd (other (t.is ∙ ap word_of (hit.0 ∙ sym step_from) ∙ sym first)))
-          (λ (miss : (t.found ≢ before st) × Found me.0 n t.found me'.0). ((λ e. miss.0 (sym same ∙ e ∙ step_from)), subst (λ (x : Status). Found me.0 n x me'.0) (sym same) miss.1))
-          t.telling
+      (λ (miss : (t.found ≢ before st) × Found me.0 n t.found me'.0). ((λ e. miss.0 (sym same ∙ e ∙ step_from)), subst (λ (x : Status). Found me.0 n x me'.0) (sym same) miss.1))
+      t.telling
 
   pub missed : word ≢ expected → Found me.0 n t.found me'.0
   missed other =
       ⊎_elim (λ (hit : (t.found ≡ before st) × Won me.0 n st me'.0). absurd (other (t.is ∙ ap word_of (hit.0 ∙ sym step_from) ∙ sym first)))
-          (λ (miss : (t.found ≢ before st) × Found me.0 n t.found me'.0). miss.1)
-          t.telling
+      (λ (miss : (t.found ≢ before st) × Found me.0 n t.found me'.0). miss.1)
+      t.telling

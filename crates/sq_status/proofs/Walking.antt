@@ -82,18 +82,17 @@ Added-then v u w s t l m first then =
 -- ---- the walk to a leaf
 
 pub walk_start : (leaf : ℕ) (v : View) → WalkedTo leaf 5 v v
-walk_start leaf v =
-    (
-      [],
-      [],
-      record {
-        each = λ k high low. absurd (omega arith);
-        splits_only = λ n h. absurd (in_none n h);
-        looks_only = λ n st h. absurd (in_none (n, st) h);
-        count = refl;
-      },
-      Added-none v,
-    )
+walk_start leaf v = (
+  [],
+  [],
+  record {
+    each = λ k high low. absurd (omega arith);
+    splits_only = λ n h. absurd (in_none n h);
+    looks_only = λ n st h. absurd (in_none (n, st) h);
+    count = refl;
+  },
+  Added-none v,
+)
 
 -- one level further down
 module _ (leaf levels : ℕ) (splits : List ℕ) (looks : List (ℕ × Status)) (passed : Passed leaf (levels + 1) splits looks) where
@@ -106,12 +105,12 @@ module _ (leaf levels : ℕ) (splits : List ℕ) (looks : List (ℕ × Status)) 
       record {
         each = λ k high low.
             dite (ℕ_discrete k (levels + 1))
-                (λ same. inl (subst (λ (j : ℕ). Contains (n ∷ splits) (node_above leaf j)) (sym same) (itself n splits)))
-                (λ other. ⊎_elim (λ (split : Contains splits (node_above leaf k)). inl (Contains-append_right (n ∷ []) splits (node_above leaf k) split)) (λ (look : Contains looks (node_above leaf k, Split)). inr look)
-                    (passed.each k (omega arith) low));
+            (λ same. inl (subst (λ (j : ℕ). Contains (n ∷ splits) (node_above leaf j)) (sym same) (itself n splits)))
+            (λ other. ⊎_elim (λ (split : Contains splits (node_above leaf k)). inl (Contains-append_right (n ∷ []) splits (node_above leaf k) split)) (λ (look : Contains looks (node_above leaf k, Split)). inr look)
+            (passed.each k (omega arith) low));
         splits_only = λ m h.
             ⊎_elim (λ (new : Contains (n ∷ []) m). (levels + 1, omega arith, omega (arith, within), only n m new)) (λ (old : Contains splits m). let o = passed.splits_only m old in (o.0, omega (arith, o.1), o.2, o.3))
-                (Contains-append_cases (n ∷ []) splits m h);
+            (Contains-append_cases (n ∷ []) splits m h);
         looks_only = λ m st h. let o = passed.looks_only m st h in (o.0, omega (arith, o.1), o.2, o.3, o.4);
         count = let all = passed.count in omega arith;
       }
@@ -122,16 +121,16 @@ module _ (leaf levels : ℕ) (splits : List ℕ) (looks : List (ℕ × Status)) 
       record {
         each = λ k high low.
             dite (ℕ_discrete k (levels + 1))
-                (λ same. inr (subst (λ (j : ℕ). Contains ((n, Split) ∷ looks) (node_above leaf j, Split)) (sym same) (itself (n, Split) looks)))
-                (λ other. ⊎_elim (λ (split : Contains splits (node_above leaf k)). inl split) (λ (look : Contains looks (node_above leaf k, Split)). inr (Contains-append_right ((n, Split) ∷ []) looks (node_above leaf k, Split) look))
-                    (passed.each k (omega arith) low));
+            (λ same. inr (subst (λ (j : ℕ). Contains ((n, Split) ∷ looks) (node_above leaf j, Split)) (sym same) (itself (n, Split) looks)))
+            (λ other. ⊎_elim (λ (split : Contains splits (node_above leaf k)). inl split) (λ (look : Contains looks (node_above leaf k, Split)). inr (Contains-append_right ((n, Split) ∷ []) looks (node_above leaf k, Split) look))
+            (passed.each k (omega arith) low));
         splits_only = λ m h. let o = passed.splits_only m h in (o.0, omega (arith, o.1), o.2, o.3);
         looks_only = λ m st h.
             ⊎_elim
-                (λ (new : Contains ((n, Split) ∷ []) (m, st)).
-                    let same = only (n, Split) (m, st) new in (levels + 1, omega arith, omega (arith, within), ap (λ (x : ℕ × Status). x.0) same, ap (λ (x : ℕ × Status). x.1) same))
-                (λ (old : Contains looks (m, st)). let o = passed.looks_only m st old in (o.0, omega (arith, o.1), o.2, o.3, o.4))
-                (Contains-append_cases ((n, Split) ∷ []) looks (m, st) h);
+            (λ (new : Contains ((n, Split) ∷ []) (m, st)).
+            let same = only (n, Split) (m, st) new in (levels + 1, omega arith, omega (arith, within), ap (λ (x : ℕ × Status). x.0) same, ap (λ (x : ℕ × Status). x.1) same))
+            (λ (old : Contains looks (m, st)). let o = passed.looks_only m st old in (o.0, omega (arith, o.1), o.2, o.3, o.4))
+            (Contains-append_cases ((n, Split) ∷ []) looks (m, st) h);
         count = let all = passed.count in omega arith;
       }
 
@@ -141,8 +140,8 @@ walk_one leaf levels v u w walked step =
     let looks = walked.1 in
     let n = node_above leaf (levels + 1) in
     ⊎_elim (λ (win : Won u n Split w). (n ∷ splits, looks, split_passed leaf levels splits looks walked.2, Added-then v u w splits (n ∷ []) looks [] walked.3 (Added-won u n w win)))
-        (λ (found : Found u n Split w). (splits, (n, Split) ∷ looks, look_passed leaf levels splits looks walked.2, Added-then v u w splits [] looks ((n, Split) ∷ []) walked.3 (Added-found u n Split w found)))
-        step
+    (λ (found : Found u n Split w). (splits, (n, Split) ∷ looks, look_passed leaf levels splits looks walked.2, Added-then v u w splits [] looks ((n, Split) ∷ []) walked.3 (Added-found u n Split w found)))
+    step
 
 pub walk_next : (leaf levels next : ℕ) (v u w : View) → levels ≡ next + 1 → WalkedTo leaf levels v u → Won u (node_above leaf levels) Split w ⊎ Found u (node_above leaf levels) Split w → WalkedTo leaf next v w
 walk_next leaf levels next v u w e walked step =
@@ -161,11 +160,11 @@ pub walk_knows : (leaf levels : ℕ) (v w : View) → levels < 5 → WalkedTo le
 walk_knows leaf levels v w h walked =
     let n = node_above leaf (levels + 1) in
     ⊎_elim
-        (λ (split : Contains walked.0 n).
-            let some_won : 0 < times n (walked.0 ++ v.split) = omega (arith, times-append n walked.0 v.split, counted n walked.0 split) in
-            inr (subst (λ (u : View). 0 < times_won n Split u) (sym walked.3.after) some_won))
-        (λ (look : Contains walked.1 (n, Split)). inl (subst (λ (u : View). HasSeen u n Split) (sym walked.3.after) (Contains-append_left walked.1 v.looked (n, Split) look)))
-        (walked.2.each (levels + 1) (omega arith) (omega arith))
+    (λ (split : Contains walked.0 n).
+    let some_won : 0 < times n (walked.0 ++ v.split) = omega (arith, times-append n walked.0 v.split, counted n walked.0 split) in
+    inr (subst (λ (u : View). 0 < times_won n Split u) (sym walked.3.after) some_won))
+    (λ (look : Contains walked.1 (n, Split)). inl (subst (λ (u : View). HasSeen u n Split) (sym walked.3.after) (Contains-append_left walked.1 v.looked (n, Split) look)))
+    (walked.2.each (levels + 1) (omega arith) (omega arith))
 
 -- ---- the nodes above a leaf
 

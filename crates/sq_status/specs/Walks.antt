@@ -59,4 +59,4 @@ Searched n pull v w None =
 Searched n pull v w (Some m) =
     IsTrue (is_node m) × IsTrue (is_under n m)
     × ((looks : List (ℕ × Status)) × (u : View) × Added v [] looks u × Won u m (Claimed pull) w × (length looks + 1 ≤ nodes_under n)
-        × ((leaf : ℕ) → first_leaf n ≤ leaf → leaf < first_leaf m → HeldAbove looks leaf))
+    × ((leaf : ℕ) → first_leaf n ≤ leaf → leaf < first_leaf m → HeldAbove looks leaf))

@@ -11,14 +11,13 @@ ghost use Rattle.sq_status.specs.Rule.{IsTreeOf, Kept};
 mod calls;
 mod walks;
 
-pub use walks::LeafClaim;
-
 use crate::rule::{Handing, TreeRule};
 use crate::view::View;
 use atomic_table::{Closed, Seat, Table};
 use sq_tree::Status;
 use std::alloc::{AllocError, Global};
 use std::marker::Model;
+pub use walks::LeafClaim;
 
 /// The statuses of the 63 nodes of a segment, in words that threads share without a lock. A contract sees
 /// which tree it is.
@@ -85,7 +84,9 @@ impl StatusTree {
         ensures taken { seat.new.view ≡ took seat.old.view other.view }
     {
         let TreeSeat { seat: other } = other;
-        self.table.shared.join_seat::<Handing>(&mut seat.seat, other);
+        self.table
+            .shared
+            .join_seat::<Handing>(&mut seat.seat, other);
     }
 
     /// The statuses of all nodes, that of node 1 first. Where each seat that was given was also taken, they

@@ -13,6 +13,7 @@ use crate::rule::{Advance, Look};
 use sq_tree::{BeginFault, ClaimFault, CompleteFault, SplitFault, Status};
 
 const NODES: u64 = 63;
+
 pub(super) const FIRST_LEAF: u64 = 32;
 
 // Whether there is such a node.
@@ -54,12 +55,10 @@ impl StatusTree {
             (λ found. (found ≢ old) × Found seat.old.view n found seat.new.view) }
     {
         let expected = old.word();
-        let found = self.table.shared.compare_exchange::<Advance>(
-            &mut seat.seat,
-            (n - 1) as usize,
-            expected,
-            new.word(),
-        );
+        let found = self
+            .table
+            .shared
+            .compare_exchange::<Advance>(&mut seat.seat, (n - 1) as usize, expected, new.word());
         if found != expected {
             return Err(Status::from_word(found));
         }

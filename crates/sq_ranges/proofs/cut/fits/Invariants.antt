@@ -7,9 +7,9 @@ use Rattle.sq_ranges.proofs.cut.fits.Given as goal
 
 abbrev pub invariant-loop-run : goal.invariant-loop-run
 invariant-loop-run l = record {
-    ahead : (done : List Range) × (rest : List Range) × (moves_of l.old l.new ≡ done ++ rest) × ComesTo l.sweep rest × (l.count ≡ length (segments_of l.width done));
-    few : l.count ≤ 256;
-  }
+  ahead : (done : List Range) × (rest : List Range) × (moves_of l.old l.new ≡ done ++ rest) × ComesTo l.sweep rest × (l.count ≡ length (segments_of l.width done));
+  few : l.count ≤ 256;
+}
 
 abbrev pub decreases-loop-run : goal.decreases-loop-run
 decreases-loop-run l = left l.sweep

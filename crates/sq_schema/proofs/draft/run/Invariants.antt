@@ -8,5 +8,5 @@ use Rattle.sq_schema.proofs.draft.run.Given as goal
 abbrev pub invariant-loop-at : goal.invariant-loop-at
 invariant-loop-at l = record {
   base : l.draft.base ≡ l.fn.rows;
-  rest : ops_outcome 0 l.ops l.fn.rows ≡ with_answers l.answers.items (ops_outcome l.at (drop l.at l.ops) (drafted l.draft))
+  rest : ops_outcome 0 l.ops l.fn.rows ≡ with_answers l.answers.items (ops_outcome l.at (drop l.at l.ops) (drafted l.draft));
 }

@@ -16,8 +16,8 @@ returns-then-ne-clause-whole c = λ old new from reaches.
     let piece = c.in-Some.piece in
     let ends = ends_before old new from c.loop-piece.self run piece (c.loop-piece.invariant.reaches old new from reaches) (sym c.in-Some.ensures) in
     elim c.then-ne.branch [
-      then-ne-via-then-ne w ↦ ends (λ src dst. differ piece.src run.src w.if-ne.ensures src)
-    | then-ne-via-else-ne+then-ne-2 w ↦ ends (λ src dst. differ piece.dst run.dst w.if-ne-2.ensures dst)
+      | then-ne-via-then-ne w ↦ ends (λ src dst. differ piece.src run.src w.if-ne.ensures src)
+      | then-ne-via-else-ne+then-ne-2 w ↦ ends (λ src dst. differ piece.dst run.dst w.if-ne-2.ensures dst)
     ]
 
 pub loop-piece-preserved : goal.loop-piece-preserved
@@ -28,7 +28,7 @@ loop-piece-preserved c =
     let went : Went c.loop-piece.self c.skip_to.new.self piece = record { found = sym c.in-Some.ensures; at = c.skip_to.ensures.at; olds = c.skip_to.ensures.olds; news = c.skip_to.ensures.news } in
     record {
       reaches = λ old new from reaches.
-        went_on old new from c.loop-piece.self c.skip_to.new.self run piece (invariant.reaches old new from reaches) went (same piece.src run.src c.if-ne.ensures) (same piece.dst run.dst c.if-ne-2.ensures);
+          went_on old new from c.loop-piece.self c.skip_to.new.self run piece (invariant.reaches old new from reaches) went (same piece.src run.src c.if-ne.ensures) (same piece.dst run.dst c.if-ne-2.ensures);
       fewer = omega (arith, went_fewer c.loop-piece.self c.skip_to.new.self piece went);
     }
 

@@ -9,9 +9,9 @@ returns-then-ne c =
     let went : Went c.loop-piece.self c.skip_to.new.self piece = record { found = sym c.in-Some.ensures; at = c.skip_to.ensures.at; olds = c.skip_to.ensures.olds; news = c.skip_to.ensures.news } in
     record {
       next = λ runs comes.
-        comes_first c.loop-piece.self c.skip_to.new.self c.extended.new.self piece c.extended.result runs (c.loop-piece.invariant.comes runs comes) went
-            (eqb-false piece.src piece.dst (not-true (piece.src == piece.dst) (sym c.if-ne.ensures)))
-            c.extended.ensures.whole;
+          comes_first c.loop-piece.self c.skip_to.new.self c.extended.new.self piece c.extended.result runs (c.loop-piece.invariant.comes runs comes) went
+          (eqb-false piece.src piece.dst (not-true (piece.src == piece.dst) (sym c.if-ne.ensures)))
+          c.extended.ensures.whole;
       fewer = omega (arith, went_fewer c.loop-piece.self c.skip_to.new.self piece went);
     }
 
@@ -21,8 +21,8 @@ loop-piece-preserved c =
     let went : Went c.loop-piece.self c.skip_to.new.self piece = record { found = sym c.in-Some.ensures; at = c.skip_to.ensures.at; olds = c.skip_to.ensures.olds; news = c.skip_to.ensures.news } in
     record {
       comes = λ runs comes.
-        comes_past c.loop-piece.self c.skip_to.new.self piece runs (c.loop-piece.invariant.comes runs comes) went
-            (eqb-true piece.src piece.dst (not-false (piece.src == piece.dst) (sym c.if-ne.ensures)));
+          comes_past c.loop-piece.self c.skip_to.new.self piece runs (c.loop-piece.invariant.comes runs comes) went
+          (eqb-true piece.src piece.dst (not-false (piece.src == piece.dst) (sym c.if-ne.ensures)));
       fewer = omega (arith, went_fewer c.loop-piece.self c.skip_to.new.self piece went);
     }
 

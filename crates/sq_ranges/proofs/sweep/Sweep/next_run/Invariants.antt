@@ -5,9 +5,9 @@ use Rattle.sq_ranges.proofs.sweep.Sweep.next_run.Given as goal
 
 abbrev pub invariant-loop-piece : goal.invariant-loop-piece
 invariant-loop-piece l = record {
-    comes : (runs : List Range) → ComesTo l.initial.self runs → ComesTo l.self runs;
-    fewer : left l.self ≤ left l.initial.self;
-  }
+  comes : (runs : List Range) → ComesTo l.initial.self runs → ComesTo l.self runs;
+  fewer : left l.self ≤ left l.initial.self;
+}
 
 abbrev pub decreases-loop-piece : goal.decreases-loop-piece
 decreases-loop-piece l = left l.self

@@ -13,8 +13,7 @@ loop-key-preserved c =
     let rest = into_iter_items c.next.new.self in
     let first = c.in-Some.ensures.steps.0 in
     let inv = c.loop-key.invariant in
-    let sound = rw first at inv.3 in
-    (
+    let sound = rw first at inv.3 in (
       tt,
       tt,
       rw c.write.ensures.rows (rw first at inv.2),

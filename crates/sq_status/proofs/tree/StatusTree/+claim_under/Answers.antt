@@ -14,8 +14,7 @@ pub claim_under-requires-in-None : goal.claim_under-requires-in-None
 claim_under-requires-in-None t c =
     let bounds = node_bounds c.args.n c.requires.node in
     let found = rw c.in-Err-Split.field-0-is at c.in-Err-Split.ensures.step in
-    let inner : c.args.n < 32 = found.1.fits.1 refl in
-    (
+    let inner : c.args.n < 32 = found.1.fits.1 refl in (
       search (rules, falls_right c.args.n bounds.0 inner),
       (
         search rules,
@@ -40,7 +39,7 @@ returns-in-None-clause-search t c =
     let bounds = node_bounds c.args.n c.requires.node in
     let found = rw c.in-Err-Split.field-0-is at c.in-Err-Split.ensures.step in
     search_second c.args.n c.args.pull c.args.seat.now.view c.advance.new.seat.view c.claim_under.new.seat.view c.claim_under-in-None.new.seat.view (halves c.args.n bounds.0 (found.1.fits.1 refl)) found.1 c.in-None.ensures.search
-        c.claim_under-in-None.result c.claim_under-in-None.ensures.search
+    c.claim_under-in-None.result c.claim_under-in-None.ensures.search
 
 pub returns-in-Err : goal.returns-in-Err
 returns-in-Err t c =

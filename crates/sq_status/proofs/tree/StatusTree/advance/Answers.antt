@@ -22,7 +22,7 @@ compare_exchange-found-requires c =
 trial : (c : goal.After-compare_exchange-found) → Tried c.args.n c.args.new c.seat.inside.seat.me c.compare_exchange-found.result c.compare_exchange-found.new.seat.me
 trial c =
     tried c.self.inside.table.shared.table_id.slots c.args.n c.args.old c.args.new c.word-expected.result c.word.result c.seat.inside.seat.me c.compare_exchange-found.result c.compare_exchange-found.new.seat.me
-        (node_bounds c.args.n c.requires.node).0 c.requires.step.0 c.word-expected.ensures c.word.ensures c.compare_exchange-found.ensures.2
+    (node_bounds c.args.n c.requires.node).0 c.requires.step.0 c.word-expected.ensures c.word.ensures c.compare_exchange-found.ensures.2
 
 -- the seat keeps its role
 same_role : (c : goal.After-compare_exchange-found) → SameRole c.seat.inside.seat.me.0 c.compare_exchange-found.new.seat.me.0
@@ -50,7 +50,7 @@ pub returns-then-found-expected-clause-step : goal.returns-then-found-expected-c
 returns-then-found-expected-clause-step c =
     let t = trial (goal.at.returns-then-found-expected-clause-step c).After-compare_exchange-found in
     subst (λ (v : View). (c.from_word.result ≢ c.args.old) × Found v c.args.n c.from_word.result c.compare_exchange-found.new.seat.me.0) (ap (λ s. s.view) c.seat.view_is)
-        (miss c.args.n c.args.old c.args.new c.word-expected.result c.seat.inside.seat.me c.compare_exchange-found.result c.compare_exchange-found.new.seat.me c.requires.step.0 c.word-expected.ensures t c.if-found-expected.true c.from_word.result (c.from_word.ensures.only t.found t.is))
+    (miss c.args.n c.args.old c.args.new c.word-expected.result c.seat.inside.seat.me c.compare_exchange-found.result c.compare_exchange-found.new.seat.me c.requires.step.0 c.word-expected.ensures t c.if-found-expected.true c.from_word.result (c.from_word.ensures.only t.found t.is))
 
 pub invariant_of-seat-2 : goal.invariant_of-seat-2
 invariant_of-seat-2 c =
@@ -68,4 +68,4 @@ pub returns-clause-step : goal.returns-clause-step
 returns-clause-step c =
     let t = trial (goal.at.returns-clause-step c).After-compare_exchange-found in
     subst (λ (v : View). Won v c.args.n c.args.new c.compare_exchange-found.new.seat.me.0) (ap (λ s. s.view) c.seat.view_is)
-        (hit c.args.n c.args.old c.args.new c.word-expected.result c.seat.inside.seat.me c.compare_exchange-found.result c.compare_exchange-found.new.seat.me c.requires.step.0 c.word-expected.ensures t c.if-found-expected.false)
+    (hit c.args.n c.args.old c.args.new c.word-expected.result c.seat.inside.seat.me c.compare_exchange-found.result c.compare_exchange-found.new.seat.me c.requires.step.0 c.word-expected.ensures t c.if-found-expected.false)

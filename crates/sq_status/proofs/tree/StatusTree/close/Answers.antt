@@ -16,7 +16,7 @@ ended c =
     let slots = c.close_with-closed.result.slots in
     let same = ap (λ s. s.view) c.seat.view_is in
     subst (λ (v : View). (views : List View) × IsTreeOf c.statuses_of-statuses.result views × (get_elem? views c.seat.inside.seat.id ≡ some v)) same
-        (closes c.seat.inside.seat.id c.seat.inside.seat.me.0 (slots_items words) (slots_items slots) c.statuses_of-statuses.result c.close_with-closed.ensures.values.2 c.statuses_of-statuses.ensures)
+    (closes c.seat.inside.seat.id c.seat.inside.seat.me.0 (slots_items words) (slots_items slots) c.statuses_of-statuses.result c.close_with-closed.ensures.values.2 c.statuses_of-statuses.ensures)
 
 pub returns-clause-rule : goal.returns-clause-rule
 returns-clause-rule c = let e = ended c in (c.seat.inside.seat.id, e.0, e.1, e.2)

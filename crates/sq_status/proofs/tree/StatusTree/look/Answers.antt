@@ -37,4 +37,4 @@ pub returns-clause-found : goal.returns-clause-found
 returns-clause-found c =
     let t = telling (goal.at.returns-clause-found c).After-load-word in
     subst (λ (v : View). Found v c.args.n c.from_word.result c.load-word.new.seat.me.0) (ap (λ s. s.view) c.seat.view_is)
-        (subst (λ st. Found c.seat.inside.seat.me.0 c.args.n st c.load-word.new.seat.me.0) (sym (c.from_word.ensures.only t.found t.is)) t.telling)
+    (subst (λ st. Found c.seat.inside.seat.me.0 c.args.n st c.load-word.new.seat.me.0) (sym (c.from_word.ensures.only t.found t.is)) t.telling)
