@@ -1,9 +1,8 @@
 -- On a legal trace one begun node at most has a root key in its extent, so that one note at most covers the key.
-use Rattle.std.proofs.Common.{◌≡◌, ◌⊎◌, inl, inr, ⊎_elim, ℕ, ◌<◌, ◌≤◌, Bool, true, false, ◌==◌, ◌&&◌, nat_le, nat_lt, List, [], ◌∷◌, slice_get, find, Contains, Option, Some, None, IsTrue, refl, sym, ap, ap₂, ◌∙◌, subst, subst₂, true≢false, arith}
-use Rattle.std.specs.List.{list_any}
+use Rattle.std.proofs.Common.{◌≡◌, ◌⊎◌, inl, inr, ℕ, ◌<◌, ◌≤◌, true, false, nat_le, nat_lt, List, [], ◌∷◌, slice_get, find, Contains, Option, Some, None, refl, sym, ap, ap₂, ◌∙◌, subst, subst₂, true≢false, arith}
 use Rattle.std.proofs.lemmas.Bool.{and_parts, and_from, le-leb, leb-true, ltb-true, lt-ltb}
 use Rattle.sq_tree.specs.declared.status.Status.{Status}
-use Rattle.sq_tree.specs.declared.status.Status.TheVariants.{Free, Split, Claimed, Partial, Complete}
+use Rattle.sq_tree.specs.declared.status.Status.TheVariants.{Partial, Complete}
 use Rattle.sq_tree.specs.Node.{is_above}
 use Rattle.sq_tree.specs.Status.{is_free, is_split, is_begun, covering}
 use Rattle.sq_tree.proofs.Covering.{covering_touched}
@@ -22,8 +21,8 @@ use Rattle.sq_model.specs.Legal.{IsLegal}
 use Rattle.sq_model.proofs.Lists.{Contains-nothing, Contains-cases, Contains-later, Contains-slice_get, found_in, not_found}
 use Rattle.sq_model.proofs.Statuses.{grown, is_there}
 use Rattle.sq_model.proofs.Tiles.{IsTile, tile}
-use Rattle.sq_model.proofs.Notes.{SegmentGoes, note_goes, note_begun, loaded_in, tiles_notes, tiles_loads}
-use Rattle.sq_model.proofs.Keys.{IsIn, IsUnder, found_in_segment, under}
+use Rattle.sq_model.proofs.Notes.{note_goes, note_begun, loaded_in, tiles_notes}
+use Rattle.sq_model.proofs.Keys.{IsIn, found_in_segment, under}
 
 pub begun_touched : (st : Status) → is_begun st ≡ true → (is_free st ≡ false) × (is_split st ≡ false)
 begun_touched (Partial p) begun = (refl, refl)

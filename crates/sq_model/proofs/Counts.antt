@@ -1,16 +1,13 @@
 -- On a legal trace the counts of a link are in order: chunks are loaded after they were popped, popped after they were pushed, and pushed after they were cut.
-use Rattle.std.proofs.Common.{◌≡◌, ◌⊎◌, inl, inr, ℕ, ◌+◌, ◌-◌, ◌<◌, ◌≤◌, Bool, true, false, ◌==◌, ◌&&◌, List, [], ◌∷◌, length, find, Contains, Some, refl, sym, ap, ◌∙◌, subst, subst₂, true≢false, arith}
+use Rattle.std.proofs.Common.{◌≡◌, ℕ, ◌+◌, ◌-◌, ◌≤◌, Bool, true, false, ◌==◌, ◌&&◌, [], ◌∷◌, length, Contains, refl, sym, ap, ◌∙◌, subst₂, true≢false, arith}
 use Rattle.std.proofs.lemmas.Bool.{and_parts, eqb-true, eqb-false, cond_both}
 use Rattle.sq_chunk.specs.declared.chunk.Note.{Note}
 use Rattle.sq_ranges.specs.ReconValue.{is_link}
 use Rattle.sq_ranges.specs.OpeningValue.{OpeningValue}
-use Rattle.sq_model.specs.declared.step.Step.{Step}
-use Rattle.sq_model.specs.declared.step.Step.TheVariants.{Prepare, Start, Submit, Claim, Begin, Cut, Push, Pop, Load, Complete, Report, Finish}
-use Rattle.sq_model.specs.declared.answer.Answer.{Answer}
-use Rattle.sq_model.specs.declared.answer.Answer.TheVariants.{Done, Replied, Moved, Waits, WasCut, WasLoaded, Refused}
+use Rattle.sq_model.specs.declared.step.Step.TheVariants.{Cut, Push, Pop, Load}
+use Rattle.sq_model.specs.declared.answer.Answer.TheVariants.{Done, WasCut, WasLoaded}
 use Rattle.sq_model.specs.Trace.{Trace, notes, loads, link, cut_count, push_count, pop_count, load_count}
-use Rattle.sq_model.specs.Links.{next_note}
-use Rattle.sq_model.specs.Legal.{IsAnswer, IsLegal}
+use Rattle.sq_model.specs.Legal.{IsLegal}
 use Rattle.sq_model.proofs.Lists.{found_in}
 use Rattle.sq_model.proofs.Link.{IsOf, link_has, link_at}
 use Rattle.sq_model.proofs.Steps.{CutGoes, cut_goes, PushGoes, push_goes, PopGoes, pop_goes, LoadGoes, load_goes}

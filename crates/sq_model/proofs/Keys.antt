@@ -1,18 +1,30 @@
 -- Where a root key lies in an opening: in a segment, whose ends are its owners, and in the nodes above its leaf.
-use Rattle.std.proofs.Common.{◌≡◌, ◌≢◌, ◌⊎◌, inl, inr, ⊎_elim, ℕ, ◌<◌, ◌≤◌, Bool, true, false, ◌==◌, ◌&&◌, not, nat_le, nat_lt, List, [], ◌∷◌, slice_get, find, Option, Some, None, is_some, refl, sym, ap, ◌∙◌, subst, true≢false, arith}
+use Rattle.std.proofs.Common.{◌≡◌, ⊎_elim, ℕ, ◌<◌, ◌≤◌, true, false, ◌==◌, ◌&&◌, not, nat_le, nat_lt, List, [], ◌∷◌, slice_get, find, Contains, Option, Some, None, is_some, refl, sym, ap, ◌∙◌, subst, true≢false, arith}
+use Rattle.std.specs.List.{range_with_len}
 use Rattle.std.proofs.lemmas.Bool.{and_parts, and_from, le-leb, leb-true, ltb-true, lt-ltb, eq-eqb, ne_eqb, cases_lt, cond-false, and_right, le-ltb}
 use Rattle.sq_tree.specs.Node.{is_above}
 use Rattle.sq_plan.specs.declared.plan.PlanRange.{PlanRange}
 use Rattle.sq_plan.specs.PlanValue.{PlanValue, IsPlan, is_tiling, holds as plan_holds, owner, owner_in, root_end}
 use Rattle.sq_ranges.specs.declared.recon.Range.{Range}
-use Rattle.sq_ranges.specs.ReconValue.{IsRecon, holds, segment_of, leaf_of, extent, is_width}
+use Rattle.sq_ranges.specs.ReconValue.{IsRecon, holds, segment_at, segment_count, segments_in, segments_of, segment_of, leaf_of, extent, is_link}
 use Rattle.sq_ranges.specs.OpeningValue.{OpeningValue}
 use Rattle.sq_ranges.proofs.Tilings.{holds_past, tiling_parts, tiling_bounds}
 use Rattle.sq_ranges.proofs.Joins.{holds_within}
-use Rattle.sq_ranges.proofs.Segments.{moves-rising, segment_stands, segment_of_held, found_owners, unfound_owner, found_moves}
+use Rattle.sq_ranges.proofs.Segments.{moves-rising, segment_stands, segment_of_held, segment_owners, found_owners, unfound_owner, found_moves}
 use Rattle.sq_ranges.proofs.Extents.{Covers, extent_low, extent_high, covers_from_above, above_from_covers, leaf_below}
 use Rattle.sq_model.specs.Opening.{IsOpening}
 use Rattle.sq_model.specs.Place.{source, destination, moves, extent_in, extent_of, is_within}
+use Rattle.sq_model.proofs.Lists.{Contains-slice_get, found_in, list_any-Contains, list_all-Contains, map_in, flat_map_in}
+
+-- an owner is one of the partitions
+owner_below : (plan : PlanValue) (key : ℕ) → IsPlan plan → owner plan key < plan.parts
+owner_below plan key is = among (find (λ range. plan_holds range key) plan.ranges) refl
+  where
+    among : (found : Option PlanRange) → find (λ (range : PlanRange). plan_holds range key) plan.ranges ≡ found → owner_in found < plan.parts
+    among None none = omega (arith, is.some_part)
+    among (Some range) found =
+        let at = found_in (λ (other : PlanRange). plan_holds other key) plan.ranges range found in
+        ltb-true range.owner plan.parts (list_all-Contains (λ (other : PlanRange). nat_lt other.owner plan.parts) plan.ranges range is.owners at.0)
 
 -- past the last root key no range of a plan holds a key
 past_end : (key lo : ℕ) (ranges : List PlanRange) → root_end ≤ key → is_tiling lo ranges ≡ true → find (λ range. plan_holds range key) ranges ≡ None
@@ -88,6 +100,30 @@ module _ (o : OpeningValue) (is : IsOpening o) where
       (λ (within : root < root_end). unfound_owner o.recon recon_is o.old o.new is.moves root within none)
       (λ (past : root_end ≤ root). owner_past o.old root is.old_plan past ∙ sym (owner_past o.new root is.new_plan past))
       (cases_lt root root_end)
+
+  pub source_below : (root : ℕ) → source o root < o.old.parts
+  source_below root = owner_below o.old root is.old_plan
+
+  pub destination_below : (root : ℕ) → destination o root < o.old.parts
+  destination_below root = let below = owner_below o.new root is.new_plan in let same = is.parts in omega arith
+
+  -- so are the ends of a segment
+  pub ends_below : (g : ℕ) (segment : Range) → slice_get o.recon.segments g ≡ Some segment → (segment.src < o.old.parts) × (segment.dst < o.old.parts)
+  ends_below g segment there =
+      let stands = segment_stands o.recon recon_is g segment there in
+      let owners = segment_owners o.recon recon_is o.old o.new is.moves segment.lo g segment there (holds_within segment segment.lo (omega arith) stands.some) in
+      (subst (λ p. p < o.old.parts) owners.0 (source_below segment.lo), subst (λ p. p < o.old.parts) owners.1 (destination_below segment.lo))
+
+  -- each segment lies on a link
+  pub linked : (g : ℕ) (segment : Range) → slice_get o.recon.segments g ≡ Some segment → is_link o.recon.ranges segment.src segment.dst ≡ true
+  linked g segment there =
+      let has : Contains (segments_of o.recon.width o.recon.ranges) segment = subst (λ list. Contains list segment) is.segments (Contains-slice_get o.recon.segments g segment there) in
+      let range = flat_map_in (segments_in o.recon.width) o.recon.ranges segment has in
+      let part = map_in (segment_at o.recon.width range.0) (range_with_len 0 (segment_count o.recon.width range.0)) segment range.2 in
+      list_any-Contains (λ (other : Range). (other.src == segment.src) && (other.dst == segment.dst)) o.recon.ranges range.0 range.1
+      (and_from (range.0.src == segment.src) (range.0.dst == segment.dst)
+      (eq-eqb range.0.src segment.src (ap (λ (s : Range). s.src) part.2))
+      (eq-eqb range.0.dst segment.dst (ap (λ (s : Range). s.dst) part.2)))
 
   -- a key moves just where some segment holds it
   moves_is : (root : ℕ) (at : Option ℕ) → segment_of o.recon.segments root ≡ at → moves o root ≡ is_some at

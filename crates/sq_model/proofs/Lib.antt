@@ -1,5 +1,6 @@
 pub mod Apart
 pub mod Counts
+pub mod Ended
 pub mod Keys
 pub mod Link
 pub mod Lists
@@ -7,6 +8,7 @@ pub mod Notes
 pub mod Numbers
 pub mod Orderly
 pub mod Phases
+pub mod Places
 pub mod Routing
 pub mod Statuses
 pub mod Steps

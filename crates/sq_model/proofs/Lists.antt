@@ -1,7 +1,8 @@
 -- Lists: what they contain, what is found in them and what a filter keeps of them.
-use Rattle.std.proofs.Common.{◌≡◌, ◌⊎◌, inl, inr, ℕ, zero, suc, ◌+◌, ◌<◌, ◌≤◌, Bool, true, false, ◌||◌, if◌then◌else◌, List, [], ◌∷◌, ◌++◌, length, get_or, slice_get, find, filter, Contains, Option, Some, None, refl, sym, ap, ◌∙◌, subst, true≢false, arith}
-use Rattle.std.specs.List.{list_any, range_with_len}
-use Rattle.std.proofs.lemmas.Bool.{cases_Bool, cond-true, cond-false, or_left, or_right, false_from_ne_true}
+use Rattle.std.proofs.Common.{◌≡◌, ◌⊎◌, inl, inr, ℕ, zero, suc, ◌+◌, ◌<◌, ◌≤◌, Bool, true, false, ◌||◌, if◌then◌else◌, List, [], ◌∷◌, map, length, get_or, slice_get, find, filter, Contains, Option, Some, None, refl, sym, ap, ◌∙◌, subst, true≢false, arith}
+use Rattle.std.specs.List.{list_any, list_all, flat_map, range_with_len}
+use Rattle.std.proofs.lemmas.Bool.{cases_Bool, cases_eq, and_parts, cond-true, cond-false, or_left, or_right, false_from_ne_true}
+use Rattle.std.proofs.lemmas.List.Elements.{Contains-append_cases}
 use Rattle.std.proofs.lemmas.List.Folds.{Any-from_list_any}
 
 -- what a list contains
@@ -64,6 +65,14 @@ list_any-Contains p (y ∷ xs) x has passes =
       | inl same ↦ or_left (p y) (list_any p xs) (ap p same ∙ passes)
       | inr later ↦ or_right (p y) (list_any p xs) (list_any-Contains p xs x later passes)
     ]
+
+-- a test that no element passes finds none
+pub nothing_found : {X : Type 0} (p : X → Bool) (xs : List X) → list_any p xs ≡ false → find p xs ≡ None
+nothing_found {X = X} p xs none = among (find p xs) refl
+  where
+    among : (found : Option X) → find p xs ≡ found → find p xs ≡ None
+    among None e = e
+    among (Some x) e = let at = found_in p xs x e in absurd (true≢false (sym (list_any-Contains p xs x at.0 at.1) ∙ none))
 
 -- what a filter keeps
 
@@ -132,4 +141,41 @@ row_bounds a (suc n) x has =
     elim (Contains-cases a (range_with_len (a + 1) n) x has) [
       | inl same ↦ (omega arith, omega arith)
       | inr later ↦ let rest = row_bounds (a + 1) n x later in (omega arith, omega arith)
+    ]
+
+pub row_has : (a n x : ℕ) → a ≤ x → x < a + n → Contains (range_with_len a n) x
+row_has a zero x low high = absurd (omega arith)
+row_has a (suc n) x low high =
+    elim (cases_eq a x) [
+      | inl same ↦ subst (Contains (a ∷ range_with_len (a + 1) n)) same (Contains-first a (range_with_len (a + 1) n))
+      | inr other ↦ Contains-later a (range_with_len (a + 1) n) x (row_has (a + 1) n x (omega arith) (omega arith))
+    ]
+
+-- lists made of others
+
+pub map_in : {X Y : Type 0} (f : X → Y) (xs : List X) (y : Y) → Contains (map f xs) y → (x : X) × Contains xs x × (f x ≡ y)
+map_in f [] y has = absurd (Contains-nothing y has)
+map_in f (x ∷ xs) y has =
+    elim (Contains-cases (f x) (map f xs) y has) [
+      | inl same ↦ (x, Contains-first x xs, same)
+      | inr later ↦ let rest = map_in f xs y later in (rest.0, Contains-later x xs rest.0 rest.1, rest.2)
+    ]
+
+pub flat_map_in : {X Y : Type 0} (f : X → List Y) (xs : List X) (y : Y) → Contains (flat_map f xs) y → (x : X) × Contains xs x × Contains (f x) y
+flat_map_in f [] y has = absurd (Contains-nothing y has)
+flat_map_in f (x ∷ xs) y has =
+    elim (Contains-append_cases (f x) (flat_map f xs) y has) [
+      | inl here ↦ (x, Contains-first x xs, here)
+      | inr later ↦ let rest = flat_map_in f xs y later in (rest.0, Contains-later x xs rest.0 rest.1, rest.2)
+    ]
+
+-- what passes a test of all
+
+pub list_all-Contains : {X : Type 0} (p : X → Bool) (xs : List X) (x : X) → list_all p xs ≡ true → Contains xs x → p x ≡ true
+list_all-Contains p [] x all has = absurd (Contains-nothing x has)
+list_all-Contains p (y ∷ xs) x all has =
+    let parts = and_parts (p y) (list_all p xs) all in
+    elim (Contains-cases y xs x has) [
+      | inl same ↦ ap p (sym same) ∙ parts.0
+      | inr later ↦ list_all-Contains p xs x parts.1 later
     ]

@@ -1,30 +1,26 @@
 -- On a legal trace each note is about a begun node, the notes tile their nodes and are numbered, and those of the loads are the beginning of them.
-use Rattle.std.proofs.Common.{◌≡◌, ◌⊎◌, inl, inr, ℕ, ◌≤◌, Bool, true, false, ◌==◌, ◌&&◌, ◌||◌, not, if◌then◌else◌, List, [], ◌∷◌, ◌++◌, length, slice_get, find, filter, Contains, Option, Some, None, refl, sym, ap, ◌∙◌, ap₂, subst, subst₂, true≢false, append_assoc, arith}
-use Rattle.std.specs.List.{list_any}
-use Rattle.std.proofs.lemmas.Bool.{cases_Bool, cond_both, and_parts, and_from, eqb-true, eq-eqb, not-true, or_right, false_from_ne_true}
+use Rattle.std.proofs.Common.{◌≡◌, inl, inr, ℕ, ◌≤◌, true, false, ◌==◌, ◌&&◌, not, List, [], ◌∷◌, ◌++◌, length, slice_get, find, Contains, Option, Some, None, refl, sym, ap, ◌∙◌, ap₂, subst, subst₂, true≢false, append_assoc}
+use Rattle.std.proofs.lemmas.Bool.{and_parts, and_from, eqb-true, eq-eqb, not-true, or_right, false_from_ne_true}
 use Rattle.std.proofs.lemmas.List.Elements.{Contains-append_right}
-use Rattle.sq_tree.specs.declared.status.Status.{Status}
-use Rattle.sq_tree.specs.declared.status.Status.TheVariants.{Free, Split, Claimed, Partial, Complete}
+use Rattle.sq_tree.specs.declared.status.Status.TheVariants.{Claimed, Partial, Complete}
 use Rattle.sq_tree.specs.Status.{is_begun, is_complete}
 use Rattle.sq_chunk.specs.declared.chunk.Note.{Note}
 use Rattle.sq_ranges.specs.declared.recon.Range.{Range}
 use Rattle.sq_ranges.specs.OpeningValue.{OpeningValue}
-use Rattle.sq_model.specs.declared.step.Step.{Step}
-use Rattle.sq_model.specs.declared.step.Step.TheVariants.{Prepare, Start, Submit, Claim, Begin, Cut, Push, Pop, Load, Complete as Complete_step, Report, Finish}
-use Rattle.sq_model.specs.declared.answer.Answer.{Answer}
-use Rattle.sq_model.specs.declared.answer.Answer.TheVariants.{Done, Replied, Moved, Waits, WasCut, WasLoaded, Refused}
+use Rattle.sq_model.specs.declared.step.Step.TheVariants.{Claim, Begin, Cut, Load, Complete as Complete_step}
+use Rattle.sq_model.specs.declared.answer.Answer.TheVariants.{Done, WasCut, WasLoaded}
 use Rattle.sq_model.specs.Trace.{Trace, notes, loads, link, load_count}
-use Rattle.sq_model.specs.Nodes.{Item, set_if, status_of, items}
+use Rattle.sq_model.specs.Nodes.{Item, status_of, items}
 use Rattle.sq_model.specs.Place.{extent_of}
-use Rattle.sq_model.specs.Links.{is_about, has_last, end_of_note, reached, goes, is_on_link, is_open, open_items, is_reactive, or_first, next_item, next_note, cut_end}
-use Rattle.sq_model.specs.Orderly.{IsPrefix, AreNumbered, GoesOn, Tiles, LeavesComplete, AllLeaveComplete}
+use Rattle.sq_model.specs.Links.{is_about, has_last, end_of_note, reached, goes, is_on_link, is_open, open_items, is_reactive, or_first, next_item, next_note}
+use Rattle.sq_model.specs.Orderly.{IsPrefix, AreNumbered, GoesOn, Tiles, AllLeaveComplete}
 use Rattle.sq_model.specs.Legal.{IsLegal}
 use Rattle.sq_model.proofs.Lists.{Contains-nothing, Contains-cases, Contains-first, Contains-later, kept_in, found_in, find-filter, list_any-filter, list_any-Contains, any_in}
 use Rattle.sq_model.proofs.Link.{IsOf, link_has, link_at, Contains-link}
-use Rattle.sq_model.proofs.Steps.{CutGoes, cut_goes, LoadGoes, load_goes, claim_goes, begin_goes, complete_goes}
+use Rattle.sq_model.proofs.Steps.{cut_goes, LoadGoes, load_goes, complete_goes}
 use Rattle.sq_model.proofs.Counts.{cut_is_of, load_is_of}
 use Rattle.sq_model.proofs.Statuses.{item_begun, stays_begun, set_if_at}
-use Rattle.sq_model.proofs.Numbers.{found_next}
+use Rattle.sq_model.proofs.Numbers.{find_next, found_next}
 use Rattle.sq_model.proofs.Tiles.{about_is, reached_within, tile, cut_end_within}
 
 -- the segment of this number goes from the one partition to the other
@@ -60,17 +56,21 @@ next_in (first ∷ list) item next = pick (find is_reactive (first ∷ list)) re
     pick None none e = subst (Contains (first ∷ list)) (let f = e in cc) (Contains-first first list)
     pick (Some other) found e = (found_in is_reactive (first ∷ list) item (found ∙ e)).0
 
--- the item of a Cut that went
-pub record CutItem (o : OpeningValue) (t : Trace) (src dst : ℕ) (item : Item) : Type 0 where
+-- an item that is open on a link
+pub record IsOpenOn (o : OpeningValue) (t : Trace) (src dst : ℕ) (item : Item) : Type 0 where
   pub among : Contains (items t) item
   pub segment : SegmentGoes o item.seg src dst
   pub unfinished : has_last item.seg item.node (notes t) ≡ false
 
-pub cut_item : (o : OpeningValue) (t : Trace) (src dst : ℕ) (item : Item) → next_item (open_items o t src dst) ≡ Some item → CutItem o t src dst item
-cut_item o t src dst item next =
-    let kept = kept_in (is_open o t src dst) (items t) item (next_in (open_items o t src dst) item next) in
+pub open_item : (o : OpeningValue) (t : Trace) (src dst : ℕ) (item : Item) → Contains (open_items o t src dst) item → IsOpenOn o t src dst item
+open_item o t src dst item has =
+    let kept = kept_in (is_open o t src dst) (items t) item has in
     let parts = and_parts (is_on_link o src dst item.seg) (not (has_last item.seg item.node (notes t))) kept.1 in
     record { among = kept.0; segment = on_link_goes o src dst item.seg parts.0; unfinished = not-true (has_last item.seg item.node (notes t)) parts.1 }
+
+-- so is the item that is cut next
+pub cut_item : (o : OpeningValue) (t : Trace) (src dst : ℕ) (item : Item) → next_item (open_items o t src dst) ≡ Some item → IsOpenOn o t src dst item
+cut_item o t src dst item next = open_item o t src dst item (next_in (open_items o t src dst) item next)
 
 -- each note's segment goes from its source to its destination
 pub note_goes : (o : OpeningValue) (t : Trace) → IsLegal o t → (note : Note) → Contains (notes t) note → SegmentGoes o note.seg note.src note.dst
@@ -225,22 +225,50 @@ goes_on_link o (next ∷ ns) tiles all src dst front note before e =
         subst₂ (GoesOn o) here rest (goes_on_first o next ns tiles.0 all src dst is)
     at_first (first ∷ front) is same older = older front (let f = same in cc)
 
+-- a loaded note's segment goes from its source to its destination, too
+load_all_go : (o : OpeningValue) (t : Trace) → IsLegal o t → AllGo o (loads t)
+load_all_go o t legal note has = note_goes o t legal note (loaded_in o t legal note has)
+
+-- the note right after the loaded ones of its link
+pub next_has : (t : Trace) (src dst : ℕ) (note : Note) → LoadNext t src dst note → Contains (notes t) note × IsOf src dst note
+next_has t src dst note next =
+    link_has src dst (notes t) note
+    (subst (λ list. Contains list note) next.notes_are (Contains-append_right next.front (note ∷ link src dst (loads t)) note (Contains-first note (link src dst (loads t)))))
+
+-- is found by its number
+pub next_found : (o : OpeningValue) (t : Trace) → IsLegal o t → (src dst : ℕ) (note : Note) → LoadNext t src dst note → find (λ other. other.number == load_count t src dst) (link src dst (notes t)) ≡ Some note
+next_found o t legal src dst note next =
+    ap (find (λ (other : Note). other.number == load_count t src dst)) (sym next.notes_are)
+    ∙ find_next next.front note (link src dst (loads t)) (subst AreNumbered (sym next.notes_are) (numbered o t legal src dst))
+
+-- goes on from the loads
+pub next_goes : (o : OpeningValue) (t : Trace) → IsLegal o t → (src dst : ℕ) (note : Note) → LoadNext t src dst note → GoesOn o note (loads t)
+next_goes o t legal src dst note next =
+    let has = next_has t src dst note next in
+    let segment : SegmentGoes o note.seg src dst = subst₂ (SegmentGoes o note.seg) has.1.source has.1.destination (note_goes o t legal note has.0) in
+    goes_on_like o note (link src dst (loads t)) (loads t)
+    (reached-link o (loads t) (load_all_go o t legal) src dst note.seg note.node segment)
+    (has_last-link o (loads t) (load_all_go o t legal) src dst note.seg note.node segment)
+    (goes_on_link o (notes t) (tiles_notes o t legal) (note_goes o t legal) src dst next.front note (link src dst (loads t)) (sym next.notes_are))
+
 -- so the loads tile their nodes too
 pub tiles_loads : (o : OpeningValue) (t : Trace) → IsLegal o t → Tiles o (loads t)
 tiles_loads o [] legal = tt
 tiles_loads o ((Load src dst, WasLoaded note families) ∷ t) legal =
-    let load = load_goes o t src dst note families legal.0 in
-    let of = load_is_of o t src dst note families load in
-    let next = load_next o t legal.1 src dst note families load in
-    let segment : SegmentGoes o note.seg src dst = subst₂ (SegmentGoes o note.seg) of.1.source of.1.destination (note_goes o t legal.1 note of.0) in
-    let all : AllGo o (loads t) = λ other has. note_goes o t legal.1 other (loaded_in o t legal.1 other has) in (
-      goes_on_like o note (link src dst (loads t)) (loads t)
-          (reached-link o (loads t) all src dst note.seg note.node segment)
-          (has_last-link o (loads t) all src dst note.seg note.node segment)
-          (goes_on_link o (notes t) (tiles_notes o t legal.1) (note_goes o t legal.1) src dst next.front note (link src dst (loads t)) (sym next.notes_are)),
-      tiles_loads o t legal.1,
-    )
+    let next = load_next o t legal.1 src dst note families (load_goes o t src dst note families legal.0) in
+    (next_goes o t legal.1 src dst note next, tiles_loads o t legal.1)
 tiles_loads o ((step, told) ∷ t) legal = tiles_loads o t legal.1
+
+-- no note is about a node that isn't begun
+pub unbegun_none : (o : OpeningValue) (t : Trace) → IsLegal o t → (seg node : ℕ) → is_begun (status_of t seg node) ≡ false → find (is_about seg node) (notes t) ≡ None
+unbegun_none o t legal seg node unbegun = among (find (is_about seg node) (notes t)) refl
+  where
+    among : (found : Option Note) → find (is_about seg node) (notes t) ≡ found → find (is_about seg node) (notes t) ≡ None
+    among None none = none
+    among (Some note) some =
+        let at = found_in (is_about seg node) (notes t) note some in
+        let is = about_is seg node note at.1 in
+        absurd (true≢false (sym (note_begun o t legal note at.0) ∙ ap₂ (λ g n. is_begun (status_of t g n)) is.0 is.1 ∙ unbegun))
 
 -- a node whose last note was loaded has its last note
 pub last_cut : (o : OpeningValue) (t : Trace) → IsLegal o t → (seg node : ℕ) → has_last seg node (loads t) ≡ true → has_last seg node (notes t) ≡ true

@@ -1,5 +1,5 @@
 -- Notes of a link that are numbered from 0.
-use Rattle.std.proofs.Common.{◌≡◌, ◌⊎◌, inl, inr, ℕ, zero, suc, ◌+◌, ◌<◌, ◌≤◌, Bool, true, false, ◌==◌, if◌then◌else◌, List, [], ◌∷◌, ◌++◌, length, find, Contains, Some, None, refl, sym, ap, ◌∙◌, subst, true≢false, length-append, arith}
+use Rattle.std.proofs.Common.{◌≡◌, inl, inr, ℕ, suc, ◌<◌, ◌≤◌, Bool, ◌==◌, List, [], ◌∷◌, ◌++◌, length, find, Contains, Some, sym, ap, ◌∙◌, subst, length-append, arith}
 use Rattle.std.proofs.lemmas.Bool.{cases_Bool, cond-true, cond-false, eqb-true, eq-eqb, ne_eqb}
 use Rattle.std.proofs.lemmas.List.{nil_from_length}
 use Rattle.sq_chunk.specs.declared.chunk.Note.{Note}
@@ -44,4 +44,13 @@ found_next (next ∷ way) ns note numbered found =
       | inr other ↦
           let rest = found_next way ns note numbered.1 (sym (cond-false (next.number == length ns) (Some next) (find (has_number (length ns)) (way ++ ns)) other) ∙ found) in
           (next ∷ rest.0, ap (λ more. next ∷ more) rest.1)
+    ]
+
+-- notes that come after others have numbers from how many those are on
+pub number_from : (way ns : List Note) → AreNumbered (way ++ ns) → (note : Note) → Contains way note → length ns ≤ note.number
+number_from [] ns numbered note has = absurd (Contains-nothing note has)
+number_from (next ∷ way) ns numbered note has =
+    elim (Contains-cases next way note has) [
+      | inl same ↦ subst (λ (k : Note). length ns ≤ k.number) same (omega (arith, numbered.0, length-append way ns))
+      | inr older ↦ number_from way ns numbered.1 note older
     ]

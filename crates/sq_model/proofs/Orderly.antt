@@ -1,5 +1,4 @@
 -- On a legal trace the moves are in order.
-use Rattle.std.proofs.Common.{ℕ}
 use Rattle.sq_ranges.specs.OpeningValue.{OpeningValue}
 use Rattle.sq_model.specs.Opening.{IsOpening}
 use Rattle.sq_model.specs.Trace.{Trace}

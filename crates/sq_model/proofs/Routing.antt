@@ -1,8 +1,7 @@
 -- On a legal trace a root key's segment, and the node that covers its leaf, tell whether it was given up, cut and loaded.
-use Rattle.std.proofs.Common.{◌≡◌, ◌⊎◌, inl, inr, ℕ, ◌<◌, ◌≤◌, Bool, true, false, ◌==◌, ◌&&◌, nat_le, nat_lt, List, slice_get, find, Contains, Option, Some, None, refl, sym, ap, ap₂, ◌∙◌, subst, subst₂, true≢false, arith}
-use Rattle.std.specs.List.{list_any}
+use Rattle.std.proofs.Common.{◌≡◌, ℕ, ◌<◌, Bool, true, false, ◌&&◌, nat_le, nat_lt, List, slice_get, Contains, Some, None, refl, sym, ap₂, ◌∙◌, subst, subst₂, true≢false, arith}
 use Rattle.std.proofs.lemmas.Bool.{and_parts, and_from, lt-ltb, false_from_ne_true}
-use Rattle.sq_tree.specs.Status.{is_begun, covering, pull_of}
+use Rattle.sq_tree.specs.Status.{is_begun, covering}
 use Rattle.sq_tree.proofs.Covering.{covering_is}
 use Rattle.sq_chunk.specs.declared.chunk.Note.{Note}
 use Rattle.sq_chunk.specs.ChunkValue.{covers}

@@ -1,28 +1,27 @@
 -- On a legal trace the statuses of each segment are grown, and they are begun exactly where an item is.
-use Rattle.std.proofs.Common.{◌≡◌, ◌⊎◌, inl, inr, ℕ, ◌<◌, ◌≤◌, Bool, true, false, ◌==◌, ◌&&◌, if◌then◌else◌, IsTrue, List, [], ◌∷◌, ◌++◌, length, Contains, refl, sym, ap, ap₂, ◌∙◌, subst, arith, true≢false}
+use Rattle.std.proofs.Common.{◌≡◌, inl, inr, ℕ, ◌<◌, ◌≤◌, Bool, true, false, ◌==◌, ◌&&◌, if◌then◌else◌, IsTrue, [], ◌∷◌, ◌++◌, length, slice_get, Some, Contains, refl, sym, ap, ap₂, ◌∙◌, subst, arith, true≢false}
 use Rattle.std.specs.Cmp.{IsEquivalence}
 use Rattle.std.specs.List.{list_any, IsDistinct}
-use Rattle.std.proofs.lemmas.Bool.{cases_Bool, cond_both, and_parts, eqb-true, eq-eqb, false_from_ne_true}
+use Rattle.std.proofs.lemmas.Bool.{cases_Bool, cond_both, and_parts, and_from, cases_order, eqb-true, eq-eqb, false_from_ne_true}
 use Rattle.std.proofs.lemmas.Bool.Decides.{nat_tests}
 use Rattle.std.proofs.lemmas.List.Elements.{Contains-push, Contains-push_cases, Contains-append_left}
-use Rattle.std.proofs.lemmas.Map.Keys.{IsDistinct-push}
+use Rattle.std.proofs.lemmas.Map.Keys.{IsDistinct-push, apart_from_distinct}
+use Rattle.std.proofs.lemmas.Option.{slice_get_within, get_or_from_slice_get}
 use Rattle.sq_tree.specs.declared.status.Status.{Status}
 use Rattle.sq_tree.specs.declared.status.Status.TheVariants.{Free, Split, Claimed, Partial, Complete}
 use Rattle.sq_tree.specs.Node.{is_node}
 use Rattle.sq_tree.specs.Status.{is_free, is_split, is_begun, is_past, pull_of}
-use Rattle.sq_tree.specs.Answer.{claim_answer, begin_answer, complete_answer}
 use Rattle.sq_tree.specs.Tree.{set_at, IsGrown}
 use Rattle.sq_tree.proofs.Statuses.{free_is}
 use Rattle.sq_tree.proofs.Grown.{grown-free, grown-set_at}
 use Rattle.sq_ranges.specs.OpeningValue.{OpeningValue}
 use Rattle.sq_model.specs.declared.step.Step.{Step}
-use Rattle.sq_model.specs.declared.step.Step.TheVariants.{Prepare, Start, Submit, Claim, Begin, Cut, Push, Pop, Load, Complete as Complete_step, Report, Finish}
+use Rattle.sq_model.specs.declared.step.Step.TheVariants.{Claim, Begin, Complete as Complete_step}
 use Rattle.sq_model.specs.declared.answer.Answer.{Answer}
-use Rattle.sq_model.specs.declared.answer.Answer.TheVariants.{Done, Replied, Moved, Waits, WasCut, WasLoaded, Refused}
+use Rattle.sq_model.specs.declared.answer.Answer.TheVariants.{Done}
 use Rattle.sq_model.specs.Trace.{Trace}
-use Rattle.sq_model.specs.Leader.{is_moving, is_started}
 use Rattle.sq_model.specs.Nodes.{Item, set_if, status_of, items}
-use Rattle.sq_model.specs.Legal.{IsAnswer, IsLegal}
+use Rattle.sq_model.specs.Legal.{IsLegal}
 use Rattle.sq_model.proofs.Lists.{Contains-nothing, any_in}
 use Rattle.sq_model.proofs.Steps.{claim_goes, begin_goes, complete_goes}
 
@@ -229,3 +228,22 @@ one_item o t legal one other has has' same there =
     let second = (item_begun o t legal other has').pull_is in
     let pulls : one.pull ≡ other.pull = sym first ∙ ap₂ (λ g n. pull_of (status_of t g n)) same there ∙ second in
     λ i. record { seg = same i; node = there i; pull = pulls i }
+
+-- and stand at one place
+pub one_place : (o : OpeningValue) (t : Trace) → IsLegal o t → (i j : ℕ) (one other : Item) → slice_get (items t) i ≡ Some one → slice_get (items t) j ≡ Some other → one.seg ≡ other.seg → one.node ≡ other.node → i ≡ j
+one_place o t legal i j one other at at' same there =
+    let within = slice_get_within (items t) i one at in
+    let within' = slice_get_within (items t) j other at' in
+    let read = get_or_from_slice_get (items t) i one one at in
+    let read' = get_or_from_slice_get (items t) j other one at' in
+    elim (cases_order i j) [
+      | inl equal ↦ equal
+      | inr differ ↦
+          elim differ [
+            | inl before ↦ absurd (true≢false (sym (is_one one other same there) ∙ sym (ap₂ is_same_node read read') ∙ apart_from_distinct is_same_node (items t) i j one (distinct_items o t legal) before within'))
+            | inr behind ↦ absurd (true≢false (sym (is_one other one (sym same) (sym there)) ∙ sym (ap₂ is_same_node read' read) ∙ apart_from_distinct is_same_node (items t) j i one (distinct_items o t legal) behind within))
+          ]
+    ]
+  where
+    is_one : (a b : Item) → a.seg ≡ b.seg → a.node ≡ b.node → is_same_node a b ≡ true
+    is_one a b e f = and_from (a.seg == b.seg) (a.node == b.node) (eq-eqb a.seg b.seg e) (eq-eqb a.node b.node f)

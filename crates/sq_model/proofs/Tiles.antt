@@ -1,16 +1,15 @@
 -- Notes that tile the extents of their nodes.
-use Rattle.std.proofs.Common.{◌≡◌, ◌⊎◌, inl, inr, ℕ, zero, suc, ◌+◌, ◌-◌, ◌*◌, ◌<◌, ◌≤◌, min, Bool, true, false, ◌==◌, ◌&&◌, ◌||◌, nat_le, nat_lt, if◌then◌else◌, List, [], ◌∷◌, ◌++◌, length, slice_get, find, filter, Contains, Option, Some, None, refl, sym, ap, ◌∙◌, subst, subst₂, true≢false, mul-le-mul_right, le_of_eq, arith}
+use Rattle.std.proofs.Common.{◌≡◌, inl, inr, ℕ, ◌+◌, ◌-◌, ◌*◌, ◌≤◌, min, Bool, true, false, ◌==◌, ◌&&◌, ◌||◌, nat_le, nat_lt, if◌then◌else◌, List, [], ◌∷◌, slice_get, find, Contains, Option, Some, None, refl, sym, ap, ◌∙◌, subst, subst₂, true≢false, mul-le-mul_right, le_of_eq, arith}
 use Rattle.std.specs.List.{list_any, range_with_len}
-use Rattle.std.proofs.lemmas.Bool.{cases_Bool, cond_both, and_parts, and_from, or_cases, eqb-true, eq-eqb, leb-true, ltb-true, le-leb, lt-ltb}
+use Rattle.std.proofs.lemmas.Bool.{cases_Bool, cond_both, and_parts, and_from, eqb-true, eq-eqb}
 use Rattle.std.proofs.lemmas.Bool.Decides.{nat_tests}
 use Rattle.sq_tree.specs.Node.{first_leaf, span}
 use Rattle.sq_chunk.specs.declared.chunk.Note.{Note}
 use Rattle.sq_chunk.specs.ChunkValue.{covers}
 use Rattle.sq_ranges.specs.declared.recon.Range.{Range}
-use Rattle.sq_ranges.specs.ReconValue.{leaf_start}
 use Rattle.sq_ranges.specs.CutEnd.{end_within, end_of}
 use Rattle.sq_ranges.specs.OpeningValue.{OpeningValue}
-use Rattle.sq_model.specs.Trace.{Trace, notes}
+use Rattle.sq_model.specs.Trace.{Trace}
 use Rattle.sq_model.specs.Tables.{stands, size_of}
 use Rattle.sq_model.specs.Place.{extent_in, extent_of}
 use Rattle.sq_model.specs.Links.{is_about, has_last, end_of_note, reached, standing, cut_end}

@@ -4,7 +4,8 @@ ghost use Rattle.sq_schema.specs.TxnValue.{TxnValue};
 ghost use Rattle.sq_ranges.specs.OpeningValue.{OpeningValue};
 ghost use Rattle.sq_model.specs.Trace.{Trace};
 ghost use Rattle.sq_model.specs.Tables.{is_full};
-ghost use Rattle.sq_model.specs.Place.{runner};
+ghost use Rattle.sq_model.specs.Leader.{phase};
+ghost use Rattle.sq_model.specs.Place.{At, place, destination, runner};
 ghost use Rattle.sq_model.specs.Waiting.{waiting, wait_limit, has_to_wait};
 ghost use Rattle.sq_model.specs.Answers.{answer};
 ghost use Rattle.sq_model.specs.Opening.{IsOpening};
@@ -13,7 +14,7 @@ ghost use Rattle.sq_model.specs.Orderly.{IsOrderly};
 ghost use Rattle.sq_model.specs.Worked.{one_row, whole_path, whole_path_told, given_up, given_up_told, begun_again, begun_again_told, two_families, two_chunks, two_chunks_told, large_family, large_chunk, large_chunk_told, three_families, full_link, full_link_told, out_of_order, out_of_order_told, waits_for_rows, waits_for_rows_told, too_soon, too_soon_told};
 
 use crate::answer::{Answer, Refusal};
-use crate::step::Step;
+use crate::step::{Phase, Step};
 
 /// The shortest whole path: the keys 4 to 7 move, and the row is read at its new place.
 pub fn moves_four_keys()
@@ -74,4 +75,9 @@ pub fn refuses_a_crowd()
 /// that its link numbered it, and nothing of a complete node moves.
 pub fn moves_in_order()
     ensures { (o : OpeningValue) (t : Trace) → IsOpening o → IsLegal o t → IsOrderly o t }
+{}
+
+/// Once the move has ended, the family of each root key is where the new plan has it.
+pub fn ends_where_planned()
+    ensures { (o : OpeningValue) (t : Trace) (root : ℕ) → IsOpening o → IsLegal o t → phase t ≡ Phase.Ended → place o t root ≡ At (destination o root) }
 {}

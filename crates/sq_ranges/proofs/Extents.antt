@@ -1,39 +1,15 @@
 -- What layers above use of nodes: which keys of a segment they cover.
-use Rattle.std.proofs.Common.{◌≡◌, ◌≢◌, ◌⊎◌, inl, inr, ⊎_elim, ℕ, zero, suc, ◌+◌, ◌-◌, ◌*◌, ◌/◌, ◌<◌, ◌≤◌, min, Bool, true, false, refl, sym, ap, ◌∙◌, subst, arith, ◌==◌, ◌&&◌, nat_le, nat_lt}
+use Rattle.std.proofs.Common.{◌≡◌, ◌≢◌, ◌⊎◌, inl, inr, ⊎_elim, ℕ, zero, suc, ◌+◌, ◌-◌, ◌*◌, ◌/◌, ◌<◌, ◌≤◌, min, Bool, true, false, refl, sym, ap, ◌∙◌, subst, arith, ◌==◌, ◌&&◌, nat_le, nat_lt, IsTrue}
 use Rattle.std.proofs.Math.Nat.{div-mul-le_self, lt-div-mul-add}
 use Rattle.std.proofs.lemmas.Nat.{le-div, div_below}
-use Rattle.std.proofs.lemmas.Bool.{and_parts, and_from, leb-true, ltb-true, le-leb, lt-ltb, eqb-true, cases_lt, agree_below_at}
-use Rattle.sq_tree.specs.Node.{span, first_leaf, is_above}
+use Rattle.std.proofs.lemmas.Bool.{and_parts, and_from, leb-true, ltb-true, le-leb, lt-ltb, cases_lt}
+use Rattle.sq_tree.specs.Node.{is_node, is_leaf, span, first_leaf, is_above, is_under}
+use Rattle.sq_tree.proofs.Nested.{apart, above_bounds, halves_of}
 use Rattle.sq_ranges.specs.declared.recon.Range.{Range}
 use Rattle.sq_ranges.specs.declared.recon.Extent.{Extent}
 use Rattle.sq_ranges.specs.ReconValue.{holds, segment_width, leaf_of, leaf_start, extent}
+pub use Rattle.sq_ranges.specs.Laws.{Covers}
 use Rattle.sq_ranges.proofs.Joins.{holds_bounds}
-
--- the key is one of these
-pub record Covers (keys : Extent) (key : ℕ) : Type 0 where
-  pub low : keys.lo ≤ key
-  pub high : key < keys.hi
-
-above_bounds : (n leaf : ℕ) → is_above n leaf ≡ true → (first_leaf n ≤ leaf) × (leaf < first_leaf n + span n)
-above_bounds n leaf above =
-    let parts = and_parts (nat_le (first_leaf n) leaf) (nat_lt leaf (first_leaf n + span n)) above in
-    (leb-true (first_leaf n) leaf parts.0, ltb-true leaf (first_leaf n + span n) parts.1)
-
--- a node and its two halves
-abbrev halves : ℕ → Bool
-halves n = (first_leaf (2 * n) == first_leaf n) && ((first_leaf (2 * n + 1) == first_leaf (2 * n) + span (2 * n)) && (first_leaf (2 * n + 1) + span (2 * n + 1) == first_leaf n + span n))
-
-halves_at : (n : ℕ) → 1 ≤ n → n < 32 → halves n ≡ true
-halves_at n low high =
-    let at = agree_below_at (λ k. halves (suc k)) (λ _. true) 31 (n - 1) refl (omega arith) in
-    let same : suc (n - 1) ≡ n = omega arith in
-    subst (λ (k : ℕ). halves k ≡ true) same at
-
-pub half_leaves : (n : ℕ) → 1 ≤ n → n < 32 → (first_leaf (2 * n) ≡ first_leaf n) × (first_leaf (2 * n + 1) ≡ first_leaf (2 * n) + span (2 * n)) × (first_leaf (2 * n + 1) + span (2 * n + 1) ≡ first_leaf n + span n)
-half_leaves n low high =
-    let one = and_parts (first_leaf (2 * n) == first_leaf n) ((first_leaf (2 * n + 1) == first_leaf (2 * n) + span (2 * n)) && (first_leaf (2 * n + 1) + span (2 * n + 1) == first_leaf n + span n)) (halves_at n low high) in
-    let two = and_parts (first_leaf (2 * n + 1) == first_leaf (2 * n) + span (2 * n)) (first_leaf (2 * n + 1) + span (2 * n + 1) == first_leaf n + span n) one.1 in
-    (eqb-true (first_leaf (2 * n)) (first_leaf n) one.0, eqb-true (first_leaf (2 * n + 1)) (first_leaf (2 * n) + span (2 * n)) two.0, eqb-true (first_leaf (2 * n + 1) + span (2 * n + 1)) (first_leaf n + span n) two.1)
 
 module _ (width : ℕ) (segment : Range) where
   -- leaves rise, within the segment
@@ -61,10 +37,12 @@ module _ (width : ℕ) (segment : Range) where
   extent_whole some short = (omega arith, omega arith)
 
   -- the two halves of a node tile it
-  pub extent_halves : (n : ℕ) → 1 ≤ n → n < 32 → ((extent width segment (2 * n)).lo ≡ (extent width segment n).lo) × ((extent width segment (2 * n)).hi ≡ (extent width segment (2 * n + 1)).lo) × ((extent width segment (2 * n + 1)).hi ≡ (extent width segment n).hi)
-  extent_halves n low high =
-      let leaves = half_leaves n low high in
-      (ap (leaf_start width segment) leaves.0, ap (leaf_start width segment) (sym leaves.1), ap (leaf_start width segment) leaves.2)
+  pub extent_halves : (n : ℕ) → IsTrue (is_node n) → is_leaf n ≡ false → ((extent width segment (2 * n)).lo ≡ (extent width segment n).lo) × ((extent width segment (2 * n)).hi ≡ (extent width segment (2 * n + 1)).lo) × ((extent width segment (2 * n + 1)).hi ≡ (extent width segment n).hi)
+  extent_halves n node inner =
+      let leaves = halves_of n node inner in
+      let middle : first_leaf (2 * n) + span (2 * n) ≡ first_leaf (2 * n + 1) = omega (arith, leaves.low, leaves.high) in
+      let end : first_leaf (2 * n + 1) + span (2 * n + 1) ≡ first_leaf n + span n = omega (arith, leaves.high, leaves.same, leaves.whole) in
+      (ap (leaf_start width segment) leaves.low, ap (leaf_start width segment) middle, ap (leaf_start width segment) end)
 
   -- a node whose leaves come before another's ends before the other begins
   pub extent_before : (n m : ℕ) → first_leaf n + span n ≤ first_leaf m → (extent width segment n).hi ≤ (extent width segment m).lo
@@ -76,6 +54,18 @@ module _ (width : ℕ) (segment : Range) where
       (λ (before : first_leaf n + span n ≤ first_leaf m). let ends = extent_before n m before in omega (arith, one.high, other.low))
       (λ (behind : first_leaf m + span m ≤ first_leaf n). let ends = extent_before m n behind in omega (arith, one.low, other.high))
       apart
+
+  -- as two that aren't nested have
+  pub extents_disjoint : (n m key : ℕ) → IsTrue (is_node n) → IsTrue (is_node m) → is_under n m ≡ false → is_under m n ≡ false → Covers (extent width segment n) key → Covers (extent width segment m) key → ⊥
+  extents_disjoint n m key node other not_under not_above = extents_apart n m key (apart n m node other not_under not_above)
+
+  -- what is under a node lies in it
+  pub extent_under : (n m : ℕ) → is_under n m ≡ true → ((extent width segment n).lo ≤ (extent width segment m).lo) × ((extent width segment m).hi ≤ (extent width segment n).hi)
+  extent_under n m under =
+      let parts = and_parts (nat_le (first_leaf n) (first_leaf m)) (nat_le (first_leaf m + span m) (first_leaf n + span n)) under in (
+        leaf_start_rises (first_leaf n) (first_leaf m) (leb-true (first_leaf n) (first_leaf m) parts.0),
+        leaf_start_rises (first_leaf m + span m) (first_leaf n + span n) (leb-true (first_leaf m + span m) (first_leaf n + span n) parts.1),
+      )
 
   module _ (some : 1 ≤ width) (key : ℕ) (held : holds segment key ≡ true) where
     -- a leaf begins at a key or before it where the key's leaf doesn't come before it

@@ -1,33 +1,53 @@
 -- A reconfiguration that is made of the moves between two plans.
-use Rattle.std.proofs.Common.{◌≡◌, ℕ, ◌≤◌, Bool, true, List, length, refl, sym, ap, ◌∙◌, subst, nat_le}
-use Rattle.std.proofs.lemmas.Bool.{leb-true}
+use Rattle.std.proofs.Common.{◌≡◌, ℕ, ◌≤◌, ◌==◌, Bool, true, false, not, nat_lt, if◌then◌else◌, List, length, Some, None, refl, sym, ap, ◌∙◌, subst}
+use Rattle.std.proofs.lemmas.Bool.{eqb-true, ltb-false}
+use Rattle.std.proofs.lemmas.Option.{none-some}
 use Rattle.sq_plan.specs.PlanValue.{PlanValue, IsPlan}
 use Rattle.sq_ranges.specs.declared.recon.Range.{Range}
 use Rattle.sq_ranges.specs.ReconValue.{ReconValue, IsRecon, is_width, are_rising, segments_of, segment_limit}
 use Rattle.sq_ranges.specs.Moves.{moves_of}
-use Rattle.sq_ranges.specs.Between.{recon_of, IsReconOf}
+use Rattle.sq_ranges.specs.Between.{recon_fault, recon_of, IsReconOf}
+use Rattle.sq_ranges.specs.declared.fault.ReconFault.TheVariants.{PartitionsDiffer, Width, TooManySegments}
 use Rattle.sq_ranges.proofs.Overlaps.{moves_of-moves}
 use Rattle.sq_ranges.proofs.Segments.{moves-rising}
 
 pub moves_of-rising : (old new : PlanValue) → IsPlan old → IsPlan new → are_rising 0 (moves_of old new) ≡ true
 moves_of-rising old new is_old is_new = moves-rising old new (moves_of old new) (moves_of-moves old new is_old is_new)
 
-module _ (old new : PlanValue) (is_old : IsPlan old) (is_new : IsPlan new) (width : ℕ) (leaf : is_width width ≡ true) (few : nat_le (length (segments_of width (moves_of old new))) segment_limit ≡ true) where
+-- what isn't refused has a width and few segments
+pub record IsFine (old new : PlanValue) (width : ℕ) : Type 0 where
+  pub parts : old.parts ≡ new.parts
+  pub leaf : is_width width ≡ true
+  pub few : length (segments_of width (moves_of old new)) ≤ segment_limit
+
+fine_from : (a b c : Bool) → (if not a then Some PartitionsDiffer else if not b then Some Width else if c then Some TooManySegments else None) ≡ None → (a ≡ true) × (b ≡ true) × (c ≡ false)
+fine_from true true true e = absurd (none-some TooManySegments (sym e))
+fine_from true true false e = (refl, refl, refl)
+fine_from true false c e = absurd (none-some Width (sym e))
+fine_from false b c e = absurd (none-some PartitionsDiffer (sym e))
+
+pub fine : (old new : PlanValue) (width : ℕ) → recon_fault old new width ≡ None → IsFine old new width
+fine old new width none =
+    let count = length (segments_of width (moves_of old new)) in
+    let parts = fine_from (old.parts == new.parts) (is_width width) (nat_lt segment_limit count) none in
+    record { parts = eqb-true old.parts new.parts parts.0; leaf = parts.1; few = ltb-false segment_limit count parts.2 }
+
+module _ (old new : PlanValue) (is_old : IsPlan old) (is_new : IsPlan new) (width : ℕ) (is : IsFine old new width) where
   is_recon_of : IsReconOf old new width (recon_of old new width)
   is_recon_of = record {
     moves = moves_of-moves old new is_old is_new;
     leaf = refl;
     whole = record {
-      leaf = leaf;
+      leaf = is.leaf;
       rising = moves_of-rising old new is_old is_new;
       cut = refl;
-      few = leb-true (length (segments_of width (moves_of old new))) segment_limit few;
+      few = is.few;
     };
   }
 
   -- so is one of the same ranges and segments
   pub made : (ranges segments : List Range) → ranges ≡ moves_of old new → segments ≡ segments_of width ranges → IsReconOf old new width (record { width = width; ranges = ranges; segments = segments })
-  made ranges segments is cut =
-      let same : segments ≡ segments_of width (moves_of old new) = cut ∙ ap (segments_of width) is in
-      let value : recon_of old new width ≡ record { width = width; ranges = ranges; segments = segments } = sym (λ i. record { width = width; ranges = is i; segments = same i }) in
+  made ranges segments same_ranges cut =
+      let same : segments ≡ segments_of width (moves_of old new) = cut ∙ ap (segments_of width) same_ranges in
+      let value : recon_of old new width ≡ record { width = width; ranges = ranges; segments = segments } = sym (λ i. record { width = width; ranges = same_ranges i; segments = same i }) in
       subst (IsReconOf old new width) value is_recon_of

@@ -1,7 +1,7 @@
 // The moves between two plans, and the segments that they are cut into.
 ghost use Rattle.std.specs.Prelude.{◌≡◌, ◌≤◌, ◌<◌, ◌++◌, true, nat_le, length, map, IfOk, OnOk};
 ghost use Rattle.sq_ranges.specs.ReconValue.{is_width, segment_at, segment_count, segments_in, segments_of, segment_limit, are_rising, link_of, AreLinks};
-ghost use Rattle.sq_plan.specs.PlanValue.{root_end};
+ghost use Rattle.sq_plan.specs.PlanValue.{root_end, IsPlan};
 ghost use Rattle.sq_ranges.specs.Moves.{moves_of};
 
 use crate::recon::{Link, Range};
@@ -33,7 +33,8 @@ pub(crate) fn fits(old: &Plan, new: &Plan, width: u64) -> bool
 
 /// The moves between two plans, in key order.
 pub(crate) fn moves(alloc: Global, old: &Plan, new: &Plan) -> Result<Vec<Range>, AllocError>
-    ensures { IfOk result (λ moves. moves.items ≡ moves_of old.now new.now) }
+    ensures moves { IfOk result (λ moves. moves.items ≡ moves_of old.now new.now) }
+    ensures plans { IsPlan old.now × IsPlan new.now }
 {
     let mut moves = Vec::new(alloc);
     let mut sweep = Sweep::new(old, new);

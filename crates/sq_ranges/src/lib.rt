@@ -3,7 +3,7 @@
 
 mod cut;
 mod fault;
-mod node;
+pub mod laws;
 mod opening;
 mod recon;
 mod sweep;
@@ -11,3 +11,6 @@ mod sweep;
 pub use fault::ReconFault;
 pub use opening::Config;
 pub use recon::{Extent, Leaf, Link, Range, Recon, SegId};
+
+#[cfg(test)]
+mod tests;

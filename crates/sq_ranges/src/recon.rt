@@ -6,9 +6,9 @@ ghost use Rattle.sq_ranges.specs.ReconValue.{is_width, are_rising, leaf_start};
 
 use crate::cut::{fits, links, moves, segments};
 use crate::fault::ReconFault;
-use crate::node::{first_leaf, is_node, span};
 use sq_plan::{PartId, Plan};
 use sq_schema::Root;
+use sq_tree::{first_leaf, is_node, span};
 use std::alloc::Global;
 use std::marker::Model;
 
@@ -74,29 +74,37 @@ impl Model for Recon {
 
 impl Recon {
     ghost use Rattle.sq_ranges.specs.ReconValue.{IsRecon, AreLinks, leaf_at, extent_at};
-    ghost use Rattle.sq_ranges.specs.Moves.{AreTheMoves, moves_of};
     ghost use Rattle.sq_ranges.specs.Between.{recon_fault, recon_of, IsReconOf};
 
-    /// What moves between two plans, cut into segments of 32 leaves of `width` root keys each. Refused are, in
-    /// this order: plans of different numbers of partitions, a width that isn't from 1 to 65,536, and moves that
-    /// come to more than 256 segments. Memory is taken, and may be wanted, only for what isn't refused.
-    #[tactic(auto, using(crate::proofs::Runs::the_moves))]
+    /// Why there is no reconfiguration between two plans: the first of these. They name different numbers of
+    /// partitions; the width of a leaf isn't from 1 to 65,536 root keys; what moves comes to more than 256
+    /// segments. `None` where there is one. It takes no memory.
+    pub fn fault(old: &Plan, new: &Plan, width: u64) -> Option<ReconFault>
+        ensures { result ≡ recon_fault old.now new.now width }
+    {
+        let parts = old.parts();
+        if parts != new.parts() {
+            return Some(ReconFault::PartitionsDiffer);
+        }
+        if !is_width(width) {
+            return Some(ReconFault::Width);
+        }
+        if !fits(old, new, width) {
+            return Some(ReconFault::TooManySegments);
+        }
+        None
+    }
+
+    /// What moves between two plans, cut into segments of 32 leaves of `width` root keys each. It is refused where
+    /// [`Recon::fault`] finds a cause; memory is taken, and may be wanted, only where it finds none.
     pub fn between(alloc: Global, old: &Plan, new: &Plan, width: u64) -> Result<Recon, ReconFault>
         ensures answer { MatchResult result
             (λ recon. (recon_fault old.now new.now width ≡ None) × (recon ≡ recon_of old.now new.now width))
             (λ fault. fault ≡ unwrap_or (recon_fault old.now new.now width) ReconFault.Memory) }
         ensures ok { IfOk result (IsReconOf old.now new.now width) }
-        // Two plans have one list of moves.
-        ensures moves { AreTheMoves old.now new.now (moves_of old.now new.now) }
     {
-        if old.parts() != new.parts() {
-            return Err(ReconFault::PartitionsDiffer);
-        }
-        if !is_width(width) {
-            return Err(ReconFault::Width);
-        }
-        if !fits(old, new, width) {
-            return Err(ReconFault::TooManySegments);
+        if let Some(fault) = Recon::fault(old, new, width) {
+            return Err(fault);
         }
         let ranges = moves(alloc, old, new)?;
         let segments = segments(alloc, ranges.as_slice(), width)?;

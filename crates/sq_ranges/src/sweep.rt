@@ -2,7 +2,7 @@
 ghost use Rattle.std.specs.Prelude.{◌≡◌, ℕ, ◌<◌, ◌≤◌, List, MatchOption, OnSome, ◌∷◌, []};
 ghost use Rattle.sq_ranges.specs.declared.recon.Range.{Range};
 ghost use Rattle.sq_ranges.specs.Moves.{moves_of};
-ghost use Rattle.sq_plan.specs.PlanValue.{PlanValue};
+ghost use Rattle.sq_plan.specs.PlanValue.{PlanValue, IsPlan};
 ghost use Rattle.sq_ranges.specs.Sweep.{past, piece_of, left, ComesTo, Reaches, EndsAt};
 
 use crate::recon::Range;
@@ -19,7 +19,8 @@ pub(crate) struct Sweep<'a> {
 impl<'a> Sweep<'a> {
     /// The whole of two plans.
     pub(crate) fn new(old: &'a Plan, new: &'a Plan) -> Sweep<'a>
-        ensures { ComesTo result (moves_of old.now new.now) }
+        ensures moves { ComesTo result (moves_of old.now new.now) }
+        ensures plans { IsPlan old.now × IsPlan new.now }
     {
         Sweep {
             at: 0,

@@ -1,14 +1,13 @@
 -- What one more write makes of a draft.
-use Rattle.std.proofs.Common.{◌≡◌, ℕ, ◌+◌, ◌-◌, ◌*◌, ◌^◌, ◌<◌, ◌≤◌, true, List, [], ◌∷◌, ◌++◌, length, Some, None, Option, IfSome, sym, ap, ◌∙◌, arith, refl}
+use Rattle.std.proofs.Common.{◌≡◌, ℕ, ◌+◌, ◌-◌, ◌*◌, ◌^◌, ◌<◌, ◌≤◌, true, [], ◌∷◌, ◌++◌, length, Some, None, Option, IfSome, arith, refl}
 use Rattle.std.specs.Option.{option_map_or}
 use Rattle.std.proofs.lemmas.Bool.Decides.{nat_tests}
 use Rattle.std.proofs.lemmas.List.Elements.{All-push}
 use Rattle.sq_schema.specs.declared.row.RowKey.{RowKey}
 use Rattle.sq_schema.specs.Values.{RowValue}
-use Rattle.sq_schema.specs.Effect.{RowList, row_at}
+use Rattle.sq_schema.specs.Effect.{row_at}
 use Rattle.sq_schema.specs.Family.{row_size, rows_size}
 use Rattle.sq_schema.specs.Refusals.{note_limit}
-use Rattle.sq_schema.specs.Rows.{IsRowList}
 use Rattle.sq_schema.specs.Writes.{DraftValue, drafted, with_write, is_sound, is_write, IsDraft}
 use Rattle.sq_schema.proofs.Kept.{IsRowList-with_write}
 use Rattle.sq_schema.proofs.KeyOrder.{length_bound}

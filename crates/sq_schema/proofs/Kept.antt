@@ -1,9 +1,9 @@
 -- Edits of rows keep them sound.
-use Rattle.std.proofs.Common.{◌≡◌, Bool, true, false, not, T, List, [], ◌∷◌, Some, None, Option, Ordering, refl, sym, subst}
+use Rattle.std.proofs.Common.{◌≡◌, Bool, true, false, not, T, [], ◌∷◌, Some, None, Option, refl, subst}
 use Rattle.std.specs.declared.cmp.Ordering.TheVariants.{Less, Equal, Greater}
-use Rattle.std.specs.List.{All, AllPass}
+use Rattle.std.specs.List.{All}
 use Rattle.std.specs.Ordering.{eq_by_cmp}
-use Rattle.std.specs.FinMap.Entries.{put, by_order, is_sorted-put, is_sorted-where_key}
+use Rattle.std.specs.FinMap.Entries.{by_order, is_sorted, is_sorted-put, is_sorted-where_key}
 use Rattle.std.proofs.lemmas.List.Elements.{All-nil, All-cons, All-head, All-tail, All-filter}
 use Rattle.sq_schema.specs.declared.row.RowKey.{RowKey}
 use Rattle.sq_schema.specs.Values.{RowValue}
@@ -32,17 +32,23 @@ All-with_row P (entry ∷ rows) key row new all =
       | Greater ↦ λ is. All-cons P entry (with_row rows key row) (All-head P entry rows all) (All-with_row P rows key row new (All-tail P entry rows all))
     ] refl
 
+pub is_sorted-with_row : (rows : RowList) (key : RowKey) (row : RowValue) → is_sorted key_cmp rows ≡ true → is_sorted key_cmp (with_row rows key row) ≡ true
+is_sorted-with_row rows key row rising = from_T _ (is_sorted-put key_cmp key_cmp_total key row rows (to_T _ rising))
+
+pub is_sorted-without_row : (rows : RowList) (key : RowKey) → is_sorted key_cmp rows ≡ true → is_sorted key_cmp (without_row rows key) ≡ true
+is_sorted-without_row rows key rising = from_T _ (is_sorted-where_key key_cmp (λ other. not (eq_by_cmp key_cmp key other)) rows (to_T _ rising))
+
 pub IsRowList-with_row : (rows : RowList) (key : RowKey) (row : RowValue) → is_entry (key, row) ≡ true → IsRowList rows → IsRowList (with_row rows key row)
 IsRowList-with_row rows key row new sound =
     record {
-      rising = from_T _ (is_sorted-put key_cmp key_cmp_total key row rows (to_T _ sound.rising));
+      rising = is_sorted-with_row rows key row sound.rising;
       entries = All-with_row (λ entry. is_entry entry ≡ true) rows key row new sound.entries;
     }
 
 pub IsRowList-without_row : (rows : RowList) (key : RowKey) → IsRowList rows → IsRowList (without_row rows key)
 IsRowList-without_row rows key sound =
     record {
-      rising = from_T _ (is_sorted-where_key key_cmp (λ other. not (eq_by_cmp key_cmp key other)) rows (to_T _ sound.rising));
+      rising = is_sorted-without_row rows key sound.rising;
       entries = All-filter (λ entry. not (eq_by_cmp key_cmp key entry.0)) (λ entry. is_entry entry ≡ true) rows sound.entries;
     }
 

@@ -1,7 +1,7 @@
 -- The order of row keys, and how many keys there are.
-use Rattle.std.proofs.Common.{◌≡◌, ℕ, suc, ◌+◌, ◌*◌, ◌^◌, ◌<◌, ◌≤◌, true, List, [], ◌∷◌, length, Ordering, ◌⊎◌, inl, inr, refl, sym, arith}
+use Rattle.std.proofs.Common.{◌≡◌, ℕ, ◌+◌, ◌*◌, ◌^◌, ◌<◌, ◌≤◌, true, [], ◌∷◌, length, Ordering, ◌⊎◌, inl, inr, refl, sym, arith}
 use Rattle.std.specs.declared.cmp.Ordering.TheVariants.{Less, Equal, Greater}
-use Rattle.std.specs.Ordering.{nat_cmp, is_lt, ordering_then}
+use Rattle.std.specs.Ordering.{nat_cmp, is_lt, is_eq, eq_by_cmp, ordering_then}
 use Rattle.std.specs.Cmp.{IsTotalOrder}
 use Rattle.std.specs.List.{AllPass}
 use Rattle.std.specs.FinMap.Entries.{is_sorted, below_all}
@@ -36,6 +36,14 @@ same_key a b tied =
     let tables = ranked a.table b.table Equal (sym both.0) in
     let subs = ranked a.sub b.sub Equal (sym both.1) in
     λ i. record { table = tables i; sub = subs i }
+
+equal_from_test : (r : Ordering) → is_eq r ≡ true → r ≡ Equal
+equal_from_test Less p = absurd (cc)
+equal_from_test Equal p = refl
+equal_from_test Greater p = absurd (cc)
+
+pub same_key_from_test : (a b : RowKey) → eq_by_cmp key_cmp a b ≡ true → a ≡ b
+same_key_from_test a b tied = same_key a b (equal_from_test (key_cmp a b) tied)
 
 -- the number of a key among all keys
 rank : RowKey → ℕ

@@ -1,6 +1,5 @@
 -- The row of a key after writes is that of the last write of it.
-use Rattle.std.proofs.Common.{◌≡◌, ℕ, Bool, true, false, cond, not, ◌&&◌, ◌==◌, List, [], ◌∷◌, ◌++◌, reverse, length, ◌≤◌, Some, None, Option, Ordering, IfSome, refl, sym, ap, ◌∙◌, arith, append-nil}
-use Rattle.std.specs.declared.cmp.Ordering.TheVariants.{Equal}
+use Rattle.std.proofs.Common.{◌≡◌, ℕ, Bool, true, false, cond, not, ◌&&◌, ◌==◌, List, [], ◌∷◌, ◌++◌, reverse, length, ◌≤◌, Some, None, Option, IfSome, refl, sym, ap, ◌∙◌, arith}
 use Rattle.std.specs.List.{find as find_in, AllPass}
 use Rattle.std.specs.Option.{option_copied}
 use Rattle.std.specs.Ordering.{is_eq, eq_by_cmp, nat_cmp}
@@ -25,10 +24,10 @@ use Rattle.sq_schema.proofs.KeyOrder.{key_cmp_total}
 abbrev pub is_key : RowKey → RowKey → Bool
 is_key a b = (a.table == b.table) && (a.sub == b.sub)
 
-nat_eq-cmp : (x y : ℕ) → (x == y) ≡ is_eq (nat_cmp x y)
+pub nat_eq-cmp : (x y : ℕ) → (x == y) ≡ is_eq (nat_cmp x y)
 nat_eq-cmp x y = grind (arith, nat_tests)
 
-is_key-cmp : (a b : RowKey) → is_key a b ≡ eq_by_cmp key_cmp a b
+pub is_key-cmp : (a b : RowKey) → is_key a b ≡ eq_by_cmp key_cmp a b
 is_key-cmp a b = (λ i. nat_eq-cmp a.table b.table i && nat_eq-cmp a.sub b.sub i) ∙ tied_then (nat_cmp a.table b.table) (nat_cmp a.sub b.sub)
 
 pub row_at-with_row : (rows : RowList) (key q : RowKey) (row : RowValue) → row_at (with_row rows key row) q ≡ cond (is_key key q) (Some row) (row_at rows q)

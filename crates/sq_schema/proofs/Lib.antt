@@ -8,3 +8,7 @@ pub mod Weights
 pub mod Latest
 pub mod Drafts
 pub mod Runs
+pub mod Tables
+pub mod Applied
+pub mod Rooted
+pub mod Replay

@@ -5,7 +5,8 @@ use Rattle.std.proofs.lemmas.Bool.Decides.{nat_tests}
 use Rattle.sq_schema.specs.declared.row.RowKey.{RowKey}
 use Rattle.sq_schema.specs.declared.txn.Op.{Op}
 use Rattle.sq_schema.specs.declared.txn.Op.TheVariants.{Get, Put, Add, Del, Check}
-use Rattle.sq_schema.specs.Refusals.{key_fault, op_fault, ops_fault, txn_fault}
+use Rattle.sq_schema.specs.Values.{RowValue}
+use Rattle.sq_schema.specs.Refusals.{key_fault, row_fault, op_fault, ops_fault, txn_fault}
 
 pub or_none : {A : Type 0} (first second : Option A) → option_or first second ≡ None → (first ≡ None) × (second ≡ None)
 or_none None second none = (refl, none)
@@ -16,9 +17,12 @@ module _ (few many : ℕ) (more : few ≤ many) where
   key_fault-wider : (key : RowKey) → key_fault few key ≡ None → key_fault many key ≡ None
   key_fault-wider key sound = grind (arith, nat_tests)
 
+  pub row_fault-wider : (key : RowKey) (row : RowValue) → row_fault few key row ≡ None → row_fault many key row ≡ None
+  row_fault-wider key row sound = grind (arith, nat_tests)
+
   op_fault-wider : (op : Op) → op_fault few op ≡ None → op_fault many op ≡ None
   op_fault-wider (Get key) sound = key_fault-wider key sound
-  op_fault-wider (Put key row) sound = grind (arith, nat_tests)
+  op_fault-wider (Put key row) sound = row_fault-wider key row sound
   op_fault-wider (Add key by) sound = key_fault-wider key sound
   op_fault-wider (Del key) sound = key_fault-wider key sound
   op_fault-wider (Check key least) sound = key_fault-wider key sound

@@ -1,10 +1,10 @@
 -- How an edit of rows changes their count and their size.
-use Rattle.std.proofs.Common.{◌≡◌, ℕ, suc, ◌+◌, ◌*◌, Bool, true, false, cond, not, List, [], ◌∷◌, length, Some, None, Option, Ordering, refl, sym, ap, ◌∙◌, arith}
+use Rattle.std.proofs.Common.{◌≡◌, ℕ, ◌+◌, true, cond, not, [], ◌∷◌, length, Some, None, Option, refl, ◌∙◌, arith}
 use Rattle.std.specs.declared.cmp.Ordering.TheVariants.{Less, Equal, Greater}
 use Rattle.std.specs.List.{sum_by}
-use Rattle.std.specs.Option.{option_map_or, option_len}
+use Rattle.std.specs.Option.{option_map_or}
 use Rattle.std.specs.Ordering.{is_eq}
-use Rattle.std.specs.FinMap.Entries.{find, put, by_order, where_key, below_all, is_sorted}
+use Rattle.std.specs.FinMap.Entries.{by_order, below_all, is_sorted}
 use Rattle.std.proofs.lemmas.Bool.{and_parts}
 use Rattle.std.proofs.lemmas.List.Sums.{sum_by-cons}
 use Rattle.sq_schema.specs.declared.row.RowKey.{RowKey}
@@ -12,7 +12,6 @@ use Rattle.sq_schema.specs.Values.{RowValue}
 use Rattle.sq_schema.specs.Keys.{key_cmp}
 use Rattle.sq_schema.specs.Effect.{RowList, row_at, with_row, without_row}
 use Rattle.sq_schema.specs.Family.{row_size, rows_size}
-use Rattle.sq_schema.specs.Rows.{IsRowList}
 use Rattle.sq_schema.specs.Writes.{with_write}
 use Rattle.sq_schema.proofs.KeyOrder.{key_cmp_total}
 use Rattle.sq_schema.proofs.Entries.{where_key_below, below_tied, below_before, find_below}

@@ -1,5 +1,5 @@
 -- What a transaction does to the rows of its root key, and what it is answered.
-use Rattle.std.specs.Prelude.{ℕ, ℤ, Bool, true, false, ◌+◌, ◌-◌, ◌^◌, ◌+ℤ◌, ◌==◌, ◌&&◌, not, nat_lt, if◌then◌else◌, List, [], ◌∷◌, length, fold, filter, Option, Some, None, Result, Ok, Err, is_some, pos, negsuc}
+use Rattle.std.specs.Prelude.{ℕ, ℤ, Bool, ◌+◌, ◌^◌, ◌+ℤ◌, ◌==◌, ◌&&◌, not, nat_lt, if◌then◌else◌, List, [], ◌∷◌, length, fold, filter, Option, Some, None, Result, Ok, Err, is_some, pos, negsuc}
 use Rattle.std.specs.Ordering.{eq_by_cmp, int_cmp, is_lt}
 use Rattle.std.specs.FinMap.Entries.{find, put, where_key}
 use Rattle.sq_schema.specs.declared.row.RowKey.{RowKey}
@@ -116,6 +116,6 @@ table_after table txn root = if txn.root == root then effect (table root) txn el
 abbrev pub replay : RowTable → List TxnValue → RowTable
 replay table txns = fold table_after table txns
 
--- the transactions of one root key, in their order
+-- the transactions on one root key, in their order
 abbrev pub only : ℕ → List TxnValue → List TxnValue
 only root txns = filter (λ txn. txn.root == root) txns

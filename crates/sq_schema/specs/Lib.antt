@@ -9,3 +9,4 @@ pub mod Writes
 pub mod Runs
 pub mod Standing
 pub mod Table
+pub mod Examples

@@ -1,5 +1,5 @@
 -- The rows of one root key, as they may stand.
-use Rattle.std.specs.Prelude.{◌≡◌, ℕ, Bool, true, ◌+◌, ◌^◌, ◌<◌, ◌≤◌, ◌==◌, ◌&&◌, ◌||◌, nat_lt, nat_le, List, length, is_some, Option, Some, None, Result, Ok, Err, IsTrue, slice_index_or, slice_set}
+use Rattle.std.specs.Prelude.{◌≡◌, ℕ, Bool, true, ◌^◌, ◌<◌, ◌≤◌, ◌==◌, ◌&&◌, ◌||◌, nat_lt, nat_le, length, is_some, Some, None, Result, Ok, Err, slice_index_or, slice_set}
 use Rattle.std.specs.List.{AllPass, list_all, insert, remove}
 use Rattle.std.specs.FinMap.Entries.{is_sorted}
 use Rattle.sq_schema.specs.declared.row.RowKey.{RowKey}

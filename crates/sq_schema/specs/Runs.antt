@@ -1,8 +1,7 @@
 -- What running operations comes to in the code.
-use Rattle.std.specs.Prelude.{◌≡◌, ℕ, ⊤, List, length, Option, Some, None, Ok, Err}
+use Rattle.std.specs.Prelude.{◌≡◌, ⊤, List, Ok, Err}
 use Rattle.std.specs.List.{AllPass}
 use Rattle.sq_schema.specs.declared.txn.Op.{Op}
-use Rattle.sq_schema.specs.declared.txn.OpAnswer.{OpAnswer}
 use Rattle.sq_schema.specs.declared.draft.Stop.{Stop}
 use Rattle.sq_schema.specs.declared.draft.Stop.TheVariants.{Abort, Memory}
 use Rattle.sq_schema.specs.declared.draft.Outcome.{Outcome as Ended}

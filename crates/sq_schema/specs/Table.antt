@@ -1,12 +1,39 @@
--- A table that isn't partitioned, as the list of its root keys and their rows.
-use Rattle.std.specs.Prelude.{ℕ, List, [], unwrap_or}
+-- The opening rows of a database, by root key.
+use Rattle.std.specs.Prelude.{◌≡◌, ℕ, Bool, ◌==◌, ◌&&◌, not, if◌then◌else◌, List, [], length, is_some, unwrap_or, Option, Some, None}
 use Rattle.std.specs.Ordering.{nat_cmp}
 use Rattle.std.specs.FinMap.Entries.{find}
-use Rattle.sq_schema.specs.Effect.{RowList}
+use Rattle.sq_schema.specs.declared.row.RowKey.{RowKey}
+use Rattle.sq_schema.specs.declared.fault.RowFault.{RowFault}
+use Rattle.sq_schema.specs.declared.fault.RowFault.TheVariants.{RowRepeated, NoRootRow, Memory}
+use Rattle.sq_schema.specs.Values.{RowValue}
+use Rattle.sq_schema.specs.Effect.{RowList, RowTable, root_key, row_at, with_row}
+use Rattle.sq_schema.specs.Rows.{is_rooted}
 
+-- the rows of the root keys that have some, by rising root key
 abbrev pub TableValue : Type 0
 TableValue = List (ℕ × RowList)
 
--- the rows of a root key; none where the table has none
-abbrev pub rows_in : TableValue → ℕ → RowList
+-- the rows of each root key, which are none where it has none
+abbrev pub rows_in : TableValue → RowTable
 rows_in table root = unwrap_or (find nat_cmp root table) []
+
+-- some rows, of which those of other tables stand under the root row
+abbrev pub is_opening : RowList → Bool
+is_opening rows = not (length rows == 0) && is_rooted rows
+
+-- why an opening row is refused: its key was given, or it isn't of the root table and the root row wasn't given
+abbrev pub row_given_fault : RowList → RowKey → Option RowFault
+row_given_fault rows key =
+    if is_some (row_at rows key)
+    then Some RowRepeated
+    else (if not (key.table == 0) && not (is_some (row_at rows root_key)) then Some NoRootRow else None)
+
+-- a refusal is that one, or else for want of memory
+abbrev pub RefusesBy : Option RowFault → RowFault → Type 0
+RefusesBy fault RowRepeated = fault ≡ Some RowRepeated
+RefusesBy fault NoRootRow = fault ≡ Some NoRootRow
+RefusesBy fault Memory = fault ≡ None
+
+-- the table with one more row
+abbrev pub with_given : RowTable → ℕ → RowKey → RowValue → RowTable
+with_given table root key row k = if root == k then with_row (table k) key row else table k

@@ -1,8 +1,7 @@
 -- Writes of rows that wait to be made.
-use Rattle.std.specs.Prelude.{◌≡◌, ℕ, Bool, true, List, fold, length, Option, Some, None, Ok, Err}
+use Rattle.std.specs.Prelude.{◌≡◌, ℕ, Bool, true, List, fold, length, Option, Some, None}
 use Rattle.std.specs.List.{AllPass}
 use Rattle.sq_schema.specs.declared.row.RowKey.{RowKey}
-use Rattle.sq_schema.specs.declared.txn.Op.{Op}
 use Rattle.sq_schema.specs.Values.{RowValue}
 use Rattle.sq_schema.specs.Effect.{RowList, with_row, without_row}
 use Rattle.sq_schema.specs.Family.{rows_size}

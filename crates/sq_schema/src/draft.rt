@@ -1,12 +1,11 @@
 // Operations on the rows of a root key, whose writes wait until all of them have run.
 ghost use Rattle.std.specs.Prelude.{◌≡◌, ◌≤◌, ◌++◌, ◌∷◌, [], None, Ok, length, IfOk, IfErr, IfSome, OnOk, OnErr};
-ghost use Rattle.std.specs.Option.{option_copied, option_map_or};
-ghost use Rattle.sq_schema.specs.Family.{row_size, rows_size};
+ghost use Rattle.std.specs.Option.{option_copied};
 ghost use Rattle.sq_schema.specs.Refusals.{ops_fault};
 ghost use Rattle.sq_schema.specs.Runs.{EndsBy};
 
 use crate::row::{Row, RowKey};
-use crate::rows::Rows;
+use crate::rows::{Rows, weight};
 use crate::txn::{Cause, Op, OpAnswer, OpAnswers};
 use std::alloc::{AllocError, Global};
 use std::marker::Model;
@@ -31,7 +30,7 @@ impl<'a> Model for Draft<'a> {
 }
 
 /// Why an operation has no answer.
-#[derive(Clone, Copy, Debug)]
+#[derive(Clone, Copy)]
 pub(crate) enum Stop {
     /// It aborts its transaction.
     Abort(Cause),
@@ -84,22 +83,20 @@ impl From<AllocError> for Stop {
 
 impl<'a> Draft<'a> {
     ghost use Rattle.sq_schema.specs.Effect.{row_at, op_outcome, put_outcome, add_outcome, del_outcome, check_outcome};
-    ghost use Rattle.sq_schema.specs.Family.{rows_size};
     ghost use Rattle.sq_schema.specs.Refusals.{op_fault, note_limit};
     ghost use Rattle.sq_schema.specs.Writes.{is_write, drafted};
     ghost use Rattle.sq_schema.specs.Runs.{StopsBy};
 
-    // These rows of a family of this size, and no writes.
-    fn new(alloc: Global, rows: &'a Rows, size: u64) -> Draft<'a>
-        requires { size ≡ rows_size rows.now }
+    // These rows, and no writes.
+    fn new(alloc: Global, rows: &'a Rows) -> Draft<'a>
         ensures rows { result.base ≡ rows.now }
         ensures writes { result.writes ≡ [] }
     {
         Draft {
             count: rows.len(),
+            size: rows.size(),
             rows,
             writes: Vec::new(alloc),
-            size,
         }
     }
 
@@ -206,13 +203,12 @@ impl<'a> Draft<'a> {
     }
 }
 
-/// Runs operations on the rows of a family of this size, up to the first that aborts. The rows stay as they are.
-pub(crate) fn run(alloc: Global, rows: &Rows, size: u64, ops: &[Op]) -> Result<Outcome, AllocError>
-    requires size { size ≡ rows_size rows.now }
-    requires ops { ops_fault 8 ops.now ≡ None }
+// Runs operations on these rows, up to the first that aborts. The rows stay as they are.
+pub(crate) fn run(alloc: Global, rows: &Rows, ops: &[Op]) -> Result<Outcome, AllocError>
+    requires { ops_fault 8 ops.now ≡ None }
     ensures { IfOk result (EndsBy rows.now ops.now) }
 {
-    let mut draft = Draft::new(alloc, rows, size);
+    let mut draft = Draft::new(alloc, rows);
     let mut answers = Vec::with_capacity(alloc, ops.len())?;
     for (at, op) in ops.iter().enumerate() {
         match draft.run(op) {
@@ -232,15 +228,4 @@ pub(crate) fn run(alloc: Global, rows: &Rows, size: u64, ops: &[Op]) -> Result<O
         writes,
         size,
     })
-}
-
-// How many rows this is, and their size.
-fn weight(row: Option<&Row>) -> (usize, u64)
-    ensures count { result.0 ≡ option_map_or (λ row. 1) (option_copied row.entry) 0 }
-    ensures size { result.1 ≡ option_map_or row_size (option_copied row.entry) 0 }
-{
-    match row {
-        Some(row) => (1, row.size()),
-        None => (0, 0),
-    }
 }

@@ -23,7 +23,6 @@ pub struct Family {
     root: Root,
     base: Rows,
     rows: Rows,
-    size: u64,
     log: Vec<Txn>,
 }
 
@@ -35,7 +34,7 @@ impl Model for Family {
 
     ghost view = { λ f. record { root = f.root; base = f.base; log = f.log.items } };
 
-    ghost invariant = { λ f. IsKept (record { root = f.root; base = f.base; log = f.log.items }) f.rows f.size };
+    ghost invariant = { λ f. IsKept (record { root = f.root; base = f.base; log = f.log.items }) f.rows };
 }
 
 impl Family {
@@ -47,7 +46,6 @@ impl Family {
             root,
             base: Rows::new(alloc),
             rows: Rows::new(alloc),
-            size: 32,
             log: Vec::new(alloc),
         }
     }
@@ -62,12 +60,10 @@ impl Family {
         let Ok(base) = rows.clone() else {
             return Err(rows);
         };
-        let size = rows.size();
         Ok(Family {
             root,
             base,
             rows,
-            size,
             log: Vec::new(alloc),
         })
     }
@@ -85,7 +81,7 @@ impl Family {
             return Err(ApplyFault::LogFull);
         }
         let alloc = *self.log.allocator();
-        match run(alloc, &self.rows, self.size, txn.ops())? {
+        match run(alloc, &self.rows, txn.ops())? {
             Outcome::Aborted { at, cause } => Ok(Reply::Aborted { at, cause }),
             Outcome::Committed {
                 answers,
@@ -94,8 +90,7 @@ impl Family {
             } => {
                 let entry = txn.clone()?;
                 self.log.reserve(1)?;
-                self.rows.write_all(writes)?;
-                self.size = size;
+                self.rows.write_all(writes, size)?;
                 self.log.push_reserved(entry);
                 Ok(Reply::Committed(answers))
             }
@@ -109,9 +104,10 @@ impl Family {
         self.root
     }
 
-    /// The rows.
+    /// The rows, of which those of other tables stand only under the root row.
     pub fn rows(&self) -> &Rows
-        ensures { result.now ≡ rows_of self.now }
+        ensures rows { result.now ≡ rows_of self.now }
+        ensures rooted { IsTrue (is_rooted result.now) }
     {
         &self.rows
     }
@@ -137,7 +133,7 @@ impl Family {
     pub fn size(&self) -> u64
         ensures { result ≡ rows_size (rows_of self.now) }
     {
-        self.size
+        self.rows.size()
     }
 
     /// Whether it has rows to start from, or a log.

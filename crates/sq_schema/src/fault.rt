@@ -36,3 +36,14 @@ impl From<AllocError> for ApplyFault {
         ApplyFault::Memory
     }
 }
+
+/// Why an opening row wasn't taken.
+#[derive(Clone, Copy, Debug, PartialEq, Eq)]
+pub enum RowFault {
+    /// A row with its key was given (136).
+    RowRepeated,
+    /// It isn't of the root table, and the root row wasn't given (137).
+    NoRootRow,
+    /// There is no memory (222).
+    Memory,
+}

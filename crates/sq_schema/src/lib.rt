@@ -4,16 +4,23 @@
 mod draft;
 mod family;
 mod fault;
+mod laws;
 mod root;
 mod row;
 mod rows;
 mod schema;
+mod table;
 mod txn;
 
 pub use family::{Family, MAX_LOG};
-pub use fault::{ApplyFault, TxnFault};
+pub use fault::{ApplyFault, RowFault, TxnFault};
+pub use laws::{replays_by_root, worked_replies};
 pub use root::{ROOT_END, Root};
 pub use row::{Row, RowKey};
 pub use rows::Rows;
 pub use schema::{MAX_NOTE, MAX_TABLES, Schema};
+pub use table::Table;
 pub use txn::{Cause, MAX_OPS, Op, OpAnswer, OpAnswers, Reply, Txn};
+
+#[cfg(test)]
+mod tests;

@@ -1,16 +1,19 @@
 // The rows of one root key.
-ghost use Rattle.std.specs.Prelude.{◌≡◌, ◌+◌, ◌*◌, ◌^◌, ◌<◌, ◌≤◌, ◌==◌, true, [], length, vec_len, vec_capacity, OnOk, OnErr, IfErr, IfSome};
-ghost use Rattle.std.specs.Option.{option_copied};
+ghost use Rattle.std.specs.Prelude.{◌≡◌, ◌+◌, ◌*◌, ◌^◌, ◌<◌, ◌≤◌, ◌==◌, true, [], ◌∷◌, length, vec_len, vec_capacity, OnOk, OnErr, IfErr, IfSome};
+ghost use Rattle.std.specs.Option.{option_copied, option_map_or};
 ghost use Rattle.std.specs.List.{AllPass};
 ghost use Rattle.std.specs.FinMap.Entries.{is_sorted};
+ghost use Rattle.sq_schema.specs.declared.row.RowKey.{RowKey};
 ghost use Rattle.sq_schema.specs.Keys.{key_cmp};
-ghost use Rattle.sq_schema.specs.Effect.{row_at, with_row};
-ghost use Rattle.sq_schema.specs.Family.{rows_size};
+ghost use Rattle.sq_schema.specs.Effect.{RowList, row_at, with_row, effect};
+ghost use Rattle.sq_schema.specs.Family.{row_size, rows_size};
 ghost use Rattle.sq_schema.specs.Refusals.{note_limit};
 ghost use Rattle.sq_schema.specs.Rows.{IsRowList, IsPlace};
 ghost use Rattle.sq_schema.specs.Writes.{is_write, with_write, with_writes};
 
+use crate::draft::{Outcome, run};
 use crate::row::{Row, RowKey};
+use crate::txn::Txn;
 use std::alloc::{AllocError, AllocFailed, Global};
 use std::marker::Model;
 
@@ -18,19 +21,21 @@ use std::marker::Model;
 #[derive(Debug, Drop)]
 pub struct Rows {
     rows: Vec<(RowKey, Row)>,
+    size: u64,
 }
 
 impl Model for Rows {
-    ghost use Rattle.std.specs.Prelude.{List};
+    ghost use Rattle.std.specs.Prelude.{◌≡◌, List};
     ghost use Rattle.sq_schema.specs.Values.{RowValue};
     ghost use Rattle.sq_schema.specs.declared.row.RowKey.{RowKey};
+    ghost use Rattle.sq_schema.specs.Family.{rows_size};
     ghost use Rattle.sq_schema.specs.Rows.{IsRowList};
 
     ghost Value = { List (RowKey × RowValue) };
 
     ghost view = { λ r. r.rows.items };
 
-    ghost invariant = { λ r. IsRowList r.rows.items };
+    ghost invariant = { λ r. IsRowList r.rows.items × (r.size ≡ rows_size r.rows.items) };
 }
 
 impl Rows {
@@ -40,6 +45,7 @@ impl Rows {
     {
         Rows {
             rows: Vec::new(alloc),
+            size: 32,
         }
     }
 
@@ -78,13 +84,9 @@ impl Rows {
 
     /// The size in bytes of a family with these rows: 32, and 24 and the length of the note for each row.
     pub fn size(&self) -> u64
-        ensures size { result ≡ rows_size self.now }
+        ensures { result ≡ rows_size self.now }
     {
-        let mut size = 32;
-        for (_, row) in &self.rows {
-            size += row.size();
-        }
-        size
+        self.size
     }
 
     /// Puts a row, new or in place of the one that stands. Where there is no memory the row comes back.
@@ -97,13 +99,40 @@ impl Rows {
         if self.rows.reserve(1).is_err() {
             return Err(AllocFailed { value: row });
         }
+        let (_, old_size) = weight(self.get(key));
+        self.size = self.size + row.size() - old_size;
         write(&mut self.rows, key, Some(row));
         Ok(())
     }
 
-    // Makes these writes in their order, or none where there is no memory.
-    pub(crate) fn write_all(&mut self, writes: Vec<(RowKey, Option<Row>)>) -> Result<(), AllocError>
-        requires { AllPass is_write writes.items }
+    // The first row.
+    pub(crate) fn into_first(self) -> Row
+        requires { 0 < length self }
+        ensures { (key : RowKey) × (rest : RowList) × (self ≡ (key, result) ∷ rest) }
+    {
+        let Rows { mut rows, size: _ } = self;
+        rows.remove(0).1
+    }
+
+    // Runs a transaction on the rows. Where there is no memory they stay.
+    pub(crate) fn run(&mut self, alloc: Global, txn: &Txn) -> Result<(), AllocError>
+        ensures ok { OnOk result (self.new ≡ effect self.old txn.now) }
+        ensures err { OnErr result (self.new ≡ self.old) }
+    {
+        match run(alloc, self, txn.ops())? {
+            Outcome::Aborted { .. } => Ok(()),
+            Outcome::Committed { writes, size, .. } => self.write_all(writes, size),
+        }
+    }
+
+    // Makes these writes in their order, or none where there is no memory. The size is that of the rows afterwards.
+    pub(crate) fn write_all(
+        &mut self,
+        writes: Vec<(RowKey, Option<Row>)>,
+        size: u64,
+    ) -> Result<(), AllocError>
+        requires writes { AllPass is_write writes.items }
+        requires size { size ≡ rows_size (with_writes self.old writes.items) }
         ensures ok { OnOk result (self.new ≡ with_writes self.old writes.items) }
         ensures err { OnErr result (self.new ≡ self.old) }
     {
@@ -111,6 +140,7 @@ impl Rows {
         for (key, row) in writes {
             write(&mut self.rows, key, row);
         }
+        self.size = size;
         Ok(())
     }
 }
@@ -121,6 +151,7 @@ impl Clone for Rows {
     fn clone(&self) -> Result<Rows, AllocError> {
         Ok(Rows {
             rows: self.rows.clone()?,
+            size: self.size,
         })
     }
 }
@@ -152,5 +183,16 @@ fn write(rows: &mut Vec<(RowKey, Row)>, key: RowKey, row: Option<Row>)
             };
         }
         (Err(_), None) => {}
+    }
+}
+
+// How many rows this is, and their size.
+pub(crate) fn weight(row: Option<&Row>) -> (usize, u64)
+    ensures count { result.0 ≡ option_map_or (λ row. 1) (option_copied row.entry) 0 }
+    ensures size { result.1 ≡ option_map_or row_size (option_copied row.entry) 0 }
+{
+    match row {
+        Some(row) => (1, row.size()),
+        None => (0, 0),
     }
 }

@@ -1,5 +1,5 @@
 // Which tables there are, and which rows they may hold.
-ghost use Rattle.std.specs.Prelude.{◌≡◌, ◌≤◌};
+ghost use Rattle.std.specs.Prelude.{◌≡◌, ◌≤◌, None, OnOk};
 ghost use Rattle.std.specs.Option.{SomeIff};
 ghost use Rattle.std.specs.Result.{result_err};
 ghost use Rattle.sq_schema.specs.Refusals.{key_fault, row_fault};
@@ -56,7 +56,10 @@ impl Schema {
     /// Refuses a row whose table isn't in the schema, then one of the root table with another sub key than 0, and
     /// then one whose note has over [`MAX_NOTE`] bytes.
     pub fn check_row(self, key: RowKey, row: &Row) -> Result<(), TxnFault>
-        ensures { result_err result ≡ row_fault self key row.now }
+        ensures fault { result_err result ≡ row_fault self key row.now }
+
+        // A row of this schema is one of the widest.
+        ensures widest { OnOk result (row_fault MAX_TABLES key row.now ≡ None) }
     {
         check_row(self.tables, key, row)
     }

@@ -1,5 +1,5 @@
 -- The opened tree and the closed one.
-use Rattle.std.proofs.Common.{◌≡◌, ◌≢◌, ℕ, zero, suc, ◌+◌, ◌<◌, ◌^◌, ◌⊎◌, Bool, true, false, true≢false, not, List, [], ◌∷◌, length, map, get_or, replicate, refl, sym, ap, ◌∙◌, subst, ⊎_elim, arith, lit<}
+use Rattle.std.proofs.Common.{◌≡◌, ◌≢◌, ℕ, zero, suc, ◌+◌, ◌<◌, ◌^◌, Bool, true, false, true≢false, not, List, [], ◌∷◌, length, map, get_or, replicate, refl, sym, ap, ◌∙◌, subst, arith, lit<}
 use mathlib.Core.Option.{some, some-injective, some-ne-none}
 use lib.ListN.{get_elem?}
 use Rattle.std.proofs.lemmas.List.{length-replicate, length-map}
@@ -11,8 +11,8 @@ use Rattle.sq_tree.specs.declared.status.Status.TheVariants.{Free, Split, Claime
 use Rattle.sq_tree.specs.Status.{word_of, pull_of, is_past}
 use Rattle.sq_tree.proofs.Words.{same_status}
 use Rattle.sq_status.specs.declared.view.View.{View}
-use Rattle.sq_status.specs.View.{one_if, fresh, times, times_with, times_won, HasSeen, HasNoLists, alive, total}
-use Rattle.sq_status.specs.Rule.{status_at, IsPast, IsTreeOf, Kept}
+use Rattle.sq_status.specs.View.{one_if, fresh, times, times_with, times_won, HasSeen, HasNoLists, alive}
+use Rattle.sq_status.specs.Rule.{status_at, IsTreeOf, Kept}
 use Rattle.sq_status.proofs.Exchanges.{Table}
 use Rattle.sq_status.proofs.Totals.{only_total, two_le_total}
 use Rattle.sq_status.proofs.Hands.{times_won-fresh, none_seen}

@@ -1,5 +1,5 @@
 -- What a load and an exchange of a node's word owe to the table: that the rule holds again, and what they tell.
-use Rattle.std.proofs.Common.{◌≡◌, ◌≢◌, ℕ, zero, suc, ◌+◌, ◌<◌, ◌⊎◌, false, List, [], ◌∷◌, length, map, set, slice_index, refl, sym, ap, ◌∙◌, subst, inl, inr, eqb, arith}
+use Rattle.std.proofs.Common.{◌≡◌, ℕ, zero, suc, ◌+◌, ◌<◌, false, List, [], ◌∷◌, length, map, set, slice_index, refl, sym, ap, ◌∙◌, subst, inl, inr, eqb, arith}
 use mathlib.Core.Option.{some, none, some-ne-none}
 use lib.ListN.{get_elem?}
 use prog.Atomic.{either}
@@ -14,7 +14,7 @@ use Rattle.sq_tree.proofs.Words.{same_status}
 use Rattle.sq_status.specs.declared.view.View.{View}
 use Rattle.sq_status.specs.View.{saw, won}
 use Rattle.sq_status.specs.Rule.{status_at, IsTreeOf, Kept}
-use Rattle.sq_status.specs.Plays.{IsLater, MayBring, Stood, Found, Won, Looked, Advanced}
+use Rattle.sq_status.specs.Plays.{IsLater, MayBring, Found, Won, Looked, Advanced}
 use Rattle.sq_status.proofs.Steps.{is_later, fits, look_kept, status_at-set, win_kept}
 
 abbrev pub Table : State (Unit {0}) View → Type 0

@@ -1,16 +1,16 @@
 -- Sharing out a seat, and joining one, keep the rule of the tree.
-use Rattle.std.proofs.Common.{◌≡◌, ◌≢◌, ℕ, ◌+◌, ◌⊎◌, Bool, true, false, true≢false, not, List, [], ◌∷◌, ◌++◌, set, refl, sym, ap, ◌∙◌, subst, ⊎_elim, arith}
+use Rattle.std.proofs.Common.{◌≡◌, ◌≢◌, ℕ, ◌+◌, Bool, true, false, true≢false, not, List, [], ◌∷◌, ◌++◌, set, refl, sym, ap, ◌∙◌, subst, ⊎_elim, arith}
 use mathlib.Core.Option.{some}
 use lib.ListN.{get_elem?}
 use Rattle.std.specs.List.{Contains}
 use Rattle.std.proofs.lemmas.List.Elements.{Contains-append_cases}
-use Rattle.atomic_table.specs.Table.{State, Splits, Joins}
+use Rattle.atomic_table.specs.Table.{Splits, Joins}
 use Rattle.atomic_table.proofs.Lists.{at_set, at_snoc}
 use Rattle.sq_tree.specs.declared.status.Status.{Status}
 use Rattle.sq_tree.specs.declared.status.Status.TheVariants.{Free, Split, Claimed, Partial, Complete}
 use Rattle.sq_status.specs.declared.view.View.{View}
-use Rattle.sq_status.specs.View.{one_if, fresh, times, times_with, times_won, gave, took, HasSeen, HasNoLists, alive, total}
-use Rattle.sq_status.specs.Rule.{status_at, IsPast, IsTreeOf}
+use Rattle.sq_status.specs.View.{one_if, fresh, times, times_with, times_won, gave, took, HasSeen, HasNoLists, alive}
+use Rattle.sq_status.specs.Rule.{IsTreeOf}
 use Rattle.sq_status.proofs.Totals.{total_set, total_snoc}
 use Rattle.sq_status.proofs.Exchanges.{Table}
 

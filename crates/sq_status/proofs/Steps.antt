@@ -1,12 +1,11 @@
 -- A look and a won exchange keep the rule of the tree.
-use Rattle.std.proofs.Common.{◌≡◌, ◌≢◌, ℕ, zero, suc, ◌+◌, ◌/◌, ◌≤◌, ◌<◌, ◌^◌, ◌⊎◌, Bool, true, false, true≢false, not, lt_of_not-le, List, [], ◌∷◌, ◌++◌, length, map, set, get_or, slice_index, refl, sym, ap, ◌∙◌, subst, inl, inr, ⊎_elim, arith}
+use Rattle.std.proofs.Common.{◌≡◌, ◌≢◌, ℕ, zero, suc, ◌+◌, ◌≤◌, ◌<◌, ◌^◌, Bool, true, false, true≢false, not, lt_of_not-le, List, [], ◌∷◌, length, set, get_or, refl, sym, ap, ◌∙◌, subst, ⊎_elim, arith}
 use mathlib.Core.Option.{some}
 use mathlib.Core.Logic.{dite}
 use native.Mathlib.Decide.{ℕ_discrete, dec_le}
 use lib.ListN.{get_elem?}
 use Rattle.std.specs.List.{Contains}
 use Rattle.std.proofs.lemmas.List.{get_or-set_same, get_or-set_other, length-set}
-use Rattle.std.proofs.lemmas.Bool.Decides.{nat_tests}
 use Rattle.atomic_table.proofs.Lists.{at_set}
 use Rattle.sq_tree.specs.declared.status.Status.{Status}
 use Rattle.sq_tree.specs.declared.status.Status.TheVariants.{Free, Split, Claimed, Partial, Complete}
@@ -15,9 +14,9 @@ use Rattle.sq_tree.specs.Status.{pull_of, is_past, before}
 use Rattle.sq_status.specs.declared.view.View.{View}
 use Rattle.sq_status.specs.View.{one_if, times_won, won, saw, HasSeen, HasNoLists, SameRole, alive, total}
 use Rattle.sq_status.specs.Rule.{status_at, IsPast, IsTreeOf}
-use Rattle.sq_status.specs.Plays.{IsStatusOf, IsLater, KnowsSplit, MayBring, Stood, Found, Won}
+use Rattle.sq_status.specs.Plays.{IsStatusOf, IsLater, KnowsSplit, MayBring}
 use Rattle.sq_status.proofs.Totals.{total_set, own_le_total}
-use Rattle.sq_status.proofs.Sights.{IsPast-refl, IsPast-split, IsPast-free, IsPast-before, before-split, times_won-won, times_won-won_other, times_won-saw, SameRole-won, looked-won, HasSeen-saw}
+use Rattle.sq_status.proofs.Sights.{IsPast-refl, IsPast-split, IsPast-before, before-split, times_won-won, times_won-won_other, times_won-saw, SameRole-won, looked-won, HasSeen-saw}
 
 -- the status at the written node, and at others
 pub status_at-set : (statuses : List Status) (i n : ℕ) (st : Status) → n ≡ i + 1 → i < length statuses → status_at (set statuses i st) n ≡ st

@@ -1,15 +1,15 @@
 -- What a step told, read at its node.
-use Rattle.std.proofs.Common.{◌≡◌, ◌≢◌, ℕ, ◌+◌, ◌-◌, ◌<◌, ◌^◌, ◌⊎◌, refl, sym, ap, ◌∙◌, subst, ⊎_elim, arith}
+use Rattle.std.proofs.Common.{◌≡◌, ◌≢◌, ℕ, ◌+◌, ◌<◌, ◌⊎◌, refl, sym, ap, ◌∙◌, subst, ⊎_elim, arith}
 use mathlib.Core.Option.{none}
 use Rattle.std.specs.Prelude.{IsTrue}
 use Rattle.std.proofs.lemmas.Bool.Decides.{nat_tests}
 use Rattle.atomic_table.specs.Table.{Me, step}
 use Rattle.sq_tree.specs.declared.status.Status.{Status}
 use Rattle.sq_tree.specs.Node.{is_node}
-use Rattle.sq_tree.specs.Status.{word_of, pull_of, before}
+use Rattle.sq_tree.specs.Status.{word_of, before}
 use Rattle.sq_tree.proofs.Words.{same_status}
 use Rattle.sq_status.specs.declared.view.View.{View}
-use Rattle.sq_status.specs.View.{won, saw, SameRole}
+use Rattle.sq_status.specs.View.{SameRole}
 use Rattle.sq_status.specs.Plays.{Found, Won, Looked, Advanced}
 use Rattle.sq_status.proofs.Sights.{SameRole-won}
 
@@ -32,8 +32,8 @@ pub record Told (n : ℕ) (me : Seat) (word : ℕ) (me' : Seat) : Type 0 where
   pub carried : me'.1 ≡ me.1
   pub telling : Found me.0 n found me'.0
 
-pub told : (slots n : ℕ) (me : Seat) (word : ℕ) (me' : Seat) → 0 < n → Looked (step slots (n - 1) 0 0 none) me word me' → Told n me word me'
-told slots n me word me' some_node h = let t = h n (omega arith) in record { found = t.0; is = t.1; carried = t.2; telling = t.3 }
+pub told : (slots i n : ℕ) (me : Seat) (word : ℕ) (me' : Seat) → i + 1 ≡ n → Looked (step slots i 0 0 none) me word me' → Told n me word me'
+told slots i n me word me' next h = let t = h n (sym next) in record { found = t.0; is = t.1; carried = t.2; telling = t.3 }
 
 -- an exchange was won, or found another status
 pub record Tried (n : ℕ) (st : Status) (me : Seat) (word : ℕ) (me' : Seat) : Type 0 where
@@ -42,10 +42,10 @@ pub record Tried (n : ℕ) (st : Status) (me : Seat) (word : ℕ) (me' : Seat) :
   pub carried : me'.1 ≡ me.1
   pub telling : ((found ≡ before st) × Won me.0 n st me'.0) ⊎ ((found ≢ before st) × Found me.0 n found me'.0)
 
-pub tried : (slots n : ℕ) (old st : Status) (expected new : ℕ) (me : Seat) (word : ℕ) (me' : Seat) → 0 < n → old ≡ before st → expected ≡ word_of old → new ≡ word_of st
-    → Advanced (step slots (n - 1) expected new none) me word me' → Tried n st me word me'
-tried slots n old st expected new me word me' some_node step_from first second h =
-    let t = h n st (omega arith) (first ∙ ap word_of step_from) second in record { found = t.0; is = t.1; carried = t.2; telling = t.3 }
+pub tried : (slots i n : ℕ) (old st : Status) (expected new : ℕ) (me : Seat) (word : ℕ) (me' : Seat) → i + 1 ≡ n → old ≡ before st → expected ≡ word_of old → new ≡ word_of st
+    → Advanced (step slots i expected new none) me word me' → Tried n st me word me'
+tried slots i n old st expected new me word me' next step_from first second h =
+    let t = h n st (sym next) (first ∙ ap word_of step_from) second in record { found = t.0; is = t.1; carried = t.2; telling = t.3 }
 
 module _ (n : ℕ) (old st : Status) (expected : ℕ) (me : Seat) (word : ℕ) (me' : Seat) (step_from : old ≡ before st) (first : expected ≡ word_of old) (t : Tried n st me word me') where
   pub role : SameRole me.0 me'.0

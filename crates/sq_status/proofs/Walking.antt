@@ -1,5 +1,5 @@
 -- How walks and searches are put together from steps.
-use Rattle.std.proofs.Common.{◌≡◌, ◌≢◌, ℕ, zero, suc, ◌+◌, ◌-◌, ◌*◌, ◌/◌, ◌^◌, ◌<◌, ◌≤◌, ◌⊎◌, Bool, true, false, List, [], ◌∷◌, ◌++◌, length, slice_index_or, refl, sym, ap, ◌∙◌, subst, inl, inr, ⊎_elim, append_assoc, length-append, arith}
+use Rattle.std.proofs.Common.{◌≡◌, ◌≢◌, ℕ, zero, suc, ◌+◌, ◌-◌, ◌*◌, ◌^◌, ◌<◌, ◌≤◌, ◌⊎◌, true, List, [], ◌∷◌, ◌++◌, length, slice_index_or, refl, sym, ap, ◌∙◌, subst, inl, inr, ⊎_elim, append_assoc, arith}
 use mathlib.Core.Logic.{dite}
 use native.Mathlib.Decide.{ℕ_discrete}
 use Rattle.std.specs.Prelude.{IsTrue, nat_le, nat_lt, ◌&&◌}
@@ -8,14 +8,12 @@ use Rattle.std.proofs.lemmas.List.Elements.{Contains-append_left, Contains-appen
 use Rattle.std.proofs.lemmas.Bool.Decides.{nat_tests}
 use Rattle.sq_tree.specs.declared.status.Status.{Status}
 use Rattle.sq_tree.specs.declared.status.Status.TheVariants.{Free, Split, Claimed, Partial, Complete}
-use Rattle.sq_tree.specs.Node.{is_node, parent, span, first_leaf, is_above, is_under}
-use Rattle.sq_tree.specs.Status.{before}
+use Rattle.sq_tree.specs.Node.{is_node, parent, span, first_leaf, is_above}
 use Rattle.sq_status.specs.declared.view.View.{View}
-use Rattle.sq_status.specs.View.{times, times_won, won, saw, HasSeen}
-use Rattle.sq_status.specs.Rule.{IsPast}
+use Rattle.sq_status.specs.View.{times, times_won, HasSeen}
 use Rattle.sq_status.specs.Plays.{IsLater, KnowsSplit, MayBring, Found, Won}
 use Rattle.sq_status.specs.declared.tree.walks.LeafClaim.TheVariants.{Held}
-use Rattle.sq_status.specs.Walks.{is_taken, Added, node_above, Passed, WalkedTo, WalkedLeaf, HeldAbove, nodes_under, Searched}
+use Rattle.sq_status.specs.Walks.{is_taken, Added, node_above, Passed, WalkedTo, WalkedLeaf}
 use Rattle.sq_status.proofs.Hands.{times-append}
 
 pub in_none : {A : Type 0} (x : A) → Contains [] x → ⊥

@@ -1,5 +1,5 @@
 -- What each call tells of its seat's view, before and after: what it won, and what each of its refusals shows.
-use Rattle.std.specs.Prelude.{◌≡◌, ◌≢◌, ℕ, ◌<◌, ◌==◌, true, false, IsTrue, MatchBool}
+use Rattle.std.specs.Prelude.{◌≡◌, ◌≢◌, ℕ, ◌<◌, ◌==◌, false, IsTrue, MatchBool}
 use Rattle.sq_tree.specs.declared.status.Status.{Status}
 use Rattle.sq_tree.specs.declared.status.Status.TheVariants.{Free, Split, Claimed, Partial}
 use Rattle.sq_tree.specs.declared.fault.SplitFault.{SplitFault}

@@ -60,3 +60,19 @@ Searched n pull v w (Some m) =
     IsTrue (is_node m) × IsTrue (is_under n m)
     × ((looks : List (ℕ × Status)) × (u : View) × Added v [] looks u × Won u m (Claimed pull) w × (length looks + 1 ≤ nodes_under n)
     × ((leaf : ℕ) → first_leaf n ≤ leaf → leaf < first_leaf m → HeldAbove looks leaf))
+
+-- the seat claimed these nodes, and began and completed none
+pub record ClaimedOnly (v : View) (claims : List (ℕ × ℕ)) (w : View) : Type 0 where
+  pub claimed : w.claimed ≡ claims ++ v.claimed
+  pub begun : w.begun ≡ v.begun
+  pub completed : w.completed ≡ v.completed
+
+-- what a walk to a leaf claimed
+abbrev pub claims_of_walk : ℕ → LeafClaim → List (ℕ × ℕ)
+claims_of_walk pull (claim.Claimed n) = (n, pull) ∷ []
+claims_of_walk pull (claim.Held n st) = []
+
+-- what a search claimed
+abbrev pub claims_of_search : ℕ → Option ℕ → List (ℕ × ℕ)
+claims_of_search pull None = []
+claims_of_search pull (Some n) = (n, pull) ∷ []

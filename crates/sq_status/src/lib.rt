@@ -8,3 +8,6 @@ mod view;
 
 pub use tree::{LeafClaim, StatusTree, TreeSeat};
 pub use view::View;
+
+#[cfg(test)]
+mod tests;

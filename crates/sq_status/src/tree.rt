@@ -71,9 +71,8 @@ impl StatusTree {
         ensures given { seat.new.view ≡ gave seat.old.view }
         ensures fresh { result.view ≡ fresh false false }
     {
-        TreeSeat {
-            seat: self.table.shared.split_seat::<Handing>(&mut seat.seat),
-        }
+        let given = self.table.shared.split_seat::<Handing>(&mut seat.seat);
+        TreeSeat { seat: given }
     }
 
     /// Joins a seat that was shared out: the first seat has all that it did and saw.

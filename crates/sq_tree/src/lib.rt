@@ -8,7 +8,7 @@ mod status;
 mod word;
 
 pub use fault::{BeginFault, ClaimFault, CompleteFault, SplitFault};
-pub use node::is_node;
+pub use node::{first_leaf, is_node, span};
 pub use plain::PlainTree;
 pub use status::{Reading, Status};
 

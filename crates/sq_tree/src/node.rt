@@ -20,7 +20,7 @@ pub(crate) fn is_leaf(node: u64) -> bool
 }
 
 /// How many leaves a node covers.
-pub(crate) fn span(node: u64) -> u64
+pub fn span(node: u64) -> u64
     ensures { result ≡ span node }
 {
     match node {
@@ -33,12 +33,20 @@ pub(crate) fn span(node: u64) -> u64
     }
 }
 
+/// The first leaf that a node covers, from 0.
+pub fn first_leaf(node: u64) -> u64
+    requires { IsTrue (is_node node) }
+    ensures first { result ≡ first_leaf node }
+    ensures within { result + span node ≤ 32 }
+{
+    node * span(node) - 32
+}
+
 /// Whether a node covers a leaf.
 pub(crate) fn is_above(node: u64, leaf: u64) -> bool
     requires { IsTrue (is_node node) }
     ensures { result ≡ is_above node leaf }
 {
-    let span = span(node);
-    let first = node * span - 32;
-    (first..first + span).contains(&leaf)
+    let first = first_leaf(node);
+    (first..first + span(node)).contains(&leaf)
 }

@@ -23,6 +23,14 @@ fn is_node(n: u64) -> bool
     (1..=NODES).contains(&n)
 }
 
+// Where the node's word stands.
+fn index(n: u64) -> usize
+    requires { IsTrue (is_node n) }
+    ensures { result + 1 ≡ n }
+{
+    (n - 1) as usize
+}
+
 impl StatusTree {
     /// The status of a node, which is one of 1 to 63.
     pub fn look(&self, seat: &mut TreeSeat, n: u64) -> Status
@@ -31,10 +39,7 @@ impl StatusTree {
         ensures seat { IsSameSeat seat.old seat.new }
         ensures found { Found seat.old.view n result seat.new.view }
     {
-        let word = self
-            .table
-            .shared
-            .load::<Look>(&mut seat.seat, (n - 1) as usize);
+        let word = self.table.shared.load::<Look>(&mut seat.seat, index(n));
         Status::from_word(word)
     }
 
@@ -54,11 +59,10 @@ impl StatusTree {
             (λ _. Won seat.old.view n new seat.new.view)
             (λ found. (found ≢ old) × Found seat.old.view n found seat.new.view) }
     {
+        let at = index(n);
         let expected = old.word();
-        let found = self
-            .table
-            .shared
-            .compare_exchange::<Advance>(&mut seat.seat, (n - 1) as usize, expected, new.word());
+        let shared = &self.table.shared;
+        let found = shared.compare_exchange::<Advance>(&mut seat.seat, at, expected, new.word());
         if found != expected {
             return Err(Status::from_word(found));
         }
@@ -78,6 +82,9 @@ impl StatusTree {
     }
 
     /// Splits a free node. This takes at most two steps: a look at the parent, and one exchange.
+    ///
+    /// It is refused, in this order, where there is no such node, at a leaf, where the parent isn't split,
+    /// and where the node isn't free. In the first two cases nothing was looked at.
     pub fn split(&self, seat: &mut TreeSeat, n: u64) -> Result<(), SplitFault>
         requires tree { seat.old.tree ≡ self.now }
         ensures seat { IsSameSeat seat.old seat.new }
@@ -95,13 +102,14 @@ impl StatusTree {
         if !self.finds_live(seat, n) {
             return Err(SplitFault::NotLive);
         }
-        match self.advance(seat, n, Status::Free, Status::Split) {
-            Ok(()) => Ok(()),
-            Err(found) => Err(SplitFault::NotFree(found)),
-        }
+        self.advance(seat, n, Status::Free, Status::Split)
+            .map_err(SplitFault::NotFree)
     }
 
     /// Claims a free node for a pull. This takes at most two steps: a look at the parent, and one exchange.
+    ///
+    /// It is refused, in this order, where there is no such node, where the parent isn't split, and where
+    /// the node isn't free.
     pub fn claim(&self, seat: &mut TreeSeat, n: u64, pull: u32) -> Result<(), ClaimFault>
         requires tree { seat.old.tree ≡ self.now }
         ensures seat { IsSameSeat seat.old seat.new }
@@ -116,13 +124,14 @@ impl StatusTree {
         if !self.finds_live(seat, n) {
             return Err(ClaimFault::NotLive);
         }
-        match self.advance(seat, n, Status::Free, Status::Claimed(pull)) {
-            Ok(()) => Ok(()),
-            Err(found) => Err(ClaimFault::NotFree(found)),
-        }
+        self.advance(seat, n, Status::Free, Status::Claimed(pull))
+            .map_err(ClaimFault::NotFree)
     }
 
     /// Begins a node that the pull claimed, by one exchange.
+    ///
+    /// It is refused where there is no such node, where the node isn't claimed, and where another pull
+    /// claimed it.
     pub fn begin(&self, seat: &mut TreeSeat, n: u64, pull: u32) -> Result<(), BeginFault>
         requires tree { seat.old.tree ≡ self.now }
         ensures seat { IsSameSeat seat.old seat.new }
@@ -142,6 +151,9 @@ impl StatusTree {
     }
 
     /// Completes a node that the pull began, by one exchange.
+    ///
+    /// It is refused where there is no such node, where the node isn't partial, and where another pull
+    /// began it.
     pub fn complete(&self, seat: &mut TreeSeat, n: u64, pull: u32) -> Result<(), CompleteFault>
         requires tree { seat.old.tree ≡ self.now }
         ensures seat { IsSameSeat seat.old seat.new }

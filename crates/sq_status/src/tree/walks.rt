@@ -21,7 +21,7 @@ pub enum LeafClaim {
 }
 
 impl StatusTree {
-    ghost use Rattle.sq_status.specs.Walks.{is_taken, WalkedLeaf, Searched};
+    ghost use Rattle.sq_status.specs.Walks.{is_taken, WalkedLeaf, Searched, ClaimedOnly, claims_of_walk, claims_of_search};
 
     // Splits an inner node whose parent is split, or finds it split. Another status is an `Err`.
     fn pass(&self, seat: &mut TreeSeat, n: u64) -> Result<(), Status>
@@ -46,6 +46,7 @@ impl StatusTree {
         requires leaf { leaf < 32 }
         ensures seat { IsSameSeat seat.old seat.new }
         ensures walk { WalkedLeaf leaf pull seat.old.view seat.new.view result }
+        ensures claims { ClaimedOnly seat.old.view (claims_of_walk pull result) seat.new.view }
         ensures entries { entries seat.new.view ≤ entries seat.old.view + 6 }
     {
         let end = FIRST_LEAF + leaf;
@@ -67,6 +68,7 @@ impl StatusTree {
         requires tree { seat.old.tree ≡ self.now }
         ensures seat { IsSameSeat seat.old seat.new }
         ensures search { Searched 1 pull seat.old.view seat.new.view result }
+        ensures claims { ClaimedOnly seat.old.view (claims_of_search pull result) seat.new.view }
         ensures entries { entries seat.new.view ≤ entries seat.old.view + 63 }
     {
         self.claim_under(seat, 1, pull)

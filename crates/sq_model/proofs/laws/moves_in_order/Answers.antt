@@ -1,3 +1,4 @@
+-- The law is the theorem on legal traces.
 use Rattle.sq_model.proofs.Orderly.{legal_orderly}
 use Rattle.sq_model.proofs.laws.moves_in_order.Goals as goal
 

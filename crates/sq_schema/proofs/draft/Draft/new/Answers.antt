@@ -5,4 +5,4 @@ use Rattle.sq_schema.proofs.draft.Draft.new.Goals as goal
 
 pub invariant_of-result : goal.invariant_of-result
 invariant_of-result c =
-    rw c.new.ensures.items (record { rows = c.len.ensures.sound; writes = All-nil (λ write. is_write write ≡ true); count = c.len.ensures.count; size = c.requires })
+    rw c.new.ensures.items (record { rows = c.len.ensures.sound; writes = All-nil (λ write. is_write write ≡ true); count = c.len.ensures.count; size = c.size.ensures })

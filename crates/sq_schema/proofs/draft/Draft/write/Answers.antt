@@ -1,7 +1,7 @@
-use Rattle.std.proofs.Common.{◌≡◌, ◌<◌, arith, rules, sym, ap, ◌∙◌}
+use Rattle.std.proofs.Common.{◌≡◌, ◌<◌, arith, sym, ap, ◌∙◌}
 use Rattle.sq_schema.specs.Effect.{row_at}
 use Rattle.sq_schema.specs.Writes.{DraftValue, drafted}
-use Rattle.sq_schema.proofs.Drafts.{count_of, size_of, is_sound_from, count_fits, size_fits, count_after, size_after, IsDraft-written}
+use Rattle.sq_schema.proofs.Drafts.{count_of, size_of, is_sound_from, count_fits, size_fits, size_after, IsDraft-written}
 use Rattle.sq_schema.proofs.draft.Draft.write.Goals as goal
 
 pub overflow_add-self : goal.overflow_add-self

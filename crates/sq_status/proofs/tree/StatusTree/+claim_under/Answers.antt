@@ -1,7 +1,5 @@
-use Rattle.std.proofs.Common.{ℕ, ◌-◌, ◌≡◌, ◌≢◌, ◌*◌, ◌+◌, ◌<◌, ◌∙◌, Some, None, rules, refl, sym, subst, arith}
-use Rattle.sq_tree.specs.declared.status.Status.TheVariants.{Free, Split}
-use Rattle.sq_status.specs.Plays.{Found}
-use Rattle.sq_status.specs.Walks.{Searched}
+use Rattle.std.proofs.Common.{ℕ, ◌-◌, ◌≢◌, ◌*◌, ◌+◌, ◌<◌, rules, refl, arith}
+use Rattle.sq_tree.specs.declared.status.Status.TheVariants.{Split}
 use Rattle.sq_status.proofs.Walking.{taken_by}
 use Rattle.sq_status.proofs.Tellings.{node_bounds}
 use Rattle.sq_status.proofs.Searching.{halves, search_here, search_taken, search_left, search_second, knows_right, second_node}

@@ -1,5 +1,4 @@
-use Rattle.std.proofs.Common.{◌≡◌, ◌≢◌, ◌∙◌, ◌-◌, ◌+◌, ◌<◌, rules, sym, ap, subst, arith}
-use Rattle.sq_tree.specs.declared.status.Status.{Status}
+use Rattle.std.proofs.Common.{◌≢◌, ◌∙◌, ◌<◌, rules, sym, ap, subst, arith}
 use Rattle.sq_status.specs.declared.view.View.{View}
 use Rattle.sq_status.specs.View.{SameRole}
 use Rattle.sq_status.specs.Plays.{MayBring, Found, Won}
@@ -11,18 +10,17 @@ use Rattle.sq_status.proofs.tree.StatusTree.advance.Goals.{After-compare_exchang
 pub compare_exchange-found-requires : goal.compare_exchange-found-requires
 compare_exchange-found-requires c =
     let bounds = node_bounds c.args.n c.requires.node in
-    let within : c.args.n - 1 < 63 = omega (arith, bounds.0, bounds.1) in
-    let next : c.args.n ≡ c.args.n - 1 + 1 = omega (arith, bounds.0) in
+    let within : c.index-at.result < 63 = omega (arith, bounds.1, c.index-at.ensures) in
     let may : MayBring c.seat.inside.seat.me.0 c.args.n c.args.new = subst (λ (v : View). MayBring v c.args.n c.args.new) (sym (ap (λ s. s.view) c.seat.view_is)) c.requires.step.1 in (
       search rules,
       omega (arith, within, c.self.invariant.0),
-      advances_by _ _ _ _ c.args.n c.args.old c.args.new c.word-expected.result c.word.result next within c.seat.invariant.0 c.requires.step.0 c.word-expected.ensures c.word.ensures may,
+      advances_by _ _ _ _ c.args.n c.args.old c.args.new c.word-expected.result c.word.result (sym c.index-at.ensures) within c.seat.invariant.0 c.requires.step.0 c.word-expected.ensures c.word.ensures may,
     )
 
 trial : (c : goal.After-compare_exchange-found) → Tried c.args.n c.args.new c.seat.inside.seat.me c.compare_exchange-found.result c.compare_exchange-found.new.seat.me
 trial c =
-    tried c.self.inside.table.shared.table_id.slots c.args.n c.args.old c.args.new c.word-expected.result c.word.result c.seat.inside.seat.me c.compare_exchange-found.result c.compare_exchange-found.new.seat.me
-    (node_bounds c.args.n c.requires.node).0 c.requires.step.0 c.word-expected.ensures c.word.ensures c.compare_exchange-found.ensures.2
+    tried c.self.inside.table.shared.table_id.slots c.index-at.result c.args.n c.args.old c.args.new c.word-expected.result c.word.result c.seat.inside.seat.me c.compare_exchange-found.result c.compare_exchange-found.new.seat.me
+    c.index-at.ensures c.requires.step.0 c.word-expected.ensures c.word.ensures c.compare_exchange-found.ensures.2
 
 -- the seat keeps its role
 same_role : (c : goal.After-compare_exchange-found) → SameRole c.seat.inside.seat.me.0 c.compare_exchange-found.new.seat.me.0

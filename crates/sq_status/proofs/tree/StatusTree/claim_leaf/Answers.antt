@@ -1,4 +1,4 @@
-use Rattle.std.proofs.Common.{◌-◌, ◌+◌, ◌≤◌, ◌<◌, ◌≡◌, rules, refl, arith}
+use Rattle.std.proofs.Common.{◌-◌, rules, refl, arith}
 use Rattle.sq_status.proofs.Walking.{walk_start, walk_next, walk_held, next_inner, next_live, leaf_live, may_claim}
 use Rattle.sq_status.proofs.tree.StatusTree.claim_leaf.Goals as goal
 

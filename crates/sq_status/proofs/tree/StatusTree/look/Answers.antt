@@ -1,4 +1,4 @@
-use Rattle.std.proofs.Common.{◌≡◌, ◌∙◌, ◌-◌, ◌<◌, rules, sym, ap, subst, arith}
+use Rattle.std.proofs.Common.{◌∙◌, ◌<◌, rules, sym, ap, subst, arith}
 use Rattle.sq_status.specs.declared.view.View.{View}
 use Rattle.sq_status.specs.View.{SameRole}
 use Rattle.sq_status.specs.Plays.{Found}
@@ -10,12 +10,12 @@ use Rattle.sq_status.proofs.tree.StatusTree.look.Goals.{After-load-word}
 pub load-word-requires : goal.load-word-requires
 load-word-requires c =
     let bounds = node_bounds c.args.n c.requires.node in
-    let within : c.args.n - 1 < 63 = omega (arith, bounds.0, bounds.1) in
+    let within : c.index.result < 63 = omega (arith, bounds.1, c.index.ensures) in
     (search rules, omega (arith, within, c.self.invariant.0), looks _ _ _ _ within c.seat.invariant.0)
 
 telling : (c : goal.After-load-word) → Told c.args.n c.seat.inside.seat.me c.load-word.result c.load-word.new.seat.me
 telling c =
-    told c.self.inside.table.shared.table_id.slots c.args.n c.seat.inside.seat.me c.load-word.result c.load-word.new.seat.me (node_bounds c.args.n c.requires.node).0 c.load-word.ensures.2
+    told c.self.inside.table.shared.table_id.slots c.index.result c.args.n c.seat.inside.seat.me c.load-word.result c.load-word.new.seat.me c.index.ensures c.load-word.ensures.2
 
 pub from_word-requires : goal.from_word-requires
 from_word-requires c = let t = telling c in (t.found, t.telling.fits.0, t.is)

@@ -1,0 +1,147 @@
+-- Once the move has ended, each root key is where the new plan has it.
+use Rattle.std.proofs.Common.{◌≡◌, inl, inr, ℕ, ◌<◌, true, false, ◌==◌, ◌||◌, not, nat_le, nat_lt, [], ◌∷◌, length, slice_get, Option, Some, None, refl, sym, ap, ◌∙◌, subst, true≢false, arith}
+use Rattle.std.specs.List.{list_any}
+use Rattle.std.proofs.lemmas.Bool.{and_parts, and_from, lt-ltb, ltb-true, eq-eqb, eqb-true, or_cases, not-true}
+use Rattle.std.proofs.lemmas.Option.{slice_get_within}
+use Rattle.sq_tree.specs.declared.status.Status.{Status}
+use Rattle.sq_tree.specs.declared.status.Status.TheVariants.{Complete}
+use Rattle.sq_tree.specs.declared.status.Reading.{Reading}
+use Rattle.sq_tree.specs.declared.status.Reading.TheVariants as reads
+use Rattle.sq_tree.specs.Status.{is_free, is_split, is_begun, is_complete, is_past, reading, covering}
+use Rattle.sq_tree.proofs.Covering.{covering_is, covering_touched}
+use Rattle.sq_tree.proofs.Readings.{all_complete_is}
+use Rattle.sq_ranges.specs.declared.recon.Range.{Range}
+use Rattle.sq_ranges.specs.ReconValue.{segment_of, leaf_of}
+use Rattle.sq_ranges.specs.OpeningValue.{OpeningValue}
+use Rattle.sq_model.specs.declared.step.Step.{Step}
+use Rattle.sq_model.specs.declared.step.Step.TheVariants.{Prepare, Start, Claim, Begin, Cut, Load, Complete as Complete_step, Report, Finish}
+use Rattle.sq_model.specs.declared.step.Phase.{Phase}
+use Rattle.sq_model.specs.declared.step.Phase.TheVariants.{Moving, Ended}
+use Rattle.sq_model.specs.declared.answer.Answer.{Answer}
+use Rattle.sq_model.specs.declared.answer.Answer.TheVariants.{Done, WasCut, WasLoaded}
+use Rattle.sq_model.specs.Opening.{IsOpening}
+use Rattle.sq_model.specs.Trace.{Trace, loads}
+use Rattle.sq_model.specs.Leader.{phase, is_moving_phase, is_reported}
+use Rattle.sq_model.specs.Nodes.{status_of}
+use Rattle.sq_model.specs.Place.{At, place, destination, is_covered, extent_of, is_within}
+use Rattle.sq_model.specs.Links.{reached}
+use Rattle.sq_model.specs.Answers.{is_complete_reading, is_whole, is_into, goes_into, segment_numbers, has_all, partitions, counts_reported}
+use Rattle.sq_model.specs.Legal.{IsLegal}
+use Rattle.sq_model.proofs.Lists.{list_any-Contains, list_all-Contains, row_has}
+use Rattle.sq_model.proofs.Steps.{FinishGoes, finish_goes, report_goes, cut_goes, load_goes}
+use Rattle.sq_model.proofs.Statuses.{grown, later}
+use Rattle.sq_model.proofs.Tiles.{last_reached}
+use Rattle.sq_model.proofs.Notes.{tiles_loads, complete_loaded}
+use Rattle.sq_model.proofs.Keys.{IsIn, found_in_segment, ends_below, above_within, unfound_stays}
+use Rattle.sq_model.proofs.Routing.{cut_none, loaded_is}
+use Rattle.sq_model.proofs.Places.{uncut_home, loaded_away}
+
+complete_past : (one other : Status) → is_past one other ≡ true → is_complete one ≡ true → is_complete other ≡ true
+complete_past (Complete p) (Complete q) past complete = refl
+complete_past one other past complete = absurd cc
+
+complete_touched : (st : Status) → is_complete st ≡ true → (is_free st ≡ false) × (is_split st ≡ false) × (is_begun st ≡ true)
+complete_touched (Complete p) complete = (refl, refl, refl)
+complete_touched st complete = absurd cc
+
+reads_complete : (now : Reading) → is_complete_reading now ≡ true → now ≡ reads.Complete
+reads_complete reads.Complete e = refl
+reads_complete now e = absurd cc
+
+-- each leaf's node is complete in a segment that is whole
+whole_leaf : (o : OpeningValue) (t : Trace) → IsLegal o t → (g : ℕ) → is_whole t g ≡ true → (leaf : ℕ) → leaf < 32 → is_complete (status_of t g (covering (status_of t g) leaf)) ≡ true
+whole_leaf o t legal g whole = (all_complete_is (status_of t g) (grown o t legal g)).0 (reads_complete (reading (status_of t g) 1) whole)
+
+-- a segment that is whole stays so
+pub stays_whole : (o : OpeningValue) (t : Trace) (step : Step) (told : Answer) → IsLegal o ((step, told) ∷ t) → (g : ℕ) → is_whole t g ≡ true → is_whole ((step, told) ∷ t) g ≡ true
+stays_whole o t step told legal g whole = ap is_complete_reading ((all_complete_is (status_of ((step, told) ∷ t) g) (grown o ((step, told) ∷ t) legal g)).1 each)
+  where
+    each : (leaf : ℕ) → leaf < 32 → is_complete (status_of ((step, told) ∷ t) g (covering (status_of ((step, told) ∷ t) g) leaf)) ≡ true
+    each leaf few =
+        let now = status_of ((step, told) ∷ t) g in
+        let n = covering (status_of t g) leaf in
+        let complete = complete_past (status_of t g n) (now n) (later o t step told legal g n) (whole_leaf o t legal.1 g whole leaf few) in
+        let was = covering_is (status_of t g) (grown o t legal.1 g) leaf few in
+        let touched = complete_touched (now n) complete in
+        let same = covering_touched now (grown o ((step, told) ∷ t) legal g) leaf n few was.node was.above touched.0 touched.1 in
+        ap (λ k. is_complete (now k)) same ∙ complete
+
+-- what moves to a partition that reported is whole
+into_whole : (o : OpeningValue) (t : Trace) (part g : ℕ) → has_all o t part ≡ true → g < length o.recon.segments → is_into o part g ≡ true → is_whole t g ≡ true
+into_whole o t part g all there into =
+    let here = list_all-Contains (λ seg. not (is_into o part seg) || is_whole t seg) (segment_numbers o) g all (row_has 0 (length o.recon.segments) g (omega arith) (omega arith)) in
+    elim (or_cases (not (is_into o part g)) (is_whole t g) here) [
+      | inl other ↦ absurd (true≢false (sym into ∙ not-true (is_into o part g) other))
+      | inr whole ↦ whole
+    ]
+
+pub reported_whole : (o : OpeningValue) (t : Trace) → IsLegal o t → (part g : ℕ) → is_reported t part ≡ true → g < length o.recon.segments → is_into o part g ≡ true → is_whole t g ≡ true
+reported_whole o [] legal part g reported there into = absurd (true≢false (sym reported))
+reported_whole o ((Report which, Done) ∷ t) legal part g reported there into =
+    elim (or_cases (which == part) (is_reported t part) reported) [
+      | inl now ↦ into_whole o t part g (subst (λ p. has_all o t p ≡ true) (eqb-true which part now) (report_goes o t which legal.0).whole) there into
+      | inr before ↦ reported_whole o t legal.1 part g before there into
+    ]
+reported_whole o ((Claim seg node pull, told) ∷ t) legal part g reported there into =
+    stays_whole o t (Claim seg node pull) told legal g (reported_whole o t legal.1 part g reported there into)
+reported_whole o ((Begin seg node pull, told) ∷ t) legal part g reported there into =
+    stays_whole o t (Begin seg node pull) told legal g (reported_whole o t legal.1 part g reported there into)
+reported_whole o ((Complete_step seg node pull, told) ∷ t) legal part g reported there into =
+    stays_whole o t (Complete_step seg node pull) told legal g (reported_whole o t legal.1 part g reported there into)
+reported_whole o ((step, told) ∷ t) legal part g reported there into = reported_whole o t legal.1 part g reported there into
+
+module _ (o : OpeningValue) (is : IsOpening o) (t : Trace) (legal : IsLegal o t) where
+  -- each key of a whole segment was loaded
+  whole_loaded : (root g : ℕ) (segment : Range) → segment_of o.recon.segments root ≡ Some g → IsIn o root g segment → is_whole t g ≡ true → is_covered (loads t) root ≡ true
+  whole_loaded root g segment found at whole =
+      let leaf = leaf_of o.recon.width segment root in
+      let n = covering (status_of t g) leaf in
+      let complete = whole_leaf o t legal g whole leaf at.leaf in
+      let above = (covering_is (status_of t g) (grown o t legal g) leaf at.leaf).above in
+      let keys = extent_of o g n in
+      let within : is_within keys root ≡ true = above_within o is root g n segment at above in
+      let high = ltb-true root keys.hi (and_parts (nat_le keys.lo root) (nat_lt root keys.hi) within).1 in
+      let ends = last_reached o (loads t) (tiles_loads o t legal) g n (complete_loaded o t legal g n complete) in
+      loaded_is o is t legal root g segment found at.there
+      ∙ and_from (is_begun (status_of t g n)) (nat_lt root (reached o g n (loads t))) (complete_touched (status_of t g n) complete).2
+      (lt-ltb root (reached o g n (loads t)) (omega arith))
+
+  -- where Finish goes, each segment is whole
+  finish_whole : FinishGoes o t → (g : ℕ) (segment : Range) → slice_get o.recon.segments g ≡ Some segment → is_whole t g ≡ true
+  finish_whole goes g segment there =
+      let below = (ends_below o is g segment there).1 in
+      let within = slice_get_within o.recon.segments g segment there in
+      let into : is_into o segment.dst g ≡ true = ap (λ found. goes_into found segment.dst) there ∙ eq-eqb segment.dst segment.dst refl in
+      let told = list_all-Contains (counts_reported o t) (partitions o) segment.dst goes.reported (row_has 0 o.old.parts segment.dst (omega arith) (omega arith)) in
+      elim (or_cases (is_reported t segment.dst) (not (list_any (is_into o segment.dst) (segment_numbers o))) told) [
+        | inl reported ↦ reported_whole o t legal segment.dst g reported within into
+        | inr none ↦
+            absurd (true≢false (
+            sym (list_any-Contains (is_into o segment.dst) (segment_numbers o) g (row_has 0 (length o.recon.segments) g (omega arith) (omega arith)) into)
+            ∙ not-true (list_any (is_into o segment.dst) (segment_numbers o)) none
+            ))
+      ]
+
+  finish_place : FinishGoes o t → (root : ℕ) → place o t root ≡ At (destination o root)
+  finish_place goes root = among (segment_of o.recon.segments root) refl
+    where
+      among : (at : Option ℕ) → segment_of o.recon.segments root ≡ at → place o t root ≡ At (destination o root)
+      among None none = uncut_home o is t legal root (cut_none o is t legal root none) ∙ ap At (unfound_stays o is root none)
+      among (Some g) found =
+          let at = found_in_segment o is root g found in
+          loaded_away o is t legal root (whole_loaded root g at.0 found at.1 (finish_whole goes g at.0 at.1.there))
+
+-- nothing is cut or loaded any more
+ended_still : {A : Type 0} (now : Phase) → is_moving_phase now ≡ true → now ≡ Ended → A
+ended_still Moving moving ended = absurd cc
+ended_still now moving ended = absurd cc
+
+-- once the move has ended, each root key is where the new plan has it
+pub ended_place : (o : OpeningValue) → IsOpening o → (t : Trace) → IsLegal o t → phase t ≡ Ended → (root : ℕ) → place o t root ≡ At (destination o root)
+ended_place o is [] legal ended root = absurd cc
+ended_place o is ((Prepare part, Done) ∷ t) legal ended root = absurd cc
+ended_place o is ((Start, Done) ∷ t) legal ended root = absurd cc
+ended_place o is ((Finish, Done) ∷ t) legal ended root = finish_place o is t legal.1 (finish_goes o t legal.0) root
+ended_place o is ((Cut src dst, WasCut note families) ∷ t) legal ended root = ended_still (phase t) (cut_goes o t src dst note families legal.0).moving ended
+ended_place o is ((Load src dst, WasLoaded note families) ∷ t) legal ended root = ended_still (phase t) (load_goes o t src dst note families legal.0).moving ended
+ended_place o is ((step, told) ∷ t) legal ended root = ended_place o is t legal.1 ended root

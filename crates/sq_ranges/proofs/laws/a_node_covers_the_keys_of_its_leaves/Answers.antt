@@ -1,0 +1,12 @@
+use Rattle.sq_ranges.proofs.Extents.{leaf_below, covers_from_above, above_from_covers}
+use Rattle.sq_ranges.proofs.Segments.{segment_stands, width_bounds}
+use Rattle.sq_ranges.proofs.laws.a_node_covers_the_keys_of_its_leaves.Goals as goal
+
+pub returns-clause-leaf : goal.returns-clause-leaf
+returns-clause-leaf c = λ recon i key segment is holder.
+    leaf_below recon.width segment (width_bounds recon.width is.leaf).0 key holder.held (segment_stands recon is i segment holder.at).is.short
+
+pub returns-clause-covers : goal.returns-clause-covers
+returns-clause-covers c = λ recon i key n segment is holder.
+    let some = (width_bounds recon.width is.leaf).0 in
+    (above_from_covers recon.width segment some key holder.held n, covers_from_above recon.width segment some key holder.held n)

@@ -1,0 +1,16 @@
+use Rattle.std.proofs.Common.{◌≡◌, ◌≤◌, arith}
+use Rattle.sq_ranges.proofs.Extents.{extent_low, extent_rises, extent_high, extent_whole, extents_disjoint}
+use Rattle.sq_ranges.proofs.Segments.{segment_stands}
+use Rattle.sq_ranges.proofs.laws.nodes_divide_their_segment.Goals as goal
+
+pub returns-clause-whole : goal.returns-clause-whole
+returns-clause-whole c = λ recon i n segment is at.
+    let stands = segment_stands recon is i segment at in
+    let some : segment.lo ≤ segment.hi = omega (arith, stands.some) in
+    let whole = extent_whole recon.width segment some stands.is.short in (
+      record { low = extent_low recon.width segment n some; rises = extent_rises recon.width segment n; high = extent_high recon.width segment n },
+      λ j. record { lo = whole.0 j; hi = whole.1 j },
+    )
+
+pub returns-clause-apart : goal.returns-clause-apart
+returns-clause-apart c = λ width n m key segment node other not_under not_above. extents_disjoint width segment n m key node other not_under not_above

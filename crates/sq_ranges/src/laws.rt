@@ -1,0 +1,44 @@
+// What holds of the moves between two plans, and of segments and nodes.
+ghost use Rattle.std.specs.Prelude.{◌≡◌, ◌↔◌, ℕ, ◌+◌, ◌*◌, ◌<◌, Some, true, false, IsTrue, slice_get};
+ghost use Rattle.sq_plan.specs.PlanValue.{PlanValue, IsPlan, root_end};
+ghost use Rattle.sq_tree.specs.Node.{is_node, is_leaf, is_above, is_under};
+ghost use Rattle.sq_ranges.specs.declared.recon.Range.{Range};
+ghost use Rattle.sq_ranges.specs.ReconValue.{ReconValue, IsRecon, segment_of, leaf_of, extent};
+ghost use Rattle.sq_ranges.specs.Moves.{AreTheMoves, moves_of};
+ghost use Rattle.sq_ranges.specs.Between.{IsReconOf};
+ghost use Rattle.sq_ranges.specs.Laws.{IsHolder, Tells, Covers, LiesIn, AreHalves};
+
+/// What moves between two plans is one list of ranges: the maximal runs of root keys with one pair of owners that
+/// differ.
+pub fn two_plans_have_one_list_of_moves()
+    ensures { (old new : PlanValue) → IsPlan old → IsPlan new → AreTheMoves old new (moves_of old new) }
+{}
+
+/// A root key that moves is in just one segment, from its old owner to its new one; another keeps its owner.
+pub fn each_key_that_moves_has_one_segment()
+    ensures { (old new : PlanValue) (width : ℕ) (recon : ReconValue) (key : ℕ) → IsReconOf old new width recon
+        → key < root_end → Tells old new recon.segments key (segment_of recon.segments key) }
+{}
+
+/// A node covers those keys of its segment whose leaf it is above, and a segment has 32 leaves.
+pub fn a_node_covers_the_keys_of_its_leaves()
+    ensures leaf { (recon : ReconValue) (i key : ℕ) (segment : Range) → IsRecon recon
+        → IsHolder recon.segments key i segment → leaf_of recon.width segment key < 32 }
+    ensures covers { (recon : ReconValue) (i key n : ℕ) (segment : Range) → IsRecon recon
+        → IsHolder recon.segments key i segment
+        → Covers (extent recon.width segment n) key ↔ (is_above n (leaf_of recon.width segment key) ≡ true) }
+{}
+
+/// The keys of a node lie in its segment, which node 1 covers whole. The two halves of a node make it up, and two
+/// nodes that aren't nested have no key in common.
+pub fn nodes_divide_their_segment()
+    ensures whole { (recon : ReconValue) (i n : ℕ) (segment : Range) → IsRecon recon
+        → slice_get recon.segments i ≡ Some segment
+        → LiesIn (extent recon.width segment n) (record { lo = segment.lo; hi = segment.hi })
+        × (extent recon.width segment 1 ≡ record { lo = segment.lo; hi = segment.hi }) }
+    ensures halves { (width n : ℕ) (segment : Range) → IsTrue (is_node n) → is_leaf n ≡ false
+        → AreHalves (extent width segment (2 * n)) (extent width segment (2 * n + 1)) (extent width segment n) }
+    ensures apart { (width n m key : ℕ) (segment : Range) → IsTrue (is_node n) → IsTrue (is_node m)
+        → is_under n m ≡ false → is_under m n ≡ false
+        → Covers (extent width segment n) key → Covers (extent width segment m) key → ⊥ }
+{}

@@ -1,0 +1,29 @@
+// What the definitions come to, as functions that do nothing.
+ghost use Rattle.std.specs.Prelude.{◌≡◌, ℕ, List, [], ◌∷◌, ◌++◌, pos, Some, None};
+ghost use Rattle.sq_schema.specs.declared.txn.OpAnswer.TheVariants.{Found, Number, Done};
+ghost use Rattle.sq_schema.specs.declared.txn.Cause.TheVariants.{Absent, Small, Range, NoRoot, Children};
+ghost use Rattle.sq_schema.specs.declared.txn.Reply.TheVariants.{Committed, Aborted};
+ghost use Rattle.sq_schema.specs.TxnValue.{TxnValue};
+ghost use Rattle.sq_schema.specs.Effect.{RowTable, root_key, reply, effect, replay, replay_rows, only};
+ghost use Rattle.sq_schema.specs.Examples.{ten, plain, hi, key, adds_largest, deletes_parent, puts_child, checks, deletes_absent, puts_and_adds, adds_one, gets_and_deletes, gets};
+
+/// Replies of transactions on a root row of 10 and on no rows, each worked out by hand.
+pub fn worked_replies()
+    ensures range { reply ten adds_largest ≡ Aborted 0 Range }
+    ensures children { reply ten deletes_parent ≡ Aborted 1 Children }
+    ensures no_root { reply [] puts_child ≡ Aborted 0 NoRoot }
+    ensures small { reply ten (checks 11) ≡ Aborted 0 Small }
+    ensures equal { reply ten (checks 10) ≡ Committed (Done ∷ []) }
+    ensures absent { reply ten deletes_absent ≡ Aborted 0 Absent }
+    ensures commit { reply ten puts_and_adds ≡ Committed (Done ∷ Found (Some hi) ∷ Found None ∷ Number (pos 7) ∷ []) }
+    ensures rows { effect ten puts_and_adds ≡ (root_key, plain (pos 7)) ∷ (key 1 7, hi) ∷ [] }
+    ensures kept { effect ten deletes_parent ≡ ten }
+    ensures no_row { reply [] adds_one ≡ Aborted 0 Absent }
+    ensures second { reply [] gets_and_deletes ≡ Aborted 1 Absent }
+    ensures none { reply [] gets ≡ Committed (Found None ∷ []) }
+{}
+
+/// What a table has of one root key after transactions is the replay of that root key's own on its rows.
+pub fn replays_by_root()
+    ensures { (table : RowTable) (txns : List TxnValue) (root : ℕ) → replay table txns root ≡ replay_rows (table root) (only root txns) }
+{}

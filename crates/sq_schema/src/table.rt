@@ -1,0 +1,179 @@
+// Tables that aren't partitioned.
+ghost use Rattle.std.specs.Prelude.{◌≡◌, ℕ, ◌≤◌, true, [], None, length, MatchResult, IfErr, IfSome, IsSome, OnOk, OnErr};
+ghost use Rattle.std.specs.List.{AllPass};
+ghost use Rattle.std.specs.Option.{option_copied};
+ghost use Rattle.std.specs.Ordering.{nat_cmp};
+ghost use Rattle.std.specs.FinMap.Entries.{find, is_sorted};
+ghost use Rattle.sq_schema.specs.Effect.{replay, table_after};
+ghost use Rattle.sq_schema.specs.Refusals.{row_fault};
+ghost use Rattle.sq_schema.specs.Rows.{is_rooted};
+ghost use Rattle.sq_schema.specs.Table.{rows_in, is_opening, row_given_fault, RefusesBy, with_given};
+
+use crate::draft::{Outcome, run};
+use crate::fault::RowFault;
+use crate::root::Root;
+use crate::row::{Row, RowKey};
+use crate::rows::Rows;
+use crate::txn::Txn;
+use std::alloc::{AllocError, AllocFailed, Global};
+use std::collections::{BTreeMap, btree_map};
+use std::marker::Model;
+
+/// The rows of a database by root key, in one table that isn't partitioned. To a contract it is the list of the root
+/// keys that have rows, in rising order, with these.
+#[derive(Debug, Drop)]
+pub struct Table {
+    rows: BTreeMap<Root, Rows>,
+    alloc: Global,
+}
+
+impl Model for Table {
+    ghost use Rattle.std.specs.Prelude.{ℕ, List};
+    ghost use Rattle.std.specs.List.{AllPass};
+    ghost use Rattle.sq_schema.specs.Values.{RowValue};
+    ghost use Rattle.sq_schema.specs.declared.row.RowKey.{RowKey};
+    ghost use Rattle.sq_schema.specs.Table.{is_opening};
+
+    ghost Value = { List (ℕ × List (RowKey × RowValue)) };
+
+    ghost view = { λ t. t.rows.entries };
+
+    ghost invariant = { λ t. AllPass (λ entry. is_opening entry.1) t.rows.entries };
+}
+
+impl Table {
+    /// No rows.
+    pub fn new(alloc: Global) -> Table
+        ensures { result ≡ [] }
+    {
+        Table {
+            rows: BTreeMap::new(alloc),
+            alloc,
+        }
+    }
+
+    /// The rows of a root key, where it has some.
+    pub fn rows(&self, root: Root) -> Option<&Rows>
+        ensures rows { option_copied result ≡ find nat_cmp root self.now }
+        ensures opening { IfSome result (λ rows. is_opening rows.now ≡ true) }
+    {
+        self.rows.get(&root)
+    }
+
+    /// The root keys that have rows, in rising order, with these.
+    pub fn iter(&self) -> btree_map::Iter<'_, Root, Rows>
+        ensures all { result ≡ self.now }
+        ensures rising { is_sorted nat_cmp self.now ≡ true }
+        ensures opening { AllPass (λ entry. is_opening entry.1) self.now }
+    {
+        self.rows.iter()
+    }
+
+    /// Takes one opening row, which a schema was asked for. On an error nothing changes, and the row comes back.
+    pub fn insert(&mut self, root: Root, key: RowKey, row: Row) -> Result<(), (RowFault, Row)>
+        requires { row_fault 8 key row ≡ None }
+        ensures fault { MatchResult result
+            (λ _. row_given_fault (rows_in self.old root) key ≡ None)
+            (λ refused. RefusesBy (row_given_fault (rows_in self.old root) key) refused.0) }
+        ensures ok { OnOk result ((k : ℕ) → rows_in self.new k ≡ with_given (rows_in self.old) root key row k) }
+        ensures err { OnErr result (self.new ≡ self.old) }
+        ensures row_returned { IfErr result (λ refused. refused.1 ≡ row) }
+    {
+        if let Some(fault) = self.fault(root, key) {
+            return Err((fault, row));
+        }
+        let taken = if self.rows.contains_key(&root) {
+            self.extend(root, key, row)
+        } else {
+            self.open(root, key, row)
+        };
+        taken.map_err(|refused| (RowFault::Memory, refused.value))
+    }
+
+    // Why an opening row isn't taken.
+    fn fault(&self, root: Root, key: RowKey) -> Option<RowFault>
+        ensures { result ≡ row_given_fault (rows_in self.now root) key }
+    {
+        let rows = self.rows(root);
+        if rows.is_some_and(|rows| rows.get(key).is_some()) {
+            return Some(RowFault::RowRepeated);
+        }
+        if key.table != 0 && rows.is_none_or(|rows| rows.get(RowKey::ROOT).is_none()) {
+            return Some(RowFault::NoRootRow);
+        }
+        None
+    }
+
+    // Takes a row of a root key that has none.
+    fn open(&mut self, root: Root, key: RowKey, row: Row) -> Result<(), AllocFailed<Row>>
+        requires row { row_fault 8 key row ≡ None }
+        requires given { row_given_fault [] key ≡ None }
+        requires absent { find nat_cmp root self.old ≡ None }
+        ensures ok { OnOk result ((k : ℕ) → rows_in self.new k ≡ with_given (rows_in self.old) root key row k) }
+        ensures err { OnErr result (self.new ≡ self.old) }
+        ensures row_returned { IfErr result (λ refused. refused.value ≡ row) }
+    {
+        let mut rows = Rows::new(self.alloc);
+        rows.insert(key, row)?;
+        if let Err(refused) = self.rows.insert(root, rows) {
+            let (_, rows) = refused.value;
+            return Err(AllocFailed {
+                value: rows.into_first(),
+            });
+        }
+        Ok(())
+    }
+
+    // Takes a row of a root key that has some.
+    fn extend(&mut self, root: Root, key: RowKey, row: Row) -> Result<(), AllocFailed<Row>>
+        requires row { row_fault 8 key row ≡ None }
+        requires given { row_given_fault (rows_in self.old root) key ≡ None }
+        requires present { IsSome (find nat_cmp root self.old) }
+        ensures ok { OnOk result ((k : ℕ) → rows_in self.new k ≡ with_given (rows_in self.old) root key row k) }
+        ensures err { OnErr result (self.new ≡ self.old) }
+        ensures row_returned { IfErr result (λ refused. refused.value ≡ row) }
+    {
+        let Some(rows) = self.rows.get_mut(&root) else {
+            unreachable!()
+        };
+        rows.insert(key, row)
+    }
+
+    /// Runs transactions one after another, each on the rows of its root key. Where there is no memory nothing
+    /// changes; all rows are copied first.
+    pub fn replay(&mut self, txns: &[Txn]) -> Result<(), AllocError>
+        ensures ok { OnOk result ((k : ℕ) → rows_in self.new k ≡ replay (rows_in self.old) txns.now k) }
+        ensures err { OnErr result (self.new ≡ self.old) }
+    {
+        let mut table = self.clone()?;
+        for txn in txns {
+            table.run(txn)?;
+        }
+        *self = table;
+        Ok(())
+    }
+
+    // Runs one transaction. Where there is no memory the rows of its root key are lost.
+    fn run(&mut self, txn: &Txn) -> Result<(), AllocError>
+        ensures ok { OnOk result ((k : ℕ) → rows_in self.new k ≡ table_after (rows_in self.old) txn.now k) }
+    {
+        let root = txn.root();
+        let mut rows = self.rows.remove(&root).unwrap_or(Rows::new(self.alloc));
+        rows.run(self.alloc, txn)?;
+        if !rows.is_empty() {
+            drop(self.rows.insert(root, rows)?);
+        }
+        Ok(())
+    }
+}
+
+impl Clone for Table {
+    ghost is_clone = { λ table copy. copy ≡ table };
+
+    fn clone(&self) -> Result<Table, AllocError> {
+        Ok(Table {
+            rows: self.rows.clone()?,
+            alloc: self.alloc,
+        })
+    }
+}

@@ -1,0 +1,57 @@
+-- What a store contains: a finite map from root keys to families, however it is kept.
+use Rattle.std.specs.Prelude.{ℕ, Bool, true, false, ◌==◌, ◌&&◌, not, nat_le, nat_lt, List, [], ◌∷◌, ◌++◌, length, map, fold, filter, Option, Some, None, unwrap_or, find}
+use Rattle.std.specs.Ordering.{nat_cmp}
+use Rattle.std.specs.FinMap.{FinMap, get, insert, entries, retain_keys}
+use Rattle.sq_schema.specs.TxnValue.{TxnValue}
+use Rattle.sq_schema.specs.declared.txn.Reply.{Reply}
+use Rattle.sq_schema.specs.declared.txn.Reply.TheVariants.{Committed, Aborted}
+use Rattle.sq_schema.specs.Effect.{reply}
+use Rattle.sq_schema.specs.Family.{FamilyValue, rows_of, rows_size}
+use Rattle.sq_ranges.specs.CutEnd.{end_of}
+
+abbrev pub StoreValue : Type 0
+StoreValue = FinMap nat_cmp FamilyValue
+
+-- a family without rows and without a log
+abbrev pub absent : ℕ → FamilyValue
+absent root = record { root = root; base = []; log = [] }
+
+-- the family of a root key, which may be an empty one that doesn't stand
+abbrev pub family_at : StoreValue → ℕ → FamilyValue
+family_at store root = unwrap_or (get store root) (absent root)
+
+-- what a transaction is answered on the family of its root key
+abbrev pub store_reply : StoreValue → TxnValue → Reply
+store_reply store txn = reply (rows_of (family_at store txn.root)) txn
+
+abbrev pub with_txn : FamilyValue → TxnValue → FamilyValue
+with_txn family txn = record { root = family.root; base = family.base; log = family.log ++ txn ∷ [] }
+
+-- the store after a transaction with this reply: one that commits goes to the end of its family's log
+abbrev pub store_after : StoreValue → TxnValue → Reply → StoreValue
+store_after store txn (Committed answers) = insert store txn.root (with_txn (family_at store txn.root) txn)
+store_after store txn (Aborted at cause) = store
+
+-- the families from lo up to hi, by root key in rising order
+abbrev pub families_between : StoreValue → ℕ → ℕ → List FamilyValue
+families_between store lo hi = map (λ entry. entry.1) (filter (λ entry. nat_le lo entry.0 && nat_lt entry.0 hi) (entries store))
+
+-- the store without the families from lo up to hi
+abbrev pub without_between : StoreValue → ℕ → ℕ → StoreValue
+without_between store lo hi = retain_keys store (λ root. not (nat_le lo root && nat_lt root hi))
+
+-- the size in bytes of the family of a root key
+abbrev pub stored_size : StoreValue → ℕ → ℕ
+stored_size store root = rows_size (rows_of (family_at store root))
+
+-- where a chunk ends that takes families from lo on, below hi and within so many bytes
+abbrev pub take_end : StoreValue → ℕ → ℕ → ℕ → ℕ
+take_end store lo hi limit = end_of (stored_size store) hi limit (map (λ family. family.root) (families_between store lo hi))
+
+-- the store with these families
+abbrev pub with_families : StoreValue → List FamilyValue → StoreValue
+with_families store families = fold (λ so_far family. insert so_far family.root family) store families
+
+-- the family of a root key among these
+abbrev pub family_in : List FamilyValue → ℕ → Option FamilyValue
+family_in families root = find (λ family. family.root == root) families
