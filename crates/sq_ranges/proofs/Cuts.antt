@@ -1,19 +1,19 @@
 -- Ranges that are cut into segments.
-use Rattle.std.proofs.Common.{◌≡◌, ◌≢◌, ◌⊎◌, inl, inr, ⊎_elim, ℕ, zero, suc, ◌+◌, ◌-◌, ◌*◌, ◌/◌, ◌%◌, ◌<◌, ◌≤◌, min, Bool, true, false, cond, List, [], ◌∷◌, ◌++◌, map, length, get_or, refl, sym, ap, ◌∙◌, subst, arith, ◌&&◌, ◌||◌, nat_lt, nat_le, not, ◌==◌, length-append}
-use Rattle.std.specs.List.{list_any, flat_map, range_with_len}
+use Rattle.std.proofs.Common.{◌≡◌, ◌≢◌, ⊎_elim, ℕ, zero, suc, ◌+◌, ◌-◌, ◌*◌, ◌/◌, ◌%◌, ◌<◌, ◌≤◌, min, true, List, [], ◌∷◌, ◌++◌, map, length, get_or, refl, sym, ap, ◌∙◌, arith, ◌&&◌, nat_lt, nat_le, not, ◌==◌, length-append}
+use Rattle.std.specs.List.{range_with_len}
 use Rattle.std.proofs.Math.Nat.{div-mul-le_self, lt-div-mul-add, div-eq_of_lt-le}
 use Rattle.std.proofs.lemmas.Nat.{le-div}
 use Rattle.std.proofs.lemmas.Grind.{div_ceil_times}
-use Rattle.std.proofs.lemmas.Bool.{and_parts, and_from, or_cases, or_left, or_right, eqb-false, leb-true, ltb-true, le-leb, lt-ltb, ne_eqb, not-true, not_from_false, cases_lt}
+use Rattle.std.proofs.lemmas.Bool.{and_parts, and_from, or_cases, or_left, or_right, eqb-false, leb-true, ltb-true, le-leb, lt-ltb, ne_eqb, not-true, not_from_false}
 use Rattle.std.proofs.lemmas.List.Folds.{list_any-append, list_any_at}
 use Rattle.std.proofs.lemmas.List.{append-nil, append_assoc}
 use Rattle.std.proofs.lemmas.List.Concat.{flat_map-append}
 use Rattle.std.proofs.lemmas.List.FromFn.{length-map-range_with_len, get_or-map-range_with_len}
-use Rattle.sq_plan.specs.PlanValue.{PlanValue, owner, root_end}
+use Rattle.sq_plan.specs.PlanValue.{PlanValue, root_end}
 use Rattle.sq_ranges.specs.declared.recon.Range.{Range}
-use Rattle.sq_ranges.specs.ReconValue.{ReconValue, IsRecon, holds, segment_width, segment_at, segment_count, segments_in, segments_of, are_rising, is_width}
+use Rattle.sq_ranges.specs.ReconValue.{holds, segment_width, segment_at, segment_count, segments_in, segments_of, are_rising}
 use Rattle.sq_ranges.specs.Moves.{IsRun}
-use Rattle.sq_ranges.proofs.Rows.{Row, row_lower, row-append, row_bounds, row_each, row-map}
+use Rattle.sq_ranges.proofs.Rows.{Row, row_lower, row-append, row_bounds}
 use Rattle.sq_ranges.proofs.Joins.{any_holds, holds_bounds, holds_within}
 
 -- how often a width goes into a length, rounded up

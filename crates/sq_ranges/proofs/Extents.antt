@@ -1,12 +1,11 @@
 -- What layers above use of nodes: which keys of a segment they cover.
-use Rattle.std.proofs.Common.{◌≡◌, ◌≢◌, ◌⊎◌, inl, inr, ⊎_elim, ℕ, zero, suc, ◌+◌, ◌-◌, ◌*◌, ◌/◌, ◌<◌, ◌≤◌, min, Bool, true, false, refl, sym, ap, ◌∙◌, subst, arith, ◌==◌, ◌&&◌, nat_le, nat_lt, IsTrue}
+use Rattle.std.proofs.Common.{◌≡◌, ◌⊎◌, ⊎_elim, ℕ, ◌+◌, ◌-◌, ◌*◌, ◌/◌, ◌<◌, ◌≤◌, true, false, ap, arith, nat_le, nat_lt, IsTrue}
 use Rattle.std.proofs.Math.Nat.{div-mul-le_self, lt-div-mul-add}
-use Rattle.std.proofs.lemmas.Nat.{le-div, div_below}
-use Rattle.std.proofs.lemmas.Bool.{and_parts, and_from, leb-true, ltb-true, le-leb, lt-ltb, cases_lt}
+use Rattle.std.proofs.lemmas.Nat.{div_below}
+use Rattle.std.proofs.lemmas.Bool.{and_parts, and_from, leb-true, le-leb, lt-ltb, cases_lt}
 use Rattle.sq_tree.specs.Node.{is_node, is_leaf, span, first_leaf, is_above, is_under}
 use Rattle.sq_tree.proofs.Nested.{apart, above_bounds, halves_of}
 use Rattle.sq_ranges.specs.declared.recon.Range.{Range}
-use Rattle.sq_ranges.specs.declared.recon.Extent.{Extent}
 use Rattle.sq_ranges.specs.ReconValue.{holds, segment_width, leaf_of, leaf_start, extent}
 pub use Rattle.sq_ranges.specs.Laws.{Covers}
 use Rattle.sq_ranges.proofs.Joins.{holds_bounds}

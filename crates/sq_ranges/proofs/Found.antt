@@ -1,20 +1,16 @@
 -- The segment of a key.
-use Rattle.std.proofs.Common.{◌≡◌, ◌≢◌, ◌⊎◌, inl, inr, ⊎_elim, ℕ, zero, suc, ◌+◌, ◌-◌, ◌*◌, ◌/◌, ◌<◌, ◌≤◌, Bool, true, false, true≢false, cond, List, [], ◌∷◌, length, get_or, Option, Some, None, refl, sym, ap, ◌∙◌, subst, arith, not, nat_lt, ◌==◌}
-use Rattle.std.specs.Prelude.{slice_get, position, All}
+use Rattle.std.proofs.Common.{◌≡◌, ◌⊎◌, ⊎_elim, ℕ, ◌<◌, Bool, true, false, true≢false, cond, List, [], ◌∷◌, length, get_or, Option, Some, None, refl, sym, ap, ◌∙◌, arith, not, nat_lt}
+use Rattle.std.specs.Prelude.{slice_get, position}
 use Rattle.std.specs.List.{list_any, position_or_len}
-use Rattle.std.proofs.lemmas.Bool.{lt-ltb, le-ltb, ltb-false, cond-true, cond-false, cases_lt, cases_order, cases_Bool, cases_eq, false_from_ne_true, not-true}
-use Rattle.std.proofs.lemmas.List.Elements.{All-head, All-tail}
-use Rattle.std.proofs.lemmas.List.Folds.{list_any_none, list_any_at}
+use Rattle.std.proofs.lemmas.Bool.{lt-ltb, le-ltb, ltb-false, cond-true, cond-false, cases_order, false_from_ne_true, not-true}
+use Rattle.std.proofs.lemmas.List.Folds.{list_any_none}
 use Rattle.std.proofs.lemmas.List.Quantifiers.{position-Some}
 use Rattle.std.proofs.lemmas.List.Sums.{position_or_len_is, prefix_len_passes}
-use Rattle.std.proofs.lemmas.Option.{same_Some, none-some, slice_get-get_or, slice_get_within, get_or_from_slice_get}
-use Rattle.sq_plan.specs.PlanValue.{PlanValue, owner, root_end}
+use Rattle.std.proofs.lemmas.Option.{none-some, slice_get-get_or, slice_get_within, get_or_from_slice_get}
 use Rattle.sq_ranges.specs.declared.recon.Range.{Range}
-use Rattle.sq_ranges.specs.ReconValue.{ReconValue, IsRecon, holds, segment_of, segments_of}
-use Rattle.sq_ranges.specs.Moves.{IsRun, AreMaximal, AreMoves}
-use Rattle.sq_ranges.proofs.Rows.{Row, row_bounds, row-map, row_at, row_apart, Stands}
-use Rattle.sq_ranges.proofs.Joins.{any_holds, holds_bounds, holds_within}
-use Rattle.sq_ranges.proofs.Cuts.{IsSegment, Moves, segments_of-row, segments_of-cover, row_from_rising, segment_parts, run_parts}
+use Rattle.sq_ranges.specs.ReconValue.{holds, segment_of}
+use Rattle.sq_ranges.proofs.Rows.{Row, row_apart}
+use Rattle.sq_ranges.proofs.Joins.{any_holds, holds_bounds}
 
 -- the first place that passes a test
 module _ {X : Type 0} (p : X → Bool) where

@@ -1,13 +1,13 @@
 -- Runs that are put together where one goes on from another.
-use Rattle.std.proofs.Common.{◌≡◌, ◌≢◌, ◌⊎◌, inl, inr, ⊎_elim, ℕ, zero, suc, ◌+◌, ◌<◌, ◌≤◌, Bool, true, false, true≢false, cond, if◌then◌else◌, List, [], ◌∷◌, length, refl, sym, ap, ◌∙◌, subst, arith, ◌&&◌, ◌||◌, nat_lt, nat_le, not, ◌==◌}
+use Rattle.std.proofs.Common.{◌≡◌, ◌≢◌, ⊎_elim, ℕ, ◌<◌, ◌≤◌, Bool, true, false, if◌then◌else◌, List, [], ◌∷◌, refl, ◌∙◌, arith, ◌&&◌, nat_lt, nat_le, ◌==◌}
 use Rattle.std.specs.List.{list_any}
-use Rattle.std.proofs.lemmas.Bool.{and_parts, and_from, and_cases, or_cases, or_left, or_right, or_from, eqb-true, eqb-false, ltb-true, leb-true, lt-ltb, le-leb, cases_Bool, cases_lt}
+use Rattle.std.proofs.lemmas.Bool.{and_parts, and_from, or_cases, or_left, or_right, eqb-true, ltb-true, leb-true, lt-ltb, le-leb, cases_lt}
 use Rattle.std.proofs.lemmas.Bool.Decides.{nat_tests}
-use Rattle.sq_plan.specs.PlanValue.{PlanValue, owner, root_end}
+use Rattle.sq_plan.specs.PlanValue.{PlanValue}
 use Rattle.sq_ranges.specs.declared.recon.Range.{Range}
 use Rattle.sq_ranges.specs.ReconValue.{holds}
-use Rattle.sq_ranges.specs.Moves.{IsRun, AreApart, AreMaximal, joined_with, joined}
-use Rattle.sq_ranges.proofs.Rows.{Row, row_lower}
+use Rattle.sq_ranges.specs.Moves.{IsRun, AreMaximal, joined_with, joined}
+use Rattle.sq_ranges.proofs.Rows.{Row}
 
 -- what a range holds, as bounds
 pub holds_bounds : (range : Range) (key : ℕ) → holds range key ≡ true → (range.lo ≤ key) × (key < range.hi)

@@ -11,3 +11,4 @@ pub mod Extents
 pub mod Links
 pub mod Made
 pub mod Search
+pub mod Openings

@@ -1,10 +1,10 @@
 -- The links of ranges.
-use Rattle.std.proofs.Common.{◌≡◌, ℕ, ◌<◌, Bool, true, List, [], ◌∷◌, map, length, get_or, refl, sym, ap, ◌∙◌, subst, ◌&&◌, ◌==◌}
+use Rattle.std.proofs.Common.{◌≡◌, ℕ, ◌<◌, Bool, true, List, map, length, get_or, sym, ap, ◌∙◌, subst, ◌&&◌, ◌==◌}
 use Rattle.std.specs.Prelude.{Contains}
-use Rattle.std.specs.List.{list_any, dedup}
+use Rattle.std.specs.List.{dedup}
 use Rattle.std.specs.List.Sorted.{IsPermutation, IsSorted, IsStrictlySortedBy}
 use Rattle.std.specs.Cmp.{IsTotalOrder, IsEquivalence, unsigned_ties, both_tied}
-use Rattle.std.specs.Ordering.{nat_cmp, eq_by_cmp, is_eq, on}
+use Rattle.std.specs.Ordering.{nat_cmp, eq_by_cmp}
 use Rattle.std.proofs.lemmas.Bool.{and_parts, and_from, eqb-true, eq-eqb}
 use Rattle.std.proofs.lemmas.Cmp.{nat_cmp_total, nat_eq_equiv, on_equiv, and_equiv, on_total, then_total}
 use Rattle.std.proofs.lemmas.List.{get_or-map, length-map}

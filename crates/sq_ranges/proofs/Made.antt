@@ -4,7 +4,7 @@ use Rattle.std.proofs.lemmas.Bool.{eqb-true, ltb-false}
 use Rattle.std.proofs.lemmas.Option.{none-some}
 use Rattle.sq_plan.specs.PlanValue.{PlanValue, IsPlan}
 use Rattle.sq_ranges.specs.declared.recon.Range.{Range}
-use Rattle.sq_ranges.specs.ReconValue.{ReconValue, IsRecon, is_width, are_rising, segments_of, segment_limit}
+use Rattle.sq_ranges.specs.ReconValue.{is_width, are_rising, segments_of, segment_limit}
 use Rattle.sq_ranges.specs.Moves.{moves_of}
 use Rattle.sq_ranges.specs.Between.{recon_fault, recon_of, IsReconOf}
 use Rattle.sq_ranges.specs.declared.fault.ReconFault.TheVariants.{PartitionsDiffer, Width, TooManySegments}

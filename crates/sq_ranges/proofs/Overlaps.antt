@@ -1,15 +1,15 @@
 -- What is made of the overlaps of two plans' ranges is what moves between them.
-use Rattle.std.proofs.Common.{◌≡◌, ◌≢◌, ◌⊎◌, inl, inr, ⊎_elim, ℕ, zero, suc, ◌+◌, ◌<◌, ◌≤◌, min, max, Bool, true, false, true≢false, cond, List, [], ◌∷◌, ◌++◌, map, length, refl, sym, ap, ◌∙◌, subst, arith, ◌&&◌, ◌||◌, nat_lt, nat_le, not, ◌==◌}
-use Rattle.std.specs.Prelude.{All, filter}
-use Rattle.std.specs.List.{list_any, flat_map}
-use Rattle.std.proofs.lemmas.Bool.{and_parts, and_from, or_cases, or_left, or_right, eqb-true, eqb-false, ltb-true, lt-ltb, ne_eqb, not-true, not_from_false, cond-true, cases_lt}
+use Rattle.std.proofs.Common.{◌≡◌, ◌≢◌, ⊎_elim, ℕ, ◌<◌, ◌≤◌, min, max, true, false, cond, List, [], ◌∷◌, map, refl, sym, ◌∙◌, subst, arith, nat_lt, not, ◌==◌}
+use Rattle.std.specs.Prelude.{filter}
+use Rattle.std.specs.List.{flat_map}
+use Rattle.std.proofs.lemmas.Bool.{and_parts, and_from, or_left, or_right, eqb-true, eqb-false, ltb-true, lt-ltb, ne_eqb, not-true, not_from_false, cases_lt}
 use Rattle.std.proofs.lemmas.List.Folds.{list_any-append}
 use Rattle.sq_plan.specs.declared.plan.PlanRange.{PlanRange}
 use Rattle.sq_plan.specs.PlanValue.{PlanValue, IsPlan, is_tiling, owner, root_end}
 use Rattle.sq_ranges.specs.declared.recon.Range.{Range}
 use Rattle.sq_ranges.specs.ReconValue.{holds}
-use Rattle.sq_ranges.specs.Moves.{IsRun, AreMoves, overlap, moves_keys, joined, moves_of}
-use Rattle.sq_ranges.proofs.Rows.{Row, row_lower, row-append, row_each}
+use Rattle.sq_ranges.specs.Moves.{IsRun, AreMoves, overlap, moves_keys, moves_of}
+use Rattle.sq_ranges.proofs.Rows.{Row, row-append, row_each}
 use Rattle.sq_ranges.proofs.Tilings.{owner_among, tiling_parts, tiling_bounds, owner_among-first, owner_among-rest}
 use Rattle.sq_ranges.proofs.Joins.{any_holds, holds_within, joined-row, joined-maximal, joined-each}
 

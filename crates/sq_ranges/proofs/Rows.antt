@@ -1,10 +1,8 @@
 -- Ranges in a row: in key order, none of them empty, within bounds, and a fact of each.
-use Rattle.std.proofs.Common.{◌≡◌, ◌≢◌, ℕ, zero, suc, ◌+◌, ◌<◌, ◌≤◌, Bool, true, false, List, [], ◌∷◌, ◌++◌, length, refl, sym, ap, ◌∙◌, subst, arith, ◌&&◌, nat_lt, nat_le, not, ◌==◌, get_or}
+use Rattle.std.proofs.Common.{◌≡◌, ℕ, zero, suc, ◌<◌, ◌≤◌, List, [], ◌∷◌, ◌++◌, ap, subst, arith}
 use Rattle.std.specs.Prelude.{All, slice_get, Some}
 use Rattle.std.proofs.lemmas.Option.{same_Some, none-some}
-use Rattle.sq_plan.specs.PlanValue.{root_end}
 use Rattle.sq_ranges.specs.declared.recon.Range.{Range}
-use Rattle.sq_ranges.specs.ReconValue.{are_rising}
 
 -- ranges between two keys, of each of which something holds
 abbrev pub Row : (Range → Type 0) → ℕ → ℕ → List Range → Type 0

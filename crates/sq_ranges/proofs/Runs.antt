@@ -1,12 +1,12 @@
 -- The moves between two plans, one after another from a key on. There is one list of them.
-use Rattle.std.proofs.Common.{◌≡◌, ◌≢◌, ◌⊎◌, inl, inr, ⊎_elim, ℕ, zero, suc, ◌+◌, ◌<◌, ◌≤◌, Bool, true, false, true≢false, List, [], ◌∷◌, length, refl, sym, ap, ◌∙◌, subst, arith, ◌||◌}
+use Rattle.std.proofs.Common.{◌≡◌, ◌≢◌, ⊎_elim, ℕ, ◌<◌, ◌≤◌, true, false, true≢false, List, [], ◌∷◌, refl, sym, ap, ◌∙◌, subst, arith}
 use Rattle.std.specs.Prelude.{All}
 use Rattle.std.proofs.lemmas.Bool.{or_cases, cases_lt, cases_eq}
 use Rattle.std.proofs.lemmas.List.Elements.{All-head, All-tail}
 use Rattle.sq_plan.specs.PlanValue.{PlanValue, IsPlan, owner, root_end}
 use Rattle.sq_ranges.specs.declared.recon.Range.{Range}
 use Rattle.sq_ranges.specs.ReconValue.{holds}
-use Rattle.sq_ranges.specs.Moves.{IsRun, AreApart, AreMaximal, AreMoves, AreTheMoves, moves_of}
+use Rattle.sq_ranges.specs.Moves.{IsRun, AreMaximal, AreMoves, AreTheMoves, moves_of}
 use Rattle.sq_ranges.specs.Sweep.{IsNextRun, AreMovesFrom}
 use Rattle.sq_ranges.proofs.Joins.{any_holds, holds_bounds}
 use Rattle.sq_ranges.proofs.Overlaps.{moves_of-moves}

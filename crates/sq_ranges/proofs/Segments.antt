@@ -1,10 +1,10 @@
 -- What layers above use of a reconfiguration's segments: they rise, and each key that moves is in one of them.
-use Rattle.std.proofs.Common.{◌≡◌, ◌≢◌, ◌⊎◌, inl, inr, ⊎_elim, ℕ, zero, suc, ◌+◌, ◌*◌, ◌<◌, ◌≤◌, Bool, true, false, true≢false, List, [], ◌∷◌, length, Option, Some, None, refl, sym, ap, ◌∙◌, subst, arith, nat_le}
+use Rattle.std.proofs.Common.{◌≡◌, ◌≢◌, ⊎_elim, ℕ, ◌<◌, ◌≤◌, true, true≢false, List, [], ◌∷◌, Some, None, sym, ap, ◌∙◌, subst, arith, nat_le}
 use Rattle.std.specs.Prelude.{slice_get}
 use Rattle.std.proofs.lemmas.Bool.{and_parts, leb-true, cases_eq}
 use Rattle.sq_plan.specs.PlanValue.{PlanValue, owner, root_end}
 use Rattle.sq_ranges.specs.declared.recon.Range.{Range}
-use Rattle.sq_ranges.specs.ReconValue.{ReconValue, IsRecon, holds, segment_of, segments_of, segment_width, is_width, are_rising}
+use Rattle.sq_ranges.specs.ReconValue.{ReconValue, IsRecon, holds, segment_of, is_width, are_rising}
 use Rattle.sq_ranges.specs.Moves.{IsRun, AreMoves}
 use Rattle.sq_ranges.specs.Sweep.{AreMovesFrom}
 use Rattle.sq_ranges.proofs.Rows.{Row, Stands, row_at, row_apart}

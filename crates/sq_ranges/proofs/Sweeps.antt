@@ -1,13 +1,13 @@
 -- What a sweep over two plans knows, and what it comes to next.
-use Rattle.std.proofs.Common.{◌≡◌, ◌≢◌, ◌⊎◌, inl, inr, ⊎_elim, ℕ, zero, suc, ◌+◌, ◌<◌, ◌≤◌, min, Bool, true, false, true≢false, cond, List, [], ◌∷◌, length, Some, None, refl, sym, ap, ◌∙◌, subst, arith, ◌==◌}
-use Rattle.std.proofs.lemmas.Bool.{eqb-true, eqb-false, cases_lt, cases_Bool, cond-true, cond-false}
+use Rattle.std.proofs.Common.{◌≡◌, ◌≢◌, ◌⊎◌, inl, inr, ⊎_elim, ℕ, ◌+◌, ◌<◌, ◌≤◌, min, true, false, cond, List, [], ◌∷◌, length, Some, None, refl, sym, ap, ◌∙◌, subst, arith, ◌==◌}
+use Rattle.std.proofs.lemmas.Bool.{eqb-true, eqb-false, cases_lt, cond-true}
 use Rattle.std.proofs.lemmas.Option.{same_Some, none-some}
 use Rattle.std.proofs.lemmas.Bool.Decides.{nat_tests}
 use Rattle.sq_plan.specs.declared.plan.PlanRange.{PlanRange}
 use Rattle.sq_plan.specs.PlanValue.{PlanValue, IsPlan, is_tiling, owner, root_end}
 use Rattle.sq_ranges.specs.declared.recon.Range.{Range}
 use Rattle.sq_ranges.specs.declared.sweep.Sweep.{Sweep}
-use Rattle.sq_ranges.specs.Moves.{IsRun, moves_of}
+use Rattle.sq_ranges.specs.Moves.{moves_of}
 use Rattle.sq_ranges.specs.Sweep.{past, piece_of, EndsBehind, AreAhead, IsNextRun, AreMovesFrom, left, IsSweepOf, Reaches, EndsAt, ComesTo}
 use Rattle.sq_ranges.proofs.Tilings.{owner_among, tiling_parts, tiling_bounds, owner_among-first, owner_among-rest}
 use Rattle.sq_ranges.proofs.Runs.{no_run, same_next, moves_of-from}

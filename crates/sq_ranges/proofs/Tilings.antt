@@ -1,6 +1,6 @@
 -- The ranges of a plan, and which of them holds a key.
-use Rattle.std.proofs.Common.{◌≡◌, ◌≢◌, ℕ, zero, suc, ◌+◌, ◌<◌, ◌≤◌, Bool, true, false, cond, List, [], ◌∷◌, length, refl, sym, ap, ◌∙◌, arith, ◌&&◌, nat_lt, nat_le, not, ◌==◌, find, Option, Some, None}
-use Rattle.std.proofs.lemmas.Bool.{and_parts, and_from, eqb-true, ltb-true, leb-true, lt-ltb, le-leb, cond-true, cond-false}
+use Rattle.std.proofs.Common.{◌≡◌, ℕ, ◌<◌, ◌≤◌, true, false, List, [], ◌∷◌, ap, arith, ◌&&◌, nat_lt, nat_le, ◌==◌, find, Some}
+use Rattle.std.proofs.lemmas.Bool.{and_parts, and_from, eqb-true, ltb-true, lt-ltb, le-leb, cond-true, cond-false}
 use Rattle.std.proofs.lemmas.Bool.Decides.{nat_tests}
 use Rattle.sq_plan.specs.declared.plan.PlanRange.{PlanRange}
 use Rattle.sq_plan.specs.PlanValue.{is_tiling, holds, owner_in, root_end}

@@ -6,3 +6,6 @@ pub mod Sweep
 pub mod Laws
 pub mod CutEnd
 pub mod OpeningValue
+pub mod SetUp
+pub mod Given
+pub mod Refused

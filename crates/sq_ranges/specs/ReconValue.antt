@@ -1,5 +1,5 @@
 -- Reconfiguration ranges, segments, and where their nodes and leaves lie.
-use Rattle.std.specs.Prelude.{◌≡◌, ◌↔◌, ℕ, Bool, true, ◌+◌, ◌-◌, ◌*◌, ◌/◌, ◌==◌, ◌&&◌, ◌≤◌, not, nat_lt, nat_le, min, if◌then◌else◌, List, [], ◌∷◌, length, map, position, slice_get, Option, Some, None, option_map, option_and_then, Contains}
+use Rattle.std.specs.Prelude.{◌≡◌, ◌↔◌, ℕ, Bool, true, ◌+◌, ◌-◌, ◌*◌, ◌/◌, ◌==◌, ◌&&◌, ◌≤◌, not, nat_lt, nat_le, min, if◌then◌else◌, List, [], ◌∷◌, length, map, position, slice_get, Option, None, option_map, option_and_then, Contains}
 use Rattle.std.specs.List.{list_any, flat_map, range_with_len}
 use Rattle.std.specs.List.Sorted.{IsStrictlySortedBy}
 use Rattle.std.specs.declared.cmp.Ordering.{Ordering}

@@ -3,13 +3,14 @@
 
 mod cut;
 mod fault;
+mod given;
 pub mod laws;
 mod opening;
 mod recon;
 mod sweep;
 
-pub use fault::ReconFault;
-pub use opening::Config;
+pub use fault::{OpeningFault, ReconFault};
+pub use opening::{Config, GivenRow, Opening, OpeningParts, RefusedOpening};
 pub use recon::{Extent, Leaf, Link, Range, Recon, SegId};
 
 #[cfg(test)]

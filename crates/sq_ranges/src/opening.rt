@@ -1,4 +1,13 @@
 // What a world opens with.
+ghost use Rattle.std.specs.Prelude.{◌≡◌, None, MatchResult, IfOk, IfErr};
+
+use crate::fault::OpeningFault;
+use crate::given::parts_of;
+use crate::recon::Recon;
+use sq_plan::Plan;
+use sq_schema::{MAX_NOTE, Root, Row, RowKey, Schema, Table};
+use std::alloc::{AllocError, Global};
+use std::marker::Model;
 
 /// The sizes that a reconfiguration is run with.
 #[derive(Clone, Copy, Debug, PartialEq, Eq)]
@@ -9,4 +18,238 @@ pub struct Config {
     pub limit: u64,
     /// How many chunks the queue of a link holds, from 1 to 64.
     pub capacity: u64,
+}
+
+/// An opening row as it is given: any numbers, of which [`Opening::new`] refuses wrong ones.
+#[derive(Debug, Drop)]
+pub struct GivenRow {
+    /// The root key.
+    pub root: u64,
+    /// The table, from 0.
+    pub table: u8,
+    /// The sub key within the table.
+    pub sub: u32,
+    /// The row's number.
+    pub number: i64,
+    /// The row's note.
+    pub note: Vec<u8>,
+}
+
+/// What a world opens with: the plans, what moves between them, the sizes, and the opening rows. To a contract it is
+/// an `OpeningValue`.
+#[derive(Debug, Drop)]
+pub struct Opening {
+    schema: Schema,
+    old: Plan,
+    new: Plan,
+    recon: Recon,
+    config: Config,
+    table: Table,
+}
+
+/// The parts of an opening.
+#[derive(Debug, Drop)]
+pub struct OpeningParts {
+    /// Which tables there are.
+    pub schema: Schema,
+    /// The plan before the move.
+    pub old: Plan,
+    /// The plan after the move.
+    pub new: Plan,
+    /// What moves between them.
+    pub recon: Recon,
+    /// The sizes.
+    pub config: Config,
+    /// The opening rows.
+    pub table: Table,
+}
+
+/// Why there is no opening, and what it was to be made of.
+#[derive(Debug, Drop)]
+pub struct RefusedOpening {
+    /// Why.
+    pub fault: OpeningFault,
+    /// The plan before the move, as it was given.
+    pub old: Plan,
+    /// The plan after the move, as it was given.
+    pub new: Plan,
+    /// The rows, as they were given.
+    pub rows: Vec<GivenRow>,
+}
+
+impl Model for Opening {
+    ghost use Rattle.sq_ranges.specs.OpeningValue.{OpeningValue};
+    ghost use Rattle.sq_ranges.specs.SetUp.{IsSetUp};
+
+    ghost Value = { OpeningValue };
+
+    ghost view = { λ o. record { tables = o.schema; old = o.old; new = o.new; recon = o.recon; config = o.config; table = o.table } };
+
+    ghost invariant = { λ o. IsSetUp (record { tables = o.schema; old = o.old; new = o.new; recon = o.recon; config = o.config; table = o.table }) };
+}
+
+impl Opening {
+    ghost use Rattle.sq_ranges.specs.SetUp.{IsSetUp};
+    ghost use Rattle.sq_ranges.specs.Given.{IsOpeningOf};
+    ghost use Rattle.sq_ranges.specs.Refused.{config_fault, opening_fault, TellsFault};
+
+    /// The opening of two plans with these sizes and rows. Otherwise the plans and the rows come back as they were,
+    /// with the first of these faults: those of the plans and the width of a leaf, as [`Recon::fault`] has them; the
+    /// bytes of a chunk; the chunks of a queue; and then row by row the root key, the table, the sub key, the note,
+    /// a row that was given before, and a row without its root row. Want of memory may come in place of any answer
+    /// about rows, and of none about plans and sizes.
+    pub fn new(
+        alloc: Global,
+        schema: Schema,
+        old: Plan,
+        new: Plan,
+        config: Config,
+        rows: Vec<GivenRow>,
+    ) -> Result<Opening, RefusedOpening>
+        ensures fault { MatchResult result
+            (λ _. opening_fault schema old new config rows.items ≡ None)
+            (λ refused. TellsFault (config_fault old new config) (opening_fault schema old new config rows.items) refused.fault) }
+        ensures ok { IfOk result (IsOpeningOf schema old new config rows.items) }
+        ensures set_up { IfOk result IsSetUp }
+        ensures old_returned { IfErr result (λ refused. refused.old ≡ old) }
+        ensures new_returned { IfErr result (λ refused. refused.new ≡ new) }
+        ensures rows_returned { IfErr result (λ refused. refused.rows.items ≡ rows.items) }
+    {
+        match parts_of(alloc, schema.tables(), &old, &new, config, &rows) {
+            Ok((recon, table)) => Ok(Opening {
+                schema,
+                old,
+                new,
+                recon,
+                config,
+                table,
+            }),
+            Err(fault) => Err(RefusedOpening {
+                fault,
+                old,
+                new,
+                rows,
+            }),
+        }
+    }
+
+    /// Which tables there are.
+    pub fn schema(&self) -> Schema
+        ensures { result ≡ self.now.tables }
+    {
+        self.schema
+    }
+
+    /// The plan before the move.
+    pub fn old_plan(&self) -> &Plan
+        ensures plan { result.now ≡ self.now.old }
+        ensures set_up { IsSetUp self.now }
+    {
+        &self.old
+    }
+
+    /// The plan after the move.
+    pub fn new_plan(&self) -> &Plan
+        ensures plan { result.now ≡ self.now.new }
+        ensures set_up { IsSetUp self.now }
+    {
+        &self.new
+    }
+
+    /// What moves between the plans.
+    pub fn recon(&self) -> &Recon
+        ensures recon { result.now ≡ self.now.recon }
+        ensures set_up { IsSetUp self.now }
+    {
+        &self.recon
+    }
+
+    /// The sizes.
+    pub fn config(&self) -> Config
+        ensures config { result ≡ self.now.config }
+        ensures set_up { IsSetUp self.now }
+    {
+        self.config
+    }
+
+    /// The opening rows.
+    pub fn table(&self) -> &Table
+        ensures table { result.now ≡ self.now.table }
+        ensures set_up { IsSetUp self.now }
+    {
+        &self.table
+    }
+
+    /// Its parts, without a copy.
+    pub fn into_parts(self) -> OpeningParts
+        ensures schema { result.schema ≡ self.tables }
+        ensures old { result.old ≡ self.old }
+        ensures new { result.new ≡ self.new }
+        ensures recon { result.recon ≡ self.recon }
+        ensures config { result.config ≡ self.config }
+        ensures table { result.table ≡ self.table }
+        ensures set_up { IsSetUp self }
+    {
+        let Opening {
+            schema,
+            old,
+            new,
+            recon,
+            config,
+            table,
+        } = self;
+        OpeningParts {
+            schema,
+            old,
+            new,
+            recon,
+            config,
+            table,
+        }
+    }
+}
+
+impl GivenRow {
+    ghost use Rattle.std.specs.Prelude.{Some};
+    ghost use Rattle.sq_ranges.specs.Given.{key_of, row_of};
+    ghost use Rattle.sq_ranges.specs.Refused.{shape_fault};
+
+    /// Where it stands within its root key.
+    pub(crate) fn key(&self) -> RowKey
+        ensures { result ≡ key_of self.now }
+    {
+        RowKey {
+            table: self.table,
+            sub: self.sub,
+        }
+    }
+
+    /// Its root key. Refused for the first of these: the root key, the table that isn't one of so many, the sub
+    /// key, and the note.
+    pub(crate) fn root(&self, tables: u8) -> Result<Root, OpeningFault>
+        ensures { MatchResult result
+            (λ root. (shape_fault tables self.now ≡ None) × (root ≡ self.now.root))
+            (λ fault. shape_fault tables self.now ≡ Some fault) }
+    {
+        let Some(root) = Root::new(self.root) else {
+            return Err(OpeningFault::BadRoot);
+        };
+        if self.table >= tables {
+            return Err(OpeningFault::BadTable);
+        }
+        if self.table == 0 && self.sub != 0 {
+            return Err(OpeningFault::BadSub);
+        }
+        if self.note.len() > MAX_NOTE {
+            return Err(OpeningFault::BadNote);
+        }
+        Ok(root)
+    }
+
+    /// The row, with a copy of the note.
+    pub(crate) fn row(&self) -> Result<Row, AllocError>
+        ensures { IfOk result (λ row. row ≡ row_of self.now) }
+    {
+        Ok(Row::new(self.number, self.note.clone()?))
+    }
 }

@@ -1,7 +1,7 @@
 // The ranges of a reconfiguration, and the segments that they are cut into.
 ghost use Rattle.std.specs.Prelude.{◌≡◌, ◌<◌, ◌≤◌, true, false, nat_le, length, None, IfOk, IfSome, MatchResult, unwrap_or};
 ghost use Rattle.std.specs.List.Sorted.{IsPartitionPoint};
-ghost use Rattle.sq_plan.specs.PlanValue.{root_end};
+ghost use Rattle.sq_plan.specs.PlanValue.{root_end, IsPlan};
 ghost use Rattle.sq_ranges.specs.ReconValue.{is_width, are_rising, leaf_start};
 
 use crate::cut::{fits, links, moves, segments};
@@ -80,7 +80,8 @@ impl Recon {
     /// partitions; the width of a leaf isn't from 1 to 65,536 root keys; what moves comes to more than 256
     /// segments. `None` where there is one. It takes no memory.
     pub fn fault(old: &Plan, new: &Plan, width: u64) -> Option<ReconFault>
-        ensures { result ≡ recon_fault old.now new.now width }
+        ensures fault { result ≡ recon_fault old.now new.now width }
+        ensures plans { IsPlan old.now × IsPlan new.now }
     {
         let parts = old.parts();
         if parts != new.parts() {

@@ -1,6 +1,7 @@
 use super::*;
 use sq_plan::{PartId, Plan};
-use sq_schema::Root;
+use sq_schema::{Root, RowKey, Rows, Schema};
+use std::alloc::{AllocError, Global};
 use std::test::Fail;
 
 // The plan of two partitions with these ranges.
@@ -150,5 +151,148 @@ fn links_in_their_order(rt: HostRuntime) -> Result<(), Fail> {
         recon.links(),
         [link(0, 1), link(1, 2), link(2, 3), link(3, 0)].as_slice()
     );
+    Ok(())
+}
+
+fn given(
+    alloc: Global,
+    root: u64,
+    table: u8,
+    sub: u32,
+    note: &[u8],
+) -> Result<GivenRow, AllocError> {
+    Ok(GivenRow {
+        root,
+        table,
+        sub,
+        number: 10,
+        note: note.to_vec(alloc)?,
+    })
+}
+
+// The opening of two tables in two partitions, the second of which gets the root keys from 4 up to `hi`.
+fn opened(
+    rt: &HostRuntime,
+    hi: u64,
+    config: Config,
+    rows: Vec<GivenRow>,
+) -> Result<Result<Opening, RefusedOpening>, Fail> {
+    let old = plan_of_two(rt, "[[0,4294967296,0]]")?;
+    let ranges = format!(in rt.alloc(); "[[0,4,0],[4,{hi},1],[{hi},4294967296,0]]")?;
+    let new = plan_of_two(rt, ranges.as_str())?;
+    let schema = Schema::new(2).ok_or("no schema")?;
+    Ok(Opening::new(rt.alloc(), schema, old, new, config, rows))
+}
+
+const SIZES: Config = Config {
+    width: 1,
+    limit: 64,
+    capacity: 1,
+};
+
+#[test]
+fn an_opening(rt: HostRuntime) -> Result<(), Fail> {
+    let alloc = rt.alloc();
+    let rows = vec![in alloc;
+        given(alloc, 7, 0, 0, b"")?,
+        given(alloc, 5, 0, 0, b"")?,
+        given(alloc, 5, 1, 7, b"hi")?,
+    ]?;
+    let opening = opened(&rt, 8, SIZES, rows)?.map_err(|refused| refused.fault)?;
+    assert_eq!(rt; opening.schema().tables(), 2);
+    assert_eq!(rt; opening.config(), SIZES);
+    assert_eq!(rt; opening.recon().segments(), [moved(4, 8, 0, 1)].as_slice());
+    let five = Root::new(5).ok_or("a root key")?;
+    assert_eq!(rt; opening.old_plan().owner(five), PartId::new(0));
+    assert_eq!(rt; opening.new_plan().owner(five), PartId::new(1));
+    assert_eq!(rt; opening.table().rows(five).map(Rows::len), Some(2));
+    let parts = opening.into_parts();
+    assert_eq!(rt; parts.recon.links(), [link(0, 1)].as_slice());
+    let rows = parts.table.rows(five).ok_or("rows")?;
+    let row = rows.get(RowKey { table: 1, sub: 7 }).ok_or("a row")?;
+    assert_eq!(rt; row.number(), 10);
+    assert_eq!(rt; row.note(), b"hi".as_slice());
+    Ok(())
+}
+
+#[test]
+fn faults_of_plans_and_sizes(rt: HostRuntime) -> Result<(), Fail> {
+    let cases = [
+        (8, Config { width: 0, ..SIZES }, 112),
+        (
+            4_294_967_295,
+            Config {
+                width: 65_536,
+                ..SIZES
+            },
+            113,
+        ),
+        (8, Config { limit: 63, ..SIZES }, 114),
+        (
+            8,
+            Config {
+                capacity: 65,
+                ..SIZES
+            },
+            115,
+        ),
+    ];
+    for (hi, config, number) in cases {
+        let refused = opened(&rt, hi, config, Vec::new(rt.alloc()))?.err();
+        assert_eq!(rt; refused.map(|refused| refused.fault.number()), Some(number));
+    }
+    Ok(())
+}
+
+// The fault of a row that is given after the root row of root key 5.
+fn fault_of(rt: &HostRuntime, row: GivenRow) -> Result<Option<OpeningFault>, Fail> {
+    let alloc = rt.alloc();
+    let rows = vec![in alloc; given(alloc, 5, 0, 0, b"")?, row]?;
+    Ok(
+        opened(rt, 8, SIZES, rows)?
+            .err()
+            .map(|refused| refused.fault),
+    )
+}
+
+#[test]
+fn faults_of_rows(rt: HostRuntime) -> Result<(), Fail> {
+    let alloc = rt.alloc();
+    let long = [0; 256].as_slice();
+    let cases = [
+        (4_294_967_296, 2, 0, long, 132),
+        (5, 2, 0, long, 133),
+        (5, 0, 1, long, 134),
+        (5, 0, 0, long, 135),
+        (5, 0, 0, b"".as_slice(), 136),
+        (6, 1, 0, b"".as_slice(), 137),
+    ];
+    for (root, table, sub, note, number) in cases {
+        let fault = fault_of(&rt, given(alloc, root, table, sub, note)?)?;
+        assert_eq!(rt; fault.map(|fault| fault.number()), Some(number));
+    }
+    Ok(())
+}
+
+// Where memory runs out the first time, what comes back opens the second time.
+#[test]
+fn an_opening_at_the_second_try(rt: HostRuntime) -> Result<(), Fail> {
+    let alloc = rt.alloc();
+    let rows = vec![in alloc;
+        given(alloc, 5, 0, 0, b"one")?,
+        given(alloc, 5, 1, 0, b"two")?,
+    ]?;
+    let opening = match opened(&rt, 8, SIZES, rows)? {
+        Ok(opening) => opening,
+        Err(refused) => {
+            assert_eq!(rt; refused.fault, OpeningFault::Memory);
+            let schema = Schema::new(2).ok_or("no schema")?;
+            Opening::new(alloc, schema, refused.old, refused.new, SIZES, refused.rows).map_err(
+                |refused| refused.fault,
+            )?
+        }
+    };
+    let five = Root::new(5).ok_or("a root key")?;
+    assert_eq!(rt; opening.table().rows(five).map(Rows::len), Some(2));
     Ok(())
 }

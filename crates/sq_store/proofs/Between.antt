@@ -1,6 +1,6 @@
 -- The families of a store from one root key up to another.
-use Rattle.std.proofs.Common.{subst, ⊎_elim, ◌≡◌, ℕ, zero, suc, Bool, true, false, List, [], ◌∷◌, refl, sym, ap, ◌∙◌, arith, true≢false, eq-eqb, T}
-use Rattle.std.specs.Prelude.{◌+◌, ◌<◌, ◌≤◌, ◌≢◌, ◌==◌, ◌&&◌, if◌then◌else◌, not, nat_le, nat_lt, map, filter, Option, Some, None, is_some}
+use Rattle.std.proofs.Common.{subst, ⊎_elim, ◌≡◌, ℕ, Bool, true, false, List, [], ◌∷◌, refl, sym, ap, ◌∙◌, arith, true≢false, eq-eqb, T}
+use Rattle.std.specs.Prelude.{◌+◌, ◌<◌, ◌≤◌, ◌≢◌, ◌==◌, ◌&&◌, if◌then◌else◌, not, nat_le, nat_lt, map, Option, Some, None, is_some}
 use Rattle.std.specs.declared.cmp.Ordering.TheVariants.{Less, Equal, Greater}
 use Rattle.std.specs.Ordering.{nat_cmp, is_lt, is_eq, eq_by_cmp}
 use Rattle.std.specs.Cmp.{unsigned_tied, nat_cmp_total}

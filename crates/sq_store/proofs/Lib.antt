@@ -1,2 +1,11 @@
 pub mod Rising
 pub mod Between
+pub mod Order
+pub mod Lists
+pub mod Places
+pub mod Spans
+pub mod Counts
+pub mod Merges
+pub mod Applies
+pub mod Cuts
+pub mod Joins

@@ -1,1 +1,5 @@
 pub mod StoreValue
+pub mod InOrder
+pub mod Listed
+pub mod Merging
+pub mod Counting

@@ -1,5 +1,5 @@
 -- What a store contains: a finite map from root keys to families, however it is kept.
-use Rattle.std.specs.Prelude.{ℕ, Bool, true, false, ◌==◌, ◌&&◌, not, nat_le, nat_lt, List, [], ◌∷◌, ◌++◌, length, map, fold, filter, Option, Some, None, unwrap_or, find}
+use Rattle.std.specs.Prelude.{◌≡◌, ℕ, true, ◌==◌, ◌&&◌, not, nat_le, nat_lt, List, [], ◌∷◌, ◌++◌, map, fold, filter, Option, None, is_some, unwrap_or, find}
 use Rattle.std.specs.Ordering.{nat_cmp}
 use Rattle.std.specs.FinMap.{FinMap, get, insert, entries, retain_keys}
 use Rattle.sq_schema.specs.TxnValue.{TxnValue}
@@ -9,6 +9,7 @@ use Rattle.sq_schema.specs.Effect.{reply}
 use Rattle.sq_schema.specs.Family.{FamilyValue, rows_of, rows_size}
 use Rattle.sq_ranges.specs.CutEnd.{end_of}
 
+-- the families of a store by root key
 abbrev pub StoreValue : Type 0
 StoreValue = FinMap nat_cmp FamilyValue
 
@@ -24,6 +25,7 @@ family_at store root = unwrap_or (get store root) (absent root)
 abbrev pub store_reply : StoreValue → TxnValue → Reply
 store_reply store txn = reply (rows_of (family_at store txn.root)) txn
 
+-- a family with a transaction at the end of its log
 abbrev pub with_txn : FamilyValue → TxnValue → FamilyValue
 with_txn family txn = record { root = family.root; base = family.base; log = family.log ++ txn ∷ [] }
 
@@ -55,3 +57,7 @@ with_families store families = fold (λ so_far family. insert so_far family.root
 -- the family of a root key among these
 abbrev pub family_in : List FamilyValue → ℕ → Option FamilyValue
 family_in families root = find (λ family. family.root == root) families
+
+-- no family of the store has a root key of these
+abbrev pub AreApart : StoreValue → List FamilyValue → Type 0
+AreApart store families = (root : ℕ) → is_some (family_in families root) ≡ true → get store root ≡ None

@@ -2,3 +2,11 @@
 #![tactic(auto)]
 
 pub mod laws;
+mod merge;
+mod sorted;
+mod vec_store;
+
+pub use vec_store::{Cut, VecStore};
+
+#[cfg(test)]
+mod tests;

@@ -1,7 +1,6 @@
 -- Begin keeps what holds.
-use Rattle.std.proofs.Common.{subst, ◌≡◌, ℕ, Bool, true, false, List, [], ◌∷◌, ◌++◌, refl, sym, ap, ◌∙◌, arith, true≢false, length, append-nil, eq-eqb}
-use Rattle.std.specs.Prelude.{◌<◌, ◌≢◌, ◌==◌, ◌&&◌, ◌||◌, if◌then◌else◌, not, map, filter, find, slice_get, slice_index_or, Option, Some, None, is_some, Result, Ok, Err}
-use Rattle.std.specs.List.{list_any}
+use Rattle.std.proofs.Common.{subst, ◌≡◌, ℕ, Bool, true, false, List, [], ◌∷◌, ◌++◌, refl, sym, ap, ◌∙◌, true≢false, append-nil, eq-eqb}
+use Rattle.std.specs.Prelude.{◌==◌, ◌&&◌, ◌||◌, if◌then◌else◌, not, map, filter, find, slice_get, slice_index_or, Option, Some, None, is_some, Result, Ok, Err}
 use Rattle.std.proofs.lemmas.List.{map-append}
 use Rattle.std.proofs.lemmas.List.Elements.{filter-append}
 use Rattle.std.proofs.lemmas.Option.{slice_get-get_or}
@@ -18,11 +17,10 @@ use Rattle.sq_ranges.specs.ReconValue.{extent, is_link}
 use Rattle.sq_ranges.specs.OpeningValue.{OpeningValue}
 use Rattle.sq_model.specs.declared.step.Step.{Step}
 use Rattle.sq_model.specs.declared.step.Step.TheVariants.{Begin}
-use Rattle.sq_model.specs.declared.answer.Answer.{Answer}
 use Rattle.sq_model.specs.declared.answer.Answer.TheVariants.{Done}
 use Rattle.sq_model.specs.declared.answer.Refusal.TheVariants.{NoSuchNode, NotClaimed, WrongPull}
 use Rattle.sq_model.specs.Trace.{Trace, notes}
-use Rattle.sq_model.specs.Nodes.{Item, items, status_of, set_if}
+use Rattle.sq_model.specs.Nodes.{Item, items, status_of}
 use Rattle.sq_model.specs.Place.{extent_of, extent_in}
 use Rattle.sq_model.specs.Links.{is_about, has_last, reached, end_of_note, is_on_link, goes, is_open, open_items}
 use Rattle.sq_model.specs.Answers.{answer, begin_told}
@@ -30,7 +28,7 @@ use Rattle.sq_turn.specs.WorldValue.{WorldValue, LinkValue, Work, link_index, li
 use Rattle.sq_turn.specs.TreeTurn.{with_node, if_done, whole_node, with_work, add_work, add_work_at}
 use Rattle.sq_turn.specs.Turn.{turn}
 use Rattle.sq_turn.specs.Holds.{History, history, Holds, HoldsBy, LinkHolds, work_of}
-use Rattle.sq_turn.proofs.Keeps.{Keeps, keeps_if, keeps_refused}
+use Rattle.sq_turn.proofs.Keeps.{Keeps, keeps_refused}
 use Rattle.sq_turn.proofs.Leader.{keeps_moving}
 use Rattle.sq_turn.proofs.Nodes.{keeps_segment, node_holds, statuses_same, guard_left}
 use Rattle.sq_turn.proofs.Links.{IsFrom, index_found, link_there, links_changed, ends_changed, one_each_changed}

@@ -1,15 +1,14 @@
 -- Cut keeps what holds.
 use Rattle.std.proofs.Common.{subst, ⊎_elim, inl, inr, ◌≡◌, ℕ, zero, suc, Bool, true, false, List, [], ◌∷◌, ◌++◌, refl, sym, ap, ◌∙◌, arith, true≢false, length, length-append, append_assoc, append-nil, eq-eqb}
-use Rattle.std.specs.Prelude.{◌+◌, ◌-◌, ◌<◌, ◌≤◌, ◌≢◌, ◌==◌, ◌&&◌, ◌||◌, ◌⊎◌, if◌then◌else◌, not, nat_le, nat_lt, map, drop, reverse, filter, find, remove, slice_get, slice_set, slice_index_or, Option, Some, None, is_some, unwrap_or}
-use Rattle.std.specs.List.{range_with_len, list_any, Contains}
+use Rattle.std.specs.Prelude.{◌-◌, ◌<◌, ◌≤◌, ◌≢◌, ◌==◌, ◌&&◌, ◌||◌, ◌⊎◌, if◌then◌else◌, not, nat_le, nat_lt, map, filter, find, remove, slice_get, slice_set, slice_index_or, Option, Some, None, is_some, unwrap_or}
+use Rattle.std.specs.List.{range_with_len, Contains}
 use Rattle.std.specs.FinMap.{get}
-use Rattle.std.proofs.lemmas.List.{map-append, reverse-append, length-map, length-set, length-reverse, drop-append-le}
-use Rattle.std.proofs.lemmas.Option.{get_or_from_slice_get}
+use Rattle.std.proofs.lemmas.List.{map-append, reverse-append, length-set, length-reverse, drop-append-le}
 use Rattle.std.proofs.lemmas.Bool.{ne_eqb, eqb-true, lt-ltb, le-ltb, le-leb, leb-true, ltb-true}
 use Rattle.sq_schema.specs.Family.{FamilyValue, rows_of, rows_size}
 use Rattle.sq_chunk.specs.declared.chunk.Note.{Note}
-use Rattle.sq_chunk.specs.ChunkValue.{ChunkValue, covers, are_within}
-use Rattle.sq_store.specs.StoreValue.{StoreValue, family_in, families_between, without_between, stored_size, take_end, family_at}
+use Rattle.sq_chunk.specs.ChunkValue.{ChunkValue, covers}
+use Rattle.sq_store.specs.StoreValue.{families_between, without_between, stored_size, take_end}
 use Rattle.sq_store.proofs.Rising.{roots-within, both_left, both_right}
 use Rattle.sq_store.proofs.Between.{IsRooted, family_in-between, within-between, get-without}
 use Rattle.sq_ranges.specs.declared.recon.Range.{Range}
@@ -22,22 +21,22 @@ use Rattle.sq_model.specs.declared.answer.Refusal.TheVariants.{OutboxFull, Nothi
 use Rattle.sq_model.specs.Trace.{Trace, notes, loads, link, cut_count, push_count}
 use Rattle.sq_model.specs.Nodes.{Item, items}
 use Rattle.sq_model.specs.Tables.{stands, family_of, size_of}
-use Rattle.sq_model.specs.Place.{Place, At, Under_way, place, extent_of, cut_place, loaded_place}
-use Rattle.sq_model.specs.Links.{is_about, has_last, reached, end_of_note, is_on_link, goes, is_open, open_items, next_item, standing, cut_end, next_note, family_count}
+use Rattle.sq_model.specs.Place.{At, Under_way, place, extent_of, cut_place, loaded_place}
+use Rattle.sq_model.specs.Links.{is_about, has_last, reached, end_of_note, is_on_link, goes, is_open, open_items, next_item, standing, cut_end, next_note}
 use Rattle.sq_model.specs.Answers.{answer, cut_for}
 use Rattle.sq_model.proofs.Lists.{kept_in, row_bounds, Contains-first, Contains-later, Contains-slice_get}
-use Rattle.sq_turn.specs.WorldValue.{WorldValue, PartValue, LinkValue, Work, part_at, with_part, link_value, with_link, option_list}
-use Rattle.sq_turn.specs.LinkTurn.{is_odd, next_work, no_work, note_for, work_after, cut_part, cut_work, cut_at}
+use Rattle.sq_turn.specs.WorldValue.{WorldValue, LinkValue, Work, part_at, with_part, link_value, with_link, option_list}
+use Rattle.sq_turn.specs.LinkTurn.{next_work, no_work, note_for, work_after, cut_part, cut_work}
 use Rattle.sq_turn.specs.LeaderTurn.{refuse}
 use Rattle.sq_turn.specs.Turn.{turn}
-use Rattle.sq_turn.specs.Holds.{History, history, Holds, HoldsBy, LinkHolds, ChunkHolds, share, is_at, under_way, work_of}
-use Rattle.sq_turn.proofs.Keeps.{Keeps, keeps_if, keeps_refused}
+use Rattle.sq_turn.specs.Holds.{history, Holds, LinkHolds, ChunkHolds, share, is_at, under_way, work_of}
+use Rattle.sq_turn.proofs.Keeps.{Keeps, keeps_refused}
 use Rattle.sq_turn.proofs.Links.{IsFrom, keeps_link, link_there, links_changed, ends_changed, one_each_changed}
 use Rattle.sq_turn.proofs.PushPop.{counted_at, other_ends}
 use Rattle.sq_turn.proofs.Nodes.{by_place}
 use Rattle.sq_turn.proofs.Parts.{parts_each, family_same, rows_now}
 use Rattle.sq_turn.proofs.Loads.{chunk_count}
-use Rattle.sq_turn.proofs.NextWork.{AreDistinct, IsNext, SameNext, next_same, distinct-filter, ChangesAt, item_gone, item_changed}
+use Rattle.sq_turn.proofs.NextWork.{AreDistinct, SameNext, next_same, distinct-filter, ChangesAt, item_gone, item_changed}
 
 -- what is told of an item that is open on a link: what is left of it stands at the source, and nothing of that was loaded
 pub record OpenFacts (o : OpeningValue) (t : Trace) (src dst : ℕ) (item : Item) : Type 0 where

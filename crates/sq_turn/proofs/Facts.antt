@@ -1,5 +1,5 @@
 -- On a legal trace each step rests on firm ground: what the steps ask of the trace holds. So each of them keeps what holds.
-use Rattle.std.proofs.Common.{subst, inl, inr, ◌≡◌, ℕ, suc, true, false, List, [], ◌∷◌, ◌++◌, refl, sym, ap, ◌∙◌, arith, length, true≢false}
+use Rattle.std.proofs.Common.{subst, inl, inr, ◌≡◌, ℕ, suc, true, false, List, [], ◌∷◌, ◌++◌, refl, sym, ap, ◌∙◌, arith, true≢false}
 use Rattle.std.specs.Prelude.{◌<◌, drop, reverse, slice_get, Some, None, is_some, option_map}
 use Rattle.std.specs.List.{Contains}
 use Rattle.std.proofs.lemmas.List.{reverse-append}
@@ -17,7 +17,7 @@ use Rattle.sq_ranges.specs.OpeningValue.{OpeningValue}
 use Rattle.sq_model.specs.declared.step.Step.{Step}
 use Rattle.sq_model.specs.declared.answer.Answer.{Answer}
 use Rattle.sq_model.specs.Opening.{IsOpening}
-use Rattle.sq_model.specs.Trace.{Trace, notes, loads, link}
+use Rattle.sq_model.specs.Trace.{Trace, loads}
 use Rattle.sq_model.specs.Nodes.{Item, items, status_of}
 use Rattle.sq_model.specs.Links.{open_items}
 use Rattle.sq_model.specs.Legal.{IsLegal}

@@ -1,6 +1,6 @@
 -- Each step keeps what holds, and is answered as the history says.
-use Rattle.std.proofs.Common.{subst, ⊎_elim, inl, inr, ◌≡◌, ℕ, Bool, true, false, List, ◌∷◌, refl, sym, ap, ◌∙◌}
-use Rattle.std.specs.Prelude.{◌⊎◌, IsTrue}
+use Rattle.std.proofs.Common.{subst, ⊎_elim, inl, inr, ◌≡◌, ◌∷◌, sym, ap, ◌∙◌}
+use Rattle.std.specs.Prelude.{IsTrue}
 use Rattle.sq_ranges.specs.OpeningValue.{OpeningValue}
 use Rattle.sq_model.specs.declared.step.Step.{Step}
 use Rattle.sq_model.specs.declared.step.Step.TheVariants.{Prepare, Start, Submit, Claim, Begin, Cut, Push, Pop, Load, Complete, Report, Finish}

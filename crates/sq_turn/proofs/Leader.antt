@@ -1,10 +1,9 @@
 -- The leader's steps keep what holds.
-use Rattle.std.proofs.Common.{⊎_elim, eq-eqb, subst, ◌≡◌, ℕ, Bool, true, false, List, ◌∷◌, refl, sym, ap, ◌∙◌, arith}
-use Rattle.std.specs.Prelude.{◌<◌, ◌≤◌, ◌+◌, zero, suc, slice_get, ◌&&◌, ◌≢◌, ◌==◌, ◌||◌, if◌then◌else◌, length, not, slice_set, nat_le}
+use Rattle.std.proofs.Common.{⊎_elim, eq-eqb, subst, ◌≡◌, ℕ, Bool, true, false, List, refl, sym, ap, ◌∙◌, arith}
+use Rattle.std.specs.Prelude.{◌<◌, ◌≤◌, ◌+◌, zero, suc, slice_get, ◌&&◌, ◌≢◌, ◌==◌, ◌||◌, length, not, slice_set, nat_le}
 use Rattle.std.specs.List.{list_any, list_all, range_with_len}
 use Rattle.std.proofs.lemmas.List.{length-set, get_or-set_same, get_or-set_other}
 use Rattle.std.proofs.lemmas.Bool.{cases_eq, ne_eqb, leb-false}
-use Rattle.std.proofs.lemmas.Bool.Decides.{nat_tests}
 use Rattle.sq_tree.specs.Status.{reading}
 use Rattle.sq_ranges.specs.OpeningValue.{OpeningValue}
 use Rattle.sq_model.specs.declared.step.Phase.{Phase}
@@ -12,7 +11,6 @@ use Rattle.sq_model.specs.declared.step.Phase.TheVariants.{Preparing, Moving, En
 use Rattle.sq_model.specs.declared.step.Step.{Step}
 use Rattle.sq_model.specs.declared.step.Step.TheVariants.{Prepare, Start, Report, Finish}
 use Rattle.sq_model.specs.declared.answer.Answer.{Answer}
-use Rattle.sq_model.specs.declared.answer.Answer.TheVariants.{Done}
 use Rattle.sq_model.specs.declared.answer.Refusal.TheVariants.{NotMoving, AlreadyMoving, NotPrepared, NotFinished, NoSuchPartition}
 use Rattle.sq_model.specs.Trace.{Trace}
 use Rattle.sq_model.specs.Leader.{is_started_phase, is_moving_phase, is_prepared}

@@ -1,11 +1,11 @@
 -- A step on a link, and a world in which one link changed.
-use Rattle.std.proofs.Common.{⊎_elim, subst, ◌≡◌, ℕ, Bool, true, false, List, ◌∷◌, refl, sym, ap, ◌∙◌, arith, true≢false, length}
-use Rattle.std.specs.Prelude.{◌<◌, ◌≢◌, ◌==◌, nat_lt, ◌&&◌, if◌then◌else◌, not, slice_get, slice_set, slice_index_or, position, Option, Some, None, is_some}
+use Rattle.std.proofs.Common.{⊎_elim, subst, ◌≡◌, ℕ, Bool, true, false, refl, sym, ap, ◌∙◌, true≢false, length}
+use Rattle.std.specs.Prelude.{◌<◌, ◌≢◌, ◌==◌, nat_lt, ◌&&◌, if◌then◌else◌, not, slice_get, slice_set, slice_index_or, Option, Some, None, is_some}
 use Rattle.std.proofs.lemmas.List.{length-set, get_or-set_same, get_or-set_other}
 use Rattle.std.proofs.lemmas.List.Quantifiers.{position-Some}
 use Rattle.std.proofs.lemmas.List.Folds.{position_or_len-set}
 use Rattle.std.proofs.lemmas.Option.{slice_get-get_or, slice_get_within, get_or_from_slice_get}
-use Rattle.std.proofs.lemmas.Bool.{cases_eq, ne_eqb, leb-false, eqb-true}
+use Rattle.std.proofs.lemmas.Bool.{cases_eq, eqb-true}
 use Rattle.sq_ranges.specs.ReconValue.{is_link}
 use Rattle.sq_ranges.specs.OpeningValue.{OpeningValue}
 use Rattle.sq_model.specs.declared.step.Step.{Step}
@@ -17,8 +17,8 @@ use Rattle.sq_model.specs.Answers.{while_moving, on_link}
 use Rattle.sq_turn.specs.WorldValue.{WorldValue, LinkValue, link_index, link_value, with_link, no_link}
 use Rattle.sq_turn.specs.LeaderTurn.{Told}
 use Rattle.sq_turn.specs.LinkTurn.{link_of, link_told}
-use Rattle.sq_turn.specs.Holds.{History, history, Holds, HoldsBy, LinkHolds}
-use Rattle.sq_turn.proofs.Keeps.{Keeps, keeps_if, keeps_refused}
+use Rattle.sq_turn.specs.Holds.{History, Holds, HoldsBy, LinkHolds}
+use Rattle.sq_turn.proofs.Keeps.{Keeps, keeps_refused}
 use Rattle.sq_turn.proofs.Leader.{keeps_moving}
 
 -- the link of this number goes from the one partition to the other

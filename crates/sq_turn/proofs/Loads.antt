@@ -1,7 +1,6 @@
 -- Load keeps what holds.
-use Rattle.std.proofs.Common.{subst, ⊎_elim, ◌≡◌, ℕ, zero, suc, Bool, true, false, List, [], ◌∷◌, ◌++◌, refl, sym, ap, ◌∙◌, arith, true≢false, length, length-append, append_assoc, append-nil, eq-eqb}
-use Rattle.std.specs.Prelude.{◌+◌, ◌-◌, ◌<◌, ◌≤◌, ◌≢◌, ◌==◌, ◌&&◌, ◌||◌, if◌then◌else◌, nat_le, map, take, drop, reverse, nat_lt, filter, find, slice_get, slice_set, slice_index_or, Option, Some, None, is_some}
-use Rattle.std.specs.List.{range_with_len, list_any}
+use Rattle.std.proofs.Common.{subst, ◌≡◌, ℕ, zero, suc, Bool, true, false, List, [], ◌∷◌, ◌++◌, refl, sym, ap, ◌∙◌, arith, length, length-append, append_assoc, eq-eqb}
+use Rattle.std.specs.Prelude.{◌+◌, ◌-◌, ◌<◌, ◌≤◌, ◌≢◌, ◌==◌, ◌&&◌, ◌||◌, if◌then◌else◌, map, take, drop, reverse, nat_lt, find, slice_get, slice_set, slice_index_or, Option, Some, None, is_some}
 use Rattle.std.specs.FinMap.{get}
 use Rattle.std.proofs.lemmas.List.{take-append-drop, length-take-le, reverse-append, length-map, length-set, length-reverse, length-drop, get_or-set_same, get_or-set_other}
 use Rattle.std.proofs.lemmas.Bool.{ne_eqb, lt-ltb, le-leb, eqb-true}
@@ -11,25 +10,24 @@ use Rattle.sq_tree.specs.Node.{is_node}
 use Rattle.sq_tree.specs.Tree.{status_at}
 use Rattle.sq_tree.proofs.Nested.{node_bounds}
 use Rattle.sq_chunk.specs.declared.chunk.Note.{Note}
-use Rattle.sq_chunk.specs.ChunkValue.{ChunkValue, covers, are_within}
-use Rattle.sq_store.specs.StoreValue.{StoreValue, with_families, family_in}
+use Rattle.sq_chunk.specs.ChunkValue.{ChunkValue, covers}
+use Rattle.sq_store.specs.StoreValue.{with_families, family_in}
 use Rattle.sq_store.proofs.Rising.{get-with_families, roots-within, both_left, both_right}
 use Rattle.sq_ranges.specs.OpeningValue.{OpeningValue}
 use Rattle.sq_model.specs.declared.step.Step.TheVariants.{Load}
-use Rattle.sq_model.specs.declared.answer.Answer.{Answer}
 use Rattle.sq_model.specs.declared.answer.Answer.TheVariants.{WasLoaded, Refused}
 use Rattle.sq_model.specs.declared.answer.Refusal.TheVariants.{InboxEmpty}
 use Rattle.sq_model.specs.Trace.{Trace, notes, loads, link, load_count, pop_count}
 use Rattle.sq_model.specs.Tables.{stands, family_of}
-use Rattle.sq_model.specs.Place.{Place, At, Under_way, place, extent_of, cut_place, loaded_place}
-use Rattle.sq_model.specs.Links.{is_about, has_last, reached, end_of_note, standing, family_count}
+use Rattle.sq_model.specs.Place.{At, Under_way, place, extent_of, cut_place, loaded_place}
+use Rattle.sq_model.specs.Links.{is_about, has_last, reached, end_of_note, family_count}
 use Rattle.sq_model.specs.Orderly.{IsPrefix}
 use Rattle.sq_model.specs.Answers.{answer, load_of}
-use Rattle.sq_turn.specs.WorldValue.{WorldValue, PartValue, SegmentValue, LinkValue, Progress, part_at, with_part, segment_state, with_segment, progress_in, link_value, with_link, option_list, no_progress}
+use Rattle.sq_turn.specs.WorldValue.{WorldValue, SegmentValue, LinkValue, Progress, part_at, with_part, segment_state, with_segment, progress_in, link_value, with_link, option_list, no_progress}
 use Rattle.sq_turn.specs.LinkTurn.{load_part, load_progress, load_chunk}
 use Rattle.sq_turn.specs.Turn.{turn}
-use Rattle.sq_turn.specs.Holds.{History, history, Holds, HoldsBy, LinkHolds, ChunkHolds, share, is_at, under_way}
-use Rattle.sq_turn.proofs.Keeps.{Keeps, keeps_if, keeps_refused}
+use Rattle.sq_turn.specs.Holds.{history, Holds, LinkHolds, ChunkHolds, share, is_at, under_way}
+use Rattle.sq_turn.proofs.Keeps.{Keeps, keeps_refused}
 use Rattle.sq_turn.proofs.Nodes.{by_place, segment_state-set}
 use Rattle.sq_turn.proofs.Links.{IsFrom, keeps_link, link_there, links_changed, ends_changed, one_each_changed}
 use Rattle.sq_turn.proofs.PushPop.{counted_at, other_ends}
@@ -273,7 +271,7 @@ way_and_loads o t l h prefix =
     let even : length (reverse (take l.loaded l.notes)) ≡ length (link l.src l.dst (loads t)) = length-reverse (take l.loaded l.notes) ∙ length-take-le l.loaded l.notes h.few_loaded ∙ h.loaded in
     ap (λ ns. reverse (drop l.loaded l.notes) ++ ns) (sym (same_rest (reverse (drop l.loaded l.notes)) prefix.0 (reverse (take l.loaded l.notes)) (link l.src l.dst (loads t)) (parts ∙ sym prefix.1) even)) ∙ parts
 
-next_note_of : (o : OpeningValue) (t : Trace) (l : LinkValue) (chunk : ChunkValue) → LinkHolds o (history o t) l → IsPrefix t l.src l.dst → l.inbox ≡ Some chunk
+pub next_note_of : (o : OpeningValue) (t : Trace) (l : LinkValue) (chunk : ChunkValue) → LinkHolds o (history o t) l → IsPrefix t l.src l.dst → l.inbox ≡ Some chunk
     → reverse (map (λ (c : ChunkValue). c.note) (l.queue ++ option_list l.outbox)) ++ chunk.note ∷ link l.src l.dst (loads t) ≡ link l.src l.dst (notes t)
 next_note_of o t l chunk h prefix full =
     let rest = map (λ (c : ChunkValue). c.note) (l.queue ++ option_list l.outbox) in

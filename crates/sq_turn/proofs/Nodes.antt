@@ -1,6 +1,6 @@
 -- Claim and Complete keep what holds.
 use Rattle.std.proofs.Common.{⊎_elim, subst, ◌≡◌, ℕ, Bool, true, false, List, ◌∷◌, refl, sym, ap, ◌∙◌, arith, true≢false}
-use Rattle.std.specs.Prelude.{◌<◌, ◌≢◌, ◌-◌, ◌==◌, not, ◌&&◌, if◌then◌else◌, length, nat_le, slice_set, slice_index_or, Result, Ok, Err, IsTrue}
+use Rattle.std.specs.Prelude.{◌<◌, ◌≢◌, ◌-◌, ◌==◌, not, ◌&&◌, if◌then◌else◌, length, nat_le, slice_index_or, Result, Ok, Err, IsTrue}
 use Rattle.std.proofs.lemmas.List.{length-set, get_or-set_same, get_or-set_other}
 use Rattle.std.proofs.lemmas.Bool.{ne_eqb, leb-false}
 use Rattle.std.proofs.lemmas.Bool.Decides.{eqb_tells}

@@ -1,6 +1,6 @@
 -- A world in which one partition changed, and the families of its store.
-use Rattle.std.proofs.Common.{subst, ⊎_elim, ◌≡◌, ℕ, Bool, true, false, List, [], ◌∷◌, ◌++◌, refl, sym, ap, ◌∙◌, arith, true≢false, length, eq-eqb}
-use Rattle.std.specs.Prelude.{◌<◌, ◌≢◌, ◌==◌, ◌&&◌, ◌||◌, if◌then◌else◌, not, filter, fold, slice_get, slice_set, slice_index_or, Option, Some, None, unwrap_or}
+use Rattle.std.proofs.Common.{subst, ◌≡◌, ℕ, Bool, true, false, List, [], ◌∷◌, refl, sym, ap, ◌∙◌, arith, true≢false, length, eq-eqb}
+use Rattle.std.specs.Prelude.{◌<◌, ◌≢◌, ◌==◌, ◌&&◌, ◌||◌, if◌then◌else◌, not, slice_get, Some, None, unwrap_or}
 use Rattle.std.specs.List.{list_any}
 use Rattle.std.specs.FinMap.{get}
 use Rattle.std.proofs.lemmas.List.{length-set, get_or-set_same, get_or-set_other}
@@ -13,9 +13,9 @@ use Rattle.sq_store.specs.StoreValue.{family_at, absent}
 use Rattle.sq_ranges.specs.OpeningValue.{OpeningValue}
 use Rattle.sq_model.specs.Trace.{Trace, committed}
 use Rattle.sq_model.specs.Tables.{opening_rows, now, stands, family_of}
-use Rattle.sq_model.specs.Place.{Place, At, place}
+use Rattle.sq_model.specs.Place.{At, place}
 use Rattle.sq_turn.specs.WorldValue.{WorldValue, PartValue, LinkValue, part_at, with_part, no_part}
-use Rattle.sq_turn.specs.Holds.{History, history, Holds, HoldsBy, LinkHolds, ChunkHolds, share, is_at, under_way}
+use Rattle.sq_turn.specs.Holds.{History, Holds, HoldsBy, LinkHolds, ChunkHolds, share, is_at, under_way}
 use Rattle.sq_turn.proofs.Nodes.{by_place}
 
 -- the other partitions stay

@@ -1,22 +1,20 @@
 -- Push and Pop keep what holds.
-use Rattle.std.proofs.Common.{⊎_elim, subst, ◌≡◌, ℕ, Bool, true, false, List, [], ◌∷◌, ◌++◌, refl, sym, ap, ◌∙◌, arith, true≢false, length, length-append, append-nil, eq-eqb}
-use Rattle.std.specs.Prelude.{◌+◌, ◌-◌, ◌<◌, ◌≢◌, ◌==◌, ◌&&◌, if◌then◌else◌, not, nat_le, nat_lt, drop, map, reverse, slice_get, Option, Some, None, is_some}
+use Rattle.std.proofs.Common.{subst, ◌≡◌, ℕ, Bool, false, List, [], ◌∷◌, ◌++◌, refl, sym, ap, ◌∙◌, arith, length, length-append, append-nil, eq-eqb}
+use Rattle.std.specs.Prelude.{◌+◌, ◌-◌, ◌≢◌, ◌==◌, ◌&&◌, if◌then◌else◌, nat_le, nat_lt, map, slice_get, Option, Some, None, is_some}
 use Rattle.std.proofs.lemmas.List.{length-map, length-reverse, length-drop}
 use Rattle.std.proofs.lemmas.Bool.{ne_eqb, lt-ltb, le-ltb}
 use Rattle.sq_ranges.specs.OpeningValue.{OpeningValue}
 use Rattle.sq_chunk.specs.ChunkValue.{ChunkValue}
-use Rattle.sq_model.specs.declared.step.Step.{Step}
 use Rattle.sq_model.specs.declared.step.Step.TheVariants.{Push, Pop}
-use Rattle.sq_model.specs.declared.answer.Answer.{Answer}
 use Rattle.sq_model.specs.declared.answer.Answer.TheVariants.{Done, Refused}
 use Rattle.sq_model.specs.declared.answer.Refusal.TheVariants.{OutboxEmpty, LinkFull, LinkEmpty, InboxFull}
-use Rattle.sq_model.specs.Trace.{Trace, notes, link, cut_count, push_count, pop_count, load_count, pushes, pops}
+use Rattle.sq_model.specs.Trace.{Trace, link, cut_count, push_count, pop_count, load_count, pushes, pops}
 use Rattle.sq_model.specs.Answers.{answer}
-use Rattle.sq_turn.specs.WorldValue.{WorldValue, LinkValue, link_index, link_value, with_link, no_link, option_list}
+use Rattle.sq_turn.specs.WorldValue.{WorldValue, LinkValue, link_value, with_link, option_list}
 use Rattle.sq_turn.specs.LeaderTurn.{refuse}
 use Rattle.sq_turn.specs.LinkTurn.{push_chunk, pop_chunk}
 use Rattle.sq_turn.specs.Turn.{turn}
-use Rattle.sq_turn.specs.Holds.{History, history, Holds, HoldsBy, LinkHolds, ChunkHolds, under_way}
+use Rattle.sq_turn.specs.Holds.{History, history, Holds, HoldsBy, LinkHolds, under_way}
 use Rattle.sq_turn.proofs.Keeps.{Keeps, keeps_if, keeps_refused}
 use Rattle.sq_turn.proofs.Nodes.{by_place}
 use Rattle.sq_turn.proofs.Links.{IsFrom, keeps_link, link_there, links_changed, ends_changed, one_each_changed}

@@ -1,10 +1,9 @@
 -- A submitted transaction that runs keeps what holds.
-use Rattle.std.proofs.Common.{subst, ⊎_elim, ◌≡◌, ℕ, Bool, true, false, List, [], ◌∷◌, ◌++◌, refl, sym, ap, ◌∙◌, arith, true≢false, length, append-nil, eq-eqb}
-use Rattle.std.specs.Prelude.{◌<◌, ◌≢◌, ◌==◌, ◌&&◌, ◌||◌, if◌then◌else◌, not, nat_le, filter, Option, Some, None, slice_get}
+use Rattle.std.proofs.Common.{subst, ⊎_elim, ◌≡◌, ℕ, Bool, true, false, List, [], ◌∷◌, ◌++◌, refl, sym, ap, ◌∙◌, arith, length, append-nil, eq-eqb}
+use Rattle.std.specs.Prelude.{◌<◌, ◌≢◌, ◌==◌, ◌&&◌, ◌||◌, if◌then◌else◌, not, nat_le, Some, None, slice_get}
 use Rattle.std.specs.List.{list_any}
-use Rattle.std.specs.Ordering.{nat_cmp}
 use Rattle.std.specs.Cmp.{unsigned_tied, nat_cmp_total}
-use Rattle.std.specs.FinMap.{get, insert, get-insert}
+use Rattle.std.specs.FinMap.{get, get-insert}
 use Rattle.std.proofs.lemmas.Bool.{ne_eqb, cases_eq}
 use Rattle.std.proofs.lemmas.List.Elements.{filter-append}
 use Rattle.sq_schema.specs.TxnValue.{TxnValue}
@@ -13,20 +12,19 @@ use Rattle.sq_schema.specs.declared.txn.Reply.TheVariants.{Committed, Aborted}
 use Rattle.sq_schema.specs.Effect.{reply, only}
 use Rattle.sq_schema.specs.Family.{FamilyValue, log_limit, rows_of}
 use Rattle.sq_chunk.specs.ChunkValue.{ChunkValue, covers}
-use Rattle.sq_store.specs.StoreValue.{StoreValue, family_at, with_txn, store_reply, store_after}
+use Rattle.sq_store.specs.StoreValue.{family_at, with_txn, store_reply, store_after}
 use Rattle.sq_ranges.specs.OpeningValue.{OpeningValue}
 use Rattle.sq_model.specs.declared.step.Step.TheVariants.{Submit}
-use Rattle.sq_model.specs.declared.answer.Answer.{Answer}
 use Rattle.sq_model.specs.declared.answer.Answer.TheVariants.{Replied}
 use Rattle.sq_model.specs.declared.answer.Refusal.TheVariants.{LogFull}
 use Rattle.sq_model.specs.Trace.{Trace, committed}
 use Rattle.sq_model.specs.Tables.{opening_rows, now, stands, family_of}
-use Rattle.sq_model.specs.Place.{Place, At, Under_way, place}
+use Rattle.sq_model.specs.Place.{At, place}
 use Rattle.sq_model.specs.Waiting.{waiting}
 use Rattle.sq_model.specs.Answers.{run_answer}
-use Rattle.sq_turn.specs.WorldValue.{WorldValue, PartValue, LinkValue, part_at, with_part}
+use Rattle.sq_turn.specs.WorldValue.{WorldValue, LinkValue, part_at, with_part}
 use Rattle.sq_turn.specs.SubmitTurn.{run_in, run_turn}
-use Rattle.sq_turn.specs.Holds.{History, history, Holds, HoldsBy, LinkHolds, ChunkHolds, share, is_at, under_way}
+use Rattle.sq_turn.specs.Holds.{history, Holds, HoldsBy, LinkHolds, ChunkHolds, share, is_at, under_way}
 use Rattle.sq_turn.proofs.Keeps.{Keeps, keeps_if, keeps_refused}
 use Rattle.sq_turn.proofs.Nodes.{by_place}
 use Rattle.sq_turn.proofs.Parts.{parts_each, part_holds, family_same, rows_now}

@@ -1,7 +1,7 @@
 -- Where a root key's rows are, in the world and by the history.
-use Rattle.std.proofs.Common.{subst, ◌≡◌, ℕ, Bool, true, false, List, [], ◌∷◌, ◌++◌, refl, sym, ap, ◌∙◌, arith, true≢false, length}
-use Rattle.std.specs.Prelude.{◌<◌, ◌==◌, ◌&&◌, ◌||◌, if◌then◌else◌, not, nat_lt, slice_get, slice_index_or, Option, Some, None}
-use Rattle.std.proofs.lemmas.Option.{slice_get-get_or, slice_get_within}
+use Rattle.std.proofs.Common.{subst, ◌≡◌, ℕ, Bool, true, false, refl, sym, ap, ◌∙◌, length}
+use Rattle.std.specs.Prelude.{◌<◌, ◌==◌, ◌&&◌, if◌then◌else◌, not, nat_lt, slice_get, slice_index_or, Option, Some, None}
+use Rattle.std.proofs.lemmas.Option.{slice_get-get_or}
 use Rattle.sq_schema.specs.TxnValue.{TxnValue}
 use Rattle.sq_plan.specs.PlanValue.{owner}
 use Rattle.sq_tree.specs.Node.{is_node}
@@ -9,8 +9,6 @@ use Rattle.sq_tree.specs.Status.{covering, is_begun}
 use Rattle.sq_ranges.specs.declared.recon.Range.{Range}
 use Rattle.sq_ranges.specs.ReconValue.{segment_of, leaf_of}
 use Rattle.sq_ranges.specs.OpeningValue.{OpeningValue}
-use Rattle.sq_chunk.specs.declared.chunk.Note.{Note}
-use Rattle.sq_model.specs.declared.answer.Answer.{Answer}
 use Rattle.sq_model.specs.declared.answer.Answer.TheVariants.{Waits}
 use Rattle.sq_model.specs.Trace.{Trace, loads}
 use Rattle.sq_model.specs.Leader.{is_started, is_started_phase}

@@ -1,21 +1,19 @@
 -- Submit keeps what holds.
-use Rattle.std.proofs.Common.{subst, ◌≡◌, ℕ, Bool, true, false, List, [], ◌∷◌, ◌++◌, refl, sym, ap, ◌∙◌, arith, length}
-use Rattle.std.specs.Prelude.{◌<◌, ◌==◌, ◌||◌, if◌then◌else◌, map, drop, take, reverse, nat_le, slice_get, Option, Some, None}
+use Rattle.std.proofs.Common.{subst, ◌≡◌, ℕ, refl, sym, ap, ◌∙◌}
+use Rattle.std.specs.Prelude.{◌<◌, ◌==◌, ◌||◌, nat_le, slice_get, Option, Some, None}
 use Rattle.std.specs.List.{list_any}
 use Rattle.std.proofs.lemmas.Bool.{leb-false, eqb-true}
 use Rattle.sq_schema.specs.TxnValue.{TxnValue}
-use Rattle.sq_chunk.specs.declared.chunk.Note.{Note}
-use Rattle.sq_chunk.specs.ChunkValue.{ChunkValue, covers}
+use Rattle.sq_chunk.specs.ChunkValue.{ChunkValue}
 use Rattle.sq_ranges.specs.OpeningValue.{OpeningValue}
 use Rattle.sq_model.specs.declared.step.Step.TheVariants.{Submit}
-use Rattle.sq_model.specs.declared.answer.Answer.{Answer}
 use Rattle.sq_model.specs.declared.answer.Answer.TheVariants.{Moved}
 use Rattle.sq_model.specs.declared.answer.Refusal.TheVariants.{NoSuchPartition}
 use Rattle.sq_model.specs.Trace.{Trace}
-use Rattle.sq_model.specs.Place.{Place, At, place, runner, destination}
+use Rattle.sq_model.specs.Place.{At, place, runner}
 use Rattle.sq_model.specs.Answers.{answer, routed}
 use Rattle.sq_turn.specs.WorldValue.{WorldValue, LinkValue}
-use Rattle.sq_turn.specs.SubmitTurn.{spot, runner_in, routed_turn}
+use Rattle.sq_turn.specs.SubmitTurn.{spot, routed_turn}
 use Rattle.sq_turn.specs.Turn.{turn}
 use Rattle.sq_turn.specs.Holds.{history, Holds, LinkHolds, under_way}
 use Rattle.sq_turn.proofs.Keeps.{Keeps, keeps_if, keeps_refused}

@@ -1,22 +1,21 @@
 -- A submitted transaction that waits keeps what holds.
-use Rattle.std.proofs.Common.{subst, ◌≡◌, ℕ, Bool, true, false, List, [], ◌∷◌, ◌++◌, refl, sym, ap, ◌∙◌, arith, length, eq-eqb}
-use Rattle.std.specs.Prelude.{◌<◌, ◌==◌, if◌then◌else◌, nat_le, Option, Some, None}
+use Rattle.std.proofs.Common.{◌≡◌, ℕ, List, [], ◌∷◌, ◌++◌, refl, sym, ap, ◌∙◌, arith, length, eq-eqb}
+use Rattle.std.specs.Prelude.{◌<◌, if◌then◌else◌, nat_le, Option, Some, None}
 use Rattle.std.specs.FinMap.{get}
 use Rattle.std.proofs.lemmas.Bool.{ne_eqb}
 use Rattle.sq_schema.specs.TxnValue.{TxnValue}
 use Rattle.sq_ranges.specs.ReconValue.{segment_of}
 use Rattle.sq_ranges.specs.OpeningValue.{OpeningValue}
 use Rattle.sq_model.specs.declared.step.Step.TheVariants.{Submit}
-use Rattle.sq_model.specs.declared.answer.Answer.{Answer}
 use Rattle.sq_model.specs.declared.answer.Answer.TheVariants.{Waits}
 use Rattle.sq_model.specs.declared.answer.Refusal.TheVariants.{WaitFull}
 use Rattle.sq_model.specs.Trace.{Trace}
 use Rattle.sq_model.specs.Tables.{stands, family_of}
 use Rattle.sq_model.specs.Waiting.{waiting, waits, wait_limit}
 use Rattle.sq_model.specs.Answers.{waits_at, wait_answer}
-use Rattle.sq_turn.specs.WorldValue.{WorldValue, PartValue, part_at, with_part}
+use Rattle.sq_turn.specs.WorldValue.{WorldValue, part_at, with_part}
 use Rattle.sq_turn.specs.SubmitTurn.{Spot, spot, wait_in, wait_turn, waits_turn}
-use Rattle.sq_turn.specs.Holds.{History, history, Holds, HoldsBy, share, is_at}
+use Rattle.sq_turn.specs.Holds.{history, Holds, share, is_at}
 use Rattle.sq_turn.proofs.Keeps.{Keeps, keeps_if, keeps_refused}
 use Rattle.sq_turn.proofs.Spots.{SpotHolds, RoutingFacts, spot_holds}
 use Rattle.sq_turn.proofs.Parts.{parts_each, part_holds}

@@ -1,5 +1,5 @@
 -- What a world is, by its history: each store and each chunk under way is exactly its share of the committed transactions replayed on one unpartitioned table.
-use Rattle.std.specs.Prelude.{◌≡◌, ℕ, Bool, true, false, ◌+◌, ◌==◌, ◌&&◌, ◌<◌, ◌≤◌, if◌then◌else◌, List, [], ◌∷◌, ◌++◌, map, drop, reverse, length, slice_get, Option, Some, None, is_some, IsTrue}
+use Rattle.std.specs.Prelude.{◌≡◌, ℕ, Bool, true, false, ◌+◌, ◌==◌, ◌&&◌, ◌<◌, ◌≤◌, if◌then◌else◌, List, ◌++◌, map, drop, reverse, length, slice_get, Option, Some, None, is_some}
 use Rattle.std.specs.FinMap.{get}
 use Rattle.sq_schema.specs.TxnValue.{TxnValue}
 use Rattle.sq_schema.specs.Family.{FamilyValue}
@@ -18,7 +18,7 @@ use Rattle.sq_model.specs.Tables.{stands, family_of}
 use Rattle.sq_model.specs.Place.{Place, At, Under_way, place, extent_of}
 use Rattle.sq_model.specs.Links.{reached, has_last, open_items}
 use Rattle.sq_model.specs.Waiting.{waiting}
-use Rattle.sq_turn.specs.WorldValue.{WorldValue, LinkValue, Progress, Work, part_at, segment_state, status_in, progress_in, link_index, option_list}
+use Rattle.sq_turn.specs.WorldValue.{WorldValue, LinkValue, Work, part_at, segment_state, status_in, progress_in, link_index, option_list}
 use Rattle.sq_turn.specs.LeaderTurn.{flag_at}
 
 -- what a trace tells of the state that it leads to

@@ -1,5 +1,5 @@
 -- What the leader's steps do to a world: Prepare, Start, Report and Finish.
-use Rattle.std.specs.Prelude.{ℕ, Bool, true, false, ◌==◌, ◌||◌, not, nat_le, if◌then◌else◌, List, length, slice_get, slice_set, slice_index_or, Option}
+use Rattle.std.specs.Prelude.{ℕ, Bool, true, false, ◌||◌, not, nat_le, if◌then◌else◌, List, length, slice_set, slice_index_or}
 use Rattle.std.specs.List.{list_any, list_all, range_with_len}
 use Rattle.sq_tree.specs.Status.{reading}
 use Rattle.sq_model.specs.declared.step.Phase.TheVariants.{Preparing, Moving, Ended}

@@ -1,12 +1,11 @@
 -- What Cut, Push, Pop and Load do to a world.
-use Rattle.std.specs.Prelude.{ℕ, Bool, true, false, ◌+◌, ◌-◌, ◌%◌, ◌==◌, ◌||◌, nat_le, if◌then◌else◌, List, [], ◌∷◌, ◌++◌, length, position, remove, slice_set, slice_index_or, Option, Some, None, is_some}
+use Rattle.std.specs.Prelude.{ℕ, Bool, ◌+◌, ◌-◌, ◌%◌, ◌==◌, nat_le, if◌then◌else◌, List, [], ◌∷◌, ◌++◌, length, position, remove, slice_set, slice_index_or, Option, Some, None, is_some}
 use Rattle.sq_chunk.specs.declared.chunk.Note.{Note}
 use Rattle.sq_chunk.specs.ChunkValue.{ChunkValue}
-use Rattle.sq_store.specs.StoreValue.{StoreValue, families_between, without_between, take_end, with_families}
-use Rattle.sq_model.specs.declared.answer.Answer.{Answer}
+use Rattle.sq_store.specs.StoreValue.{families_between, without_between, take_end, with_families}
 use Rattle.sq_model.specs.declared.answer.Answer.TheVariants.{Done, WasCut, WasLoaded}
 use Rattle.sq_model.specs.declared.answer.Refusal.TheVariants.{NoSuchLink, NothingToCut, OutboxFull, OutboxEmpty, LinkFull, LinkEmpty, InboxFull, InboxEmpty}
-use Rattle.sq_turn.specs.WorldValue.{WorldValue, PartValue, SegmentValue, LinkValue, Progress, Work, part_at, with_part, segment_state, with_segment, progress_in, link_index, link_value, with_link}
+use Rattle.sq_turn.specs.WorldValue.{WorldValue, PartValue, SegmentValue, LinkValue, Work, part_at, with_part, segment_state, with_segment, link_index, link_value, with_link}
 use Rattle.sq_turn.specs.LeaderTurn.{Told, refuse, moving_of}
 
 -- where there is such a link

@@ -1,5 +1,5 @@
 -- The state that a world opens in.
-use Rattle.std.specs.Prelude.{◌≡◌, ℕ, Bool, true, false, ◌==◌, ◌&&◌, ◌<◌, if◌then◌else◌, not, List, [], length, slice_get, Option, Some, None, is_some}
+use Rattle.std.specs.Prelude.{◌≡◌, ℕ, true, false, ◌==◌, ◌&&◌, ◌<◌, if◌then◌else◌, not, [], length, slice_get, Some, None, is_some}
 use Rattle.std.specs.FinMap.{get}
 use Rattle.sq_tree.specs.declared.status.Status.TheVariants.{Free}
 use Rattle.sq_tree.specs.Node.{is_node}

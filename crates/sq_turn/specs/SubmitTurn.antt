@@ -1,5 +1,5 @@
 -- What a submitted transaction does to a world.
-use Rattle.std.specs.Prelude.{ℕ, Bool, true, false, ◌==◌, ◌&&◌, ◌||◌, nat_le, nat_lt, if◌then◌else◌, List, [], ◌∷◌, ◌++◌, length, slice_get, Option, Some, None}
+use Rattle.std.specs.Prelude.{ℕ, Bool, true, false, ◌==◌, ◌&&◌, ◌||◌, nat_le, nat_lt, if◌then◌else◌, [], ◌∷◌, ◌++◌, length, Option, Some, None}
 use Rattle.std.specs.List.{list_any}
 use Rattle.sq_schema.specs.TxnValue.{TxnValue}
 use Rattle.sq_schema.specs.declared.txn.Reply.{Reply}
@@ -8,7 +8,7 @@ use Rattle.sq_plan.specs.PlanValue.{owner}
 use Rattle.sq_tree.specs.Status.{covering, is_begun}
 use Rattle.sq_ranges.specs.declared.recon.Range.{Range}
 use Rattle.sq_ranges.specs.ReconValue.{segment_of, leaf_of}
-use Rattle.sq_store.specs.StoreValue.{StoreValue, family_at, store_reply, store_after}
+use Rattle.sq_store.specs.StoreValue.{family_at, store_reply, store_after}
 use Rattle.sq_model.specs.declared.answer.Answer.TheVariants.{Replied, Moved, Waits}
 use Rattle.sq_model.specs.declared.answer.Refusal.TheVariants.{WaitFull, LogFull}
 use Rattle.sq_model.specs.Leader.{is_started_phase}

@@ -1,5 +1,5 @@
 -- What Claim, Begin and Complete do to a world.
-use Rattle.std.specs.Prelude.{ℕ, Bool, true, false, ◌==◌, nat_le, if◌then◌else◌, List, [], ◌∷◌, ◌++◌, length, Option, Some, None}
+use Rattle.std.specs.Prelude.{ℕ, nat_le, if◌then◌else◌, List, [], ◌∷◌, ◌++◌, length, Option, Some, None}
 use Rattle.sq_tree.specs.declared.status.Status.{Status}
 use Rattle.sq_tree.specs.declared.status.Status.TheVariants as status
 use Rattle.sq_tree.specs.Tree.{with_status}
@@ -10,7 +10,7 @@ use Rattle.sq_model.specs.declared.answer.Answer.{Answer}
 use Rattle.sq_model.specs.declared.answer.Answer.TheVariants.{Done}
 use Rattle.sq_model.specs.declared.answer.Refusal.TheVariants.{NoSuchSegment}
 use Rattle.sq_model.specs.Answers.{claim_told, begin_told, complete_told}
-use Rattle.sq_turn.specs.WorldValue.{WorldValue, SegmentValue, LinkValue, Work, segment_state, with_segment, status_in, progress_in, link_index, link_value, with_link, range_of}
+use Rattle.sq_turn.specs.WorldValue.{WorldValue, LinkValue, Work, segment_state, with_segment, status_in, progress_in, link_index, link_value, with_link, range_of}
 use Rattle.sq_turn.specs.LeaderTurn.{Told, refuse, moving_of}
 
 abbrev pub segment_in : WorldValue → ℕ → Told → Told

@@ -1,5 +1,5 @@
 -- The state of a world, without where it lies in memory.
-use Rattle.std.specs.Prelude.{ℕ, Bool, true, false, ◌-◌, ◌==◌, ◌&&◌, List, [], ◌∷◌, slice_get, slice_set, slice_index_or, position, Option, Some, None, unwrap_or}
+use Rattle.std.specs.Prelude.{ℕ, Bool, false, ◌-◌, ◌==◌, ◌&&◌, List, [], ◌∷◌, slice_get, slice_set, slice_index_or, position, Option, Some, None}
 use Rattle.std.specs.FinMap.{empty}
 use Rattle.sq_schema.specs.TxnValue.{TxnValue}
 use Rattle.sq_plan.specs.PlanValue.{PlanValue}

@@ -1,4 +1,4 @@
-use Rattle.std.proofs.Common.{◌++◌, ◌∷◌, [], ap, ◌∙◌, sym}
+use Rattle.std.proofs.Common.{◌++◌, ap, ◌∙◌, sym}
 use Rattle.sq_ranges.specs.Moves.{moves_of}
 use Rattle.sq_ranges.proofs.Cuts.{split_more, split_all}
 use Rattle.sq_ranges.proofs.cut.moves.Goals as goal

@@ -1,7 +1,7 @@
 use Rattle.std.proofs.Common.{refl, length, arith}
 use Rattle.std.proofs.lemmas.Option.{slice_get_read}
 use Rattle.sq_plan.specs.PlanValue.{root_end}
-use Rattle.sq_ranges.proofs.Rows.{Stands, row_at}
+use Rattle.sq_ranges.proofs.Rows.{row_at}
 use Rattle.sq_ranges.proofs.Cuts.{Moves, row_from_rising}
 use Rattle.sq_ranges.proofs.cut.segments.Goals as goal
 

@@ -1,8 +1,8 @@
-use Rattle.std.proofs.Common.{◌≡◌, ℕ, ◌<◌, Option, Some, None, refl, sym, ◌∙◌}
-use Rattle.sq_plan.specs.PlanValue.{PlanValue, owner, root_end}
+use Rattle.std.proofs.Common.{◌≡◌, ℕ, ◌<◌, Option, Some, None, refl}
+use Rattle.sq_plan.specs.PlanValue.{PlanValue, root_end}
 use Rattle.sq_ranges.specs.ReconValue.{ReconValue, segment_of}
 use Rattle.sq_ranges.specs.Between.{IsReconOf}
-use Rattle.sq_ranges.specs.Laws.{IsHolder, Tells}
+use Rattle.sq_ranges.specs.Laws.{Tells}
 use Rattle.sq_ranges.proofs.Segments.{found_owners, unfound_owner, segment_run, one_segment}
 use Rattle.sq_ranges.proofs.laws.each_key_that_moves_has_one_segment.Goals as goal
 

@@ -1,4 +1,4 @@
-use Rattle.std.proofs.Common.{◌≡◌, ◌≤◌, arith}
+use Rattle.std.proofs.Common.{◌≤◌, arith}
 use Rattle.sq_ranges.proofs.Extents.{extent_low, extent_rises, extent_high, extent_whole, extents_disjoint}
 use Rattle.sq_ranges.proofs.Segments.{segment_stands}
 use Rattle.sq_ranges.proofs.laws.nodes_divide_their_segment.Goals as goal

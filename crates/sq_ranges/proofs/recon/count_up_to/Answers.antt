@@ -1,4 +1,4 @@
-use Rattle.std.proofs.Common.{rules, refl, arith}
+use Rattle.std.proofs.Common.{rules, arith}
 use Rattle.std.proofs.lemmas.List.Sorted.{IsPartitionPoint-from_clause}
 use Rattle.sq_ranges.proofs.Cuts.{Moves, row_from_rising}
 use Rattle.sq_ranges.proofs.Search.{ends_by, ends_first}

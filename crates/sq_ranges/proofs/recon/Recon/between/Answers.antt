@@ -11,11 +11,11 @@ segments-requires-clause-rising c =
 pub invariant_of-result : goal.invariant_of-result
 invariant_of-result c =
     let cut = c.in_ok-segments.ensures ∙ ap (segments_of c.args.width) c.as_slice.ensures.value in (
-      (made c.args.old.now c.args.new.now c.moves.ensures.plans.0 c.moves.ensures.plans.1 c.args.width (fine c.args.old.now c.args.new.now c.args.width (sym c.in_default.ensures)) c.in_ok-ranges.ranges.items c.in_ok-segments.segments.items c.in_ok-ranges.ensures.moves cut).whole,
+      (made c.args.old.now c.args.new.now c.moves.ensures.plans.0 c.moves.ensures.plans.1 c.args.width (fine c.args.old.now c.args.new.now c.args.width (sym c.in_default.ensures.fault)) c.in_ok-ranges.ranges.items c.in_ok-segments.segments.items c.in_ok-ranges.ensures.moves cut).whole,
       subst (λ (ranges : List Range). AreLinks ranges c.in_ok-links.links.items) c.as_slice-2.ensures.value c.in_ok-links.ensures,
     )
 
 pub returns-clause-ok : goal.returns-clause-ok
 returns-clause-ok c =
     let cut = c.in_ok-segments.ensures ∙ ap (segments_of c.args.width) c.as_slice.ensures.value in
-    made c.args.old.now c.args.new.now c.moves.ensures.plans.0 c.moves.ensures.plans.1 c.args.width (fine c.args.old.now c.args.new.now c.args.width (sym c.in_default.ensures)) c.in_ok-ranges.ranges.items c.in_ok-segments.segments.items c.in_ok-ranges.ensures.moves cut
+    made c.args.old.now c.args.new.now c.moves.ensures.plans.0 c.moves.ensures.plans.1 c.args.width (fine c.args.old.now c.args.new.now c.args.width (sym c.in_default.ensures.fault)) c.in_ok-ranges.ranges.items c.in_ok-segments.segments.items c.in_ok-ranges.ensures.moves cut

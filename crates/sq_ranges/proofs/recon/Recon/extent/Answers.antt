@@ -1,4 +1,4 @@
-use Rattle.std.proofs.Common.{◌≡◌, ◌+◌, ◌∙◌, ℕ, Some, sym, ap, arith}
+use Rattle.std.proofs.Common.{◌+◌, ◌∙◌, Some, sym, ap, arith}
 use Rattle.sq_ranges.specs.ReconValue.{ReconValue, leaf_start}
 use Rattle.sq_ranges.proofs.Search.{segment_read, extent_found}
 use Rattle.sq_ranges.proofs.Segments.{segment_stands}

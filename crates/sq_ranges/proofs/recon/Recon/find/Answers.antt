@@ -1,5 +1,4 @@
-use Rattle.std.proofs.Common.{◌≡◌, ◌≤◌, ◌<◌, ◌∙◌, List, length, sym, ap, subst, arith}
-use Rattle.std.specs.List.Sorted.{IsPartitionPoint}
+use Rattle.std.proofs.Common.{◌≤◌, ◌∙◌, List, length, ap, subst}
 use Rattle.sq_ranges.specs.declared.recon.Range.{Range}
 use Rattle.sq_ranges.specs.ReconValue.{ReconValue, are_rising}
 use Rattle.sq_ranges.proofs.Search.{found_past, found_behind, found_here, found_within, segment_read, IsPoint}

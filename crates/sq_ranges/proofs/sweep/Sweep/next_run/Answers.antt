@@ -1,4 +1,4 @@
-use Rattle.std.proofs.Common.{◌≡◌, ◌≢◌, ℕ, ◌==◌, true, false, not, sym, arith}
+use Rattle.std.proofs.Common.{◌==◌, sym, arith}
 use Rattle.std.proofs.lemmas.Bool.{not-true, not-false, eqb-true, eqb-false}
 use Rattle.sq_ranges.proofs.Sweeps.{Went, comes_past, comes_first, comes_none, went_fewer}
 use Rattle.sq_ranges.proofs.sweep.Sweep.next_run.Goals as goal

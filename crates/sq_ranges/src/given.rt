@@ -1,0 +1,101 @@
+// What an opening is made of, and why it isn't.
+ghost use Rattle.std.specs.Prelude.{◌≡◌, ◌≤◌, ℕ, true, None, MatchResult, IfOk, OnOk};
+ghost use Rattle.std.specs.List.{AllPass};
+ghost use Rattle.std.specs.Ordering.{nat_cmp};
+ghost use Rattle.std.specs.Result.{result_err};
+ghost use Rattle.std.specs.FinMap.Entries.{is_sorted};
+ghost use Rattle.sq_schema.specs.Table.{rows_in, is_opening};
+ghost use Rattle.sq_plan.specs.PlanValue.{IsPlan};
+ghost use Rattle.sq_ranges.specs.Between.{recon_of, IsReconOf};
+ghost use Rattle.sq_ranges.specs.Given.{no_rows, with_one, given_rows, IsTableOf};
+ghost use Rattle.sq_ranges.specs.Refused.{config_fault, given_fault, rows_fault, opening_fault, TellsFault};
+
+use crate::fault::OpeningFault;
+use crate::opening::{Config, GivenRow};
+use crate::recon::Recon;
+use sq_plan::Plan;
+use sq_schema::Table;
+use std::alloc::Global;
+
+/// The fewest bytes of families that a chunk may be set to hold.
+const MIN_LIMIT: u64 = 64;
+
+/// The most bytes of families that a chunk may be set to hold.
+const MAX_LIMIT: u64 = 1_048_576;
+
+/// The most chunks that the queue of a link may be set to hold.
+const MAX_CAPACITY: u64 = 64;
+
+/// What moves between two plans, and the table of opening rows. No memory is taken before the plans and the sizes
+/// were found fit.
+pub(crate) fn parts_of(
+    alloc: Global,
+    tables: u8,
+    old: &Plan,
+    new: &Plan,
+    config: Config,
+    rows: &[GivenRow],
+) -> Result<(Recon, Table), OpeningFault>
+    requires { tables ≤ 8 }
+    ensures fault { MatchResult result
+        (λ _. opening_fault tables old.now new.now config rows.now ≡ None)
+        (λ fault. TellsFault (config_fault old.now new.now config) (opening_fault tables old.now new.now config rows.now) fault) }
+    ensures recon { IfOk result (λ parts. (parts.0 ≡ recon_of old.now new.now config.width) × IsReconOf old.now new.now config.width parts.0) }
+    ensures table { IfOk result (λ parts. IsTableOf rows.now parts.1) }
+    ensures plans { IsPlan old.now × IsPlan new.now }
+{
+    check(old, new, config)?;
+    let table = table_of(alloc, tables, rows)?;
+    let recon = Recon::between(alloc, old, new, config.width)?;
+    Ok((recon, table))
+}
+
+// Refuses plans between which nothing can move, and then sizes out of their limits.
+fn check(old: &Plan, new: &Plan, config: Config) -> Result<(), OpeningFault>
+    ensures fault { result_err result ≡ config_fault old.now new.now config }
+    ensures plans { IsPlan old.now × IsPlan new.now }
+{
+    if let Some(fault) = Recon::fault(old, new, config.width) {
+        return Err(fault.into());
+    }
+    if !(MIN_LIMIT..=MAX_LIMIT).contains(&config.limit) {
+        return Err(OpeningFault::Limit);
+    }
+    if !(1..=MAX_CAPACITY).contains(&config.capacity) {
+        return Err(OpeningFault::Capacity);
+    }
+    Ok(())
+}
+
+// The table of rows that are given one after another.
+fn table_of(alloc: Global, tables: u8, rows: &[GivenRow]) -> Result<Table, OpeningFault>
+    requires { tables ≤ 8 }
+    ensures fault { MatchResult result
+        (λ _. rows_fault tables no_rows rows.now ≡ None)
+        (λ fault. TellsFault None (rows_fault tables no_rows rows.now) fault) }
+    ensures table { IfOk result (IsTableOf rows.now) }
+{
+    let mut table = Table::new(alloc);
+    for given in rows {
+        take(&mut table, tables, given)?;
+    }
+    // Its root keys rise, and each has rows.
+    let _ = table.iter();
+    Ok(table)
+}
+
+// Takes one row into a table.
+fn take(table: &mut Table, tables: u8, given: &GivenRow) -> Result<(), OpeningFault>
+    requires { tables ≤ 8 }
+    ensures fault { MatchResult result
+        (λ _. given_fault tables (rows_in table.old) given.now ≡ None)
+        (λ fault. TellsFault None (given_fault tables (rows_in table.old) given.now) fault) }
+    ensures ok { OnOk result ((root : ℕ) → rows_in table.new root ≡ with_one (rows_in table.old) given.now root) }
+{
+    let root = given.root(tables)?;
+    let row = given.row()?;
+    if let Err((fault, _)) = table.insert(root, given.key(), row) {
+        return Err(fault.into());
+    }
+    Ok(())
+}

@@ -1,0 +1,87 @@
+-- What a transaction does to the store of a list of families.
+use Rattle.std.proofs.Common.{◌≡◌, ℕ, true, List, length, get_or, set, sym, ap, ◌∙◌, arith}
+use Rattle.std.specs.Prelude.{◌≤◌, ◌↔◌, unwrap_or, Some, None, Result, Ok, Err, IfOk, IfErr, OnErr, IsErrOf}
+use Rattle.std.specs.FinMap.{get, insert}
+use Rattle.std.proofs.lemmas.List.{set-get_or}
+use Rattle.sq_schema.specs.TxnValue.{TxnValue}
+use Rattle.sq_schema.specs.declared.txn.Reply.{Reply}
+use Rattle.sq_schema.specs.declared.txn.Reply.TheVariants.{Committed, Aborted}
+use Rattle.sq_schema.specs.declared.fault.ApplyFault.{ApplyFault}
+use Rattle.sq_schema.specs.declared.fault.ApplyFault.TheVariants.{LogFull, Memory}
+use Rattle.sq_schema.specs.Family.{FamilyValue, log_limit, answered}
+use Rattle.sq_store.specs.StoreValue.{StoreValue, absent, family_at, with_txn, store_after}
+use Rattle.sq_store.specs.Listed.{are_rising, store_of, opened, IsAt, IsGap}
+use Rattle.sq_store.proofs.Lists.{get_at, get_gap, insert_at, insert_gap}
+
+-- a family keeps its root key
+root_kept : (old now : FamilyValue) (txn : TxnValue) (result : Result Reply ApplyFault) → IfOk result (λ r. now ≡ answered old txn r) → OnErr result (now ≡ old) → now.root ≡ old.root
+root_kept old now txn (Ok (Committed answers)) ok err = ap (λ f. f.root) ok
+root_kept old now txn (Ok (Aborted at cause)) ok err = ap (λ f. f.root) ok
+root_kept old now txn (Err fault) ok err = ap (λ f. f.root) err
+
+-- the store of a list that has a family of the transaction's root key at this place
+module _ (store : StoreValue) (families : List FamilyValue) (txn : TxnValue) (at : ℕ) (rising : are_rising families ≡ true) (is : store_of families ≡ store) (here : IsAt families txn.root at) where
+  pub get_found : (old : FamilyValue) → old ≡ get_or families at old → get store txn.root ≡ Some old
+  get_found old read = ap (λ s. get s txn.root) (sym is) ∙ get_at families txn.root at old rising here ∙ ap Some (sym read)
+
+  pub family_found : (old : FamilyValue) → old ≡ get_or families at old → family_at store txn.root ≡ old
+  family_found old read = ap (λ found. unwrap_or found (absent txn.root)) (get_found old read)
+
+  root_found : (old : FamilyValue) → old ≡ get_or families at old → old.root ≡ txn.root
+  root_found old read = ap (λ f. f.root) read ∙ here.here old
+
+  at_root : (now : FamilyValue) → now.root ≡ txn.root → IsAt families now.root at
+  at_root now same = record { within = here.within; here = λ d. here.here d ∙ sym same }
+
+  pub rising_applied : (old now : FamilyValue) (result : Result Reply ApplyFault) → old ≡ get_or families at old → IfOk result (λ r. now ≡ answered old txn r) → OnErr result (now ≡ old) → are_rising (set families at now) ≡ true
+  rising_applied old now result read ok err =
+      let same : now.root ≡ txn.root = root_kept old now txn result ok err ∙ root_found old read in
+      (insert_at families at now rising (at_root now same)).rising
+
+  unchanged : (old now : FamilyValue) → old ≡ get_or families at old → now ≡ old → store_of (set families at now) ≡ store
+  unchanged old now read same = ap (λ f. store_of (set families at f)) (same ∙ read) ∙ ap store_of (set-get_or families at old) ∙ is
+
+  pub store_applied : (old now : FamilyValue) (result : Result Reply ApplyFault) → old ≡ get_or families at old → IfOk result (λ r. now ≡ answered old txn r) → IfOk result (λ r. store_of (set families at now) ≡ store_after store txn r)
+  store_applied old now (Ok (Committed answers)) read ok =
+      let same : now.root ≡ txn.root = ap (λ f. f.root) ok ∙ root_found old read in
+      let put = (insert_at families at now rising (at_root now same)).same in
+      let family : now ≡ with_txn (family_at store txn.root) txn = ok ∙ ap (λ f. with_txn f txn) (sym (family_found old read)) in
+      sym put ∙ (λ i. insert (is i) (same i) (family i))
+  store_applied old now (Ok (Aborted n cause)) read ok = unchanged old now read ok
+  store_applied old now (Err fault) read ok = tt
+
+  pub store_kept : (old now : FamilyValue) (result : Result Reply ApplyFault) → old ≡ get_or families at old → OnErr result (now ≡ old) → OnErr result (store_of (set families at now) ≡ store)
+  store_kept old now (Ok reply) read err = tt
+  store_kept old now (Err fault) read err = unchanged old now read err
+
+-- the store of a list that has no family of the transaction's root key, and whose place this is
+module _ (store : StoreValue) (families : List FamilyValue) (txn : TxnValue) (at : ℕ) (rising : are_rising families ≡ true) (is : store_of families ≡ store) (gap : IsGap families txn.root at) where
+  pub get_absent : get store txn.root ≡ None
+  get_absent = ap (λ s. get s txn.root) (sym is) ∙ get_gap families txn.root at rising gap
+
+  pub family_absent : family_at store txn.root ≡ absent txn.root
+  family_absent = ap (λ found. unwrap_or found (absent txn.root)) get_absent
+
+  pub rising_opened : (now : List FamilyValue) (result : Result Reply ApplyFault) → IfOk result (λ r. now ≡ opened families at txn r) → OnErr result (now ≡ families) → are_rising now ≡ true
+  rising_opened now (Ok (Committed answers)) ok err = ap are_rising ok ∙ (insert_gap families at (with_txn (absent txn.root) txn) rising gap).rising
+  rising_opened now (Ok (Aborted n cause)) ok err = ap are_rising ok ∙ rising
+  rising_opened now (Err fault) ok err = ap are_rising err ∙ rising
+
+  pub store_opened : (now : List FamilyValue) (result : Result Reply ApplyFault) → IfOk result (λ r. now ≡ opened families at txn r) → IfOk result (λ r. store_of now ≡ store_after store txn r)
+  store_opened now (Ok (Committed answers)) ok =
+      let family : with_txn (absent txn.root) txn ≡ with_txn (family_at store txn.root) txn = ap (λ f. with_txn f txn) (sym family_absent) in
+      ap store_of ok ∙ sym (insert_gap families at (with_txn (absent txn.root) txn) rising gap).same ∙ (λ i. insert (is i) txn.root (family i))
+  store_opened now (Ok (Aborted n cause)) ok = ap store_of ok ∙ is
+  store_opened now (Err fault) ok = tt
+
+  pub store_unopened : (now : List FamilyValue) (result : Result Reply ApplyFault) → OnErr result (now ≡ families) → OnErr result (store_of now ≡ store)
+  store_unopened now (Ok reply) err = tt
+  store_unopened now (Err fault) err = ap store_of err ∙ is
+
+  -- the log of a family that isn't there isn't full
+  pub not_full : (result : Result Reply ApplyFault) → IfErr result (λ fault. fault ≡ Memory) → IsErrOf result LogFull ↔ (log_limit ≤ length (family_at store txn.root).log)
+  not_full result memory = (λ full. absurd (by_case result memory full), λ long. absurd (let none = ap (λ f. length f.log) family_absent in omega (arith, none, long)))
+    where
+      by_case : (result : Result Reply ApplyFault) → IfErr result (λ fault. fault ≡ Memory) → IsErrOf result LogFull → ⊥
+      by_case (Ok reply) memory full = cc
+      by_case (Err fault) memory full = cc

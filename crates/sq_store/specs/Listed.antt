@@ -1,0 +1,49 @@
+-- A store as a list of families whose root keys rise.
+use Rattle.std.specs.Prelude.{◌≡◌, ◌<◌, ◌≤◌, ℕ, Bool, List, length, map, get_or, Result, Ok, Err}
+use Rattle.std.specs.Ordering.{nat_cmp}
+use Rattle.std.specs.FinMap.{from_sorted, is_sorted}
+use Rattle.std.specs.List.{insert}
+use Rattle.sq_schema.specs.TxnValue.{TxnValue}
+use Rattle.sq_schema.specs.declared.txn.Reply.{Reply}
+use Rattle.sq_schema.specs.declared.txn.Reply.TheVariants.{Committed, Aborted}
+use Rattle.sq_schema.specs.Family.{FamilyValue}
+use Rattle.sq_store.specs.StoreValue.{StoreValue, absent, with_txn}
+
+-- each family with its root key
+abbrev pub entries_of : List FamilyValue → List (ℕ × FamilyValue)
+entries_of families = map (λ family. (family.root, family)) families
+
+-- the root keys strictly rise
+abbrev pub are_rising : List FamilyValue → Bool
+are_rising families = is_sorted nat_cmp (entries_of families)
+
+-- the store of rising families
+abbrev pub store_of : List FamilyValue → StoreValue
+store_of families = from_sorted (entries_of families)
+
+-- the family of this root key is at this place
+pub record IsAt (families : List FamilyValue) (root at : ℕ) : Type 0 where
+  pub within : at < length families
+  pub here : (d : FamilyValue) → (get_or families at d).root ≡ root
+
+-- no family has this root key: those before this place have lower ones, and the others have higher ones
+pub record IsGap (families : List FamilyValue) (root at : ℕ) : Type 0 where
+  pub within : at ≤ length families
+  pub below : (k : ℕ) (d : FamilyValue) → 0 ≤ k → k < at → (get_or families k d).root < root
+  pub above : (k : ℕ) (d : FamilyValue) → at ≤ k → k < length families → root < (get_or families k d).root
+
+-- what a search for a root key answers
+abbrev pub IsPlace : List FamilyValue → ℕ → Result ℕ ℕ → Type 0
+IsPlace families root (Ok at) = IsAt families root at
+IsPlace families root (Err at) = IsGap families root at
+
+-- the families before this place have root keys below this number, and the others don't
+pub record IsStart (families : List FamilyValue) (key at : ℕ) : Type 0 where
+  pub within : at ≤ length families
+  pub below : (k : ℕ) (d : FamilyValue) → 0 ≤ k → k < at → (get_or families k d).root < key
+  pub from : (k : ℕ) (d : FamilyValue) → at ≤ k → k < length families → key ≤ (get_or families k d).root
+
+-- the list after a transaction with this reply, of a root key without a family: one that commits puts a family at this place
+abbrev pub opened : List FamilyValue → ℕ → TxnValue → Reply → List FamilyValue
+opened families at txn (Committed answers) = insert families at (with_txn (absent txn.root) txn)
+opened families at txn (Aborted n cause) = families

@@ -1,0 +1,44 @@
+// Two lists of families put together.
+ghost use Rattle.std.specs.Prelude.{◌≡◌, ◌+◌, ◌++◌, ◌≤◌, length, vec_len, vec_capacity, IsTrue};
+ghost use Rattle.sq_store.specs.StoreValue.{with_families, AreApart};
+ghost use Rattle.sq_store.specs.Listed.{are_rising, store_of};
+ghost use Rattle.sq_store.specs.Merging.{is_first_next, TakesNext};
+
+use sq_schema::Family;
+use std::collections::VecDeque;
+
+// Puts the families of two rising lists, which have no root key in common, after those that are there. There is room
+// for them.
+pub(crate) fn merge(into: &mut Vec<Family>, mut left: VecDeque<Family>, mut right: VecDeque<Family>)
+    requires left { IsTrue (are_rising (into.old.items ++ left.items)) }
+    requires right { IsTrue (are_rising (into.old.items ++ right.items)) }
+    requires apart { AreApart (store_of (into.old.items ++ left.items)) right.items }
+    requires room { vec_len into.old + (length left.items + length right.items) ≤ vec_capacity into.old }
+    ensures rising { IsTrue (are_rising into.new.items) }
+    ensures all { store_of into.new.items ≡ with_families (store_of (into.old.items ++ left.items)) right.items }
+{
+    while let Some(family) = next(&mut left, &mut right) {
+        into.push_reserved(family);
+    }
+}
+
+// Takes the family of the lesser root key off the front of one of the two.
+fn next(left: &mut VecDeque<Family>, right: &mut VecDeque<Family>) -> Option<Family>
+    ensures { TakesNext (is_first_next left.old.items right.old.items) left.old.items right.old.items result left.new.items right.new.items }
+{
+    if comes_first(left, right) {
+        left.pop_front()
+    } else {
+        right.pop_front()
+    }
+}
+
+// Whether the next family is on the left.
+fn comes_first(left: &VecDeque<Family>, right: &VecDeque<Family>) -> bool
+    ensures { result ≡ is_first_next left.now.items right.now.items }
+{
+    match (left.front(), right.front()) {
+        (Some(family), Some(other)) => family.root() < other.root(),
+        (family, _) => family.is_some(),
+    }
+}

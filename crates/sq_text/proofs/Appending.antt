@@ -1,0 +1,50 @@
+-- What a writer got in pieces.
+use Rattle.std.proofs.Common.{◌≡◌, ℕ, List, [], ◌∷◌, ◌++◌, map, length, Option, Some, None, refl, sym, ap, ◌∙◌, append_assoc}
+use Rattle.std.specs.Prelude.{Result, Ok, Err, OnOk, decimal, codes}
+use Rattle.std.specs.List.{flat_map, join_with_byte}
+use Rattle.std.proofs.lemmas.List.{append-nil}
+use Rattle.std.proofs.lemmas.List.Folds.{flat_map-map}
+use Rattle.std.specs.Io.KnownBytes.{Appends}
+use Rattle.sq_schema.specs.declared.row.RowKey.{RowKey}
+use Rattle.sq_schema.specs.declared.txn.OpAnswer.{OpAnswer}
+use Rattle.sq_schema.specs.declared.txn.Reply.{Reply}
+use Rattle.sq_schema.specs.declared.txn.Reply.TheVariants.{Committed}
+use Rattle.sq_schema.specs.Values.{RowValue}
+use Rattle.sq_schema.specs.Family.{FamilyValue, rows_of}
+use Rattle.sq_text.specs.Texts.{line, op_answer_text, reply_words, entry_text, family_words}
+
+-- bytes, and then more
+pub both : (a b c : Option (List ℕ)) (xs ys zs : List ℕ) → Appends a b xs → Appends b c ys → xs ++ ys ≡ zs → Appends a c zs
+both None b c xs ys zs h k e = tt
+both (Some front) None c xs ys zs h k e = absurd h
+both (Some front) (Some bs) None xs ys zs h k e = absurd k
+both (Some front) (Some bs) (Some cs) xs ys zs h k e = k ∙ ap (λ (t : List ℕ). t ++ ys) h ∙ append_assoc front xs ys ∙ ap (λ (t : List ℕ). front ++ t) e
+
+-- bytes in three pieces, where the last may fail
+pub three : {T E : Type 0} (r : Result T E) (a b c d : Option (List ℕ)) (xs ys zs all : List ℕ) → Appends a b xs → Appends b c ys → OnOk r (Appends c d zs) → xs ++ (ys ++ zs) ≡ all → OnOk r (Appends a d all)
+three (Err x) a b c d xs ys zs all h k l e = tt
+three (Ok x) a b c d xs ys zs all h k l e = both a c d (xs ++ ys) zs all (both a b c xs ys (xs ++ ys) h k refl) l (append_assoc xs ys zs ∙ e)
+
+-- words with a space between each two are the first word, and then the others behind a space each
+spaced : (word : List ℕ) (words : List (List ℕ)) → join_with_byte 32 (word ∷ words) ≡ word ++ flat_map (λ other. 32 ∷ other) words
+spaced word [] = sym (append-nil word)
+spaced word (next ∷ words) = ap (λ (rest : List ℕ). word ++ (32 ∷ rest)) (spaced next words)
+
+-- a line of two words, and then of those of things
+pub line_from : {X : Type 0} (first second : List ℕ) (text : X → List ℕ) (xs : List X) → (first ++ (32 ∷ second)) ++ (flat_map (λ x. 32 ∷ text x) xs ++ (10 ∷ [])) ≡ line (first ∷ second ∷ map text xs)
+line_from first second text xs =
+    let words = join_with_byte 32 (second ∷ map text xs) in
+    let others = flat_map (λ x. 32 ∷ text x) xs in
+    let same : words ≡ second ++ others = spaced second (map text xs) ∙ ap (λ (t : List ℕ). second ++ t) (flat_map-map (λ (other : List ℕ). 32 ∷ other) text xs) in
+    append_assoc first (32 ∷ second) (others ++ (10 ∷ []))
+    ∙ sym (append_assoc first (32 ∷ words) (10 ∷ [])
+    ∙ ap (λ (t : List ℕ). first ++ (32 ∷ (t ++ (10 ∷ [])))) same
+    ∙ ap (λ (t : List ℕ). first ++ (32 ∷ t)) (append_assoc second others (10 ∷ [])))
+
+-- the line of a commit
+pub commit_line : (id : ℕ) (reply : Reply) (answers : List OpAnswer) (text : List ℕ) → reply ≡ Committed answers → text ≡ codes "commit" ++ (32 ∷ decimal id) → text ++ (flat_map (λ answer. 32 ∷ op_answer_text answer) answers ++ (10 ∷ [])) ≡ line (reply_words id reply)
+commit_line id reply answers text is e = rw (is, e) (line_from (codes "commit") (decimal id) op_answer_text answers)
+
+-- what a line says of a family
+pub family_line : (family : FamilyValue) (root size : ℕ) (entries : List (RowKey × RowValue)) (text : List ℕ) → root ≡ family.root → size ≡ length family.log → entries ≡ rows_of family → text ≡ decimal root ++ (32 ∷ decimal size) → text ++ (flat_map (λ entry. 32 ∷ entry_text entry) entries ++ (10 ∷ [])) ≡ line (family_words family)
+family_line family root size entries text at long all e = rw (e, at, long, all) (line_from (decimal family.root) (decimal (length family.log)) entry_text (rows_of family))

@@ -1,0 +1,9 @@
+pub mod Parts
+pub mod DigitRun
+pub mod Onto
+pub mod HexRun
+pub mod Shrinks
+pub mod OpRun
+pub mod PieceRun
+pub mod Appending
+pub mod HeaderRun

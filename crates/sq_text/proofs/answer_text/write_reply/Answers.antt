@@ -1,0 +1,6 @@
+use Rattle.std.proofs.Common.{rules, refl}
+use Rattle.sq_text.proofs.Appending.{three, commit_line}
+use Rattle.sq_text.proofs.answer_text.write_reply.Goals as goal
+
+pub returns-in_ok-write_op_answers-in-Committed : goal.returns-in_ok-write_op_answers-in-Committed
+returns-in_ok-write_op_answers-in-Committed g c = three c.write_all.result _ _ _ _ _ _ _ _ c.in_ok-write-in-Committed.ensures.bytes c.in_ok-write_op_answers-in-Committed.ensures c.write_all.ensures.bytes (commit_line c.args.id c.args.reply.now c.as_slice.result.now _ (search rules) refl)

@@ -1,0 +1,126 @@
+-- The header of an input: two plans, the sizes, and the opening rows.
+use Rattle.std.specs.Prelude.{◌≡◌, ℕ, nat_eq, nat_lt, if◌then◌else◌, List, [], ◌∷◌, length, map, drop, Option, Some, None, Result, Ok, Err, codes, ok_or}
+use Rattle.std.specs.List.{starts_with}
+use Rattle.sq_plan.specs.declared.fault.PlanFault.{PlanFault}
+use Rattle.sq_plan.specs.PlanValue.{PlanValue}
+use Rattle.sq_plan.specs.Reading.{plan_in}
+use Rattle.sq_ranges.specs.declared.opening.Config.{Config}
+use Rattle.sq_ranges.specs.declared.fault.OpeningFault.{OpeningFault}
+use Rattle.sq_ranges.specs.declared.opening.GivenRow.{GivenRow}
+use Rattle.sq_ranges.specs.OpeningValue.{OpeningValue}
+use Rattle.sq_ranges.specs.Given.{IsOpeningOf}
+use Rattle.sq_ranges.specs.Refused.{opening_fault}
+use Rattle.sq_text.specs.declared.header.RowLines.{RowLines}
+use Rattle.sq_text.specs.declared.input_fault.InputFault.{InputFault}
+use Rattle.sq_text.specs.declared.input_fault.InputFault.TheVariants.{Plan, Opening, BadHeader, TooLong, LineTooLong, Memory}
+use Rattle.sq_text.specs.Words.{words_of}
+use Rattle.sq_text.specs.Steps.{line_limit}
+use Rattle.sq_text.specs.Pieces.{PieceValue, Line, Rest, Endless, TooMany, piece_begins}
+use Rattle.sq_text.specs.InputFaults.{◌>>=◌, IsRead}
+use Rattle.sq_text.specs.HeaderFields.{GivenValue, value_of, config_in, given_in}
+
+-- the bytes of a line of the header, or why it is none: it has too many bytes, or no end
+abbrev pub line_in : PieceValue → Result (List ℕ) InputFault
+line_in (Line bytes) = if nat_lt line_limit (length bytes) then Err LineTooLong else Ok bytes
+line_in (Rest bytes) = if nat_lt line_limit (length bytes) then Err LineTooLong else Err BadHeader
+line_in (Endless bytes) = Err TooLong
+line_in TooMany = Err TooLong
+
+-- what stands behind this front, with which the bytes begin
+abbrev pub behind : List ℕ → List ℕ → Result (List ℕ) InputFault
+behind front bytes = if starts_with nat_eq bytes front then Ok (drop (length front) bytes) else Err BadHeader
+
+-- what stands behind this front in the next line, and what comes after the line
+abbrev pub line_behind : List ℕ → List PieceValue → Result (List ℕ × List PieceValue) InputFault
+line_behind front [] = Err BadHeader
+line_behind front (piece ∷ pieces) = do
+  line ← line_in piece
+  text ← behind front line
+  Ok (text, pieces)
+
+-- a plan, or why there is none
+abbrev pub plan_told : Result PlanValue PlanFault → Result PlanValue InputFault
+plan_told (Ok plan) = Ok plan
+plan_told (Err fault) = Err (Plan fault)
+
+-- the line of a plan
+abbrev pub plan_line : List ℕ → List PieceValue → Result (PlanValue × List PieceValue) InputFault
+plan_line front pieces = do
+  line ← line_behind front pieces
+  plan ← plan_told (plan_in line.0)
+  Ok (plan, line.1)
+
+-- the line of the sizes: config W L C
+abbrev pub config_line : List PieceValue → Result (Config × List PieceValue) InputFault
+config_line pieces = do
+  line ← line_behind (codes "config ") pieces
+  config ← ok_or (config_in (words_of line.0)) BadHeader
+  Ok (config, line.1)
+
+-- the line of an opening row: row ROOT T S N NOTE
+abbrev pub row_line : List PieceValue → Result (GivenValue × List PieceValue) InputFault
+row_line pieces = do
+  line ← line_behind (codes "row ") pieces
+  row ← ok_or (given_in (words_of line.0)) BadHeader
+  Ok (row, line.1)
+
+-- opening rows, and then what comes after them, or the fault of the line that ends them
+pub record RowsValue : Type 0 where
+  pub rows : List GivenValue
+  pub ending : Result (List PieceValue) InputFault
+
+-- a row before others
+abbrev pub with_row : Result (GivenValue × List PieceValue) InputFault → RowsValue → RowsValue
+with_row (Ok row) others = record { rows = row.0 ∷ others.rows; ending = others.ending }
+with_row (Err fault) others = record { rows = []; ending = Err fault }
+
+-- the rows of the lines that begin as a row's line does, up to the first that spells none
+abbrev pub row_lines : List PieceValue → RowsValue
+row_lines [] = record { rows = []; ending = Ok [] }
+row_lines (piece ∷ pieces) =
+    if piece_begins (codes "row ") piece
+    then with_row (row_line (piece ∷ pieces)) (row_lines pieces)
+    else record { rows = []; ending = Ok (piece ∷ pieces) }
+
+-- rows were read as these lines spell them, and they end so
+pub record AreRows (lines : RowLines) (left : List PieceValue) (wanted : RowsValue) : Type 0 where
+  pub rows_are : map value_of lines.rows.items ≡ wanted.rows
+  pub ending_is : IsRead (λ x. left) lines.ending wanted.ending
+
+-- a header, as far as it can be read
+pub record HeaderValue : Type 0 where
+  pub old : PlanValue
+  pub new : PlanValue
+  pub config : Config
+  pub lines : RowsValue
+
+-- the header that pieces begin with: the lines of the plans and of the sizes, and the rows
+abbrev pub header_of : List PieceValue → Result HeaderValue InputFault
+header_of pieces = do
+  old ← plan_line (codes "old ") pieces
+  new ← plan_line (codes "new ") old.1
+  config ← config_line new.1
+  Ok (record { old = old.0; new = new.0; config = config.0; lines = row_lines config.1 })
+
+-- what comes after the rows, unless they make no opening
+abbrev pub ending_unless : Option OpeningFault → Result (List PieceValue) InputFault → Result (List PieceValue) InputFault
+ending_unless None ending = ending
+ending_unless (Some fault) ending = Err (Opening fault)
+
+-- what comes after a header with these rows, or its first fault: that of the opening of these rows, and then that of the line which ends them
+abbrev pub header_ending : ℕ → HeaderValue → List GivenRow → Result (List PieceValue) InputFault
+header_ending tables header rows = ending_unless (opening_fault tables header.old header.new header.config rows) header.lines.ending
+
+-- these are the rows of the header, and it ends so
+pub record Ends (tables : ℕ) (header : HeaderValue) (rows : List GivenRow) (ending : Result (List PieceValue) InputFault) : Type 0 where
+  pub rows_are : map value_of rows ≡ header.lines.rows
+  pub ending_is : header_ending tables header rows ≡ ending
+
+-- the answer is the opening of a header, with what comes after it, or else its first fault, unless memory ran out
+abbrev pub Opens : ℕ → Result OpeningValue InputFault → List PieceValue → Result HeaderValue InputFault → Type 0
+Opens tables (Err Memory) left header = Unit {0}
+Opens tables (Err fault) left (Err first) = fault ≡ first
+Opens tables (Err fault) left (Ok header) = (rows : List GivenRow) × Ends tables header rows (Err fault)
+Opens tables (Ok opening) left (Err first) = ⊥
+Opens tables (Ok opening) left (Ok header) =
+    (rows : List GivenRow) × Ends tables header rows (Ok left) × IsOpeningOf tables header.old header.new header.config rows opening

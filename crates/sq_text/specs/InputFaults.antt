@@ -1,0 +1,54 @@
+-- Why an input gives no run, and what a reader of its header answers.
+use Rattle.std.specs.Prelude.{◌≡◌, ℕ, Result, Ok, Err}
+use Rattle.sq_plan.specs.declared.fault.PlanFault.{PlanFault}
+use Rattle.sq_plan.specs.declared.fault.PlanFault.TheVariants as plan
+use Rattle.sq_plan.specs.Fault.{number_of}
+use Rattle.sq_ranges.specs.declared.fault.OpeningFault.{OpeningFault}
+use Rattle.sq_ranges.specs.declared.fault.OpeningFault.TheVariants as opening
+use Rattle.sq_ranges.specs.Refused.{opening_number_of}
+use Rattle.sq_text.specs.declared.fault.ReadFault.{ReadFault}
+use Rattle.sq_text.specs.declared.fault.ReadFault.TheVariants as words
+use Rattle.sq_text.specs.declared.input_fault.InputFault.{InputFault}
+use Rattle.sq_text.specs.declared.input_fault.InputFault.TheVariants.{Plan, Opening, BadHeader, TooLong, ReadFailed, Memory, LineTooLong}
+
+-- the number that a user sees
+abbrev pub input_fault_number : InputFault → ℕ
+input_fault_number (Plan fault) = number_of fault
+input_fault_number (Opening fault) = opening_number_of fault
+input_fault_number BadHeader = 121
+input_fault_number TooLong = 122
+input_fault_number ReadFailed = 123
+input_fault_number Memory = 222
+input_fault_number LineTooLong = 231
+
+-- why a text is no plan, told as a fault of the input
+abbrev pub of_plan : PlanFault → InputFault
+of_plan plan.Memory = Memory
+of_plan fault = Plan fault
+
+-- why there is no opening, told as a fault of the input
+abbrev pub of_opening : OpeningFault → InputFault
+of_opening opening.Memory = Memory
+of_opening fault = Opening fault
+
+-- why words aren't read, told as a fault of the input
+abbrev pub of_read : ReadFault → InputFault
+of_read words.Malformed = BadHeader
+of_read words.Memory = Memory
+
+-- the next step goes on with what this one found, and a fault stops
+infixl 10 ◌>>=◌
+abbrev pub ◌>>=◌ : {A B : Type 0} → Result A InputFault → (A → Result B InputFault) → Result B InputFault
+(Ok x) >>= f = f x
+(Err fault) >>= f = Err fault
+
+-- the answer, seen by view, is this
+abbrev pub IsRead : {X Y : Type 0} → (X → Y) → Result X InputFault → Result Y InputFault → Type 0
+IsRead view (Ok x) wanted = wanted ≡ Ok (view x)
+IsRead view (Err fault) wanted = wanted ≡ Err fault
+
+-- the answer, seen by view, is this, unless memory ran out
+abbrev pub Reads : {X Y : Type 0} → (X → Y) → Result X InputFault → Result Y InputFault → Type 0
+Reads view (Err Memory) wanted = Unit {0}
+Reads view (Err fault) wanted = wanted ≡ Err fault
+Reads view (Ok x) wanted = wanted ≡ Ok (view x)

@@ -1,0 +1,14 @@
+pub mod Words
+pub mod Numbers
+pub mod Notes
+pub mod Fields
+pub mod Faults
+pub mod Verbs
+pub mod Ops
+pub mod Steps
+pub mod Pieces
+pub mod Refusals
+pub mod Texts
+pub mod InputFaults
+pub mod HeaderFields
+pub mod Header

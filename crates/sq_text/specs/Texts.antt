@@ -1,0 +1,123 @@
+-- The lines that are written.
+use Rattle.std.specs.Prelude.{ℕ, Bool, true, false, ◌/◌, ◌%◌, List, [], ◌∷◌, ◌++◌, length, map, Some, None, decimal, codes}
+use Rattle.std.specs.List.{flat_map, join_with_byte}
+use Rattle.std.specs.Fmt.{signed_decimal, digit_glyph}
+use Rattle.sq_schema.specs.declared.row.RowKey.{RowKey}
+use Rattle.sq_schema.specs.declared.txn.Cause.{Cause}
+use Rattle.sq_schema.specs.declared.txn.Cause.TheVariants.{Absent, Small, Range, NoRoot, Children}
+use Rattle.sq_schema.specs.declared.txn.OpAnswer.{OpAnswer}
+use Rattle.sq_schema.specs.declared.txn.OpAnswer.TheVariants.{Found, Number, Done}
+use Rattle.sq_schema.specs.declared.txn.Reply.{Reply}
+use Rattle.sq_schema.specs.declared.txn.Reply.TheVariants.{Committed, Aborted}
+use Rattle.sq_schema.specs.Values.{RowValue}
+use Rattle.sq_schema.specs.Family.{FamilyValue, rows_of}
+use Rattle.sq_chunk.specs.declared.chunk.Note.{Note}
+use Rattle.sq_chunk.specs.ChunkValue.{ChunkValue}
+use Rattle.sq_model.specs.declared.answer.Answer.{Answer}
+use Rattle.sq_model.specs.declared.answer.Answer.TheVariants as answer
+use Rattle.sq_model.specs.declared.step.Phase.{Phase}
+use Rattle.sq_model.specs.declared.step.Phase.TheVariants as phase
+use Rattle.sq_text.specs.Words.{Word}
+use Rattle.sq_text.specs.Refusals.{refusal_number}
+
+-- a line of these words, with its end
+abbrev pub line : List Word → List ℕ
+line words = join_with_byte 32 words ++ 10 ∷ []
+
+-- two hexadecimal digits
+abbrev pub hex_byte_text : ℕ → List ℕ
+hex_byte_text byte = digit_glyph false (byte / 16) ∷ digit_glyph false (byte % 16) ∷ []
+
+-- - for no byte, or two digits a byte
+abbrev pub note_text : List ℕ → List ℕ
+note_text [] = codes "-"
+note_text (byte ∷ bytes) = flat_map hex_byte_text (byte ∷ bytes)
+
+-- a row: N/NOTE
+abbrev pub row_text : RowValue → List ℕ
+row_text row = signed_decimal row.number ++ (47 ∷ note_text row.note)
+
+-- what an operation is answered: a row, none, the new number, or ok
+abbrev pub op_answer_text : OpAnswer → List ℕ
+op_answer_text (Found None) = codes "none"
+op_answer_text (Found (Some row)) = row_text row
+op_answer_text (Number n) = signed_decimal n
+op_answer_text Done = codes "ok"
+
+-- why a transaction aborted
+abbrev pub cause_text : Cause → List ℕ
+cause_text Absent = codes "absent"
+cause_text Small = codes "small"
+cause_text Range = codes "range"
+cause_text NoRoot = codes "noroot"
+cause_text Children = codes "children"
+
+-- a refusal
+abbrev pub refused_line : ℕ → List ℕ
+refused_line number = line (codes "refused" ∷ decimal number ∷ [])
+
+-- a fault that ends the run
+abbrev pub fault_line : ℕ → List ℕ
+fault_line number = line (codes "fault" ∷ decimal number ∷ [])
+
+-- the words of what a transaction is answered
+abbrev pub reply_words : ℕ → Reply → List Word
+reply_words id (Committed answers) = codes "commit" ∷ decimal id ∷ map op_answer_text answers
+reply_words id (Aborted at cause) = codes "abort" ∷ decimal id ∷ decimal at ∷ cause_text cause ∷ []
+
+-- whether a chunk is its node's last
+abbrev pub mark_text : Bool → List ℕ
+mark_text true = codes "last"
+mark_text false = codes "more"
+
+-- what a note says behind its link, and how many families its chunk holds
+abbrev pub note_words : Note → ℕ → List Word
+note_words note families =
+    decimal note.number ∷ decimal note.seg ∷ decimal note.node ∷ decimal note.lo ∷ decimal note.hi ∷ mark_text note.last ∷ decimal families ∷ []
+
+-- the words of an answer
+abbrev pub answer_words : Answer → List Word
+answer_words answer.Done = codes "ok" ∷ []
+answer_words (answer.Replied id reply) = reply_words id reply
+answer_words (answer.Moved id to) = codes "moved" ∷ decimal id ∷ decimal to ∷ []
+answer_words (answer.Waits id seg leaf) = codes "waits" ∷ decimal id ∷ decimal seg ∷ decimal leaf ∷ []
+answer_words (answer.WasCut note families) = codes "cut" ∷ note_words note families
+answer_words (answer.WasLoaded note families) = codes "load" ∷ note_words note families
+answer_words (answer.Refused refusal) = codes "refused" ∷ decimal (refusal_number refusal) ∷ []
+
+-- the line that a step is answered
+abbrev pub answer_line : Answer → List ℕ
+answer_line answer = line (answer_words answer)
+
+-- the phase of a world
+abbrev pub phase_text : Phase → List ℕ
+phase_text phase.Idle = codes "idle"
+phase_text phase.Preparing = codes "preparing"
+phase_text phase.Moving = codes "moving"
+phase_text phase.Ended = codes "ended"
+
+-- the first line of a dump
+abbrev pub end_line : Phase → List ℕ
+end_line phase = line (codes "end" ∷ phase_text phase ∷ [])
+
+-- a row with its key: T.S=N/NOTE
+abbrev pub entry_text : RowKey × RowValue → List ℕ
+entry_text entry = decimal entry.0.table ++ (46 ∷ decimal entry.0.sub) ++ (61 ∷ row_text entry.1)
+
+-- a root key, the length of its log, and its rows
+abbrev pub family_words : FamilyValue → List Word
+family_words family = decimal family.root ∷ decimal (length family.log) ∷ map entry_text (rows_of family)
+
+-- a family in the store of a partition
+abbrev pub at_line : ℕ → FamilyValue → List ℕ
+at_line part family = line (codes "at" ∷ decimal part ∷ family_words family)
+
+-- a family in a chunk
+abbrev pub in_line : FamilyValue → List ℕ
+in_line family = line (codes "in" ∷ family_words family)
+
+-- a chunk that was cut and isn't loaded, and its families
+abbrev pub way_lines : ChunkValue → List ℕ
+way_lines chunk =
+    line (codes "way" ∷ decimal chunk.note.src ∷ decimal chunk.note.dst ∷ note_words chunk.note (length chunk.families))
+    ++ flat_map in_line chunk.families

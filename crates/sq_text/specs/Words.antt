@@ -1,0 +1,26 @@
+-- The words of a line.
+use Rattle.std.specs.Prelude.{ℕ, ◌==◌, List, [], Option, Some, None}
+use Rattle.std.specs.List.{slice_split}
+
+-- a word is its bytes
+abbrev pub Word : Type 0
+Word = List ℕ
+
+-- the parts of bytes between those that are this byte
+abbrev pub parts : ℕ → List ℕ → List (List ℕ)
+parts at bytes = slice_split (λ byte. byte == at) bytes
+
+-- the parts of a line between its spaces; where two spaces follow one another, or one stands at an end, a part is empty
+abbrev pub words_of : List ℕ → List Word
+words_of line = parts 32 line
+
+-- the words of what is left of a line
+abbrev pub words_left : Option (List ℕ) → List Word
+words_left None = []
+words_left (Some rest) = words_of rest
+
+-- the next step goes on with what this one found
+infixl 10 ◌>>=◌
+abbrev pub ◌>>=◌ : {A B : Type 0} → Option A → (A → Option B) → Option B
+(Some x) >>= f = f x
+None >>= f = None

@@ -1,0 +1,114 @@
+// The lines that steps are answered.
+ghost use Rattle.std.specs.Prelude.{◌≡◌, ◌∷◌, ◌++◌, [], OnOk};
+ghost use Rattle.std.specs.List.{flat_map, join_with_byte};
+ghost use Rattle.std.specs.Io.KnownBytes.{Appends};
+ghost use Rattle.sq_text.specs.Texts.{line, op_answer_text, cause_text, mark_text, reply_words, note_words, answer_line, refused_line, fault_line};
+
+use crate::refusal::refusal_number;
+use crate::row_text::write_op_answer;
+use sq_chunk::Note;
+use sq_model::Answer;
+use sq_schema::{Cause, OpAnswer, Reply};
+use std::io;
+use std::io::Write;
+
+fn cause_text(cause: Cause) -> &'static str
+    ensures { result.now ≡ cause_text cause }
+{
+    match cause {
+        Cause::Absent => "absent",
+        Cause::Small => "small",
+        Cause::Range => "range",
+        Cause::NoRoot => "noroot",
+        Cause::Children => "children",
+    }
+}
+
+// Writes what operations are answered, each behind a space.
+fn write_op_answers<W: Write>(writer: &mut W, answers: &[OpAnswer]) -> io::Result<()>
+    ensures { OnOk result (Appends (W.contents writer.old) (W.contents writer.new) (flat_map (λ answer. 32 ∷ op_answer_text answer) answers.now)) }
+{
+    for answer in answers {
+        write!(writer, " ")?;
+        write_op_answer(writer, answer)?;
+    }
+    Ok(())
+}
+
+// Writes the line of what a transaction is answered.
+fn write_reply<W: Write>(writer: &mut W, id: u64, reply: &Reply) -> io::Result<()>
+    ensures { OnOk result (Appends (W.contents writer.old) (W.contents writer.new) (line (reply_words id reply.now))) }
+{
+    match reply {
+        Reply::Committed(answers) => {
+            write!(writer, "commit {id}")?;
+            write_op_answers(writer, answers.as_slice())?;
+            writer.write_all(b"\n")
+        }
+        Reply::Aborted { at, cause } => {
+            let cause = cause_text(*cause);
+            writeln!(writer, "abort {id} {at} {cause}")
+        }
+    }
+}
+
+fn mark_text(last: bool) -> &'static str
+    ensures { result.now ≡ mark_text last }
+{
+    if last { "last" } else { "more" }
+}
+
+// Writes what a note says behind its link, with how many families its chunk holds, up to the end of the line.
+pub(crate) fn write_note<W: Write>(writer: &mut W, note: &Note, families: u64) -> io::Result<()>
+    ensures { OnOk result (Appends (W.contents writer.old) (W.contents writer.new) (line (note_words note.now families))) }
+{
+    let Note {
+        number,
+        seg,
+        node,
+        lo,
+        hi,
+        ..
+    } = *note;
+    let mark = mark_text(note.last);
+    write!(writer, "{number} {seg} {node} ")?;
+    writeln!(writer, "{lo} {hi} {mark} {families}")
+}
+
+/// Writes the line that a step is answered. An error is the writer's.
+pub fn write_answer<W: Write>(writer: &mut W, answer: &Answer) -> io::Result<()>
+    ensures { OnOk result (Appends (W.contents writer.old) (W.contents writer.new) (answer_line answer.now)) }
+{
+    match answer {
+        Answer::Done => writeln!(writer, "ok"),
+        Answer::Replied { id, reply } => write_reply(writer, *id, reply),
+        Answer::Moved { id, to } => {
+            let to = to.number();
+            writeln!(writer, "moved {id} {to}")
+        }
+        Answer::Waits { id, seg, leaf } => writeln!(writer, "waits {id} {seg} {leaf}"),
+        Answer::WasCut { note, families } => {
+            write!(writer, "cut ")?;
+            write_note(writer, note, *families)
+        }
+        Answer::WasLoaded { note, families } => {
+            write!(writer, "load ")?;
+            write_note(writer, note, *families)
+        }
+        Answer::Refused(refusal) => write_refused(writer, refusal_number(*refusal)),
+    }
+}
+
+/// Writes the line of a refusal with this number. An error is the writer's.
+pub fn write_refused<W: Write>(writer: &mut W, number: u16) -> io::Result<()>
+    ensures { OnOk result (Appends (W.contents writer.old) (W.contents writer.new) (refused_line number)) }
+{
+    writeln!(writer, "refused {number}")
+}
+
+/// Writes the line of a fault with this number. An error is the writer's.
+pub fn write_fault<W: Write>(writer: &mut W, number: u16) -> io::Result<()>
+    ensures { OnOk result (Appends (W.contents writer.old) (W.contents writer.new) (fault_line number)) }
+{
+    writeln!(writer, "fault {number}")
+}

@@ -1,0 +1,33 @@
+//! The texts of `squall run`: the lines that it reads, and the lines that it writes.
+#![tactic(auto)]
+
+mod answer_text;
+mod dump;
+mod fault;
+mod field;
+mod header;
+mod input_fault;
+mod note;
+mod number;
+mod op;
+mod piece;
+mod refusal;
+mod row_text;
+mod split;
+mod step;
+mod verb;
+mod words;
+
+pub use answer_text::{write_answer, write_fault, write_refused};
+pub use dump::{write_at, write_end, write_way};
+pub use fault::LineFault;
+pub use header::read_header;
+pub use input_fault::InputFault;
+pub use piece::{MAX_LINES, MAX_UNENDED, Piece, Pieces};
+pub use refusal::{refusal_number, txn_fault_number};
+pub use step::{MAX_LINE, read_step};
+
+#[cfg(test)]
+mod header_tests;
+#[cfg(test)]
+mod tests;

@@ -1,0 +1,36 @@
+// The operations of a transaction.
+ghost use Rattle.sq_text.specs.Ops.{op_with, ops_in};
+ghost use Rattle.sq_text.specs.Faults.{Gives};
+
+use crate::fault::{Malformed, ReadFault};
+use crate::verb::OpName;
+use crate::words::Words;
+use sq_schema::Op;
+use std::alloc::Global;
+
+// The operation of this name.
+#[tactic(auto, unfolding(crate::specs::Ops::op_with))]
+fn op(alloc: Global, name: OpName, words: &mut Words<'_>) -> Result<Op, ReadFault>
+    ensures { Gives (λ op. (op, words.new)) result (op_with name words.old) }
+{
+    let key = words.key()?;
+    match name {
+        OpName::Get => Ok(Op::Get(key)),
+        OpName::Put => Ok(Op::Put(key, words.row(alloc)?)),
+        OpName::Add => Ok(Op::Add(key, words.signed()?)),
+        OpName::Del => Ok(Op::Del(key)),
+        OpName::Check => Ok(Op::Check(key, words.signed()?)),
+    }
+}
+
+// The operations up to the end of the words.
+pub(crate) fn ops(alloc: Global, mut words: Words<'_>) -> Result<Vec<Op>, ReadFault>
+    ensures { Gives (λ ops. ops.items) result (ops_in words.entry) }
+{
+    let mut ops = Vec::new(alloc);
+    while let Some(word) = words.next() {
+        let name = OpName::of(word).ok_or(Malformed)?;
+        ops.push(op(alloc, name, &mut words)?)?;
+    }
+    Ok(ops)
+}

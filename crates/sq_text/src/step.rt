@@ -1,0 +1,120 @@
+// The steps that lines of the script spell.
+ghost use Rattle.std.specs.Prelude.{◌≡◌, true, Err};
+ghost use Rattle.sq_text.specs.Steps.{pull_at, link_at, step_with, verb_step, txn_in, submitted, step_in, step_of, begins_txn};
+ghost use Rattle.sq_text.specs.Words.{words_of};
+ghost use Rattle.sq_text.specs.Faults.{Tells, Gives, IsStep};
+
+use crate::fault::{LineFault, Malformed};
+use crate::op::ops;
+use crate::verb::Verb;
+use crate::words::Words;
+use sq_model::Step;
+use sq_schema::{Schema, Txn};
+use std::alloc::Global;
+
+/// The most bytes that a line has, without its end.
+pub const MAX_LINE: usize = 65_536;
+
+// A segment, a node and a pull.
+#[tactic(auto, unfolding(crate::specs::Steps::pull_at))]
+fn pull(words: &mut Words<'_>) -> Result<(u64, u64, u32), Malformed>
+    ensures { Tells (λ pull. (pull, words.new)) result (pull_at words.old) }
+{
+    Ok((words.number()?, words.number()?, words.small()?))
+}
+
+// A source and a destination.
+#[tactic(auto, unfolding(crate::specs::Steps::link_at))]
+fn link(words: &mut Words<'_>) -> Result<(u64, u64), Malformed>
+    ensures { Tells (λ link. (link, words.new)) result (link_at words.old) }
+{
+    Ok((words.number()?, words.number()?))
+}
+
+// The step of this verb.
+#[tactic(auto, unfolding(crate::specs::Steps::step_with))]
+fn step(verb: Verb, words: &mut Words<'_>) -> Result<Step, Malformed>
+    ensures { Tells (λ step. (step, words.new)) result (step_with verb words.old) }
+{
+    match verb {
+        Verb::Prepare => Ok(Step::Prepare(words.number()?)),
+        Verb::Start => Ok(Step::Start),
+        Verb::Claim => {
+            let (seg, node, pull) = pull(words)?;
+            Ok(Step::Claim { seg, node, pull })
+        }
+        Verb::Begin => {
+            let (seg, node, pull) = pull(words)?;
+            Ok(Step::Begin { seg, node, pull })
+        }
+        Verb::Cut => {
+            let (src, dst) = link(words)?;
+            Ok(Step::Cut { src, dst })
+        }
+        Verb::Push => {
+            let (src, dst) = link(words)?;
+            Ok(Step::Push { src, dst })
+        }
+        Verb::Pop => {
+            let (src, dst) = link(words)?;
+            Ok(Step::Pop { src, dst })
+        }
+        Verb::Load => {
+            let (src, dst) = link(words)?;
+            Ok(Step::Load { src, dst })
+        }
+        Verb::Complete => {
+            let (seg, node, pull) = pull(words)?;
+            Ok(Step::Complete { seg, node, pull })
+        }
+        Verb::Report => Ok(Step::Report(words.number()?)),
+        Verb::Finish => Ok(Step::Finish),
+    }
+}
+
+// The step of a line that begins with a verb.
+fn verb_step(first: &[u8], mut words: Words<'_>) -> Result<Step, Malformed>
+    ensures { Tells (λ step. step) result (verb_step first.now words.entry) }
+{
+    let verb = Verb::of(first).ok_or(Malformed)?;
+    let step = step(verb, &mut words)?;
+    match words.next() {
+        Some(_) => Err(Malformed),
+        None => Ok(step),
+    }
+}
+
+// The step of a line that begins with `txn`.
+#[tactic(auto, unfolding(crate::specs::Steps::txn_in))]
+fn submit(alloc: Global, schema: &Schema, mut words: Words<'_>) -> Result<Step, LineFault>
+    ensures { IsStep result (submitted schema.now (txn_in words.entry)) }
+{
+    let part = words.number()?;
+    let id = words.number()?;
+    let root = words.number()?;
+    let ops = ops(alloc, words)?;
+    match Txn::new(schema, id, root, ops) {
+        Ok(txn) => Ok(Step::Submit(part, txn)),
+        Err((fault, _)) => Err(LineFault::Txn(fault)),
+    }
+}
+
+/// The step that a line of the script spells: its words, each separated from the next by one space.
+///
+/// Refused with [`LineFault::TooLong`] where the line has over [`MAX_LINE`] bytes, with [`LineFault::NotAStep`] where its
+/// words aren't of a step's form, and with [`LineFault::Txn`] where it spells a transaction that the schema doesn't
+/// have. [`LineFault::Memory`] may come in place of any answer to a line that begins with `txn`.
+pub fn read_step(alloc: Global, schema: &Schema, line: &[u8]) -> Result<Step, LineFault>
+    ensures step { IsStep result (step_of schema.now line.now) }
+    ensures memory { result ≡ Err LineFault.Memory → begins_txn (words_of line.now) ≡ true }
+{
+    if line.len() > MAX_LINE {
+        return Err(LineFault::TooLong);
+    }
+    let mut words = Words::of(line);
+    match words.next() {
+        Some(b"txn") => submit(alloc, schema, words),
+        Some(first) => Ok(verb_step(first, words)?),
+        None => Err(LineFault::NotAStep),
+    }
+}

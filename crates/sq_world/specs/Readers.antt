@@ -1,0 +1,52 @@
+-- What is read of a world, and what its history tells of that.
+use Rattle.std.specs.Prelude.{◌≡◌, ℕ, ◌<◌, ◌≤◌, nat_lt, ◌&&◌, if◌then◌else◌, List, [], length, drop, reverse, slice_get, Option, Some, None}
+use Rattle.std.specs.Option.{option_map}
+use Rattle.std.specs.FinMap.{get}
+use Rattle.sq_tree.specs.declared.status.Status.{Status}
+use Rattle.sq_tree.specs.Node.{is_node}
+use Rattle.sq_chunk.specs.declared.chunk.Note.{Note}
+use Rattle.sq_chunk.specs.ChunkValue.{ChunkValue}
+use Rattle.sq_store.specs.StoreValue.{StoreValue}
+use Rattle.sq_ranges.specs.OpeningValue.{OpeningValue}
+use Rattle.sq_model.specs.Trace.{Trace, notes, link, load_count}
+use Rattle.sq_model.specs.Nodes.{status_of}
+use Rattle.sq_model.specs.Place.{place}
+use Rattle.sq_turn.specs.WorldValue.{WorldValue, PartValue, LinkValue, segment_state, status_in, link_index, link_value}
+use Rattle.sq_turn.specs.Holds.{history, share, is_at, under_way, ChunkHolds}
+
+-- the store of a partition; none past the last
+abbrev pub store_at : WorldValue → ℕ → Option StoreValue
+store_at w part = option_map (λ (p : PartValue). p.store) (slice_get w.parts part)
+
+-- what the link at this place has under way; nothing where there is no link
+abbrev pub way_of : WorldValue → Option ℕ → List ChunkValue
+way_of w None = []
+way_of w (Some at) = under_way (link_value w at)
+
+-- the chunk of this number, from 0, of those from one partition to another that were cut and aren't loaded, the oldest first
+abbrev pub chunk_at : WorldValue → ℕ → ℕ → ℕ → Option ChunkValue
+chunk_at w src dst i = slice_get (way_of w (link_index w src dst)) i
+
+-- the status of a node; none where there is no such segment or node
+abbrev pub status_there : WorldValue → ℕ → ℕ → Option Status
+status_there w seg node = if is_node node && nat_lt seg (length w.segments) then Some (status_in w seg node) else None
+
+-- the store of each partition holds exactly the families that are there by the history
+abbrev pub TellsStore : OpeningValue → Trace → ℕ → Option StoreValue → Type 0
+TellsStore o t part None = o.old.parts ≤ part
+TellsStore o t part (Some store) =
+    (part < o.old.parts) × ((root : ℕ) → get store root ≡ share (history o t) (λ key. is_at part (place o t key)) root)
+
+-- the notes of the chunks from one partition to another that were cut and aren't loaded, the oldest first
+abbrev pub way_notes : Trace → ℕ → ℕ → List Note
+way_notes t src dst = drop (load_count t src dst) (reverse (link src dst (notes t)))
+
+-- a chunk under way is the one of its number by the history, with exactly the families that its note covers
+abbrev pub TellsChunk : OpeningValue → Trace → ℕ → ℕ → ℕ → Option ChunkValue → Type 0
+TellsChunk o t src dst i None = slice_get (way_notes t src dst) i ≡ None
+TellsChunk o t src dst i (Some chunk) =
+    (slice_get (way_notes t src dst) i ≡ Some chunk.note) × ChunkHolds (history o t) chunk
+
+-- the status of a node of a segment by the history
+abbrev pub told_status : OpeningValue → Trace → ℕ → ℕ → Option Status
+told_status o t seg node = if is_node node && nat_lt seg (length o.recon.segments) then Some (status_of t seg node) else None

@@ -1,0 +1,32 @@
+-- A script that is run, line by line.
+use Rattle.std.specs.Prelude.{ℕ, List, Option}
+use Rattle.std.specs.Io.KnownBytes.{Appends}
+use Rattle.sq_ranges.specs.OpeningValue.{OpeningValue}
+use Rattle.sq_model.specs.Trace.{Trace}
+use Rattle.sq_model.specs.Opening.{IsOpening}
+use Rattle.sq_model.specs.Legal.{IsLegal}
+use Rattle.sq_turn.specs.WorldValue.{WorldValue}
+use Rattle.sq_turn.specs.Holds.{Holds}
+use Rattle.sq_text.specs.Pieces.{PieceValue}
+use Rattle.sq_world.specs.declared.ending.Ending.{Ending}
+use Rattle.sq_world.specs.Run.{Tells, Writes}
+
+-- a legal history from this opening leads to the world
+pub record LeadsTo (o : OpeningValue) (t : Trace) (w : WorldValue) : Type 0 where
+  pub is_opening : IsOpening o
+  pub legal : IsLegal o t
+  pub holds : Holds o t w
+
+-- what a line is answered after this history was written, and the world is the one that the history then leads to
+pub record IsAnswered (o : OpeningValue) (t : Trace) (line : List ℕ) (before now : Option (List ℕ)) (w : WorldValue) : Type 0 where
+  pub after : Trace
+  pub text : List ℕ
+  pub tells : Tells o t line after text
+  pub leads : LeadsTo o after w
+  pub written : Appends before now text
+
+-- what the pieces of a script are answered after this history was written, and so the run ends
+pub record IsWritten (o : OpeningValue) (t : Trace) (pieces : List PieceValue) (before now : Option (List ℕ)) (ending : Ending) : Type 0 where
+  pub out : List ℕ
+  pub writes : Writes o t pieces out ending
+  pub written : Appends before now out

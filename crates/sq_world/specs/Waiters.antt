@@ -1,0 +1,31 @@
+-- The transactions at a partition: those that wait, and those that run.
+use Rattle.std.specs.Prelude.{◌≡◌, ℕ, Bool, true, false, ◌==◌, nat_le, List, length, Result, Ok, Err}
+use Rattle.std.specs.List.{list_any}
+use Rattle.std.specs.List.Sorted.{IsNonDecreasing}
+use Rattle.sq_schema.specs.TxnValue.{TxnValue}
+use Rattle.sq_schema.specs.declared.txn.Reply.{Reply}
+use Rattle.sq_schema.specs.Family.{log_limit}
+use Rattle.sq_store.specs.StoreValue.{family_at, store_reply}
+use Rattle.sq_model.specs.declared.answer.Refusal.{Refusal}
+use Rattle.sq_model.specs.declared.answer.Refusal.TheVariants.{LogFull, Memory}
+use Rattle.sq_turn.specs.WorldValue.{PartValue}
+use Rattle.sq_turn.specs.SubmitTurn.{run_in}
+
+-- these are the root keys of the transactions, in order
+pub record AreRootsOf (roots : List ℕ) (txns : List TxnValue) : Type 0 where
+  pub rising : IsNonDecreasing roots
+  pub same : (root : ℕ) → list_any (λ other. other == root) roots ≡ list_any (λ txn. txn.root == root) txns
+
+-- the log of the transaction's root key is full
+abbrev pub is_log_full : PartValue → TxnValue → Bool
+is_log_full part txn = nat_le log_limit (length (family_at part.store txn.root).log)
+
+-- why a transaction doesn't run: its log is full, or memory lacks
+abbrev pub IsRunRefusal : Bool → Refusal → Type 0
+IsRunRefusal true refusal = refusal ≡ LogFull
+IsRunRefusal false refusal = refusal ≡ Memory
+
+-- a transaction runs, and its reply and the partition after it are those of its store; or it is refused, and the partition is as it was
+abbrev pub RunsTo : PartValue → TxnValue → Result Reply Refusal → PartValue → Type 0
+RunsTo old txn (Ok reply) new = (is_log_full old txn ≡ false) × (reply ≡ store_reply old.store txn) × (new ≡ run_in old txn reply)
+RunsTo old txn (Err refusal) new = IsRunRefusal (is_log_full old txn) refusal × (new ≡ old)

@@ -1,0 +1,47 @@
+// How runs end.
+ghost use Rattle.std.specs.Prelude.{◌≡◌};
+
+use sq_text::InputFault;
+use std::io;
+
+/// How a run ends.
+#[derive(Clone, Copy, Debug, PartialEq, Eq)]
+pub enum Ending {
+    /// The script was run to its end, and the dump was written.
+    Done,
+    /// A fault was written, and nothing after it.
+    Fault(InputFault),
+}
+
+impl Ending {
+    ghost use Rattle.sq_world.specs.Run.{status_of};
+
+    /// The exit status: 0 after the dump, 2 after a fault.
+    pub fn status(self) -> u8
+        ensures { result ≡ status_of self }
+    {
+        match self {
+            Ending::Done => 0,
+            Ending::Fault(_) => 2,
+        }
+    }
+}
+
+/// A write failed. How much went out isn't told.
+#[derive(Clone, Copy, Debug, PartialEq, Eq)]
+pub struct WriteFault;
+
+impl WriteFault {
+    /// The number that a user sees: 124.
+    pub fn number(self) -> u16
+        ensures { result ≡ 124 }
+    {
+        124
+    }
+}
+
+impl From<io::Error> for WriteFault {
+    fn from(_error: io::Error) -> WriteFault {
+        WriteFault
+    }
+}
