@@ -16,7 +16,7 @@ use Rattle.sq_ranges.specs.declared.fault.OpeningFault.{OpeningFault}
 use Rattle.sq_ranges.specs.declared.fault.OpeningFault.TheVariants.{BadRoot}
 use Rattle.sq_ranges.specs.declared.opening.GivenRow.{GivenRow}
 use Rattle.sq_ranges.specs.Given.{no_rows, with_one, given_rows, IsTableOf}
-use Rattle.sq_ranges.specs.Refused.{shape_fault, given_fault, rows_fault}
+use Rattle.sq_ranges.specs.Refused.{shape_fault, given_fault, rows_fault, first_fault}
 
 -- neither of two parts has a fault where both have none
 none-both : (first rest : Option OpeningFault) → option_or first rest ≡ None → (first ≡ None) × (rest ≡ None)
@@ -27,10 +27,11 @@ none-both (Some fault) rest e = absurd (none-some fault (sym e))
 pub record IsSoFar (tables : ℕ) (rows rest : List GivenRow) (table : TableValue) : Type 0 where
   pub fault : rows_fault tables no_rows rows ≡ rows_fault tables (rows_in table) rest
   pub given : given_rows no_rows rows ≡ given_rows (rows_in table) rest
+  pub early : first_fault tables (rows_in table) rest ≡ None → first_fault tables no_rows rows ≡ None
   pub below : (root : ℕ) → root_end ≤ root → rows_in table root ≡ []
 
 pub so_far-start : (tables : ℕ) (rows : List GivenRow) (table : TableValue) → table ≡ [] → IsSoFar tables rows rows table
-so_far-start tables rows table empty = rw empty (record { fault = refl; given = refl; below = λ root high. refl })
+so_far-start tables rows table empty = rw empty (record { fault = refl; given = refl; early = λ none. none; below = λ root high. refl })
 
 -- a row that isn't refused has a root key
 shape-root : (tables : ℕ) (given : GivenRow) → shape_fault tables given ≡ None → given.root < root_end
@@ -48,6 +49,10 @@ module _ (tables : ℕ) (rows : List GivenRow) (i : ℕ) (table : TableValue) (s
     next_rows : given_rows no_rows rows ≡ given_rows (with_one (rows_in table) given) (drop (i + 1) rows)
     next_rows = so_far.given ∙ rw (drop_more rows i given within, ← here) refl
 
+    -- where this row has no fault, the first has none
+    early_none : given_fault tables (rows_in table) given ≡ None → first_fault tables no_rows rows ≡ None
+    early_none none = so_far.early (rw (drop_more rows i given within, ← here) none)
+
     pub so_far-next : (now : TableValue) → given_fault tables (rows_in table) given ≡ None → ((root : ℕ) → rows_in now root ≡ with_one (rows_in table) given root) → IsSoFar tables rows (drop (i + 1) rows) now
     so_far-next now none taken =
         let same : rows_in now ≡ with_one (rows_in table) given = λ j root. taken root j in
@@ -55,6 +60,7 @@ module _ (tables : ℕ) (rows : List GivenRow) (i : ℕ) (table : TableValue) (s
         record {
           fault = next_fault ∙ ap (λ first. option_or first (rows_fault tables (with_one (rows_in table) given) (drop (i + 1) rows))) none ∙ ap (λ (t : RowTable). rows_fault tables t (drop (i + 1) rows)) (sym same);
           given = next_rows ∙ ap (λ (t : RowTable). given_rows t (drop (i + 1) rows)) (sym same);
+          early = λ _. early_none none;
           below = λ other high. let apart : given.root ≢ other = omega arith in taken other ∙ rw (ne_eqb given.root other apart) (so_far.below other high);
         }
 

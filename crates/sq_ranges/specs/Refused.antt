@@ -80,11 +80,20 @@ abbrev pub rows_fault : ℕ → RowTable → List GivenRow → Option OpeningFau
 rows_fault tables table [] = None
 rows_fault tables table (given ∷ rows) = option_or (given_fault tables table given) (rows_fault tables (with_one table given) rows)
 
+-- the fault of the first row, where it has one
+abbrev pub first_fault : ℕ → RowTable → List GivenRow → Option OpeningFault
+first_fault tables table [] = None
+first_fault tables table (given ∷ rows) = given_fault tables table given
+
 -- the first fault of an opening: of plans and sizes, and then row by row
 abbrev pub opening_fault : ℕ → PlanValue → PlanValue → Config → List GivenRow → Option OpeningFault
 opening_fault tables old new config rows = option_or (config_fault old new config) (rows_fault tables no_rows rows)
 
--- a fault that is told is the first, or else it is want of memory, which no fault of plans and sizes comes before
+-- the first fault that is found before any memory is taken: of plans and sizes, and then of the first row
+abbrev pub early_fault : ℕ → PlanValue → PlanValue → Config → List GivenRow → Option OpeningFault
+early_fault tables old new config rows = option_or (config_fault old new config) (first_fault tables no_rows rows)
+
+-- a fault that is told is the first, or else it is want of memory, which comes after the early faults
 abbrev pub TellsFault : Option OpeningFault → Option OpeningFault → OpeningFault → Type 0
-TellsFault sizes first Memory = sizes ≡ None
-TellsFault sizes first fault = first ≡ Some fault
+TellsFault early first Memory = early ≡ None
+TellsFault early first fault = first ≡ Some fault

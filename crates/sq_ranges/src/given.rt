@@ -8,7 +8,7 @@ ghost use Rattle.sq_schema.specs.Table.{rows_in, is_opening};
 ghost use Rattle.sq_plan.specs.PlanValue.{IsPlan};
 ghost use Rattle.sq_ranges.specs.Between.{recon_of, IsReconOf};
 ghost use Rattle.sq_ranges.specs.Given.{no_rows, with_one, given_rows, IsTableOf};
-ghost use Rattle.sq_ranges.specs.Refused.{config_fault, given_fault, rows_fault, opening_fault, TellsFault};
+ghost use Rattle.sq_ranges.specs.Refused.{config_fault, given_fault, rows_fault, first_fault, opening_fault, early_fault, TellsFault};
 
 use crate::fault::OpeningFault;
 use crate::opening::{Config, GivenRow};
@@ -26,8 +26,8 @@ const MAX_LIMIT: u64 = 1_048_576;
 /// The most chunks that the queue of a link may be set to hold.
 const MAX_CAPACITY: u64 = 64;
 
-/// What moves between two plans, and the table of opening rows. No memory is taken before the plans and the sizes
-/// were found fit.
+/// What moves between two plans, and the table of opening rows. No memory is taken before the plans, the sizes and
+/// the first row were found fit.
 pub(crate) fn parts_of(
     alloc: Global,
     tables: u8,
@@ -39,7 +39,7 @@ pub(crate) fn parts_of(
     requires { tables ≤ 8 }
     ensures fault { MatchResult result
         (λ _. opening_fault tables old.now new.now config rows.now ≡ None)
-        (λ fault. TellsFault (config_fault old.now new.now config) (opening_fault tables old.now new.now config rows.now) fault) }
+        (λ fault. TellsFault (early_fault tables old.now new.now config rows.now) (opening_fault tables old.now new.now config rows.now) fault) }
     ensures recon { IfOk result (λ parts. (parts.0 ≡ recon_of old.now new.now config.width) × IsReconOf old.now new.now config.width parts.0) }
     ensures table { IfOk result (λ parts. IsTableOf rows.now parts.1) }
     ensures plans { IsPlan old.now × IsPlan new.now }
@@ -72,7 +72,7 @@ fn table_of(alloc: Global, tables: u8, rows: &[GivenRow]) -> Result<Table, Openi
     requires { tables ≤ 8 }
     ensures fault { MatchResult result
         (λ _. rows_fault tables no_rows rows.now ≡ None)
-        (λ fault. TellsFault None (rows_fault tables no_rows rows.now) fault) }
+        (λ fault. TellsFault (first_fault tables no_rows rows.now) (rows_fault tables no_rows rows.now) fault) }
     ensures table { IfOk result (IsTableOf rows.now) }
 {
     let mut table = Table::new(alloc);
@@ -84,15 +84,18 @@ fn table_of(alloc: Global, tables: u8, rows: &[GivenRow]) -> Result<Table, Openi
     Ok(table)
 }
 
-// Takes one row into a table.
+// Takes one row into a table. No memory is taken before the row was found fit.
 fn take(table: &mut Table, tables: u8, given: &GivenRow) -> Result<(), OpeningFault>
     requires { tables ≤ 8 }
     ensures fault { MatchResult result
         (λ _. given_fault tables (rows_in table.old) given.now ≡ None)
-        (λ fault. TellsFault None (given_fault tables (rows_in table.old) given.now) fault) }
+        (λ fault. TellsFault (given_fault tables (rows_in table.old) given.now) (given_fault tables (rows_in table.old) given.now) fault) }
     ensures ok { OnOk result ((root : ℕ) → rows_in table.new root ≡ with_one (rows_in table.old) given.now root) }
 {
     let root = given.root(tables)?;
+    if let Some(fault) = table.fault(root, given.key()) {
+        return Err(fault.into());
+    }
     let row = given.row()?;
     if let Err((fault, _)) = table.insert(root, given.key(), row) {
         return Err(fault.into());

@@ -91,13 +91,13 @@ impl Model for Opening {
 impl Opening {
     ghost use Rattle.sq_ranges.specs.SetUp.{IsSetUp};
     ghost use Rattle.sq_ranges.specs.Given.{IsOpeningOf};
-    ghost use Rattle.sq_ranges.specs.Refused.{config_fault, opening_fault, TellsFault};
+    ghost use Rattle.sq_ranges.specs.Refused.{opening_fault, early_fault, TellsFault};
 
     /// The opening of two plans with these sizes and rows. Otherwise the plans and the rows come back as they were,
     /// with the first of these faults: those of the plans and the width of a leaf, as [`Recon::fault`] has them; the
     /// bytes of a chunk; the chunks of a queue; and then row by row the root key, the table, the sub key, the note,
     /// a row that was given before, and a row without its root row. Want of memory may come in place of any answer
-    /// about rows, and of none about plans and sizes.
+    /// about rows but a fault of the first, and of none about plans and sizes.
     pub fn new(
         alloc: Global,
         schema: Schema,
@@ -108,7 +108,7 @@ impl Opening {
     ) -> Result<Opening, RefusedOpening>
         ensures fault { MatchResult result
             (λ _. opening_fault schema old new config rows.items ≡ None)
-            (λ refused. TellsFault (config_fault old new config) (opening_fault schema old new config rows.items) refused.fault) }
+            (λ refused. TellsFault (early_fault schema old new config rows.items) (opening_fault schema old new config rows.items) refused.fault) }
         ensures ok { IfOk result (IsOpeningOf schema old new config rows.items) }
         ensures set_up { IfOk result IsSetUp }
         ensures old_returned { IfErr result (λ refused. refused.old ≡ old) }

@@ -90,8 +90,9 @@ impl Table {
         taken.map_err(|refused| (RowFault::Memory, refused.value))
     }
 
-    // Why an opening row isn't taken.
-    fn fault(&self, root: Root, key: RowKey) -> Option<RowFault>
+    /// Why an opening row with this key isn't taken, the first of these: a row with its key was given; it isn't of the
+    /// root table, and the root row wasn't given. `None` where neither holds. It takes no memory.
+    pub fn fault(&self, root: Root, key: RowKey) -> Option<RowFault>
         ensures { result ≡ row_given_fault (rows_in self.now root) key }
     {
         let rows = self.rows(root);

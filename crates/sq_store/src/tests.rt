@@ -1,9 +1,12 @@
 // A store step by step, with ample memory.
 ghost use Rattle.std.specs.Prelude.{◌≡◌, ℕ, IsTrue};
 ghost use Rattle.sq_chunk.specs.ChunkValue.{are_within};
+ghost use Rattle.sq_store.specs.StoreValue.{AreApart};
 
 use crate::{Cut, VecStore};
-use sq_schema::{Cause, Family, Op, OpAnswer, ROOT_END, Reply, Root, Row, RowKey, Schema, Txn};
+use sq_schema::{
+    ApplyFault, Cause, Family, Op, OpAnswer, ROOT_END, Reply, Root, Row, RowKey, Schema, Txn,
+};
 use std::alloc::Global;
 use std::test::Fail;
 
@@ -33,14 +36,24 @@ fn store(alloc: Global, roots: &[u64]) -> Result<VecStore, Fail> {
     Ok(store)
 }
 
+// Whether the store has none of the families.
+fn are_apart(store: &VecStore, families: &[Family]) -> bool
+    ensures { IsTrue result → AreApart store.now families.now }
+{
+    for family in families {
+        if store.get(family.root()).is_some() {
+            return false;
+        }
+    }
+    true
+}
+
 // Gives families that the store hasn't.
 fn give(store: &mut VecStore, families: Vec<Family>) -> Result<(), Fail>
     requires { (lo : ℕ) × (hi : ℕ) × IsTrue (are_within lo hi families.items) }
 {
-    for family in &families {
-        if store.get(family.root()).is_some() {
-            return Err("it stands")?;
-        }
+    if !are_apart(store, &families) {
+        return Err("it stands")?;
     }
     Ok(store.give(families)?)
 }
@@ -124,5 +137,60 @@ fn runs_transactions(rt: HostRuntime) -> Result<(), Fail> {
     };
     assert!(rt; matches!(answers.as_slice(), [OpAnswer::Found(None)]));
     assert!(rt; have(store.families(), &[6, 8]));
+    Ok(())
+}
+
+// Where a growth in the first call is refused, the families come back, the store stays as it was, and the call
+// succeeds once more.
+#[test]
+fn given_again(rt: HostRuntime) -> Result<(), Fail> {
+    let alloc = rt.alloc();
+    let given = store(alloc, &[4, 9])?.take(alloc, 0, ROOT_END, 112)?;
+    let mut store = store(alloc, &[5, 6, 7, 8])?;
+    assert!(rt; are_apart(&store, &given.families));
+    if let Err(back) = store.give(given.families) {
+        assert!(rt; have(&back, &[4, 9]));
+        assert!(rt; have(store.families(), &[5, 6, 7, 8]));
+        store.give(back)?;
+    }
+    assert!(rt; have(store.families(), &[4, 5, 6, 7, 8, 9]));
+    Ok(())
+}
+
+// Where the growth in the first call is refused, the store stays as it was, and the call succeeds once more.
+#[test]
+fn taken_again(rt: HostRuntime) -> Result<(), Fail> {
+    let alloc = rt.alloc();
+    let mut store = store(alloc, &[4, 7, 9])?;
+    let first = store.take(alloc, 4, 9, 112);
+    if first.is_err() {
+        assert!(rt; have(store.families(), &[4, 7, 9]));
+    }
+    let Cut { families, end } = match first {
+        Ok(cut) => cut,
+        Err(_) => store.take(alloc, 4, 9, 112)?,
+    };
+    assert!(rt; have(&families, &[4, 7]));
+    assert_eq!(rt; end, 9);
+    assert!(rt; have(store.families(), &[9]));
+    Ok(())
+}
+
+// Where a growth in the first call is refused, the store stays as it was, and the call succeeds once more.
+#[test]
+fn applied_again(rt: HostRuntime) -> Result<(), Fail> {
+    let alloc = rt.alloc();
+    let mut store = store(alloc, &[4, 7])?;
+    let put = put(alloc, 5)?;
+    let first = store.apply(&put);
+    if matches!(first, Err(ApplyFault::Memory)) {
+        assert!(rt; have(store.families(), &[4, 7]));
+    }
+    let reply = match first {
+        Ok(reply) => reply,
+        Err(_) => store.apply(&put)?,
+    };
+    assert!(rt; matches!(reply, Reply::Committed(_)));
+    assert!(rt; have(store.families(), &[4, 5, 7]));
     Ok(())
 }

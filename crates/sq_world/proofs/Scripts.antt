@@ -23,10 +23,10 @@ use Rattle.sq_text.specs.Pieces.{PieceValue, Line, Rest, Endless, TooMany}
 use Rattle.sq_text.proofs.Appending.{both}
 use Rattle.sq_world.specs.declared.ending.Ending.{Ending}
 use Rattle.sq_world.specs.declared.ending.Ending.TheVariants.{Done, Fault}
-use Rattle.sq_world.specs.Dump.{dump}
+use Rattle.sq_state.specs.Dump.{dump}
 use Rattle.sq_world.specs.Run.{Tells, Writes, IsFault}
 use Rattle.sq_world.specs.Script.{LeadsTo, IsAnswered, IsWritten}
-use Rattle.sq_world.proofs.Dumps.{nothing}
+use Rattle.sq_state.proofs.Dumps.{nothing}
 
 -- the line spells a step, which is answered
 pub stepped : (o : OpeningValue) (t : Trace) (tables : ℕ) (line : List ℕ) (step : Step) (told : Answer) (before now : Option (List ℕ)) (w new : WorldValue) → LeadsTo o t w → o.tables ≡ tables → Ok step ≡ step_of tables line

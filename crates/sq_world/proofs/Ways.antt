@@ -20,7 +20,7 @@ use Rattle.sq_model.proofs.Notes.{note_goes}
 use Rattle.sq_model.proofs.Keys.{linked}
 use Rattle.sq_turn.specs.WorldValue.{WorldValue, LinkValue, no_link, link_index, link_value}
 use Rattle.sq_turn.specs.Holds.{history, Holds, LinkHolds, under_way}
-use Rattle.sq_world.specs.Readers.{way_of, chunk_at, way_notes, TellsChunk}
+use Rattle.sq_state.specs.Readers.{way_of, chunk_at, way_notes, TellsChunk}
 
 empty_if : {X : Type 0} (xs : List X) → ((x : X) → Contains xs x → ⊥) → xs ≡ []
 empty_if [] none = refl

@@ -1,12 +1,5 @@
-pub mod Told
 pub mod History
-pub mod LinkSteps
-pub mod Sound
-pub mod Waiters
 pub mod Reached
-pub mod Readers
-pub mod Openings
-pub mod Dump
 pub mod Input
 pub mod Run
 pub mod Script

@@ -21,7 +21,7 @@ use Rattle.sq_text.specs.Pieces.{PieceValue, Line, Rest, Endless, TooMany, piece
 use Rattle.sq_text.specs.Header.{header_of, Opens}
 use Rattle.sq_world.specs.declared.ending.Ending.{Ending}
 use Rattle.sq_world.specs.declared.ending.Ending.TheVariants.{Done, Fault}
-use Rattle.sq_world.specs.Dump.{dump}
+use Rattle.sq_state.specs.Dump.{dump}
 use Rattle.sq_world.specs.Input.{input_limit, IsInput}
 
 -- the line spells a step, which is answered by the history

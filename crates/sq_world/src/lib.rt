@@ -1,17 +1,10 @@
-//! The state of a world, and its steps.
+//! Worlds, whole runs, and runs of an input from bytes to bytes.
 #![tactic(auto)]
 
 mod ending;
 mod input;
-mod link;
-mod mark;
-mod part;
 mod script;
-mod segment;
-mod spot;
-mod state;
 mod whole_run;
-mod work;
 mod world;
 
 pub use ending::{Ending, WriteFault};

@@ -5,6 +5,7 @@ use sq_model::{Answer, Phase, Refusal, Step};
 use sq_plan::{PartId, Plan};
 use sq_ranges::{Config, GivenRow, Opening};
 use sq_schema::Schema;
+use sq_store::VecStore;
 use sq_tree::Status;
 use std::alloc::Global;
 use std::test::Fail;
@@ -61,6 +62,20 @@ fn a_list_of_steps(rt: HostRuntime) -> Result<(), Fail> {
     };
     assert_eq!(rt; *refusal, Refusal::NotPrepared);
     assert_eq!(rt; world.phase(), Phase::Preparing);
+    Ok(())
+}
+
+#[test]
+fn a_world_before_any_step(rt: HostRuntime) -> Result<(), Fail> {
+    let alloc = rt.alloc();
+    let schema = Schema::new(8).ok_or("8 tables are a schema")?;
+    let old = Plan::read(alloc, OLD)?;
+    let new = Plan::read(alloc, NEW)?;
+    let world = World::open(alloc, schema, old, new, SIZES, rows(alloc)?)?;
+    assert_eq!(rt; world.phase(), Phase::Idle);
+    assert_eq!(rt; world.store(0).map(VecStore::len), Some(1));
+    assert_eq!(rt; world.store(1).map(VecStore::len), Some(0));
+    assert!(rt; world.store(2).is_none());
     Ok(())
 }
 

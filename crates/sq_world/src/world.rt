@@ -10,14 +10,14 @@ ghost use Rattle.sq_turn.specs.Turn.{Turn};
 ghost use Rattle.sq_turn.specs.Holds.{Holds};
 ghost use Rattle.sq_turn.specs.Goes.{Goes};
 ghost use Rattle.sq_world.specs.History.{IsNotOpened};
-ghost use Rattle.sq_world.specs.Sound.{IsSound};
+ghost use Rattle.sq_state.specs.Sound.{IsSound};
 
-use crate::state::State;
 use sq_chunk::Chunk;
 use sq_model::{Answer, Phase, Step};
 use sq_plan::Plan;
 use sq_ranges::{Config, GivenRow, Opening, RefusedOpening};
 use sq_schema::Schema;
+use sq_state::State;
 use sq_store::VecStore;
 use sq_tree::Status;
 use std::alloc::Global;
@@ -113,7 +113,7 @@ impl World {
 impl World {
     ghost use Rattle.std.specs.Option.{option_copied};
     ghost use Rattle.sq_model.specs.Leader.{phase as phase_of};
-    ghost use Rattle.sq_world.specs.Readers.{store_at, chunk_at, status_there, TellsStore, TellsChunk, told_status};
+    ghost use Rattle.sq_state.specs.Readers.{store_at, chunk_at, status_there, TellsStore, TellsChunk, told_status};
 
     /// How far the leader is, which is as the history tells.
     pub fn phase(&self) -> Phase

@@ -1,6 +1,8 @@
 //! The program `squall`: it reads what to do from standard input, and writes what came of it to standard output.
 #![tactic(auto)]
 
+ghost use Rattle.std.specs.Prelude.{◌≡◌, ◌⊎◌};
+
 mod fault;
 mod line;
 mod session;
@@ -18,7 +20,9 @@ fn words_of(rt: &(impl Env + AllocGlobal)) -> io::Result<Vec<String>> {
 }
 
 // Does what the words of a command line ask for, and gives the exit status.
-fn obey(rt: &(impl Input + Print + Eprint + AllocGlobal), words: &[String]) -> u8 {
+fn obey(rt: &(impl Input + Print + Eprint + AllocGlobal), words: &[String]) -> u8
+    ensures { (result ≡ 0) ⊎ (result ≡ 2) }
+{
     match line_of(rt.alloc(), words) {
         Ok(Line::Run) => script(rt),
         Err(error) => told(rt, &error),

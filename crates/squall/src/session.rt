@@ -1,6 +1,7 @@
 // One run, from standard input to standard output.
-ghost use Rattle.std.specs.Prelude.{◌≡◌, ◌≢◌, ◌⊎◌};
+ghost use Rattle.std.specs.Prelude.{◌≡◌, ◌≢◌, ◌⊎◌, IfOk, IfErr};
 ghost use Rattle.clap.specs.Values.{kind_of};
+ghost use Rattle.squall.specs.Session.{IsRunOf};
 
 use crate::fault::Fault;
 use clap::Error;
@@ -54,18 +55,23 @@ pub fn run_through<R: Read, W: Write + Drop>(
     alloc: Global,
     reader: &mut R,
     mut writer: BufWriter<W>,
-) -> Result<Ending, Fault> {
-    if let Ok(ending) = run(alloc, reader, &mut writer) {
-        if writer.flush().is_ok() {
-            return Ok(ending);
+) -> Result<Ending, Fault>
+    ensures ran { IfOk result (λ ending. IsRunOf (R.remaining reader.old) ending) }
+    ensures fault { IfErr result (λ fault. fault ≡ Fault.WriteFailed) }
+{
+    match run(alloc, reader, &mut writer) {
+        Ok(ending) => Ok(ending),
+        Err(_) => {
+            let (_inner, _unwritten) = writer.into_parts();
+            Err(Fault::WriteFailed)
         }
     }
-    let (_inner, _unwritten) = writer.into_parts();
-    Err(Fault::WriteFailed)
 }
 
 /// Makes the steps of the script on standard input, and gives the exit status.
-pub fn script(rt: &(impl Input + Print + Eprint + AllocGlobal)) -> u8 {
+pub fn script(rt: &(impl Input + Print + Eprint + AllocGlobal)) -> u8
+    ensures { (result ≡ 0) ⊎ (result ≡ 2) }
+{
     let alloc = rt.alloc();
     let reader = BufReader::new(alloc, rt.reader());
     let writer = BufWriter::new(alloc, io::writer(rt));

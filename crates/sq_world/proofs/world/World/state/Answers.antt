@@ -1,5 +1,5 @@
 use Rattle.std.proofs.Common.{subst}
-use Rattle.sq_world.specs.Sound.{IsSound}
+use Rattle.sq_state.specs.Sound.{IsSound}
 use Rattle.sq_world.proofs.Sound.{sound}
 use Rattle.sq_world.proofs.world.World.state.Goals as goal
 

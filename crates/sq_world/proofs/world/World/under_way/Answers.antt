@@ -1,6 +1,6 @@
 use Rattle.std.proofs.Common.{subst, sym}
 use Rattle.sq_turn.specs.Holds.{Holds}
-use Rattle.sq_world.specs.Readers.{TellsChunk}
+use Rattle.sq_state.specs.Readers.{TellsChunk}
 use Rattle.sq_world.proofs.Ways.{tells_chunk}
 use Rattle.sq_world.proofs.world.World.under_way.Goals as goal
 

@@ -1,0 +1,3 @@
+pub mod LinkSteps
+pub mod Segments
+pub mod Waiters

@@ -1,0 +1,11 @@
+pub mod Begins
+pub mod Cuts
+pub mod Dumps
+pub mod Families
+pub mod Found
+pub mod Guards
+pub mod Opened
+pub mod Places
+pub mod SoundLinks
+pub mod Spots
+pub mod Submitted

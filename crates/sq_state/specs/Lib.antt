@@ -1,0 +1,5 @@
+pub mod Dump
+pub mod Openings
+pub mod Readers
+pub mod Sound
+pub mod Told

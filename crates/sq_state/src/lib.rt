@@ -1,0 +1,10 @@
+//! The state of a world in memory, and what each step does to it.
+#![tactic(auto)]
+
+mod spot;
+mod state;
+
+pub use state::State;
+
+#[cfg(test)]
+mod tests;

@@ -1,0 +1,79 @@
+// The dump of a world: where each family and each chunk under way is.
+ghost use Rattle.std.specs.Prelude.{OnOk};
+ghost use Rattle.std.specs.List.{flat_map, range_with_len};
+ghost use Rattle.std.specs.Io.KnownBytes.{Appends};
+ghost use Rattle.sq_text.specs.Texts.{at_line};
+ghost use Rattle.sq_turn.specs.WorldValue.{link_index};
+ghost use Rattle.sq_state.specs.Sound.{IsSound};
+ghost use Rattle.sq_state.specs.Dump.{part_lines, link_lines, source_lines, dump};
+
+use crate::state::State;
+use sq_plan::PartId;
+use sq_schema::Family;
+use sq_text::{write_at, write_end};
+use std::io;
+use std::io::Write;
+
+impl State {
+    /// Writes the phase, each partition with its families, and each link with what is under way on it.
+    pub fn write_dump<W: Write>(&self, writer: &mut W) -> io::Result<()>
+        requires { IsSound self.now }
+        ensures { OnOk result (Appends (W.contents writer.old) (W.contents writer.new) (dump self.now)) }
+    {
+        write_end(writer, self.phase)?;
+        self.write_parts(writer)?;
+        self.write_links(writer)
+    }
+
+    // Writes the families of each partition.
+    fn write_parts<W: Write>(&self, writer: &mut W) -> io::Result<()>
+        requires { IsSound self.now }
+        ensures { OnOk result (Appends (W.contents writer.old) (W.contents writer.new) (flat_map (part_lines self.now) (range_with_len 0 self.now.old.parts))) }
+    {
+        for part in 0..self.old_plan.parts() {
+            let families = self.parts[usize::from(part)].store().families();
+            write_families(writer, PartId::new(part), families)?;
+        }
+        Ok(())
+    }
+
+    // Writes what is under way from each partition.
+    fn write_links<W: Write>(&self, writer: &mut W) -> io::Result<()>
+        ensures { OnOk result (Appends (W.contents writer.old) (W.contents writer.new) (flat_map (source_lines self.now) (range_with_len 0 self.now.old.parts))) }
+    {
+        for src in 0..self.old_plan.parts() {
+            self.write_source(writer, u64::from(src))?;
+        }
+        Ok(())
+    }
+
+    // Writes what is under way from a partition to each.
+    fn write_source<W: Write>(&self, writer: &mut W, src: u64) -> io::Result<()>
+        ensures { OnOk result (Appends (W.contents writer.old) (W.contents writer.new) (source_lines self.now src)) }
+    {
+        for dst in 0..self.old_plan.parts() {
+            self.write_link(writer, src, u64::from(dst))?;
+        }
+        Ok(())
+    }
+
+    // Writes what is under way from one partition to another.
+    fn write_link<W: Write>(&self, writer: &mut W, src: u64, dst: u64) -> io::Result<()>
+        ensures { OnOk result (Appends (W.contents writer.old) (W.contents writer.new) (link_lines self.now (link_index self.now src dst))) }
+    {
+        match self.link_at(src, dst) {
+            Some(at) => self.links[at].write_under_way(writer),
+            None => Ok(()),
+        }
+    }
+}
+
+// Writes the families in the store of a partition.
+fn write_families<W: Write>(writer: &mut W, part: PartId, families: &[Family]) -> io::Result<()>
+    ensures { OnOk result (Appends (W.contents writer.old) (W.contents writer.new) (flat_map (at_line part) families.now)) }
+{
+    for family in families {
+        write_at(writer, part, family)?;
+    }
+    Ok(())
+}

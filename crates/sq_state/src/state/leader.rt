@@ -1,0 +1,106 @@
+// The steps of the leader.
+ghost use Rattle.std.specs.Prelude.{◌≡◌, ◌||◌, not, length};
+ghost use Rattle.std.specs.List.{list_all, list_any, range_with_len};
+ghost use Rattle.sq_turn.specs.LeaderTurn.{prepare_turn, start_turn, report_turn, finish_turn, flag_at, into, whole, segment_range};
+ghost use Rattle.sq_state.specs.Told.{told};
+ghost use Rattle.sq_state.specs.Sound.{IsSound};
+
+use crate::state::State;
+use sq_model::{Answer, Phase, Refusal};
+
+impl State {
+    /// A partition prepares.
+    pub(crate) fn prepare(&mut self, part: u64) -> Result<Answer, Refusal>
+        requires { IsSound self.old }
+        ensures { (told result, self.new) ≡ prepare_turn self.old part }
+    {
+        self.check_part(part)?;
+        self.check_not_started()?;
+        self.phase = Phase::Preparing;
+        self.prepared[part as usize] = true;
+        Ok(Answer::Done)
+    }
+
+    /// The leader starts the move, for which each partition has prepared.
+    pub(crate) fn start(&mut self) -> Result<Answer, Refusal>
+        requires { IsSound self.old }
+        ensures { (told result, self.new) ≡ start_turn self.old }
+    {
+        self.check_not_started()?;
+        if !all_set(&self.prepared) {
+            return Err(Refusal::NotPrepared);
+        }
+        self.phase = Phase::Moving;
+        Ok(Answer::Done)
+    }
+
+    /// A partition reports that each segment into it is whole.
+    pub(crate) fn report(&mut self, part: u64) -> Result<Answer, Refusal>
+        requires { IsSound self.old }
+        ensures { (told result, self.new) ≡ report_turn self.old part }
+    {
+        self.check_moving()?;
+        self.check_part(part)?;
+        if !self.has_all(part) {
+            return Err(Refusal::NotFinished);
+        }
+        self.reported[part as usize] = true;
+        Ok(Answer::Done)
+    }
+
+    /// The leader ends the move, which each partition has reported that a segment goes into.
+    pub(crate) fn finish(&mut self) -> Result<Answer, Refusal>
+        requires { IsSound self.old }
+        ensures { (told result, self.new) ≡ finish_turn self.old }
+    {
+        self.check_moving()?;
+        if !self.is_reported() {
+            return Err(Refusal::NotFinished);
+        }
+        self.phase = Phase::Ended;
+        Ok(Answer::Done)
+    }
+
+    // Whether each segment into a partition is whole.
+    fn has_all(&self, part: u64) -> bool
+        requires { IsSound self.now }
+        ensures { result ≡ list_all (λ seg. not (into self.now part seg) || whole self.now seg) (segment_range self.now) }
+    {
+        for (seg, range) in self.recon.segments().iter().enumerate() {
+            if u64::from(range.dst.number()) == part && !self.segments[seg].is_whole() {
+                return false;
+            }
+        }
+        true
+    }
+
+    // Whether some segment goes into a partition.
+    fn has_any(&self, part: u64) -> bool
+        ensures { result ≡ list_any (into self.now part) (segment_range self.now) }
+    {
+        self.recon
+            .segments()
+            .iter()
+            .any(|range| u64::from(range.dst.number()) == part)
+    }
+
+    // Whether each partition has reported that a segment goes into.
+    fn is_reported(&self) -> bool
+        requires { IsSound self.now }
+        ensures { result ≡ list_all (λ part. flag_at self.now.reported part || not (list_any (into self.now part) (segment_range self.now))) (range_with_len 0 self.now.old.parts) }
+    {
+        for part in 0..self.old_plan.parts() {
+            if !self.reported[usize::from(part)] && self.has_any(u64::from(part)) {
+                return false;
+            }
+        }
+        true
+    }
+}
+
+// Whether all of these are set.
+fn all_set(flags: &[bool]) -> bool
+    ensures { result ≡ list_all (flag_at flags.now) (range_with_len 0 (length flags.now)) }
+{
+    flags.iter().all(|flag| *flag)
+}

@@ -1,0 +1,33 @@
+// One step of any kind.
+ghost use Rattle.sq_turn.specs.Turn.{Turn};
+ghost use Rattle.sq_state.specs.Sound.{IsSound};
+
+use crate::state::State;
+use sq_model::{Answer, Step};
+
+impl State {
+    /// Makes one step, and answers it.
+    pub fn step(&mut self, step: &Step) -> Answer
+        requires { IsSound self.old }
+        ensures { Turn self.old step.now result self.new }
+    {
+        let told = match step {
+            Step::Prepare(part) => self.prepare(*part),
+            Step::Start => self.start(),
+            Step::Submit(part, txn) => self.submit(*part, txn),
+            Step::Claim { seg, node, pull } => self.claim(*seg, *node, *pull),
+            Step::Begin { seg, node, pull } => self.begin(*seg, *node, *pull),
+            Step::Cut { src, dst } => self.cut(*src, *dst),
+            Step::Push { src, dst } => self.push(*src, *dst),
+            Step::Pop { src, dst } => self.pop(*src, *dst),
+            Step::Load { src, dst } => self.load(*src, *dst),
+            Step::Complete { seg, node, pull } => self.complete(*seg, *node, *pull),
+            Step::Report(part) => self.report(*part),
+            Step::Finish => self.finish(),
+        };
+        match told {
+            Ok(answer) => answer,
+            Err(refusal) => Answer::Refused(refusal),
+        }
+    }
+}

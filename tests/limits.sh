@@ -1,0 +1,133 @@
+#!/usr/bin/env bash
+# Makes inputs at the limits, and what is to be written for them: NAME.in, NAME.out and, where the exit status isn't 0,
+# NAME.status, in the folder that is named. They are too large, or too much alike from line to line, to be stored.
+#
+#   tests/limits.sh FOLDER
+set -eu
+export LC_ALL=C
+cd "$1"
+
+# Plans by which the root keys 4 to 7 go from partition 0 to partition 1, sizes, and a family that moves.
+old='old {"version":1,"partitions":2,"ranges":[[0,4294967296,0]]}'
+new='new {"version":1,"partitions":2,"ranges":[[0,4,0],[4,8,1],[8,4294967296,0]]}'
+
+header() { printf '%s\n' "$old" "$new" 'config 1 64 1' 'row 5 0 0 10 -'; }
+start() { printf '%s\n' 'prepare 0' 'prepare 1' 'start'; }
+started() { repeat 3 ok; }
+dump() { printf '%s\n' "end $1" 'at 0 5 0 0.0=10/-'; }
+
+# A line so many times.
+repeat() { yes "$2" | head -n "$1"; }
+
+# So many letters, without a line end.
+letters() { head -c "$1" /dev/zero | tr '\0' a; }
+
+# fault NAME NUMBER: nothing but this fault is to be written.
+fault() {
+    echo "fault $2" > "$1.out"
+    echo 2 > "$1.status"
+}
+
+# An input has at most 16,777,216 bytes: these are the header, 255 long lines and a rest.
+{ header; repeat 256 "$(letters 65535)"; } | head -c 16777216 > longest_input.in
+{ repeat 256 'refused 230'; dump idle; } > longest_input.out
+{ cat longest_input.in; echo; } > input_over_16777216_bytes.in
+fault input_over_16777216_bytes 122
+
+# An input has at most 1,000,000 lines, of which these are four for the header.
+{ header; repeat 999996 ''; } > most_lines.in
+{ repeat 999996 'refused 230'; dump idle; } > most_lines.out
+{ cat most_lines.in; printf x; } > more_than_1000000_lines.in
+{ repeat 999996 'refused 230'; echo 'fault 122'; } > more_than_1000000_lines.out
+echo 2 > more_than_1000000_lines.status
+
+# A line has at most 65,536 bytes.
+{ header; start; letters 65536; echo; letters 65537; echo; echo start; } > long_lines.in
+{ started; printf '%s\n' 'refused 230' 'refused 231' 'refused 217'; dump moving; } > long_lines.out
+{ header; letters 65537; echo; echo 'row 6 0 0 1 -'; } > long_line_after_the_header.in
+{ printf '%s\n' 'refused 231' 'refused 230'; dump idle; } > long_line_after_the_header.out
+
+# The lines of a header too: spaces behind a plan are JSON's.
+{ printf '%-65536s\n' "$old"; header | tail -n 3; } > longest_line_of_a_header.in
+dump idle > longest_line_of_a_header.out
+{ printf '%-65537s\n' "$old"; header | tail -n 3; } > plan_line_over_65536_bytes.in
+fault plan_line_over_65536_bytes 231
+{ header; printf 'row '; letters 65532; echo; } > row_of_65536_bytes.in
+fault row_of_65536_bytes 121
+{ header; printf 'row '; letters 65533; echo; } > row_over_65536_bytes.in
+fault row_over_65536_bytes 231
+
+# So has a rest in the header; in the script it is refused whatever it holds.
+{ printf 'old '; letters 65532; } > rest_of_65536_bytes.in
+fault rest_of_65536_bytes 121
+{ printf 'old '; letters 65533; } > rest_over_65536_bytes.in
+fault rest_over_65536_bytes 231
+{ header; printf 'row '; letters 65533; } > rest_of_a_row_over_65536_bytes.in
+fault rest_of_a_row_over_65536_bytes 231
+
+# At most 1,048,576 bytes come without a line end.
+{ header; start; letters 1048576; } > longest_rest.in
+{ started; echo 'refused 230'; dump moving; } > longest_rest.out
+{ header; start; letters 1048576; echo; echo start; } > longest_line_that_is_skipped.in
+{ started; printf '%s\n' 'refused 231' 'refused 217'; dump moving; } > longest_line_that_is_skipped.out
+{ header; start; letters 1048577; echo; echo start; } > line_without_end.in
+{ started; echo 'fault 122'; } > line_without_end.out
+echo 2 > line_without_end.status
+
+# A plan has at most 256 ranges.
+plan() {
+    local range
+    printf '{"version":1,"partitions":1,"ranges":['
+    for ((range = 1; range < $1; range++)); do printf '[%d,%d,0],' $((range - 1)) "$range"; done
+    printf '[%d,4294967296,0]]}\n' $(($1 - 1))
+}
+{ echo "old $(plan 256)"; echo "new $(plan 1)"; echo 'config 1 64 1'; } > plan_of_256_ranges.in
+echo 'end idle' > plan_of_256_ranges.out
+echo "old $(plan 257)" > plan_of_257_ranges.in
+fault plan_of_257_ranges 107
+
+# A log holds at most 4,096 transactions. Beyond it each is refused where the key runs, whatever its operations.
+{
+    header
+    repeat 4096 'txn 0 1 5 get 0 0'
+    printf '%s\n' 'txn 0 2 5 get 0 0' 'txn 0 3 5 check 0 0 99' 'txn 0 4 6 get 0 0' 'txn 1 5 5 get 0 0' 'txn 0 6 5 get 8 0'
+} > full_log.in
+{
+    repeat 4096 'commit 1 10/-'
+    printf '%s\n' 'refused 221' 'refused 221' 'commit 4 none' 'moved 5 0' 'refused 133'
+    printf '%s\n' 'end idle' 'at 0 5 4096 0.0=10/-' 'at 0 6 1'
+} > full_log.out
+
+# At most 1,024 transactions wait at a partition.
+{
+    header
+    start
+    repeat 1024 'txn 1 1 5 get 0 0'
+    printf '%s\n' 'txn 1 2 6 get 0 0' 'txn 1 3 9 get 0 0' 'txn 0 4 5 get 0 0'
+} > full_waiting_list.in
+{
+    started
+    repeat 1024 'waits 1 0 1'
+    printf '%s\n' 'refused 220' 'moved 3 0' 'commit 4 10/-' 'end moving' 'at 0 5 1 0.0=10/-'
+} > full_waiting_list.out
+
+# A link's queue holds at most 64 chunks: of 66 chunks with a family each the 65th stays at the source.
+families=$(seq 0 65)
+{
+    echo "$old"
+    echo 'new {"version":1,"partitions":2,"ranges":[[0,128,1],[128,4294967296,0]]}'
+    echo 'config 4 64 64'
+    printf 'row %d 0 0 1 -\n' $families
+    start
+    printf '%s\n' 'claim 0 1 2' 'begin 0 1 2'
+    for chunk in $(seq 0 64); do printf '%s\n' 'cut 0 1' 'push 0 1'; done
+} > queue_of_64_chunks.in
+{
+    started
+    repeat 2 ok
+    for chunk in $(seq 0 63); do printf '%s\n' "cut $chunk 0 1 $chunk $((chunk + 1)) more 1" ok; done
+    printf '%s\n' 'cut 64 0 1 64 65 more 1' 'refused 212' 'end moving' 'at 0 65 0 0.0=1/-'
+    for chunk in $(seq 0 64); do
+        printf '%s\n' "way 0 1 $chunk 0 1 $chunk $((chunk + 1)) more 1" "in $chunk 0 0.0=1/-"
+    done
+} > queue_of_64_chunks.out
