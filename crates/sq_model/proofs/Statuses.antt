@@ -11,7 +11,8 @@ use Rattle.sq_tree.specs.declared.status.Status.{Status}
 use Rattle.sq_tree.specs.declared.status.Status.TheVariants.{Free, Split, Claimed, Partial, Complete}
 use Rattle.sq_tree.specs.Node.{is_node}
 use Rattle.sq_tree.specs.Status.{is_free, is_split, is_begun, is_past, pull_of}
-use Rattle.sq_tree.specs.Tree.{set_at, IsGrown}
+use Rattle.sq_tree.specs.Tree.{IsGrown}
+use Rattle.sq_tree.proofs.Changed.{set_at}
 use Rattle.sq_tree.proofs.Statuses.{free_is}
 use Rattle.sq_tree.proofs.Grown.{grown-free, grown-set_at}
 use Rattle.sq_ranges.specs.OpeningValue.{OpeningValue}

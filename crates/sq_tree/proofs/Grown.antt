@@ -5,7 +5,8 @@ use Rattle.sq_tree.specs.declared.status.Status.{Status}
 use Rattle.sq_tree.specs.declared.status.Status.TheVariants.{Free}
 use Rattle.sq_tree.specs.Node.{is_node, is_leaf}
 use Rattle.sq_tree.specs.Status.{is_free, is_split, is_live}
-use Rattle.sq_tree.specs.Tree.{set_at, IsGrown}
+use Rattle.sq_tree.specs.Tree.{IsGrown}
+use Rattle.sq_tree.proofs.Changed.{set_at}
 
 -- a tree in which each node is free is grown
 pub grown-free : (status : ℕ → Status) → ((n : ℕ) → status n ≡ Free) → IsGrown status

@@ -1,3 +1,4 @@
+pub mod Changed
 pub mod Covering
 pub mod Grown
 pub mod Live

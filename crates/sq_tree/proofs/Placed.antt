@@ -7,7 +7,8 @@ use Rattle.sq_tree.specs.declared.status.Status.{Status}
 use Rattle.sq_tree.specs.declared.status.Status.TheVariants.{Free}
 use Rattle.sq_tree.specs.Node.{is_node}
 use Rattle.sq_tree.specs.Status.{is_free}
-use Rattle.sq_tree.specs.Tree.{placed, status_at, with_status, set_at}
+use Rattle.sq_tree.specs.Tree.{placed, status_at, with_status}
+use Rattle.sq_tree.proofs.Changed.{set_at}
 use Rattle.sq_tree.proofs.Statuses.{free_is}
 
 same_next : (i j : ℕ) → (suc j == suc i) ≡ (j == i)

@@ -10,7 +10,8 @@ use Rattle.sq_tree.specs.declared.fault.CompleteFault.{CompleteFault}
 use Rattle.sq_tree.specs.Node.{is_node, is_leaf}
 use Rattle.sq_tree.specs.Status.{is_free, is_split, is_claimed, is_partial, is_live, pull_of}
 use Rattle.sq_tree.specs.Answer.{split_answer, claim_answer, begin_answer, complete_answer}
-use Rattle.sq_tree.specs.Tree.{status_at, with_status, set_at, IsGrown}
+use Rattle.sq_tree.specs.Tree.{status_at, with_status, IsGrown}
+use Rattle.sq_tree.proofs.Changed.{set_at}
 use Rattle.sq_tree.proofs.Statuses.{free_is, claimed_is, partial_is}
 use Rattle.sq_tree.proofs.Placed.{statuses-with_status}
 use Rattle.sq_tree.proofs.Grown.{grown-set_at}

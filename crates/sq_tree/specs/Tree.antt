@@ -1,5 +1,5 @@
 -- The tree of one segment: the statuses of its nodes, as a list from node 1 on or looked up by node.
-use Rattle.std.specs.Prelude.{◌≡◌, ℕ, zero, suc, ◌-◌, true, false, ◌==◌, if◌then◌else◌, List, [], ◌∷◌, slice_index_or}
+use Rattle.std.specs.Prelude.{◌≡◌, ℕ, zero, suc, ◌-◌, true, false, List, [], ◌∷◌, slice_index_or}
 use Rattle.sq_tree.specs.declared.status.Status.{Status}
 use Rattle.sq_tree.specs.declared.status.Status.TheVariants.{Free}
 use Rattle.sq_tree.specs.declared.status.Reading.{Reading}
@@ -20,10 +20,6 @@ placed (first ∷ rest) (suc place) st = first ∷ placed rest place st
 -- the list in which node n has this status, and each other node the one that it had
 abbrev pub with_status : List Status → ℕ → Status → List Status
 with_status sts n st = placed sts (n - 1) st
-
--- the same where statuses are looked up by node
-abbrev pub set_at : (ℕ → Status) → ℕ → Status → ℕ → Status
-set_at status n st m = if m == n then st else status m
 
 -- what steps that went from a free tree lead to: a node that isn't free is live, and no leaf is split
 pub record IsGrown (status : ℕ → Status) : Type 0 where
