@@ -16,10 +16,10 @@ start() { printf '%s\n' 'prepare 0' 'prepare 1' 'start'; }
 started() { repeat 3 ok; }
 dump() { printf '%s\n' "end $1" 'at 0 5 0 0.0=10/-'; }
 
-# A line so many times.
+# repeat COUNT LINE: a line this often.
 repeat() { yes "$2" | head -n "$1"; }
 
-# So many letters, without a line end.
+# letters COUNT: letters without a line end.
 letters() { head -c "$1" /dev/zero | tr '\0' a; }
 
 # fault NAME NUMBER: nothing but this fault is to be written.
@@ -52,10 +52,16 @@ echo 2 > more_than_1000000_lines.status
 dump idle > longest_line_of_a_header.out
 { printf '%-65537s\n' "$old"; header | tail -n 3; } > plan_line_over_65536_bytes.in
 fault plan_line_over_65536_bytes 231
+{ printf 'old '; letters 65532; echo; } > longest_line_that_is_no_plan.in
+fault longest_line_that_is_no_plan 101
 { header; printf 'row '; letters 65532; echo; } > row_of_65536_bytes.in
 fault row_of_65536_bytes 121
 { header; printf 'row '; letters 65533; echo; } > row_over_65536_bytes.in
 fault row_over_65536_bytes 231
+{ header; printf 'row '; letters 1048573; echo; } > row_without_end.in
+fault row_without_end 122
+{ header; printf rows; letters 65533; echo; } > long_line_like_a_row.in
+{ echo 'refused 231'; dump idle; } > long_line_like_a_row.out
 
 # So has a rest in the header; in the script it is refused whatever it holds.
 { printf 'old '; letters 65532; } > rest_of_65536_bytes.in
@@ -74,17 +80,30 @@ fault rest_of_a_row_over_65536_bytes 231
 { started; echo 'fault 122'; } > line_without_end.out
 echo 2 > line_without_end.status
 
-# A plan has at most 256 ranges.
+# A plan has at most 16 partitions and 256 ranges: plan PARTITIONS RANGES.
 plan() {
     local range
-    printf '{"version":1,"partitions":1,"ranges":['
-    for ((range = 1; range < $1; range++)); do printf '[%d,%d,0],' $((range - 1)) "$range"; done
-    printf '[%d,4294967296,0]]}\n' $(($1 - 1))
+    printf '{"version":1,"partitions":%d,"ranges":[' "$1"
+    for ((range = 1; range < $2; range++)); do printf '[%d,%d,0],' $((range - 1)) "$range"; done
+    printf '[%d,4294967296,0]]}\n' $(($2 - 1))
 }
-{ echo "old $(plan 256)"; echo "new $(plan 1)"; echo 'config 1 64 1'; } > plan_of_256_ranges.in
-echo 'end idle' > plan_of_256_ranges.out
-echo "old $(plan 257)" > plan_of_257_ranges.in
+{ echo "old $(plan 16 256)"; echo "new $(plan 16 1)"; echo 'config 1 64 1'; } > plan_of_16_partitions_and_256_ranges.in
+echo 'end idle' > plan_of_16_partitions_and_256_ranges.out
+echo "old $(plan 16 257)" > plan_of_257_ranges.in
 fault plan_of_257_ranges 107
+echo "old $(plan 17 256)" > plan_of_17_partitions_and_256_ranges.in
+fault plan_of_17_partitions_and_256_ranges 104
+echo "old $(plan 17 257)" > plan_of_17_partitions_and_257_ranges.in
+fault plan_of_17_partitions_and_257_ranges 104
+echo "old $(plan 0 1)" > plan_of_0_partitions_and_a_range.in
+fault plan_of_0_partitions_and_a_range 104
+
+# JSON's arrays stand in one another at most 127 times. Those here are no plan.
+nested() { yes "$1" | head -n "$2" | tr -d '\n'; }
+echo "old $(nested '[' 127)$(nested ']' 127)" > arrays_in_127_arrays.in
+fault arrays_in_127_arrays 102
+echo "old $(nested '[' 128)$(nested ']' 128)" > arrays_in_128_arrays.in
+fault arrays_in_128_arrays 101
 
 # A log holds at most 4,096 transactions. Beyond it each is refused where the key runs, whatever its operations.
 {

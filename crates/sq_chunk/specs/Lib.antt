@@ -1,1 +1,2 @@
 pub mod ChunkValue
+pub mod NextChunk

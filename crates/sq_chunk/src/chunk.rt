@@ -3,7 +3,9 @@ ghost use Rattle.std.specs.Prelude.{◌≡◌, ◌↔◌, [], length, IsTrue};
 ghost use Rattle.sq_chunk.specs.ChunkValue.{are_within};
 
 use sq_plan::PartId;
+use sq_ranges::SegId;
 use sq_schema::Family;
+use sq_tree::NodeId;
 use std::marker::Model;
 
 /// What a chunk covers: the root keys from `lo` up to `hi` of a node, on its way from `src` to `dst`.
@@ -16,9 +18,9 @@ pub struct Note {
     /// Its number among the chunks from `src` to `dst`, from 0.
     pub number: u64,
     /// The segment.
-    pub seg: u64,
+    pub seg: SegId,
     /// The node of the segment's split tree.
-    pub node: u64,
+    pub node: NodeId,
     /// The first key that it covers.
     pub lo: u64,
     /// The key after the last.

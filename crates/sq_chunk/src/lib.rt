@@ -2,8 +2,8 @@
 #![tactic(auto)]
 
 mod chunk;
+mod cut;
+pub mod laws;
 
 pub use chunk::{Chunk, Note};
-
-#[cfg(test)]
-mod tests;
+pub use cut::cut_next;

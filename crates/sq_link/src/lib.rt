@@ -7,6 +7,3 @@ mod pass;
 
 pub use link::Link;
 pub use pass::{RecvPass, SendPass};
-
-#[cfg(test)]
-mod tests;

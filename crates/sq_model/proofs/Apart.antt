@@ -1,6 +1,7 @@
 -- On a legal trace one begun node at most has a root key in its extent, so that one note at most covers the key.
-use Rattle.std.proofs.Common.{◌≡◌, ◌⊎◌, inl, inr, ℕ, ◌<◌, ◌≤◌, true, false, nat_le, nat_lt, List, [], ◌∷◌, slice_get, find, Contains, Option, Some, None, refl, sym, ap, ap₂, ◌∙◌, subst, subst₂, true≢false, arith}
+use Rattle.std.proofs.Common.{◌≡◌, ℕ, zero, suc, ◌<◌, ◌≤◌, true, false, nat_le, nat_lt, List, [], ◌∷◌, slice_get, find, Contains, Option, Some, None, refl, sym, ap, ap₂, ◌∙◌, subst, subst₂, true≢false, arith}
 use Rattle.std.proofs.lemmas.Bool.{and_parts, and_from, le-leb, leb-true, ltb-true, lt-ltb}
+use Rattle.std.proofs.lemmas.Option.{same_Some}
 use Rattle.sq_tree.specs.declared.status.Status.{Status}
 use Rattle.sq_tree.specs.declared.status.Status.TheVariants.{Partial, Complete}
 use Rattle.sq_tree.specs.Node.{is_above}
@@ -11,17 +12,17 @@ use Rattle.sq_chunk.specs.ChunkValue.{covers}
 use Rattle.sq_ranges.specs.declared.recon.Range.{Range}
 use Rattle.sq_ranges.specs.ReconValue.{segment_of, leaf_of}
 use Rattle.sq_ranges.specs.OpeningValue.{OpeningValue}
-use Rattle.sq_model.specs.Opening.{IsOpening}
+use Rattle.sq_ranges.specs.Opening.{IsOpening}
 use Rattle.sq_model.specs.Trace.{Trace, notes, loads}
 use Rattle.sq_model.specs.Nodes.{status_of}
 use Rattle.sq_model.specs.Place.{source, destination, extent_of, is_within}
 use Rattle.sq_model.specs.Links.{reached}
-use Rattle.sq_model.specs.Orderly.{Tiles, AreApart}
+use Rattle.sq_model.specs.Orderly.{GoesOn, Tiles, AreDisjoint, CoverOnce}
 use Rattle.sq_model.specs.Legal.{IsLegal}
-use Rattle.sq_model.proofs.Lists.{Contains-nothing, Contains-cases, Contains-later, Contains-slice_get, found_in, not_found}
+use Rattle.sq_model.proofs.Lists.{Contains-slice_get, slice_get-Contains, found_in, not_found}
 use Rattle.sq_model.proofs.Statuses.{grown, is_there}
 use Rattle.sq_model.proofs.Tiles.{IsTile, tile}
-use Rattle.sq_model.proofs.Notes.{note_goes, note_begun, loaded_in, tiles_notes}
+use Rattle.sq_model.proofs.Notes.{note_goes, note_begun, loaded_in, tiles_notes, tiles_loads}
 use Rattle.sq_model.proofs.Keys.{IsIn, found_in_segment, under}
 
 pub begun_touched : (st : Status) → is_begun st ≡ true → (is_free st ≡ false) × (is_split st ≡ false)
@@ -84,38 +85,48 @@ module _ (o : OpeningValue) (is : IsOpening o) (t : Trace) (legal : IsLegal o t)
       (covers_extent o (notes t) one root (tile o (notes t) (tiles_notes o t legal) one has) covered) (note_begun o t legal one has)
       (covers_extent o (notes t) other root (tile o (notes t) (tiles_notes o t legal) other has') covered') (note_begun o t legal other has')
 
-  pub apart : AreApart (notes t)
+  pub apart : AreDisjoint (notes t)
   apart i j one other root at at' covered covered' =
       one_node root one other (Contains-slice_get (notes t) i one at) (Contains-slice_get (notes t) j other at') covered covered'
 
--- of notes that tile their nodes, one of each node covers a key
-pub one_tile : (o : OpeningValue) (ns : List Note) → Tiles o ns → (root : ℕ) → ((one other : Note) → Contains ns one → Contains ns other → covers one root ≡ true → covers other root ≡ true → (one.seg ≡ other.seg) × (one.node ≡ other.node))
-    → (one other : Note) → Contains ns one → Contains ns other → covers one root ≡ true → covers other root ≡ true → one ≡ other
-one_tile o [] tiles root same one other has has' covered covered' = absurd (Contains-nothing one has)
-one_tile o (next ∷ ns) tiles root same one other has has' covered covered' =
-    by_cases (Contains-cases next ns one has) (Contains-cases next ns other has')
-    (λ older older'. one_tile o ns tiles.1 root (λ a b in_a in_b. same a b (Contains-later next ns a in_a) (Contains-later next ns b in_b)) one other older older' covered covered')
-  where
-    past : (note : Note) → Contains ns note → covers note root ≡ true → covers next root ≡ true → (next.seg ≡ note.seg) × (next.node ≡ note.node) → ⊥
-    past note older covers_older covers_next at =
-        let behind = (tile o ns tiles.1 note older).behind in
-        let begins : next.lo ≡ reached o note.seg note.node ns = subst₂ (λ g n. next.lo ≡ reached o g n ns) at.0 at.1 tiles.0.begins in
-        let low = (covers_bounds next root covers_next).0 in
-        let high = (covers_bounds note root covers_older).1 in
-        omega arith
+-- a note covers no key of those of its node before it
+past : (o : OpeningValue) (next : Note) (ns : List Note) → GoesOn o next ns → Tiles o ns → (note : Note) → Contains ns note → (next.seg ≡ note.seg) × (next.node ≡ note.node) → (root : ℕ) → covers next root ≡ true → covers note root ≡ true → ⊥
+past o next ns goes tiles note has same root covered covered' =
+    let behind = (tile o ns tiles note has).behind in
+    let begins : next.lo ≡ reached o note.seg note.node ns = subst₂ (λ g n. next.lo ≡ reached o g n ns) same.0 same.1 goes.begins in
+    let low = (covers_bounds next root covered).0 in
+    let high = (covers_bounds note root covered').1 in
+    omega arith
 
-    by_cases : (next ≡ one) ⊎ Contains ns one → (next ≡ other) ⊎ Contains ns other → (Contains ns one → Contains ns other → one ≡ other) → one ≡ other
-    by_cases (inl a) (inl b) older = sym a ∙ b
-    by_cases (inl a) (inr b) older =
-        absurd (past other b covered' (ap (λ (n : Note). covers n root) a ∙ covered) (subst (λ (n : Note). (n.seg ≡ other.seg) × (n.node ≡ other.node)) (sym a) (same one other has has' covered covered')))
-    by_cases (inr a) (inl b) older =
-        absurd (past one a covered (ap (λ (n : Note). covers n root) b ∙ covered') (subst (λ (n : Note). (n.seg ≡ one.seg) × (n.node ≡ one.node)) (sym b) (same other one has' has covered' covered)))
-    by_cases (inr a) (inr b) older = older a b
+-- of notes that tile their nodes, and share no key with those of other nodes, one covers a key
+pub cover_once : (o : OpeningValue) (ns : List Note) → Tiles o ns → AreDisjoint ns → CoverOnce ns
+cover_once o [] tiles disjoint i j root one other at at' covered covered' = absurd cc
+cover_once o (next ∷ ns) tiles disjoint zero zero root one other at at' covered covered' = refl
+cover_once o (next ∷ ns) tiles disjoint zero (suc j) root one other at at' covered covered' =
+    let goes : GoesOn o one ns = subst (λ note. GoesOn o note ns) (same_Some next one at) tiles.0 in
+    absurd (past o one ns goes tiles.1 other (Contains-slice_get ns j other at') (disjoint 0 (suc j) one other root at at' covered covered') root covered covered')
+cover_once o (next ∷ ns) tiles disjoint (suc i) zero root one other at at' covered covered' =
+    let goes : GoesOn o other ns = subst (λ note. GoesOn o note ns) (same_Some next other at') tiles.0 in
+    absurd (past o other ns goes tiles.1 one (Contains-slice_get ns i one at) (disjoint 0 (suc i) other one root at' at covered' covered) root covered' covered)
+cover_once o (next ∷ ns) tiles disjoint (suc i) (suc j) root one other at at' covered covered' =
+    ap suc (cover_once o ns tiles.1 (λ a b. disjoint (suc a) (suc b)) i j root one other at at' covered covered')
 
 module _ (o : OpeningValue) (is : IsOpening o) (t : Trace) (legal : IsLegal o t) where
+  pub cut_once : CoverOnce (notes t)
+  cut_once = cover_once o (notes t) (tiles_notes o t legal) (apart o is t legal)
+
+  pub loaded_once : CoverOnce (loads t)
+  loaded_once =
+      cover_once o (loads t) (tiles_loads o t legal) (λ i j one other root at at' covered covered'.
+      one_node o is t legal root one other
+      (loaded_in o t legal one (Contains-slice_get (loads t) i one at)) (loaded_in o t legal other (Contains-slice_get (loads t) j other at')) covered covered')
+
   -- so one note covers a key
   pub one_note : (root : ℕ) (one other : Note) → Contains (notes t) one → Contains (notes t) other → covers one root ≡ true → covers other root ≡ true → one ≡ other
-  one_note root one other has has' covered covered' = one_tile o (notes t) (tiles_notes o t legal) root (one_node o is t legal root) one other has has' covered covered'
+  one_note root one other has has' covered covered' =
+      let at = slice_get-Contains (notes t) one has in
+      let at' = slice_get-Contains (notes t) other has' in
+      same_Some one other (sym at ∙ ap (slice_get (notes t)) (cut_once has.0 has'.0 root one other at at' covered covered') ∙ at')
 
   -- the note that is found to cover a key is the one that does
   pub found_note : (root : ℕ) (note : Note) → Contains (notes t) note → covers note root ≡ true → find (λ other. covers other root) (notes t) ≡ Some note
@@ -126,12 +137,6 @@ module _ (o : OpeningValue) (is : IsOpening o) (t : Trace) (legal : IsLegal o t)
           let here = found_in (λ (n : Note). covers n root) (notes t) other e in
           e ∙ ap Some (one_note root other note here.0 has here.1 covered)
       at None e = absurd (true≢false (sym covered ∙ not_found (λ (n : Note). covers n root) (notes t) e note has))
-
-  -- a note of the loads that covers a key is the one of the notes that does
-  pub loaded_note : (root : ℕ) (note : Note) → find (λ other. covers other root) (loads t) ≡ Some note → find (λ other. covers other root) (notes t) ≡ Some note
-  loaded_note root note found =
-      let at = found_in (λ (n : Note). covers n root) (loads t) note found in
-      found_note root note (loaded_in o t legal note at.0) at.1
 
   -- a note that covers a key goes from the key's source to its destination
   pub record GoesWith (root : ℕ) (note : Note) : Type 0 where

@@ -1,12 +1,13 @@
 -- Once the move has ended, each root key is where the new plan has it.
 use Rattle.std.proofs.Common.{◌≡◌, inl, inr, ℕ, ◌<◌, true, false, ◌==◌, ◌||◌, not, nat_le, nat_lt, [], ◌∷◌, length, slice_get, Option, Some, None, refl, sym, ap, ◌∙◌, subst, true≢false, arith}
-use Rattle.std.specs.List.{list_any}
+use Rattle.std.specs.List.{list_any, list_all}
 use Rattle.std.proofs.lemmas.Bool.{and_parts, and_from, lt-ltb, ltb-true, eq-eqb, eqb-true, or_cases, not-true}
 use Rattle.std.proofs.lemmas.Option.{slice_get_within}
 use Rattle.sq_tree.specs.declared.status.Status.{Status}
 use Rattle.sq_tree.specs.declared.status.Status.TheVariants.{Complete}
 use Rattle.sq_tree.specs.declared.status.Reading.{Reading}
 use Rattle.sq_tree.specs.declared.status.Reading.TheVariants as reads
+use Rattle.sq_tree.specs.declared.node.TheConstants.{LEAVES}
 use Rattle.sq_tree.specs.Status.{is_free, is_split, is_begun, is_complete, is_past, reading, covering}
 use Rattle.sq_tree.proofs.Covering.{covering_is, covering_touched}
 use Rattle.sq_tree.proofs.Readings.{all_complete_is}
@@ -19,7 +20,7 @@ use Rattle.sq_model.specs.declared.step.Phase.{Phase}
 use Rattle.sq_model.specs.declared.step.Phase.TheVariants.{Moving, Ended}
 use Rattle.sq_model.specs.declared.answer.Answer.{Answer}
 use Rattle.sq_model.specs.declared.answer.Answer.TheVariants.{Done, WasCut, WasLoaded}
-use Rattle.sq_model.specs.Opening.{IsOpening}
+use Rattle.sq_ranges.specs.Opening.{IsOpening}
 use Rattle.sq_model.specs.Trace.{Trace, loads}
 use Rattle.sq_model.specs.Leader.{phase, is_moving_phase, is_reported}
 use Rattle.sq_model.specs.Nodes.{status_of}
@@ -28,7 +29,7 @@ use Rattle.sq_model.specs.Links.{reached}
 use Rattle.sq_model.specs.Answers.{is_complete_reading, is_whole, is_into, goes_into, segment_numbers, has_all, partitions, counts_reported}
 use Rattle.sq_model.specs.Legal.{IsLegal}
 use Rattle.sq_model.proofs.Lists.{list_any-Contains, list_all-Contains, row_has}
-use Rattle.sq_model.proofs.Steps.{FinishGoes, finish_goes, report_goes, cut_goes, load_goes}
+use Rattle.sq_model.proofs.Steps.{finish_goes, report_goes, cut_goes, load_goes}
 use Rattle.sq_model.proofs.Statuses.{grown, later}
 use Rattle.sq_model.proofs.Tiles.{last_reached}
 use Rattle.sq_model.proofs.Notes.{tiles_loads, complete_loaded}
@@ -49,21 +50,21 @@ reads_complete reads.Complete e = refl
 reads_complete now e = absurd cc
 
 -- each leaf's node is complete in a segment that is whole
-whole_leaf : (o : OpeningValue) (t : Trace) → IsLegal o t → (g : ℕ) → is_whole t g ≡ true → (leaf : ℕ) → leaf < 32 → is_complete (status_of t g (covering (status_of t g) leaf)) ≡ true
+whole_leaf : (o : OpeningValue) (t : Trace) → IsLegal o t → (g : ℕ) → is_whole t g ≡ true → (leaf : ℕ) → leaf < LEAVES → is_complete (status_of t g (covering (status_of t g) leaf)) ≡ true
 whole_leaf o t legal g whole = (all_complete_is (status_of t g) (grown o t legal g)).0 (reads_complete (reading (status_of t g) 1) whole)
 
 -- a segment that is whole stays so
-pub stays_whole : (o : OpeningValue) (t : Trace) (step : Step) (told : Answer) → IsLegal o ((step, told) ∷ t) → (g : ℕ) → is_whole t g ≡ true → is_whole ((step, told) ∷ t) g ≡ true
-stays_whole o t step told legal g whole = ap is_complete_reading ((all_complete_is (status_of ((step, told) ∷ t) g) (grown o ((step, told) ∷ t) legal g)).1 each)
+pub stays_whole : (o : OpeningValue) (t : Trace) (step : Step) (given : Answer) → IsLegal o ((step, given) ∷ t) → (g : ℕ) → is_whole t g ≡ true → is_whole ((step, given) ∷ t) g ≡ true
+stays_whole o t step given legal g whole = ap is_complete_reading ((all_complete_is (status_of ((step, given) ∷ t) g) (grown o ((step, given) ∷ t) legal g)).1 each)
   where
-    each : (leaf : ℕ) → leaf < 32 → is_complete (status_of ((step, told) ∷ t) g (covering (status_of ((step, told) ∷ t) g) leaf)) ≡ true
+    each : (leaf : ℕ) → leaf < LEAVES → is_complete (status_of ((step, given) ∷ t) g (covering (status_of ((step, given) ∷ t) g) leaf)) ≡ true
     each leaf few =
-        let now = status_of ((step, told) ∷ t) g in
+        let now = status_of ((step, given) ∷ t) g in
         let n = covering (status_of t g) leaf in
-        let complete = complete_past (status_of t g n) (now n) (later o t step told legal g n) (whole_leaf o t legal.1 g whole leaf few) in
+        let complete = complete_past (status_of t g n) (now n) (later o t step given legal g n) (whole_leaf o t legal.1 g whole leaf few) in
         let was = covering_is (status_of t g) (grown o t legal.1 g) leaf few in
         let touched = complete_touched (now n) complete in
-        let same = covering_touched now (grown o ((step, told) ∷ t) legal g) leaf n few was.node was.above touched.0 touched.1 in
+        let same = covering_touched now (grown o ((step, given) ∷ t) legal g) leaf n few was.node was.above touched.0 touched.1 in
         ap (λ k. is_complete (now k)) same ∙ complete
 
 -- what moves to a partition that reported is whole
@@ -79,16 +80,16 @@ pub reported_whole : (o : OpeningValue) (t : Trace) → IsLegal o t → (part g 
 reported_whole o [] legal part g reported there into = absurd (true≢false (sym reported))
 reported_whole o ((Report which, Done) ∷ t) legal part g reported there into =
     elim (or_cases (which == part) (is_reported t part) reported) [
-      | inl now ↦ into_whole o t part g (subst (λ p. has_all o t p ≡ true) (eqb-true which part now) (report_goes o t which legal.0).whole) there into
+      | inl now ↦ into_whole o t part g (subst (λ p. has_all o t p ≡ true) (eqb-true which part now) (report_goes o t which legal.0)) there into
       | inr before ↦ reported_whole o t legal.1 part g before there into
     ]
-reported_whole o ((Claim seg node pull, told) ∷ t) legal part g reported there into =
-    stays_whole o t (Claim seg node pull) told legal g (reported_whole o t legal.1 part g reported there into)
-reported_whole o ((Begin seg node pull, told) ∷ t) legal part g reported there into =
-    stays_whole o t (Begin seg node pull) told legal g (reported_whole o t legal.1 part g reported there into)
-reported_whole o ((Complete_step seg node pull, told) ∷ t) legal part g reported there into =
-    stays_whole o t (Complete_step seg node pull) told legal g (reported_whole o t legal.1 part g reported there into)
-reported_whole o ((step, told) ∷ t) legal part g reported there into = reported_whole o t legal.1 part g reported there into
+reported_whole o ((Claim seg node pull, given) ∷ t) legal part g reported there into =
+    stays_whole o t (Claim seg node pull) given legal g (reported_whole o t legal.1 part g reported there into)
+reported_whole o ((Begin seg node pull, given) ∷ t) legal part g reported there into =
+    stays_whole o t (Begin seg node pull) given legal g (reported_whole o t legal.1 part g reported there into)
+reported_whole o ((Complete_step seg node pull, given) ∷ t) legal part g reported there into =
+    stays_whole o t (Complete_step seg node pull) given legal g (reported_whole o t legal.1 part g reported there into)
+reported_whole o ((step, given) ∷ t) legal part g reported there into = reported_whole o t legal.1 part g reported there into
 
 module _ (o : OpeningValue) (is : IsOpening o) (t : Trace) (legal : IsLegal o t) where
   -- each key of a whole segment was loaded
@@ -107,14 +108,14 @@ module _ (o : OpeningValue) (is : IsOpening o) (t : Trace) (legal : IsLegal o t)
       (lt-ltb root (reached o g n (loads t)) (omega arith))
 
   -- where Finish goes, each segment is whole
-  finish_whole : FinishGoes o t → (g : ℕ) (segment : Range) → slice_get o.recon.segments g ≡ Some segment → is_whole t g ≡ true
-  finish_whole goes g segment there =
+  finish_whole : list_all (counts_reported o t) (partitions o) ≡ true → (g : ℕ) (segment : Range) → slice_get o.recon.segments g ≡ Some segment → is_whole t g ≡ true
+  finish_whole reported g segment there =
       let below = (ends_below o is g segment there).1 in
       let within = slice_get_within o.recon.segments g segment there in
       let into : is_into o segment.dst g ≡ true = ap (λ found. goes_into found segment.dst) there ∙ eq-eqb segment.dst segment.dst refl in
-      let told = list_all-Contains (counts_reported o t) (partitions o) segment.dst goes.reported (row_has 0 o.old.parts segment.dst (omega arith) (omega arith)) in
-      elim (or_cases (is_reported t segment.dst) (not (list_any (is_into o segment.dst) (segment_numbers o))) told) [
-        | inl reported ↦ reported_whole o t legal segment.dst g reported within into
+      let given = list_all-Contains (counts_reported o t) (partitions o) segment.dst reported (row_has 0 o.old.parts segment.dst (omega arith) (omega arith)) in
+      elim (or_cases (is_reported t segment.dst) (not (list_any (is_into o segment.dst) (segment_numbers o))) given) [
+        | inl did ↦ reported_whole o t legal segment.dst g did within into
         | inr none ↦
             absurd (true≢false (
             sym (list_any-Contains (is_into o segment.dst) (segment_numbers o) g (row_has 0 (length o.recon.segments) g (omega arith) (omega arith)) into)
@@ -122,14 +123,14 @@ module _ (o : OpeningValue) (is : IsOpening o) (t : Trace) (legal : IsLegal o t)
             ))
       ]
 
-  finish_place : FinishGoes o t → (root : ℕ) → place o t root ≡ At (destination o root)
-  finish_place goes root = among (segment_of o.recon.segments root) refl
+  finish_place : list_all (counts_reported o t) (partitions o) ≡ true → (root : ℕ) → place o t root ≡ At (destination o root)
+  finish_place reported root = among (segment_of o.recon.segments root) refl
     where
       among : (at : Option ℕ) → segment_of o.recon.segments root ≡ at → place o t root ≡ At (destination o root)
       among None none = uncut_home o is t legal root (cut_none o is t legal root none) ∙ ap At (unfound_stays o is root none)
       among (Some g) found =
           let at = found_in_segment o is root g found in
-          loaded_away o is t legal root (whole_loaded root g at.0 found at.1 (finish_whole goes g at.0 at.1.there))
+          loaded_away o is t legal root (whole_loaded root g at.0 found at.1 (finish_whole reported g at.0 at.1.there))
 
 -- nothing is cut or loaded any more
 ended_still : {A : Type 0} (now : Phase) → is_moving_phase now ≡ true → now ≡ Ended → A
@@ -144,4 +145,4 @@ ended_place o is ((Start, Done) ∷ t) legal ended root = absurd cc
 ended_place o is ((Finish, Done) ∷ t) legal ended root = finish_place o is t legal.1 (finish_goes o t legal.0) root
 ended_place o is ((Cut src dst, WasCut note families) ∷ t) legal ended root = ended_still (phase t) (cut_goes o t src dst note families legal.0).moving ended
 ended_place o is ((Load src dst, WasLoaded note families) ∷ t) legal ended root = ended_still (phase t) (load_goes o t src dst note families legal.0).moving ended
-ended_place o is ((step, told) ∷ t) legal ended root = ended_place o is t legal.1 ended root
+ended_place o is ((step, given) ∷ t) legal ended root = ended_place o is t legal.1 ended root

@@ -2,40 +2,43 @@
 use Rattle.std.proofs.Common.{◌≡◌, ⊎_elim, ℕ, ◌<◌, ◌≤◌, true, false, ◌==◌, ◌&&◌, not, nat_le, nat_lt, List, [], ◌∷◌, slice_get, find, Contains, Option, Some, None, is_some, refl, sym, ap, ◌∙◌, subst, true≢false, arith}
 use Rattle.std.specs.List.{range_with_len}
 use Rattle.std.proofs.lemmas.Bool.{and_parts, and_from, le-leb, leb-true, ltb-true, lt-ltb, eq-eqb, ne_eqb, cases_lt, cond-false, and_right, le-ltb}
+use Rattle.sq_tree.specs.declared.node.TheConstants.{LEAVES}
 use Rattle.sq_tree.specs.Node.{is_above}
 use Rattle.sq_plan.specs.declared.plan.PlanRange.{PlanRange}
-use Rattle.sq_plan.specs.PlanValue.{PlanValue, IsPlan, is_tiling, holds as plan_holds, owner, owner_in, root_end}
+use Rattle.sq_schema.specs.declared.root.TheConstants.{ROOT_END}
+use Rattle.sq_plan.specs.PlanValue.{PlanValue, IsPlan, is_tiling, holds, owner, owner_in}
 use Rattle.sq_ranges.specs.declared.recon.Range.{Range}
-use Rattle.sq_ranges.specs.ReconValue.{IsRecon, holds, segment_at, segment_count, segments_in, segments_of, segment_of, leaf_of, extent, is_link}
+use Rattle.sq_ranges.specs.declared.recon.TheConstants.{MAX_WIDTH}
+use Rattle.sq_ranges.specs.ReconValue.{IsRecon, has_key, segment_at, segment_count, segments_in, segments_of, segment_of, leaf_of, extent, is_link}
 use Rattle.sq_ranges.specs.OpeningValue.{OpeningValue}
 use Rattle.sq_ranges.proofs.Tilings.{holds_past, tiling_parts, tiling_bounds}
-use Rattle.sq_ranges.proofs.Joins.{holds_within}
+use Rattle.sq_ranges.proofs.Joins.{has_key-within}
 use Rattle.sq_ranges.proofs.Segments.{moves-rising, segment_stands, segment_of_held, segment_owners, found_owners, unfound_owner, found_moves}
 use Rattle.sq_ranges.proofs.Extents.{Covers, extent_low, extent_high, covers_from_above, above_from_covers, leaf_below}
-use Rattle.sq_model.specs.Opening.{IsOpening}
+use Rattle.sq_ranges.specs.Opening.{IsOpening}
 use Rattle.sq_model.specs.Place.{source, destination, moves, extent_in, extent_of, is_within}
 use Rattle.sq_model.proofs.Lists.{Contains-slice_get, found_in, list_any-Contains, list_all-Contains, map_in, flat_map_in}
 
 -- an owner is one of the partitions
 owner_below : (plan : PlanValue) (key : ℕ) → IsPlan plan → owner plan key < plan.parts
-owner_below plan key is = among (find (λ range. plan_holds range key) plan.ranges) refl
+owner_below plan key is = among (find (λ range. holds range key) plan.ranges) refl
   where
-    among : (found : Option PlanRange) → find (λ (range : PlanRange). plan_holds range key) plan.ranges ≡ found → owner_in found < plan.parts
+    among : (found : Option PlanRange) → find (λ (range : PlanRange). holds range key) plan.ranges ≡ found → owner_in found < plan.parts
     among None none = omega (arith, is.some_part)
     among (Some range) found =
-        let at = found_in (λ (other : PlanRange). plan_holds other key) plan.ranges range found in
+        let at = found_in (λ (other : PlanRange). holds other key) plan.ranges range found in
         ltb-true range.owner plan.parts (list_all-Contains (λ (other : PlanRange). nat_lt other.owner plan.parts) plan.ranges range is.owners at.0)
 
 -- past the last root key no range of a plan holds a key
-past_end : (key lo : ℕ) (ranges : List PlanRange) → root_end ≤ key → is_tiling lo ranges ≡ true → find (λ range. plan_holds range key) ranges ≡ None
+past_end : (key lo : ℕ) (ranges : List PlanRange) → ROOT_END ≤ key → is_tiling lo ranges ≡ true → find (λ range. holds range key) ranges ≡ None
 past_end key lo [] past tiling = refl
 past_end key lo (range ∷ ranges) past tiling =
     let parts = tiling_parts lo range ranges tiling in
     let ends = tiling_bounds range.hi ranges parts.2 in
-    cond-false (plan_holds range key) (Some range) (find (λ other. plan_holds other key) ranges) (holds_past range key (omega arith))
+    cond-false (holds range key) (Some range) (find (λ other. holds other key) ranges) (holds_past range key (omega arith))
     ∙ past_end key range.hi ranges past parts.2
 
-owner_past : (plan : PlanValue) (key : ℕ) → IsPlan plan → root_end ≤ key → owner plan key ≡ 0
+owner_past : (plan : PlanValue) (key : ℕ) → IsPlan plan → ROOT_END ≤ key → owner plan key ≡ 0
 owner_past plan key is past = ap owner_in (past_end key 0 plan.ranges past is.tiling)
 
 -- the key is one of these
@@ -55,10 +58,10 @@ within_covers o g n root segment there covers =
 -- the key lies in this segment, whose ends are its owners
 pub record IsIn (o : OpeningValue) (root g : ℕ) (segment : Range) : Type 0 where
   pub there : slice_get o.recon.segments g ≡ Some segment
-  pub held : holds segment root ≡ true
+  pub held : has_key segment root ≡ true
   pub source_is : source o root ≡ segment.src
   pub destination_is : destination o root ≡ segment.dst
-  pub leaf : leaf_of o.recon.width segment root < 32
+  pub leaf : leaf_of o.recon.width segment root < LEAVES
 
 -- the key lies in the extent of this node
 pub record IsUnder (o : OpeningValue) (root g n : ℕ) : Type 0 where
@@ -71,7 +74,7 @@ module _ (o : OpeningValue) (is : IsOpening o) where
   -- an opening has a reconfiguration
   pub recon_is : IsRecon o.recon
   recon_is = record {
-    leaf = and_from (nat_le 1 o.recon.width) (nat_le o.recon.width 65536) (le-leb 1 o.recon.width is.some_width) (le-leb o.recon.width 65536 is.small_width);
+    leaf = and_from (nat_le 1 o.recon.width) (nat_le o.recon.width MAX_WIDTH) (le-leb 1 o.recon.width is.some_width) (le-leb o.recon.width MAX_WIDTH is.small_width);
     rising = moves-rising o.old o.new o.recon.ranges is.moves;
     cut = is.segments;
     few = is.few_segments;
@@ -91,15 +94,15 @@ module _ (o : OpeningValue) (is : IsOpening o) where
         },
       )
 
-  pub in_segment_found : (root g : ℕ) (segment : Range) → slice_get o.recon.segments g ≡ Some segment → holds segment root ≡ true → segment_of o.recon.segments root ≡ Some g
+  pub in_segment_found : (root g : ℕ) (segment : Range) → slice_get o.recon.segments g ≡ Some segment → has_key segment root ≡ true → segment_of o.recon.segments root ≡ Some g
   in_segment_found root g segment there held = segment_of_held o.recon recon_is root g segment there held
 
   -- a key that no segment holds keeps its owner
   pub unfound_stays : (root : ℕ) → segment_of o.recon.segments root ≡ None → source o root ≡ destination o root
   unfound_stays root none = ⊎_elim
-      (λ (within : root < root_end). unfound_owner o.recon recon_is o.old o.new is.moves root within none)
-      (λ (past : root_end ≤ root). owner_past o.old root is.old_plan past ∙ sym (owner_past o.new root is.new_plan past))
-      (cases_lt root root_end)
+      (λ (within : root < ROOT_END). unfound_owner o.recon recon_is o.old o.new is.moves root within none)
+      (λ (past : ROOT_END ≤ root). owner_past o.old root is.old_plan past ∙ sym (owner_past o.new root is.new_plan past))
+      (cases_lt root ROOT_END)
 
   pub source_below : (root : ℕ) → source o root < o.old.parts
   source_below root = owner_below o.old root is.old_plan
@@ -111,7 +114,7 @@ module _ (o : OpeningValue) (is : IsOpening o) where
   pub ends_below : (g : ℕ) (segment : Range) → slice_get o.recon.segments g ≡ Some segment → (segment.src < o.old.parts) × (segment.dst < o.old.parts)
   ends_below g segment there =
       let stands = segment_stands o.recon recon_is g segment there in
-      let owners = segment_owners o.recon recon_is o.old o.new is.moves segment.lo g segment there (holds_within segment segment.lo (omega arith) stands.some) in
+      let owners = segment_owners o.recon recon_is o.old o.new is.moves segment.lo g segment there (has_key-within segment segment.lo (omega arith) stands.some) in
       (subst (λ p. p < o.old.parts) owners.0 (source_below segment.lo), subst (λ p. p < o.old.parts) owners.1 (destination_below segment.lo))
 
   -- each segment lies on a link
@@ -141,7 +144,7 @@ module _ (o : OpeningValue) (is : IsOpening o) where
       let order : segment.lo ≤ segment.hi = omega (arith, stands.some) in
       let low = extent_low o.recon.width segment n order in
       let high = extent_high o.recon.width segment n in
-      let held = holds_within segment root (omega (arith, covers.low)) (omega (arith, covers.high)) in
+      let held = has_key-within segment root (omega (arith, covers.low)) (omega (arith, covers.high)) in
       record {
         found = in_segment_found root g segment there held;
         segment = segment;

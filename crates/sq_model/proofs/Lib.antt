@@ -1,5 +1,4 @@
 pub mod Apart
-pub mod Counts
 pub mod Ended
 pub mod Keys
 pub mod Link
@@ -7,9 +6,9 @@ pub mod Lists
 pub mod Notes
 pub mod Numbers
 pub mod Orderly
-pub mod Phases
 pub mod Places
 pub mod Routing
 pub mod Statuses
 pub mod Steps
 pub mod Tiles
+pub mod Waiters

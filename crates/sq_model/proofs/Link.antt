@@ -3,7 +3,7 @@ use Rattle.std.proofs.Common.{◌≡◌, ℕ, true, ◌==◌, ◌&&◌, List, �
 use Rattle.std.proofs.lemmas.Bool.{and_parts, and_from, eqb-true, eq-eqb, cond_both}
 use Rattle.sq_chunk.specs.declared.chunk.Note.{Note}
 use Rattle.sq_model.specs.Trace.{link}
-use Rattle.sq_model.proofs.Lists.{kept_in, Contains-filter, filter-first}
+use Rattle.sq_model.proofs.Lists.{kept_in, Contains-filter}
 
 -- the note is of this link
 pub record IsOf (src dst : ℕ) (note : Note) : Type 0 where
@@ -32,6 +32,3 @@ pub link_at : (P : List Note → Type 0) (src dst : ℕ) (note : Note) (notes : 
 link_at P src dst note notes more same =
     cond_both ((note.src == src) && (note.dst == dst)) (note ∷ link src dst notes) (link src dst notes) P
     (λ test. more (is_of_test src dst note test)) (λ other. same)
-
-pub link-first : (src dst : ℕ) (note : Note) (notes : List Note) → IsOf src dst note → link src dst (note ∷ notes) ≡ note ∷ link src dst notes
-link-first src dst note notes is = filter-first (λ (other : Note). (other.src == src) && (other.dst == dst)) note notes (test_is_of src dst note is)

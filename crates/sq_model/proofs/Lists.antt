@@ -1,9 +1,10 @@
 -- Lists: what they contain, what is found in them and what a filter keeps of them.
 use Rattle.std.proofs.Common.{◌≡◌, ◌⊎◌, inl, inr, ℕ, zero, suc, ◌+◌, ◌<◌, ◌≤◌, Bool, true, false, ◌||◌, if◌then◌else◌, List, [], ◌∷◌, map, length, get_or, slice_get, find, filter, Contains, Option, Some, None, refl, sym, ap, ◌∙◌, subst, true≢false, arith}
 use Rattle.std.specs.List.{list_any, list_all, flat_map, range_with_len}
-use Rattle.std.proofs.lemmas.Bool.{cases_Bool, cases_eq, and_parts, cond-true, cond-false, or_left, or_right, false_from_ne_true}
+use Rattle.std.proofs.lemmas.Bool.{cases_Bool, cases_eq, and_parts, cond-true, cond-false, or_left, or_right, false_from_ne_true, or_parts}
 use Rattle.std.proofs.lemmas.List.Elements.{Contains-append_cases}
 use Rattle.std.proofs.lemmas.List.Folds.{Any-from_list_any}
+use Rattle.std.proofs.lemmas.Option.{slice_get-get_or}
 
 -- what a list contains
 
@@ -27,6 +28,9 @@ pub Contains-slice_get : {X : Type 0} (xs : List X) (i : ℕ) (x : X) → slice_
 Contains-slice_get [] i x at = absurd cc
 Contains-slice_get (y ∷ xs) zero x at = (0, omega arith, cc)
 Contains-slice_get (y ∷ xs) (suc i) x at = Contains-later y xs x (Contains-slice_get xs i x at)
+
+pub slice_get-Contains : {X : Type 0} (xs : List X) (x : X) (has : Contains xs x) → slice_get xs has.0 ≡ Some x
+slice_get-Contains xs x has = slice_get-get_or xs has.0 x has.1 ∙ ap Some has.2
 
 -- what is found
 
@@ -81,6 +85,11 @@ filter-first p x xs passes = cond-true (p x) (x ∷ filter p xs) (filter p xs) p
 
 pub filter-other : {X : Type 0} (p : X → Bool) (x : X) (xs : List X) → p x ≡ false → filter p (x ∷ xs) ≡ filter p xs
 filter-other p x xs fails = cond-false (p x) (x ∷ filter p xs) (filter p xs) fails
+
+-- a test that no element passes keeps none
+pub nothing_kept : {X : Type 0} (p : X → Bool) (xs : List X) → list_any p xs ≡ false → filter p xs ≡ []
+nothing_kept p [] none = refl
+nothing_kept p (x ∷ xs) none = let parts = or_parts (p x) (list_any p xs) none in filter-other p x xs parts.0 ∙ nothing_kept p xs parts.1
 
 pub Contains-filter : {X : Type 0} (p : X → Bool) (xs : List X) (x : X) → Contains xs x → p x ≡ true → Contains (filter p xs) x
 Contains-filter p [] x has passes = has

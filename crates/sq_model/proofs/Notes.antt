@@ -1,5 +1,5 @@
 -- On a legal trace each note is about a begun node, the notes tile their nodes and are numbered, and those of the loads are the beginning of them.
-use Rattle.std.proofs.Common.{◌≡◌, inl, inr, ℕ, ◌≤◌, true, false, ◌==◌, ◌&&◌, not, List, [], ◌∷◌, ◌++◌, length, slice_get, find, Contains, Option, Some, None, refl, sym, ap, ◌∙◌, ap₂, subst, subst₂, true≢false, append_assoc}
+use Rattle.std.proofs.Common.{◌≡◌, inl, inr, ℕ, true, false, ◌==◌, ◌&&◌, not, List, [], ◌∷◌, ◌++◌, length, slice_get, find, Contains, Option, Some, None, refl, sym, ap, ◌∙◌, ap₂, subst, subst₂, true≢false, append_assoc}
 use Rattle.std.proofs.lemmas.Bool.{and_parts, and_from, eqb-true, eq-eqb, not-true, or_right, false_from_ne_true}
 use Rattle.std.proofs.lemmas.List.Elements.{Contains-append_right}
 use Rattle.sq_tree.specs.declared.status.Status.TheVariants.{Claimed, Partial, Complete}
@@ -17,11 +17,10 @@ use Rattle.sq_model.specs.Orderly.{IsPrefix, AreNumbered, GoesOn, Tiles, AllLeav
 use Rattle.sq_model.specs.Legal.{IsLegal}
 use Rattle.sq_model.proofs.Lists.{Contains-nothing, Contains-cases, Contains-first, Contains-later, kept_in, found_in, find-filter, list_any-filter, list_any-Contains, any_in}
 use Rattle.sq_model.proofs.Link.{IsOf, link_has, link_at, Contains-link}
-use Rattle.sq_model.proofs.Steps.{cut_goes, LoadGoes, load_goes, complete_goes}
-use Rattle.sq_model.proofs.Counts.{cut_is_of, load_is_of}
+use Rattle.sq_model.proofs.Steps.{cut_goes, LoadGoes, load_goes, complete_goes, cut_is_of, load_is_of}
 use Rattle.sq_model.proofs.Statuses.{item_begun, stays_begun, set_if_at}
 use Rattle.sq_model.proofs.Numbers.{find_next, found_next}
-use Rattle.sq_model.proofs.Tiles.{about_is, reached_within, tile, cut_end_within}
+use Rattle.sq_model.proofs.Tiles.{about_is, reached_within, cut_end_within}
 
 -- the segment of this number goes from the one partition to the other
 pub record SegmentGoes (o : OpeningValue) (seg src dst : ℕ) : Type 0 where
@@ -83,7 +82,7 @@ note_goes o ((Cut src dst, WasCut next families) ∷ t) legal note has =
           subst (λ (n : Note). SegmentGoes o n.seg n.src n.dst) (sym cut.noted ∙ same) item.segment
       | inr older ↦ note_goes o t legal.1 note older
     ]
-note_goes o ((step, told) ∷ t) legal note has = note_goes o t legal.1 note has
+note_goes o ((step, given) ∷ t) legal note has = note_goes o t legal.1 note has
 
 -- and its node is begun
 pub note_begun : (o : OpeningValue) (t : Trace) → IsLegal o t → (note : Note) → Contains (notes t) note → is_begun (status_of t note.seg note.node) ≡ true
@@ -93,13 +92,13 @@ note_begun o ((Cut src dst, WasCut next families) ∷ t) legal note has =
       | inl same ↦
           let cut = cut_goes o t src dst next families legal.0 in
           let item = cut_item o t src dst cut.item cut.next in
-          subst (λ (n : Note). is_begun (status_of t n.seg n.node) ≡ true) (sym cut.noted ∙ same) (item_begun o t legal.1 cut.item item.among).begun
+          subst (λ (n : Note). is_begun (status_of t n.seg n.node) ≡ true) (sym cut.noted ∙ same) (item_begun o t legal.1 cut.item item.among)
       | inr older ↦ note_begun o t legal.1 note older
     ]
-note_begun o ((Claim seg node pull, Done) ∷ t) legal note has = (stays_begun o t (Claim seg node pull) Done legal note.seg note.node (note_begun o t legal.1 note has)).0
-note_begun o ((Begin seg node pull, Done) ∷ t) legal note has = (stays_begun o t (Begin seg node pull) Done legal note.seg note.node (note_begun o t legal.1 note has)).0
-note_begun o ((Complete_step seg node pull, Done) ∷ t) legal note has = (stays_begun o t (Complete_step seg node pull) Done legal note.seg note.node (note_begun o t legal.1 note has)).0
-note_begun o ((step, told) ∷ t) legal note has = note_begun o t legal.1 note has
+note_begun o ((Claim seg node pull, Done) ∷ t) legal note has = stays_begun o t (Claim seg node pull) Done legal note.seg note.node (note_begun o t legal.1 note has)
+note_begun o ((Begin seg node pull, Done) ∷ t) legal note has = stays_begun o t (Begin seg node pull) Done legal note.seg note.node (note_begun o t legal.1 note has)
+note_begun o ((Complete_step seg node pull, Done) ∷ t) legal note has = stays_begun o t (Complete_step seg node pull) Done legal note.seg note.node (note_begun o t legal.1 note has)
+note_begun o ((step, given) ∷ t) legal note has = note_begun o t legal.1 note has
 
 -- the notes of a link are numbered
 pub numbered : (o : OpeningValue) (t : Trace) → IsLegal o t → (src dst : ℕ) → AreNumbered (link src dst (notes t))
@@ -111,7 +110,7 @@ numbered o ((Cut from to, WasCut note families) ∷ t) legal src dst =
     link_at AreNumbered src dst note (notes t)
     (λ is. (ap (λ (n : Note). n.number) cut.noted ∙ ap₂ (λ a b. length (link a b (notes t))) (sym of.source ∙ is.source) (sym of.destination ∙ is.destination), before))
     before
-numbered o ((step, told) ∷ t) legal src dst = numbered o t legal.1 src dst
+numbered o ((step, given) ∷ t) legal src dst = numbered o t legal.1 src dst
 
 -- the next note of an item goes on where those before it end
 next_goes_on : (o : OpeningValue) (t : Trace) (src dst : ℕ) (item : Item) → Tiles o (notes t) → has_last item.seg item.node (notes t) ≡ false → GoesOn o (next_note o t src dst item) (notes t)
@@ -128,7 +127,7 @@ tiles_notes o ((Cut src dst, WasCut note families) ∷ t) legal =
     let cut = cut_goes o t src dst note families legal.0 in
     let item = cut_item o t src dst cut.item cut.next in
     (subst (λ (n : Note). GoesOn o n (notes t)) (sym cut.noted) (next_goes_on o t src dst cut.item before item.unfinished), before)
-tiles_notes o ((step, told) ∷ t) legal = tiles_notes o t legal.1
+tiles_notes o ((step, given) ∷ t) legal = tiles_notes o t legal.1
 
 -- a Load loads the note that comes right after those that were loaded
 pub record LoadNext (t : Trace) (src dst : ℕ) (note : Note) : Type 0 where
@@ -163,7 +162,7 @@ prefix o ((Load from to, WasLoaded note families) ∷ t) legal src dst =
     let next = next_from t src dst note (numbered o t legal.1 src dst) before here.found in
     (next.front, next.notes_are))
     before
-prefix o ((step, told) ∷ t) legal src dst = prefix o t legal.1 src dst
+prefix o ((step, given) ∷ t) legal src dst = prefix o t legal.1 src dst
 
 pub load_next : (o : OpeningValue) (t : Trace) → IsLegal o t → (src dst : ℕ) (note : Note) (families : ℕ) → LoadGoes o t src dst note families → LoadNext t src dst note
 load_next o t legal src dst note families load = next_from t src dst note (numbered o t legal src dst) (prefix o t legal src dst) load.found
@@ -257,7 +256,7 @@ tiles_loads o [] legal = tt
 tiles_loads o ((Load src dst, WasLoaded note families) ∷ t) legal =
     let next = load_next o t legal.1 src dst note families (load_goes o t src dst note families legal.0) in
     (next_goes o t legal.1 src dst note next, tiles_loads o t legal.1)
-tiles_loads o ((step, told) ∷ t) legal = tiles_loads o t legal.1
+tiles_loads o ((step, given) ∷ t) legal = tiles_loads o t legal.1
 
 -- no note is about a node that isn't begun
 pub unbegun_none : (o : OpeningValue) (t : Trace) → IsLegal o t → (seg node : ℕ) → is_begun (status_of t seg node) ≡ false → find (is_about seg node) (notes t) ≡ None
@@ -276,17 +275,6 @@ last_cut o t legal seg node last =
     let at = any_in (λ (note : Note). is_about seg node note && note.last) (loads t) last in
     list_any-Contains (λ (note : Note). is_about seg node note && note.last) (notes t) at.0 (loaded_in o t legal at.0 at.1) at.2
 
--- no node is loaded further than it was cut
-loads_behind_at : (o : OpeningValue) (t : Trace) → IsLegal o t → (seg node : ℕ) (found : Option Note) → find (is_about seg node) (loads t) ≡ found → end_of_note (extent_of o seg node).lo found ≤ reached o seg node (notes t)
-loads_behind_at o t legal seg node None none = (reached_within o (notes t) (tiles_notes o t legal) seg node).from
-loads_behind_at o t legal seg node (Some note) some =
-    let at = found_in (is_about seg node) (loads t) note some in
-    let is = about_is seg node note at.1 in
-    subst₂ (λ g n. note.hi ≤ reached o g n (notes t)) is.0 is.1 (tile o (notes t) (tiles_notes o t legal) note (loaded_in o t legal note at.0)).behind
-
-pub loads_behind : (o : OpeningValue) (t : Trace) → IsLegal o t → (seg node : ℕ) → reached o seg node (loads t) ≤ reached o seg node (notes t)
-loads_behind o t legal seg node = loads_behind_at o t legal seg node (find (is_about seg node) (loads t)) refl
-
 -- of a complete node the last note was loaded
 pub complete_loaded : (o : OpeningValue) (t : Trace) → IsLegal o t → (g n : ℕ) → is_complete (status_of t g n) ≡ true → has_last g n (loads t) ≡ true
 complete_loaded o [] legal g n complete = absurd (true≢false (sym complete))
@@ -301,7 +289,7 @@ complete_loaded o ((Complete_step seg node pull, Done) ∷ t) legal g n complete
     (λ same there is. subst₂ (λ a b. has_last a b (loads t) ≡ true) same there (complete_goes o t seg node pull legal.0).loaded) (complete_loaded o t legal.1 g n) complete
 complete_loaded o ((Load src dst, WasLoaded note families) ∷ t) legal g n complete =
     or_right (is_about g n note && note.last) (has_last g n (loads t)) (complete_loaded o t legal.1 g n complete)
-complete_loaded o ((step, told) ∷ t) legal g n complete = complete_loaded o t legal.1 g n complete
+complete_loaded o ((step, given) ∷ t) legal g n complete = complete_loaded o t legal.1 g n complete
 
 -- nothing of a complete node moves
 pub leaves_complete : (o : OpeningValue) (t : Trace) → IsLegal o t → AllLeaveComplete t
@@ -319,4 +307,4 @@ leaves_complete o ((Load src dst, WasLoaded note families) ∷ t) legal = (
       true≢false (sym (complete_loaded o t legal.1 note.seg note.node complete) ∙ (tiles_loads o ((Load src dst, WasLoaded note families) ∷ t) legal).0.first_last)),
   leaves_complete o t legal.1,
 )
-leaves_complete o ((step, told) ∷ t) legal = (tt, leaves_complete o t legal.1)
+leaves_complete o ((step, given) ∷ t) legal = (tt, leaves_complete o t legal.1)

@@ -7,7 +7,7 @@ use Rattle.sq_chunk.specs.declared.chunk.Note.{Note}
 use Rattle.sq_chunk.specs.ChunkValue.{covers}
 use Rattle.sq_ranges.specs.declared.recon.Range.{Range}
 use Rattle.sq_ranges.specs.OpeningValue.{OpeningValue}
-use Rattle.sq_model.specs.Opening.{IsOpening}
+use Rattle.sq_ranges.specs.Opening.{IsOpening}
 use Rattle.sq_model.specs.Trace.{Trace, notes, loads, link}
 use Rattle.sq_model.specs.Nodes.{Item, status_of, items}
 use Rattle.sq_model.specs.Place.{At, Under_way, place, cut_place, loaded_place, source, destination, runner, is_covered, is_begun_over, extent_of, is_within}
@@ -115,20 +115,17 @@ module _ (o : OpeningValue) (is : IsOpening o) (t : Trace) (legal : IsLegal o t)
       let keys = extent_of o item.seg item.node in
       let low = (reached_within o (notes t) (tiles_notes o t legal) item.seg item.node).from in
       let within : is_within keys root ≡ true = and_from (nat_le keys.lo root) (nat_lt root keys.hi) (le-leb keys.lo root (omega arith)) (lt-ltb root keys.hi upto) in
-      let over = begun_over o is t legal root item.seg item.node within (item_begun o t legal item has).begun in
+      let over = begun_over o is t legal root item.seg item.node within (item_begun o t legal item has) in
       cut_is o is t legal root item.seg over.0 over.1.found over.1.at.there
       ∙ ap (λ n. is_begun (status_of t item.seg n) && nat_lt root (reached o item.seg n (notes t))) over.1.node
       ∙ and_right (is_begun (status_of t item.seg item.node)) (nat_lt root (reached o item.seg item.node (notes t))) (le-ltb root (reached o item.seg item.node (notes t)) from)
-
-  pub left_unloaded : (item : Item) → Contains (items t) item → (root : ℕ) → reached o item.seg item.node (notes t) ≤ root → root < (extent_of o item.seg item.node).hi → find (λ note. covers note root) (loads t) ≡ None
-  left_unloaded item has root from upto = nothing_found (λ (note : Note). covers note root) (loads t) (uncut_unloaded root (left_uncut item has root from upto))
 
   pub left_home : (src dst : ℕ) (item : Item) → IsOpenOn o t src dst item → (root : ℕ) → reached o item.seg item.node (notes t) ≤ root → root < (extent_of o item.seg item.node).hi → place o t root ≡ At src
   left_home src dst item is_item root from upto =
       let keys = extent_of o item.seg item.node in
       let low = (reached_within o (notes t) (tiles_notes o t legal) item.seg item.node).from in
       let within : is_within keys root ≡ true = and_from (nat_le keys.lo root) (nat_lt root keys.hi) (le-leb keys.lo root (omega arith)) (lt-ltb root keys.hi upto) in
-      let over = begun_over o is t legal root item.seg item.node within (item_begun o t legal item is_item.among).begun in
+      let over = begun_over o is t legal root item.seg item.node within (item_begun o t legal item is_item.among) in
       let goes = is_item.segment in
       let same : over.0 ≡ goes.segment = let e = sym over.1.at.there ∙ goes.there in cc in
       uncut_home root (left_uncut item is_item.among root from upto) ∙ ap At (over.1.at.source_is ∙ ap (λ (s : Range). s.src) same ∙ goes.source)

@@ -8,7 +8,7 @@ use Rattle.sq_chunk.specs.ChunkValue.{covers}
 use Rattle.sq_ranges.specs.declared.recon.Range.{Range}
 use Rattle.sq_ranges.specs.ReconValue.{segment_of, leaf_of}
 use Rattle.sq_ranges.specs.OpeningValue.{OpeningValue}
-use Rattle.sq_model.specs.Opening.{IsOpening}
+use Rattle.sq_ranges.specs.Opening.{IsOpening}
 use Rattle.sq_model.specs.Trace.{Trace, notes, loads}
 use Rattle.sq_model.specs.Nodes.{Item, status_of, items}
 use Rattle.sq_model.specs.Place.{is_covered, extent_of, is_within, is_begun_over}
@@ -35,7 +35,7 @@ module _ (o : OpeningValue) (is : IsOpening o) (t : Trace) (legal : IsLegal o t)
   begun_over_none root none =
       false_from_ne_true (is_begun_over o t root) (λ any.
       let at = any_in (λ (item : Item). is_within (extent_of o item.seg item.node) root) (items t) any in
-      let over = begun_over o is t legal root at.0.seg at.0.node at.2 (item_begun o t legal at.0 at.1).begun in
+      let over = begun_over o is t legal root at.0.seg at.0.node at.2 (item_begun o t legal at.0 at.1) in
       let e : Some at.0.seg ≡ None = sym over.1.found ∙ none in
       absurd cc)
 
@@ -98,7 +98,7 @@ module _ (o : OpeningValue) (is : IsOpening o) (t : Trace) (legal : IsLegal o t)
         there_is : is_begun_over o t root ≡ true → is_begun (status_of t g node) ≡ true
         there_is any =
             let at = any_in (λ (item : Item). is_within (extent_of o item.seg item.node) root) (items t) any in
-            let begun = (item_begun o t legal at.0 at.1).begun in
+            let begun = item_begun o t legal at.0 at.1 in
             let over = begun_over o is t legal root at.0.seg at.0.node at.2 begun in
             let same = same_node at.0.seg at.0.node over.0 over.1.found over.1.at over.1.node in
             subst₂ (λ k n. is_begun (status_of t k n) ≡ true) same.0 same.1 begun

@@ -1,19 +1,17 @@
 -- On a legal trace the statuses of each segment are grown, and they are begun exactly where an item is.
-use Rattle.std.proofs.Common.{◌≡◌, inl, inr, ℕ, ◌<◌, ◌≤◌, Bool, true, false, ◌==◌, ◌&&◌, if◌then◌else◌, IsTrue, [], ◌∷◌, ◌++◌, length, slice_get, Some, Contains, refl, sym, ap, ap₂, ◌∙◌, subst, arith, true≢false}
+use Rattle.std.proofs.Common.{◌≡◌, inl, inr, ℕ, ◌<◌, Bool, true, false, ◌==◌, ◌&&◌, if◌then◌else◌, IsTrue, [], ◌∷◌, ◌++◌, length, Contains, refl, sym, ap, ◌∙◌, subst, arith, true≢false}
 use Rattle.std.specs.Cmp.{IsEquivalence}
 use Rattle.std.specs.List.{list_any, IsDistinct}
-use Rattle.std.proofs.lemmas.Bool.{cases_Bool, cond_both, and_parts, and_from, cases_order, eqb-true, eq-eqb, false_from_ne_true}
+use Rattle.std.proofs.lemmas.Bool.{cases_Bool, cond_both, and_parts, eqb-true, eq-eqb, false_from_ne_true}
 use Rattle.std.proofs.lemmas.Bool.Decides.{nat_tests}
 use Rattle.std.proofs.lemmas.List.Elements.{Contains-push, Contains-push_cases, Contains-append_left}
-use Rattle.std.proofs.lemmas.Map.Keys.{IsDistinct-push, apart_from_distinct}
-use Rattle.std.proofs.lemmas.Option.{slice_get_within, get_or_from_slice_get}
+use Rattle.std.proofs.lemmas.Map.Keys.{IsDistinct-push}
 use Rattle.sq_tree.specs.declared.status.Status.{Status}
 use Rattle.sq_tree.specs.declared.status.Status.TheVariants.{Free, Split, Claimed, Partial, Complete}
 use Rattle.sq_tree.specs.Node.{is_node}
 use Rattle.sq_tree.specs.Status.{is_free, is_split, is_begun, is_past, pull_of}
 use Rattle.sq_tree.specs.Tree.{IsGrown}
 use Rattle.sq_tree.proofs.Changed.{set_at}
-use Rattle.sq_tree.proofs.Statuses.{free_is}
 use Rattle.sq_tree.proofs.Grown.{grown-free, grown-set_at}
 use Rattle.sq_ranges.specs.OpeningValue.{OpeningValue}
 use Rattle.sq_model.specs.declared.step.Step.{Step}
@@ -42,20 +40,23 @@ grown-set_if sts seg node g st other here =
 pub grown : (o : OpeningValue) (t : Trace) → IsLegal o t → (g : ℕ) → IsGrown (status_of t g)
 grown o [] legal g = grown-free (λ n. Free) (λ n. refl)
 grown o ((Claim seg node pull, Done) ∷ t) legal g =
-    let was = (claim_goes o t seg node pull legal.0).claims in
+    let goes = claim_goes o t seg node pull legal.0 in
+    let was = goes.claims in
     grown-set_if (status_of t) seg node g (Claimed pull) (grown o t legal.1 g)
-    (grown-set_at (status_of t seg) node (Claimed pull) (grown o t legal.1 seg) was.node was.live (ap is_split was.free) (λ leaf. refl))
+    (grown-set_at (status_of t seg) node (Claimed pull) (grown o t legal.1 seg) goes.exists was.live (ap is_split was.free) (λ leaf. refl))
 grown o ((Begin seg node pull, Done) ∷ t) legal g =
-    let was = (begin_goes o t seg node pull legal.0).begins in
+    let goes = begin_goes o t seg node pull legal.0 in
+    let was = goes.begins in
     let before = grown o t legal.1 seg in
     grown-set_if (status_of t) seg node g (Partial pull) (grown o t legal.1 g)
-    (grown-set_at (status_of t seg) node (Partial pull) before was.node (before.live node (ap is_free was.claimed)) (ap is_split was.claimed) (λ leaf. refl))
+    (grown-set_at (status_of t seg) node (Partial pull) before goes.exists (before.live node (ap is_free was.claimed)) (ap is_split was.claimed) (λ leaf. refl))
 grown o ((Complete_step seg node pull, Done) ∷ t) legal g =
-    let was = (complete_goes o t seg node pull legal.0).completes in
+    let goes = complete_goes o t seg node pull legal.0 in
+    let was = goes.completes in
     let before = grown o t legal.1 seg in
     grown-set_if (status_of t) seg node g (Complete pull) (grown o t legal.1 g)
-    (grown-set_at (status_of t seg) node (Complete pull) before was.node (before.live node (ap is_free was.begun)) (ap is_split was.begun) (λ leaf. refl))
-grown o ((step, told) ∷ t) legal g = grown o t legal.1 g
+    (grown-set_at (status_of t seg) node (Complete pull) before goes.exists (before.live node (ap is_free was.begun)) (ap is_split was.begun) (λ leaf. refl))
+grown o ((step, given) ∷ t) legal g = grown o t legal.1 g
 
 -- what is set at a node is there, and the others keep what they have
 pub set_if_at : (P : Status → Type 0) (seg node : ℕ) (new : Status) (g n : ℕ) (before : Status) → (seg ≡ g → node ≡ n → P new) → P before → P (set_if seg node new g n before)
@@ -75,7 +76,7 @@ is_past-same (Partial p) = eq-eqb p p refl
 is_past-same (Complete p) = eq-eqb p p refl
 
 -- no status goes back
-pub later : (o : OpeningValue) (t : Trace) (step : Step) (told : Answer) → IsLegal o ((step, told) ∷ t) → (g n : ℕ) → is_past (status_of t g n) (status_of ((step, told) ∷ t) g n) ≡ true
+pub later : (o : OpeningValue) (t : Trace) (step : Step) (given : Answer) → IsLegal o ((step, given) ∷ t) → (g n : ℕ) → is_past (status_of t g n) (status_of ((step, given) ∷ t) g n) ≡ true
 later o t (Claim seg node pull) Done legal g n =
     set_if_at (λ st. is_past (status_of t g n) st ≡ true) seg node (Claimed pull) g n (status_of t g n)
     (λ same there. let was = (claim_goes o t seg node pull legal.0).claims.free in let e : status_of t g n ≡ Free = cc in subst (λ st. is_past st (Claimed pull) ≡ true) (sym e) refl)
@@ -88,17 +89,17 @@ later o t (Complete_step seg node pull) Done legal g n =
     set_if_at (λ st. is_past (status_of t g n) st ≡ true) seg node (Complete pull) g n (status_of t g n)
     (λ same there. let was = (complete_goes o t seg node pull legal.0).completes.begun in let e : status_of t g n ≡ Partial pull = cc in subst (λ st. is_past st (Complete pull) ≡ true) (sym e) (eq-eqb pull pull refl))
     (is_past-same (status_of t g n))
-later o t step told legal g n = is_past-same (status_of t g n)
+later o t step given legal g n = is_past-same (status_of t g n)
 
-begun_past : (one other : Status) → is_past one other ≡ true → is_begun one ≡ true → (is_begun other ≡ true) × (pull_of other ≡ pull_of one)
-begun_past (Partial p) (Partial q) past begun = (refl, sym (eqb-true p q past))
-begun_past (Partial p) (Complete q) past begun = (refl, sym (eqb-true p q past))
-begun_past (Complete p) (Complete q) past begun = (refl, sym (eqb-true p q past))
+begun_past : (one other : Status) → is_past one other ≡ true → is_begun one ≡ true → is_begun other ≡ true
+begun_past (Partial p) (Partial q) past begun = refl
+begun_past (Partial p) (Complete q) past begun = refl
+begun_past (Complete p) (Complete q) past begun = refl
 begun_past one other past begun = absurd cc
 
--- a begun node stays begun, by the pull that began it
-pub stays_begun : (o : OpeningValue) (t : Trace) (step : Step) (told : Answer) → IsLegal o ((step, told) ∷ t) → (g n : ℕ) → is_begun (status_of t g n) ≡ true → (is_begun (status_of ((step, told) ∷ t) g n) ≡ true) × (pull_of (status_of ((step, told) ∷ t) g n) ≡ pull_of (status_of t g n))
-stays_begun o t step told legal g n begun = begun_past (status_of t g n) (status_of ((step, told) ∷ t) g n) (later o t step told legal g n) begun
+-- a begun node stays begun
+pub stays_begun : (o : OpeningValue) (t : Trace) (step : Step) (given : Answer) → IsLegal o ((step, given) ∷ t) → (g n : ℕ) → is_begun (status_of t g n) ≡ true → is_begun (status_of ((step, given) ∷ t) g n) ≡ true
+stays_begun o t step given legal g n begun = begun_past (status_of t g n) (status_of ((step, given) ∷ t) g n) (later o t step given legal g n) begun
 
 -- where a status isn't free, there is this segment and this node
 pub record IsThere (o : OpeningValue) (g n : ℕ) : Type 0 where
@@ -115,57 +116,28 @@ pub is_there : (o : OpeningValue) (t : Trace) → IsLegal o t → (g n : ℕ) �
 is_there o [] legal g n touched = absurd (true≢false touched)
 is_there o ((Claim seg node pull, Done) ∷ t) legal g n touched =
     let goes = claim_goes o t seg node pull legal.0 in
-    there_if o seg node (Claimed pull) g n (status_of t g n) (record { segment = goes.segment; node = goes.claims.node }) (is_there o t legal.1 g n) touched
+    there_if o seg node (Claimed pull) g n (status_of t g n) (record { segment = goes.segment; node = goes.exists }) (is_there o t legal.1 g n) touched
 is_there o ((Begin seg node pull, Done) ∷ t) legal g n touched =
     let goes = begin_goes o t seg node pull legal.0 in
-    there_if o seg node (Partial pull) g n (status_of t g n) (record { segment = goes.segment; node = goes.begins.node }) (is_there o t legal.1 g n) touched
+    there_if o seg node (Partial pull) g n (status_of t g n) (record { segment = goes.segment; node = goes.exists }) (is_there o t legal.1 g n) touched
 is_there o ((Complete_step seg node pull, Done) ∷ t) legal g n touched =
     let goes = complete_goes o t seg node pull legal.0 in
-    there_if o seg node (Complete pull) g n (status_of t g n) (record { segment = goes.segment; node = goes.completes.node }) (is_there o t legal.1 g n) touched
-is_there o ((step, told) ∷ t) legal g n touched = is_there o t legal.1 g n touched
+    there_if o seg node (Complete pull) g n (status_of t g n) (record { segment = goes.segment; node = goes.exists }) (is_there o t legal.1 g n) touched
+is_there o ((step, given) ∷ t) legal g n touched = is_there o t legal.1 g n touched
 
--- so it is free past the last segment, and for what isn't a node
-pub free_past : (o : OpeningValue) (t : Trace) → IsLegal o t → (g n : ℕ) → length o.recon.segments ≤ g → status_of t g n ≡ Free
-free_past o t legal g n beyond =
-    elim (cases_Bool (is_free (status_of t g n))) [
-      | inl free ↦ free_is (status_of t g n) free
-      | inr touched ↦ absurd (omega (arith, (is_there o t legal g n touched).segment))
-    ]
-
-pub free_nowhere : (o : OpeningValue) (t : Trace) → IsLegal o t → (g n : ℕ) → is_node n ≡ false → status_of t g n ≡ Free
-free_nowhere o t legal g n nowhere =
-    elim (cases_Bool (is_free (status_of t g n))) [
-      | inl free ↦ free_is (status_of t g n) free
-      | inr touched ↦ absurd (true≢false (sym (is_there o t legal g n touched).node ∙ nowhere))
-    ]
-
--- a node is begun for this pull
-pub record IsBegunFor (st : Status) (pull : ℕ) : Type 0 where
-  pub begun : is_begun st ≡ true
-  pub pull_is : pull_of st ≡ pull
-
--- each item's node is begun for its pull
-pub item_begun : (o : OpeningValue) (t : Trace) → IsLegal o t → (item : Item) → Contains (items t) item → IsBegunFor (status_of t item.seg item.node) item.pull
+-- each item's node is begun
+pub item_begun : (o : OpeningValue) (t : Trace) → IsLegal o t → (item : Item) → Contains (items t) item → is_begun (status_of t item.seg item.node) ≡ true
 item_begun o [] legal item has = absurd (Contains-nothing item has)
 item_begun o ((Begin seg node pull, Done) ∷ t) legal item has =
     elim (Contains-push_cases (items t) (record { seg = seg; node = node; pull = pull }) item has) [
-      | inl older ↦
-          let before = item_begun o t legal.1 item older in
-          let after = stays_begun o t (Begin seg node pull) Done legal item.seg item.node before.begun in
-          record { begun = after.0; pull_is = after.1 ∙ before.pull_is }
+      | inl older ↦ stays_begun o t (Begin seg node pull) Done legal item.seg item.node (item_begun o t legal.1 item older)
       | inr new ↦
-          subst (λ (other : Item). IsBegunFor (set_if seg node (Partial pull) other.seg other.node (status_of t other.seg other.node)) other.pull) new
-          (subst (λ st. IsBegunFor st pull) (sym (set_if_same seg node (Partial pull) (status_of t seg node))) (record { begun = refl; pull_is = refl }))
+          subst (λ (other : Item). is_begun (set_if seg node (Partial pull) other.seg other.node (status_of t other.seg other.node)) ≡ true) new
+          (ap is_begun (set_if_same seg node (Partial pull) (status_of t seg node)))
     ]
-item_begun o ((Claim seg node pull, Done) ∷ t) legal item has =
-    let before = item_begun o t legal.1 item has in
-    let after = stays_begun o t (Claim seg node pull) Done legal item.seg item.node before.begun in
-    record { begun = after.0; pull_is = after.1 ∙ before.pull_is }
-item_begun o ((Complete_step seg node pull, Done) ∷ t) legal item has =
-    let before = item_begun o t legal.1 item has in
-    let after = stays_begun o t (Complete_step seg node pull) Done legal item.seg item.node before.begun in
-    record { begun = after.0; pull_is = after.1 ∙ before.pull_is }
-item_begun o ((step, told) ∷ t) legal item has = item_begun o t legal.1 item has
+item_begun o ((Claim seg node pull, Done) ∷ t) legal item has = stays_begun o t (Claim seg node pull) Done legal item.seg item.node (item_begun o t legal.1 item has)
+item_begun o ((Complete_step seg node pull, Done) ∷ t) legal item has = stays_begun o t (Complete_step seg node pull) Done legal item.seg item.node (item_begun o t legal.1 item has)
+item_begun o ((step, given) ∷ t) legal item has = item_begun o t legal.1 item has
 
 -- the item of a node with this status
 abbrev pub item_for : ℕ → ℕ → Status → Item
@@ -192,13 +164,13 @@ begun_item o ((Complete_step seg node pull, Done) ∷ t) legal g n begun =
     let e : status_of t g n ≡ Partial pull = cc in
     subst (λ p. Contains (items t) (record { seg = g; node = n; pull = p })) (ap pull_of e) (begun_item o t legal.1 g n (ap is_begun e)))
     (begun_item o t legal.1 g n) begun
-begun_item o ((step, told) ∷ t) legal g n begun = begun_item o t legal.1 g n begun
+begun_item o ((step, given) ∷ t) legal g n begun = begun_item o t legal.1 g n begun
 
 -- two items are of one node
 abbrev pub is_same_node : Item → Item → Bool
 is_same_node one other = (one.seg == other.seg) && (one.node == other.node)
 
-same_node_laws : IsEquivalence is_same_node
+pub same_node_laws : IsEquivalence is_same_node
 same_node_laws = record {
   refl = λ x. grind (arith, nat_tests);
   symm = λ x y. grind (arith, nat_tests);
@@ -216,35 +188,8 @@ distinct_items o ((Begin seg node pull, Done) ∷ t) legal =
     let parts = and_parts (seg == other.0.seg) (node == other.0.node) other.2 in
     let same = eqb-true seg other.0.seg parts.0 in
     let there = eqb-true node other.0.node parts.1 in
-    let begun = (item_begun o t legal.1 other.0 other.1).begun in
+    let begun = item_begun o t legal.1 other.0 other.1 in
     let was = (begin_goes o t seg node pull legal.0).begins.claimed in
     let e : status_of t other.0.seg other.0.node ≡ Claimed pull = cc in
     true≢false (sym begun ∙ ap is_begun e)))
-distinct_items o ((step, told) ∷ t) legal = distinct_items o t legal.1
-
--- so the items of one node are one
-pub one_item : (o : OpeningValue) (t : Trace) → IsLegal o t → (one other : Item) → Contains (items t) one → Contains (items t) other → one.seg ≡ other.seg → one.node ≡ other.node → one ≡ other
-one_item o t legal one other has has' same there =
-    let first = (item_begun o t legal one has).pull_is in
-    let second = (item_begun o t legal other has').pull_is in
-    let pulls : one.pull ≡ other.pull = sym first ∙ ap₂ (λ g n. pull_of (status_of t g n)) same there ∙ second in
-    λ i. record { seg = same i; node = there i; pull = pulls i }
-
--- and stand at one place
-pub one_place : (o : OpeningValue) (t : Trace) → IsLegal o t → (i j : ℕ) (one other : Item) → slice_get (items t) i ≡ Some one → slice_get (items t) j ≡ Some other → one.seg ≡ other.seg → one.node ≡ other.node → i ≡ j
-one_place o t legal i j one other at at' same there =
-    let within = slice_get_within (items t) i one at in
-    let within' = slice_get_within (items t) j other at' in
-    let read = get_or_from_slice_get (items t) i one one at in
-    let read' = get_or_from_slice_get (items t) j other one at' in
-    elim (cases_order i j) [
-      | inl equal ↦ equal
-      | inr differ ↦
-          elim differ [
-            | inl before ↦ absurd (true≢false (sym (is_one one other same there) ∙ sym (ap₂ is_same_node read read') ∙ apart_from_distinct is_same_node (items t) i j one (distinct_items o t legal) before within'))
-            | inr behind ↦ absurd (true≢false (sym (is_one other one (sym same) (sym there)) ∙ sym (ap₂ is_same_node read' read) ∙ apart_from_distinct is_same_node (items t) j i one (distinct_items o t legal) behind within))
-          ]
-    ]
-  where
-    is_one : (a b : Item) → a.seg ≡ b.seg → a.node ≡ b.node → is_same_node a b ≡ true
-    is_one a b e f = and_from (a.seg == b.seg) (a.node == b.node) (eq-eqb a.seg b.seg e) (eq-eqb a.node b.node f)
+distinct_items o ((step, given) ∷ t) legal = distinct_items o t legal.1

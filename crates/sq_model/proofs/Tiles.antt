@@ -164,7 +164,7 @@ end_within_in P size hi room (root ∷ roots) at_end each =
     (λ fits. end_within_in P size hi (room - size root) roots at_end (λ other has. each other (Contains-later root roots other has)))
     (λ full. each root (Contains-first root roots))
 
-end_of_in : (P : ℕ → Type 0) (size : ℕ → ℕ) (hi limit : ℕ) (roots : List ℕ) → P hi → ((root : ℕ) → Contains roots root → P root) → P (end_of size hi limit roots)
+pub end_of_in : (P : ℕ → Type 0) (size : ℕ → ℕ) (hi limit : ℕ) (roots : List ℕ) → P hi → ((root : ℕ) → Contains roots root → P root) → P (end_of size hi limit roots)
 end_of_in P size hi limit [] at_end each = at_end
 end_of_in P size hi limit (root ∷ roots) at_end each = end_within_in P size hi (limit - size root) roots at_end (λ other has. each other (Contains-later root roots other has))
 

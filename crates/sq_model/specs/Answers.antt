@@ -1,5 +1,5 @@
 -- The answer to each step, as the trace before it determines it.
-use Rattle.std.specs.Prelude.{ℕ, Bool, true, false, ◌+◌, ◌-◌, ◌==◌, ◌&&◌, ◌||◌, not, nat_le, nat_lt, if◌then◌else◌, List, [], ◌∷◌, find, filter, length, Option, Some, None, Result, Ok, Err, slice_get}
+use Rattle.std.specs.Prelude.{ℕ, Bool, true, false, ◌-◌, ◌==◌, ◌||◌, not, nat_le, nat_lt, if◌then◌else◌, List, find, length, Option, Some, None, Result, Ok, Err, slice_get, unwrap_or}
 use Rattle.std.specs.List.{list_any, list_all, range_with_len}
 use Rattle.sq_schema.specs.TxnValue.{TxnValue}
 use Rattle.sq_schema.specs.Effect.{reply}
@@ -11,11 +11,12 @@ use Rattle.sq_tree.specs.declared.fault.BeginFault.{BeginFault}
 use Rattle.sq_tree.specs.declared.fault.BeginFault.TheVariants as begin
 use Rattle.sq_tree.specs.declared.fault.CompleteFault.{CompleteFault}
 use Rattle.sq_tree.specs.declared.fault.CompleteFault.TheVariants as complete
+use Rattle.sq_tree.specs.Node.{is_node}
 use Rattle.sq_tree.specs.Status.{reading}
 use Rattle.sq_tree.specs.Answer.{claim_answer, begin_answer, complete_answer}
 use Rattle.sq_chunk.specs.declared.chunk.Note.{Note}
 use Rattle.sq_ranges.specs.declared.recon.Range.{Range}
-use Rattle.sq_ranges.specs.ReconValue.{is_link, segment_of, leaf_of}
+use Rattle.sq_ranges.specs.ReconValue.{ReconValue, is_link, leaf_at}
 use Rattle.sq_ranges.specs.OpeningValue.{OpeningValue}
 use Rattle.sq_model.specs.declared.step.Step.{Step}
 use Rattle.sq_model.specs.declared.step.Step.TheVariants.{Prepare, Start, Submit, Claim, Begin, Cut, Push, Pop, Load, Complete, Report, Finish}
@@ -42,6 +43,10 @@ while_moving t answer = if not (is_moving t) then Refused NotMoving else answer
 abbrev pub in_segment : OpeningValue → ℕ → Answer → Answer
 in_segment o seg answer = if nat_le (length o.recon.segments) seg then Refused NoSuchSegment else answer
 
+-- the answer, where there is such a node
+abbrev pub at_node : ℕ → Answer → Answer
+at_node node answer = if not (is_node node) then Refused NoSuchNode else answer
+
 -- the answer, where some range goes from the one partition to the other
 abbrev pub on_link : OpeningValue → ℕ → ℕ → Answer → Answer
 on_link o src dst answer = if not (is_link o.recon.ranges src dst) then Refused NoSuchLink else answer
@@ -59,24 +64,19 @@ start_answer o t =
     else if not (list_all (is_prepared t) (partitions o)) then Refused NotPrepared
     else Done
 
-abbrev pub leaf_in : ℕ → Option Range → ℕ → ℕ
-leaf_in width None root = 0
-leaf_in width (Some segment) root = leaf_of width segment root
-
--- the transaction waits for the segment and the leaf of its root key
-abbrev pub waits_at : OpeningValue → TxnValue → Option ℕ → Answer
-waits_at o txn None = Waits txn.id 0 0
-waits_at o txn (Some seg) = Waits txn.id seg (leaf_in o.recon.width (slice_get o.recon.segments seg) txn.root)
+-- the transaction waits for the segment and the leaf of its root key, which has them: only a key that moves is waited for
+abbrev pub waits_at : ReconValue → TxnValue → Answer
+waits_at recon txn = let at = unwrap_or (leaf_at recon txn.root) (0, 0) in Waits txn.id at.0 at.1
 
 abbrev pub wait_answer : OpeningValue → Trace → ℕ → TxnValue → Answer
 wait_answer o t part txn =
     if nat_le wait_limit (length (waiting t part)) then Refused WaitFull
-    else waits_at o txn (segment_of o.recon.segments txn.root)
+    else waits_at o.recon txn
 
 abbrev pub run_answer : OpeningValue → Trace → TxnValue → Answer
 run_answer o t txn = if is_full t txn.root then Refused LogFull else Replied txn.id (reply (now o t txn.root) txn)
 
--- at the runner the transaction runs; elsewhere it is told the runner, or the destination where there is none
+-- at the runner the transaction runs; elsewhere it is given the runner, or the destination where there is none
 abbrev pub routed : OpeningValue → Trace → ℕ → TxnValue → Option ℕ → Answer
 routed o t part txn None = Moved txn.id (destination o txn.root)
 routed o t part txn (Some who) = if who == part then run_answer o t txn else Moved txn.id who
@@ -87,34 +87,33 @@ submit_answer o t part txn =
     if has_to_wait o t part txn.root then wait_answer o t part txn else routed o t part txn (runner o t txn.root)
     )
 
-abbrev pub claim_told : Result (Unit {0}) ClaimFault → Answer
-claim_told (Ok done) = Done
-claim_told (Err claim.NoSuchNode) = Refused NoSuchNode
-claim_told (Err claim.NotLive) = Refused NotLive
-claim_told (Err (claim.NotFree found)) = Refused NotFree
+abbrev pub claim_answered : Result (Unit {0}) ClaimFault → Answer
+claim_answered (Ok done) = Done
+claim_answered (Err claim.NotLive) = Refused NotLive
+claim_answered (Err (claim.NotFree found)) = Refused NotFree
 
-abbrev pub begin_told : Result (Unit {0}) BeginFault → Answer
-begin_told (Ok done) = Done
-begin_told (Err begin.NoSuchNode) = Refused NoSuchNode
-begin_told (Err (begin.NotClaimed found)) = Refused NotClaimed
-begin_told (Err begin.WrongPull) = Refused WrongPull
+abbrev pub begin_answered : Result (Unit {0}) BeginFault → Answer
+begin_answered (Ok done) = Done
+begin_answered (Err (begin.NotClaimed found)) = Refused NotClaimed
+begin_answered (Err begin.WrongPull) = Refused WrongPull
 
 -- a node is complete once its last chunk is loaded
-abbrev pub complete_told : Bool → Result (Unit {0}) CompleteFault → Answer
-complete_told loaded (Ok done) = if loaded then Done else Refused NotLoaded
-complete_told loaded (Err complete.NoSuchNode) = Refused NoSuchNode
-complete_told loaded (Err (complete.NotPartial found)) = Refused NotPartial
-complete_told loaded (Err complete.WrongPull) = Refused WrongPull
+abbrev pub complete_answered : Bool → Result (Unit {0}) CompleteFault → Answer
+complete_answered loaded (Ok done) = if loaded then Done else Refused NotLoaded
+complete_answered loaded (Err (complete.NotPartial found)) = Refused NotPartial
+complete_answered loaded (Err complete.WrongPull) = Refused WrongPull
 
 abbrev pub claim_step : OpeningValue → Trace → ℕ → ℕ → ℕ → Answer
-claim_step o t seg node pull = while_moving t (in_segment o seg (claim_told (claim_answer (status_of t seg) node pull)))
+claim_step o t seg node pull =
+    while_moving t (in_segment o seg (at_node node (claim_answered (claim_answer (status_of t seg) node pull))))
 
 abbrev pub begin_step : OpeningValue → Trace → ℕ → ℕ → ℕ → Answer
-begin_step o t seg node pull = while_moving t (in_segment o seg (begin_told (begin_answer (status_of t seg) node pull)))
+begin_step o t seg node pull =
+    while_moving t (in_segment o seg (at_node node (begin_answered (begin_answer (status_of t seg) node pull))))
 
 abbrev pub complete_step : OpeningValue → Trace → ℕ → ℕ → ℕ → Answer
 complete_step o t seg node pull =
-    while_moving t (in_segment o seg (complete_told (has_last seg node (loads t)) (complete_answer (status_of t seg) node pull)))
+    while_moving t (in_segment o seg (at_node node (complete_answered (has_last seg node (loads t)) (complete_answer (status_of t seg) node pull))))
 
 abbrev pub cut_for : OpeningValue → Trace → ℕ → ℕ → Option Item → Answer
 cut_for o t src dst None = Refused NothingToCut

@@ -1,5 +1,5 @@
 -- How far the leader is, and what the partitions told it.
-use Rattle.std.specs.Prelude.{ℕ, Bool, true, false, ◌==◌, ◌||◌, List, [], ◌∷◌}
+use Rattle.std.specs.Prelude.{ℕ, Bool, true, false, ◌==◌, ◌||◌, [], ◌∷◌}
 use Rattle.sq_model.specs.declared.step.Step.{Step}
 use Rattle.sq_model.specs.declared.step.Step.TheVariants.{Prepare, Start, Report, Finish}
 use Rattle.sq_model.specs.declared.step.Phase.{Phase}
@@ -8,16 +8,16 @@ use Rattle.sq_model.specs.declared.answer.Answer.{Answer}
 use Rattle.sq_model.specs.declared.answer.Answer.TheVariants.{Done}
 use Rattle.sq_model.specs.Trace.{Trace}
 
-abbrev pub turns_phase : Step → Answer → Phase → Phase
-turns_phase (Prepare part) Done now = Preparing
-turns_phase Start Done now = Moving
-turns_phase Finish Done now = Ended
-turns_phase _ _ now = now
+abbrev pub phase_after : Step → Answer → Phase → Phase
+phase_after (Prepare part) Done now = Preparing
+phase_after Start Done now = Moving
+phase_after Finish Done now = Ended
+phase_after _ _ now = now
 
 -- the phase: the first Prepare leads to preparing, Start to moving, Finish to ended
 abbrev pub phase : Trace → Phase
 phase [] = Idle
-phase ((step, answer) ∷ trace) = turns_phase step answer (phase trace)
+phase ((step, answer) ∷ trace) = phase_after step answer (phase trace)
 
 abbrev pub is_moving_phase : Phase → Bool
 is_moving_phase Moving = true

@@ -20,13 +20,13 @@ takes_memory _ _ = false
 
 -- the answer is the one that the trace determines, or that there is no memory, where the step takes some
 abbrev pub IsAnswer : OpeningValue → Trace → Step → Answer → Type 0
-IsAnswer o t step told =
-    (told ≡ answer o t step) ⊎ ((told ≡ Refused Memory) × IsTrue (takes_memory step (answer o t step)))
+IsAnswer o t step given =
+    (given ≡ answer o t step) ⊎ ((given ≡ Refused Memory) × IsTrue (takes_memory step (answer o t step)))
 
 -- each answer is right after the trace before it
 abbrev pub IsLegal : OpeningValue → Trace → Type 0
 IsLegal o [] = Unit {0}
-IsLegal o ((step, told) ∷ trace) = IsAnswer o trace step told × IsLegal o trace
+IsLegal o ((step, given) ∷ trace) = IsAnswer o trace step given × IsLegal o trace
 
 -- the answers to steps, one after another, where memory never lacks
 abbrev pub answers : OpeningValue → Trace → List Step → List Answer

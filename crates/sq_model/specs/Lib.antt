@@ -1,4 +1,3 @@
-pub mod Opening
 pub mod Trace
 pub mod Leader
 pub mod Nodes
@@ -7,6 +6,7 @@ pub mod Place
 pub mod Links
 pub mod Waiting
 pub mod Answers
+pub mod Refusal
 pub mod Legal
 pub mod Orderly
 pub mod Worked

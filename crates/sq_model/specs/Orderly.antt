@@ -1,5 +1,5 @@
 -- Each family of a reconfigured range is extracted at most once and loaded at most once, in the order that its link numbered it, and nothing of a complete node moves.
-use Rattle.std.specs.Prelude.{◌≡◌, ℕ, ◌≤◌, ◌==◌, Bool, true, false, List, [], ◌∷◌, ◌++◌, length, slice_get, Some}
+use Rattle.std.specs.Prelude.{◌≡◌, ℕ, ◌≤◌, ◌==◌, true, false, List, [], ◌∷◌, ◌++◌, length, slice_get, Some}
 use Rattle.sq_tree.specs.Status.{is_complete}
 use Rattle.sq_chunk.specs.declared.chunk.Note.{Note}
 use Rattle.sq_chunk.specs.ChunkValue.{covers}
@@ -36,10 +36,16 @@ Tiles o [] = Unit {0}
 Tiles o (note ∷ notes) = GoesOn o note notes × Tiles o notes
 
 -- no root key is covered by notes of two nodes
-abbrev pub AreApart : List Note → Type 0
-AreApart notes =
+abbrev pub AreDisjoint : List Note → Type 0
+AreDisjoint notes =
     (i j : ℕ) (one other : Note) (root : ℕ) → slice_get notes i ≡ Some one → slice_get notes j ≡ Some other
     → covers one root ≡ true → covers other root ≡ true → (one.seg ≡ other.seg) × (one.node ≡ other.node)
+
+-- of two places in the list whose notes cover one root key both are the same place
+abbrev pub CoverOnce : List Note → Type 0
+CoverOnce notes =
+    (i j root : ℕ) (one other : Note) → slice_get notes i ≡ Some one → slice_get notes j ≡ Some other
+    → covers one root ≡ true → covers other root ≡ true → i ≡ j
 
 -- what a step moves is of a node that isn't complete
 abbrev pub LeavesComplete : Trace → Step → Answer → Type 0
@@ -52,8 +58,10 @@ AllLeaveComplete [] = Unit {0}
 AllLeaveComplete ((step, answer) ∷ trace) = LeavesComplete trace step answer × AllLeaveComplete trace
 
 pub record IsOrderly (o : OpeningValue) (t : Trace) : Type 0 where
+  pub cut_once : CoverOnce (notes t)
+  pub loaded_once : CoverOnce (loads t)
   pub prefix : (src dst : ℕ) → IsPrefix t src dst
   pub numbered : (src dst : ℕ) → AreNumbered (link src dst (notes t))
   pub tiles : Tiles o (notes t)
-  pub apart : AreApart (notes t)
+  pub apart : AreDisjoint (notes t)
   pub complete : AllLeaveComplete t

@@ -1,5 +1,5 @@
 -- Where the family of a root key is, and who runs transactions on it.
-use Rattle.std.specs.Prelude.{ℕ, Bool, true, false, ◌==◌, ◌&&◌, ◌||◌, not, nat_le, nat_lt, if◌then◌else◌, List, find, Option, Some, None, is_some}
+use Rattle.std.specs.Prelude.{ℕ, Bool, ◌==◌, ◌&&◌, not, nat_le, nat_lt, if◌then◌else◌, List, find, Option, Some, None}
 use Rattle.std.specs.List.{list_any}
 use Rattle.std.specs.Prelude.{slice_get}
 use Rattle.sq_plan.specs.PlanValue.{owner}
@@ -11,7 +11,7 @@ use Rattle.sq_ranges.specs.ReconValue.{extent}
 use Rattle.sq_ranges.specs.OpeningValue.{OpeningValue}
 use Rattle.sq_model.specs.Trace.{Trace, notes, loads}
 use Rattle.sq_model.specs.Leader.{is_started}
-use Rattle.sq_model.specs.Nodes.{Item, items}
+use Rattle.sq_model.specs.Nodes.{items}
 
 -- who owned a root key before the move, and who owns it after
 abbrev pub source : OpeningValue → ℕ → ℕ

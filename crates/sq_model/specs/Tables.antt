@@ -1,9 +1,9 @@
 -- The unpartitioned table that the committed transactions were run on.
-use Rattle.std.specs.Prelude.{ℕ, Bool, ◌==◌, ◌||◌, not, nat_le, length, List}
+use Rattle.std.specs.Prelude.{ℕ, Bool, ◌==◌, ◌||◌, not, nat_le, length}
 use Rattle.std.specs.List.{list_any}
-use Rattle.sq_schema.specs.TxnValue.{TxnValue}
-use Rattle.sq_schema.specs.Effect.{RowList, RowTable, replay, only}
-use Rattle.sq_schema.specs.Family.{FamilyValue, log_limit, rows_size}
+use Rattle.sq_schema.specs.Effect.{RowTable, replay, only}
+use Rattle.sq_schema.specs.declared.family.TheConstants.{MAX_LOG}
+use Rattle.sq_schema.specs.Family.{FamilyValue, rows_size}
 use Rattle.sq_schema.specs.Table.{rows_in}
 use Rattle.sq_ranges.specs.OpeningValue.{OpeningValue}
 use Rattle.sq_model.specs.Trace.{Trace, committed}
@@ -22,7 +22,7 @@ stands o t root = not (length (opening_rows o root) == 0) || list_any (λ txn. t
 
 -- the log of a root key holds as many transactions as it can
 abbrev pub is_full : Trace → ℕ → Bool
-is_full t root = nat_le log_limit (length (only root (committed t)))
+is_full t root = nat_le MAX_LOG (length (only root (committed t)))
 
 -- the family of a root key that stands
 abbrev pub family_of : OpeningValue → Trace → ℕ → FamilyValue

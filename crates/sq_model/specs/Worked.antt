@@ -1,18 +1,12 @@
 -- Worked examples: what steps from one opening are answered.
-use Rattle.std.specs.Prelude.{ℕ, ℤ, pos, negsuc, true, false, ◌==◌, List, [], ◌∷◌, ◌++◌, Some, None}
-use Rattle.sq_schema.specs.declared.row.RowKey.{RowKey}
-use Rattle.sq_schema.specs.declared.txn.Op.{Op}
+use Rattle.std.specs.Prelude.{ℕ, ℤ, pos, ◌==◌, List, [], ◌∷◌, ◌++◌, Some, None}
 use Rattle.sq_schema.specs.declared.txn.Op.TheVariants as op
-use Rattle.sq_schema.specs.declared.txn.OpAnswer.{OpAnswer}
-use Rattle.sq_schema.specs.declared.txn.OpAnswer.TheVariants as told
-use Rattle.sq_schema.specs.declared.txn.Cause.TheVariants as cause
-use Rattle.sq_schema.specs.declared.txn.Reply.TheVariants.{Committed, Aborted}
-use Rattle.sq_schema.specs.Values.{RowValue}
+use Rattle.sq_schema.specs.declared.txn.OpAnswer.TheVariants as op_answer
+use Rattle.sq_schema.specs.declared.txn.Reply.TheVariants.{Committed}
 use Rattle.sq_schema.specs.Effect.{RowList, root_key}
 use Rattle.sq_schema.specs.TxnValue.{TxnValue}
 use Rattle.sq_schema.specs.Table.{TableValue}
-use Rattle.sq_plan.specs.declared.plan.PlanRange.{PlanRange}
-use Rattle.sq_plan.specs.PlanValue.{PlanValue, root_end}
+use Rattle.sq_schema.specs.declared.root.TheConstants.{ROOT_END}
 use Rattle.sq_chunk.specs.declared.chunk.Note.{Note}
 use Rattle.sq_ranges.specs.declared.recon.Range.{Range}
 use Rattle.sq_ranges.specs.OpeningValue.{OpeningValue}
@@ -32,10 +26,10 @@ four_keys limit capacity table =
     let moving : List Range = record { lo = 4; hi = 8; src = 0; dst = 1 } ∷ [] in
     record {
       tables = 8;
-      old = record { parts = 2; ranges = record { lo = 0; hi = root_end; owner = 0 } ∷ [] };
+      old = record { parts = 2; ranges = record { lo = 0; hi = ROOT_END; owner = 0 } ∷ [] };
       new = record {
         parts = 2;
-        ranges = record { lo = 0; hi = 4; owner = 0 } ∷ record { lo = 4; hi = 8; owner = 1 } ∷ record { lo = 8; hi = root_end; owner = 0 } ∷ [];
+        ranges = record { lo = 0; hi = 4; owner = 0 } ∷ record { lo = 4; hi = 8; owner = 1 } ∷ record { lo = 8; hi = ROOT_END; owner = 0 } ∷ [];
       };
       recon = record { width = 1; ranges = moving; segments = moving };
       config = record { width = 1; limit = limit; capacity = capacity };
@@ -50,8 +44,8 @@ one_row = four_keys 64 1 ((5, row (pos 10)) ∷ [])
 abbrev pub begun : List Step
 begun = Prepare 0 ∷ Prepare 1 ∷ Start ∷ []
 
-abbrev pub well_begun : List Answer
-well_begun = Done ∷ Done ∷ Done ∷ []
+abbrev pub begun_answers : List Answer
+begun_answers = Done ∷ Done ∷ Done ∷ []
 
 -- a transaction that gets the root row
 abbrev pub get_row : ℕ → ℕ → TxnValue
@@ -63,10 +57,10 @@ add_one id root = record { id = id; root = root; ops = op.Add root_key (pos 1) �
 
 -- what getting a row with this number and no note is answered
 abbrev pub got : ℕ → ℤ → Answer
-got id number = Replied id (Committed (told.Found (Some (record { number = number; note = [] })) ∷ []))
+got id number = Replied id (Committed (op_answer.Found (Some (record { number = number; note = [] })) ∷ []))
 
 abbrev pub got_none : ℕ → Answer
-got_none id = Replied id (Committed (told.Found None ∷ []))
+got_none id = Replied id (Committed (op_answer.Found None ∷ []))
 
 -- a note of segment 0, from partition 0 to partition 1
 abbrev pub noted : ℕ → ℕ → ℕ → ℕ → Note
@@ -77,9 +71,9 @@ abbrev pub whole_path : List Step
 whole_path =
     begun ++ Claim 0 1 2 ∷ Begin 0 1 2 ∷ Cut 0 1 ∷ Push 0 1 ∷ Pop 0 1 ∷ Load 0 1 ∷ Complete 0 1 2 ∷ Report 1 ∷ Finish ∷ Submit 1 (get_row 9 5) ∷ []
 
-abbrev pub whole_path_told : List Answer
-whole_path_told =
-    well_begun ++ Done ∷ Done ∷ WasCut (noted 0 1 4 8) 1 ∷ Done ∷ Done ∷ WasLoaded (noted 0 1 4 8) 1 ∷ Done ∷ Done ∷ Done ∷ got 9 (pos 10) ∷ []
+abbrev pub whole_path_answers : List Answer
+whole_path_answers =
+    begun_answers ++ Done ∷ Done ∷ WasCut (noted 0 1 4 8) 1 ∷ Done ∷ Done ∷ WasLoaded (noted 0 1 4 8) 1 ∷ Done ∷ Done ∷ Done ∷ got 9 (pos 10) ∷ []
 
 -- a row of this size in the way: one root row with a note
 abbrev pub noted_row : ℤ → List ℕ → RowList
@@ -89,16 +83,16 @@ noted_row number note = (root_key, record { number = number; note = note }) ∷ 
 abbrev pub given_up : List Step
 given_up = begun ++ Claim 0 1 2 ∷ Submit 0 (add_one 7 5) ∷ Begin 0 1 2 ∷ Submit 0 (add_one 8 5) ∷ Cut 0 1 ∷ []
 
-abbrev pub given_up_told : List Answer
-given_up_told =
-    well_begun ++ Done ∷ Replied 7 (Committed (told.Number (pos 11) ∷ [])) ∷ Done ∷ Moved 8 1 ∷ WasCut (noted 0 1 4 8) 1 ∷ []
+abbrev pub given_up_answers : List Answer
+given_up_answers =
+    begun_answers ++ Done ∷ Replied 7 (Committed (op_answer.Number (pos 11) ∷ [])) ∷ Done ∷ Moved 8 1 ∷ WasCut (noted 0 1 4 8) 1 ∷ []
 
 -- a node is begun once, by the pull that claimed it
 abbrev pub begun_again : List Step
 begun_again = begun ++ Claim 0 1 2 ∷ Begin 0 1 4 ∷ Begin 0 1 2 ∷ Begin 0 1 2 ∷ Begin 0 2 2 ∷ []
 
-abbrev pub begun_again_told : List Answer
-begun_again_told = well_begun ++ Done ∷ Refused WrongPull ∷ Done ∷ Refused NotClaimed ∷ Refused NotClaimed ∷ []
+abbrev pub begun_again_answers : List Answer
+begun_again_answers = begun_answers ++ Done ∷ Refused WrongPull ∷ Done ∷ Refused NotClaimed ∷ Refused NotClaimed ∷ []
 
 -- two families of 56 bytes, where a chunk holds 64
 abbrev pub two_families : OpeningValue
@@ -108,9 +102,9 @@ abbrev pub two_chunks : List Step
 two_chunks =
     begun ++ Claim 0 1 2 ∷ Begin 0 1 2 ∷ Cut 0 1 ∷ Cut 0 1 ∷ Push 0 1 ∷ Cut 0 1 ∷ Pop 0 1 ∷ Load 0 1 ∷ Submit 1 (get_row 3 6) ∷ Submit 1 (get_row 4 7) ∷ []
 
-abbrev pub two_chunks_told : List Answer
-two_chunks_told =
-    well_begun ++ Done ∷ Done ∷ WasCut (noted 0 1 4 7) 1 ∷ Refused OutboxFull ∷ Done ∷ WasCut (noted 1 1 7 8) 1 ∷ Done ∷ WasLoaded (noted 0 1 4 7) 1 ∷ got_none 3 ∷ Waits 4 0 3 ∷ []
+abbrev pub two_chunks_answers : List Answer
+two_chunks_answers =
+    begun_answers ++ Done ∷ Done ∷ WasCut (noted 0 1 4 7) 1 ∷ Refused OutboxFull ∷ Done ∷ WasCut (noted 1 1 7 8) 1 ∷ Done ∷ WasLoaded (noted 0 1 4 7) 1 ∷ got_none 3 ∷ Waits 4 0 3 ∷ []
 
 -- a family of 66 bytes and one of 56, where a chunk holds 64
 abbrev pub large_family : OpeningValue
@@ -120,8 +114,8 @@ large_family =
 abbrev pub large_chunk : List Step
 large_chunk = begun ++ Claim 0 1 2 ∷ Begin 0 1 2 ∷ Cut 0 1 ∷ Push 0 1 ∷ Cut 0 1 ∷ []
 
-abbrev pub large_chunk_told : List Answer
-large_chunk_told = well_begun ++ Done ∷ Done ∷ WasCut (noted 0 1 4 6) 1 ∷ Done ∷ WasCut (noted 1 1 6 8) 1 ∷ []
+abbrev pub large_chunk_answers : List Answer
+large_chunk_answers = begun_answers ++ Done ∷ Done ∷ WasCut (noted 0 1 4 6) 1 ∷ Done ∷ WasCut (noted 1 1 6 8) 1 ∷ []
 
 -- three families, and a link that holds one chunk
 abbrev pub three_families : OpeningValue
@@ -130,17 +124,17 @@ three_families = four_keys 64 1 ((4, row (pos 1)) ∷ (5, row (pos 2)) ∷ (6, r
 abbrev pub full_link : List Step
 full_link = begun ++ Claim 0 1 2 ∷ Begin 0 1 2 ∷ Cut 0 1 ∷ Push 0 1 ∷ Cut 0 1 ∷ Push 0 1 ∷ Cut 0 1 ∷ []
 
-abbrev pub full_link_told : List Answer
-full_link_told =
-    well_begun ++ Done ∷ Done ∷ WasCut (noted 0 1 4 5) 1 ∷ Done ∷ WasCut (noted 1 1 5 6) 1 ∷ Refused LinkFull ∷ Refused OutboxFull ∷ []
+abbrev pub full_link_answers : List Answer
+full_link_answers =
+    begun_answers ++ Done ∷ Done ∷ WasCut (noted 0 1 4 5) 1 ∷ Done ∷ WasCut (noted 1 1 5 6) 1 ∷ Refused LinkFull ∷ Refused OutboxFull ∷ []
 
 -- steps in the wrong order, and with wrong numbers
 abbrev pub out_of_order : List Step
 out_of_order =
     Claim 0 1 2 ∷ Prepare 2 ∷ Start ∷ Prepare 0 ∷ Start ∷ Prepare 1 ∷ Start ∷ Start ∷ Prepare 0 ∷ Cut 1 0 ∷ Cut 0 1 ∷ Push 0 1 ∷ Pop 0 1 ∷ Load 0 1 ∷ []
 
-abbrev pub out_of_order_told : List Answer
-out_of_order_told =
+abbrev pub out_of_order_answers : List Answer
+out_of_order_answers =
     Refused NotMoving ∷ Refused NoSuchPartition ∷ Refused NotPrepared ∷ Done ∷ Refused NotPrepared ∷ Done ∷ Done ∷ Refused AlreadyMoving ∷ Refused AlreadyMoving
     ∷ Refused NoSuchLink ∷ Refused NothingToCut ∷ Refused OutboxEmpty ∷ Refused LinkEmpty ∷ Refused InboxEmpty ∷ []
 
@@ -148,13 +142,13 @@ out_of_order_told =
 abbrev pub waits_for_rows : List Step
 waits_for_rows = begun ++ Submit 1 (get_row 7 5) ∷ Submit 1 (get_row 8 9) ∷ Submit 0 (get_row 6 5) ∷ Submit 2 (get_row 5 5) ∷ []
 
-abbrev pub waits_for_rows_told : List Answer
-waits_for_rows_told = well_begun ++ Waits 7 0 1 ∷ Moved 8 0 ∷ got 6 (pos 10) ∷ Refused NoSuchPartition ∷ []
+abbrev pub waits_for_rows_answers : List Answer
+waits_for_rows_answers = begun_answers ++ Waits 7 0 1 ∷ Moved 8 0 ∷ got 6 (pos 10) ∷ Refused NoSuchPartition ∷ []
 
 -- nothing is complete, reported or finished before its rows are loaded
 abbrev pub too_soon : List Step
 too_soon = begun ++ Claim 0 1 2 ∷ Complete 0 1 2 ∷ Begin 0 1 2 ∷ Complete 0 1 2 ∷ Report 1 ∷ Report 0 ∷ Finish ∷ Claim 1 1 2 ∷ Claim 0 2 2 ∷ Claim 0 64 2 ∷ []
 
-abbrev pub too_soon_told : List Answer
-too_soon_told =
-    well_begun ++ Done ∷ Refused NotPartial ∷ Done ∷ Refused NotLoaded ∷ Refused NotFinished ∷ Done ∷ Refused NotFinished ∷ Refused NoSuchSegment ∷ Refused NotLive ∷ Refused NoSuchNode ∷ []
+abbrev pub too_soon_answers : List Answer
+too_soon_answers =
+    begun_answers ++ Done ∷ Refused NotPartial ∷ Done ∷ Refused NotLoaded ∷ Refused NotFinished ∷ Done ∷ Refused NotFinished ∷ Refused NoSuchSegment ∷ Refused NotLive ∷ Refused NoSuchNode ∷ []

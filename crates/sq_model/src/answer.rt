@@ -1,7 +1,11 @@
 // What steps are answered.
 use sq_chunk::Note;
 use sq_plan::PartId;
-use sq_schema::Reply;
+use sq_ranges::SegId;
+use sq_schema::{ApplyFault, OUT_OF_MEMORY, Reply};
+use sq_tree::Leaf;
+use std::alloc::AllocError;
+use thiserror::Error;
 
 /// The answer to a step.
 #[derive(Debug, Drop)]
@@ -27,9 +31,9 @@ pub enum Answer {
         /// The transaction's number.
         id: u64,
         /// The segment of its root key.
-        seg: u64,
+        seg: SegId,
         /// The leaf of its root key.
-        leaf: u64,
+        leaf: Leaf,
     },
     /// A chunk was cut.
     WasCut {
@@ -50,54 +54,66 @@ pub enum Answer {
 }
 
 /// Why a step was refused.
-#[derive(Clone, Copy, Debug, PartialEq, Eq)]
+#[derive(Clone, Copy, Debug, PartialEq, Eq, Error)]
 pub enum Refusal {
-    /// 201: the move isn't under way.
-    NotMoving,
-    /// 202: there is no such segment.
-    NoSuchSegment,
-    /// 203: a node isn't one of 1 to 63.
-    NoSuchNode,
-    /// 204: the node isn't free.
-    NotFree,
-    /// 205: the node's parent isn't split.
-    NotLive,
-    /// 207: the node isn't claimed.
-    NotClaimed,
-    /// 208: another pull has the node.
-    WrongPull,
-    /// 209: the source has no work for this link.
-    NothingToCut,
-    /// 210: the chunk that was cut before still waits to go onto the link.
-    OutboxFull,
-    /// 211: no chunk waits to go onto the link.
-    OutboxEmpty,
-    /// 212: the link holds as many chunks as it can.
-    LinkFull,
-    /// 213: the link holds no chunk.
-    LinkEmpty,
-    /// 214: the chunk that came before still waits to be loaded.
-    InboxFull,
-    /// 215: no chunk waits to be loaded.
-    InboxEmpty,
-    /// 216: the node's last chunk isn't loaded.
-    NotLoaded,
-    /// 217: the move was started before.
-    AlreadyMoving,
-    /// 218: something of the move, or a report of it, is missing.
-    NotFinished,
-    /// 219: there is no such partition.
-    NoSuchPartition,
-    /// 220: as many transactions wait at the partition as can.
-    WaitFull,
-    /// 221: the log of the root key is full.
-    LogFull,
-    /// 222: there is no memory.
-    Memory,
-    /// 224: no range goes from the one partition to the other.
-    NoSuchLink,
-    /// 227: the node isn't partial.
-    NotPartial,
-    /// 228: a partition isn't prepared.
-    NotPrepared,
+    #[error("the move isn't under way")]
+    NotMoving = 201,
+    #[error("there is no such segment")]
+    NoSuchSegment = 202,
+    #[error("a node isn't one of 1 to 63")]
+    NoSuchNode = 203,
+    #[error("the node isn't free")]
+    NotFree = 204,
+    #[error("the node's parent isn't split")]
+    NotLive = 205,
+    #[error("the node isn't claimed")]
+    NotClaimed = 207,
+    #[error("another pull has the node")]
+    WrongPull = 208,
+    #[error("the source has no work for this link")]
+    NothingToCut = 209,
+    #[error("the chunk that was cut before still waits to go onto the link")]
+    OutboxFull = 210,
+    #[error("no chunk waits to go onto the link")]
+    OutboxEmpty = 211,
+    #[error("the link holds as many chunks as it can")]
+    LinkFull = 212,
+    #[error("the link holds no chunk")]
+    LinkEmpty = 213,
+    #[error("the chunk that came before still waits to be loaded")]
+    InboxFull = 214,
+    #[error("no chunk waits to be loaded")]
+    InboxEmpty = 215,
+    #[error("the node's last chunk isn't loaded")]
+    NotLoaded = 216,
+    #[error("the move was started before")]
+    AlreadyMoving = 217,
+    #[error("something of the move, or a report of it, is missing")]
+    NotFinished = 218,
+    #[error("there is no such partition")]
+    NoSuchPartition = 219,
+    #[error("as many transactions wait at the partition as can")]
+    WaitFull = 220,
+    #[error("{}", ApplyFault::LogFull)]
+    LogFull = ApplyFault::LogFull as isize,
+    #[error("{}", AllocError)]
+    Memory = OUT_OF_MEMORY as isize,
+    #[error("no range goes from the one partition to the other")]
+    NoSuchLink = 224,
+    #[error("the node isn't partial")]
+    NotPartial = 227,
+    #[error("a partition isn't prepared")]
+    NotPrepared = 228,
+}
+
+impl Refusal {
+    ghost use Rattle.std.specs.Prelude.{◌≡◌};
+    ghost use Rattle.sq_model.specs.Refusal.{refusal_number};
+
+    /// The number that a user sees.
+    pub fn number(self) -> u16
+        ensures { result ≡ refusal_number self }
+    {
+        self as u16
+    }
 }

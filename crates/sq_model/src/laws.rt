@@ -2,63 +2,63 @@
 ghost use Rattle.std.specs.Prelude.{◌≡◌, ◌≤◌, ◌<◌, ℕ, [], length, false, true, Some};
 ghost use Rattle.sq_schema.specs.TxnValue.{TxnValue};
 ghost use Rattle.sq_ranges.specs.OpeningValue.{OpeningValue};
-ghost use Rattle.sq_model.specs.Trace.{Trace};
+ghost use Rattle.sq_model.specs.Trace.{Trace, notes, loads};
 ghost use Rattle.sq_model.specs.Tables.{is_full};
 ghost use Rattle.sq_model.specs.Leader.{phase};
 ghost use Rattle.sq_model.specs.Place.{At, place, destination, runner};
 ghost use Rattle.sq_model.specs.Waiting.{waiting, wait_limit, has_to_wait};
 ghost use Rattle.sq_model.specs.Answers.{answer};
-ghost use Rattle.sq_model.specs.Opening.{IsOpening};
+ghost use Rattle.sq_ranges.specs.Opening.{IsOpening};
 ghost use Rattle.sq_model.specs.Legal.{IsLegal, answers};
-ghost use Rattle.sq_model.specs.Orderly.{IsOrderly};
-ghost use Rattle.sq_model.specs.Worked.{one_row, whole_path, whole_path_told, given_up, given_up_told, begun_again, begun_again_told, two_families, two_chunks, two_chunks_told, large_family, large_chunk, large_chunk_told, three_families, full_link, full_link_told, out_of_order, out_of_order_told, waits_for_rows, waits_for_rows_told, too_soon, too_soon_told};
+ghost use Rattle.sq_model.specs.Orderly.{IsOrderly, CoverOnce};
+ghost use Rattle.sq_model.specs.Worked.{one_row, whole_path, whole_path_answers, given_up, given_up_answers, begun_again, begun_again_answers, two_families, two_chunks, two_chunks_answers, large_family, large_chunk, large_chunk_answers, three_families, full_link, full_link_answers, out_of_order, out_of_order_answers, waits_for_rows, waits_for_rows_answers, too_soon, too_soon_answers};
 
 use crate::answer::{Answer, Refusal};
 use crate::step::{Phase, Step};
 
 /// The shortest whole path: the keys 4 to 7 move, and the row is read at its new place.
 pub fn moves_four_keys()
-    ensures { answers one_row [] whole_path ≡ whole_path_told }
+    ensures { answers one_row [] whole_path ≡ whole_path_answers }
 {}
 
 /// The source runs transactions until it gives a node up, and not from then on.
 pub fn gives_up_once_begun()
-    ensures { answers one_row [] given_up ≡ given_up_told }
+    ensures { answers one_row [] given_up ≡ given_up_answers }
 {}
 
 /// A node is begun once, by the pull that claimed it.
 pub fn begins_once()
-    ensures { answers one_row [] begun_again ≡ begun_again_told }
+    ensures { answers one_row [] begun_again ≡ begun_again_answers }
 {}
 
 /// A chunk holds as many families as fit, and ends at the first one that doesn't.
 pub fn cuts_by_size()
-    ensures { answers two_families [] two_chunks ≡ two_chunks_told }
+    ensures { answers two_families [] two_chunks ≡ two_chunks_answers }
 {}
 
 /// A family that is larger than a chunk goes alone.
 pub fn cuts_a_large_family()
-    ensures { answers large_family [] large_chunk ≡ large_chunk_told }
+    ensures { answers large_family [] large_chunk ≡ large_chunk_answers }
 {}
 
 /// A full link takes no chunk, and nothing is cut while one waits for the link.
 pub fn waits_for_the_link()
-    ensures { answers three_families [] full_link ≡ full_link_told }
+    ensures { answers three_families [] full_link ≡ full_link_answers }
 {}
 
 /// Steps in the wrong order, or with wrong numbers, are refused.
 pub fn refuses_out_of_order()
-    ensures { answers one_row [] out_of_order ≡ out_of_order_told }
+    ensures { answers one_row [] out_of_order ≡ out_of_order_answers }
 {}
 
 /// A transaction waits at the destination for its rows, and is sent on from a partition that it has nothing to do with.
 pub fn waits_for_its_rows()
-    ensures { answers one_row [] waits_for_rows ≡ waits_for_rows_told }
+    ensures { answers one_row [] waits_for_rows ≡ waits_for_rows_answers }
 {}
 
 /// Nothing is complete, reported or finished before its rows are loaded.
 pub fn refuses_too_soon()
-    ensures { answers one_row [] too_soon ≡ too_soon_told }
+    ensures { answers one_row [] too_soon ≡ too_soon_answers }
 {}
 
 /// A log that is full takes no further transaction, whatever came before.
@@ -69,6 +69,13 @@ pub fn refuses_at_a_full_log()
 /// Where as many wait as can, a further transaction isn't let in, whatever came before.
 pub fn refuses_a_crowd()
     ensures { (o : OpeningValue) (t : Trace) (part : ℕ) (txn : TxnValue) → part < o.old.parts → has_to_wait o t part txn.root ≡ true → wait_limit ≤ length (waiting t part) → answer o t (Step.Submit part txn) ≡ Answer.Refused Refusal.WaitFull }
+{}
+
+/// Whatever the steps: of two places in the list of the notes that were cut both are the same place where they cover one
+/// root key, and so it is in the list of those that were loaded.
+pub fn moves_each_key_once()
+    ensures cut { (o : OpeningValue) (t : Trace) → IsOpening o → IsLegal o t → CoverOnce (notes t) }
+    ensures loaded { (o : OpeningValue) (t : Trace) → IsOpening o → IsLegal o t → CoverOnce (loads t) }
 {}
 
 /// Whatever the steps: each family of a range that moves is cut at most once and loaded at most once, in the order

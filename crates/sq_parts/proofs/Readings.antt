@@ -8,15 +8,15 @@ use Rattle.sq_tree.specs.Tree.{status_at}
 use Rattle.sq_model.specs.Answers.{is_complete_reading}
 
 -- a test that tells whether a reading is complete
-pub told_complete : (test : Bool) (read : Reading) → IsTrue test ↔ (read ≡ Complete) → test ≡ is_complete_reading read
-told_complete true Complete tells = refl
-told_complete true NotStarted tells = let same : NotStarted ≡ Complete = tells.0 refl in cc
-told_complete true Partial tells = let same : Partial ≡ Complete = tells.0 refl in cc
-told_complete false Complete tells = tells.1 refl
-told_complete false NotStarted tells = refl
-told_complete false Partial tells = refl
+pub reads_complete : (test : Bool) (read : Reading) → IsTrue test ↔ (read ≡ Complete) → test ≡ is_complete_reading read
+reads_complete true Complete tells = refl
+reads_complete true NotStarted tells = let same : NotStarted ≡ Complete = tells.0 refl in cc
+reads_complete true Partial tells = let same : Partial ≡ Complete = tells.0 refl in cc
+reads_complete false Complete tells = tells.1 refl
+reads_complete false NotStarted tells = refl
+reads_complete false Partial tells = refl
 
 -- the same of the whole of a tree
-pub told_whole : (sts tree : List Status) (test : Bool) → sts ≡ tree → IsTrue test ↔ (reading (status_at tree) 1 ≡ Complete)
+pub reads_whole : (sts tree : List Status) (test : Bool) → sts ≡ tree → IsTrue test ↔ (reading (status_at tree) 1 ≡ Complete)
     → test ≡ is_complete_reading (reading (status_at sts) 1)
-told_whole sts tree test same tells = rw same (told_complete test (reading (status_at tree) 1) tells)
+reads_whole sts tree test same tells = rw same (reads_complete test (reading (status_at tree) 1) tells)

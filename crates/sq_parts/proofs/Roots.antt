@@ -38,31 +38,6 @@ pub record GoesAt (xs : List ℕ) (x i : ℕ) : Type 0 where
   pub below : AllWithin (λ other. other ≤ x) xs 0 i
   pub above : AllWithin (λ other. x ≤ other) xs i (length xs)
 
-goes_there : (xs : List ℕ) (x i : ℕ) → IsNonDecreasing xs → i < length xs → get_or xs i 0 ≡ x → GoesAt xs x i
-goes_there xs x i rising lt here =
-    let same : (d : ℕ) → get_or xs i d ≡ x = λ d. get_or_default xs i d 0 lt ∙ here in
-    record {
-      within = omega arith;
-      below = λ k d low high. omega (arith, same d, rising k i d (omega arith) lt);
-      above = λ k d low high. omega (arith, same d, rising i k d low high);
-    }
-
-goes_between : (xs : List ℕ) (x i : ℕ) → i ≤ length xs → ((k : ℕ) → k < i → get_or xs k 0 < x) → ((k : ℕ) → i ≤ k → k < length xs → x < get_or xs k 0) → GoesAt xs x i
-goes_between xs x i le below above = record {
-  within = le;
-  below = λ k d low high. omega (arith, below k high, get_or_default xs k d 0 (omega arith));
-  above = λ k d low high. omega (arith, above k low high, get_or_default xs k d 0 high);
-}
-
--- the place that a result names either way
-abbrev pub place_of : Result ℕ ℕ → ℕ
-place_of (Ok i) = i
-place_of (Err i) = i
-
-pub goes_at : (xs : List ℕ) (x : ℕ) (found : Result ℕ ℕ) → IsNonDecreasing xs → Searched xs x found → GoesAt xs x (place_of found)
-goes_at xs x (Ok i) rising here = goes_there xs x i rising here.0 here.1
-goes_at xs x (Err i) rising none = goes_between xs x i none.0 none.1 none.2
-
 any-insert : (p : ℕ → Bool) (xs : List ℕ) (i x : ℕ) → list_any p (insert xs i x) ≡ (list_any p xs || p x)
 any-insert p xs i x =
     let split : list_any p xs ≡ (list_any p (take i xs) || list_any p (drop i xs)) =

@@ -2,16 +2,13 @@
 #![tactic(auto)]
 
 mod link;
-mod mark;
-mod part;
+mod partition;
+mod progress;
 mod segment;
 mod work;
 
 pub use link::LinkState;
-pub use mark::Mark;
-pub use part::Part;
+pub use partition::Partition;
+pub use progress::Progress;
 pub use segment::Segment;
 pub use work::Work;
-
-#[cfg(test)]
-mod tests;

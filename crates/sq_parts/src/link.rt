@@ -1,18 +1,18 @@
 // The links of a world.
-ghost use Rattle.std.specs.Prelude.{◌≡◌, ◌≤◌, ◌<◌, ◌==◌, ◌&&◌, ◌++◌, ◌∷◌, [], ℕ, true, Some, None, is_some, slice_get, slice_index_or, position, vec_len, IfOk, IfErr, OnOk, OnErr};
+ghost use Rattle.std.specs.Prelude.{◌≡◌, ◌≤◌, ◌<◌, ◌==◌, ◌&&◌, ◌++◌, ◌∷◌, [], ℕ, true, Some, None, is_some, slice_get, slice_index_or, position, vec_len, IfOk, IfErr, IsTrue, OnOk, OnErr};
 ghost use Rattle.std.specs.Result.{result_err};
 ghost use Rattle.sq_chunk.specs.ChunkValue.{ChunkValue};
-ghost use Rattle.sq_store.specs.StoreValue.{AreApart};
-ghost use Rattle.sq_turn.specs.WorldValue.{Work as WorkValue, option_list};
-ghost use Rattle.sq_turn.specs.LinkTurn.{is_odd, next_work, no_work, note_for, work_after};
+ghost use Rattle.sq_store.specs.StoreValue.{has_none_of};
+ghost use Rattle.sq_transition.specs.WorldValue.{WorkValue, option_list};
+ghost use Rattle.sq_transition.specs.LinkResults.{is_odd, next_work, no_work, note_for, work_after};
 ghost use Rattle.sq_parts.specs.LinkSteps.{opened_link, push_fault, pop_fault, cut_refusal, load_refusal, WasCutHere, WasLoadedHere};
 
-use crate::part::Part;
+use crate::partition::Partition;
 use crate::work::Work;
 use sq_chunk::{Chunk, Note};
 use sq_model::{Answer, Refusal};
 use sq_plan::PartId;
-use sq_ranges::Link;
+use sq_ranges::{Link, MAX_CAPACITY};
 use std::alloc::{AllocError, Global};
 use std::collections::VecDeque;
 use std::marker::Model;
@@ -20,11 +20,8 @@ use std::marker::Model;
 mod dump;
 mod way;
 
-/// How many chunks the queue of a link holds at most.
-const MAX_QUEUE: usize = 64;
-
 /// A link: the chunks that are under way from one partition to another, and those to come. To a contract it is a
-/// `LinkValue`.
+/// `LinkStateValue`.
 #[derive(Debug, Drop)]
 pub struct LinkState {
     src: PartId,
@@ -40,15 +37,16 @@ pub struct LinkState {
 impl Model for LinkState {
     ghost use Rattle.std.specs.Prelude.{◌≤◌};
     ghost use Rattle.std.specs.VecDeque.{deque_capacity};
-    ghost use Rattle.sq_turn.specs.WorldValue.{LinkValue};
+    ghost use Rattle.sq_ranges.specs.declared.opening.TheConstants.{MAX_CAPACITY};
+    ghost use Rattle.sq_transition.specs.WorldValue.{LinkStateValue};
     ghost use Rattle.sq_parts.specs.LinkSteps.{IsCounted};
 
-    ghost Value = { LinkValue };
+    ghost Value = { LinkStateValue };
 
     ghost view = { λ l. record { src = l.src; dst = l.dst; notes = l.notes.items; work = l.work.items; outbox = l.outbox; queue = l.queue.items; inbox = l.inbox; loaded = l.loaded } };
 
     ghost invariant = { λ l. record {
-      room : 64 ≤ deque_capacity l.queue;
+      room : MAX_CAPACITY ≤ deque_capacity l.queue;
       counted : IsCounted (record { src = l.src; dst = l.dst; notes = l.notes.items; work = l.work.items; outbox = l.outbox; queue = l.queue.items; inbox = l.inbox; loaded = l.loaded });
     } };
 }
@@ -64,7 +62,7 @@ impl LinkState {
             notes: Vec::new(alloc),
             work: Vec::new(alloc),
             outbox: None,
-            queue: VecDeque::with_capacity(alloc, MAX_QUEUE)?,
+            queue: VecDeque::with_capacity(alloc, MAX_CAPACITY as usize)?,
             inbox: None,
             loaded: 0,
         })
@@ -102,7 +100,7 @@ impl LinkState {
 
     /// Puts the chunk that was cut onto the link, which holds so many at most.
     pub fn push(&mut self, capacity: u64) -> Result<(), Refusal>
-        requires { capacity ≤ 64 }
+        requires { capacity ≤ MAX_CAPACITY }
         ensures answer { result_err result ≡ push_fault capacity self.old }
         ensures ok { OnOk result (self.new ≡ record self.old { outbox = None; queue = self.old.queue ++ option_list self.old.outbox }) }
         ensures err { OnErr result (self.new ≡ self.old) }
@@ -139,7 +137,7 @@ impl LinkState {
 
     /// Cuts a chunk of the work that is done next out of the source: its first family, and as many more as fit with it
     /// into `limit` bytes. A refusal leaves all as it was.
-    pub fn cut(&mut self, part: &mut Part, limit: u64, alloc: Global) -> Result<Answer, Refusal>
+    pub fn cut(&mut self, part: &mut Partition, limit: u64) -> Result<Answer, Refusal>
         requires { (i : ℕ) (work : WorkValue) → slice_get self.old.work i ≡ Some work → work.rest ≤ work.hi }
         ensures ok { IfOk result (λ answer. WasCutHere limit self.old part.old answer self.new part.new) }
         ensures refusal { IfErr result (λ refusal. refusal ≡ cut_refusal self.old) }
@@ -155,7 +153,7 @@ impl LinkState {
         if self.notes.reserve(1).is_err() {
             return Err(Refusal::Memory);
         }
-        let Ok(cut) = part.cut(alloc, work.rest(), work.hi(), limit) else {
+        let Ok(cut) = part.cut(work.rest(), work.hi(), limit) else {
             return Err(Refusal::Memory);
         };
         let end = cut.end;
@@ -172,8 +170,8 @@ impl LinkState {
 
     /// Loads the chunk that came into the partition that it came to, which has none of its families: its note, and how
     /// many families it has. A refusal leaves all as it was.
-    pub fn load(&mut self, part: &mut Part) -> Result<(Note, u64), Refusal>
-        requires { (chunk : ChunkValue) → self.old.inbox ≡ Some chunk → AreApart part.old.store chunk.families }
+    pub fn load(&mut self, part: &mut Partition) -> Result<(Note, u64), Refusal>
+        requires { (chunk : ChunkValue) → self.old.inbox ≡ Some chunk → IsTrue (has_none_of part.old.store chunk.families) }
         ensures ok { IfOk result (λ loaded. WasLoadedHere self.old part.old loaded.0 loaded.1 self.new part.new) }
         ensures refusal { IfErr result (λ refusal. refusal ≡ load_refusal self.old) }
         ensures err { OnErr result ((self.new ≡ self.old) × (part.new ≡ part.old)) }

@@ -1,22 +1,23 @@
 // What sources have to cut.
 ghost use Rattle.std.specs.Prelude.{◌≡◌};
-ghost use Rattle.sq_turn.specs.LinkTurn.{is_odd};
+ghost use Rattle.sq_transition.specs.LinkResults.{is_odd};
 
-use sq_ranges::Extent;
+use sq_ranges::{Extent, SegId};
+use sq_tree::NodeId;
 use std::marker::Model;
 
-/// What is left of a begun node that isn't cut to its end. To a contract it is a `Work`.
+/// What is left of a begun node that isn't cut to its end. To a contract it is a `WorkValue`.
 #[derive(Clone, Copy, Debug)]
 pub struct Work {
-    seg: u64,
-    node: u64,
+    seg: SegId,
+    node: NodeId,
     pull: u32,
     rest: u64,
     hi: u64,
 }
 
 impl Model for Work {
-    ghost use Rattle.sq_turn.specs.WorldValue.{Work as WorkValue};
+    ghost use Rattle.sq_transition.specs.WorldValue.{WorkValue};
 
     ghost Value = { WorkValue };
 
@@ -27,7 +28,7 @@ impl Model for Work {
 
 impl Work {
     /// All of a node, whose keys are these.
-    pub fn new(seg: u64, node: u64, pull: u32, keys: Extent) -> Work
+    pub fn new(seg: SegId, node: NodeId, pull: u32, keys: Extent) -> Work
         ensures { result ≡ record { seg = seg; node = node; pull = pull; rest = keys.lo; hi = keys.hi } }
     {
         Work {
@@ -40,14 +41,14 @@ impl Work {
     }
 
     /// The segment.
-    pub fn seg(self) -> u64
+    pub fn seg(self) -> SegId
         ensures { result ≡ self.seg }
     {
         self.seg
     }
 
     /// The node.
-    pub fn node(self) -> u64
+    pub fn node(self) -> NodeId
         ensures { result ≡ self.node }
     {
         self.node

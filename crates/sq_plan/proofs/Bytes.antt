@@ -6,11 +6,12 @@ use Rattle.std.proofs.lemmas.Bool.{false≢true}
 use Rattle.std.proofs.lemmas.Option.{same_Some, none-some}
 use Rattle.serde_json.specs.Data.{Data}
 use Rattle.serde_json.proofs.OnLiterals.{serde_json_on_literals}
+use Rattle.sq_plan.specs.declared.plan.TheConstants.{MAX_PARTS, MAX_RANGES}
 use Rattle.sq_plan.specs.declared.fault.PlanFault.{PlanFault}
 use Rattle.sq_plan.specs.declared.fault.PlanFault.TheVariants.{NotJson, Shape, Version, PartitionCount, RangeOrder, PartitionNumber, TooManyRanges, Memory}
 use Rattle.sq_plan.specs.PlanValue.{PlanValue, IsPlan, is_tiling}
 use Rattle.sq_plan.specs.Spelling.{Spells}
-use Rattle.sq_plan.specs.Reading.{◌>>=◌, check, whole_at, ranges_at, plan_of, json_of, Gives}
+use Rattle.sq_plan.specs.Reading.{◌>>=◌, check, whole_at, ranges_at, plan_of, json_of, ReadsPlan}
 use Rattle.sq_plan.proofs.Spelled.{plan_of-ok, plan_of-spelled}
 
 json_of-nothing : json_of [] ≡ None
@@ -23,7 +24,7 @@ json_of-some [] value is = absurd (none-some value (sym json_of-nothing ∙ is))
 json_of-some (byte ∷ bytes) value is = omega arith
 
 -- what was read is a plan, and the bytes spell it
-pub found : (came : Result PlanValue PlanFault) (bytes : List ℕ) (value : Data) → json_of bytes ≡ Some value → Gives came (plan_of value)
+pub found : (came : Result PlanValue PlanFault) (bytes : List ℕ) (value : Data) → json_of bytes ≡ Some value → ReadsPlan came (plan_of value)
     → IfOk came (λ plan. IsPlan plan × ((spelling : Data) × (json_of bytes ≡ Some spelling) × Spells spelling plan))
 found (Ok plan) bytes value is gives =
     let both = plan_of-ok value plan (sym gives) in
@@ -31,12 +32,12 @@ found (Ok plan) bytes value is gives =
 found (Err fault) bytes value is gives = tt
 
 -- a plan that bytes spell is what was read
-pub only : (came : Result PlanValue PlanFault) (bytes : List ℕ) (value : Data) → json_of bytes ≡ Some value → Gives came (plan_of value)
-    → (spelling : Data) (plan : PlanValue) → json_of bytes ≡ Some spelling → Spells spelling plan → IsPlan plan → Gives came (Ok plan)
+pub only : (came : Result PlanValue PlanFault) (bytes : List ℕ) (value : Data) → json_of bytes ≡ Some value → ReadsPlan came (plan_of value)
+    → (spelling : Data) (plan : PlanValue) → json_of bytes ≡ Some spelling → Spells spelling plan → IsPlan plan → ReadsPlan came (Ok plan)
 only came bytes value is gives spelling plan other spells is_plan =
     let same : spelling ≡ value = same_Some _ _ (sym other ∙ is) in
     let spelled = subst (λ (v : Data). Spells v plan) same spells in
-    subst (Gives came) (plan_of-spelled value plan spelled is_plan) gives
+    subst (ReadsPlan came) (plan_of-spelled value plan spelled is_plan) gives
 
 -- a fault that a JSON value may have
 abbrev pub is_of_value : PlanFault → Bool
@@ -62,14 +63,14 @@ plan_of_fault value =
     bind_fault _ _ (check_fault (eqb version 1) Version refl) (λ _.
     bind_fault _ _ (ok_or_fault (whole_at (codes "partitions") value)) (λ parts.
     bind_fault _ _ (ok_or_fault (ranges_at (codes "ranges") value)) (λ ranges.
-    bind_fault _ _ (check_fault (leb 1 parts && leb parts 16) PartitionCount refl) (λ _.
-    bind_fault _ _ (check_fault (leb (length ranges) 256) TooManyRanges refl) (λ _.
+    bind_fault _ _ (check_fault (leb 1 parts && leb parts MAX_PARTS) PartitionCount refl) (λ _.
+    bind_fault _ _ (check_fault (leb (length ranges) MAX_RANGES) TooManyRanges refl) (λ _.
     bind_fault _ _ (check_fault (is_tiling 0 ranges) RangeOrder refl) (λ _.
     bind_fault _ _ (check_fault (list_all (λ range. ltb range.owner parts) ranges) PartitionNumber refl) (λ _. tt))))))))
 
 -- a JSON value isn't refused as none
-pub not_refused : (came : Result PlanValue PlanFault) (value : Data) → Gives came (plan_of value) → came ≡ Err NotJson → ⊥
+pub not_refused : (came : Result PlanValue PlanFault) (value : Data) → ReadsPlan came (plan_of value) → came ≡ Err NotJson → ⊥
 not_refused came value gives is =
-    let told : Err NotJson ≡ plan_of value = subst (λ (r : Result PlanValue PlanFault). Gives r (plan_of value)) is gives in
+    let told : Err NotJson ≡ plan_of value = subst (λ (r : Result PlanValue PlanFault). ReadsPlan r (plan_of value)) is gives in
     let Faults : Result PlanValue PlanFault → Type 0 = λ r. IfErr r (λ fault. is_of_value fault ≡ true) in
     false≢true (subst Faults (sym told) (plan_of_fault value))

@@ -6,15 +6,16 @@ use Rattle.std.specs.List.{list_all}
 use Rattle.serde_json.specs.Data.{Items, no_items, item}
 use Rattle.serde_json.specs.View.{items_view, view}
 use Rattle.serde_json.specs.declared.value.Value.{Value}
+use Rattle.sq_schema.specs.declared.root.TheConstants.{ROOT_END}
 use Rattle.sq_plan.specs.declared.plan.PlanRange.{PlanRange}
 use Rattle.sq_plan.specs.declared.read.Layout.{Layout}
-use Rattle.sq_plan.specs.PlanValue.{is_tiling, root_end}
-use Rattle.sq_plan.specs.Draft.{layout}
+use Rattle.sq_plan.specs.PlanValue.{is_tiling}
+use Rattle.sq_plan.specs.PlanFields.{layout}
 use Rattle.sq_plan.specs.Reading.{range_in, range_of_items, ranges_in}
 
 -- what the items from here on come to, after those before
 abbrev pub walk : ℕ → ℕ → Bool → Bool → Items → Option Layout
-walk parts lo ordered owned no_items = Some (record { tiling = ordered && eqb lo root_end; owned = owned })
+walk parts lo ordered owned no_items = Some (record { tiling = ordered && eqb lo ROOT_END; owned = owned })
 walk parts lo ordered owned (item value values) =
     option_and_then (λ range. walk parts range.hi ((ordered && eqb range.lo lo) && ltb range.lo range.hi) (owned && ltb range.owner parts) values) (range_in value)
 
@@ -50,7 +51,7 @@ walk_item parts lo ordered owned values more (Some range) =
     more range.hi ((ordered && eqb range.lo lo) && ltb range.lo range.hi) (owned && ltb range.owner parts) ∙ layout_more parts lo ordered owned range (ranges_in values)
 
 walk_is : (parts : ℕ) (values : Items) (lo : ℕ) (ordered owned : Bool) → walk parts lo ordered owned values ≡ option_map (layout_from parts lo ordered owned) (ranges_in values)
-walk_is parts no_items lo ordered owned = ap (λ (b : Bool). let l : Layout = record { tiling = ordered && eqb lo root_end; owned = b } in Some l) (and-true owned)
+walk_is parts no_items lo ordered owned = ap (λ (b : Bool). let l : Layout = record { tiling = ordered && eqb lo ROOT_END; owned = b } in Some l) (and-true owned)
 walk_is parts (item value values) lo ordered owned = walk_item parts lo ordered owned values (walk_is parts values) (range_in value)
 
 -- all items
@@ -65,7 +66,7 @@ walk_none parts lo ordered owned values i d h is =
 
 -- behind the last item
 pub walk_end : (parts lo : ℕ) (ordered owned : Bool) (values : List Value) (i : ℕ) → length values ≤ i
-    → walk parts lo ordered owned (items_view (drop i values)) ≡ Some (record { tiling = ordered && eqb lo root_end; owned = owned })
+    → walk parts lo ordered owned (items_view (drop i values)) ≡ Some (record { tiling = ordered && eqb lo ROOT_END; owned = owned })
 walk_end parts lo ordered owned values i h = at_drop_all (λ vs. walk parts lo ordered owned (items_view vs)) values i h
 
 length_one_more : (range : PlanRange) (n : ℕ) (o : Option (List PlanRange)) (ranges : List PlanRange) → ((rest : List PlanRange) → o ≡ Some rest → length rest ≡ n)

@@ -3,11 +3,11 @@ use Rattle.std.proofs.Common.{◌≡◌, ℕ, zero, suc, ◌<◌, ◌≤◌, Boo
 use Rattle.std.specs.List.{list_all}
 use Rattle.std.proofs.lemmas.Bool.{and_parts, cond-true, cond-false, cases_lt, cases_Bool, ltb-true, leb-true, leb-false, le-leb}
 use Rattle.std.specs.List.Sorted.{IsPartitionedBy, IsPartitionPoint}
-use Rattle.std.proofs.lemmas.List.{get_or_default}
 use Rattle.std.proofs.lemmas.Option.{same_Some}
 use Rattle.std.proofs.lemmas.Bool.Decides.{nat_tests}
+use Rattle.sq_schema.specs.declared.root.TheConstants.{ROOT_END}
 use Rattle.sq_plan.specs.declared.plan.PlanRange.{PlanRange}
-use Rattle.sq_plan.specs.PlanValue.{PlanValue, IsPlan, is_tiling, root_end, holds, owner, owner_in, IsHolder}
+use Rattle.sq_plan.specs.PlanValue.{PlanValue, IsPlan, is_tiling, holds, owner, owner_in, IsHolder}
 use Rattle.sq_plan.proofs.Tiling.{Follows-from_tiling, tiling-end, ends_rise, within}
 
 pub holds_from : (range : PlanRange) (key : ℕ) → range.lo ≤ key → key < range.hi → holds range key ≡ true
@@ -29,7 +29,7 @@ pub record Splits (ranges : List PlanRange) (key i : ℕ) : Type 0 where
   pub after : (j : ℕ) (d : PlanRange) → i ≤ j → j < length ranges → key < (get_or ranges j d).hi
 
 -- the range at that place is the first that holds the key
-pub find_at : (lo : ℕ) (ranges : List PlanRange) (key i : ℕ) (d : PlanRange) → is_tiling lo ranges ≡ true → lo ≤ key → key < root_end → i ≤ length ranges → Splits ranges key i
+pub find_at : (lo : ℕ) (ranges : List PlanRange) (key i : ℕ) (d : PlanRange) → is_tiling lo ranges ≡ true → lo ≤ key → key < ROOT_END → i ≤ length ranges → Splits ranges key i
     → (i < length ranges) × (find (λ range. holds range key) ranges ≡ Some (get_or ranges i d))
 find_at lo [] key i d tiling low high le splits = let end = tiling-end lo tiling in absurd (omega arith)
 find_at lo (range ∷ ranges) key zero d tiling low high le splits =
@@ -51,7 +51,7 @@ none_held lo (range ∷ ranges) key tiling before =
     cond-false _ _ _ (begins_after range key (omega arith)) ∙ none_held range.hi ranges key one.rest (omega arith)
 
 -- what is found, for a key that a tiling reaches
-pub found : (lo : ℕ) (ranges : List PlanRange) (key : ℕ) → is_tiling lo ranges ≡ true → lo ≤ key → key < root_end
+pub found : (lo : ℕ) (ranges : List PlanRange) (key : ℕ) → is_tiling lo ranges ≡ true → lo ≤ key → key < ROOT_END
     → (range : PlanRange) × (filter (λ range. holds range key) ranges ≡ range ∷ []) × (find (λ range. holds range key) ranges ≡ Some range)
 found lo [] key tiling low high = let end = tiling-end lo tiling in absurd (omega arith)
 found lo (range ∷ ranges) key tiling low high =
@@ -77,7 +77,7 @@ list_all-find p q (first ∷ ranges) range all is =
     ]
 
 -- one range of a plan holds each key
-pub held : (plan : PlanValue) (key : ℕ) → IsPlan plan → key < root_end → (range : PlanRange) × IsHolder plan key range
+pub held : (plan : PlanValue) (key : ℕ) → IsPlan plan → key < ROOT_END → (range : PlanRange) × IsHolder plan key range
 held plan key is_plan high =
     let it = found 0 plan.ranges key is_plan.tiling (omega arith) high in
     let exists = list_all-find _ _ plan.ranges it.0 is_plan.owners it.2 in
@@ -92,7 +92,7 @@ owner_exists plan key is_plan = owned_in (find (λ range. holds range key) plan.
     owned_in (Some range) is = ltb-true _ _ (list_all-find _ _ plan.ranges range is_plan.owners is)
 
 -- a search by the ranges' ends comes out at the range that holds the key
-pub find_at_point : (plan : PlanValue) (ranges : List PlanRange) (key i : ℕ) (d : PlanRange) → IsPlan plan → ranges ≡ plan.ranges → key < root_end → i ≤ length ranges
+pub find_at_point : (plan : PlanValue) (ranges : List PlanRange) (key i : ℕ) (d : PlanRange) → IsPlan plan → ranges ≡ plan.ranges → key < ROOT_END → i ≤ length ranges
     → (IsPartitionedBy (λ range. leb range.hi key) ranges → IsPartitionPoint (λ range. leb range.hi key ≡ true) (λ range. leb range.hi key ≡ false) ranges i)
     → (i < length plan.ranges) × (find (λ range. holds range key) plan.ranges ≡ Some (get_or plan.ranges i d))
 find_at_point plan ranges key i d is_plan same high le clause =
@@ -150,26 +150,6 @@ pub owner_held : (plan : PlanValue) (key i : ℕ) (range : PlanRange) → IsPlan
 owner_held plan key i range is_plan h is holding =
     let inside = within 0 plan.ranges i range is_plan.tiling h in
     let ends = ends_around range key holding in
-    let below : key < root_end = omega (arith, ap (λ (r : PlanRange). r.hi) is) in
+    let below : key < ROOT_END = omega (arith, ap (λ (r : PlanRange). r.hi) is) in
     let it = held plan key is_plan below in
     it.1.owns ∙ ap (λ (r : PlanRange). r.owner) (sym (found_holds _ plan.ranges i range h is holding it.0 it.1.alone))
-
--- the owner of a key between the ends of a range
-pub owner_between : (plan : PlanValue) (key i : ℕ) (d : PlanRange) → IsPlan plan → i < length plan.ranges → (get_or plan.ranges i d).lo ≤ key → key < (get_or plan.ranges i d).hi
-    → owner plan key ≡ (get_or plan.ranges i d).owner
-owner_between plan key i d is_plan h low high =
-    let range = get_or plan.ranges i d in
-    owner_held plan key i range is_plan h (get_or_default plan.ranges i d range h) (holds_from range key low high)
-
--- some range begins at or before each key that a tiling reaches, and ends past it
-pub between : (lo : ℕ) (ranges : List PlanRange) (key : ℕ) → is_tiling lo ranges ≡ true → lo ≤ key → key < root_end
-    → (i : ℕ) × (i < length ranges) × ((d : PlanRange) → ((get_or ranges i d).lo ≤ key) × (key < (get_or ranges i d).hi))
-between lo [] key tiling low high = let end = tiling-end lo tiling in absurd (omega arith)
-between lo (range ∷ ranges) key tiling low high =
-    let one = Follows-from_tiling lo range ranges tiling in
-    elim (cases_lt key range.hi) [
-      | inl inside ↦ (0, omega arith, λ d. (omega arith, inside))
-      | inr past ↦
-          let more = between range.hi ranges key one.rest past high in
-          (suc more.0, omega (arith, more.1), more.2)
-    ]

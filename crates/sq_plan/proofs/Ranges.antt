@@ -1,5 +1,5 @@
 -- The ranges that items spell, while they are taken over one after another.
-use Rattle.std.proofs.Common.{◌≡◌, ℕ, ◌+◌, ◌<◌, ◌≤◌, ltb, true, List, [], ◌∷◌, ◌++◌, length, get_or, drop, Option, Some, None, option_map, option_and_then, IsSomeAnd, append_assoc, append-nil, refl, sym, ap, subst, ◌∙◌}
+use Rattle.std.proofs.Common.{◌≡◌, ℕ, ◌+◌, ◌^◌, ◌<◌, ◌≤◌, ltb, true, List, [], ◌∷◌, ◌++◌, length, get_or, drop, Option, Some, None, option_map, option_and_then, IsSomeAnd, append_assoc, append-nil, refl, sym, ap, subst, ◌∙◌}
 use Rattle.std.specs.List.{list_all}
 use Rattle.std.proofs.lemmas.Bool.{and_parts, ltb-true}
 use Rattle.std.proofs.lemmas.List.{at_drop_more, at_drop_all}
@@ -14,7 +14,7 @@ with_front front rest = option_map (λ ranges. front ++ ranges) rest
 
 -- each item is a range whose owner is the number of a partition
 abbrev pub AreSmall : Option (List PlanRange) → Type 0
-AreSmall found = IsSomeAnd found (λ ranges. list_all (λ range. ltb range.owner 256) ranges ≡ true)
+AreSmall found = IsSomeAnd found (λ ranges. list_all (λ range. ltb range.owner (2 ^ 8)) ranges ≡ true)
 
 abbrev joined : Option PlanRange → Option (List PlanRange) → Option (List PlanRange)
 joined first rest = option_and_then (λ range. option_and_then (λ ranges. Some (range ∷ ranges)) rest) first
@@ -27,14 +27,14 @@ front_more front range (Some ranges) = ap Some (sym (append_assoc front (range �
 pub record Next (items : List Value) (i : ℕ) (item : Value) : Type 0 where
   pub range : PlanRange
   pub is : range_in (view item) ≡ Some range
-  pub small : range.owner < 256
+  pub small : range.owner < 2 ^ 8
   pub rest : AreSmall (ranges_in (items_view (drop (i + 1) items)))
 
 next_of : (items : List Value) (i : ℕ) (item : Value) (first : Option PlanRange) (rest : Option (List PlanRange)) → range_in (view item) ≡ first → ranges_in (items_view (drop (i + 1) items)) ≡ rest → AreSmall (joined first rest) → Next items i item
 next_of items i item None rest is others small = absurd small
 next_of items i item (Some range) None is others small = absurd small
 next_of items i item (Some range) (Some ranges) is others small =
-    let parts = and_parts (ltb range.owner 256) (list_all (λ range. ltb range.owner 256) ranges) small in
+    let parts = and_parts (ltb range.owner (2 ^ 8)) (list_all (λ range. ltb range.owner (2 ^ 8)) ranges) small in
     record { range = range; is = is; small = ltb-true _ _ parts.0; rest = subst AreSmall (sym others) parts.1 }
 
 at_next : (items : List Value) (i : ℕ) (item : Value) → i < length items → item ≡ get_or items i item → ranges_in (items_view (drop i items)) ≡ joined (range_in (view item)) (ranges_in (items_view (drop (i + 1) items)))

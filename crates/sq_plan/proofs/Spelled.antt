@@ -8,7 +8,7 @@ use Rattle.sq_plan.specs.declared.plan.PlanRange.{PlanRange}
 use Rattle.sq_plan.specs.declared.fault.PlanFault.{PlanFault}
 use Rattle.sq_plan.specs.declared.fault.PlanFault.TheVariants.{Shape, Version}
 use Rattle.sq_plan.specs.PlanValue.{PlanValue, IsPlan}
-use Rattle.sq_plan.specs.Spelling.{whole, range_data, ranges_data, Spells}
+use Rattle.sq_plan.specs.Spelling.{number_data, range_data, ranges_data, Spells}
 use Rattle.sq_plan.specs.Reading.{◌>>=◌, check, whole_in, whole_at, range_in, range_of_items, ranges_in, ranges_at, checked, plan_of}
 use Rattle.sq_plan.proofs.Checks.{checked-ok, checked-plan}
 
@@ -33,7 +33,7 @@ whole_in_num (unsigned n) k is = ap unsigned (same_Some _ _ is)
 whole_in_num (negative z) k is = absurd cc
 whole_in_num (float x) k is = absurd cc
 
-whole_is : (value : Data) (k : ℕ) → whole_in value ≡ Some k → value ≡ whole k
+whole_is : (value : Data) (k : ℕ) → whole_in value ≡ Some k → value ≡ number_data k
 whole_is null k is = absurd cc
 whole_is (boolean b) k is = absurd cc
 whole_is (number n) k is = ap number (whole_in_num n k is)
@@ -90,11 +90,11 @@ ranges_in-data (range ∷ ranges) = ap (λ (rest : Option (List PlanRange)). opt
 
 -- ---- fields
 
-whole_at-is : (name : List ℕ) (value : Data) (k : ℕ) → whole_at name value ≡ Some k → get name value ≡ Some (whole k)
+whole_at-is : (name : List ℕ) (value : Data) (k : ℕ) → whole_at name value ≡ Some k → get name value ≡ Some (number_data k)
 whole_at-is name value k is = option_and_then_some whole_in (get name value) k is (λ d e f. e ∙ ap Some (whole_is d k f))
 
-whole_at-whole : (name : List ℕ) (value : Data) (k : ℕ) → get name value ≡ Some (whole k) → whole_at name value ≡ Some k
-whole_at-whole name value k is = ap (option_and_then whole_in) is
+whole_at-number_data : (name : List ℕ) (value : Data) (k : ℕ) → get name value ≡ Some (number_data k) → whole_at name value ≡ Some k
+whole_at-number_data name value k is = ap (option_and_then whole_in) is
 
 ranges_at-is : (name : List ℕ) (value : Data) (ranges : List PlanRange) → ranges_at name value ≡ Some ranges → get name value ≡ Some (array (ranges_data ranges))
 ranges_at-is name value ranges is =
@@ -114,7 +114,7 @@ plan_of-ok value plan is =
     let d = bind_ok (ok_or (whole_at (codes "partitions") value) Shape) (λ parts. ok_or (ranges_at (codes "ranges") value) Shape >>= λ ranges. checked parts ranges) plan b.2 in
     let e = bind_ok (ok_or (ranges_at (codes "ranges") value) Shape) (λ ranges. checked d.0 ranges) plan d.2 in
     let one = eqb-true _ _ (check-ok _ _ b.0 b.1) in
-    let version = whole_at-is (codes "version") value a.0 (ok_or-ok _ _ _ a.1) ∙ ap (λ (k : ℕ). Some (whole k)) one in
+    let version = whole_at-is (codes "version") value a.0 (ok_or-ok _ _ _ a.1) ∙ ap (λ (k : ℕ). Some (number_data k)) one in
     let partitions = whole_at-is (codes "partitions") value d.0 (ok_or-ok _ _ _ d.1) in
     let ranges = ranges_at-is (codes "ranges") value e.0 (ok_or-ok _ _ _ e.1) in
     let made : PlanValue = record { parts = d.0; ranges = e.0 } in
@@ -124,7 +124,7 @@ plan_of-ok value plan is =
 -- a plan that is spelled is read
 pub plan_of-spelled : (value : Data) (plan : PlanValue) → Spells value plan → IsPlan plan → plan_of value ≡ Ok plan
 plan_of-spelled value plan spells is_plan =
-    let version = whole_at-whole (codes "version") value 1 spells.version in
-    let partitions = whole_at-whole (codes "partitions") value plan.parts spells.partitions in
+    let version = whole_at-number_data (codes "version") value 1 spells.version in
+    let partitions = whole_at-number_data (codes "partitions") value plan.parts spells.partitions in
     let ranges = ranges_at-data (codes "ranges") value plan.ranges spells.ranges in
     rw (version, partitions, ranges) (checked-plan plan is_plan)

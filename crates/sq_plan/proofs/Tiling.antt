@@ -1,8 +1,9 @@
 -- Ranges that follow one another: where each of them begins and ends.
-use Rattle.std.proofs.Common.{◌≡◌, ℕ, zero, suc, ◌+◌, ◌<◌, ◌≤◌, ◌&&◌, true, eqb, ltb, List, [], ◌∷◌, length, get_or, add-one, arith}
+use Rattle.std.proofs.Common.{◌≡◌, ℕ, zero, suc, ◌<◌, ◌≤◌, ◌&&◌, true, eqb, ltb, List, [], ◌∷◌, length, get_or, arith}
 use Rattle.std.proofs.lemmas.Bool.{and_parts, eqb-true, ltb-true}
+use Rattle.sq_schema.specs.declared.root.TheConstants.{ROOT_END}
 use Rattle.sq_plan.specs.declared.plan.PlanRange.{PlanRange}
-use Rattle.sq_plan.specs.PlanValue.{is_tiling, root_end}
+use Rattle.sq_plan.specs.PlanValue.{is_tiling}
 
 -- the first range, and the rest
 pub record Follows (lo : ℕ) (range : PlanRange) (ranges : List PlanRange) : Type 0 where
@@ -16,8 +17,8 @@ Follows-from_tiling lo range ranges tiling =
     let two = and_parts (ltb range.lo range.hi) (is_tiling range.hi ranges) one.1 in
     record { first = eqb-true _ _ one.0; some = ltb-true _ _ two.0; rest = two.1 }
 
-pub tiling-end : (lo : ℕ) → is_tiling lo [] ≡ true → lo ≡ root_end
-tiling-end lo tiling = eqb-true lo root_end tiling
+pub tiling-end : (lo : ℕ) → is_tiling lo [] ≡ true → lo ≡ ROOT_END
+tiling-end lo tiling = eqb-true lo ROOT_END tiling
 
 -- each range ends above where all of them begin
 pub above : (lo : ℕ) (ranges : List PlanRange) (i : ℕ) (d : PlanRange) → is_tiling lo ranges ≡ true → i < length ranges → lo < (get_or ranges i d).hi
@@ -41,22 +42,9 @@ ends_rise lo (range ∷ ranges) (suc i) (suc j) d tiling le h =
     let one = Follows-from_tiling lo range ranges tiling in
     ends_rise range.hi ranges i j d one.rest (omega arith) (omega arith)
 
--- the first range begins where all begin
-pub first_begins : (lo : ℕ) (ranges : List PlanRange) (d : PlanRange) → is_tiling lo ranges ≡ true → 0 < length ranges → (get_or ranges 0 d).lo ≡ lo
-first_begins lo [] d tiling h = absurd (omega arith)
-first_begins lo (range ∷ ranges) d tiling h = (Follows-from_tiling lo range ranges tiling).first
-
--- each next range begins where the one before it ends
-pub next_begins : (lo : ℕ) (ranges : List PlanRange) (i : ℕ) (d : PlanRange) → is_tiling lo ranges ≡ true → i + 1 < length ranges → (get_or ranges (i + 1) d).lo ≡ (get_or ranges i d).hi
-next_begins lo [] i d tiling h = absurd (omega arith)
-next_begins lo (range ∷ ranges) zero d tiling h =
-    first_begins range.hi ranges d (Follows-from_tiling lo range ranges tiling).rest (omega arith)
-next_begins lo (range ∷ ranges) (suc i) d tiling h =
-    rw add-one (rw add-one at (next_begins range.hi ranges i d (Follows-from_tiling lo range ranges tiling).rest (omega arith)))
-
 -- no range is empty, and none goes past the last key
 pub within : (lo : ℕ) (ranges : List PlanRange) (i : ℕ) (d : PlanRange) → is_tiling lo ranges ≡ true → i < length ranges
-    → (lo ≤ (get_or ranges i d).lo) × ((get_or ranges i d).lo < (get_or ranges i d).hi) × ((get_or ranges i d).hi ≤ root_end)
+    → (lo ≤ (get_or ranges i d).lo) × ((get_or ranges i d).lo < (get_or ranges i d).hi) × ((get_or ranges i d).hi ≤ ROOT_END)
 within lo [] i d tiling h = absurd (omega arith)
 within lo (range ∷ []) zero d tiling h =
     let one = Follows-from_tiling lo range [] tiling in
@@ -70,11 +58,3 @@ within lo (range ∷ ranges) (suc i) d tiling h =
     let one = Follows-from_tiling lo range ranges tiling in
     let more = within range.hi ranges i d one.rest (omega arith) in
     (omega arith, more.1, more.2)
-
--- the last range ends where the keys end
-pub last_ends : (lo : ℕ) (ranges : List PlanRange) (i : ℕ) (d : PlanRange) → is_tiling lo ranges ≡ true → i + 1 ≡ length ranges → (get_or ranges i d).hi ≡ root_end
-last_ends lo [] i d tiling h = absurd (omega arith)
-last_ends lo (range ∷ []) zero d tiling h = tiling-end range.hi (Follows-from_tiling lo range [] tiling).rest
-last_ends lo (range ∷ next ∷ ranges) zero d tiling h = absurd (omega arith)
-last_ends lo (range ∷ ranges) (suc i) d tiling h =
-    last_ends range.hi ranges i d (Follows-from_tiling lo range ranges tiling).rest (omega arith)

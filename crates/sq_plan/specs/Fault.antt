@@ -1,15 +1,15 @@
--- The numbers of the faults.
+-- The numbers of faults, as a user sees them.
 use Rattle.std.specs.Prelude.{ℕ}
+use Rattle.sq_schema.specs.Fault.{memory_number}
 use Rattle.sq_plan.specs.declared.fault.PlanFault.{PlanFault}
 use Rattle.sq_plan.specs.declared.fault.PlanFault.TheVariants.{NotJson, Shape, Version, PartitionCount, RangeOrder, PartitionNumber, TooManyRanges, Memory}
 
--- the number that a user sees
-abbrev pub number_of : PlanFault → ℕ
-number_of NotJson = 101
-number_of Shape = 102
-number_of Version = 103
-number_of PartitionCount = 104
-number_of RangeOrder = 105
-number_of PartitionNumber = 106
-number_of TooManyRanges = 107
-number_of Memory = 222
+abbrev pub plan_fault_number : PlanFault → ℕ
+plan_fault_number NotJson = 101
+plan_fault_number Shape = 102
+plan_fault_number Version = 103
+plan_fault_number PartitionCount = 104
+plan_fault_number RangeOrder = 105
+plan_fault_number PartitionNumber = 106
+plan_fault_number TooManyRanges = 107
+plan_fault_number Memory = memory_number

@@ -2,4 +2,4 @@ pub mod PlanValue
 pub mod Fault
 pub mod Spelling
 pub mod Reading
-pub mod Draft
+pub mod PlanFields

@@ -1,25 +1,23 @@
 -- Partition plans, and the owner of a key.
 use Rattle.std.specs.Prelude.{◌≡◌, ℕ, Bool, true, ◌==◌, ◌&&◌, ◌<◌, ◌≤◌, nat_lt, nat_le, List, [], ◌∷◌, length, filter, find, Option, Some, None}
 use Rattle.std.specs.List.{list_all}
+use Rattle.sq_schema.specs.declared.root.TheConstants.{ROOT_END}
 use Rattle.sq_plan.specs.declared.plan.PlanRange.{PlanRange}
+use Rattle.sq_plan.specs.declared.plan.TheConstants.{MAX_PARTS, MAX_RANGES}
 
 pub record PlanValue : Type 0 where
   pub parts : ℕ
   pub ranges : List PlanRange
 
--- where root keys end
-abbrev pub root_end : ℕ
-root_end = 4294967296
-
 -- ranges that follow one another from this key to the end of the root keys, none of them empty
 abbrev pub is_tiling : ℕ → List PlanRange → Bool
-is_tiling lo [] = lo == root_end
+is_tiling lo [] = lo == ROOT_END
 is_tiling lo (range ∷ ranges) = (range.lo == lo) && (nat_lt range.lo range.hi && is_tiling range.hi ranges)
 
 pub record IsPlan (plan : PlanValue) : Type 0 where
   pub some_part : 1 ≤ plan.parts
-  pub few_parts : plan.parts ≤ 16
-  pub few_ranges : length plan.ranges ≤ 256
+  pub few_parts : plan.parts ≤ MAX_PARTS
+  pub few_ranges : length plan.ranges ≤ MAX_RANGES
   pub tiling : is_tiling 0 plan.ranges ≡ true
   pub owners : list_all (λ range. nat_lt range.owner plan.parts) plan.ranges ≡ true
 

@@ -7,6 +7,7 @@ use Rattle.serde_json.specs.Data.{Data, Items, no_items, item}
 use Rattle.serde_json.specs.Read.{read}
 use Rattle.serde_json.specs.Find.{get, as_number, as_array, as_u64}
 use Rattle.sq_plan.specs.declared.plan.PlanRange.{PlanRange}
+use Rattle.sq_plan.specs.declared.plan.TheConstants.{MAX_PARTS, MAX_RANGES}
 use Rattle.sq_plan.specs.declared.fault.PlanFault.{PlanFault}
 use Rattle.sq_plan.specs.declared.fault.PlanFault.TheVariants.{NotJson, Shape, Version, PartitionCount, RangeOrder, PartitionNumber, TooManyRanges, Memory}
 use Rattle.sq_plan.specs.PlanValue.{PlanValue, is_tiling}
@@ -51,8 +52,8 @@ check test fault = if test then Ok tt else Err fault
 -- the plan of these partitions and ranges, or the fault of the first check that fails
 abbrev pub checked : ℕ → List PlanRange → Result PlanValue PlanFault
 checked parts ranges = do
-  are_some ← check (nat_le 1 parts && nat_le parts 16) PartitionCount
-  are_few ← check (nat_le (length ranges) 256) TooManyRanges
+  are_some ← check (nat_le 1 parts && nat_le parts MAX_PARTS) PartitionCount
+  are_few ← check (nat_le (length ranges) MAX_RANGES) TooManyRanges
   follow ← check (is_tiling 0 ranges) RangeOrder
   exist ← check (list_all (λ range. nat_lt range.owner parts) ranges) PartitionNumber
   Ok (record { parts = parts; ranges = ranges })
@@ -76,7 +77,7 @@ plan_in bytes = do
   value ← ok_or (json_of bytes) NotJson
   plan_of value
 
--- this is what came, unless memory ran out
-abbrev pub Gives : Result PlanValue PlanFault → Result PlanValue PlanFault → Type 0
-Gives (Err Memory) wanted = Unit {0}
-Gives came wanted = came ≡ wanted
+-- the wanted plan or fault was read, unless memory ran out
+abbrev pub ReadsPlan : Result PlanValue PlanFault → Result PlanValue PlanFault → Type 0
+ReadsPlan (Err Memory) wanted = ⊤
+ReadsPlan read wanted = read ≡ wanted

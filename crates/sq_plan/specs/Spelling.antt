@@ -6,12 +6,12 @@ use Rattle.sq_plan.specs.declared.plan.PlanRange.{PlanRange}
 use Rattle.sq_plan.specs.PlanValue.{PlanValue}
 
 -- a whole number, as JSON has it
-abbrev pub whole : ℕ → Data
-whole n = number (unsigned n)
+abbrev pub number_data : ℕ → Data
+number_data n = number (unsigned n)
 
 -- a range: [lo,hi,owner]
 abbrev pub range_data : PlanRange → Data
-range_data range = array (item (whole range.lo) (item (whole range.hi) (item (whole range.owner) no_items)))
+range_data range = array (item (number_data range.lo) (item (number_data range.hi) (item (number_data range.owner) no_items)))
 
 -- ranges, one after another
 abbrev pub ranges_data : List PlanRange → Items
@@ -20,6 +20,6 @@ ranges_data (range ∷ ranges) = item (range_data range) (ranges_data ranges)
 
 -- the JSON value has the fields of the plan
 pub record Spells (value : Data) (plan : PlanValue) : Type 0 where
-  pub version : get (codes "version") value ≡ Some (whole 1)
-  pub partitions : get (codes "partitions") value ≡ Some (whole plan.parts)
+  pub version : get (codes "version") value ≡ Some (number_data 1)
+  pub partitions : get (codes "partitions") value ≡ Some (number_data plan.parts)
   pub ranges : get (codes "ranges") value ≡ Some (array (ranges_data plan.ranges))

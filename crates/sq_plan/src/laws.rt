@@ -1,8 +1,10 @@
-// What holds of plans and of what spells them.
+//! What holds of plans, and of JSON values that spell them. The functions do nothing: each states a law, which the
+//! checker proves.
 ghost use Rattle.std.specs.Prelude.{◌≡◌, ℕ, ◌<◌, ◌↔◌, length, slice_index_or, true, Ok};
 ghost use Rattle.serde_json.specs.Data.{Data};
+ghost use Rattle.sq_schema.specs.declared.root.TheConstants.{ROOT_END};
 ghost use Rattle.sq_plan.specs.declared.plan.PlanRange.{PlanRange};
-ghost use Rattle.sq_plan.specs.PlanValue.{PlanValue, IsPlan, IsHolder, root_end, holds, owner};
+ghost use Rattle.sq_plan.specs.PlanValue.{PlanValue, IsPlan, IsHolder, holds, owner};
 ghost use Rattle.sq_plan.specs.Spelling.{Spells};
 ghost use Rattle.sq_plan.specs.Reading.{plan_of};
 
@@ -14,7 +16,7 @@ pub fn each_plan_is_read()
 
 /// Just one range of a plan holds each root key, and each key that a range holds has the range's owner.
 pub fn one_range_holds_each_key()
-    ensures one { (plan : PlanValue) (key : ℕ) → IsPlan plan → key < root_end
+    ensures one { (plan : PlanValue) (key : ℕ) → IsPlan plan → key < ROOT_END
         → (range : PlanRange) × IsHolder plan key range }
     ensures each { (plan : PlanValue) (key i : ℕ) (range : PlanRange) → IsPlan plan
         → i < length plan.ranges → range ≡ slice_index_or plan.ranges i range

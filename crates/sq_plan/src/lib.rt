@@ -2,14 +2,11 @@
 #![tactic(auto)]
 
 mod fault;
-mod laws;
+pub mod laws;
 mod part;
 mod plan;
 mod read;
-#[cfg(test)]
-mod tests;
 
 pub use fault::PlanFault;
-pub use laws::{each_plan_is_read, one_range_holds_each_key};
 pub use part::PartId;
-pub use plan::{Plan, PlanRange};
+pub use plan::{MAX_PARTS, MAX_RANGES, Plan, PlanRange};

@@ -5,22 +5,26 @@ use crate::fault::PlanFault;
 use crate::part::PartId;
 use crate::read::{json_in, plan_of};
 use sq_schema::Root;
-use std::alloc::Global;
+use std::alloc::{AllocError, Global};
 use std::marker::Model;
+
+/// The most partitions that a plan has.
+pub const MAX_PARTS: u64 = 16;
+
+/// The most ranges that a plan has.
+pub const MAX_RANGES: usize = 256;
 
 /// The root keys from `lo` up to `hi`, and the partition that owns them.
 #[derive(Clone, Copy, Debug, PartialEq, Eq)]
 pub struct PlanRange {
-    /// The first key.
     pub lo: u64,
     /// The key after the last.
     pub hi: u64,
-    /// The owner.
     pub owner: PartId,
 }
 
-/// A partition plan: 1 to 16 partitions, and at most 256 ranges, sorted, nonempty and without gap from 0 to
-/// [`sq_schema::ROOT_END`], each with an owner among the partitions. To a contract it is a `PlanValue`.
+/// A partition plan: 1 to [`MAX_PARTS`] partitions, and at most [`MAX_RANGES`] ranges, sorted, nonempty and without
+/// gap from 0 to [`sq_schema::ROOT_END`], each with an owner among the partitions. To a contract it is a `PlanValue`.
 #[derive(Debug, Drop)]
 pub struct Plan {
     parts: u8,
@@ -42,9 +46,9 @@ impl Plan {
     ghost use Rattle.serde_json.specs.Data.{Data};
     ghost use Rattle.sq_plan.specs.PlanValue.{PlanValue, IsPlan, owner};
     ghost use Rattle.sq_plan.specs.Spelling.{Spells};
-    ghost use Rattle.sq_plan.specs.Reading.{Gives, json_of, plan_in};
+    ghost use Rattle.sq_plan.specs.Reading.{ReadsPlan, json_of, plan_in};
 
-    /// A plan of this many partitions with these ranges.
+    // A plan of this many partitions with these ranges.
     pub(crate) fn of(parts: u8, ranges: Vec<PlanRange>) -> Plan
         requires { IsPlan (record { parts = parts; ranges = ranges.items }) }
         ensures { result ≡ record { parts = parts; ranges = ranges.items } }
@@ -54,16 +58,16 @@ impl Plan {
 
     /// The plan that the bytes spell in JSON, as `{"version":1,"partitions":P,"ranges":[[lo,hi,owner],..]}`: the
     /// fields in any order and among others. Otherwise the fault of the first check that fails, in the order that
-    /// [`PlanFault`] has. Want of memory may come in place of any answer, for bytes that aren't empty.
+    /// [`PlanFault`] has. For bytes that aren't empty, [`PlanFault::Memory`] may come in place of any answer.
     pub fn read(alloc: Global, bytes: &[u8]) -> Result<Plan, PlanFault>
         // The plan, or the fault of the first check that fails.
-        ensures exact { Gives result (plan_in bytes.now) }
+        ensures exact { ReadsPlan result (plan_in bytes.now) }
         // What is read is a plan, and the bytes spell it.
         ensures found { IfOk result (λ plan. IsPlan plan
             × ((value : Data) × (json_of bytes.now ≡ Some value) × Spells value plan)) }
         // Each plan that bytes spell is read from them, unless memory runs out.
         ensures only { (value : Data) (plan : PlanValue) → json_of bytes.now ≡ Some value
-            → Spells value plan → IsPlan plan → Gives result (Ok plan) }
+            → Spells value plan → IsPlan plan → ReadsPlan result (Ok plan) }
         // Only what is no JSON text is refused as none.
         ensures no_json { result ≡ Err PlanFault.NotJson → json_of bytes.now ≡ None }
         ensures memory { result ≡ Err PlanFault.Memory → 0 < length bytes.now }
@@ -86,7 +90,7 @@ impl Plan {
         self.ranges[at].owner
     }
 
-    /// How many partitions there are, from 1 to 16.
+    /// How many partitions there are, from 1 to [`MAX_PARTS`].
     pub fn parts(&self) -> u8
         ensures parts { result ≡ self.now.parts }
         ensures plan { IsPlan self.now }
@@ -100,5 +104,16 @@ impl Plan {
         ensures plan { IsPlan self.now }
     {
         &self.ranges
+    }
+}
+
+impl Clone for Plan {
+    ghost is_clone = { λ plan copy. copy ≡ plan };
+
+    fn clone(&self) -> Result<Plan, AllocError> {
+        Ok(Plan {
+            parts: self.parts,
+            ranges: self.ranges.clone()?,
+        })
     }
 }

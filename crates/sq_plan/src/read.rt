@@ -1,22 +1,18 @@
 // Reading a plan from JSON.
-ghost use Rattle.std.specs.Prelude.{◌≡◌, ◌<◌, ◌⊎◌, nat_lt, List, length, true, Some, None, Ok, Err, MatchResult, IfOk, IsOk, IsSomeAnd, option_map};
+ghost use Rattle.std.specs.Prelude.{◌≡◌, ◌^◌, ◌<◌, ◌⊎◌, nat_lt, List, length, true, Some, None, Ok, Err, MatchResult, IfOk, IsOk, IsSomeAnd, option_map};
 ghost use Rattle.std.specs.List.{list_all};
 ghost use Rattle.sq_plan.specs.declared.plan.PlanRange.{PlanRange};
-ghost use Rattle.sq_plan.specs.Draft.{layout, IsDraft};
+ghost use Rattle.sq_plan.specs.PlanFields.{layout, HasRanges};
 ghost use Rattle.serde_json.specs.View.{view, items_view};
-ghost use Rattle.sq_plan.specs.Reading.{Gives, json_of, whole_at, range_in, ranges_in, checked, plan_of as plan_of_json};
+ghost use Rattle.sq_plan.specs.Reading.{ReadsPlan, json_of, whole_at, range_in, ranges_in, checked, plan_of as plan_of_json};
 
 use crate::fault::PlanFault;
 use crate::part::PartId;
-use crate::plan::{Plan, PlanRange};
+use crate::plan::{MAX_PARTS, MAX_RANGES, Plan, PlanRange};
 use serde_json::Value;
 use sq_schema::ROOT_END;
 use std::alloc::{AllocError, Global};
 use std::marker::Model;
-
-const MAX_PARTS: u64 = 16;
-
-const MAX_RANGES: usize = 256;
 
 /// A range as the JSON has it, whose owner may be no partition. To a contract it is the range.
 #[derive(Clone, Copy)]
@@ -53,7 +49,7 @@ impl Entry {
 
     // The range, whose owner is the number of a partition.
     fn range(self) -> PlanRange
-        requires { self.owner < 256 }
+        requires { self.owner < 2 ^ 8 }
         ensures { result ≡ self }
     {
         PlanRange {
@@ -90,7 +86,7 @@ fn whole_number(value: &Value, name: &str) -> Option<u64>
 struct Layout {
     /// The ranges follow one another from 0 to the end of the root keys, none of them empty.
     tiling: bool,
-    /// Each owner is a partition.
+    /// Each owner is the number of one of the partitions.
     owned: bool,
 }
 
@@ -115,17 +111,17 @@ fn layout_of(items: &[Value], parts: u64) -> Option<Layout>
 
 /// What the fields say.
 #[derive(Clone, Copy)]
-struct Draft<'a> {
+struct PlanFields<'a> {
     parts: u64,
     items: &'a [Value],
     layout: Layout,
 }
 
 // What the fields say, or the fault of the first check of them that fails.
-fn draft_of(value: &Value) -> Result<Draft<'_>, PlanFault>
+fn fields_of(value: &Value) -> Result<PlanFields<'_>, PlanFault>
     ensures { MatchResult result
-        (λ draft. (ranges : List PlanRange) × IsDraft draft ranges
-        × (plan_of_json (view value.now) ≡ checked draft.parts ranges))
+        (λ fields. (ranges : List PlanRange) × HasRanges fields ranges
+        × (plan_of_json (view value.now) ≡ checked fields.parts ranges))
         (λ fault. plan_of_json (view value.now) ≡ Err fault) }
 {
     let version = whole_number(value, "version").ok_or(PlanFault::Shape)?;
@@ -138,7 +134,7 @@ fn draft_of(value: &Value) -> Result<Draft<'_>, PlanFault>
         .and_then(Value::as_array)
         .ok_or(PlanFault::Shape)?;
     let layout = layout_of(items, parts).ok_or(PlanFault::Shape)?;
-    Ok(Draft {
+    Ok(PlanFields {
         parts,
         items,
         layout,
@@ -146,30 +142,30 @@ fn draft_of(value: &Value) -> Result<Draft<'_>, PlanFault>
 }
 
 // How many partitions there are, or the fault of the first check that fails.
-fn parts_of(draft: Draft<'_>) -> Result<u8, PlanFault>
-    ensures { (ranges : List PlanRange) → IsDraft draft.entry ranges → MatchResult result
-        (λ parts. checked draft.entry.parts ranges ≡ Ok (record { parts = parts; ranges = ranges }))
-        (λ fault. checked draft.entry.parts ranges ≡ Err fault) }
+fn partition_count(fields: PlanFields<'_>) -> Result<u8, PlanFault>
+    ensures { (ranges : List PlanRange) → HasRanges fields.entry ranges → MatchResult result
+        (λ parts. checked fields.entry.parts ranges ≡ Ok (record { parts = parts; ranges = ranges }))
+        (λ fault. checked fields.entry.parts ranges ≡ Err fault) }
 {
-    if !(1..=MAX_PARTS).contains(&draft.parts) {
+    if !(1..=MAX_PARTS).contains(&fields.parts) {
         return Err(PlanFault::PartitionCount);
     }
-    if draft.items.len() > MAX_RANGES {
+    if fields.items.len() > MAX_RANGES {
         return Err(PlanFault::TooManyRanges);
     }
-    if !draft.layout.tiling {
+    if !fields.layout.tiling {
         return Err(PlanFault::RangeOrder);
     }
-    if !draft.layout.owned {
+    if !fields.layout.owned {
         return Err(PlanFault::PartitionNumber);
     }
-    Ok(draft.parts as u8)
+    Ok(fields.parts as u8)
 }
 
 // The ranges of the items.
 fn ranges_of(alloc: Global, items: &[Value]) -> Result<Vec<PlanRange>, AllocError>
     requires { IsSomeAnd (ranges_in (items_view items.now))
-        (λ ranges. list_all (λ range. nat_lt range.owner 256) ranges ≡ true) }
+        (λ ranges. list_all (λ range. nat_lt range.owner (2 ^ 8)) ranges ≡ true) }
     ensures { IfOk result (λ ranges. ranges_in (items_view items.now) ≡ Some ranges.items) }
 {
     let mut ranges = Vec::with_capacity(alloc, items.len())?;
@@ -184,12 +180,12 @@ fn ranges_of(alloc: Global, items: &[Value]) -> Result<Vec<PlanRange>, AllocErro
 
 // The plan that a JSON value spells. Memory is looked for after each check.
 pub(crate) fn plan_of(alloc: Global, value: &Value) -> Result<Plan, PlanFault>
-    ensures gives { Gives result (plan_of_json (view value.now)) }
+    ensures gives { ReadsPlan result (plan_of_json (view value.now)) }
     ensures memory { result ≡ Err PlanFault.Memory → IsOk (plan_of_json (view value.now)) }
 {
-    let draft = draft_of(value)?;
-    let parts = parts_of(draft)?;
-    match ranges_of(alloc, draft.items) {
+    let fields = fields_of(value)?;
+    let parts = partition_count(fields)?;
+    match ranges_of(alloc, fields.items) {
         Ok(ranges) => Ok(Plan::of(parts, ranges)),
         Err(AllocError) => Err(PlanFault::Memory),
     }

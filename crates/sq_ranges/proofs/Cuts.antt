@@ -9,12 +9,13 @@ use Rattle.std.proofs.lemmas.List.Folds.{list_any-append, list_any_at}
 use Rattle.std.proofs.lemmas.List.{append-nil, append_assoc}
 use Rattle.std.proofs.lemmas.List.Concat.{flat_map-append}
 use Rattle.std.proofs.lemmas.List.FromFn.{length-map-range_with_len, get_or-map-range_with_len}
-use Rattle.sq_plan.specs.PlanValue.{PlanValue, root_end}
+use Rattle.sq_schema.specs.declared.root.TheConstants.{ROOT_END}
+use Rattle.sq_plan.specs.PlanValue.{PlanValue}
 use Rattle.sq_ranges.specs.declared.recon.Range.{Range}
-use Rattle.sq_ranges.specs.ReconValue.{holds, segment_width, segment_at, segment_count, segments_in, segments_of, are_rising}
-use Rattle.sq_ranges.specs.Moves.{IsRun}
+use Rattle.sq_ranges.specs.ReconValue.{has_key, segment_width, segment_at, segment_count, segments_in, segments_of, are_in_key_order}
+use Rattle.sq_ranges.specs.Moves.{IsMovingRun}
 use Rattle.sq_ranges.proofs.Rows.{Row, row_lower, row-append, row_bounds}
-use Rattle.sq_ranges.proofs.Joins.{any_holds, holds_bounds, holds_within}
+use Rattle.sq_ranges.proofs.Joins.{any_has_key, has_key-bounds, has_key-within}
 
 -- how often a width goes into a length, rounded up
 count_begins : (d s i : ℕ) → 0 < s → i < (d + s - 1) / s → i * s < d
@@ -68,11 +69,11 @@ module _ (width : ℕ) (some : 1 ≤ width) where
       (segments_of-row P Q range.hi hi ranges parts row.3))
 
   -- one of them holds each key of the range
-  pub segments_in-cover : (range : Range) (key : ℕ) → holds range key ≡ true → any_holds (segments_in width range) key ≡ true
+  pub segments_in-cover : (range : Range) (key : ℕ) → has_key range key ≡ true → any_has_key (segments_in width range) key ≡ true
   segments_in-cover range key held =
       let s = segment_width width in
       let positive = segment_width_some width some in
-      let bounds = holds_bounds range key held in
+      let bounds = has_key-bounds range key held in
       let i = (key - range.lo) / s in
       let count = segment_count width range in
       let inside : i < count = count_covers (range.hi - range.lo) s (key - range.lo) positive (omega arith) in
@@ -82,18 +83,18 @@ module _ (width : ℕ) (some : 1 ≤ width) where
       let below = div-mul-le_self (key - range.lo) s in
       let above : key - range.lo < i * s + s = lt-div-mul-add positive in
       let next : (i + 1) * s ≡ i * s + s = omega arith in
-      list_any_at (λ r. holds r key) (segments_in width range) i range (omega arith) (ap (λ (r : Range). holds r key) at ∙ holds_within segment key (omega arith) (omega arith))
+      list_any_at (λ r. has_key r key) (segments_in width range) i range (omega arith) (ap (λ (r : Range). has_key r key) at ∙ has_key-within segment key (omega arith) (omega arith))
 
-  pub segments_of-cover : (ranges : List Range) (key : ℕ) → any_holds ranges key ≡ true → any_holds (segments_of width ranges) key ≡ true
+  pub segments_of-cover : (ranges : List Range) (key : ℕ) → any_has_key ranges key ≡ true → any_has_key (segments_of width ranges) key ≡ true
   segments_of-cover [] key held = held
   segments_of-cover (range ∷ ranges) key held =
-      list_any-append (λ r. holds r key) (segments_in width range) (segments_of width ranges) ∙ ⊎_elim
-      (λ (here : holds range key ≡ true). or_left (any_holds (segments_in width range) key) (any_holds (segments_of width ranges) key) (segments_in-cover range key here))
-      (λ (further : any_holds ranges key ≡ true). or_right (any_holds (segments_in width range) key) (any_holds (segments_of width ranges) key) (segments_of-cover ranges key further))
-      (or_cases (holds range key) (any_holds ranges key) held)
+      list_any-append (λ r. has_key r key) (segments_in width range) (segments_of width ranges) ∙ ⊎_elim
+      (λ (here : has_key range key ≡ true). or_left (any_has_key (segments_in width range) key) (any_has_key (segments_of width ranges) key) (segments_in-cover range key here))
+      (λ (further : any_has_key ranges key ≡ true). or_right (any_has_key (segments_in width range) key) (any_has_key (segments_of width ranges) key) (segments_of-cover ranges key further))
+      (or_cases (has_key range key) (any_has_key ranges key) held)
 
 -- a part of a run is a run
-pub run_parts : (old new : PlanValue) (width : ℕ) (range : Range) → IsRun old new range → OfParts width (IsRun old new) range
+pub run_parts : (old new : PlanValue) (width : ℕ) (range : Range) → IsMovingRun old new range → OfParts width (IsMovingRun old new) range
 run_parts old new width range run lo hi low some high short = record {
   some = some;
   within = omega (arith, run.within);
@@ -113,30 +114,30 @@ segment_parts width range moves lo hi low some high short = record { moves = mov
 abbrev pub Moves : Range → Type 0
 Moves range = range.src ≢ range.dst
 
-rising_parts : (lo : ℕ) (range : Range) (ranges : List Range) → are_rising lo (range ∷ ranges) ≡ true → (lo ≤ range.lo) × (range.lo < range.hi) × (range.hi ≤ root_end) × (range.src ≢ range.dst) × (are_rising range.hi ranges ≡ true)
+rising_parts : (lo : ℕ) (range : Range) (ranges : List Range) → are_in_key_order lo (range ∷ ranges) ≡ true → (lo ≤ range.lo) × (range.lo < range.hi) × (range.hi ≤ ROOT_END) × (range.src ≢ range.dst) × (are_in_key_order range.hi ranges ≡ true)
 rising_parts lo range ranges rising =
-    let rest = are_rising range.hi ranges in
+    let rest = are_in_key_order range.hi ranges in
     let moves = not (range.src == range.dst) in
-    let one = and_parts (nat_le lo range.lo) (nat_lt range.lo range.hi && (nat_le range.hi root_end && (moves && rest))) rising in
-    let two = and_parts (nat_lt range.lo range.hi) (nat_le range.hi root_end && (moves && rest)) one.1 in
-    let three = and_parts (nat_le range.hi root_end) (moves && rest) two.1 in
+    let one = and_parts (nat_le lo range.lo) (nat_lt range.lo range.hi && (nat_le range.hi ROOT_END && (moves && rest))) rising in
+    let two = and_parts (nat_lt range.lo range.hi) (nat_le range.hi ROOT_END && (moves && rest)) one.1 in
+    let three = and_parts (nat_le range.hi ROOT_END) (moves && rest) two.1 in
     let four = and_parts moves rest three.1 in
-    (leb-true lo range.lo one.0, ltb-true range.lo range.hi two.0, leb-true range.hi root_end three.0, eqb-false range.src range.dst (not-true (range.src == range.dst) four.0), four.1)
+    (leb-true lo range.lo one.0, ltb-true range.lo range.hi two.0, leb-true range.hi ROOT_END three.0, eqb-false range.src range.dst (not-true (range.src == range.dst) four.0), four.1)
 
-pub row_from_rising : (lo : ℕ) (ranges : List Range) → lo ≤ root_end → are_rising lo ranges ≡ true → Row Moves lo root_end ranges
+pub row_from_rising : (lo : ℕ) (ranges : List Range) → lo ≤ ROOT_END → are_in_key_order lo ranges ≡ true → Row Moves lo ROOT_END ranges
 row_from_rising lo [] within rising = within
 row_from_rising lo (range ∷ ranges) within rising =
     let parts = rising_parts lo range ranges rising in
     (parts.0, parts.1, parts.3, row_from_rising range.hi ranges parts.2 parts.4)
 
-pub rising_from_row : (P : Range → Type 0) → ((range : Range) → P range → range.src ≢ range.dst) → (lo : ℕ) (ranges : List Range) → Row P lo root_end ranges → are_rising lo ranges ≡ true
+pub rising_from_row : (P : Range → Type 0) → ((range : Range) → P range → range.src ≢ range.dst) → (lo : ℕ) (ranges : List Range) → Row P lo ROOT_END ranges → are_in_key_order lo ranges ≡ true
 rising_from_row P moves lo [] row = refl
 rising_from_row P moves lo (range ∷ ranges) row =
-    let rest = row_bounds P range.hi root_end ranges row.3 in
-    and_from (nat_le lo range.lo) (nat_lt range.lo range.hi && (nat_le range.hi root_end && (not (range.src == range.dst) && are_rising range.hi ranges))) (le-leb lo range.lo row.0)
-    (and_from (nat_lt range.lo range.hi) (nat_le range.hi root_end && (not (range.src == range.dst) && are_rising range.hi ranges)) (lt-ltb range.lo range.hi row.1)
-    (and_from (nat_le range.hi root_end) (not (range.src == range.dst) && are_rising range.hi ranges) (le-leb range.hi root_end rest)
-    (and_from (not (range.src == range.dst)) (are_rising range.hi ranges) (not_from_false (range.src == range.dst) (ne_eqb range.src range.dst (moves range row.2)))
+    let rest = row_bounds P range.hi ROOT_END ranges row.3 in
+    and_from (nat_le lo range.lo) (nat_lt range.lo range.hi && (nat_le range.hi ROOT_END && (not (range.src == range.dst) && are_in_key_order range.hi ranges))) (le-leb lo range.lo row.0)
+    (and_from (nat_lt range.lo range.hi) (nat_le range.hi ROOT_END && (not (range.src == range.dst) && are_in_key_order range.hi ranges)) (lt-ltb range.lo range.hi row.1)
+    (and_from (nat_le range.hi ROOT_END) (not (range.src == range.dst) && are_in_key_order range.hi ranges) (le-leb range.hi ROOT_END rest)
+    (and_from (not (range.src == range.dst)) (are_in_key_order range.hi ranges) (not_from_false (range.src == range.dst) (ne_eqb range.src range.dst (moves range row.2)))
     (rising_from_row P moves range.hi ranges row.3))))
 
 -- how many segments there are

@@ -3,12 +3,13 @@ use Rattle.std.proofs.Common.{◌≡◌, ◌⊎◌, ⊎_elim, ℕ, ◌+◌, ◌-
 use Rattle.std.proofs.Math.Nat.{div-mul-le_self, lt-div-mul-add}
 use Rattle.std.proofs.lemmas.Nat.{div_below}
 use Rattle.std.proofs.lemmas.Bool.{and_parts, and_from, leb-true, le-leb, lt-ltb, cases_lt}
+use Rattle.sq_tree.specs.declared.node.TheConstants.{LEAVES}
 use Rattle.sq_tree.specs.Node.{is_node, is_leaf, span, first_leaf, is_above, is_under}
 use Rattle.sq_tree.proofs.Nested.{apart, above_bounds, halves_of}
 use Rattle.sq_ranges.specs.declared.recon.Range.{Range}
-use Rattle.sq_ranges.specs.ReconValue.{holds, segment_width, leaf_of, leaf_start, extent}
+use Rattle.sq_ranges.specs.ReconValue.{has_key, segment_width, leaf_of, leaf_start, extent}
 pub use Rattle.sq_ranges.specs.Laws.{Covers}
-use Rattle.sq_ranges.proofs.Joins.{holds_bounds}
+use Rattle.sq_ranges.proofs.Joins.{has_key-bounds}
 
 module _ (width : ℕ) (segment : Range) where
   -- leaves rise, within the segment
@@ -66,18 +67,18 @@ module _ (width : ℕ) (segment : Range) where
         leaf_start_rises (first_leaf m + span m) (first_leaf n + span n) (leb-true (first_leaf m + span m) (first_leaf n + span n) parts.1),
       )
 
-  module _ (some : 1 ≤ width) (key : ℕ) (held : holds segment key ≡ true) where
+  module _ (some : 1 ≤ width) (key : ℕ) (held : has_key segment key ≡ true) where
     -- a leaf begins at a key or before it where the key's leaf doesn't come before it
     begins_before : (j : ℕ) → j ≤ leaf_of width segment key → leaf_start width segment j ≤ key
     begins_before j le =
-        let bounds = holds_bounds segment key held in
+        let bounds = has_key-bounds segment key held in
         let fits = div-mul-le_self (key - segment.lo) width in
         let more : j * width ≤ (key - segment.lo) / width * width = grind arith in
         omega arith
 
     begins_behind : (j : ℕ) → leaf_of width segment key < j → key < leaf_start width segment j
     begins_behind j less =
-        let bounds = holds_bounds segment key held in
+        let bounds = has_key-bounds segment key held in
         let over : key - segment.lo < (key - segment.lo) / width * width + width = lt-div-mul-add some in
         let more : ((key - segment.lo) / width + 1) * width ≤ j * width = grind arith in
         omega arith
@@ -96,8 +97,8 @@ module _ (width : ℕ) (segment : Range) where
         (le-leb (first_leaf n) leaf (⊎_elim (λ (less : leaf < first_leaf n). let behind = begins_behind (first_leaf n) less in absurd (omega (arith, covers.low))) (λ (le : first_leaf n ≤ leaf). le) (cases_lt leaf (first_leaf n))))
         (lt-ltb leaf (first_leaf n + span n) (⊎_elim (λ (less : leaf < first_leaf n + span n). less) (λ (le : first_leaf n + span n ≤ leaf). let before = begins_before (first_leaf n + span n) le in absurd (omega (arith, covers.high))) (cases_lt leaf (first_leaf n + span n))))
 
-    -- its leaf is one of 0 to 31
-    pub leaf_below : segment.hi ≤ segment.lo + segment_width width → leaf_of width segment key < 32
+    -- its leaf is one of the tree's
+    pub leaf_below : segment.hi ≤ segment.lo + segment_width width → leaf_of width segment key < LEAVES
     leaf_below short =
-        let bounds = holds_bounds segment key held in
-        div_below (key - segment.lo) width 32 some (omega arith)
+        let bounds = has_key-bounds segment key held in
+        div_below (key - segment.lo) width LEAVES some (omega arith)

@@ -8,9 +8,9 @@ use Rattle.std.proofs.lemmas.List.Quantifiers.{position-Some}
 use Rattle.std.proofs.lemmas.List.Sums.{position_or_len_is, prefix_len_passes}
 use Rattle.std.proofs.lemmas.Option.{none-some, slice_get-get_or, slice_get_within, get_or_from_slice_get}
 use Rattle.sq_ranges.specs.declared.recon.Range.{Range}
-use Rattle.sq_ranges.specs.ReconValue.{holds, segment_of}
+use Rattle.sq_ranges.specs.ReconValue.{has_key, segment_of}
 use Rattle.sq_ranges.proofs.Rows.{Row, row_apart}
-use Rattle.sq_ranges.proofs.Joins.{any_holds, holds_bounds}
+use Rattle.sq_ranges.proofs.Joins.{any_has_key, has_key-bounds}
 
 -- the first place that passes a test
 module _ {X : Type 0} (p : X → Bool) where
@@ -35,10 +35,10 @@ module _ {X : Type 0} (p : X → Bool) where
       list_any_none p xs (λ k d within. not-true (p (get_or xs k d)) (prefix_len_passes (λ x. not (p x)) xs k d (omega arith)))
 
 -- of ranges in a row one holds a key
-pub one_holder : (P : Range → Type 0) (lo hi : ℕ) (ranges : List Range) (i j key : ℕ) (one other : Range) → Row P lo hi ranges → slice_get ranges i ≡ Some one → slice_get ranges j ≡ Some other → holds one key ≡ true → holds other key ≡ true → i ≡ j
+pub one_holder : (P : Range → Type 0) (lo hi : ℕ) (ranges : List Range) (i j key : ℕ) (one other : Range) → Row P lo hi ranges → slice_get ranges i ≡ Some one → slice_get ranges j ≡ Some other → has_key one key ≡ true → has_key other key ≡ true → i ≡ j
 one_holder P lo hi ranges i j key one other row at at' held held' =
-    let bounds = holds_bounds one key held in
-    let bounds' = holds_bounds other key held' in
+    let bounds = has_key-bounds one key held in
+    let bounds' = has_key-bounds other key held' in
     ⊎_elim
     (λ (same : i ≡ j). same)
     (λ (differ : (i < j) ⊎ (j < i)). ⊎_elim
@@ -48,29 +48,29 @@ one_holder P lo hi ranges i j key one other row at at' held held' =
     (cases_order i j)
 
 -- the segment that holds a key is the one of its number
-pub segment_of-some : (P : Range → Type 0) (lo hi : ℕ) (segments : List Range) (key i : ℕ) (segment : Range) → Row P lo hi segments → slice_get segments i ≡ Some segment → holds segment key ≡ true → segment_of segments key ≡ Some i
+pub segment_of-some : (P : Range → Type 0) (lo hi : ℕ) (segments : List Range) (key i : ℕ) (segment : Range) → Row P lo hi segments → slice_get segments i ≡ Some segment → has_key segment key ≡ true → segment_of segments key ≡ Some i
 segment_of-some P lo hi segments key i segment row at held =
     let within = slice_get_within segments i segment at in
-    position_at (λ r. holds r key) segments i segment within (ap (λ (r : Range). holds r key) (get_or_from_slice_get segments i segment segment at) ∙ held)
-    (λ k less. false_from_ne_true (holds (get_or segments k segment) key) (λ there.
+    position_at (λ r. has_key r key) segments i segment within (ap (λ (r : Range). has_key r key) (get_or_from_slice_get segments i segment segment at) ∙ held)
+    (λ k less. false_from_ne_true (has_key (get_or segments k segment) key) (λ there.
     let same = one_holder P lo hi segments k i key (get_or segments k segment) segment row (slice_get-get_or segments k segment (omega arith)) at there held in
     omega arith))
 
 -- and the segment of that number holds it
-pub segment_of-holds : (segments : List Range) (key i : ℕ) → segment_of segments key ≡ Some i → (segment : Range) × (slice_get segments i ≡ Some segment) × (holds segment key ≡ true)
-segment_of-holds segments key i e = holder segments e
+pub segment_of-has_key : (segments : List Range) (key i : ℕ) → segment_of segments key ≡ Some i → (segment : Range) × (slice_get segments i ≡ Some segment) × (has_key segment key ≡ true)
+segment_of-has_key segments key i e = holder segments e
   where
-    holder : (xs : List Range) → position (λ r. holds r key) xs ≡ Some i → (segment : Range) × (slice_get xs i ≡ Some segment) × (holds segment key ≡ true)
+    holder : (xs : List Range) → position (λ r. has_key r key) xs ≡ Some i → (segment : Range) × (slice_get xs i ≡ Some segment) × (has_key segment key ≡ true)
     holder [] found = absurd (none-some i found)
     holder (x ∷ xs) found =
-        let facts = position-Some (λ r. holds r key) (x ∷ xs) i x found in
+        let facts = position-Some (λ r. has_key r key) (x ∷ xs) i x found in
         (get_or (x ∷ xs) i x, slice_get-get_or (x ∷ xs) i x facts.0, facts.1)
 
-pub segment_of-none : (segments : List Range) (key : ℕ) → segment_of segments key ≡ None → any_holds segments key ≡ false
-segment_of-none segments key e = none_passes (λ r. holds r key) segments e
+pub segment_of-none : (segments : List Range) (key : ℕ) → segment_of segments key ≡ None → any_has_key segments key ≡ false
+segment_of-none segments key e = none_passes (λ r. has_key r key) segments e
 
 -- a key of some segment has one
-pub segment_of-any : (segments : List Range) (key : ℕ) → any_holds segments key ≡ true → (i : ℕ) × (segment_of segments key ≡ Some i)
+pub segment_of-any : (segments : List Range) (key : ℕ) → any_has_key segments key ≡ true → (i : ℕ) × (segment_of segments key ≡ Some i)
 segment_of-any segments key held = told (segment_of segments key) refl
   where
     told : (found : Option ℕ) → segment_of segments key ≡ found → (i : ℕ) × (segment_of segments key ≡ Some i)

@@ -5,21 +5,21 @@ use Rattle.std.proofs.lemmas.Bool.{and_parts, and_from, or_cases, or_left, or_ri
 use Rattle.std.proofs.lemmas.Bool.Decides.{nat_tests}
 use Rattle.sq_plan.specs.PlanValue.{PlanValue}
 use Rattle.sq_ranges.specs.declared.recon.Range.{Range}
-use Rattle.sq_ranges.specs.ReconValue.{holds}
-use Rattle.sq_ranges.specs.Moves.{IsRun, AreMaximal, joined_with, joined}
+use Rattle.sq_ranges.specs.ReconValue.{has_key}
+use Rattle.sq_ranges.specs.Moves.{IsMovingRun, AreMaximal, joined_with, joined}
 use Rattle.sq_ranges.proofs.Rows.{Row}
 
 -- what a range holds, as bounds
-pub holds_bounds : (range : Range) (key : ℕ) → holds range key ≡ true → (range.lo ≤ key) × (key < range.hi)
-holds_bounds range key held =
+pub has_key-bounds : (range : Range) (key : ℕ) → has_key range key ≡ true → (range.lo ≤ key) × (key < range.hi)
+has_key-bounds range key held =
     let parts = and_parts (nat_le range.lo key) (nat_lt key range.hi) held in
     (leb-true range.lo key parts.0, ltb-true key range.hi parts.1)
 
-pub holds_within : (range : Range) (key : ℕ) → range.lo ≤ key → key < range.hi → holds range key ≡ true
-holds_within range key low high = and_from (nat_le range.lo key) (nat_lt key range.hi) (le-leb range.lo key low) (lt-ltb key range.hi high)
+pub has_key-within : (range : Range) (key : ℕ) → range.lo ≤ key → key < range.hi → has_key range key ≡ true
+has_key-within range key low high = and_from (nat_le range.lo key) (nat_lt key range.hi) (le-leb range.lo key low) (lt-ltb key range.hi high)
 
-abbrev pub any_holds : List Range → ℕ → Bool
-any_holds ranges key = list_any (λ range. holds range key) ranges
+abbrev pub any_has_key : List Range → ℕ → Bool
+any_has_key ranges key = list_any (λ range. has_key range key) ranges
 
 -- whether a range goes on from another with the same owners
 abbrev goes_on : Range → Range → Bool
@@ -39,7 +39,7 @@ apart_parts range next off at src dst = grind (arith, nat_tests)
 
 module _ (old new : PlanValue) where
   -- two runs of which one goes on from the other are one run
-  both_run : (range next : Range) → goes_on range next ≡ true → IsRun old new range → IsRun old new next → IsRun old new (both range next)
+  both_run : (range next : Range) → goes_on range next ≡ true → IsMovingRun old new range → IsMovingRun old new next → IsMovingRun old new (both range next)
   both_run range next on one other =
       let parts = goes_on_parts range next on in
       record {
@@ -54,18 +54,18 @@ module _ (old new : PlanValue) where
 
   -- joined runs stand in a row, and none of them can be joined
   record Joined (lo hi : ℕ) (ranges result : List Range) : Type 0 where
-    row : Row (IsRun old new) lo hi result
+    row : Row (IsMovingRun old new) lo hi result
     maximal : AreMaximal result
-    each : (key : ℕ) → any_holds ranges key ≡ true → any_holds result key ≡ true
+    each : (key : ℕ) → any_has_key ranges key ≡ true → any_has_key result key ≡ true
 
-  join_first : (lo hi : ℕ) (range : Range) (ranges result : List Range) → lo ≤ range.lo → range.lo < range.hi → IsRun old new range → Joined range.hi hi ranges result → Joined lo hi (range ∷ ranges) (joined_with range result)
+  join_first : (lo hi : ℕ) (range : Range) (ranges result : List Range) → lo ≤ range.lo → range.lo < range.hi → IsMovingRun old new range → Joined range.hi hi ranges result → Joined lo hi (range ∷ ranges) (joined_with range result)
   join_first lo hi range ranges [] low some run rest = record {
     row = (low, some, run, rest.row);
     maximal = tt;
     each = λ key held. ⊎_elim
-        (λ (here : holds range key ≡ true). or_left (holds range key) false here)
-        (λ (behind : any_holds ranges key ≡ true). or_right (holds range key) false (rest.each key behind))
-        (or_cases (holds range key) (any_holds ranges key) held);
+        (λ (here : has_key range key ≡ true). or_left (has_key range key) false here)
+        (λ (behind : any_has_key ranges key ≡ true). or_right (has_key range key) false (rest.each key behind))
+        (or_cases (has_key range key) (any_has_key ranges key) held);
   }
   join_first lo hi range ranges (next ∷ nexts) low some run rest =
       elim (goes_on range next) as (λ b. goes_on range next ≡ b → Joined lo hi (range ∷ ranges) (if b then both range next ∷ nexts else range ∷ next ∷ nexts)) [
@@ -75,24 +75,24 @@ module _ (old new : PlanValue) where
               row = (low, omega (arith, rest.row.1), both_run range next on run rest.row.2, rest.row.3);
               maximal = maximal_both nexts rest.maximal;
               each = λ key held. ⊎_elim
-                  (λ (here : holds range key ≡ true).
-                  let bounds = holds_bounds range key here in
-                  or_left (holds (both range next) key) (any_holds nexts key) (holds_within (both range next) key bounds.0 (omega (arith, rest.row.1))))
-                  (λ (behind : any_holds ranges key ≡ true). ⊎_elim
-                  (λ (there : holds next key ≡ true).
-                  let bounds = holds_bounds next key there in
-                  or_left (holds (both range next) key) (any_holds nexts key) (holds_within (both range next) key (omega arith) bounds.1))
-                  (λ (further : any_holds nexts key ≡ true). or_right (holds (both range next) key) (any_holds nexts key) further)
-                  (or_cases (holds next key) (any_holds nexts key) (rest.each key behind)))
-                  (or_cases (holds range key) (any_holds ranges key) held);
+                  (λ (here : has_key range key ≡ true).
+                  let bounds = has_key-bounds range key here in
+                  or_left (has_key (both range next) key) (any_has_key nexts key) (has_key-within (both range next) key bounds.0 (omega (arith, rest.row.1))))
+                  (λ (behind : any_has_key ranges key ≡ true). ⊎_elim
+                  (λ (there : has_key next key ≡ true).
+                  let bounds = has_key-bounds next key there in
+                  or_left (has_key (both range next) key) (any_has_key nexts key) (has_key-within (both range next) key (omega arith) bounds.1))
+                  (λ (further : any_has_key nexts key ≡ true). or_right (has_key (both range next) key) (any_has_key nexts key) further)
+                  (or_cases (has_key next key) (any_has_key nexts key) (rest.each key behind)))
+                  (or_cases (has_key range key) (any_has_key ranges key) held);
             }
         | false ↦ λ off. record {
           row = (low, some, run, rest.row);
           maximal = ((rest.row.0, apart_parts range next off), rest.maximal);
           each = λ key held. ⊎_elim
-              (λ (here : holds range key ≡ true). or_left (holds range key) (any_holds (next ∷ nexts) key) here)
-              (λ (behind : any_holds ranges key ≡ true). or_right (holds range key) (any_holds (next ∷ nexts) key) (rest.each key behind))
-              (or_cases (holds range key) (any_holds ranges key) held);
+              (λ (here : has_key range key ≡ true). or_left (has_key range key) (any_has_key (next ∷ nexts) key) here)
+              (λ (behind : any_has_key ranges key ≡ true). or_right (has_key range key) (any_has_key (next ∷ nexts) key) (rest.each key behind))
+              (or_cases (has_key range key) (any_has_key ranges key) held);
         }
       ] refl
     where
@@ -100,15 +100,15 @@ module _ (old new : PlanValue) where
       maximal_both [] maximal = tt
       maximal_both (other ∷ others) maximal = maximal
 
-  join_all : (lo hi : ℕ) (ranges : List Range) → Row (IsRun old new) lo hi ranges → Joined lo hi ranges (joined ranges)
+  join_all : (lo hi : ℕ) (ranges : List Range) → Row (IsMovingRun old new) lo hi ranges → Joined lo hi ranges (joined ranges)
   join_all lo hi [] row = record { row = row; maximal = tt; each = λ key held. held }
   join_all lo hi (range ∷ ranges) row = join_first lo hi range ranges (joined ranges) row.0 row.1 row.2 (join_all range.hi hi ranges row.3)
 
-  pub joined-row : (lo hi : ℕ) (ranges : List Range) → Row (IsRun old new) lo hi ranges → Row (IsRun old new) lo hi (joined ranges)
+  pub joined-row : (lo hi : ℕ) (ranges : List Range) → Row (IsMovingRun old new) lo hi ranges → Row (IsMovingRun old new) lo hi (joined ranges)
   joined-row lo hi ranges row = (join_all lo hi ranges row).row
 
-  pub joined-maximal : (lo hi : ℕ) (ranges : List Range) → Row (IsRun old new) lo hi ranges → AreMaximal (joined ranges)
+  pub joined-maximal : (lo hi : ℕ) (ranges : List Range) → Row (IsMovingRun old new) lo hi ranges → AreMaximal (joined ranges)
   joined-maximal lo hi ranges row = (join_all lo hi ranges row).maximal
 
-  pub joined-each : (lo hi : ℕ) (ranges : List Range) (key : ℕ) → Row (IsRun old new) lo hi ranges → any_holds ranges key ≡ true → any_holds (joined ranges) key ≡ true
+  pub joined-each : (lo hi : ℕ) (ranges : List Range) (key : ℕ) → Row (IsMovingRun old new) lo hi ranges → any_has_key ranges key ≡ true → any_has_key (joined ranges) key ≡ true
   joined-each lo hi ranges key row = (join_all lo hi ranges row).each key

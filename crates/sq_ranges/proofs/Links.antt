@@ -14,7 +14,7 @@ use Rattle.std.proofs.lemmas.List.Kept.{IsStrictlySortedBy-dedup, Contains-dedup
 use Rattle.std.proofs.lemmas.List.Sorted.{Contains-permutation, IsPermutation-sym}
 use Rattle.sq_ranges.specs.declared.recon.Range.{Range}
 use Rattle.sq_ranges.specs.declared.recon.Link.{Link}
-use Rattle.sq_ranges.specs.ReconValue.{is_link, link_of, link_cmp, AreLinks}
+use Rattle.sq_ranges.specs.ReconValue.{is_link, range_link, link_cmp, AreLinks}
 
 -- whether two links are one
 abbrev pub same_link : Link → Link → Bool
@@ -38,31 +38,31 @@ link_parts one other same =
     λ i. record { src = src i; dst = dst i }
 
 -- a link is among the links of ranges where one of these goes along it
-link_of_some : (ranges : List Range) (link : Link) → Contains (map link_of ranges) link → is_link ranges link.src link.dst ≡ true
-link_of_some ranges link it =
+range_link_some : (ranges : List Range) (link : Link) → Contains (map range_link ranges) link → is_link ranges link.src link.dst ≡ true
+range_link_some ranges link it =
     let default : Range = record { lo = 0; hi = 0; src = link.src; dst = link.dst } in
-    let within : it.0 < length ranges = subst (λ (n : ℕ). it.0 < n) (length-map ranges link_of) it.1 in
-    let is : link_of (get_or ranges it.0 default) ≡ link = sym (get_or-map link_of ranges it.0 default link within) ∙ it.2 in
+    let within : it.0 < length ranges = subst (λ (n : ℕ). it.0 < n) (length-map ranges range_link) it.1 in
+    let is : range_link (get_or ranges it.0 default) ≡ link = sym (get_or-map range_link ranges it.0 default link within) ∙ it.2 in
     list_any_at (λ range. (range.src == link.src) && (range.dst == link.dst)) ranges it.0 default within
     (and_from ((get_or ranges it.0 default).src == link.src) ((get_or ranges it.0 default).dst == link.dst)
     (eq-eqb (get_or ranges it.0 default).src link.src (ap (λ (l : Link). l.src) is))
     (eq-eqb (get_or ranges it.0 default).dst link.dst (ap (λ (l : Link). l.dst) is)))
 
-some_of_link : (ranges : List Range) (link : Link) → is_link ranges link.src link.dst ≡ true → Contains (map link_of ranges) link
+some_of_link : (ranges : List Range) (link : Link) → is_link ranges link.src link.dst ≡ true → Contains (map range_link ranges) link
 some_of_link ranges link is =
     let any = Any-from_list_any (λ range. (range.src == link.src) && (range.dst == link.dst)) ranges is in
-    let within : any.0 < length (map link_of ranges) = subst (λ (n : ℕ). any.0 < n) (sym (length-map ranges link_of)) any.2 in
-    let there = Contains-get_or (map link_of ranges) any.0 link within in
-    let same : get_or (map link_of ranges) any.0 link ≡ link =
-    get_or-map link_of ranges any.0 any.1 link any.2 ∙ ap link_of any.3 ∙ link_parts (link_of any.1) link any.4 in
-    subst (Contains (map link_of ranges)) same there
+    let within : any.0 < length (map range_link ranges) = subst (λ (n : ℕ). any.0 < n) (sym (length-map ranges range_link)) any.2 in
+    let there = Contains-get_or (map range_link ranges) any.0 link within in
+    let same : get_or (map range_link ranges) any.0 link ≡ link =
+    get_or-map range_link ranges any.0 any.1 link any.2 ∙ ap range_link any.3 ∙ link_parts (range_link any.1) link any.4 in
+    subst (Contains (map range_link ranges)) same there
 
 -- sorted and without repeats they are the links of the ranges
-pub are_links : (ranges : List Range) (sorted links : List Link) → IsPermutation (map link_of ranges) sorted → IsSorted link_cmp sorted → links ≡ dedup same_link sorted → AreLinks ranges links
+pub are_links : (ranges : List Range) (sorted links : List Link) → IsPermutation (map range_link ranges) sorted → IsSorted link_cmp sorted → links ≡ dedup same_link sorted → AreLinks ranges links
 are_links ranges sorted links moved in_order is = record {
   rising = subst (IsStrictlySortedBy link_cmp) (sym is) (IsStrictlySortedBy-dedup link_total link_ties sorted in_order);
   all = λ link. (
-    λ it. link_of_some ranges link (Contains-permutation sorted (map link_of ranges) link (IsPermutation-sym (map link_of ranges) sorted moved) (Contains-from_dedup same_link sorted link (subst (λ (ls : List Link). Contains ls link) is it))),
-    λ some. subst (λ (ls : List Link). Contains ls link) (sym is) (Contains-dedup same_link_equiv link_parts sorted link (Contains-permutation (map link_of ranges) sorted link moved (some_of_link ranges link some))),
+    λ it. range_link_some ranges link (Contains-permutation sorted (map range_link ranges) link (IsPermutation-sym (map range_link ranges) sorted moved) (Contains-from_dedup same_link sorted link (subst (λ (ls : List Link). Contains ls link) is it))),
+    λ some. subst (λ (ls : List Link). Contains ls link) (sym is) (Contains-dedup same_link_equiv link_parts sorted link (Contains-permutation (map range_link ranges) sorted link moved (some_of_link ranges link some))),
   );
 }

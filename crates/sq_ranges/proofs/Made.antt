@@ -4,21 +4,22 @@ use Rattle.std.proofs.lemmas.Bool.{eqb-true, ltb-false}
 use Rattle.std.proofs.lemmas.Option.{none-some}
 use Rattle.sq_plan.specs.PlanValue.{PlanValue, IsPlan}
 use Rattle.sq_ranges.specs.declared.recon.Range.{Range}
-use Rattle.sq_ranges.specs.ReconValue.{is_width, are_rising, segments_of, segment_limit}
+use Rattle.sq_ranges.specs.declared.segment.TheConstants.{SEGMENT_LIMIT}
+use Rattle.sq_ranges.specs.ReconValue.{is_width, are_in_key_order, segments_of}
 use Rattle.sq_ranges.specs.Moves.{moves_of}
 use Rattle.sq_ranges.specs.Between.{recon_fault, recon_of, IsReconOf}
 use Rattle.sq_ranges.specs.declared.fault.ReconFault.TheVariants.{PartitionsDiffer, Width, TooManySegments}
 use Rattle.sq_ranges.proofs.Overlaps.{moves_of-moves}
 use Rattle.sq_ranges.proofs.Segments.{moves-rising}
 
-pub moves_of-rising : (old new : PlanValue) → IsPlan old → IsPlan new → are_rising 0 (moves_of old new) ≡ true
+pub moves_of-rising : (old new : PlanValue) → IsPlan old → IsPlan new → are_in_key_order 0 (moves_of old new) ≡ true
 moves_of-rising old new is_old is_new = moves-rising old new (moves_of old new) (moves_of-moves old new is_old is_new)
 
 -- what isn't refused has a width and few segments
 pub record IsFine (old new : PlanValue) (width : ℕ) : Type 0 where
   pub parts : old.parts ≡ new.parts
   pub leaf : is_width width ≡ true
-  pub few : length (segments_of width (moves_of old new)) ≤ segment_limit
+  pub few : length (segments_of width (moves_of old new)) ≤ SEGMENT_LIMIT
 
 fine_from : (a b c : Bool) → (if not a then Some PartitionsDiffer else if not b then Some Width else if c then Some TooManySegments else None) ≡ None → (a ≡ true) × (b ≡ true) × (c ≡ false)
 fine_from true true true e = absurd (none-some TooManySegments (sym e))
@@ -29,8 +30,8 @@ fine_from false b c e = absurd (none-some PartitionsDiffer (sym e))
 pub fine : (old new : PlanValue) (width : ℕ) → recon_fault old new width ≡ None → IsFine old new width
 fine old new width none =
     let count = length (segments_of width (moves_of old new)) in
-    let parts = fine_from (old.parts == new.parts) (is_width width) (nat_lt segment_limit count) none in
-    record { parts = eqb-true old.parts new.parts parts.0; leaf = parts.1; few = ltb-false segment_limit count parts.2 }
+    let parts = fine_from (old.parts == new.parts) (is_width width) (nat_lt SEGMENT_LIMIT count) none in
+    record { parts = eqb-true old.parts new.parts parts.0; leaf = parts.1; few = ltb-false SEGMENT_LIMIT count parts.2 }
 
 module _ (old new : PlanValue) (is_old : IsPlan old) (is_new : IsPlan new) (width : ℕ) (is : IsFine old new width) where
   is_recon_of : IsReconOf old new width (recon_of old new width)

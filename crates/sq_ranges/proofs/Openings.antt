@@ -2,18 +2,20 @@
 use Rattle.std.proofs.Common.{◌≡◌, ℕ, Bool, true, false, cond, ◌+◌, ◌≤◌, ◌<◌, ◌≢◌, ◌==◌, not, nat_lt, if◌then◌else◌, List, [], ◌∷◌, length, drop, slice_index_or, unwrap_or, Option, Some, None, inl, inr, refl, sym, ap, ◌∙◌, arith}
 use Rattle.std.specs.Ordering.{nat_cmp}
 use Rattle.std.specs.List.{AllPass}
-use Rattle.std.specs.Option.{option_or}
+use Rattle.std.specs.Option.{option_map, option_or}
 use Rattle.std.specs.FinMap.Entries.{find, is_sorted}
 use Rattle.std.proofs.lemmas.Bool.{cases_lt, lt-ltb, ltb-true, ne_eqb, eq-eqb}
 use Rattle.std.proofs.lemmas.List.{drop_more, drop_all}
 use Rattle.std.proofs.lemmas.List.Elements.{All-nil, All-cons, All-head, All-tail}
 use Rattle.std.proofs.lemmas.Option.{none-some}
+use Rattle.sq_schema.specs.declared.fault.TxnFault.{TxnFault}
+use Rattle.sq_schema.specs.declared.fault.TxnFault.TheVariants.{BadRoot}
 use Rattle.sq_schema.specs.Effect.{RowList, RowTable}
 use Rattle.sq_schema.specs.Table.{TableValue, rows_in, is_opening}
 use Rattle.sq_schema.proofs.Latest.{nat_eq-cmp}
-use Rattle.sq_plan.specs.PlanValue.{root_end}
+use Rattle.sq_schema.specs.declared.root.TheConstants.{ROOT_END}
 use Rattle.sq_ranges.specs.declared.fault.OpeningFault.{OpeningFault}
-use Rattle.sq_ranges.specs.declared.fault.OpeningFault.TheVariants.{BadRoot}
+use Rattle.sq_ranges.specs.declared.fault.OpeningFault.TheVariants.{Row}
 use Rattle.sq_ranges.specs.declared.opening.GivenRow.{GivenRow}
 use Rattle.sq_ranges.specs.Given.{no_rows, with_one, given_rows, IsTableOf}
 use Rattle.sq_ranges.specs.Refused.{shape_fault, given_fault, rows_fault, first_fault}
@@ -23,21 +25,26 @@ none-both : (first rest : Option OpeningFault) → option_or first rest ≡ None
 none-both None rest e = (refl, e)
 none-both (Some fault) rest e = absurd (none-some fault (sym e))
 
+-- nor has a row whose fault is told as one of an opening
+none-told : (fault : Option TxnFault) → option_map Row fault ≡ None → fault ≡ None
+none-told None e = refl
+none-told (Some fault) e = absurd (none-some (Row fault) (sym e))
+
 -- a table so far, with the rows that are still to be given
 pub record IsSoFar (tables : ℕ) (rows rest : List GivenRow) (table : TableValue) : Type 0 where
   pub fault : rows_fault tables no_rows rows ≡ rows_fault tables (rows_in table) rest
   pub given : given_rows no_rows rows ≡ given_rows (rows_in table) rest
   pub early : first_fault tables (rows_in table) rest ≡ None → first_fault tables no_rows rows ≡ None
-  pub below : (root : ℕ) → root_end ≤ root → rows_in table root ≡ []
+  pub below : (root : ℕ) → ROOT_END ≤ root → rows_in table root ≡ []
 
 pub so_far-start : (tables : ℕ) (rows : List GivenRow) (table : TableValue) → table ≡ [] → IsSoFar tables rows rows table
 so_far-start tables rows table empty = rw empty (record { fault = refl; given = refl; early = λ none. none; below = λ root high. refl })
 
 -- a row that isn't refused has a root key
-shape-root : (tables : ℕ) (given : GivenRow) → shape_fault tables given ≡ None → given.root < root_end
-shape-root tables given none = ltb-true given.root root_end (from_if _ (nat_lt given.root root_end) none)
+shape-root : (tables : ℕ) (given : GivenRow) → shape_fault tables given ≡ None → given.root < ROOT_END
+shape-root tables given none = ltb-true given.root ROOT_END (from_if _ (nat_lt given.root ROOT_END) none)
   where
-    from_if : (rest : Option OpeningFault) (b : Bool) → (if not b then Some BadRoot else rest) ≡ None → b ≡ true
+    from_if : (rest : Option TxnFault) (b : Bool) → (if not b then Some BadRoot else rest) ≡ None → b ≡ true
     from_if rest true e = refl
     from_if rest false e = absurd (none-some BadRoot (sym e))
 
@@ -56,7 +63,7 @@ module _ (tables : ℕ) (rows : List GivenRow) (i : ℕ) (table : TableValue) (s
     pub so_far-next : (now : TableValue) → given_fault tables (rows_in table) given ≡ None → ((root : ℕ) → rows_in now root ≡ with_one (rows_in table) given root) → IsSoFar tables rows (drop (i + 1) rows) now
     so_far-next now none taken =
         let same : rows_in now ≡ with_one (rows_in table) given = λ j root. taken root j in
-        let root : given.root < root_end = shape-root tables given (none-both (shape_fault tables given) _ none).0 in
+        let root : given.root < ROOT_END = shape-root tables given (none-told (shape_fault tables given) (none-both (option_map Row (shape_fault tables given)) _ none).0) in
         record {
           fault = next_fault ∙ ap (λ first. option_or first (rows_fault tables (with_one (rows_in table) given) (drop (i + 1) rows))) none ∙ ap (λ (t : RowTable). rows_fault tables t (drop (i + 1) rows)) (sym same);
           given = next_rows ∙ ap (λ (t : RowTable). given_rows t (drop (i + 1) rows)) (sym same);
@@ -75,19 +82,19 @@ not_empty [] some empty = absurd (cc)
 not_empty (entry ∷ rows) some empty = absurd (cc)
 
 -- a table without rows from the end of the root keys on has root keys below it
-pub roots-below : (table : TableValue) → ((root : ℕ) → root_end ≤ root → rows_in table root ≡ []) → AllPass (λ entry. is_opening entry.1) table → AllPass (λ entry. nat_lt entry.0 root_end) table
-roots-below [] below opening = All-nil (λ (entry : ℕ × RowList). nat_lt entry.0 root_end ≡ true)
+pub roots-below : (table : TableValue) → ((root : ℕ) → ROOT_END ≤ root → rows_in table root ≡ []) → AllPass (λ entry. is_opening entry.1) table → AllPass (λ entry. nat_lt entry.0 ROOT_END) table
+roots-below [] below opening = All-nil (λ (entry : ℕ × RowList). nat_lt entry.0 ROOT_END ≡ true)
 roots-below (entry ∷ table) below opening =
     let some : is_opening entry.1 ≡ true = All-head (λ (e : ℕ × RowList). is_opening e.1 ≡ true) entry table opening in
     let own : rows_in (entry ∷ table) entry.0 ≡ entry.1 = looks entry table entry.0 ∙ ap (λ b. if b then entry.1 else rows_in table entry.0) (eq-eqb entry.0 entry.0 refl) in
-    let head : entry.0 < root_end = head_below entry.0 (λ high. not_empty entry.1 some (sym own ∙ below entry.0 high)) in
-    let rest : (root : ℕ) → root_end ≤ root → rows_in table root ≡ [] = λ root high.
+    let head : entry.0 < ROOT_END = head_below entry.0 (λ high. not_empty entry.1 some (sym own ∙ below entry.0 high)) in
+    let rest : (root : ℕ) → ROOT_END ≤ root → rows_in table root ≡ [] = λ root high.
     let apart : root ≢ entry.0 = omega arith in
     sym (looks entry table root ∙ ap (λ b. if b then entry.1 else rows_in table root) (ne_eqb root entry.0 apart)) ∙ below root high in
-    All-cons (λ (e : ℕ × RowList). nat_lt e.0 root_end ≡ true) entry table (lt-ltb entry.0 root_end head) (roots-below table rest (All-tail (λ (e : ℕ × RowList). is_opening e.1 ≡ true) entry table opening))
+    All-cons (λ (e : ℕ × RowList). nat_lt e.0 ROOT_END ≡ true) entry table (lt-ltb entry.0 ROOT_END head) (roots-below table rest (All-tail (λ (e : ℕ × RowList). is_opening e.1 ≡ true) entry table opening))
   where
-    head_below : (root : ℕ) → (root_end ≤ root → ⊥) → root < root_end
-    head_below root low = elim (cases_lt root root_end) [ inl is ↦ is | inr high ↦ absurd (low high) ]
+    head_below : (root : ℕ) → (ROOT_END ≤ root → ⊥) → root < ROOT_END
+    head_below root low = elim (cases_lt root ROOT_END) [ inl is ↦ is | inr high ↦ absurd (low high) ]
 
 pub so_far-end : (tables : ℕ) (rows : List GivenRow) (i : ℕ) (table : TableValue) → length rows ≤ i → IsSoFar tables rows (drop i rows) table → is_sorted nat_cmp table ≡ true → AllPass (λ entry. is_opening entry.1) table → (rows_fault tables no_rows rows ≡ None) × IsTableOf rows table
 so_far-end tables rows i table end so_far rising opening =

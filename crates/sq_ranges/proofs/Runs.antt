@@ -3,28 +3,29 @@ use Rattle.std.proofs.Common.{◌≡◌, ◌≢◌, ⊎_elim, ℕ, ◌<◌, ◌�
 use Rattle.std.specs.Prelude.{All}
 use Rattle.std.proofs.lemmas.Bool.{or_cases, cases_lt, cases_eq}
 use Rattle.std.proofs.lemmas.List.Elements.{All-head, All-tail}
-use Rattle.sq_plan.specs.PlanValue.{PlanValue, IsPlan, owner, root_end}
+use Rattle.sq_schema.specs.declared.root.TheConstants.{ROOT_END}
+use Rattle.sq_plan.specs.PlanValue.{PlanValue, IsPlan, owner}
 use Rattle.sq_ranges.specs.declared.recon.Range.{Range}
-use Rattle.sq_ranges.specs.ReconValue.{holds}
-use Rattle.sq_ranges.specs.Moves.{IsRun, AreMaximal, AreMoves, AreTheMoves, moves_of}
+use Rattle.sq_ranges.specs.ReconValue.{has_key}
+use Rattle.sq_ranges.specs.Moves.{IsMovingRun, AreMaximal, AreMoves, AreTheMoves, moves_of}
 use Rattle.sq_ranges.specs.Sweep.{IsNextRun, AreMovesFrom}
-use Rattle.sq_ranges.proofs.Joins.{any_holds, holds_bounds}
+use Rattle.sq_ranges.proofs.Joins.{any_has_key, has_key-bounds}
 use Rattle.sq_ranges.proofs.Overlaps.{moves_of-moves}
 
 module _ (old new : PlanValue) where
   -- what maximal runs hold is from the first of them on
-  held_from : (run : Range) (runs : List Range) (key : ℕ) → All (IsRun old new) (run ∷ runs) → AreMaximal (run ∷ runs) → any_holds (run ∷ runs) key ≡ true → run.lo ≤ key
+  held_from : (run : Range) (runs : List Range) (key : ℕ) → All (IsMovingRun old new) (run ∷ runs) → AreMaximal (run ∷ runs) → any_has_key (run ∷ runs) key ≡ true → run.lo ≤ key
   held_from run [] key all maximal held = ⊎_elim
-      (λ (here : holds run key ≡ true). (holds_bounds run key here).0)
+      (λ (here : has_key run key ≡ true). (has_key-bounds run key here).0)
       (λ (none : false ≡ true). absurd (true≢false (sym none)))
-      (or_cases (holds run key) false held)
+      (or_cases (has_key run key) false held)
   held_from run (next ∷ runs) key all maximal held = ⊎_elim
-      (λ (here : holds run key ≡ true). (holds_bounds run key here).0)
-      (λ (behind : any_holds (next ∷ runs) key ≡ true).
-      let low = held_from next runs key (All-tail (IsRun old new) run (next ∷ runs) all) maximal.1 behind in
-      let is = All-head (IsRun old new) run (next ∷ runs) all in
+      (λ (here : has_key run key ≡ true). (has_key-bounds run key here).0)
+      (λ (behind : any_has_key (next ∷ runs) key ≡ true).
+      let low = held_from next runs key (All-tail (IsMovingRun old new) run (next ∷ runs) all) maximal.1 behind in
+      let is = All-head (IsMovingRun old new) run (next ∷ runs) all in
       omega (arith, is.some, maximal.0.0))
-      (or_cases (holds run key) (any_holds (next ∷ runs) key) held)
+      (or_cases (has_key run key) (any_has_key (next ∷ runs) key) held)
 
   -- they begin from this key on
   abbrev BeginFrom : ℕ → List Range → Type 0
@@ -36,22 +37,22 @@ module _ (old new : PlanValue) where
   begin_behind run (next ∷ runs) maximal = (maximal.0.0, maximal.1)
 
   -- a run isn't gone on with behind it
-  no_further : (run : Range) (runs : List Range) → IsRun old new run → All (IsRun old new) runs → AreMaximal (run ∷ runs) → any_holds runs run.hi ≡ true → owner old run.hi ≡ run.src → owner new run.hi ≡ run.dst → ⊥
+  no_further : (run : Range) (runs : List Range) → IsMovingRun old new run → All (IsMovingRun old new) runs → AreMaximal (run ∷ runs) → any_has_key runs run.hi ≡ true → owner old run.hi ≡ run.src → owner new run.hi ≡ run.dst → ⊥
   no_further run [] is all maximal held src dst = true≢false (sym held)
   no_further run (next ∷ runs) is all maximal held src dst =
       let low = held_from next runs run.hi all maximal.1 held in
-      let next_is = All-head (IsRun old new) next runs all in
+      let next_is = All-head (IsMovingRun old new) next runs all in
       let owners = next_is.owned run.hi low (omega (arith, next_is.some, maximal.0.0)) in
       maximal.0.1 (omega (arith, maximal.0.0)) (sym src ∙ owners.0) (sym dst ∙ owners.1)
 
-  moves_from : (at : ℕ) (runs : List Range) → BeginFrom at runs → All (IsRun old new) runs → AreMaximal runs → ((key : ℕ) → at ≤ key → key < root_end → owner old key ≢ owner new key → any_holds runs key ≡ true) → AreMovesFrom old new at runs
+  moves_from : (at : ℕ) (runs : List Range) → BeginFrom at runs → All (IsMovingRun old new) runs → AreMaximal runs → ((key : ℕ) → at ≤ key → key < ROOT_END → owner old key ≢ owner new key → any_has_key runs key ≡ true) → AreMovesFrom old new at runs
   moves_from at [] begin all maximal each = λ key low within. ⊎_elim
       (λ (same : owner old key ≡ owner new key). same)
       (λ (differ : owner old key ≢ owner new key). absurd (true≢false (sym (each key low within differ))))
       (cases_eq (owner old key) (owner new key))
   moves_from at (run ∷ runs) begin all maximal each =
-      let is = All-head (IsRun old new) run runs all in
-      let rest = All-tail (IsRun old new) run runs all in
+      let is = All-head (IsMovingRun old new) run runs all in
+      let rest = All-tail (IsMovingRun old new) run runs all in
       let behind = begin_behind run runs maximal in (
         record {
           moves = is;
@@ -63,14 +64,14 @@ module _ (old new : PlanValue) where
               absurd (omega arith))
               (cases_eq (owner old key) (owner new key));
           after = λ within src dst. ⊎_elim
-              (λ (here : holds run run.hi ≡ true). let bounds = holds_bounds run run.hi here in absurd (omega arith))
-              (λ (held : any_holds runs run.hi ≡ true). no_further run runs is rest maximal held src dst)
-              (or_cases (holds run run.hi) (any_holds runs run.hi) (each run.hi (omega (arith, is.some)) within (λ same. is.moves (sym src ∙ same ∙ dst))));
+              (λ (here : has_key run run.hi ≡ true). let bounds = has_key-bounds run run.hi here in absurd (omega arith))
+              (λ (held : any_has_key runs run.hi ≡ true). no_further run runs is rest maximal held src dst)
+              (or_cases (has_key run run.hi) (any_has_key runs run.hi) (each run.hi (omega (arith, is.some)) within (λ same. is.moves (sym src ∙ same ∙ dst))));
         },
         moves_from run.hi runs behind.0 rest behind.1 (λ key low within differ. ⊎_elim
-            (λ (here : holds run key ≡ true). let bounds = holds_bounds run key here in absurd (omega arith))
-            (λ (held : any_holds runs key ≡ true). held)
-            (or_cases (holds run key) (any_holds runs key) (each key (omega (arith, is.some)) within differ))),
+            (λ (here : has_key run key ≡ true). let bounds = has_key-bounds run key here in absurd (omega arith))
+            (λ (held : any_has_key runs key ≡ true). held)
+            (or_cases (has_key run key) (any_has_key runs key) (each key (omega (arith, is.some)) within differ))),
       )
 
   -- the moves, from the first key on
@@ -111,7 +112,7 @@ module _ (old new : PlanValue) where
       λ i. record { lo = lo i; hi = hi i; src = src i; dst = dst i }
 
   -- where a run comes, keys move
-  pub no_run : (at : ℕ) (run : Range) → IsNextRun old new at run → ((key : ℕ) → at ≤ key → key < root_end → owner old key ≡ owner new key) → ⊥
+  pub no_run : (at : ℕ) (run : Range) → IsNextRun old new at run → ((key : ℕ) → at ≤ key → key < ROOT_END → owner old key ≡ owner new key) → ⊥
   no_run at run is none =
       let owners = is.moves.owned run.lo (omega arith) is.moves.some in
       is.moves.moves (sym owners.0 ∙ none run.lo is.from (omega (arith, is.moves.some, is.moves.within)) ∙ owners.1)

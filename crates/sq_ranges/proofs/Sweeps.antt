@@ -1,14 +1,15 @@
--- What a sweep over two plans knows, and what it comes to next.
+-- What a sweep over two plans knows, and what it has ahead.
 use Rattle.std.proofs.Common.{◌≡◌, ◌≢◌, ◌⊎◌, inl, inr, ⊎_elim, ℕ, ◌+◌, ◌<◌, ◌≤◌, min, true, false, cond, List, [], ◌∷◌, length, Some, None, refl, sym, ap, ◌∙◌, subst, arith, ◌==◌}
 use Rattle.std.proofs.lemmas.Bool.{eqb-true, eqb-false, cases_lt, cond-true}
 use Rattle.std.proofs.lemmas.Option.{same_Some, none-some}
 use Rattle.std.proofs.lemmas.Bool.Decides.{nat_tests}
 use Rattle.sq_plan.specs.declared.plan.PlanRange.{PlanRange}
-use Rattle.sq_plan.specs.PlanValue.{PlanValue, IsPlan, is_tiling, owner, root_end}
+use Rattle.sq_schema.specs.declared.root.TheConstants.{ROOT_END}
+use Rattle.sq_plan.specs.PlanValue.{PlanValue, IsPlan, is_tiling, owner}
 use Rattle.sq_ranges.specs.declared.recon.Range.{Range}
 use Rattle.sq_ranges.specs.declared.sweep.Sweep.{Sweep}
 use Rattle.sq_ranges.specs.Moves.{moves_of}
-use Rattle.sq_ranges.specs.Sweep.{past, piece_of, EndsBehind, AreAhead, IsNextRun, AreMovesFrom, left, IsSweepOf, Reaches, EndsAt, ComesTo}
+use Rattle.sq_ranges.specs.Sweep.{past, piece_of, EndsBehind, AreAhead, IsNextRun, AreMovesFrom, left, IsSweepOf, Reaches, EndsAt, HasAhead}
 use Rattle.sq_ranges.proofs.Tilings.{owner_among, tiling_parts, tiling_bounds, owner_among-first, owner_among-rest}
 use Rattle.sq_ranges.proofs.Runs.{no_run, same_next, moves_of-from}
 
@@ -30,7 +31,7 @@ ahead_whole plan ranges is same = record {
 -- a range ahead is the plan's up to where it ends
 pub record IsFirst (plan : PlanValue) (at : ℕ) (range : PlanRange) : Type 0 where
   pub some : at < range.hi
-  pub within : range.hi ≤ root_end
+  pub within : range.hi ≤ ROOT_END
   pub owns : (key : ℕ) → at ≤ key → key < range.hi → owner plan key ≡ range.owner
 
 ahead_first : (plan : PlanValue) (at : ℕ) (range : PlanRange) (ranges : List PlanRange) → AreAhead plan at (range ∷ ranges) → IsFirst plan at range
@@ -42,8 +43,8 @@ ahead_first plan at range ranges ahead =
       owns = λ key low high. sym (ahead.owners key low) ∙ owner_among-first range ranges key (omega (arith, ahead.begun)) high;
     }
 
-ahead_none : (plan : PlanValue) (at : ℕ) → AreAhead plan at [] → root_end ≤ at
-ahead_none plan at ahead = let end = eqb-true ahead.start root_end ahead.tiling in omega (arith, ahead.begun)
+ahead_none : (plan : PlanValue) (at : ℕ) → AreAhead plan at [] → ROOT_END ≤ at
+ahead_none plan at ahead = let end = eqb-true ahead.start ROOT_END ahead.tiling in omega (arith, ahead.begun)
 
 -- the sweep goes on to a key up to which no range ends
 ahead_past : (plan : PlanValue) (at to : ℕ) (range : PlanRange) (ranges : List PlanRange) → AreAhead plan at (range ∷ ranges) → at ≤ to → to ≤ range.hi → AreAhead plan to (past (range ∷ ranges) to)
@@ -74,7 +75,7 @@ ahead_past plan at to range ranges ahead le ge =
 pub record IsPiece (old new : PlanValue) (at : ℕ) (olds news : List PlanRange) (piece : Range) : Type 0 where
   pub lo : piece.lo ≡ at
   pub some : at < piece.hi
-  pub within : piece.hi ≤ root_end
+  pub within : piece.hi ≤ ROOT_END
   pub owned : (key : ℕ) → at ≤ key → key < piece.hi → (owner old key ≡ piece.src) × (owner new key ≡ piece.dst)
   pub olds_past : AreAhead old piece.hi (past olds piece.hi)
   pub news_past : AreAhead new piece.hi (past news piece.hi)
@@ -113,7 +114,7 @@ piece_some old new at (one ∷ olds) [] piece is_old is_new e = absurd (none-som
 piece_some old new at (one ∷ olds) (other ∷ news) piece is_old is_new e =
     subst (IsPiece old new at (one ∷ olds) (other ∷ news)) (same_Some (record { lo = at; hi = min one.hi other.hi; src = one.owner; dst = other.owner }) piece e) (piece_of_first old new at one other olds news is_old is_new)
 
-pub piece_none : (old new : PlanValue) (at : ℕ) (olds news : List PlanRange) → AreAhead old at olds → AreAhead new at news → piece_of at olds news ≡ None → root_end ≤ at
+pub piece_none : (old new : PlanValue) (at : ℕ) (olds news : List PlanRange) → AreAhead old at olds → AreAhead new at news → piece_of at olds news ≡ None → ROOT_END ≤ at
 piece_none old new at [] news is_old is_new e = ahead_none old at is_old
 piece_none old new at (one ∷ olds) [] is_old is_new e = ahead_none new at is_new
 piece_none old new at (one ∷ olds) (other ∷ news) is_old is_new e = absurd (none-some (record { lo = at; hi = min one.hi other.hi; src = one.owner; dst = other.owner }) (sym e))
@@ -180,7 +181,7 @@ module _ (old new : PlanValue) where
       let same = same_next old new at first run moves.0 is in
       (rest, (λ i. same i ∷ rest), subst (λ (r : Range). AreMovesFrom old new r.hi rest) same moves.1)
 
-  none_left : (at : ℕ) (runs : List Range) → root_end ≤ at → AreMovesFrom old new at runs → runs ≡ []
+  none_left : (at : ℕ) (runs : List Range) → ROOT_END ≤ at → AreMovesFrom old new at runs → runs ≡ []
   none_left at [] end none = refl
   none_left at (run ∷ runs) end moves =
       let is = moves.0 in
@@ -234,34 +235,34 @@ module _ (old new : PlanValue) where
         end = sym went.at;
       }
 
--- past a piece of one owner a sweep comes to the same runs
-pub comes_past : (before after : Sweep) (piece : Range) (runs : List Range) → ComesTo before runs → Went before after piece → piece.src ≡ piece.dst → ComesTo after runs
-comes_past before after piece runs comes went same =
-    let is = piece_is comes.old comes.new before after piece comes.sweeps went in
+-- past a piece of one owner a sweep has the same runs ahead
+pub runs_past : (before after : Sweep) (piece : Range) (runs : List Range) → HasAhead before runs → Went before after piece → piece.src ≡ piece.dst → HasAhead after runs
+runs_past before after piece runs has went same =
+    let is = piece_is has.old has.new before after piece has.sweeps went in
     record {
-      old = comes.old;
-      new = comes.new;
-      sweeps = went_sweeps comes.old comes.new before after piece comes.sweeps went;
-      moves = subst (λ (at : ℕ). AreMovesFrom comes.old comes.new at runs) (sym went.at)
-          (skip_unmoved comes.old comes.new before.at piece.hi runs (omega (arith, is.some)) (λ key low high. let owners = is.owned key low high in owners.0 ∙ same ∙ sym owners.1) comes.moves);
+      old = has.old;
+      new = has.new;
+      sweeps = went_sweeps has.old has.new before after piece has.sweeps went;
+      moves = subst (λ (at : ℕ). AreMovesFrom has.old has.new at runs) (sym went.at)
+          (skip_unmoved has.old has.new before.at piece.hi runs (omega (arith, is.some)) (λ key low high. let owners = is.owned key low high in owners.0 ∙ same ∙ sym owners.1) has.moves);
     }
 
 -- the run that it found is the first of them
-pub comes_first : (before between after : Sweep) (piece run : Range) (runs : List Range) → ComesTo before runs → Went before between piece → piece.src ≢ piece.dst → ((old new : PlanValue) (from : ℕ) → Reaches old new from between piece → EndsAt old new from after run) → (rest : List Range) × (runs ≡ run ∷ rest) × ComesTo after rest
-comes_first before between after piece run runs comes went differ extends =
-    let ends = extends comes.old comes.new before.at (begins comes.old comes.new before between piece comes.sweeps went differ) in
+pub runs_first : (before between after : Sweep) (piece run : Range) (runs : List Range) → HasAhead before runs → Went before between piece → piece.src ≢ piece.dst → ((old new : PlanValue) (from : ℕ) → Reaches old new from between piece → EndsAt old new from after run) → (rest : List Range) × (runs ≡ run ∷ rest) × HasAhead after rest
+runs_first before between after piece run runs has went differ extends =
+    let ends = extends has.old has.new before.at (begins has.old has.new before between piece has.sweeps went differ) in
     let reaches = ends.reaches in
-    let next : IsNextRun comes.old comes.new before.at run = record { moves = reaches.moves; from = omega (arith, reaches.begun); before = λ key low high. absurd (omega (arith, reaches.begun)); after = ends.after } in
-    let first = first_is comes.old comes.new before.at run runs next comes.moves in
-    (first.0, first.1, record { old = comes.old; new = comes.new; sweeps = reaches.sweeps; moves = subst (λ (at : ℕ). AreMovesFrom comes.old comes.new at first.0) reaches.end first.2 })
+    let next : IsNextRun has.old has.new before.at run = record { moves = reaches.moves; from = omega (arith, reaches.begun); before = λ key low high. absurd (omega (arith, reaches.begun)); after = ends.after } in
+    let first = first_is has.old has.new before.at run runs next has.moves in
+    (first.0, first.1, record { old = has.old; new = has.new; sweeps = reaches.sweeps; moves = subst (λ (at : ℕ). AreMovesFrom has.old has.new at first.0) reaches.end first.2 })
 
-pub comes_none : (sweep : Sweep) (runs : List Range) → ComesTo sweep runs → piece_of sweep.at sweep.olds.now sweep.news.now ≡ None → runs ≡ []
-comes_none sweep runs comes none =
-    none_left comes.old comes.new sweep.at runs (piece_none comes.old comes.new sweep.at sweep.olds.now sweep.news.now comes.sweeps.olds comes.sweeps.news none) comes.moves
+pub runs_none : (sweep : Sweep) (runs : List Range) → HasAhead sweep runs → piece_of sweep.at sweep.olds.now sweep.news.now ≡ None → runs ≡ []
+runs_none sweep runs has none =
+    none_left has.old has.new sweep.at runs (piece_none has.old has.new sweep.at sweep.olds.now sweep.news.now has.sweeps.olds has.sweeps.news none) has.moves
 
--- the whole of two plans comes to their moves
-pub comes_whole : (old new : PlanValue) (sweep : Sweep) → IsPlan old → IsPlan new → sweep.at ≡ 0 → sweep.olds.now ≡ old.ranges → sweep.news.now ≡ new.ranges → ComesTo sweep (moves_of old new)
-comes_whole old new sweep is_old is_new at olds news = record {
+-- the whole of two plans has their moves ahead
+pub runs_whole : (old new : PlanValue) (sweep : Sweep) → IsPlan old → IsPlan new → sweep.at ≡ 0 → sweep.olds.now ≡ old.ranges → sweep.news.now ≡ new.ranges → HasAhead sweep (moves_of old new)
+runs_whole old new sweep is_old is_new at olds news = record {
   old = old;
   new = new;
   sweeps = record {
@@ -273,7 +274,7 @@ comes_whole old new sweep is_old is_new at olds news = record {
 }
 
 -- the next of the runs has keys
-pub comes_within : (sweep : Sweep) (run : Range) (runs rest : List Range) → ComesTo sweep runs → runs ≡ run ∷ rest → (run.lo < run.hi) × (run.hi ≤ root_end)
-comes_within sweep run runs rest comes is =
-    let moves = subst (AreMovesFrom comes.old comes.new sweep.at) is comes.moves in
+pub runs_within : (sweep : Sweep) (run : Range) (runs rest : List Range) → HasAhead sweep runs → runs ≡ run ∷ rest → (run.lo < run.hi) × (run.hi ≤ ROOT_END)
+runs_within sweep run runs rest has is =
+    let moves = subst (AreMovesFrom has.old has.new sweep.at) is has.moves in
     (moves.0.moves.some, moves.0.moves.within)

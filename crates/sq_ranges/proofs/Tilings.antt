@@ -3,7 +3,8 @@ use Rattle.std.proofs.Common.{◌≡◌, ℕ, ◌<◌, ◌≤◌, true, false, L
 use Rattle.std.proofs.lemmas.Bool.{and_parts, and_from, eqb-true, ltb-true, lt-ltb, le-leb, cond-true, cond-false}
 use Rattle.std.proofs.lemmas.Bool.Decides.{nat_tests}
 use Rattle.sq_plan.specs.declared.plan.PlanRange.{PlanRange}
-use Rattle.sq_plan.specs.PlanValue.{is_tiling, holds, owner_in, root_end}
+use Rattle.sq_schema.specs.declared.root.TheConstants.{ROOT_END}
+use Rattle.sq_plan.specs.PlanValue.{is_tiling, holds, owner_in}
 
 -- the owner of a key by these ranges
 abbrev pub owner_among : List PlanRange → ℕ → ℕ
@@ -23,8 +24,8 @@ tiling_parts lo range ranges tiling =
     (eqb-true range.lo lo first.0, ltb-true range.lo range.hi second.0, second.1)
 
 -- ranges end where the keys end
-pub tiling_bounds : (lo : ℕ) (ranges : List PlanRange) → is_tiling lo ranges ≡ true → lo ≤ root_end
-tiling_bounds lo [] tiling = let end = eqb-true lo root_end tiling in omega arith
+pub tiling_bounds : (lo : ℕ) (ranges : List PlanRange) → is_tiling lo ranges ≡ true → lo ≤ ROOT_END
+tiling_bounds lo [] tiling = let end = eqb-true lo ROOT_END tiling in omega arith
 tiling_bounds lo (range ∷ ranges) tiling =
     let parts = tiling_parts lo range ranges tiling in
     let rest = tiling_bounds range.hi ranges parts.2 in

@@ -3,7 +3,8 @@ use Rattle.std.specs.Prelude.{◌≡◌, ℕ, ◌==◌, not, nat_lt, if◌then�
 use Rattle.sq_plan.specs.PlanValue.{PlanValue}
 use Rattle.sq_ranges.specs.declared.fault.ReconFault.{ReconFault}
 use Rattle.sq_ranges.specs.declared.fault.ReconFault.TheVariants.{PartitionsDiffer, Width, TooManySegments}
-use Rattle.sq_ranges.specs.ReconValue.{ReconValue, IsRecon, segments_of, segment_limit, is_width}
+use Rattle.sq_ranges.specs.declared.segment.TheConstants.{SEGMENT_LIMIT}
+use Rattle.sq_ranges.specs.ReconValue.{ReconValue, IsRecon, segments_of, is_width}
 use Rattle.sq_ranges.specs.Moves.{moves_of, AreMoves}
 
 -- the first cause for which there is no reconfiguration between two plans with leaves of this width
@@ -11,7 +12,7 @@ abbrev pub recon_fault : PlanValue → PlanValue → ℕ → Option ReconFault
 recon_fault old new width =
     if not (old.parts == new.parts) then Some PartitionsDiffer
     else if not (is_width width) then Some Width
-    else if nat_lt segment_limit (length (segments_of width (moves_of old new))) then Some TooManySegments
+    else if nat_lt SEGMENT_LIMIT (length (segments_of width (moves_of old new))) then Some TooManySegments
     else None
 
 abbrev pub recon_of : PlanValue → PlanValue → ℕ → ReconValue

@@ -1,11 +1,33 @@
--- The numbers of the faults.
+-- Faults of a reconfiguration and of an opening: the one told as the other, and their numbers as a user sees them.
 use Rattle.std.specs.Prelude.{ℕ}
+use Rattle.sq_schema.specs.declared.fault.RowFault.{RowFault}
+use Rattle.sq_schema.specs.declared.fault.RowFault.TheVariants as row
+use Rattle.sq_schema.specs.Fault.{memory_number, txn_fault_number, row_fault_number}
 use Rattle.sq_ranges.specs.declared.fault.ReconFault.{ReconFault}
-use Rattle.sq_ranges.specs.declared.fault.ReconFault.TheVariants.{PartitionsDiffer, Width, TooManySegments, Memory}
+use Rattle.sq_ranges.specs.declared.fault.ReconFault.TheVariants as recon
+use Rattle.sq_ranges.specs.declared.fault.OpeningFault.{OpeningFault}
+use Rattle.sq_ranges.specs.declared.fault.OpeningFault.TheVariants as opening
 
--- the number that a user sees
-abbrev pub number_of : ReconFault → ℕ
-number_of PartitionsDiffer = 111
-number_of Width = 112
-number_of TooManySegments = 113
-number_of Memory = 222
+-- a fault of the plans, told as one of the opening
+abbrev pub of_recon : ReconFault → OpeningFault
+of_recon recon.Memory = opening.Memory
+of_recon fault = opening.Recon fault
+
+-- a fault of a row in its place, told as one of the opening
+abbrev pub of_row : RowFault → OpeningFault
+of_row row.Memory = opening.Memory
+of_row fault = opening.Place fault
+
+abbrev pub recon_fault_number : ReconFault → ℕ
+recon_fault_number recon.PartitionsDiffer = 111
+recon_fault_number recon.Width = 112
+recon_fault_number recon.TooManySegments = 113
+recon_fault_number recon.Memory = memory_number
+
+abbrev pub opening_fault_number : OpeningFault → ℕ
+opening_fault_number (opening.Recon fault) = recon_fault_number fault
+opening_fault_number opening.Limit = 114
+opening_fault_number opening.Capacity = 115
+opening_fault_number (opening.Row fault) = txn_fault_number fault
+opening_fault_number (opening.Place fault) = row_fault_number fault
+opening_fault_number opening.Memory = memory_number

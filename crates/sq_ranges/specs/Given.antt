@@ -7,7 +7,8 @@ use Rattle.sq_schema.specs.declared.row.RowKey.{RowKey}
 use Rattle.sq_schema.specs.Values.{RowValue}
 use Rattle.sq_schema.specs.Effect.{RowTable}
 use Rattle.sq_schema.specs.Table.{TableValue, rows_in, is_opening, with_given}
-use Rattle.sq_plan.specs.PlanValue.{PlanValue, root_end}
+use Rattle.sq_schema.specs.declared.root.TheConstants.{ROOT_END}
+use Rattle.sq_plan.specs.PlanValue.{PlanValue}
 use Rattle.sq_ranges.specs.declared.opening.Config.{Config}
 use Rattle.sq_ranges.specs.declared.opening.GivenRow.{GivenRow}
 use Rattle.sq_ranges.specs.Between.{recon_of}
@@ -39,7 +40,7 @@ pub record IsTableOf (rows : List GivenRow) (table : TableValue) : Type 0 where
   pub given : (root : ℕ) → rows_in table root ≡ given_rows no_rows rows root
   pub rising : is_sorted nat_cmp table ≡ true
   pub opening : AllPass (λ entry. is_opening entry.1) table
-  pub roots : AllPass (λ entry. nat_lt entry.0 root_end) table
+  pub roots : AllPass (λ entry. nat_lt entry.0 ROOT_END) table
 
 -- the opening of two plans, sizes and rows
 pub record IsOpeningOf (tables : ℕ) (old new : PlanValue) (config : Config) (rows : List GivenRow) (o : OpeningValue) : Type 0 where

@@ -3,25 +3,25 @@ use Rattle.std.specs.Prelude.{◌≡◌, ◌≢◌, ℕ, ◌≤◌, ◌<◌, tru
 use Rattle.sq_plan.specs.PlanValue.{PlanValue, owner}
 use Rattle.sq_ranges.specs.declared.recon.Range.{Range}
 use Rattle.sq_ranges.specs.declared.recon.Extent.{Extent}
-use Rattle.sq_ranges.specs.ReconValue.{holds}
+use Rattle.sq_ranges.specs.ReconValue.{has_key}
 
 -- the segment of this number holds the key
-pub record IsHolder (segments : List Range) (key i : ℕ) (segment : Range) : Type 0 where
+pub record IsHoldingSegment (segments : List Range) (key i : ℕ) (segment : Range) : Type 0 where
   pub at : slice_get segments i ≡ Some segment
-  pub held : holds segment key ≡ true
+  pub held : has_key segment key ≡ true
 
 -- a key that moves is in this segment alone, which goes from its old owner to its new one
 pub record IsMovedBy (old new : PlanValue) (segments : List Range) (key i : ℕ) (segment : Range) : Type 0 where
-  pub holder : IsHolder segments key i segment
+  pub holder : IsHoldingSegment segments key i segment
   pub src : owner old key ≡ segment.src
   pub dst : owner new key ≡ segment.dst
   pub moves : segment.src ≢ segment.dst
-  pub only : (j : ℕ) (other : Range) → IsHolder segments key j other → j ≡ i
+  pub only : (j : ℕ) (other : Range) → IsHoldingSegment segments key j other → j ≡ i
 
--- what the number of its segment says of a key: without one it keeps its owner
-abbrev pub Tells : PlanValue → PlanValue → List Range → ℕ → Option ℕ → Type 0
-Tells old new segments key None = owner old key ≡ owner new key
-Tells old new segments key (Some i) = (segment : Range) × IsMovedBy old new segments key i segment
+-- where a key's segment was looked for: it has none and keeps its owner, or it moves with this one alone
+abbrev pub IsSegmentOf : PlanValue → PlanValue → List Range → ℕ → Option ℕ → Type 0
+IsSegmentOf old new segments key None = owner old key ≡ owner new key
+IsSegmentOf old new segments key (Some i) = (segment : Range) × IsMovedBy old new segments key i segment
 
 -- the key is one of these
 pub record Covers (keys : Extent) (key : ℕ) : Type 0 where

@@ -6,6 +6,7 @@ pub mod Sweep
 pub mod Laws
 pub mod CutEnd
 pub mod OpeningValue
+pub mod Opening
 pub mod SetUp
 pub mod Given
 pub mod Refused

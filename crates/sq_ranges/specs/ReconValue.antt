@@ -1,26 +1,29 @@
 -- Reconfiguration ranges, segments, and where their nodes and leaves lie.
-use Rattle.std.specs.Prelude.{◌≡◌, ◌↔◌, ℕ, Bool, true, ◌+◌, ◌-◌, ◌*◌, ◌/◌, ◌==◌, ◌&&◌, ◌≤◌, not, nat_lt, nat_le, min, if◌then◌else◌, List, [], ◌∷◌, length, map, position, slice_get, Option, None, option_map, option_and_then, Contains}
+use Rattle.std.specs.Prelude.{◌≡◌, ◌↔◌, ℕ, Bool, true, ◌+◌, ◌-◌, ◌*◌, ◌/◌, ◌==◌, ◌&&◌, ◌≤◌, not, nat_lt, nat_le, min, List, [], ◌∷◌, length, map, position, slice_get, Option, option_map, option_and_then, Contains}
 use Rattle.std.specs.List.{list_any, flat_map, range_with_len}
 use Rattle.std.specs.List.Sorted.{IsStrictlySortedBy}
 use Rattle.std.specs.declared.cmp.Ordering.{Ordering}
 use Rattle.std.specs.Ordering.{nat_cmp, ordering_then}
-use Rattle.sq_plan.specs.PlanValue.{root_end}
-use Rattle.sq_tree.specs.Node.{span, first_leaf, is_node}
+use Rattle.sq_schema.specs.declared.root.TheConstants.{ROOT_END}
+use Rattle.sq_tree.specs.declared.node.TheConstants.{LEAVES}
+use Rattle.sq_tree.specs.Node.{span, first_leaf}
+use Rattle.sq_ranges.specs.declared.recon.TheConstants.{MAX_WIDTH}
 use Rattle.sq_ranges.specs.declared.recon.Range.{Range}
 use Rattle.sq_ranges.specs.declared.recon.Extent.{Extent}
 use Rattle.sq_ranges.specs.declared.recon.Link.{Link}
+use Rattle.sq_ranges.specs.declared.segment.TheConstants.{SEGMENT_LIMIT}
 
 pub record ReconValue : Type 0 where
   pub width : ℕ
   pub ranges : List Range
   pub segments : List Range
 
-abbrev pub holds : Range → ℕ → Bool
-holds range key = nat_le range.lo key && nat_lt key range.hi
+abbrev pub has_key : Range → ℕ → Bool
+has_key range key = nat_le range.lo key && nat_lt key range.hi
 
--- how many keys a segment has at most: 32 leaves of this width
+-- how many keys a segment has at most: its leaves have this width
 abbrev pub segment_width : ℕ → ℕ
-segment_width width = 32 * width
+segment_width width = LEAVES * width
 
 -- the segment of this number within a range
 abbrev pub segment_at : ℕ → Range → ℕ → Range
@@ -42,30 +45,26 @@ segments_in width range = map (segment_at width range) (range_with_len 0 (segmen
 abbrev pub segments_of : ℕ → List Range → List Range
 segments_of width ranges = flat_map (segments_in width) ranges
 
--- how many segments there are at most
-abbrev pub segment_limit : ℕ
-segment_limit = 256
-
--- a leaf has 1 to 65,536 keys
+-- a leaf may be this many keys wide
 abbrev pub is_width : ℕ → Bool
-is_width width = nat_le 1 width && nat_le width 65536
+is_width width = nat_le 1 width && nat_le width MAX_WIDTH
 
 -- ranges in key order from this key on, none of them empty, each from one partition to another
-abbrev pub are_rising : ℕ → List Range → Bool
-are_rising lo [] = true
-are_rising lo (range ∷ ranges) =
-    nat_le lo range.lo && (nat_lt range.lo range.hi && (nat_le range.hi root_end && (not (range.src == range.dst) && are_rising range.hi ranges)))
+abbrev pub are_in_key_order : ℕ → List Range → Bool
+are_in_key_order lo [] = true
+are_in_key_order lo (range ∷ ranges) =
+    nat_le lo range.lo && (nat_lt range.lo range.hi && (nat_le range.hi ROOT_END && (not (range.src == range.dst) && are_in_key_order range.hi ranges)))
 
 -- what holds of each reconfiguration, whatever its plans
 pub record IsRecon (recon : ReconValue) : Type 0 where
   pub leaf : is_width recon.width ≡ true
-  pub rising : are_rising 0 recon.ranges ≡ true
+  pub rising : are_in_key_order 0 recon.ranges ≡ true
   pub cut : recon.segments ≡ segments_of recon.width recon.ranges
-  pub few : length recon.segments ≤ segment_limit
+  pub few : length recon.segments ≤ SEGMENT_LIMIT
 
 -- the number of the segment that holds a key
 abbrev pub segment_of : List Range → ℕ → Option ℕ
-segment_of segments key = position (λ segment. holds segment key) segments
+segment_of segments key = position (λ segment. has_key segment key) segments
 
 -- the leaf of a segment that holds a key of it
 abbrev pub leaf_of : ℕ → Range → ℕ → ℕ
@@ -85,12 +84,12 @@ abbrev pub leaf_at : ReconValue → ℕ → Option (ℕ × ℕ)
 leaf_at recon key =
     option_and_then (λ i. option_map (λ segment. (i, leaf_of recon.width segment key)) (slice_get recon.segments i)) (segment_of recon.segments key)
 
--- the keys of a node of a segment; none where there is no such segment or node
+-- the keys of a node of a segment; none where there is no such segment
 abbrev pub extent_at : ReconValue → ℕ → ℕ → Option Extent
-extent_at recon seg n = if is_node n then option_map (λ segment. extent recon.width segment n) (slice_get recon.segments seg) else None
+extent_at recon seg n = option_map (λ segment. extent recon.width segment n) (slice_get recon.segments seg)
 
-abbrev pub link_of : Range → Link
-link_of range = record { src = range.src; dst = range.dst }
+abbrev pub range_link : Range → Link
+range_link range = record { src = range.src; dst = range.dst }
 
 -- some range goes from one partition to the other
 abbrev pub is_link : List Range → ℕ → ℕ → Bool

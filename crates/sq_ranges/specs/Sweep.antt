@@ -1,10 +1,11 @@
 -- Going over two plans from the low end of the keys to the high end.
 use Rattle.std.specs.Prelude.{◌≡◌, ◌≢◌, ℕ, ◌+◌, ◌≤◌, ◌<◌, ◌==◌, min, if◌then◌else◌, List, [], ◌∷◌, length, find, true, Option, Some, None}
 use Rattle.sq_plan.specs.declared.plan.PlanRange.{PlanRange}
-use Rattle.sq_plan.specs.PlanValue.{PlanValue, is_tiling, holds, owner, owner_in, root_end}
+use Rattle.sq_schema.specs.declared.root.TheConstants.{ROOT_END}
+use Rattle.sq_plan.specs.PlanValue.{PlanValue, is_tiling, holds, owner, owner_in}
 use Rattle.sq_ranges.specs.declared.recon.Range.{Range}
 use Rattle.sq_ranges.specs.declared.sweep.Sweep.{Sweep}
-use Rattle.sq_ranges.specs.Moves.{IsRun}
+use Rattle.sq_ranges.specs.Moves.{IsMovingRun}
 
 -- ranges without the first, where that ends at this key
 abbrev pub past : List PlanRange → ℕ → List PlanRange
@@ -32,14 +33,14 @@ pub record AreAhead (plan : PlanValue) (at : ℕ) (ranges : List PlanRange) : Ty
 
 -- the first run of keys that move, from this key on, as far as it goes
 pub record IsNextRun (old new : PlanValue) (at : ℕ) (run : Range) : Type 0 where
-  pub moves : IsRun old new run
+  pub moves : IsMovingRun old new run
   pub from : at ≤ run.lo
   pub before : (key : ℕ) → at ≤ key → key < run.lo → owner old key ≡ owner new key
-  pub after : run.hi < root_end → owner old run.hi ≡ run.src → owner new run.hi ≢ run.dst
+  pub after : run.hi < ROOT_END → owner old run.hi ≡ run.src → owner new run.hi ≢ run.dst
 
 -- the runs of keys that move, from this key on
 abbrev pub AreMovesFrom : PlanValue → PlanValue → ℕ → List Range → Type 0
-AreMovesFrom old new at [] = (key : ℕ) → at ≤ key → key < root_end → owner old key ≡ owner new key
+AreMovesFrom old new at [] = (key : ℕ) → at ≤ key → key < ROOT_END → owner old key ≡ owner new key
 AreMovesFrom old new at (run ∷ runs) = IsNextRun old new at run × AreMovesFrom old new run.hi runs
 
 -- how many ranges a sweep has ahead
@@ -48,24 +49,24 @@ left sweep = length sweep.olds.now + length sweep.news.now
 
 -- the plans of a sweep, and where it stands in them
 pub record IsSweepOf (old new : PlanValue) (sweep : Sweep) : Type 0 where
-  pub within : sweep.at ≤ root_end
+  pub within : sweep.at ≤ ROOT_END
   pub olds : AreAhead old sweep.at sweep.olds.now
   pub news : AreAhead new sweep.at sweep.news.now
 
 -- a run that began at a key, as far as a sweep has come
 pub record Reaches (old new : PlanValue) (from : ℕ) (sweep : Sweep) (run : Range) : Type 0 where
   pub sweeps : IsSweepOf old new sweep
-  pub moves : IsRun old new run
+  pub moves : IsMovingRun old new run
   pub begun : run.lo ≡ from
   pub end : run.hi ≡ sweep.at
 
 -- and it doesn't go on
 pub record EndsAt (old new : PlanValue) (from : ℕ) (sweep : Sweep) (run : Range) : Type 0 where
   pub reaches : Reaches old new from sweep run
-  pub after : run.hi < root_end → owner old run.hi ≡ run.src → owner new run.hi ≢ run.dst
+  pub after : run.hi < ROOT_END → owner old run.hi ≡ run.src → owner new run.hi ≢ run.dst
 
--- the runs that a sweep comes to
-pub record ComesTo (sweep : Sweep) (runs : List Range) : Type 0 where
+-- the runs of keys that move which a sweep has ahead
+pub record HasAhead (sweep : Sweep) (runs : List Range) : Type 0 where
   pub old : PlanValue
   pub new : PlanValue
   pub sweeps : IsSweepOf old new sweep

@@ -1,24 +1,21 @@
 // The moves between two plans, and the segments that they are cut into.
 ghost use Rattle.std.specs.Prelude.{◌≡◌, ◌≤◌, ◌<◌, ◌++◌, true, nat_le, length, map, IfOk, OnOk};
-ghost use Rattle.sq_ranges.specs.ReconValue.{is_width, segment_at, segment_count, segments_in, segments_of, segment_limit, are_rising, link_of, AreLinks};
-ghost use Rattle.sq_plan.specs.PlanValue.{root_end, IsPlan};
+ghost use Rattle.sq_ranges.specs.ReconValue.{is_width, segment_at, segment_count, segments_in, segments_of, are_in_key_order, range_link, AreLinks};
+ghost use Rattle.sq_schema.specs.declared.root.TheConstants.{ROOT_END};
+ghost use Rattle.sq_plan.specs.PlanValue.{IsPlan};
 ghost use Rattle.sq_ranges.specs.Moves.{moves_of};
 
 use crate::recon::{Link, Range};
+use crate::segment::SEGMENT_LIMIT;
 use crate::sweep::Sweep;
 use sq_plan::Plan;
+use sq_tree::LEAVES;
 use std::alloc::{AllocError, Global};
-
-/// How many segments a reconfiguration has at most.
-const SEGMENT_LIMIT: u64 = 256;
-
-/// How many leaves a segment has.
-const LEAVES: u64 = 32;
 
 /// Whether the moves between two plans come to at most [`SEGMENT_LIMIT`] segments.
 pub(crate) fn fits(old: &Plan, new: &Plan, width: u64) -> bool
     requires { is_width width ≡ true }
-    ensures { result ≡ nat_le (length (segments_of width (moves_of old.now new.now))) segment_limit }
+    ensures { result ≡ nat_le (length (segments_of width (moves_of old.now new.now))) SEGMENT_LIMIT }
 {
     let mut count = 0;
     let mut sweep = Sweep::new(old, new);
@@ -51,7 +48,7 @@ pub(crate) fn segments(
     width: u64,
 ) -> Result<Vec<Range>, AllocError>
     requires width { is_width width ≡ true }
-    requires rising { are_rising 0 ranges.now ≡ true }
+    requires rising { are_in_key_order 0 ranges.now ≡ true }
     ensures { IfOk result (λ segments. segments.items ≡ segments_of width ranges.now) }
 {
     let mut segments = Vec::new(alloc);
@@ -65,7 +62,7 @@ pub(crate) fn segments(
 fn push_segments(segments: &mut Vec<Range>, range: &Range, width: u64) -> Result<(), AllocError>
     requires width { is_width width ≡ true }
     requires some { range.now.lo < range.now.hi }
-    requires within { range.now.hi ≤ root_end }
+    requires within { range.now.hi ≤ ROOT_END }
     ensures { OnOk result (segments.new.items ≡ segments.old.items ++ segments_in width range.now) }
 {
     for i in 0..segment_count(range, width) {
@@ -78,9 +75,9 @@ fn push_segments(segments: &mut Vec<Range>, range: &Range, width: u64) -> Result
 fn segment_count(range: &Range, width: u64) -> u64
     requires width { is_width width ≡ true }
     requires some { range.now.lo < range.now.hi }
-    requires within { range.now.hi ≤ root_end }
+    requires within { range.now.hi ≤ ROOT_END }
     ensures count { result ≡ segment_count width range.now }
-    ensures bound { result ≤ root_end }
+    ensures bound { result ≤ ROOT_END }
 {
     (range.hi - range.lo).div_ceil(LEAVES * width)
 }
@@ -88,7 +85,7 @@ fn segment_count(range: &Range, width: u64) -> u64
 // The segment of this number within a range.
 fn segment_at(range: &Range, width: u64, i: u64) -> Range
     requires width { is_width width ≡ true }
-    requires within { range.now.hi ≤ root_end }
+    requires within { range.now.hi ≤ ROOT_END }
     requires there { i < segment_count width range.now }
     ensures { result ≡ segment_at width range.now i }
 {
@@ -112,7 +109,7 @@ pub(crate) fn links(alloc: Global, ranges: &[Range]) -> Result<Vec<Link>, AllocE
 
 // The link of each range.
 fn each_link(alloc: Global, ranges: &[Range]) -> Result<Vec<Link>, AllocError>
-    ensures { IfOk result (λ links. links.items ≡ map link_of ranges.now) }
+    ensures { IfOk result (λ links. links.items ≡ map range_link ranges.now) }
 {
     ranges
         .iter()

@@ -1,39 +1,37 @@
 // Why there is no reconfiguration or no opening, in the order in which the causes are looked at.
 ghost use Rattle.std.specs.Prelude.{◌≡◌};
-ghost use Rattle.sq_ranges.specs.Fault.{number_of};
+ghost use Rattle.sq_ranges.specs.Fault.{recon_fault_number, opening_fault_number};
 
-use sq_schema::RowFault;
+use crate::opening::{MAX_CAPACITY, MAX_LIMIT, MIN_LIMIT};
+use crate::recon::MAX_WIDTH;
+use crate::segment::SEGMENT_LIMIT;
+use sq_schema::{OUT_OF_MEMORY, RowFault, TxnFault};
 use std::alloc::AllocError;
+use thiserror::Error;
 
 /// Why there is no reconfiguration between two plans.
-#[derive(Clone, Copy, Debug, PartialEq, Eq)]
+#[derive(Clone, Copy, Debug, PartialEq, Eq, Error)]
 pub enum ReconFault {
-    /// 111: the plans name different numbers of partitions.
-    PartitionsDiffer,
-    /// 112: the width of a leaf isn't from 1 to 65,536.
-    Width,
-    /// 113: there would be more than 256 segments.
-    TooManySegments,
-    /// 222: memory ran out.
-    Memory,
+    #[error("the old and the new plan have different numbers of partitions")]
+    PartitionsDiffer = 111,
+    #[error("the width of a leaf isn't from 1 to {MAX_WIDTH}")]
+    Width = 112,
+    #[error("the move would have more than {SEGMENT_LIMIT} segments")]
+    TooManySegments = 113,
+    #[error("{}", AllocError)]
+    Memory = OUT_OF_MEMORY as isize,
 }
 
 impl ReconFault {
-    /// The number that a user sees, as above.
-    pub fn number(&self) -> u16
-        ensures { result ≡ number_of self.now }
+    /// The number that a user sees.
+    pub fn number(self) -> u16
+        ensures { result ≡ recon_fault_number self }
     {
-        match self {
-            ReconFault::PartitionsDiffer => 111,
-            ReconFault::Width => 112,
-            ReconFault::TooManySegments => 113,
-            ReconFault::Memory => 222,
-        }
+        self as u16
     }
 }
 
 impl From<AllocError> for ReconFault {
-    ghost use Rattle.std.specs.Prelude.{◌≡◌};
     ghost use Rattle.sq_ranges.specs.declared.fault.ReconFault.TheVariants.{Memory};
 
     ghost from_gives = { λ _ fault. fault ≡ Memory };
@@ -44,60 +42,45 @@ impl From<AllocError> for ReconFault {
 }
 
 /// Why a world doesn't open.
-#[derive(Clone, Copy, Debug, PartialEq, Eq)]
+#[derive(Clone, Copy, Debug, PartialEq, Eq, Error)]
 pub enum OpeningFault {
-    /// 111: the plans name different numbers of partitions.
-    PartitionsDiffer,
-    /// 112: the width of a leaf isn't from 1 to 65,536.
-    Width,
-    /// 113: there would be more than 256 segments.
-    TooManySegments,
-    /// 114: the bytes of a chunk aren't from 64 to 1,048,576.
+    /// There is no reconfiguration.
+    #[error(transparent)]
+    Recon(ReconFault),
+    /// 114.
+    #[error("the limit of a chunk isn't from {MIN_LIMIT} to {MAX_LIMIT}")]
     Limit,
-    /// 115: the chunks of a link's queue aren't from 1 to 64.
+    /// 115.
+    #[error("the capacity of a link isn't from 1 to {MAX_CAPACITY}")]
     Capacity,
-    /// 132: a row's root key isn't below 4,294,967,296.
-    BadRoot,
-    /// 133: a row's table isn't in the schema.
-    BadTable,
-    /// 134: a row of the root table has another sub key than 0.
-    BadSub,
-    /// 135: a row's note has more than 255 bytes.
-    BadNote,
-    /// 136: a row with this key was given before.
-    RowRepeated,
-    /// 137: a row isn't of the root table, and the root row wasn't given before it.
-    NoRootRow,
-    /// 222: memory ran out.
+    /// A row isn't of the schema.
+    #[error(transparent)]
+    Row(TxnFault),
+    /// A row isn't in its place.
+    #[error(transparent)]
+    Place(RowFault),
+    /// Memory ran out, wherever it did.
+    #[error("{}", AllocError)]
     Memory,
 }
 
 impl OpeningFault {
-    ghost use Rattle.sq_ranges.specs.Refused.{opening_number_of};
-
-    /// The number that a user sees, as above.
-    pub fn number(&self) -> u16
-        ensures { result ≡ opening_number_of self.now }
+    /// The number that a user sees.
+    pub fn number(self) -> u16
+        ensures { result ≡ opening_fault_number self }
     {
         match self {
-            OpeningFault::PartitionsDiffer => 111,
-            OpeningFault::Width => 112,
-            OpeningFault::TooManySegments => 113,
+            OpeningFault::Recon(fault) => fault.number(),
             OpeningFault::Limit => 114,
             OpeningFault::Capacity => 115,
-            OpeningFault::BadRoot => 132,
-            OpeningFault::BadTable => 133,
-            OpeningFault::BadSub => 134,
-            OpeningFault::BadNote => 135,
-            OpeningFault::RowRepeated => 136,
-            OpeningFault::NoRootRow => 137,
-            OpeningFault::Memory => 222,
+            OpeningFault::Row(fault) => fault.number(),
+            OpeningFault::Place(fault) => fault.number(),
+            OpeningFault::Memory => OUT_OF_MEMORY,
         }
     }
 }
 
 impl From<AllocError> for OpeningFault {
-    ghost use Rattle.std.specs.Prelude.{◌≡◌};
     ghost use Rattle.sq_ranges.specs.declared.fault.OpeningFault.TheVariants as faults;
 
     ghost from_gives = { λ _ fault. fault ≡ faults.Memory };
@@ -108,32 +91,37 @@ impl From<AllocError> for OpeningFault {
 }
 
 impl From<ReconFault> for OpeningFault {
-    ghost use Rattle.std.specs.Prelude.{◌≡◌};
-    ghost use Rattle.sq_ranges.specs.Refused.{of_recon};
+    ghost use Rattle.sq_ranges.specs.Fault.{of_recon};
 
     ghost from_gives = { λ cause fault. fault ≡ of_recon cause };
 
     fn from(fault: ReconFault) -> OpeningFault {
         match fault {
-            ReconFault::PartitionsDiffer => OpeningFault::PartitionsDiffer,
-            ReconFault::Width => OpeningFault::Width,
-            ReconFault::TooManySegments => OpeningFault::TooManySegments,
             ReconFault::Memory => OpeningFault::Memory,
+            fault => OpeningFault::Recon(fault),
         }
     }
 }
 
+impl From<TxnFault> for OpeningFault {
+    ghost use Rattle.sq_ranges.specs.declared.fault.OpeningFault.TheVariants as faults;
+
+    ghost from_gives = { λ cause fault. fault ≡ faults.Row cause };
+
+    fn from(fault: TxnFault) -> OpeningFault {
+        OpeningFault::Row(fault)
+    }
+}
+
 impl From<RowFault> for OpeningFault {
-    ghost use Rattle.std.specs.Prelude.{◌≡◌};
-    ghost use Rattle.sq_ranges.specs.Refused.{of_row};
+    ghost use Rattle.sq_ranges.specs.Fault.{of_row};
 
     ghost from_gives = { λ cause fault. fault ≡ of_row cause };
 
     fn from(fault: RowFault) -> OpeningFault {
         match fault {
-            RowFault::RowRepeated => OpeningFault::RowRepeated,
-            RowFault::NoRootRow => OpeningFault::NoRootRow,
             RowFault::Memory => OpeningFault::Memory,
+            fault => OpeningFault::Place(fault),
         }
     }
 }

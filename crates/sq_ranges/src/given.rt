@@ -4,31 +4,23 @@ ghost use Rattle.std.specs.List.{AllPass};
 ghost use Rattle.std.specs.Ordering.{nat_cmp};
 ghost use Rattle.std.specs.Result.{result_err};
 ghost use Rattle.std.specs.FinMap.Entries.{is_sorted};
+ghost use Rattle.sq_schema.specs.declared.schema.TheConstants.{MAX_TABLES};
 ghost use Rattle.sq_schema.specs.Table.{rows_in, is_opening};
 ghost use Rattle.sq_plan.specs.PlanValue.{IsPlan};
 ghost use Rattle.sq_ranges.specs.Between.{recon_of, IsReconOf};
 ghost use Rattle.sq_ranges.specs.Given.{no_rows, with_one, given_rows, IsTableOf};
-ghost use Rattle.sq_ranges.specs.Refused.{config_fault, given_fault, rows_fault, first_fault, opening_fault, early_fault, TellsFault};
+ghost use Rattle.sq_ranges.specs.Refused.{config_fault, given_fault, rows_fault, first_fault, opening_fault, early_fault, MayRefuse};
 
 use crate::fault::OpeningFault;
-use crate::opening::{Config, GivenRow};
+use crate::opening::{Config, GivenRow, MAX_CAPACITY, MAX_LIMIT, MIN_LIMIT};
 use crate::recon::Recon;
 use sq_plan::Plan;
 use sq_schema::Table;
 use std::alloc::Global;
 
-/// The fewest bytes of families that a chunk may be set to hold.
-const MIN_LIMIT: u64 = 64;
-
-/// The most bytes of families that a chunk may be set to hold.
-const MAX_LIMIT: u64 = 1_048_576;
-
-/// The most chunks that the queue of a link may be set to hold.
-const MAX_CAPACITY: u64 = 64;
-
 /// What moves between two plans, and the table of opening rows. No memory is taken before the plans, the sizes and
 /// the first row were found fit.
-pub(crate) fn parts_of(
+pub(crate) fn moves_and_table(
     alloc: Global,
     tables: u8,
     old: &Plan,
@@ -36,10 +28,10 @@ pub(crate) fn parts_of(
     config: Config,
     rows: &[GivenRow],
 ) -> Result<(Recon, Table), OpeningFault>
-    requires { tables ≤ 8 }
+    requires { tables ≤ MAX_TABLES }
     ensures fault { MatchResult result
         (λ _. opening_fault tables old.now new.now config rows.now ≡ None)
-        (λ fault. TellsFault (early_fault tables old.now new.now config rows.now) (opening_fault tables old.now new.now config rows.now) fault) }
+        (λ fault. MayRefuse (early_fault tables old.now new.now config rows.now) (opening_fault tables old.now new.now config rows.now) fault) }
     ensures recon { IfOk result (λ parts. (parts.0 ≡ recon_of old.now new.now config.width) × IsReconOf old.now new.now config.width parts.0) }
     ensures table { IfOk result (λ parts. IsTableOf rows.now parts.1) }
     ensures plans { IsPlan old.now × IsPlan new.now }
@@ -69,27 +61,27 @@ fn check(old: &Plan, new: &Plan, config: Config) -> Result<(), OpeningFault>
 
 // The table of rows that are given one after another.
 fn table_of(alloc: Global, tables: u8, rows: &[GivenRow]) -> Result<Table, OpeningFault>
-    requires { tables ≤ 8 }
+    requires { tables ≤ MAX_TABLES }
     ensures fault { MatchResult result
         (λ _. rows_fault tables no_rows rows.now ≡ None)
-        (λ fault. TellsFault (first_fault tables no_rows rows.now) (rows_fault tables no_rows rows.now) fault) }
+        (λ fault. MayRefuse (first_fault tables no_rows rows.now) (rows_fault tables no_rows rows.now) fault) }
     ensures table { IfOk result (IsTableOf rows.now) }
 {
     let mut table = Table::new(alloc);
     for given in rows {
         take(&mut table, tables, given)?;
     }
-    // Its root keys rise, and each has rows.
+    // Called for what it ensures, that the root keys of the table rise and each has rows.
     let _ = table.iter();
     Ok(table)
 }
 
 // Takes one row into a table. No memory is taken before the row was found fit.
 fn take(table: &mut Table, tables: u8, given: &GivenRow) -> Result<(), OpeningFault>
-    requires { tables ≤ 8 }
+    requires { tables ≤ MAX_TABLES }
     ensures fault { MatchResult result
         (λ _. given_fault tables (rows_in table.old) given.now ≡ None)
-        (λ fault. TellsFault (given_fault tables (rows_in table.old) given.now) (given_fault tables (rows_in table.old) given.now) fault) }
+        (λ fault. MayRefuse (given_fault tables (rows_in table.old) given.now) (given_fault tables (rows_in table.old) given.now) fault) }
     ensures ok { OnOk result ((root : ℕ) → rows_in table.new root ≡ with_one (rows_in table.old) given.now root) }
 {
     let root = given.root(tables)?;

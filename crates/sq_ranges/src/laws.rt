@@ -1,12 +1,14 @@
 // What holds of the moves between two plans, and of segments and nodes.
 ghost use Rattle.std.specs.Prelude.{◌≡◌, ◌↔◌, ℕ, ◌+◌, ◌*◌, ◌<◌, Some, true, false, IsTrue, slice_get};
-ghost use Rattle.sq_plan.specs.PlanValue.{PlanValue, IsPlan, root_end};
+ghost use Rattle.sq_schema.specs.declared.root.TheConstants.{ROOT_END};
+ghost use Rattle.sq_plan.specs.PlanValue.{PlanValue, IsPlan};
+ghost use Rattle.sq_tree.specs.declared.node.TheConstants.{LEAVES};
 ghost use Rattle.sq_tree.specs.Node.{is_node, is_leaf, is_above, is_under};
 ghost use Rattle.sq_ranges.specs.declared.recon.Range.{Range};
 ghost use Rattle.sq_ranges.specs.ReconValue.{ReconValue, IsRecon, segment_of, leaf_of, extent};
 ghost use Rattle.sq_ranges.specs.Moves.{AreTheMoves, moves_of};
 ghost use Rattle.sq_ranges.specs.Between.{IsReconOf};
-ghost use Rattle.sq_ranges.specs.Laws.{IsHolder, Tells, Covers, LiesIn, AreHalves};
+ghost use Rattle.sq_ranges.specs.Laws.{IsHoldingSegment, IsSegmentOf, Covers, LiesIn, AreHalves};
 
 /// What moves between two plans is one list of ranges: the maximal runs of root keys with one pair of owners that
 /// differ.
@@ -17,15 +19,15 @@ pub fn two_plans_have_one_list_of_moves()
 /// A root key that moves is in just one segment, from its old owner to its new one; another keeps its owner.
 pub fn each_key_that_moves_has_one_segment()
     ensures { (old new : PlanValue) (width : ℕ) (recon : ReconValue) (key : ℕ) → IsReconOf old new width recon
-        → key < root_end → Tells old new recon.segments key (segment_of recon.segments key) }
+        → key < ROOT_END → IsSegmentOf old new recon.segments key (segment_of recon.segments key) }
 {}
 
-/// A node covers those keys of its segment whose leaf it is above, and a segment has 32 leaves.
+/// A node covers those keys of its segment whose leaf it is above, and its leaf is one of [`LEAVES`].
 pub fn a_node_covers_the_keys_of_its_leaves()
     ensures leaf { (recon : ReconValue) (i key : ℕ) (segment : Range) → IsRecon recon
-        → IsHolder recon.segments key i segment → leaf_of recon.width segment key < 32 }
+        → IsHoldingSegment recon.segments key i segment → leaf_of recon.width segment key < LEAVES }
     ensures covers { (recon : ReconValue) (i key n : ℕ) (segment : Range) → IsRecon recon
-        → IsHolder recon.segments key i segment
+        → IsHoldingSegment recon.segments key i segment
         → Covers (extent recon.width segment n) key ↔ (is_above n (leaf_of recon.width segment key) ≡ true) }
 {}
 

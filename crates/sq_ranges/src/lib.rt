@@ -7,11 +7,12 @@ mod given;
 pub mod laws;
 mod opening;
 mod recon;
+mod segment;
 mod sweep;
 
 pub use fault::{OpeningFault, ReconFault};
-pub use opening::{Config, GivenRow, Opening, OpeningParts, RefusedOpening};
-pub use recon::{Extent, Leaf, Link, Range, Recon, SegId};
-
-#[cfg(test)]
-mod tests;
+pub use opening::{
+    Config, GivenRow, MAX_CAPACITY, MAX_LIMIT, MIN_LIMIT, Opening, OpeningParts, RefusedOpening,
+};
+pub use recon::{Extent, Link, MAX_WIDTH, Range, Recon};
+pub use segment::{SEGMENT_LIMIT, SegId};

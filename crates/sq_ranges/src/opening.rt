@@ -2,21 +2,30 @@
 ghost use Rattle.std.specs.Prelude.{◌≡◌, None, MatchResult, IfOk, IfErr};
 
 use crate::fault::OpeningFault;
-use crate::given::parts_of;
+use crate::given::moves_and_table;
 use crate::recon::Recon;
 use sq_plan::Plan;
-use sq_schema::{MAX_NOTE, Root, Row, RowKey, Schema, Table};
+use sq_schema::{MAX_NOTE, Root, Row, RowKey, Schema, Table, TxnFault};
 use std::alloc::{AllocError, Global};
 use std::marker::Model;
+
+/// The fewest bytes of families that a chunk may be set to hold.
+pub const MIN_LIMIT: u64 = 64;
+
+/// The most bytes of families that a chunk may be set to hold.
+pub const MAX_LIMIT: u64 = 1_048_576;
+
+/// The most chunks that the queue of a link may be set to hold.
+pub const MAX_CAPACITY: u64 = 64;
 
 /// The sizes that a reconfiguration is run with.
 #[derive(Clone, Copy, Debug, PartialEq, Eq)]
 pub struct Config {
-    /// How many root keys a leaf covers, from 1 to 65,536.
+    /// How many root keys a leaf covers, from 1 to [`MAX_WIDTH`].
     pub width: u64,
-    /// How many bytes of families a chunk holds, from 64 to 1,048,576.
+    /// How many bytes of families a chunk holds, from [`MIN_LIMIT`] to [`MAX_LIMIT`].
     pub limit: u64,
-    /// How many chunks the queue of a link holds, from 1 to 64.
+    /// How many chunks the queue of a link holds, from 1 to [`MAX_CAPACITY`].
     pub capacity: u64,
 }
 
@@ -91,13 +100,13 @@ impl Model for Opening {
 impl Opening {
     ghost use Rattle.sq_ranges.specs.SetUp.{IsSetUp};
     ghost use Rattle.sq_ranges.specs.Given.{IsOpeningOf};
-    ghost use Rattle.sq_ranges.specs.Refused.{opening_fault, early_fault, TellsFault};
+    ghost use Rattle.sq_ranges.specs.Refused.{opening_fault, early_fault, MayRefuse};
 
     /// The opening of two plans with these sizes and rows. Otherwise the plans and the rows come back as they were,
     /// with the first of these faults: those of the plans and the width of a leaf, as [`Recon::fault`] has them; the
     /// bytes of a chunk; the chunks of a queue; and then row by row the root key, the table, the sub key, the note,
-    /// a row that was given before, and a row without its root row. Want of memory may come in place of any answer
-    /// about rows but a fault of the first, and of none about plans and sizes.
+    /// a row that was given before, and a row without its root row. That memory ran out may be told in place of any
+    /// answer about rows but a fault of the first, and of none about plans and sizes.
     pub fn new(
         alloc: Global,
         schema: Schema,
@@ -108,14 +117,14 @@ impl Opening {
     ) -> Result<Opening, RefusedOpening>
         ensures fault { MatchResult result
             (λ _. opening_fault schema old new config rows.items ≡ None)
-            (λ refused. TellsFault (early_fault schema old new config rows.items) (opening_fault schema old new config rows.items) refused.fault) }
+            (λ refused. MayRefuse (early_fault schema old new config rows.items) (opening_fault schema old new config rows.items) refused.fault) }
         ensures ok { IfOk result (IsOpeningOf schema old new config rows.items) }
         ensures set_up { IfOk result IsSetUp }
         ensures old_returned { IfErr result (λ refused. refused.old ≡ old) }
         ensures new_returned { IfErr result (λ refused. refused.new ≡ new) }
         ensures rows_returned { IfErr result (λ refused. refused.rows.items ≡ rows.items) }
     {
-        match parts_of(alloc, schema.tables(), &old, &new, config, &rows) {
+        match moves_and_table(alloc, schema.tables(), &old, &new, config, &rows) {
             Ok((recon, table)) => Ok(Opening {
                 schema,
                 old,
@@ -224,24 +233,24 @@ impl GivenRow {
         }
     }
 
-    /// Its root key. Refused for the first of these: the root key, the table that isn't one of so many, the sub
+    /// Its root key. Refused for the first of these: the root key, the table that isn't one of this many, the sub
     /// key, and the note.
-    pub(crate) fn root(&self, tables: u8) -> Result<Root, OpeningFault>
+    pub(crate) fn root(&self, tables: u8) -> Result<Root, TxnFault>
         ensures { MatchResult result
             (λ root. (shape_fault tables self.now ≡ None) × (root ≡ self.now.root))
             (λ fault. shape_fault tables self.now ≡ Some fault) }
     {
         let Some(root) = Root::new(self.root) else {
-            return Err(OpeningFault::BadRoot);
+            return Err(TxnFault::BadRoot);
         };
         if self.table >= tables {
-            return Err(OpeningFault::BadTable);
+            return Err(TxnFault::BadTable);
         }
         if self.table == 0 && self.sub != 0 {
-            return Err(OpeningFault::BadSub);
+            return Err(TxnFault::BadSub);
         }
         if self.note.len() > MAX_NOTE {
-            return Err(OpeningFault::BadNote);
+            return Err(TxnFault::BadNote);
         }
         Ok(root)
     }

@@ -1,25 +1,21 @@
 // The ranges of a reconfiguration, and the segments that they are cut into.
 ghost use Rattle.std.specs.Prelude.{◌≡◌, ◌<◌, ◌≤◌, true, false, nat_le, length, None, IfOk, IfSome, MatchResult, unwrap_or};
 ghost use Rattle.std.specs.List.Sorted.{IsPartitionPoint};
-ghost use Rattle.sq_plan.specs.PlanValue.{root_end, IsPlan};
-ghost use Rattle.sq_ranges.specs.ReconValue.{is_width, are_rising, leaf_start};
+ghost use Rattle.sq_schema.specs.declared.root.TheConstants.{ROOT_END};
+ghost use Rattle.sq_plan.specs.PlanValue.{IsPlan};
+ghost use Rattle.sq_ranges.specs.ReconValue.{is_width, are_in_key_order, leaf_start};
 
 use crate::cut::{fits, links, moves, segments};
 use crate::fault::ReconFault;
+use crate::segment::SegId;
 use sq_plan::{PartId, Plan};
 use sq_schema::Root;
-use sq_tree::{first_leaf, is_node, span};
-use std::alloc::Global;
+use sq_tree::{LEAVES, Leaf, NodeId};
+use std::alloc::{AllocError, Global};
 use std::marker::Model;
 
 /// How many root keys a leaf has at most.
-const MAX_WIDTH: u64 = 65_536;
-
-/// A segment, by its number from 0 in key order.
-pub type SegId = u64;
-
-/// A leaf of a segment, from 0 to 31 in key order.
-pub type Leaf = u64;
+pub const MAX_WIDTH: u64 = 65_536;
 
 /// The root keys from `lo` up to `hi`, which move from one partition to another: a reconfiguration range
 /// (Elmore et al., Squall, SIGMOD 2015), or a segment of one.
@@ -77,8 +73,8 @@ impl Recon {
     ghost use Rattle.sq_ranges.specs.Between.{recon_fault, recon_of, IsReconOf};
 
     /// Why there is no reconfiguration between two plans: the first of these. They name different numbers of
-    /// partitions; the width of a leaf isn't from 1 to 65,536 root keys; what moves comes to more than 256
-    /// segments. `None` where there is one. It takes no memory.
+    /// partitions; the width of a leaf isn't from 1 to [`MAX_WIDTH`] root keys; what moves comes to more
+    /// than [`SEGMENT_LIMIT`] segments. `None` where there is one. It takes no memory.
     pub fn fault(old: &Plan, new: &Plan, width: u64) -> Option<ReconFault>
         ensures fault { result ≡ recon_fault old.now new.now width }
         ensures plans { IsPlan old.now × IsPlan new.now }
@@ -96,7 +92,7 @@ impl Recon {
         None
     }
 
-    /// What moves between two plans, cut into segments of 32 leaves of `width` root keys each. It is refused where
+    /// What moves between two plans, cut into segments of [`LEAVES`] leaves of `width` root keys each. It is refused where
     /// [`Recon::fault`] finds a cause; memory is taken, and may be wanted, only where it finds none.
     pub fn between(alloc: Global, old: &Plan, new: &Plan, width: u64) -> Result<Recon, ReconFault>
         ensures answer { MatchResult result
@@ -118,7 +114,7 @@ impl Recon {
         })
     }
 
-    /// How many root keys a leaf has at most, from 1 to 65,536.
+    /// How many root keys a leaf has at most, from 1 to [`MAX_WIDTH`].
     pub fn width(&self) -> u64
         ensures width { result ≡ self.now.width }
         ensures recon { IsRecon self.now }
@@ -134,7 +130,7 @@ impl Recon {
         self.ranges.as_slice()
     }
 
-    /// The segments, in key order over all ranges; at most 256.
+    /// The segments, in key order over all ranges; at most [`SEGMENT_LIMIT`].
     pub fn segments(&self) -> &[Range]
         ensures segments { result.now ≡ self.now.segments }
         ensures recon { IsRecon self.now }
@@ -151,8 +147,7 @@ impl Recon {
 
     /// The segment that holds a root key, and the leaf of it; `None` where no segment does.
     pub fn find(&self, root: Root) -> Option<(SegId, Leaf)>
-        ensures found { result ≡ leaf_at self.now root }
-        ensures leaf { IfSome result (λ found. found.1 < 32) }
+        ensures { result ≡ leaf_at self.now root }
     {
         let key = root.number();
         let at = count_up_to(self.segments.as_slice(), key);
@@ -160,22 +155,37 @@ impl Recon {
         if key < segment.lo {
             return None;
         }
-        Some((at as SegId, (key - segment.lo) / self.width))
+        let Some(seg) = SegId::new(at as u64) else {
+            unreachable!()
+        };
+        let Some(leaf) = Leaf::new((key - segment.lo) / self.width) else {
+            unreachable!()
+        };
+        Some((seg, leaf))
     }
 
-    /// The root keys of a node of a segment; `None` where there is no such segment, or where the node isn't one
-    /// of 1 to 63.
-    pub fn extent(&self, seg: SegId, node: u64) -> Option<Extent>
+    /// The root keys of a node of a segment; `None` where there is no such segment.
+    pub fn extent(&self, seg: SegId, node: NodeId) -> Option<Extent>
         ensures { result ≡ extent_at self.now seg node }
     {
-        if !is_node(node) {
-            return None;
-        }
-        let segment = self.segments.as_slice().get(seg as usize)?;
-        let first = first_leaf(node);
+        let segment = self.segments.as_slice().get(seg.index())?;
+        let first = node.first_leaf().number();
         Some(Extent {
             lo: leaf_start(segment, self.width, first),
-            hi: leaf_start(segment, self.width, first + span(node)),
+            hi: leaf_start(segment, self.width, first + node.span()),
+        })
+    }
+}
+
+impl Clone for Recon {
+    ghost is_clone = { λ recon copy. copy ≡ recon };
+
+    fn clone(&self) -> Result<Recon, AllocError> {
+        Ok(Recon {
+            width: self.width,
+            ranges: self.ranges.clone()?,
+            segments: self.segments.clone()?,
+            links: self.links.clone()?,
         })
     }
 }
@@ -189,7 +199,7 @@ fn is_width(width: u64) -> bool
 
 // How many of the segments end at a key or before it.
 fn count_up_to(segments: &[Range], key: u64) -> usize
-    requires { are_rising 0 segments.now ≡ true }
+    requires { are_in_key_order 0 segments.now ≡ true }
     ensures bound { result ≤ length segments.now }
     ensures point { IsPartitionPoint (λ segment. nat_le segment.hi key ≡ true) (λ segment. nat_le segment.hi key ≡ false) segments.now result }
 {
@@ -202,9 +212,9 @@ fn count_up_to(segments: &[Range], key: u64) -> usize
 
 // Where a leaf of a segment begins; past the segment's end, that end.
 fn leaf_start(segment: &Range, width: u64, leaf: u64) -> u64
-    requires leaf { leaf ≤ 32 }
-    requires width { width ≤ 65536 }
-    requires within { segment.now.hi ≤ root_end }
+    requires leaf { leaf ≤ LEAVES }
+    requires width { width ≤ MAX_WIDTH }
+    requires within { segment.now.hi ≤ ROOT_END }
     requires some { segment.now.lo ≤ segment.now.hi }
     ensures { result ≡ leaf_start width segment.now leaf }
 {

@@ -3,7 +3,7 @@ ghost use Rattle.std.specs.Prelude.{◌≡◌, ℕ, ◌<◌, ◌≤◌, List, Ma
 ghost use Rattle.sq_ranges.specs.declared.recon.Range.{Range};
 ghost use Rattle.sq_ranges.specs.Moves.{moves_of};
 ghost use Rattle.sq_plan.specs.PlanValue.{PlanValue, IsPlan};
-ghost use Rattle.sq_ranges.specs.Sweep.{past, piece_of, left, ComesTo, Reaches, EndsAt};
+ghost use Rattle.sq_ranges.specs.Sweep.{past, piece_of, left, HasAhead, Reaches, EndsAt};
 
 use crate::recon::Range;
 use sq_plan::{Plan, PlanRange};
@@ -19,7 +19,7 @@ pub(crate) struct Sweep<'a> {
 impl<'a> Sweep<'a> {
     /// The whole of two plans.
     pub(crate) fn new(old: &'a Plan, new: &'a Plan) -> Sweep<'a>
-        ensures moves { ComesTo result (moves_of old.now new.now) }
+        ensures moves { HasAhead result (moves_of old.now new.now) }
         ensures plans { IsPlan old.now × IsPlan new.now }
     {
         Sweep {
@@ -31,8 +31,8 @@ impl<'a> Sweep<'a> {
 
     /// The next run of keys that move, as far as it goes. The sweep goes on behind it.
     pub(crate) fn next_run(&mut self) -> Option<Range>
-        ensures next { (runs : List Range) → ComesTo self.old runs
-            → MatchOption result (runs ≡ []) (λ run. (rest : List Range) × (runs ≡ run ∷ rest) × ComesTo self.new rest) }
+        ensures next { (runs : List Range) → HasAhead self.old runs
+            → MatchOption result (runs ≡ []) (λ run. (rest : List Range) × (runs ≡ run ∷ rest) × HasAhead self.new rest) }
         ensures fewer { OnSome result (left self.new < left self.old) }
     {
         while let Some(piece) = self.piece() {
@@ -44,7 +44,8 @@ impl<'a> Sweep<'a> {
         None
     }
 
-    // The run of keys that the sweep has come to the end of, as far as it goes. The sweep goes on behind it.
+    // A run of keys that ends where the sweep stands, with the pieces behind it that have its owners. The sweep
+    // then stands at its end.
     fn extended(&mut self, mut run: Range) -> Range
         ensures whole { (old new : PlanValue) (from : ℕ) → Reaches old new from self.old run → EndsAt old new from self.new result }
         ensures fewer { left self.new ≤ left self.old }

@@ -3,8 +3,6 @@ use Rattle.std.proofs.Common.{◌≡◌, ℕ, ◌+◌, true, false, not, ◌&&�
 use Rattle.std.specs.Ordering.{eq_by_cmp, is_lt, int_cmp}
 use Rattle.std.specs.Prelude.{ℤ, ◌+ℤ◌}
 use Rattle.std.specs.Result.{result_unwrap_or}
-use Rattle.std.specs.FinMap.Entries.{is_sorted}
-use Rattle.sq_schema.proofs.Kept.{is_sorted-with_row, is_sorted-without_row}
 use Rattle.sq_schema.proofs.Rooted.{is_rooted-with_row, is_rooted-with_known, is_rooted-without_row}
 use Rattle.sq_schema.specs.declared.row.RowKey.{RowKey}
 use Rattle.sq_schema.specs.declared.txn.Op.{Op}
@@ -93,19 +91,6 @@ module _ (P : RowList → Type 0) (kept : (rows : RowList) (op : Op) (after : Ro
   pub keeps_replay_rows : (txns : List TxnValue) (rows : RowList) → P rows → P (replay_rows rows txns)
   keeps_replay_rows [] rows before = before
   keeps_replay_rows (txn ∷ txns) rows before = keeps_replay_rows txns (effect rows txn) (keeps_effect rows txn before)
-
--- the keys strictly rise
-rising_kept : (rows : RowList) (op : Op) (after : RowList) → Edits rows op after → is_sorted key_cmp rows ≡ true → is_sorted key_cmp after ≡ true
-rising_kept rows op _ none rising = rising
-rising_kept rows op _ (put {key} {row} may) rising = is_sorted-with_row rows key row rising
-rising_kept rows op _ (add {key} {by} {row} found) rising = is_sorted-with_row rows key (record { number = row.number +ℤ by; note = row.note }) rising
-rising_kept rows op _ (del {key} {row} found may) rising = is_sorted-without_row rows key rising
-
-pub is_sorted-effect : (rows : RowList) (txn : TxnValue) → is_sorted key_cmp rows ≡ true → is_sorted key_cmp (effect rows txn) ≡ true
-is_sorted-effect = keeps_effect (λ rows. is_sorted key_cmp rows ≡ true) rising_kept
-
-pub is_sorted-replay_rows : (txns : List TxnValue) (rows : RowList) → is_sorted key_cmp rows ≡ true → is_sorted key_cmp (replay_rows rows txns) ≡ true
-is_sorted-replay_rows = keeps_replay_rows (λ rows. is_sorted key_cmp rows ≡ true) rising_kept
 
 -- rows of other tables stand only under the root row
 rooted_kept : (rows : RowList) (op : Op) (after : RowList) → Edits rows op after → is_rooted rows ≡ true → is_rooted after ≡ true

@@ -60,13 +60,13 @@ rank_rises a b small before =
           omega arith
     ]
 
-rank_bound : (key : RowKey) → key.table < 256 → key.sub < 2 ^ 32 → rank key < 2 ^ 40
+rank_bound : (key : RowKey) → key.table < 2 ^ 8 → key.sub < 2 ^ 32 → rank key < 2 ^ 40
 unfolding rank
 rank_bound key table sub = omega arith
 
 -- the parts of what `is_entry` tests
 record InRange (key : RowKey) : Type 0 where
-  table : key.table < 256
+  table : key.table < 2 ^ 8
   sub : key.sub < 2 ^ 32
 
 in_range : (entry : RowKey × RowValue) → is_entry entry ≡ true → InRange entry.0

@@ -15,7 +15,7 @@ use Rattle.sq_schema.specs.declared.row.RowKey.{RowKey}
 use Rattle.sq_schema.specs.Values.{RowValue}
 use Rattle.sq_schema.specs.Keys.{key_cmp}
 use Rattle.sq_schema.specs.Effect.{RowList, row_at, with_row, without_row}
-use Rattle.sq_schema.specs.Refusals.{note_limit}
+use Rattle.sq_schema.specs.declared.schema.TheConstants.{MAX_NOTE}
 use Rattle.sq_schema.specs.Rows.{is_entry}
 use Rattle.sq_schema.specs.Writes.{Write, with_write, with_writes}
 use Rattle.sq_schema.proofs.KeyOrder.{key_cmp_total}
@@ -65,15 +65,15 @@ pub latest : (rows : RowList) (key : RowKey) (writes : List Write) → row_at (w
 latest rows key writes = ap (λ ws. row_at (with_writes rows ws) key) (sym (reverse-reverse writes)) ∙ latest_of rows key (reverse writes)
 
 -- a row that stands has a note that isn't too long
-pub row_at-short : (rows : RowList) (key : RowKey) → AllPass is_entry rows → IfSome (row_at rows key) (λ row. length row.note ≤ note_limit)
+pub row_at-short : (rows : RowList) (key : RowKey) → AllPass is_entry rows → IfSome (row_at rows key) (λ row. length row.note ≤ MAX_NOTE)
 row_at-short [] key sound = tt
 row_at-short (entry ∷ rows) key sound =
-    elim (eq_by_cmp key_cmp key entry.0) as (λ b. IfSome (cond b (Some entry.1) (row_at rows key)) (λ row. length row.note ≤ note_limit)) [
+    elim (eq_by_cmp key_cmp key entry.0) as (λ b. IfSome (cond b (Some entry.1) (row_at rows key)) (λ row. length row.note ≤ MAX_NOTE)) [
       | true ↦ short_entry entry (All-head (λ e. is_entry e ≡ true) entry rows sound)
       | false ↦ row_at-short rows key (All-tail (λ e. is_entry e ≡ true) entry rows sound)
     ]
   where
-    short_entry : (entry : RowKey × RowValue) → is_entry entry ≡ true → length entry.1.note ≤ note_limit
+    short_entry : (entry : RowKey × RowValue) → is_entry entry ≡ true → length entry.1.note ≤ MAX_NOTE
     short_entry entry sound = grind (arith, nat_tests)
 
 pub IfSome-copied : {X : Type 0} (P : X → Type 0) (r : Option (Bor X)) (row : Option X) → option_copied r ≡ row → IfSome row P → IfSome r (λ x. P x.now)

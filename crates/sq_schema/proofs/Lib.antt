@@ -6,7 +6,7 @@ pub mod Sizes
 pub mod Sound
 pub mod Weights
 pub mod Latest
-pub mod Drafts
+pub mod PendingWrites
 pub mod Runs
 pub mod Tables
 pub mod Applied

@@ -6,7 +6,7 @@ use Rattle.sq_schema.specs.declared.row.RowKey.{RowKey}
 use Rattle.sq_schema.specs.Values.{RowValue}
 use Rattle.sq_schema.specs.Keys.{key_cmp}
 use Rattle.sq_schema.specs.Effect.{RowList}
-use Rattle.sq_schema.specs.Rows.{IsPlace}
+use Rattle.sq_schema.specs.Rows.{IsRowPlace}
 use Rattle.sq_schema.proofs.Entries.{comparisons_rise, find_at, put_at, where_key_at, find_gap, put_gap, where_key_gap}
 use Rattle.sq_schema.proofs.KeyOrder.{key_cmp_total}
 
@@ -14,7 +14,7 @@ empty_row : RowValue
 empty_row = record { number = pos 0; note = [] }
 
 -- a binary search by key ends at the key's row, or at the gap for it
-pub searched : (rows : RowList) (key : RowKey) (r : Result ℕ ℕ) → is_sorted key_cmp rows ≡ true → IsSearchInRange r (length rows) → IsBinarySearchResult (λ entry. key_cmp entry.0 key) rows r → IsPlace rows key r
+pub searched : (rows : RowList) (key : RowKey) (r : Result ℕ ℕ) → is_sorted key_cmp rows ≡ true → IsSearchInRange r (length rows) → IsBinarySearchResult (λ entry. key_cmp entry.0 key) rows r → IsRowPlace rows key r
 searched rows key (Ok at) rising within here =
     record {
       within = within;

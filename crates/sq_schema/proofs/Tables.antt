@@ -102,7 +102,7 @@ rows_in-given table now root rows key row had updates k =
       | inr other ↦ rw (ne_eqb root k other) refl
     ]
 
--- what a row that was put, or wasn't for want of memory, leaves
+-- the rows after a row was put, or wasn't because memory ran out
 pub is_opening-inserted : {A E : Type 0} (r : Result A E) (old now : RowList) (key : RowKey) (row : RowValue) → OnOk r (now ≡ with_row old key row) → OnErr r (now ≡ old) → row_given_fault old key ≡ None → is_opening old ≡ true → is_opening now ≡ true
 is_opening-inserted (Ok x) old now key row ok err given opening = rw ok (is_opening-with_row old key row given (is_rooted-opening old opening))
 is_opening-inserted (Err e) old now key row ok err given opening = rw err opening

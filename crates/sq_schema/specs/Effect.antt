@@ -37,31 +37,31 @@ is_i64 (pos n) = nat_lt n (2 ^ 63)
 is_i64 (negsuc n) = nat_lt n (2 ^ 63)
 
 -- what an operation comes to: the rows after it and its answer, or why it aborts
-abbrev pub Outcome : Type 0
-Outcome = Result (RowList × OpAnswer) Cause
+abbrev pub OpOutcome : Type 0
+OpOutcome = Result (RowList × OpAnswer) Cause
 
 -- a row of another table than the root table stands only under its root row
-abbrev pub put_outcome : RowList → RowKey → RowValue → Outcome
+abbrev pub put_outcome : RowList → RowKey → RowValue → OpOutcome
 put_outcome rows key row =
     if not (key.table == 0) && not (is_some (row_at rows root_key)) then Err NoRoot else Ok (with_row rows key row, Done)
 
-abbrev pub add_outcome : RowList → RowKey → ℤ → Option RowValue → Outcome
+abbrev pub add_outcome : RowList → RowKey → ℤ → Option RowValue → OpOutcome
 add_outcome rows key by None = Err Absent
 add_outcome rows key by (Some row) =
     if is_i64 (row.number +ℤ by)
     then Ok (with_row rows key (record { number = row.number +ℤ by; note = row.note }), Number (row.number +ℤ by))
     else Err Range
 
-abbrev pub del_outcome : RowList → RowKey → Option RowValue → Outcome
+abbrev pub del_outcome : RowList → RowKey → Option RowValue → OpOutcome
 del_outcome rows key None = Err Absent
 del_outcome rows key (Some row) =
     if eq_by_cmp key_cmp key root_key && not (length rows == 1) then Err Children else Ok (without_row rows key, Done)
 
-abbrev pub check_outcome : RowList → ℤ → Option RowValue → Outcome
+abbrev pub check_outcome : RowList → ℤ → Option RowValue → OpOutcome
 check_outcome rows least None = Err Absent
 check_outcome rows least (Some row) = if is_lt (int_cmp row.number least) then Err Small else Ok (rows, Done)
 
-abbrev pub op_outcome : RowList → Op → Outcome
+abbrev pub op_outcome : RowList → Op → OpOutcome
 op_outcome rows (Get key) = Ok (rows, Found (row_at rows key))
 op_outcome rows (Put key row) = put_outcome rows key row
 op_outcome rows (Add key by) = add_outcome rows key by (row_at rows key)
@@ -77,7 +77,7 @@ with_answer answer (Ok told) = Ok (told.0, answer ∷ told.1)
 with_answer answer (Err abort) = Err abort
 
 -- the operation at this position, and then the rest
-abbrev pub then_rest : ℕ → (RowList → OpsOutcome) → Outcome → OpsOutcome
+abbrev pub then_rest : ℕ → (RowList → OpsOutcome) → OpOutcome → OpsOutcome
 then_rest at rest (Ok done) = with_answer done.1 (rest done.0)
 then_rest at rest (Err cause) = Err (at, cause)
 

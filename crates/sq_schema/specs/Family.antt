@@ -15,10 +15,6 @@ pub record FamilyValue : Type 0 where
 abbrev pub rows_of : FamilyValue → RowList
 rows_of family = replay_rows family.base family.log
 
--- a log holds this many transactions at most
-abbrev pub log_limit : ℕ
-log_limit = 4096
-
 -- the size in bytes of a row in its family
 abbrev pub row_size : RowValue → ℕ
 row_size row = 24 + length row.note

@@ -4,6 +4,7 @@ pub mod TxnValue
 pub mod Effect
 pub mod Family
 pub mod Refusals
+pub mod Fault
 pub mod Rows
 pub mod Writes
 pub mod Runs

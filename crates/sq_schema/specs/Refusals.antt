@@ -4,20 +4,14 @@ use Rattle.std.specs.Option.{option_or}
 use Rattle.sq_schema.specs.Values.{RowValue}
 use Rattle.sq_schema.specs.declared.root.TheConstants.{ROOT_END}
 use Rattle.sq_schema.specs.declared.row.RowKey.{RowKey}
+use Rattle.sq_schema.specs.declared.schema.TheConstants.{MAX_NOTE}
+use Rattle.sq_schema.specs.declared.txn.TheConstants.{MAX_OPS}
 use Rattle.sq_schema.specs.declared.txn.Op.{Op}
 use Rattle.sq_schema.specs.declared.txn.Op.TheVariants.{Get, Put, Add, Del, Check}
 use Rattle.sq_schema.specs.declared.fault.TxnFault.{TxnFault}
 use Rattle.sq_schema.specs.declared.fault.TxnFault.TheVariants.{BadOps, BadRoot, BadTable, BadSub, BadNote}
 
--- a transaction has this many operations at most
-abbrev pub ops_limit : ℕ
-ops_limit = 64
-
--- a note has this many bytes at most
-abbrev pub note_limit : ℕ
-note_limit = 255
-
--- a key of a schema with so many tables: the table is one of them, and the root table has the sub key 0 only
+-- a key of a schema with this many tables: the table is one of them, and the root table has the sub key 0 only
 abbrev pub key_fault : ℕ → RowKey → Option TxnFault
 key_fault tables key =
     if not (nat_lt key.table tables)
@@ -25,7 +19,7 @@ key_fault tables key =
     else (if key.table == 0 && not (key.sub == 0) then Some BadSub else None)
 
 abbrev pub note_fault : List ℕ → Option TxnFault
-note_fault note = if nat_lt note_limit (length note) then Some BadNote else None
+note_fault note = if nat_lt MAX_NOTE (length note) then Some BadNote else None
 
 -- a row of such a schema: its key, and then its note
 abbrev pub row_fault : ℕ → RowKey → RowValue → Option TxnFault
@@ -46,6 +40,6 @@ ops_fault tables (op ∷ ops) = option_or (op_fault tables op) (ops_fault tables
 -- the first fault of a transaction: of its count of operations, its root key, and then operation by operation
 abbrev pub txn_fault : ℕ → ℕ → List Op → Option TxnFault
 txn_fault tables root ops =
-    if length ops == 0 || nat_lt ops_limit (length ops)
+    if length ops == 0 || nat_lt MAX_OPS (length ops)
     then Some BadOps
     else (if not (nat_lt root ROOT_END) then Some BadRoot else ops_fault tables ops)

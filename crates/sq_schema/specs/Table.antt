@@ -28,7 +28,7 @@ row_given_fault rows key =
     then Some RowRepeated
     else (if not (key.table == 0) && not (is_some (row_at rows root_key)) then Some NoRootRow else None)
 
--- a refusal is that one, or else for want of memory
+-- a refusal is that one; where there is none, memory ran out
 abbrev pub RefusesBy : Option RowFault → RowFault → Type 0
 RefusesBy fault RowRepeated = fault ≡ Some RowRepeated
 RefusesBy fault NoRootRow = fault ≡ Some NoRootRow

@@ -27,18 +27,18 @@ is_sound key (Some row) = is_entry (key, row)
 abbrev pub is_write : Write → Bool
 is_write write = is_sound write.0 write.1
 
--- rows, with writes that wait
-pub record DraftValue : Type 0 where
+-- rows with pending writes
+pub record PendingValue : Type 0 where
   pub base : RowList
   pub writes : List Write
 
--- the rows after the writes
-abbrev pub drafted : DraftValue → RowList
-drafted draft = with_writes draft.base draft.writes
+-- the rows as they are after the pending writes
+abbrev pub pending_rows : PendingValue → RowList
+pending_rows pending = with_writes pending.base pending.writes
 
--- a draft's rows and writes are sound, and so many rows of this size stand after the writes
-pub record IsDraft (draft : DraftValue) (many large : ℕ) : Type 0 where
-  pub rows : IsRowList (drafted draft)
-  pub writes : AllPass is_write draft.writes
-  pub count : many ≡ length (drafted draft)
-  pub size : large ≡ rows_size (drafted draft)
+-- the writes are sound, and so are the rows after them, which have this count and size
+pub record IsPending (pending : PendingValue) (many large : ℕ) : Type 0 where
+  pub rows : IsRowList (pending_rows pending)
+  pub writes : AllPass is_write pending.writes
+  pub count : many ≡ length (pending_rows pending)
+  pub size : large ≡ rows_size (pending_rows pending)

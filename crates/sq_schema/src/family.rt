@@ -2,11 +2,11 @@
 ghost use Rattle.std.specs.Prelude.{◌≡◌, ◌≤◌, ◌↔◌, true, [], length, IfOk, IfErr, OnErr, IsErrOf, IsTrue};
 ghost use Rattle.std.specs.List.{All};
 ghost use Rattle.sq_schema.specs.Effect.{reply};
-ghost use Rattle.sq_schema.specs.Family.{rows_of, rows_size, log_limit, family_stands, answered};
+ghost use Rattle.sq_schema.specs.Family.{rows_of, rows_size, family_stands, answered};
 ghost use Rattle.sq_schema.specs.Rows.{is_rooted};
 
-use crate::draft::{Outcome, run};
 use crate::fault::ApplyFault;
+use crate::pending::{RunOutcome, run};
 use crate::root::Root;
 use crate::rows::Rows;
 use crate::txn::{Reply, Txn};
@@ -72,7 +72,7 @@ impl Family {
     /// aborts, and on an error, the family stays as it was. A full log refuses before any operation is looked at.
     pub fn apply(&mut self, txn: &Txn) -> Result<Reply, ApplyFault>
         requires { txn.now.root ≡ self.old.root }
-        ensures full { IsErrOf result ApplyFault.LogFull ↔ (log_limit ≤ length self.old.log) }
+        ensures full { IsErrOf result ApplyFault.LogFull ↔ (MAX_LOG ≤ length self.old.log) }
         ensures reply { IfOk result (λ r. r ≡ reply (rows_of self.old) txn.now) }
         ensures family { IfOk result (λ r. self.new ≡ answered self.old txn.now r) }
         ensures err { OnErr result (self.new ≡ self.old) }
@@ -82,8 +82,8 @@ impl Family {
         }
         let alloc = *self.log.allocator();
         match run(alloc, &self.rows, txn.ops())? {
-            Outcome::Aborted { at, cause } => Ok(Reply::Aborted { at, cause }),
-            Outcome::Committed {
+            RunOutcome::Aborted { at, cause } => Ok(Reply::Aborted { at, cause }),
+            RunOutcome::Committed {
                 answers,
                 writes,
                 size,
@@ -97,7 +97,6 @@ impl Family {
         }
     }
 
-    /// The root key.
     pub fn root(&self) -> Root
         ensures { result ≡ self.now.root }
     {
@@ -123,7 +122,7 @@ impl Family {
     /// The transactions that committed, in their order: at most [`MAX_LOG`].
     pub fn log(&self) -> &[Txn]
         ensures log { result.now ≡ self.now.log }
-        ensures short { length result.now ≤ log_limit }
+        ensures short { length result.now ≤ MAX_LOG }
         ensures own { All (λ txn. txn.root ≡ self.now.root) result.now }
     {
         &self.log

@@ -1,10 +1,10 @@
 //! Rows, families and transactions of one root key, and what a transaction does to them.
 #![tactic(auto)]
 
-mod draft;
 mod family;
 mod fault;
-mod laws;
+pub mod laws;
+mod pending;
 mod root;
 mod row;
 mod rows;
@@ -13,14 +13,10 @@ mod table;
 mod txn;
 
 pub use family::{Family, MAX_LOG};
-pub use fault::{ApplyFault, RowFault, TxnFault};
-pub use laws::{replays_by_root, worked_replies};
+pub use fault::{ApplyFault, OUT_OF_MEMORY, RowFault, TxnFault};
 pub use root::{ROOT_END, Root};
 pub use row::{Row, RowKey};
 pub use rows::Rows;
 pub use schema::{MAX_NOTE, MAX_TABLES, Schema};
 pub use table::Table;
 pub use txn::{Cause, MAX_OPS, Op, OpAnswer, OpAnswers, Reply, Txn};
-
-#[cfg(test)]
-mod tests;

@@ -18,7 +18,7 @@ impl RowKey {
     pub const ROOT: RowKey = RowKey { table: 0, sub: 0 };
 }
 
-/// A row: a number and a note. To a contract it is a `RowValue`.
+/// A row: a number and a note of any length (a schema refuses long ones). To a contract it is a `RowValue`.
 #[derive(Debug, Drop)]
 pub struct Row {
     number: i64,
@@ -34,7 +34,6 @@ impl Model for Row {
 }
 
 impl Row {
-    /// The row of this number and note.
     pub fn new(number: i64, note: Vec<u8>) -> Row
         ensures number { result.number ≡ number }
         ensures note { result.note ≡ note.items }
@@ -42,14 +41,12 @@ impl Row {
         Row { number, note }
     }
 
-    /// Its number.
     pub fn number(&self) -> i64
         ensures { result ≡ self.now.number }
     {
         self.number
     }
 
-    /// Its note.
     pub fn note(&self) -> &[u8]
         ensures { result.now ≡ self.now.note }
     {

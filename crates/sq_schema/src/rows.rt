@@ -4,14 +4,14 @@ ghost use Rattle.std.specs.Option.{option_copied, option_map_or};
 ghost use Rattle.std.specs.List.{AllPass};
 ghost use Rattle.std.specs.FinMap.Entries.{is_sorted};
 ghost use Rattle.sq_schema.specs.declared.row.RowKey.{RowKey};
+ghost use Rattle.sq_schema.specs.declared.schema.TheConstants.{MAX_NOTE};
 ghost use Rattle.sq_schema.specs.Keys.{key_cmp};
 ghost use Rattle.sq_schema.specs.Effect.{RowList, row_at, with_row, effect};
 ghost use Rattle.sq_schema.specs.Family.{row_size, rows_size};
-ghost use Rattle.sq_schema.specs.Refusals.{note_limit};
-ghost use Rattle.sq_schema.specs.Rows.{IsRowList, IsPlace};
+ghost use Rattle.sq_schema.specs.Rows.{IsRowList, IsRowPlace};
 ghost use Rattle.sq_schema.specs.Writes.{is_write, with_write, with_writes};
 
-use crate::draft::{Outcome, run};
+use crate::pending::{RunOutcome, run};
 use crate::row::{Row, RowKey};
 use crate::txn::Txn;
 use std::alloc::{AllocError, AllocFailed, Global};
@@ -91,7 +91,7 @@ impl Rows {
 
     /// Puts a row, new or in place of the one that stands. Where there is no memory the row comes back.
     pub fn insert(&mut self, key: RowKey, row: Row) -> Result<(), AllocFailed<Row>>
-        requires { length row.note ≤ note_limit }
+        requires { length row.note ≤ MAX_NOTE }
         ensures ok { OnOk result (self.new ≡ with_row self.old key row) }
         ensures err { OnErr result (self.new ≡ self.old) }
         ensures row_returned { IfErr result (λ failed. failed.value ≡ row) }
@@ -120,8 +120,8 @@ impl Rows {
         ensures err { OnErr result (self.new ≡ self.old) }
     {
         match run(alloc, self, txn.ops())? {
-            Outcome::Aborted { .. } => Ok(()),
-            Outcome::Committed { writes, size, .. } => self.write_all(writes, size),
+            RunOutcome::Aborted { .. } => Ok(()),
+            RunOutcome::Committed { writes, size, .. } => self.write_all(writes, size),
         }
     }
 
@@ -159,7 +159,7 @@ impl Clone for Rows {
 // Where the row of a key is, or where it would go.
 fn place(rows: &[(RowKey, Row)], key: RowKey) -> Result<usize, usize>
     requires { is_sorted key_cmp rows.now ≡ true }
-    ensures { IsPlace rows.now key result }
+    ensures { IsRowPlace rows.now key result }
 {
     rows.binary_search_by_key(&key, |(key, _)| *key)
 }

@@ -14,7 +14,7 @@ pub const MAX_TABLES: u8 = 8;
 /// The most bytes that a note has.
 pub const MAX_NOTE: usize = 255;
 
-/// The tables of a database: 1 to 8 of them, numbered from 0. To a contract it is their count.
+/// The tables of a database: 1 to [`MAX_TABLES`] of them, numbered from 0. To a contract it is their count.
 #[derive(Clone, Copy, Debug, PartialEq, Eq)]
 pub struct Schema {
     tables: u8,
@@ -22,20 +22,21 @@ pub struct Schema {
 
 impl Model for Schema {
     ghost use Rattle.std.specs.Prelude.{ℕ, ◌≤◌};
+    ghost use Rattle.sq_schema.specs.declared.schema.TheConstants.{MAX_TABLES};
 
     ghost Value = { ℕ };
 
     ghost view = { λ s. s.tables };
 
-    ghost invariant = { λ s. (1 ≤ s.tables) × (s.tables ≤ 8) };
+    ghost invariant = { λ s. (1 ≤ s.tables) × (s.tables ≤ MAX_TABLES) };
 
     ghost inverse = { λ n. record { tables = n } };
 }
 
 impl Schema {
-    /// The schema of so many tables; `None` unless there are 1 to 8.
+    /// The schema of this many tables; `None` unless they are 1 to [`MAX_TABLES`].
     pub fn new(tables: u8) -> Option<Schema>
-        ensures { SomeIff result ((1 ≤ tables) × (tables ≤ 8)) tables }
+        ensures { SomeIff result ((1 ≤ tables) × (tables ≤ MAX_TABLES)) tables }
     {
         if (1..=MAX_TABLES).contains(&tables) {
             Some(Schema { tables })
@@ -44,11 +45,11 @@ impl Schema {
         }
     }
 
-    /// How many tables there are, 1 to 8.
+    /// How many tables there are, 1 to [`MAX_TABLES`].
     pub fn tables(self) -> u8
         ensures count { result ≡ self }
         ensures some { 1 ≤ result }
-        ensures most { result ≤ 8 }
+        ensures most { result ≤ MAX_TABLES }
     {
         self.tables
     }
@@ -65,7 +66,7 @@ impl Schema {
     }
 }
 
-// Refuses a key that no schema of so many tables has.
+// Refuses a key that no schema of this many tables has.
 pub(crate) fn check_key(tables: u8, key: RowKey) -> Result<(), TxnFault>
     ensures { result_err result ≡ key_fault tables key }
 {

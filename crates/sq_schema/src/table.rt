@@ -4,13 +4,14 @@ ghost use Rattle.std.specs.List.{AllPass};
 ghost use Rattle.std.specs.Option.{option_copied};
 ghost use Rattle.std.specs.Ordering.{nat_cmp};
 ghost use Rattle.std.specs.FinMap.Entries.{find, is_sorted};
+ghost use Rattle.sq_schema.specs.declared.schema.TheConstants.{MAX_TABLES};
 ghost use Rattle.sq_schema.specs.Effect.{replay, table_after};
 ghost use Rattle.sq_schema.specs.Refusals.{row_fault};
 ghost use Rattle.sq_schema.specs.Rows.{is_rooted};
 ghost use Rattle.sq_schema.specs.Table.{rows_in, is_opening, row_given_fault, RefusesBy, with_given};
 
-use crate::draft::{Outcome, run};
 use crate::fault::RowFault;
+use crate::pending::{RunOutcome, run};
 use crate::root::Root;
 use crate::row::{Row, RowKey};
 use crate::rows::Rows;
@@ -71,7 +72,7 @@ impl Table {
 
     /// Takes one opening row, which a schema was asked for. On an error nothing changes, and the row comes back.
     pub fn insert(&mut self, root: Root, key: RowKey, row: Row) -> Result<(), (RowFault, Row)>
-        requires { row_fault 8 key row ≡ None }
+        requires { row_fault MAX_TABLES key row ≡ None }
         ensures fault { MatchResult result
             (λ _. row_given_fault (rows_in self.old root) key ≡ None)
             (λ refused. RefusesBy (row_given_fault (rows_in self.old root) key) refused.0) }
@@ -107,7 +108,7 @@ impl Table {
 
     // Takes a row of a root key that has none.
     fn open(&mut self, root: Root, key: RowKey, row: Row) -> Result<(), AllocFailed<Row>>
-        requires row { row_fault 8 key row ≡ None }
+        requires row { row_fault MAX_TABLES key row ≡ None }
         requires given { row_given_fault [] key ≡ None }
         requires absent { find nat_cmp root self.old ≡ None }
         ensures ok { OnOk result ((k : ℕ) → rows_in self.new k ≡ with_given (rows_in self.old) root key row k) }
@@ -127,7 +128,7 @@ impl Table {
 
     // Takes a row of a root key that has some.
     fn extend(&mut self, root: Root, key: RowKey, row: Row) -> Result<(), AllocFailed<Row>>
-        requires row { row_fault 8 key row ≡ None }
+        requires row { row_fault MAX_TABLES key row ≡ None }
         requires given { row_given_fault (rows_in self.old root) key ≡ None }
         requires present { IsSome (find nat_cmp root self.old) }
         ensures ok { OnOk result ((k : ℕ) → rows_in self.new k ≡ with_given (rows_in self.old) root key row k) }

@@ -32,7 +32,7 @@ pub enum Op {
 impl Op {
     ghost use Rattle.sq_schema.specs.Refusals.{op_fault};
 
-    // Refuses a key or a row that no schema of so many tables has.
+    // Refuses a key or a row that no schema of this many tables has.
     fn check(&self, tables: u8) -> Result<(), TxnFault>
         ensures { result_err result ≡ op_fault tables self.now }
     {
@@ -52,7 +52,7 @@ pub enum OpAnswer {
     Found(Option<Row>),
     /// The new number.
     Number(i64),
-    /// Done.
+    /// Nothing: a put, a deletion or a check.
     Done,
 }
 
@@ -87,21 +87,18 @@ impl Model for OpAnswers {
 }
 
 impl OpAnswers {
-    /// These answers.
     pub fn new(answers: Vec<OpAnswer>) -> OpAnswers
         ensures { result ≡ answers.items }
     {
         OpAnswers { answers }
     }
 
-    /// The answers in their order.
     pub fn as_slice(&self) -> &[OpAnswer]
         ensures { result.now ≡ self.now }
     {
         &self.answers
     }
 
-    /// The answers in their order.
     pub fn into_vec(self) -> Vec<OpAnswer>
         ensures { result.items ≡ self }
     {
@@ -128,12 +125,11 @@ pub enum Reply {
     Aborted {
         /// The position of the first operation that aborts, from 0.
         at: usize,
-        /// Why it aborts.
         cause: Cause,
     },
 }
 
-/// A transaction on one root key: 1 to 64 operations. To a contract it is a `TxnValue`.
+/// A transaction on one root key: 1 to [`MAX_OPS`] operations. To a contract it is a `TxnValue`.
 #[derive(Debug, Drop)]
 pub struct Txn {
     id: u64,
@@ -143,6 +139,7 @@ pub struct Txn {
 
 impl Model for Txn {
     ghost use Rattle.std.specs.Prelude.{◌≡◌, None};
+    ghost use Rattle.sq_schema.specs.declared.schema.TheConstants.{MAX_TABLES};
     ghost use Rattle.sq_schema.specs.TxnValue.{TxnValue};
     ghost use Rattle.sq_schema.specs.Refusals.{txn_fault};
 
@@ -150,11 +147,12 @@ impl Model for Txn {
 
     ghost view = { λ t. record { id = t.id; root = t.root; ops = t.ops.items } };
 
-    ghost invariant = { λ t. txn_fault 8 t.root t.ops.items ≡ None };
+    ghost invariant = { λ t. txn_fault MAX_TABLES t.root t.ops.items ≡ None };
 }
 
 impl Txn {
-    ghost use Rattle.sq_schema.specs.Refusals.{ops_limit, ops_fault, txn_fault};
+    ghost use Rattle.sq_schema.specs.declared.schema.TheConstants.{MAX_TABLES};
+    ghost use Rattle.sq_schema.specs.Refusals.{ops_fault, txn_fault};
 
     /// The transaction of this id on this root key. Refused, with the operations back, for the first of these:
     /// the count of operations, the root key, and then operation by operation the table, the sub key and the note.
@@ -183,14 +181,12 @@ impl Txn {
         Ok(Txn { id, root, ops })
     }
 
-    /// Its id.
     pub fn id(&self) -> u64
         ensures { result ≡ self.now.id }
     {
         self.id
     }
 
-    /// Its root key.
     pub fn root(&self) -> Root
         ensures { result ≡ self.now.root }
     {
@@ -201,8 +197,8 @@ impl Txn {
     pub fn ops(&self) -> &[Op]
         ensures ops { result.now ≡ self.now.ops }
         ensures some { 1 ≤ length result.now }
-        ensures few { length result.now ≤ ops_limit }
-        ensures sound { ops_fault 8 result.now ≡ None }
+        ensures few { length result.now ≤ MAX_OPS }
+        ensures sound { ops_fault MAX_TABLES result.now ≡ None }
     {
         &self.ops
     }

@@ -1,5 +1,5 @@
 -- The parts of a dump, one after another.
-use Rattle.std.proofs.Common.{◌≡◌, ℕ, zero, suc, ◌+◌, ◌<◌, ◌&&◌, arith, List, [], ◌∷◌, ◌++◌, length, Option, Some, None, slice_index_or, refl, sym, ap, ◌∙◌, subst, append_assoc}
+use Rattle.std.proofs.Common.{◌≡◌, ℕ, zero, suc, ◌+◌, ◌<◌, ◌&&◌, arith, List, [], ◌++◌, length, Option, Some, None, slice_index_or, sym, ap, ◌∙◌, subst, append_assoc}
 use Rattle.std.specs.Prelude.{◌==◌, Result, OnOk}
 use Rattle.std.specs.List.{flat_map, range_with_len}
 use Rattle.std.specs.Io.KnownBytes.{Appends}
@@ -8,8 +8,8 @@ use Rattle.std.proofs.lemmas.List.Quantifiers.{position-Some}
 use Rattle.sq_schema.specs.Family.{FamilyValue}
 use Rattle.sq_store.specs.StoreValue.{StoreValue}
 use Rattle.sq_store.specs.InOrder.{families_in}
-use Rattle.sq_turn.specs.WorldValue.{WorldValue, PartValue, LinkValue, no_part, part_at, no_link, link_value, link_index}
-use Rattle.sq_turn.specs.Holds.{under_way}
+use Rattle.sq_transition.specs.WorldValue.{WorldValue, PartitionValue, LinkStateValue, no_part, part_at, no_link, link_value, link_index}
+use Rattle.sq_transition.specs.Holds.{under_way}
 use Rattle.sq_text.specs.Texts.{at_line, way_lines}
 use Rattle.sq_text.proofs.Appending.{both}
 use Rattle.sq_state.specs.Dump.{part_lines, link_lines}
@@ -33,28 +33,24 @@ pub nothing : (a : Option (List ℕ)) → Appends a a []
 nothing None = tt
 nothing (Some bytes) = sym (append-nil bytes)
 
--- nothing more is written of a number of which there is nothing to say
-pub none_more : (f : ℕ → List ℕ) (n next : ℕ) (a b : Option (List ℕ)) → next ≡ n + 1 → Appends a b (flat_map f (range_with_len 0 n)) → [] ≡ f n → Appends a b (flat_map f (range_with_len 0 next))
-none_more f n next a b more before is = one_more f n next a b b [] more before (nothing b) is
-
 -- what is written of a partition is what is said of it
-pub part_said : (w : WorldValue) (parts : List PartValue) (part at number : ℕ) (here : PartValue) (store : StoreValue) (families : List FamilyValue) → w.parts ≡ parts → at ≡ part → number ≡ part → part < length parts
+pub part_said : (w : WorldValue) (parts : List PartitionValue) (part at number : ℕ) (here : PartitionValue) (store : StoreValue) (families : List FamilyValue) → w.parts ≡ parts → at ≡ part → number ≡ part → part < length parts
     → here ≡ slice_index_or parts at here → store ≡ here.store → families ≡ families_in store → flat_map (at_line number) families ≡ part_lines w part
 part_said w parts part at number here store families same at_is number_is within here_by store_is families_is =
     let here_is : here ≡ part_at w part =
     here_by ∙ ap (λ i. slice_index_or parts i here) at_is ∙ get_or_default parts part here no_part within ∙ ap (λ ps. slice_index_or ps part no_part) (sym same) in
-    let all : families ≡ families_in (part_at w part).store = families_is ∙ ap families_in (store_is ∙ ap (λ (p : PartValue). p.store) here_is) in
+    let all : families ≡ families_in (part_at w part).store = families_is ∙ ap families_in (store_is ∙ ap (λ (p : PartitionValue). p.store) here_is) in
     λ k. flat_map (at_line (number_is k)) (all k)
 
 -- a link that is found stands among the links
-pub link_within : (w : WorldValue) (links : List LinkValue) (src dst at : ℕ) → w.links ≡ links → Some at ≡ link_index w src dst → at < length links
+pub link_within : (w : WorldValue) (links : List LinkStateValue) (src dst at : ℕ) → w.links ≡ links → Some at ≡ link_index w src dst → at < length links
 link_within w links src dst at same found =
     let low : at < length w.links = (position-Some (λ link. (link.src == src) && (link.dst == dst)) w.links at no_link (sym found)).0 in
     let lengths : length w.links ≡ length links = ap length same in
     omega (arith, low, lengths)
 
 -- what is written of a link is what is said of it
-pub link_said : (w : WorldValue) (links : List LinkValue) (src dst at : ℕ) (here : LinkValue) → w.links ≡ links → Some at ≡ link_index w src dst → here ≡ slice_index_or links at here
+pub link_said : (w : WorldValue) (links : List LinkStateValue) (src dst at : ℕ) (here : LinkStateValue) → w.links ≡ links → Some at ≡ link_index w src dst → here ≡ slice_index_or links at here
     → flat_map way_lines (under_way here) ≡ link_lines w (link_index w src dst)
 link_said w links src dst at here same found here_by =
     let here_is : here ≡ link_value w at =

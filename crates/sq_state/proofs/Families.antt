@@ -1,13 +1,14 @@
 -- The families of the root keys that a partition owns.
-use Rattle.std.proofs.Common.{⊎_elim, ◌≡◌, ℕ, Bool, true, false, List, [], ◌∷◌, refl, sym, ap, ◌∙◌, arith, true≢false, length}
-use Rattle.std.specs.Prelude.{◌+◌, ◌<◌, ◌≤◌, ◌≢◌, ◌==◌, ◌&&◌, if◌then◌else◌, not, nat_le, nat_lt, map, filter, Option, Some, None, is_some, unwrap_or}
+use Rattle.std.proofs.Common.{⊎_elim, ◌≡◌, ℕ, Bool, true, false, [], ◌∷◌, refl, sym, ap, ◌∙◌, arith, true≢false, length}
+use Rattle.std.specs.Prelude.{◌+◌, ◌<◌, ◌≢◌, ◌==◌, ◌&&◌, if◌then◌else◌, not, nat_le, nat_lt, map, filter, Option, Some, None, is_some, unwrap_or}
 use Rattle.std.specs.List.{list_all}
 use Rattle.std.specs.Ordering.{nat_cmp, is_lt, eq_by_cmp}
 use Rattle.std.specs.declared.cmp.Ordering.TheVariants.{Less, Equal, Greater}
-use Rattle.std.specs.Cmp.{unsigned_tied, nat_cmp_total}
+use Rattle.std.specs.Cmp.{unsigned_tied}
 use Rattle.std.specs.FinMap.{get, empty, get-empty}
 use Rattle.std.specs.FinMap.Entries.{find, below_all, is_sorted}
-use Rattle.std.proofs.lemmas.Bool.{ne_eqb, eq-eqb, eqb-true, ltb-true, leb-true, le-leb, and_from}
+use Rattle.std.proofs.Math.Bool.{and-true, and-false}
+use Rattle.std.proofs.lemmas.Bool.{ne_eqb, eq-eqb, ltb-true, le-leb, and_from, and_parts}
 use Rattle.std.proofs.lemmas.Bool.Decides.{eqb_tells}
 use Rattle.sq_schema.specs.Effect.{RowList}
 use Rattle.sq_schema.specs.Family.{FamilyValue}
@@ -16,7 +17,7 @@ use Rattle.sq_schema.specs.Table.{TableValue, rows_in, is_opening}
 use Rattle.sq_plan.specs.PlanValue.{PlanValue, owner}
 use Rattle.sq_chunk.specs.ChunkValue.{are_within}
 use Rattle.sq_store.specs.StoreValue.{family_in, with_families}
-use Rattle.sq_store.proofs.Rising.{both_left, both_right, get-with_families}
+use Rattle.sq_store.proofs.Rising.{get-with_families}
 use Rattle.sq_state.specs.Openings.{opened_family, opened_families}
 
 -- the root keys are this one or later ones
@@ -34,9 +35,9 @@ less_than x y e = by_order (nat_lt x y) (x == y) (ltb-true x y) e
 later : (x : ℕ) (table : TableValue) → below_all nat_cmp x table ≡ true → from_key (x + 1) table ≡ true
 later x [] e = refl
 later x (entry ∷ table) e =
-    let first : x < entry.0 = less_than x entry.0 (both_left (is_lt (nat_cmp x entry.0)) (below_all nat_cmp x table) e) in
+    let first : x < entry.0 = less_than x entry.0 (and_parts (is_lt (nat_cmp x entry.0)) (below_all nat_cmp x table) e).0 in
     and_from (nat_le (x + 1) entry.0) (from_key (x + 1) table) (le-leb (x + 1) entry.0 (omega (arith, first)))
-    (later x table (both_right (is_lt (nat_cmp x entry.0)) (below_all nat_cmp x table) e))
+    (later x table (and_parts (is_lt (nat_cmp x entry.0)) (below_all nat_cmp x table) e).1)
 
 within_step : (lo hi : ℕ) (entry : ℕ × RowList) (rest : TableValue) (b : Bool) → nat_le lo entry.0 ≡ true → nat_lt entry.0 hi ≡ true
     → are_within (entry.0 + 1) hi (map opened_family rest) ≡ true → are_within lo hi (map opened_family rest) ≡ true
@@ -51,14 +52,14 @@ within : (plan : PlanValue) (part lo hi : ℕ) (table : TableValue) → from_key
     → list_all (λ entry. nat_lt entry.0 hi) table ≡ true → are_within lo hi (opened_families plan part table) ≡ true
 within plan part lo hi [] from rising below = refl
 within plan part lo hi (entry ∷ table) from rising below =
-    let above : from_key (entry.0 + 1) table ≡ true = later entry.0 table (both_left (below_all nat_cmp entry.0 table) (is_sorted nat_cmp table) rising) in
-    let rising_rest : is_sorted nat_cmp table ≡ true = both_right (below_all nat_cmp entry.0 table) (is_sorted nat_cmp table) rising in
-    let below_rest : list_all (λ (e : ℕ × RowList). nat_lt e.0 hi) table ≡ true = both_right (nat_lt entry.0 hi) (list_all (λ (e : ℕ × RowList). nat_lt e.0 hi) table) below in
+    let above : from_key (entry.0 + 1) table ≡ true = later entry.0 table (and_parts (below_all nat_cmp entry.0 table) (is_sorted nat_cmp table) rising).0 in
+    let rising_rest : is_sorted nat_cmp table ≡ true = (and_parts (below_all nat_cmp entry.0 table) (is_sorted nat_cmp table) rising).1 in
+    let below_rest : list_all (λ (e : ℕ × RowList). nat_lt e.0 hi) table ≡ true = (and_parts (nat_lt entry.0 hi) (list_all (λ (e : ℕ × RowList). nat_lt e.0 hi) table) below).1 in
     within_step lo hi entry (filter (λ (e : ℕ × RowList). owner plan e.0 == part) table) (owner plan entry.0 == part)
-    (both_left (nat_le lo entry.0) (from_key lo table) from)
-    (both_left (nat_lt entry.0 hi) (list_all (λ (e : ℕ × RowList). nat_lt e.0 hi) table) below)
+    (and_parts (nat_le lo entry.0) (from_key lo table) from).0
+    (and_parts (nat_lt entry.0 hi) (list_all (λ (e : ℕ × RowList). nat_lt e.0 hi) table) below).0
     (within plan part (entry.0 + 1) hi table above rising_rest below_rest)
-    (within plan part lo hi table (both_right (nat_le lo entry.0) (from_key lo table) from) rising_rest below_rest)
+    (within plan part lo hi table (and_parts (nat_le lo entry.0) (from_key lo table) from).1 rising_rest below_rest)
 
 all_from_zero : (table : TableValue) → from_key 0 table ≡ true
 all_from_zero [] = refl
@@ -95,9 +96,9 @@ at_owner : (plan : PlanValue) (part root : ℕ) (table : TableValue) → (owner 
     → family_in (opened_families plan part table) root ≡ opened_at (rows_in table root) root
 at_owner plan part root [] owns each = refl
 at_owner plan part root (entry ∷ table) owns each =
-    let here : is_opening entry.1 ≡ true = both_left (is_opening entry.1) (list_all (λ (e : ℕ × RowList). is_opening e.1) table) each in
-    let some : not (length entry.1 == 0) ≡ true = both_left (not (length entry.1 == 0)) (is_rooted entry.1) here in
-    let after = at_owner plan part root table owns (both_right (is_opening entry.1) (list_all (λ (e : ℕ × RowList). is_opening e.1) table) each) in
+    let here : is_opening entry.1 ≡ true = (and_parts (is_opening entry.1) (list_all (λ (e : ℕ × RowList). is_opening e.1) table) each).0 in
+    let some : not (length entry.1 == 0) ≡ true = (and_parts (not (length entry.1 == 0)) (is_rooted entry.1) here).0 in
+    let after = at_owner plan part root table owns (and_parts (is_opening entry.1) (list_all (λ (e : ℕ × RowList). is_opening e.1) table) each).1 in
     let rest = filter (λ (e : ℕ × RowList). owner plan e.0 == part) table in
     ⊎_elim
     (λ (same : (entry.0 == root ≡ true) × (entry.0 ≡ root)).
@@ -120,17 +121,9 @@ at_owner plan part root (entry ∷ table) owns each =
 opened_in : (plan : PlanValue) (part root : ℕ) (table : TableValue) (b : Bool) → (owner plan root == part) ≡ b → list_all (λ entry. is_opening entry.1) table ≡ true
     → family_in (opened_families plan part table) root ≡ (if not (length (rows_in table root) == 0) && b then Some (record { root = root; base = rows_in table root; log = [] }) else None)
 opened_in plan part root table true owns each =
-    at_owner plan part root table owns each ∙ ap (λ b. if b then Some (record { root = root; base = rows_in table root; log = [] }) else None) (and_true (not (length (rows_in table root) == 0)))
-  where
-    and_true : (b : Bool) → b ≡ (b && true)
-    and_true true = refl
-    and_true false = refl
+    at_owner plan part root table owns each ∙ ap (λ b. if b then Some (record { root = root; base = rows_in table root; log = [] }) else None) (sym (and-true (not (length (rows_in table root) == 0))))
 opened_in plan part root table false other each =
-    elsewhere plan part root table other ∙ ap (λ b. if b then Some (record { root = root; base = rows_in table root; log = [] }) else None) (and_false (not (length (rows_in table root) == 0)))
-  where
-    and_false : (b : Bool) → false ≡ (b && false)
-    and_false true = refl
-    and_false false = refl
+    elsewhere plan part root table other ∙ ap (λ b. if b then Some (record { root = root; base = rows_in table root; log = [] }) else None) (sym (and-false (not (length (rows_in table root) == 0))))
 
 only_some : (o : Option FamilyValue) → (if is_some o then o else None) ≡ o
 only_some None = refl

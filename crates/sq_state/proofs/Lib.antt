@@ -7,5 +7,5 @@ pub mod Guards
 pub mod Opened
 pub mod Places
 pub mod SoundLinks
-pub mod Spots
+pub mod Locations
 pub mod Submitted

@@ -11,8 +11,8 @@ use Rattle.sq_ranges.specs.declared.recon.Range.{Range}
 use Rattle.sq_tree.specs.Status.{reading}
 use Rattle.sq_tree.specs.Tree.{status_at}
 use Rattle.sq_model.specs.Answers.{goes_into, is_complete_reading}
-use Rattle.sq_turn.specs.WorldValue.{WorldValue, SegmentValue, no_segment}
-use Rattle.sq_turn.specs.LeaderTurn.{flag_at, whole}
+use Rattle.sq_transition.specs.WorldValue.{WorldValue, SegmentValue, no_segment}
+use Rattle.sq_transition.specs.LeaderResults.{flag_at, is_segment_whole}
 
 -- each number passes
 pub all_pass : (p : ℕ → Bool) (a n : ℕ) → ((k : ℕ) → a ≤ k → k < a + n → p k ≡ true) → list_all p (range_with_len a n) ≡ true
@@ -77,7 +77,7 @@ goes_elsewhere segments part i range lt is other =
 
 -- whether a segment is whole is read off the one that stands there
 pub whole_there : (w : WorldValue) (seg : ℕ) (state : SegmentValue) → seg < length w.segments → state ≡ get_or w.segments seg state
-    → is_complete_reading (reading (status_at state.statuses) 1) ≡ whole w seg
+    → is_complete_reading (reading (status_at state.statuses) 1) ≡ is_segment_whole w seg
 whole_there w seg state lt is =
     ap (λ one. is_complete_reading (reading (status_at one.statuses) 1)) (is ∙ get_or_default w.segments seg state no_segment lt)
 

@@ -3,8 +3,8 @@ use Rattle.std.specs.Prelude.{ℕ, List, [], ◌++◌, Option, Some, None}
 use Rattle.std.specs.List.{flat_map, range_with_len}
 use Rattle.sq_store.specs.InOrder.{families_in}
 use Rattle.sq_text.specs.Texts.{end_line, at_line, way_lines}
-use Rattle.sq_turn.specs.WorldValue.{WorldValue, part_at, link_index, link_value}
-use Rattle.sq_turn.specs.Holds.{under_way}
+use Rattle.sq_transition.specs.WorldValue.{WorldValue, part_at, link_index, link_value}
+use Rattle.sq_transition.specs.Holds.{under_way}
 
 -- the families in the store of a partition, by rising root key
 abbrev pub part_lines : WorldValue → ℕ → List ℕ

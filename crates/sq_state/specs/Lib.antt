@@ -2,4 +2,4 @@ pub mod Dump
 pub mod Openings
 pub mod Readers
 pub mod Sound
-pub mod Told
+pub mod Results

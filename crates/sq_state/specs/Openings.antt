@@ -9,7 +9,7 @@ use Rattle.sq_ranges.specs.declared.recon.Link.{Link}
 use Rattle.sq_ranges.specs.declared.recon.Range.{Range}
 use Rattle.sq_ranges.specs.ReconValue.{ReconValue, AreLinks}
 use Rattle.sq_store.specs.StoreValue.{with_families}
-use Rattle.sq_turn.specs.WorldValue.{PartValue, LinkValue, SegmentValue, no_segment}
+use Rattle.sq_transition.specs.WorldValue.{PartitionValue, LinkStateValue, SegmentValue, no_segment}
 use Rattle.sq_parts.specs.LinkSteps.{opened_link}
 use Rattle.sq_parts.specs.Segments.{IsNewSegment}
 
@@ -22,7 +22,7 @@ abbrev pub opened_families : PlanValue → ℕ → TableValue → List FamilyVal
 opened_families plan part table = map opened_family (filter (λ entry. owner plan entry.0 == part) table)
 
 -- a partition with them, at which nothing waits
-abbrev pub opened_part : PlanValue → TableValue → ℕ → PartValue
+abbrev pub opened_part : PlanValue → TableValue → ℕ → PartitionValue
 opened_part plan table part = record { store = with_families empty (opened_families plan part table); waiting = [] }
 
 -- for each segment its nodes, of which nothing is loaded
@@ -31,7 +31,7 @@ pub record AreNewSegments (recon : ReconValue) (segments : List SegmentValue) : 
   pub each : (seg : ℕ) → seg < length segments → IsNewSegment recon seg (slice_index_or segments seg no_segment)
 
 -- the links of ranges, which have carried nothing
-pub record AreNewLinks (ranges : List Range) (made : List LinkValue) : Type 0 where
+pub record AreNewLinks (ranges : List Range) (made : List LinkStateValue) : Type 0 where
   pub links : List Link
   pub all : AreLinks ranges links
   pub same : made ≡ map opened_link links

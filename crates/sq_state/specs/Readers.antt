@@ -10,13 +10,12 @@ use Rattle.sq_store.specs.StoreValue.{StoreValue}
 use Rattle.sq_ranges.specs.OpeningValue.{OpeningValue}
 use Rattle.sq_model.specs.Trace.{Trace, notes, link, load_count}
 use Rattle.sq_model.specs.Nodes.{status_of}
-use Rattle.sq_model.specs.Place.{place}
-use Rattle.sq_turn.specs.WorldValue.{WorldValue, PartValue, LinkValue, segment_state, status_in, link_index, link_value}
-use Rattle.sq_turn.specs.Holds.{history, share, is_at, under_way, ChunkHolds}
+use Rattle.sq_transition.specs.WorldValue.{WorldValue, PartitionValue, status_in, link_index, link_value}
+use Rattle.sq_transition.specs.Holds.{share_at, under_way, ChunkHolds}
 
 -- the store of a partition; none past the last
 abbrev pub store_at : WorldValue → ℕ → Option StoreValue
-store_at w part = option_map (λ (p : PartValue). p.store) (slice_get w.parts part)
+store_at w part = option_map (λ (p : PartitionValue). p.store) (slice_get w.parts part)
 
 -- what the link at this place has under way; nothing where there is no link
 abbrev pub way_of : WorldValue → Option ℕ → List ChunkValue
@@ -32,21 +31,21 @@ abbrev pub status_there : WorldValue → ℕ → ℕ → Option Status
 status_there w seg node = if is_node node && nat_lt seg (length w.segments) then Some (status_in w seg node) else None
 
 -- the store of each partition holds exactly the families that are there by the history
-abbrev pub TellsStore : OpeningValue → Trace → ℕ → Option StoreValue → Type 0
-TellsStore o t part None = o.old.parts ≤ part
-TellsStore o t part (Some store) =
-    (part < o.old.parts) × ((root : ℕ) → get store root ≡ share (history o t) (λ key. is_at part (place o t key)) root)
+abbrev pub IsStoreAfter : OpeningValue → Trace → ℕ → Option StoreValue → Type 0
+IsStoreAfter o t part None = o.old.parts ≤ part
+IsStoreAfter o t part (Some store) =
+    (part < o.old.parts) × ((root : ℕ) → get store root ≡ share_at o t part root)
 
 -- the notes of the chunks from one partition to another that were cut and aren't loaded, the oldest first
 abbrev pub way_notes : Trace → ℕ → ℕ → List Note
 way_notes t src dst = drop (load_count t src dst) (reverse (link src dst (notes t)))
 
 -- a chunk under way is the one of its number by the history, with exactly the families that its note covers
-abbrev pub TellsChunk : OpeningValue → Trace → ℕ → ℕ → ℕ → Option ChunkValue → Type 0
-TellsChunk o t src dst i None = slice_get (way_notes t src dst) i ≡ None
-TellsChunk o t src dst i (Some chunk) =
-    (slice_get (way_notes t src dst) i ≡ Some chunk.note) × ChunkHolds (history o t) chunk
+abbrev pub IsChunkAfter : OpeningValue → Trace → ℕ → ℕ → ℕ → Option ChunkValue → Type 0
+IsChunkAfter o t src dst i None = slice_get (way_notes t src dst) i ≡ None
+IsChunkAfter o t src dst i (Some chunk) =
+    (slice_get (way_notes t src dst) i ≡ Some chunk.note) × ChunkHolds o t chunk
 
 -- the status of a node of a segment by the history
-abbrev pub told_status : OpeningValue → Trace → ℕ → ℕ → Option Status
-told_status o t seg node = if is_node node && nat_lt seg (length o.recon.segments) then Some (status_of t seg node) else None
+abbrev pub status_after : OpeningValue → Trace → ℕ → ℕ → Option Status
+status_after o t seg node = if is_node node && nat_lt seg (length o.recon.segments) then Some (status_of t seg node) else None

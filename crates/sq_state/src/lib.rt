@@ -1,10 +1,7 @@
 //! The state of a world in memory, and what each step does to it.
 #![tactic(auto)]
 
-mod spot;
+mod location;
 mod state;
 
 pub use state::State;
-
-#[cfg(test)]
-mod tests;

@@ -2,13 +2,14 @@
 ghost use Rattle.std.specs.Prelude.{◌≡◌, nat_le, not, length};
 ghost use Rattle.sq_model.specs.declared.answer.Refusal.{Refusal};
 ghost use Rattle.sq_model.specs.Leader.{is_moving_phase, is_started_phase};
-ghost use Rattle.sq_state.specs.Told.{refuse_if};
-ghost use Rattle.sq_state.specs.Sound.{IsSound};
+ghost use Rattle.sq_tree.specs.Node.{is_node};
+ghost use Rattle.sq_state.specs.Results.{refuse_if, unless};
 
 use sq_model::{Phase, Refusal};
-use sq_parts::{LinkState, Part, Segment};
+use sq_parts::{LinkState, Partition, Segment};
 use sq_plan::Plan;
-use sq_ranges::{Config, Recon};
+use sq_ranges::{Config, Recon, SegId};
+use sq_tree::NodeId;
 use std::alloc::Global;
 use std::marker::Model;
 
@@ -33,7 +34,7 @@ pub struct State {
     phase: Phase,
     prepared: Vec<bool>,
     reported: Vec<bool>,
-    parts: Vec<Part>,
+    parts: Vec<Partition>,
     segments: Vec<Segment>,
     links: Vec<LinkState>,
 }
@@ -43,7 +44,7 @@ impl Model for State {
     ghost use Rattle.std.specs.Ordering.{nat_cmp};
     ghost use Rattle.std.specs.FinMap as fin;
     ghost use Rattle.sq_schema.specs.Family.{FamilyValue};
-    ghost use Rattle.sq_turn.specs.WorldValue.{WorldValue};
+    ghost use Rattle.sq_transition.specs.WorldValue.{WorldValue};
 
     ghost Value = { WorldValue };
 
@@ -96,15 +97,21 @@ impl State {
         }
     }
 
-    // Refuses where there is no such segment.
-    fn check_segment(&self, seg: u64) -> Result<(), Refusal>
-        requires { IsSound self.now }
-        ensures { result ≡ refuse_if (nat_le (length self.now.recon.segments) seg) Refusal.NoSuchSegment }
+    // The segment of this number; a refusal where there is none.
+    fn segment(&self, number: u64) -> Result<SegId, Refusal>
+        ensures { result ≡ unless (nat_le (length self.now.recon.segments) number) Refusal.NoSuchSegment number }
     {
-        if seg < self.segments.len() as u64 {
-            Ok(())
-        } else {
-            Err(Refusal::NoSuchSegment)
+        let count = self.recon.segments().len() as u64;
+        match SegId::new(number) {
+            Some(seg) if number < count => Ok(seg),
+            _ => Err(Refusal::NoSuchSegment),
         }
     }
+}
+
+// The node of this number; a refusal where there is none.
+fn named_node(number: u64) -> Result<NodeId, Refusal>
+    ensures { result ≡ unless (not (is_node number)) Refusal.NoSuchNode number }
+{
+    NodeId::new(number).ok_or(Refusal::NoSuchNode)
 }

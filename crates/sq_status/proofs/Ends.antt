@@ -9,22 +9,18 @@ use Rattle.atomic_table.specs.Table.{Final, Seen}
 use Rattle.sq_tree.specs.declared.status.Status.{Status}
 use Rattle.sq_tree.specs.declared.status.Status.TheVariants.{Free, Split, Claimed, Partial, Complete}
 use Rattle.sq_tree.specs.Status.{word_of, pull_of, is_past}
+use Rattle.sq_tree.proofs.Placed.{status_at-free}
 use Rattle.sq_tree.proofs.Words.{same_status}
 use Rattle.sq_status.specs.declared.view.View.{View}
 use Rattle.sq_status.specs.View.{one_if, fresh, times, times_with, times_won, HasSeen, HasNoLists, alive}
-use Rattle.sq_status.specs.Rule.{status_at, IsTreeOf, Kept}
+use Rattle.sq_tree.specs.Tree.{status_at}
+use Rattle.sq_status.specs.Rule.{IsTreeOf, Kept}
 use Rattle.sq_status.proofs.Exchanges.{Table}
 use Rattle.sq_status.proofs.Totals.{only_total, two_le_total}
 use Rattle.sq_status.proofs.Hands.{times_won-fresh, none_seen}
 
-free_at : (count n : ℕ) → get_or (replicate count Free) n Free ≡ Free
-free_at zero n = refl
-free_at (suc count) zero = refl
-free_at (suc count) (suc n) = free_at count n
-
-all_free : (count n : ℕ) → status_at (replicate count Free) n ≡ Free
-all_free count zero = refl
-all_free count (suc n) = free_at count n
+all_free : (n : ℕ) → status_at (replicate 63 Free) n ≡ Free
+all_free n = status_at-free (replicate 63 Free) n refl
 
 free_past : (st : Status) → st ≢ Free → one_if (is_past st Free) ≡ 0
 free_past Free ne = absurd (ne refl)
@@ -42,12 +38,12 @@ opens =
     let first = fresh true false in
     record {
       count = length-replicate 63 Free;
-      pulls = λ n. subst (λ (st : Status). pull_of st < 2 ^ 32) (sym (all_free 63 n)) (lit< tt);
-      leaves = λ n leaf e. let none = all_free 63 n in cc;
-      above = λ n inner ne. absurd (ne (all_free 63 n));
+      pulls = λ n. subst (λ (st : Status). pull_of st < 2 ^ 32) (sym (all_free n)) (lit< tt);
+      leaves = λ n leaf e. let none = all_free n in cc;
+      above = λ n inner ne. absurd (ne (all_free n));
       once = λ n st ne.
           let none = times_won-fresh n st true false in
-          let status = ap (λ (x : Status). one_if (is_past st x)) (all_free 63 n) ∙ free_past st ne in
+          let status = ap (λ (x : Status). one_if (is_past st x)) (all_free n) ∙ free_past st ne in
           omega (arith, none, status);
       looks = λ seat u at n st seen. absurd (none_seen u n st (ap (λ (x : View). x.looked) (sym (only_seat first u seat at).1)) seen);
       joined = λ seat u at spent. absurd (true≢false (sym spent ∙ ap (λ (x : View). x.spent) (sym (only_seat first u seat at).1)));

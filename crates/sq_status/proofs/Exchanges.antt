@@ -13,7 +13,8 @@ use Rattle.sq_tree.specs.Status.{word_of, before}
 use Rattle.sq_tree.proofs.Words.{same_status}
 use Rattle.sq_status.specs.declared.view.View.{View}
 use Rattle.sq_status.specs.View.{saw, won}
-use Rattle.sq_status.specs.Rule.{status_at, IsTreeOf, Kept}
+use Rattle.sq_tree.specs.Tree.{status_at}
+use Rattle.sq_status.specs.Rule.{IsTreeOf, Kept}
 use Rattle.sq_status.specs.Plays.{IsLater, MayBring, Found, Won, Looked, Advanced}
 use Rattle.sq_status.proofs.Steps.{is_later, fits, look_kept, status_at-set, win_kept}
 

@@ -4,6 +4,6 @@ pub mod Steps
 pub mod Exchanges
 pub mod Hands
 pub mod Ends
-pub mod Tellings
+pub mod Outcomes
 pub mod Walking
 pub mod Searching

@@ -1,7 +1,7 @@
 -- What a seat found or won counts for, and how that changes at a step.
 use Rattle.std.proofs.Common.{◌≡◌, ◌≢◌, ℕ, zero, suc, ◌+◌, ◌<◌, ◌⊎◌, slice_index_or, List, [], ◌∷◌, refl, sym, ap, inl, inr, ⊎_elim, arith}
 use Rattle.std.specs.List.{Contains}
-use Rattle.std.proofs.lemmas.List.Elements.{Contains-append_right, Contains-append_cases}
+use Rattle.std.proofs.lemmas.List.Elements.{Contains-append_cases}
 use Rattle.std.proofs.lemmas.Bool.Decides.{nat_tests}
 use Rattle.sq_tree.specs.declared.status.Status.{Status}
 use Rattle.sq_tree.specs.declared.status.Status.TheVariants.{Free, Split, Claimed, Partial, Complete}
@@ -24,14 +24,6 @@ IsPast-split Split e = refl
 IsPast-split (Claimed p) e = cc
 IsPast-split (Partial p) e = cc
 IsPast-split (Complete p) e = cc
-
--- nothing but free comes before free
-pub IsPast-free : (st : Status) → IsPast st Free → st ≡ Free
-IsPast-free Free e = refl
-IsPast-free Split e = cc
-IsPast-free (Claimed p) e = cc
-IsPast-free (Partial p) e = cc
-IsPast-free (Complete p) e = cc
 
 -- what a step leads to is past all that the status before it was past
 pub IsPast-before : (st new : Status) → IsPast st (before new) → IsPast st new
@@ -142,21 +134,18 @@ looked-won v n (Claimed p) = refl
 looked-won v n (Partial p) = refl
 looked-won v n (Complete p) = refl
 
-only_at : (a b : ℕ × Status) (k : ℕ) → k < 1 → slice_index_or (a ∷ []) k b ≡ b → b ≡ a
+only_at : {A : Type 0} (a b : A) (k : ℕ) → k < 1 → slice_index_or (a ∷ []) k b ≡ b → b ≡ a
 only_at a b zero h e = sym e
 only_at a b (suc k) h e = absurd (omega arith)
 
-only_element : (a b : ℕ × Status) → Contains (a ∷ []) b → b ≡ a
-only_element a b h = only_at a b h.0 h.1 h.2
+pub only : {A : Type 0} (a b : A) → Contains (a ∷ []) b → b ≡ a
+only a b h = only_at a b h.0 h.1 h.2
 
 -- what a seat has seen after a look: what it found, or what it had seen
 pub HasSeen-saw : (v : View) (n m : ℕ) (found st : Status) → HasSeen (saw v n found) m st → ((m ≡ n) × (st ≡ found)) ⊎ HasSeen v m st
 HasSeen-saw v n m found st h =
-    ⊎_elim (λ (here : Contains ((n, found) ∷ []) (m, st)). inl (ap (λ (x : ℕ × Status). x.0) (only_element (n, found) (m, st) here), ap (λ (x : ℕ × Status). x.1) (only_element (n, found) (m, st) here))) (λ (there : HasSeen v m st). inr there)
+    ⊎_elim (λ (here : Contains ((n, found) ∷ []) (m, st)). inl (ap (λ (x : ℕ × Status). x.0) (only (n, found) (m, st) here), ap (λ (x : ℕ × Status). x.1) (only (n, found) (m, st) here))) (λ (there : HasSeen v m st). inr there)
     (Contains-append_cases ((n, found) ∷ []) v.looked (m, st) h)
-
-pub HasSeen-saw_old : (v : View) (n m : ℕ) (found st : Status) → HasSeen v m st → HasSeen (saw v n found) m st
-HasSeen-saw_old v n m found st h = Contains-append_right ((n, found) ∷ []) v.looked (m, st) h
 
 pub HasSeen-saw_new : (v : View) (n : ℕ) (found : Status) → HasSeen (saw v n found) n found
 HasSeen-saw_new v n found = (0, omega arith, refl)

@@ -1,5 +1,5 @@
 -- A look and a won exchange keep the rule of the tree.
-use Rattle.std.proofs.Common.{◌≡◌, ◌≢◌, ℕ, zero, suc, ◌+◌, ◌≤◌, ◌<◌, ◌^◌, Bool, true, false, true≢false, not, lt_of_not-le, List, [], ◌∷◌, length, set, get_or, refl, sym, ap, ◌∙◌, subst, ⊎_elim, arith}
+use Rattle.std.proofs.Common.{◌≡◌, ◌≢◌, ℕ, zero, suc, ◌+◌, ◌≤◌, ◌<◌, ◌^◌, Bool, true, false, true≢false, not, lt_of_not-le, List, length, set, get_or, refl, sym, ap, ◌∙◌, subst, ⊎_elim, arith}
 use mathlib.Core.Option.{some}
 use mathlib.Core.Logic.{dite}
 use native.Mathlib.Decide.{ℕ_discrete, dec_le}
@@ -13,7 +13,8 @@ use Rattle.sq_tree.specs.Node.{parent}
 use Rattle.sq_tree.specs.Status.{pull_of, is_past, before}
 use Rattle.sq_status.specs.declared.view.View.{View}
 use Rattle.sq_status.specs.View.{one_if, times_won, won, saw, HasSeen, HasNoLists, SameRole, alive, total}
-use Rattle.sq_status.specs.Rule.{status_at, IsPast, IsTreeOf}
+use Rattle.sq_tree.specs.Tree.{status_at}
+use Rattle.sq_status.specs.Rule.{IsPast, IsTreeOf}
 use Rattle.sq_status.specs.Plays.{IsStatusOf, IsLater, KnowsSplit, MayBring}
 use Rattle.sq_status.proofs.Totals.{total_set, own_le_total}
 use Rattle.sq_status.proofs.Sights.{IsPast-refl, IsPast-split, IsPast-before, before-split, times_won-won, times_won-won_other, times_won-saw, SameRole-won, looked-won, HasSeen-saw}
@@ -26,13 +27,6 @@ status_at-set statuses i (suc k) st e h = let same : k ≡ i = omega arith in su
 pub status_at-set_other : (statuses : List Status) (i n m : ℕ) (st : Status) → n ≡ i + 1 → m ≢ n → status_at (set statuses i st) m ≡ status_at statuses m
 status_at-set_other statuses i n zero st e ne = refl
 status_at-set_other statuses i n (suc k) st e ne = get_or-set_other statuses i k st Free (λ same. ne (omega arith))
-
--- there is no status past the end
-pub status_at-past : (statuses : List Status) (n : ℕ) → length statuses < n → status_at statuses n ≡ Free
-status_at-past statuses zero h = refl
-status_at-past [] (suc n) h = refl
-status_at-past (st ∷ sts) (suc zero) h = absurd (omega arith)
-status_at-past (st ∷ sts) (suc (suc n)) h = status_at-past sts (suc n) (omega arith)
 
 module _ (statuses : List Status) (views : List View) (tree : IsTreeOf statuses views) where
   -- a node is at or past all that a seat brought it to

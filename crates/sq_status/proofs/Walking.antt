@@ -1,30 +1,25 @@
 -- How walks and searches are put together from steps.
-use Rattle.std.proofs.Common.{◌≡◌, ◌≢◌, ℕ, zero, suc, ◌+◌, ◌-◌, ◌*◌, ◌^◌, ◌<◌, ◌≤◌, ◌⊎◌, true, List, [], ◌∷◌, ◌++◌, length, slice_index_or, refl, sym, ap, ◌∙◌, subst, inl, inr, ⊎_elim, append_assoc, arith}
+use Rattle.std.proofs.Common.{◌≡◌, ◌≢◌, ℕ, zero, suc, ◌+◌, ◌^◌, ◌<◌, ◌≤◌, ◌⊎◌, List, [], ◌∷◌, ◌++◌, length, slice_index_or, refl, sym, ap, ◌∙◌, subst, inl, inr, ⊎_elim, append_assoc, arith}
 use mathlib.Core.Logic.{dite}
 use native.Mathlib.Decide.{ℕ_discrete}
-use Rattle.std.specs.Prelude.{IsTrue, nat_le, nat_lt, ◌&&◌}
+use Rattle.std.specs.Prelude.{IsTrue}
 use Rattle.std.specs.List.{Contains}
 use Rattle.std.proofs.lemmas.List.Elements.{Contains-append_left, Contains-append_right, Contains-append_cases}
 use Rattle.std.proofs.lemmas.Bool.Decides.{nat_tests}
 use Rattle.sq_tree.specs.declared.status.Status.{Status}
 use Rattle.sq_tree.specs.declared.status.Status.TheVariants.{Free, Split, Claimed, Partial, Complete}
-use Rattle.sq_tree.specs.Node.{is_node, parent, span, first_leaf, is_above}
+use Rattle.sq_tree.specs.Node.{parent, node_above}
+use Rattle.sq_tree.proofs.Nested.{node_above_covers}
 use Rattle.sq_status.specs.declared.view.View.{View}
 use Rattle.sq_status.specs.View.{times, times_won, HasSeen}
 use Rattle.sq_status.specs.Plays.{IsLater, KnowsSplit, MayBring, Found, Won}
 use Rattle.sq_status.specs.declared.tree.walks.LeafClaim.TheVariants.{Held}
-use Rattle.sq_status.specs.Walks.{is_taken, Added, node_above, Passed, WalkedTo, WalkedLeaf}
+use Rattle.sq_status.specs.Walks.{is_taken, Added, Passed, WalkedTo, WalkedLeaf}
 use Rattle.sq_status.proofs.Hands.{times-append}
+use Rattle.sq_status.proofs.Sights.{only}
 
 pub in_none : {A : Type 0} (x : A) → Contains [] x → ⊥
 in_none x h = omega (arith, h.1)
-
-only_at : {A : Type 0} (a b : A) (k : ℕ) → k < 1 → slice_index_or (a ∷ []) k b ≡ b → b ≡ a
-only_at a b zero h e = sym e
-only_at a b (suc k) h e = absurd (omega arith)
-
-pub only : {A : Type 0} (a b : A) → Contains (a ∷ []) b → b ≡ a
-only a b h = only_at a b h.0 h.1 h.2
 
 pub itself : {A : Type 0} (a : A) (l : List A) → Contains (a ∷ l) a
 itself a l = (0, omega arith, refl)
@@ -174,65 +169,6 @@ parent_above leaf (suc (suc (suc zero))) h = omega arith
 parent_above leaf (suc (suc (suc (suc zero)))) h = omega arith
 parent_above leaf (suc (suc (suc (suc (suc k))))) h = absurd (omega arith)
 
-pub bounds_above : (leaf k : ℕ) → leaf < 32 → k ≤ 5 → (0 < node_above leaf k) × (node_above leaf k < 64) × (0 < k → node_above leaf k < 32)
-bounds_above leaf zero l h = (omega arith, omega arith, λ some_levels. absurd (omega arith))
-bounds_above leaf (suc zero) l h = (omega arith, omega arith, λ _. omega arith)
-bounds_above leaf (suc (suc zero)) l h = (omega arith, omega arith, λ _. omega arith)
-bounds_above leaf (suc (suc (suc zero))) l h = (omega arith, omega arith, λ _. omega arith)
-bounds_above leaf (suc (suc (suc (suc zero)))) l h = (omega arith, omega arith, λ _. omega arith)
-bounds_above leaf (suc (suc (suc (suc (suc zero))))) l h = (omega arith, omega arith, λ _. omega arith)
-bounds_above leaf (suc (suc (suc (suc (suc (suc k)))))) l h = absurd (omega arith)
-
--- how many leaves a node covers, by its level
-pub span_of_leaf : (n : ℕ) → 32 ≤ n → span n ≡ 1
-span_of_leaf n h = grind (arith, nat_tests)
-
-pub span_2 : (n : ℕ) → 16 ≤ n → n < 32 → span n ≡ 2
-span_2 n low high = grind (arith, nat_tests)
-
-pub span_4 : (n : ℕ) → 8 ≤ n → n < 16 → span n ≡ 4
-span_4 n low high = grind (arith, nat_tests)
-
-pub span_8 : (n : ℕ) → 4 ≤ n → n < 8 → span n ≡ 8
-span_8 n low high = grind (arith, nat_tests)
-
-pub span_16 : (n : ℕ) → 2 ≤ n → n < 4 → span n ≡ 16
-span_16 n low high = grind (arith, nat_tests)
-
-pub span_32 : (n : ℕ) → n < 2 → span n ≡ 32
-span_32 n high = grind (arith, nat_tests)
-
--- a node is above a leaf where the leaf is one of those that it covers, and the other way round
-above_by : (first size leaf : ℕ) → first ≤ leaf → leaf < first + size → (nat_le first leaf && nat_lt leaf (first + size)) ≡ true
-above_by first size leaf low high = grind (arith, nat_tests)
-
-pub is_above_by : (n leaf : ℕ) → first_leaf n ≤ leaf → leaf < first_leaf n + span n → IsTrue (is_above n leaf)
-is_above_by n leaf low high = above_by (first_leaf n) (span n) leaf low high
-
-covers : (n leaf size : ℕ) → span n ≡ size → n * size ≤ 32 + leaf → 32 + leaf < n * size + size → IsTrue (is_above n leaf)
-covers n leaf size e low high =
-    let first : first_leaf n ≡ n * size - 32 = ap (λ (s : ℕ). n * s - 32) e in
-    is_above_by n leaf (omega (arith, first)) (omega (arith, first, e))
-
-is_above_at : (leaf k : ℕ) → leaf < 32 → k ≤ 5 → IsTrue (is_above (node_above leaf k) leaf)
-is_above_at leaf zero l h = covers (node_above leaf 0) leaf 1 (span_of_leaf (node_above leaf 0) (omega arith)) (omega arith) (omega arith)
-is_above_at leaf (suc zero) l h = covers (node_above leaf 1) leaf 2 (span_2 (node_above leaf 1) (omega arith) (omega arith)) (omega arith) (omega arith)
-is_above_at leaf (suc (suc zero)) l h = covers (node_above leaf 2) leaf 4 (span_4 (node_above leaf 2) (omega arith) (omega arith)) (omega arith) (omega arith)
-is_above_at leaf (suc (suc (suc zero))) l h = covers (node_above leaf 3) leaf 8 (span_8 (node_above leaf 3) (omega arith) (omega arith)) (omega arith) (omega arith)
-is_above_at leaf (suc (suc (suc (suc zero)))) l h = covers (node_above leaf 4) leaf 16 (span_16 (node_above leaf 4) (omega arith) (omega arith)) (omega arith) (omega arith)
-is_above_at leaf (suc (suc (suc (suc (suc zero))))) l h = covers (node_above leaf 5) leaf 32 (span_32 (node_above leaf 5) (omega arith)) (omega arith) (omega arith)
-is_above_at leaf (suc (suc (suc (suc (suc (suc k)))))) l h = absurd (omega arith)
-
--- what the walk may do at the next node
-pub node_by : (n : ℕ) → 0 < n → n < 64 → IsTrue (is_node n)
-node_by n low high = grind (arith, nat_tests)
-
-pub next_inner : (leaf levels : ℕ) → leaf < 32 → 0 < levels → levels ≤ 5 → IsTrue (is_node (node_above leaf levels)) × (node_above leaf levels < 32)
-next_inner leaf levels l some_levels h = let b = bounds_above leaf levels l h in (node_by (node_above leaf levels) b.0 b.1, b.2 some_levels)
-
-pub leaf_node : (leaf : ℕ) → leaf < 32 → IsTrue (is_node (32 + leaf))
-leaf_node leaf l = node_by (32 + leaf) (omega arith) (omega arith)
-
 top : (leaf levels : ℕ) → leaf < 32 → levels ≤ 5 → 1 < node_above leaf levels → levels < 5
 top leaf levels l h inner = dite (ℕ_discrete levels 5) (λ same. let one : node_above leaf 5 < 2 = omega arith in let e = ap (node_above leaf) same in absurd (omega arith)) (λ other. omega arith)
 
@@ -254,7 +190,7 @@ may_claim v n pull small live = record { taken = λ e. cc; fits = (small, λ e. 
 -- the walk ends at a node that is taken
 pub walk_held : (leaf levels pull : ℕ) (v u w : View) (st : Status) → leaf < 32 → levels ≤ 5 → WalkedTo leaf levels v u → IsTrue (is_taken st) → Found u (node_above leaf levels) st w
     → WalkedLeaf leaf pull v w (Held (node_above leaf levels) st)
-walk_held leaf levels pull v u w st l h walked taken found = (is_above_at leaf levels l h, taken, (levels, u, refl, walked, found))
+walk_held leaf levels pull v u w st l h walked taken found = ((node_above_covers leaf levels l h).above, taken, (levels, u, refl, walked, found))
 
 -- what is neither free nor split is taken
 pub taken_by : (st : Status) → st ≢ Free → st ≢ Split → IsTrue (is_taken st)

@@ -10,7 +10,7 @@ use Rattle.sq_tree.specs.declared.fault.BeginFault.{BeginFault}
 use Rattle.sq_tree.specs.declared.fault.BeginFault.TheVariants as begin
 use Rattle.sq_tree.specs.declared.fault.CompleteFault.{CompleteFault}
 use Rattle.sq_tree.specs.declared.fault.CompleteFault.TheVariants as complete
-use Rattle.sq_tree.specs.Node.{is_node, is_leaf, parent}
+use Rattle.sq_tree.specs.Node.{is_leaf, parent}
 use Rattle.sq_status.specs.declared.view.View.{View}
 use Rattle.sq_status.specs.Plays.{Found, Won}
 
@@ -31,22 +31,18 @@ abbrev pub FoundNotFree : View → ℕ → Status → View → Type 0
 FoundNotFree v n found w = (found ≢ Free) × ((u : View) × FoundLive v n u × Found u n found w)
 
 abbrev pub SplitRefused : ℕ → View → View → SplitFault → Type 0
-SplitRefused n v w split.NoSuchNode = (is_node n ≡ false) × (w ≡ v)
-SplitRefused n v w split.IsLeaf = IsTrue (is_node n) × IsTrue (is_leaf n) × (w ≡ v)
-SplitRefused n v w split.NotLive = IsTrue (is_node n) × (is_leaf n ≡ false) × FoundNotLive v n w
-SplitRefused n v w (split.NotFree found) = IsTrue (is_node n) × (is_leaf n ≡ false) × FoundNotFree v n found w
+SplitRefused n v w split.IsLeaf = IsTrue (is_leaf n) × (w ≡ v)
+SplitRefused n v w split.NotLive = (is_leaf n ≡ false) × FoundNotLive v n w
+SplitRefused n v w (split.NotFree found) = (is_leaf n ≡ false) × FoundNotFree v n found w
 
 abbrev pub ClaimRefused : ℕ → View → View → ClaimFault → Type 0
-ClaimRefused n v w claim.NoSuchNode = (is_node n ≡ false) × (w ≡ v)
-ClaimRefused n v w claim.NotLive = IsTrue (is_node n) × FoundNotLive v n w
-ClaimRefused n v w (claim.NotFree found) = IsTrue (is_node n) × FoundNotFree v n found w
+ClaimRefused n v w claim.NotLive = FoundNotLive v n w
+ClaimRefused n v w (claim.NotFree found) = FoundNotFree v n found w
 
 abbrev pub BeginRefused : ℕ → ℕ → View → View → BeginFault → Type 0
-BeginRefused n pull v w begin.NoSuchNode = (is_node n ≡ false) × (w ≡ v)
-BeginRefused n pull v w (begin.NotClaimed found) = IsTrue (is_node n) × ((other : ℕ) → found ≢ Claimed other) × Found v n found w
-BeginRefused n pull v w begin.WrongPull = IsTrue (is_node n) × ((other : ℕ) × (other ≢ pull) × Found v n (Claimed other) w)
+BeginRefused n pull v w (begin.NotClaimed found) = ((other : ℕ) → found ≢ Claimed other) × Found v n found w
+BeginRefused n pull v w begin.WrongPull = (other : ℕ) × (other ≢ pull) × Found v n (Claimed other) w
 
 abbrev pub CompleteRefused : ℕ → ℕ → View → View → CompleteFault → Type 0
-CompleteRefused n pull v w complete.NoSuchNode = (is_node n ≡ false) × (w ≡ v)
-CompleteRefused n pull v w (complete.NotPartial found) = IsTrue (is_node n) × ((other : ℕ) → found ≢ Partial other) × Found v n found w
-CompleteRefused n pull v w complete.WrongPull = IsTrue (is_node n) × ((other : ℕ) × (other ≢ pull) × Found v n (Partial other) w)
+CompleteRefused n pull v w (complete.NotPartial found) = ((other : ℕ) → found ≢ Partial other) × Found v n found w
+CompleteRefused n pull v w complete.WrongPull = (other : ℕ) × (other ≢ pull) × Found v n (Partial other) w

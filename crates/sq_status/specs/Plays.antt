@@ -5,15 +5,17 @@ use lib.ListN.{get_elem?}
 use Rattle.atomic_table.specs.Table.{Step, Me}
 use Rattle.sq_tree.specs.declared.status.Status.{Status}
 use Rattle.sq_tree.specs.declared.status.Status.TheVariants.{Free, Split}
+use Rattle.sq_tree.specs.declared.node.TheConstants.{LEAVES}
 use Rattle.sq_tree.specs.Node.{parent}
 use Rattle.sq_tree.specs.Status.{word_of, pull_of, before}
+use Rattle.sq_tree.specs.Tree.{status_at}
 use Rattle.sq_status.specs.declared.view.View.{View}
 use Rattle.sq_status.specs.View.{times_won, won, saw, HasSeen}
-use Rattle.sq_status.specs.Rule.{status_at, IsPast, IsTreeOf}
+use Rattle.sq_status.specs.Rule.{IsPast, IsTreeOf}
 
 -- a node may have this status: the pull has 32 bits, and a leaf isn't split
 abbrev pub IsStatusOf : ℕ → Status → Type 0
-IsStatusOf n st = (pull_of st < 2 ^ 32) × (st ≡ Split → n < 32)
+IsStatusOf n st = (pull_of st < 2 ^ 32) × (st ≡ Split → n < LEAVES)
 
 -- the status is at or past all that the seat found at the node, and all that it brought the node to
 abbrev pub IsLater : View → ℕ → Status → Type 0

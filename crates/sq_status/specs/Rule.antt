@@ -1,17 +1,15 @@
 -- The rule of a tree that several seats share: what holds, between any two steps, of the statuses of its nodes and of the views of all its seats.
-use Rattle.std.specs.Prelude.{◌≡◌, ◌≢◌, ℕ, ◌+◌, ◌^◌, ◌<◌, ◌≤◌, true, List, ◌∷◌, map, length, slice_index_or}
+use Rattle.std.specs.Prelude.{◌≡◌, ◌≢◌, ℕ, ◌+◌, ◌^◌, ◌<◌, ◌≤◌, true, List, map, length}
 use mathlib.Core.Option.{some}
 use lib.ListN.{get_elem?}
 use Rattle.sq_tree.specs.declared.status.Status.{Status}
 use Rattle.sq_tree.specs.declared.status.Status.TheVariants.{Free, Split}
+use Rattle.sq_tree.specs.declared.node.TheConstants.{NODES, LEAVES}
 use Rattle.sq_tree.specs.Node.{parent}
 use Rattle.sq_tree.specs.Status.{word_of, pull_of, is_past}
+use Rattle.sq_tree.specs.Tree.{status_at}
 use Rattle.sq_status.specs.declared.view.View.{View}
 use Rattle.sq_status.specs.View.{one_if, times_won, HasSeen, HasNoLists, alive, total}
-
--- the status of a node, counted from 1. Where there is no such node it is free
-abbrev pub status_at : List Status → ℕ → Status
-status_at statuses n = slice_index_or (Free ∷ statuses) n Free
 
 -- the second status is the first or comes after it
 abbrev pub IsPast : Status → Status → Type 0
@@ -19,10 +17,10 @@ IsPast earlier later = is_past earlier later ≡ true
 
 -- the statuses are those of a split tree, and they are what the seats made of it and saw of it
 pub record IsTreeOf (statuses : List Status) (views : List View) : Type 0 where
-  pub count : length statuses ≡ 63
+  pub count : length statuses ≡ NODES
   -- the pulls have numbers of 32 bits
   pub pulls : (n : ℕ) → pull_of (status_at statuses n) < 2 ^ 32
-  pub leaves : (n : ℕ) → 32 ≤ n → status_at statuses n ≢ Split
+  pub leaves : (n : ℕ) → LEAVES ≤ n → status_at statuses n ≢ Split
   -- a node that isn't free has a split parent
   pub above : (n : ℕ) → 1 < n → status_at statuses n ≢ Free → status_at statuses (parent n) ≡ Split
   -- over all seats a node was brought to a status once where it has that status or a later one, and else never

@@ -1,8 +1,9 @@
 -- What the calls tell that go over several nodes.
-use Rattle.std.specs.Prelude.{◌≡◌, ℕ, ◌+◌, ◌-◌, ◌*◌, ◌/◌, ◌^◌, ◌<◌, ◌≤◌, ◌⊎◌, Bool, true, false, IsTrue, List, [], ◌∷◌, ◌++◌, length, Contains, Option, Some, None}
+use Rattle.std.specs.Prelude.{◌≡◌, ℕ, ◌+◌, ◌-◌, ◌*◌, ◌<◌, ◌≤◌, ◌⊎◌, Bool, true, false, IsTrue, List, [], ◌∷◌, ◌++◌, length, Contains, Option, Some, None}
 use Rattle.sq_tree.specs.declared.status.Status.{Status}
 use Rattle.sq_tree.specs.declared.status.Status.TheVariants.{Free, Split, Claimed, Partial, Complete}
-use Rattle.sq_tree.specs.Node.{is_node, span, first_leaf, is_above, is_under}
+use Rattle.sq_tree.specs.declared.node.TheConstants.{LEAVES}
+use Rattle.sq_tree.specs.Node.{span, first_leaf, is_above, is_under, node_above}
 use Rattle.sq_status.specs.declared.view.View.{View}
 use Rattle.sq_status.specs.declared.tree.walks.LeafClaim.{LeafClaim}
 use Rattle.sq_status.specs.declared.tree.walks.LeafClaim.TheVariants as claim
@@ -22,24 +23,20 @@ pub record Added (v : View) (splits : List ℕ) (looks : List (ℕ × Status)) (
   pub splits_later : (n : ℕ) → Contains splits n → IsLater v n Free
   pub looks_later : (n : ℕ) (st : Status) → Contains looks (n, st) → IsLater v n st
 
--- the node so many levels above the leaf's own
-abbrev pub node_above : ℕ → ℕ → ℕ
-node_above leaf levels = (32 + leaf) / 2 ^ levels
-
--- each node that is more than so many levels above the leaf's own was split or found split, and no other node was
+-- each node more than `levels` levels above the leaf's own was split or found split, and no other node was
 pub record Passed (leaf levels : ℕ) (splits : List ℕ) (looks : List (ℕ × Status)) : Type 0 where
   pub each : (k : ℕ) → levels < k → k ≤ 5 → Contains splits (node_above leaf k) ⊎ Contains looks (node_above leaf k, Split)
   pub splits_only : (n : ℕ) → Contains splits n → (k : ℕ) × (levels < k) × (k ≤ 5) × (n ≡ node_above leaf k)
   pub looks_only : (n : ℕ) (st : Status) → Contains looks (n, st) → (k : ℕ) × (levels < k) × (k ≤ 5) × (n ≡ node_above leaf k) × (st ≡ Split)
   pub count : length splits + length looks + levels ≡ 5
 
--- from node 1 down to the node so many levels above the leaf's own, which isn't looked at yet
+-- from node 1 down to the node `levels` levels above the leaf's own, which isn't looked at yet
 abbrev pub WalkedTo : ℕ → ℕ → View → View → Type 0
 WalkedTo leaf levels v w = (splits : List ℕ) × (looks : List (ℕ × Status)) × Passed leaf levels splits looks × Added v splits looks w
 
 -- a walk from node 1 to a leaf ends by a claim of the leaf's node, or at the first node that a pull has
 abbrev pub WalkedLeaf : ℕ → ℕ → View → View → LeafClaim → Type 0
-WalkedLeaf leaf pull v w (claim.Claimed n) = (n ≡ 32 + leaf) × ((u : View) × WalkedTo leaf 0 v u × Won u n (Claimed pull) w)
+WalkedLeaf leaf pull v w (claim.Claimed n) = (n ≡ LEAVES + leaf) × ((u : View) × WalkedTo leaf 0 v u × Won u n (Claimed pull) w)
 WalkedLeaf leaf pull v w (claim.Held n st) =
     IsTrue (is_above n leaf) × IsTrue (is_taken st) × ((levels : ℕ) × (u : View) × (n ≡ node_above leaf levels) × WalkedTo leaf levels v u × Found u n st w)
 
@@ -57,7 +54,7 @@ abbrev pub Searched : ℕ → ℕ → View → View → Option ℕ → Type 0
 Searched n pull v w None =
     (looks : List (ℕ × Status)) × Added v [] looks w × (length looks ≤ nodes_under n) × ((leaf : ℕ) → IsTrue (is_above n leaf) → HeldAbove looks leaf)
 Searched n pull v w (Some m) =
-    IsTrue (is_node m) × IsTrue (is_under n m)
+    IsTrue (is_under n m)
     × ((looks : List (ℕ × Status)) × (u : View) × Added v [] looks u × Won u m (Claimed pull) w × (length looks + 1 ≤ nodes_under n)
     × ((leaf : ℕ) → first_leaf n ≤ leaf → leaf < first_leaf m → HeldAbove looks leaf))
 

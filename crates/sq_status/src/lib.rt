@@ -8,6 +8,3 @@ mod view;
 
 pub use tree::{LeafClaim, StatusTree, TreeSeat};
 pub use view::View;
-
-#[cfg(test)]
-mod tests;

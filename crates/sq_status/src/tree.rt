@@ -1,5 +1,6 @@
 // The tree and its seats.
 ghost use Rattle.std.specs.Prelude.{◌≡◌, ℕ, true, false, List, [], ◌∷◌, map, IfOk};
+ghost use Rattle.sq_tree.specs.declared.node.TheConstants.{NODES};
 ghost use Rattle.std.specs.Slots.{slots_items, slots_len, IsFull};
 ghost use mathlib.Core.Option.{some};
 ghost use lib.ListN.{get_elem?};
@@ -14,7 +15,7 @@ mod walks;
 use crate::rule::{Handing, TreeRule};
 use crate::view::View;
 use atomic_table::{Closed, Seat, Table};
-use sq_tree::Status;
+use sq_tree::{NODES, Status};
 use std::alloc::{AllocError, Global};
 use std::marker::Model;
 pub use walks::LeafClaim;
@@ -29,12 +30,13 @@ pub struct StatusTree {
 impl Model for StatusTree {
     ghost use Rattle.std.specs.Prelude.{◌≡◌};
     ghost use Rattle.atomic_table.specs.Seated.{TableId};
+    ghost use Rattle.sq_tree.specs.declared.node.TheConstants.{NODES};
 
     ghost Value = { TableId };
 
     ghost view = { λ t. t.table.shared.table_id };
 
-    ghost invariant = { λ t. (t.table.shared.table_id.words ≡ 63) × (t.table.shared.table_id.slots ≡ 0) };
+    ghost invariant = { λ t. (t.table.shared.table_id.words ≡ NODES) × (t.table.shared.table_id.slots ≡ 0) };
 }
 
 /// The right to make steps on a tree. It has no bytes. A contract sees its tree and its view.
@@ -59,7 +61,7 @@ impl StatusTree {
     pub fn open(alloc: Global) -> Result<(StatusTree, TreeSeat), AllocError>
         ensures { IfOk result (λ t. (t.1.tree ≡ t.0) × (t.1.view ≡ fresh true false)) }
     {
-        let (table, seat) = Table::of_words(alloc, &[0; 63], &())?;
+        let (table, seat) = Table::of_words(alloc, &[0; NODES], &())?;
         Ok((StatusTree { table }, TreeSeat { seat }))
     }
 
@@ -90,7 +92,7 @@ impl StatusTree {
 
     /// The statuses of all nodes, that of node 1 first. Where each seat that was given was also taken, they
     /// are those that the first seat's lists name.
-    pub fn close(self, seat: TreeSeat) -> [Status; 63]
+    pub fn close(self, seat: TreeSeat) -> [Status; NODES]
         requires tree { seat.tree ≡ self }
         ensures rule { (id : ℕ) × (views : List View) × IsTreeOf result views × (get_elem? views id ≡ some seat.view) }
         ensures all { seat.view.first ≡ true → seat.view.given ≡ seat.view.taken → IsTreeOf result (seat.view ∷ []) }
@@ -105,12 +107,12 @@ impl StatusTree {
 }
 
 // The statuses that a closed table's words are.
-fn statuses_of(closed: &Closed<(), Global>) -> [Status; 63]
-    requires full { IsFull closed.now.words × (slots_len closed.now.words ≡ 63) }
+fn statuses_of(closed: &Closed<(), Global>) -> [Status; NODES]
+    requires full { IsFull closed.now.words × (slots_len closed.now.words ≡ NODES) }
     requires kept { (views : List View) × Kept (slots_items closed.now.words) views }
     ensures { slots_items closed.now.words ≡ map word_of result }
 {
-    let mut statuses = [Status::Free; 63];
+    let mut statuses = [Status::Free; NODES];
     for (i, status) in statuses.iter_mut().enumerate() {
         *status = Status::from_word(closed.word(i));
     }

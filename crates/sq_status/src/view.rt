@@ -1,19 +1,19 @@
 // What a seat knows and has done.
-use sq_tree::Status;
+use sq_tree::{NodeId, Status};
 use std::collections::LinkedList;
 
 /// What a seat of a tree has done and seen. It stands in clauses and proofs alone: no value of it is made.
 pub struct View {
     /// The nodes that the seat split, the newest first.
-    pub split: LinkedList<u64>,
+    pub split: LinkedList<NodeId>,
     /// The nodes that it claimed, each with its pull.
-    pub claimed: LinkedList<(u64, u32)>,
+    pub claimed: LinkedList<(NodeId, u32)>,
     /// The nodes that it began, each with its pull.
-    pub begun: LinkedList<(u64, u32)>,
+    pub begun: LinkedList<(NodeId, u32)>,
     /// The nodes that it completed, each with its pull.
-    pub completed: LinkedList<(u64, u32)>,
+    pub completed: LinkedList<(NodeId, u32)>,
     /// The nodes that it looked at, each with the status that it found.
-    pub looked: LinkedList<(u64, Status)>,
+    pub looked: LinkedList<(NodeId, Status)>,
     /// Whether it is the seat that the tree was opened with.
     pub first: bool,
     /// Whether it was joined into the first seat.

@@ -8,9 +8,10 @@ use Rattle.sq_schema.specs.declared.txn.Reply.{Reply}
 use Rattle.sq_schema.specs.declared.txn.Reply.TheVariants.{Committed, Aborted}
 use Rattle.sq_schema.specs.declared.fault.ApplyFault.{ApplyFault}
 use Rattle.sq_schema.specs.declared.fault.ApplyFault.TheVariants.{LogFull, Memory}
-use Rattle.sq_schema.specs.Family.{FamilyValue, log_limit, answered}
+use Rattle.sq_schema.specs.declared.family.TheConstants.{MAX_LOG}
+use Rattle.sq_schema.specs.Family.{FamilyValue, answered}
 use Rattle.sq_store.specs.StoreValue.{StoreValue, absent, family_at, with_txn, store_after}
-use Rattle.sq_store.specs.Listed.{are_rising, store_of, opened, IsAt, IsGap}
+use Rattle.sq_store.specs.Listed.{roots_rise, store_of, opened, IsRootAt, IsRootGap}
 use Rattle.sq_store.proofs.Lists.{get_at, get_gap, insert_at, insert_gap}
 
 -- a family keeps its root key
@@ -20,7 +21,7 @@ root_kept old now txn (Ok (Aborted at cause)) ok err = ap (λ f. f.root) ok
 root_kept old now txn (Err fault) ok err = ap (λ f. f.root) err
 
 -- the store of a list that has a family of the transaction's root key at this place
-module _ (store : StoreValue) (families : List FamilyValue) (txn : TxnValue) (at : ℕ) (rising : are_rising families ≡ true) (is : store_of families ≡ store) (here : IsAt families txn.root at) where
+module _ (store : StoreValue) (families : List FamilyValue) (txn : TxnValue) (at : ℕ) (rising : roots_rise families ≡ true) (is : store_of families ≡ store) (here : IsRootAt families txn.root at) where
   pub get_found : (old : FamilyValue) → old ≡ get_or families at old → get store txn.root ≡ Some old
   get_found old read = ap (λ s. get s txn.root) (sym is) ∙ get_at families txn.root at old rising here ∙ ap Some (sym read)
 
@@ -30,10 +31,10 @@ module _ (store : StoreValue) (families : List FamilyValue) (txn : TxnValue) (at
   root_found : (old : FamilyValue) → old ≡ get_or families at old → old.root ≡ txn.root
   root_found old read = ap (λ f. f.root) read ∙ here.here old
 
-  at_root : (now : FamilyValue) → now.root ≡ txn.root → IsAt families now.root at
+  at_root : (now : FamilyValue) → now.root ≡ txn.root → IsRootAt families now.root at
   at_root now same = record { within = here.within; here = λ d. here.here d ∙ sym same }
 
-  pub rising_applied : (old now : FamilyValue) (result : Result Reply ApplyFault) → old ≡ get_or families at old → IfOk result (λ r. now ≡ answered old txn r) → OnErr result (now ≡ old) → are_rising (set families at now) ≡ true
+  pub rising_applied : (old now : FamilyValue) (result : Result Reply ApplyFault) → old ≡ get_or families at old → IfOk result (λ r. now ≡ answered old txn r) → OnErr result (now ≡ old) → roots_rise (set families at now) ≡ true
   rising_applied old now result read ok err =
       let same : now.root ≡ txn.root = root_kept old now txn result ok err ∙ root_found old read in
       (insert_at families at now rising (at_root now same)).rising
@@ -50,22 +51,18 @@ module _ (store : StoreValue) (families : List FamilyValue) (txn : TxnValue) (at
   store_applied old now (Ok (Aborted n cause)) read ok = unchanged old now read ok
   store_applied old now (Err fault) read ok = tt
 
-  pub store_kept : (old now : FamilyValue) (result : Result Reply ApplyFault) → old ≡ get_or families at old → OnErr result (now ≡ old) → OnErr result (store_of (set families at now) ≡ store)
-  store_kept old now (Ok reply) read err = tt
-  store_kept old now (Err fault) read err = unchanged old now read err
-
 -- the store of a list that has no family of the transaction's root key, and whose place this is
-module _ (store : StoreValue) (families : List FamilyValue) (txn : TxnValue) (at : ℕ) (rising : are_rising families ≡ true) (is : store_of families ≡ store) (gap : IsGap families txn.root at) where
+module _ (store : StoreValue) (families : List FamilyValue) (txn : TxnValue) (at : ℕ) (rising : roots_rise families ≡ true) (is : store_of families ≡ store) (gap : IsRootGap families txn.root at) where
   pub get_absent : get store txn.root ≡ None
   get_absent = ap (λ s. get s txn.root) (sym is) ∙ get_gap families txn.root at rising gap
 
   pub family_absent : family_at store txn.root ≡ absent txn.root
   family_absent = ap (λ found. unwrap_or found (absent txn.root)) get_absent
 
-  pub rising_opened : (now : List FamilyValue) (result : Result Reply ApplyFault) → IfOk result (λ r. now ≡ opened families at txn r) → OnErr result (now ≡ families) → are_rising now ≡ true
-  rising_opened now (Ok (Committed answers)) ok err = ap are_rising ok ∙ (insert_gap families at (with_txn (absent txn.root) txn) rising gap).rising
-  rising_opened now (Ok (Aborted n cause)) ok err = ap are_rising ok ∙ rising
-  rising_opened now (Err fault) ok err = ap are_rising err ∙ rising
+  pub rising_opened : (now : List FamilyValue) (result : Result Reply ApplyFault) → IfOk result (λ r. now ≡ opened families at txn r) → OnErr result (now ≡ families) → roots_rise now ≡ true
+  rising_opened now (Ok (Committed answers)) ok err = ap roots_rise ok ∙ (insert_gap families at (with_txn (absent txn.root) txn) rising gap).rising
+  rising_opened now (Ok (Aborted n cause)) ok err = ap roots_rise ok ∙ rising
+  rising_opened now (Err fault) ok err = ap roots_rise err ∙ rising
 
   pub store_opened : (now : List FamilyValue) (result : Result Reply ApplyFault) → IfOk result (λ r. now ≡ opened families at txn r) → IfOk result (λ r. store_of now ≡ store_after store txn r)
   store_opened now (Ok (Committed answers)) ok =
@@ -74,12 +71,8 @@ module _ (store : StoreValue) (families : List FamilyValue) (txn : TxnValue) (at
   store_opened now (Ok (Aborted n cause)) ok = ap store_of ok ∙ is
   store_opened now (Err fault) ok = tt
 
-  pub store_unopened : (now : List FamilyValue) (result : Result Reply ApplyFault) → OnErr result (now ≡ families) → OnErr result (store_of now ≡ store)
-  store_unopened now (Ok reply) err = tt
-  store_unopened now (Err fault) err = ap store_of err ∙ is
-
   -- the log of a family that isn't there isn't full
-  pub not_full : (result : Result Reply ApplyFault) → IfErr result (λ fault. fault ≡ Memory) → IsErrOf result LogFull ↔ (log_limit ≤ length (family_at store txn.root).log)
+  pub not_full : (result : Result Reply ApplyFault) → IfErr result (λ fault. fault ≡ Memory) → IsErrOf result LogFull ↔ (MAX_LOG ≤ length (family_at store txn.root).log)
   not_full result memory = (λ full. absurd (by_case result memory full), λ long. absurd (let none = ap (λ f. length f.log) family_absent in omega (arith, none, long)))
     where
       by_case : (result : Result Reply ApplyFault) → IfErr result (λ fault. fault ≡ Memory) → IsErrOf result LogFull → ⊥

@@ -1,33 +1,27 @@
 -- The families of a store from one root key up to another.
-use Rattle.std.proofs.Common.{subst, ⊎_elim, ◌≡◌, ℕ, Bool, true, false, List, [], ◌∷◌, refl, sym, ap, ◌∙◌, arith, true≢false, eq-eqb, T}
-use Rattle.std.specs.Prelude.{◌+◌, ◌<◌, ◌≤◌, ◌≢◌, ◌==◌, ◌&&◌, if◌then◌else◌, not, nat_le, nat_lt, map, Option, Some, None, is_some}
-use Rattle.std.specs.declared.cmp.Ordering.TheVariants.{Less, Equal, Greater}
+use Rattle.std.proofs.Common.{subst, ⊎_elim, ◌≡◌, ℕ, Bool, true, false, List, [], ◌∷◌, refl, sym, ap, ◌∙◌, arith, true≢false, eq-eqb}
+use Rattle.std.specs.Prelude.{◌+◌, ◌<◌, ◌≤◌, ◌≢◌, ◌&&◌, if◌then◌else◌, not, nat_le, nat_lt, map, filter, Option, Some, None, is_some}
+use Rattle.std.specs.declared.cmp.Ordering.TheVariants.{Equal}
 use Rattle.std.specs.Ordering.{nat_cmp, is_lt, is_eq, eq_by_cmp}
 use Rattle.std.specs.Cmp.{unsigned_tied, nat_cmp_total}
 use Rattle.std.specs.FinMap.{get, entries, entries_sorted, retain_keys, get-entries, get-retain_keys, is_sorted, from_sorted, get-from_sorted, entries-from_sorted, same_map, nat_cmp-IsAntisymmetric}
 use Rattle.std.specs.FinMap.Entries.{find, below_all, where_key, is_sorted-where_key, find-where_key}
-use Rattle.std.proofs.lemmas.Bool.{ne_eqb, eqb-true, ltb-true, leb-true, le-leb, lt-ltb, cases_lt, cases_eq}
+use Rattle.std.proofs.lemmas.Bool.{ne_eqb, eqb-true, ltb-true, leb-true, le-leb, lt-leb, le-ltb, lt-ltb, and_left, and_right, cases_lt, cases_eq}
 use Rattle.sq_schema.specs.Family.{FamilyValue}
-use Rattle.sq_chunk.specs.ChunkValue.{are_within}
+use Rattle.sq_store.specs.InOrder.{are_within}
 use Rattle.sq_store.specs.StoreValue.{StoreValue, family_in, families_between, without_between}
+use Rattle.sq_store.proofs.Order.{less_from_cmp}
+use Rattle.sq_store.proofs.Lists.{from_T}
 use Rattle.sq_store.proofs.Rising.{both_left, both_right}
 
 tied_is : (x y : ℕ) → eq_by_cmp nat_cmp x y ≡ true → x ≡ y
 tied_is x y e = eqb-true x y (sym (unsigned_tied x y) ∙ e)
 
-less_is : (x y : ℕ) → is_lt (nat_cmp x y) ≡ true → x < y
-less_is x y e = ltb-true x y (here (nat_lt x y) (x == y) e)
-  where
-    here : (a b : Bool) → is_lt (if a then Less else if b then Equal else Greater) ≡ true → a ≡ true
-    here true b h = refl
-    here false true h = absurd (true≢false (sym h))
-    here false false h = absurd (true≢false (sym h))
-
 -- no entry stands at a key up to one that all keys are above
 none_upto : (x key : ℕ) (es : List (ℕ × FamilyValue)) → below_all nat_cmp x es ≡ true → key ≤ x → find nat_cmp key es ≡ None
 none_upto x key [] e low = refl
 none_upto x key (entry ∷ es) e low =
-    let above = less_is x entry.0 (both_left _ _ e) in
+    let above = less_from_cmp x entry.0 (both_left _ _ e) in
     ap (λ b. if b then Some entry.1 else find nat_cmp key es) (unsigned_tied key entry.0 ∙ ne_eqb key entry.0 (λ same. absurd (omega (arith, above, same, low))))
     ∙ none_upto x key es (both_right (is_lt (nat_cmp x entry.0)) _ e) low
 
@@ -84,10 +78,6 @@ is_between lo hi root = nat_le lo root && nat_lt root hi
 kept : (lo hi : ℕ) (store : StoreValue) (key : ℕ) → get (retain_keys store (is_between lo hi)) key ≡ (if is_between lo hi key then get store key else None)
 kept lo hi store key = get-retain_keys store (is_between lo hi) key (λ x tied. ap (is_between lo hi) (sym (tied_is key x (ap is_eq tied))))
 
-from_T : (b : Bool) → T b → b ≡ true
-from_T true h = refl
-from_T false h = absurd h
-
 -- the entries that a test of the keys keeps
 entries-retain_keys : (p : ℕ → Bool) (store : StoreValue) → entries (retain_keys store p) ≡ where_key nat_cmp p (entries store)
 entries-retain_keys p store =
@@ -142,3 +132,33 @@ get-without lo hi store key =
     flip : (b : Bool) (found : Option FamilyValue) → (if not b then found else None) ≡ (if b then None else found)
     flip true found = refl
     flip false found = refl
+
+none_falls : (lo hi key : ℕ) → hi ≤ lo → is_between lo hi key ≡ false
+none_falls lo hi key falls =
+    ⊎_elim
+    (λ (below : key < lo). and_left (nat_le lo key) (nat_lt key hi) (lt-leb lo key below))
+    (λ (from : lo ≤ key). and_right (nat_le lo key) (nat_lt key hi) (le-ltb key hi (omega (arith, falls, from))))
+    (cases_lt key lo)
+
+-- between bounds that fall there is none
+pub between_none : (store : StoreValue) (lo hi : ℕ) → hi ≤ lo → families_between store lo hi ≡ []
+between_none store lo hi falls = ap (map (λ entry. entry.1)) (none_passes (entries store))
+  where
+    none_passes : (es : List (ℕ × FamilyValue)) → filter (λ entry. nat_le lo entry.0 && nat_lt entry.0 hi) es ≡ []
+    none_passes [] = refl
+    none_passes (entry ∷ es) = rw (none_falls lo hi entry.0 falls) (none_passes es)
+
+pub without_none : (store : StoreValue) (lo hi : ℕ) → hi ≤ lo → without_between store lo hi ≡ store
+without_none store lo hi falls =
+    same_map nat_cmp_total nat_cmp-IsAntisymmetric (without_between store lo hi) store (λ key. get-without lo hi store key ∙ ap (λ b. if b then None else get store key) (none_falls lo hi key falls))
+
+entries_again : (es : List (ℕ × FamilyValue)) → is_sorted nat_cmp es ≡ true → AreRooted es → es ≡ map (λ family. (family.root, family)) (map (λ entry. entry.1) es)
+entries_again [] sorted rooted = refl
+entries_again (entry ∷ es) sorted rooted =
+    let root : entry.0 ≡ entry.1.root = sym (rooted entry.0 entry.1 (found_first entry es)) in
+    let rest = entries_again es (both_right (below_all nat_cmp entry.0 es) _ sorted) (rooted_rest entry es sorted rooted) in
+    (λ i. (root i, entry.1) ∷ rest i)
+
+-- the entries of a store whose families are those of their keys are its families with their root keys
+pub entries-rooted : (store : StoreValue) → IsRooted store → entries store ≡ map (λ family. (family.root, family)) (map (λ entry. entry.1) (entries store))
+entries-rooted store rooted = entries_again (entries store) (sorted_is store) (λ key family e. rooted.root key family (get-entries store key ∙ e))

@@ -9,3 +9,7 @@ pub mod Merges
 pub mod Applies
 pub mod Cuts
 pub mod Joins
+pub mod Given
+pub mod Runs
+pub mod Taken
+pub mod Fullest

@@ -14,23 +14,23 @@ use Rattle.sq_schema.specs.Family.{FamilyValue}
 use Rattle.sq_schema.proofs.Entries.{find_at, put_at, find_gap, put_gap}
 use Rattle.sq_store.specs.StoreValue.{StoreValue}
 use Rattle.sq_store.specs.InOrder.{families_in, HoldsByRoot}
-use Rattle.sq_store.specs.Listed.{entries_of, are_rising, store_of, IsAt, IsGap}
+use Rattle.sq_store.specs.Listed.{entries_of, roots_rise, store_of, IsRootAt, IsRootGap}
 use Rattle.sq_store.proofs.Order.{cmp_less, cmp_greater}
 
-pub entries-store_of : (families : List FamilyValue) → are_rising families ≡ true → entries (store_of families) ≡ entries_of families
-entries-store_of families rising = entries-from_sorted nat_cmp (entries_of families) (T_from_true (are_rising families) rising)
+pub entries-store_of : (families : List FamilyValue) → roots_rise families ≡ true → entries (store_of families) ≡ entries_of families
+entries-store_of families rising = entries-from_sorted nat_cmp (entries_of families) (T_from_true (roots_rise families) rising)
 
-pub get-store_of : (families : List FamilyValue) (root : ℕ) → are_rising families ≡ true → get (store_of families) root ≡ find nat_cmp root (entries_of families)
-get-store_of families root rising = get-from_sorted nat_cmp (entries_of families) root (T_from_true (are_rising families) rising)
+pub get-store_of : (families : List FamilyValue) (root : ℕ) → roots_rise families ≡ true → get (store_of families) root ≡ find nat_cmp root (entries_of families)
+get-store_of families root rising = get-from_sorted nat_cmp (entries_of families) root (T_from_true (roots_rise families) rising)
 
 pub values-entries_of : (families : List FamilyValue) → map (λ entry. entry.1) (entries_of families) ≡ families
 values-entries_of [] = refl
 values-entries_of (family ∷ families) = ap (λ rest. family ∷ rest) (values-entries_of families)
 
-pub families_in-store_of : (families : List FamilyValue) → are_rising families ≡ true → families_in (store_of families) ≡ families
+pub families_in-store_of : (families : List FamilyValue) → roots_rise families ≡ true → families_in (store_of families) ≡ families
 families_in-store_of families rising = ap (map (λ entry. entry.1)) (entries-store_of families rising) ∙ values-entries_of families
 
-pub len-store_of : (families : List FamilyValue) → are_rising families ≡ true → len (store_of families) ≡ length families
+pub len-store_of : (families : List FamilyValue) → roots_rise families ≡ true → len (store_of families) ≡ length families
 len-store_of families rising = len-entries (store_of families) ∙ ap length (entries-store_of families rising) ∙ length-map families (λ family. (family.root, family))
 
 pub from_T : (b : Bool) → T b → b ≡ true
@@ -39,12 +39,12 @@ from_T false h = absurd h
 
 -- a store with the entries of a list of families is the store of the list
 pub record IsListed (store : StoreValue) (families : List FamilyValue) : Type 0 where
-  pub rising : are_rising families ≡ true
+  pub rising : roots_rise families ≡ true
   pub same : store ≡ store_of families
 
 pub listed : (store : StoreValue) (families : List FamilyValue) → entries store ≡ entries_of families → IsListed store families
 listed store families is =
-    let rising : are_rising families ≡ true = ap (is_sorted nat_cmp) (sym is) ∙ from_T (is_sorted nat_cmp (entries store)) (entries_sorted store) in
+    let rising : roots_rise families ≡ true = ap (is_sorted nat_cmp) (sym is) ∙ from_T (is_sorted nat_cmp (entries store)) (entries_sorted store) in
     record { rising = rising; same = same_entries_map store (store_of families) (is ∙ sym (entries-store_of families rising)) }
 
 root_of_found : (root : ℕ) (first family : FamilyValue) (later : Option FamilyValue) (b : Bool) → (root == first.root) ≡ b → (later ≡ Some family → family.root ≡ root) → cond b (Some first) later ≡ Some family → family.root ≡ root
@@ -57,7 +57,7 @@ found_root root (first ∷ families) family found =
     root_of_found root first family (find nat_cmp root (entries_of families)) (root == first.root) refl (found_root root families family)
     (ap (λ b. cond b (Some first) (find nat_cmp root (entries_of families))) (sym (unsigned_tied root first.root)) ∙ found)
 
-pub rooted-store_of : (families : List FamilyValue) → are_rising families ≡ true → HoldsByRoot (store_of families)
+pub rooted-store_of : (families : List FamilyValue) → roots_rise families ≡ true → HoldsByRoot (store_of families)
 rooted-store_of families rising root family found = found_root root families family (sym (get-store_of families root rising) ∙ found)
 
 -- the family at the place of its root key
@@ -67,7 +67,7 @@ entry_at families at d within = get_or-map (λ family. (family.root, family)) fa
 same_tied : (x y : ℕ) → x ≡ y → nat_cmp x y ≡ Equal
 same_tied x y same = rw same (tied_itself nat_cmp_total y)
 
-pub get_at : (families : List FamilyValue) (root at : ℕ) (d : FamilyValue) → are_rising families ≡ true → IsAt families root at → get (store_of families) root ≡ Some (get_or families at d)
+pub get_at : (families : List FamilyValue) (root at : ℕ) (d : FamilyValue) → roots_rise families ≡ true → IsRootAt families root at → get (store_of families) root ≡ Some (get_or families at d)
 get_at families root at d rising is =
     let entry = entry_at families at d is.within in
     let within : at < length (entries_of families) = rw length-map is.within in
@@ -76,7 +76,7 @@ get_at families root at d rising is =
     ∙ ap (λ e. Some e.1) entry
 
 -- a family in the place of one of its root key
-pub insert_at : (families : List FamilyValue) (at : ℕ) (family : FamilyValue) → are_rising families ≡ true → IsAt families family.root at → IsListed (insert (store_of families) family.root family) (set families at family)
+pub insert_at : (families : List FamilyValue) (at : ℕ) (family : FamilyValue) → roots_rise families ≡ true → IsRootAt families family.root at → IsListed (insert (store_of families) family.root family) (set families at family)
 insert_at families at family rising is =
     let entry = entry_at families at family is.within in
     let within : at < length (entries_of families) = rw length-map is.within in
@@ -90,23 +90,23 @@ insert_at families at family rising is =
 pub entry_root : (families : List FamilyValue) (k : ℕ) (d : ℕ × FamilyValue) → k < length families → (get_or (entries_of families) k d).0 ≡ (get_or families k d.1).root
 entry_root families k d within = ap (λ e. e.0) (get_or-map (λ family. (family.root, family)) families k d.1 d within)
 
-gap_below : (families : List FamilyValue) (root at : ℕ) → IsGap families root at → AllWithin (λ e. nat_cmp e.0 root ≡ Less) (entries_of families) 0 at
+gap_below : (families : List FamilyValue) (root at : ℕ) → IsRootGap families root at → AllWithin (λ e. nat_cmp e.0 root ≡ Less) (entries_of families) 0 at
 gap_below families root at is k d low high =
     ap (λ key. nat_cmp key root) (entry_root families k d (omega (arith, high, is.within))) ∙ cmp_less _ root (is.below k d.1 low high)
 
-gap_above : (families : List FamilyValue) (root at : ℕ) → IsGap families root at → AllWithin (λ e. nat_cmp e.0 root ≡ Greater) (entries_of families) at (length (entries_of families))
+gap_above : (families : List FamilyValue) (root at : ℕ) → IsRootGap families root at → AllWithin (λ e. nat_cmp e.0 root ≡ Greater) (entries_of families) at (length (entries_of families))
 gap_above families root at is k d low high =
     let within : k < length families = simp length-map at high in
     ap (λ key. nat_cmp key root) (entry_root families k d within) ∙ cmp_greater _ root (is.above k d.1 low within)
 
-pub get_gap : (families : List FamilyValue) (root at : ℕ) → are_rising families ≡ true → IsGap families root at → get (store_of families) root ≡ None
+pub get_gap : (families : List FamilyValue) (root at : ℕ) → roots_rise families ≡ true → IsRootGap families root at → get (store_of families) root ≡ None
 get_gap families root at rising is =
     let within : at ≤ length (entries_of families) = rw length-map is.within in
     get-store_of families root rising
     ∙ find_gap nat_cmp nat_cmp_total root (entries_of families) at within (gap_below families root at is) (gap_above families root at is)
 
 -- a family in the gap for its root key
-pub insert_gap : (families : List FamilyValue) (at : ℕ) (family : FamilyValue) → are_rising families ≡ true → IsGap families family.root at → IsListed (insert (store_of families) family.root family) (put_in families at family)
+pub insert_gap : (families : List FamilyValue) (at : ℕ) (family : FamilyValue) → roots_rise families ≡ true → IsRootGap families family.root at → IsListed (insert (store_of families) family.root family) (put_in families at family)
 insert_gap families at family rising is =
     let within : at ≤ length (entries_of families) = rw length-map is.within in
     listed (insert (store_of families) family.root family) (put_in families at family) (

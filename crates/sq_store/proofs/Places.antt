@@ -16,18 +16,18 @@ use Rattle.sq_schema.specs.Family.{FamilyValue}
 use Rattle.sq_schema.proofs.Entries.{comparisons_rise}
 use Rattle.sq_store.specs.StoreValue.{absent}
 use Rattle.sq_store.specs.InOrder.{family_from}
-use Rattle.sq_store.specs.Listed.{entries_of, are_rising, store_of, IsPlace, IsStart}
+use Rattle.sq_store.specs.Listed.{entries_of, roots_rise, store_of, IsRootPlace, IsStart}
 use Rattle.sq_store.proofs.Order.{rising_at, rising_upto, less_from_less, less_from_greater}
 use Rattle.sq_store.proofs.Lists.{entry_root, families_in-store_of}
 
-comparisons_at : (families : List FamilyValue) (root : ℕ) → are_rising families ≡ true → IsNonDecreasingBy (λ family. ordering_index (nat_cmp family.root root)) families
+comparisons_at : (families : List FamilyValue) (root : ℕ) → roots_rise families ≡ true → IsNonDecreasingBy (λ family. ordering_index (nat_cmp family.root root)) families
 comparisons_at families root rising i j d upto within =
     let inside : j < length (entries_of families) = rw length-map within in
     let rise = comparisons_rise nat_cmp nat_cmp_total root (entries_of families) rising i j (d.root, d) upto inside in
     rw (entry_root families i (d.root, d) (omega (arith, upto, within)), entry_root families j (d.root, d) within) at rise
 
 -- a binary search by root key ends at the family of the root key, or at the gap for it
-pub searched : (families : List FamilyValue) (root : ℕ) (r : Result ℕ ℕ) → are_rising families ≡ true → IsSearchInRange r (length families) → IsBinarySearchResult (λ family. nat_cmp family.root root) families r → IsPlace families root r
+pub searched : (families : List FamilyValue) (root : ℕ) (r : Result ℕ ℕ) → roots_rise families ≡ true → IsSearchInRange r (length families) → IsBinarySearchResult (λ family. nat_cmp family.root root) families r → IsRootPlace families root r
 searched families root (Ok at) rising within here =
     record { within = within; here = λ d. nat_cmp-IsAntisymmetric (get_or families at d).root root (here d) }
 searched families root (Err at) rising within parted =
@@ -39,7 +39,7 @@ searched families root (Err at) rising within parted =
     }
 
 -- one by a bound ends where the families from the bound on start
-pub started : (families : List FamilyValue) (key at : ℕ) → are_rising families ≡ true → at ≤ length families
+pub started : (families : List FamilyValue) (key at : ℕ) → roots_rise families ≡ true → at ≤ length families
     → (IsPartitionedBy (λ family. nat_lt family.root key) families → IsPartitionPoint (λ family. nat_lt family.root key ≡ true) (λ family. nat_lt family.root key ≡ false) families at)
     → IsStart families key at
 started families key at rising within parted =
@@ -54,7 +54,7 @@ started families key at rising within parted =
     }
 
 -- the families from the root key of one on start there
-pub start_at : (families : List FamilyValue) (at : ℕ) (d : FamilyValue) → are_rising families ≡ true → at < length families → IsStart families (get_or families at d).root at
+pub start_at : (families : List FamilyValue) (at : ℕ) (d : FamilyValue) → roots_rise families ≡ true → at < length families → IsStart families (get_or families at d).root at
 start_at families at d rising within =
     record {
       within = omega (arith, within);
@@ -82,7 +82,7 @@ find_first p (family ∷ families) (suc at) within before after =
     (find_first p families at (omega arith) (λ k d low high. before (suc k) d (omega arith) (omega arith)) (λ k d low high. after (suc k) d (omega arith) (omega arith)))
 
 -- the family of the least root key from a bound on is the one at the start
-pub family_from-store_of : (families : List FamilyValue) (least at : ℕ) → are_rising families ≡ true → IsStart families least at → family_from (store_of families) least ≡ slice_get families at
+pub family_from-store_of : (families : List FamilyValue) (least at : ℕ) → roots_rise families ≡ true → IsStart families least at → family_from (store_of families) least ≡ slice_get families at
 family_from-store_of families least at rising is =
     ap (find (λ family. nat_le least family.root)) (families_in-store_of families rising)
     ∙ find_first (λ family. nat_le least family.root) families at is.within

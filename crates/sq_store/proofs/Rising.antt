@@ -1,14 +1,14 @@
 -- Families by root key in rising order.
 use Rattle.std.proofs.Common.{subst, ⊎_elim, ◌≡◌, ℕ, zero, suc, Bool, true, false, List, [], ◌∷◌, refl, sym, ap, ◌∙◌, arith, true≢false}
-use Rattle.std.specs.Prelude.{◌+◌, ◌-◌, ◌<◌, ◌≤◌, ◌≢◌, ◌==◌, ◌&&◌, if◌then◌else◌, nat_le, nat_lt, map, filter, Option, Some, None, is_some}
+use Rattle.std.specs.Prelude.{◌+◌, ◌-◌, ◌<◌, ◌≤◌, ◌≢◌, ◌==◌, ◌&&◌, if◌then◌else◌, not, nat_le, nat_lt, map, filter, Some, None, is_some}
 use Rattle.std.specs.List.{range_with_len}
-use Rattle.std.specs.Cmp.{unsigned_tied, nat_cmp_total}
-use Rattle.std.specs.FinMap.{get, insert, get-insert}
-use Rattle.std.proofs.lemmas.Bool.{ne_eqb, ltb-true, leb-true, le-leb}
+use Rattle.std.specs.FinMap.{get}
+use Rattle.std.proofs.lemmas.Bool.{and_from, ne_eqb, ltb-true, leb-true, le-leb}
 use Rattle.std.proofs.lemmas.Bool.Decides.{eqb_tells}
 use Rattle.sq_schema.specs.Family.{FamilyValue}
-use Rattle.sq_chunk.specs.ChunkValue.{are_within}
-use Rattle.sq_store.specs.StoreValue.{StoreValue, with_families, family_in}
+use Rattle.sq_store.specs.InOrder.{are_within}
+use Rattle.sq_store.specs.StoreValue.{StoreValue, with_families, family_in, roots_differ}
+use Rattle.sq_store.proofs.Given.{names, found-names, get-with_new}
 
 pub both_left : (a b : Bool) → (a && b) ≡ true → a ≡ true
 both_left true b e = refl
@@ -41,37 +41,18 @@ none_below lo hi (family ∷ families) key e below =
     ap (λ b. if b then Some family else family_in families key) (ne_eqb family.root key (λ same. absurd (omega (arith, r.low, same, below))))
     ∙ none_below (family.root + 1) hi families key r.rest (omega (arith, r.low, below))
 
--- families that rise from lo on rise from any lower key on
-pub rises_from : (low lo hi : ℕ) (families : List FamilyValue) → low ≤ lo → are_within lo hi families ≡ true → are_within low hi families ≡ true
-rises_from low lo hi [] below e = refl
-rises_from low lo hi (family ∷ families) below e =
+-- families that rise differ in their root keys
+pub differ-within : (lo hi : ℕ) (families : List FamilyValue) → are_within lo hi families ≡ true → roots_differ families ≡ true
+differ-within lo hi [] e = refl
+differ-within lo hi (family ∷ families) e =
     let r = rises lo hi family families e in
-    ap (λ b. b && (nat_lt family.root hi && are_within (family.root + 1) hi families)) (le-leb low family.root (omega (arith, r.low, below)))
-    ∙ both_right (nat_le lo family.root) _ e
+    and_from (not (names families family.root)) (roots_differ families)
+    (ap not (sym (found-names families family.root) ∙ ap is_some (none_below (family.root + 1) hi families family.root r.rest (omega arith))))
+    (differ-within (family.root + 1) hi families r.rest)
 
-option_or : Option FamilyValue → Option FamilyValue → Option FamilyValue
-option_or None other = other
-option_or (Some family) other = Some family
-
--- a store with families more has these, and else what it had
 pub get-with_families : (lo hi : ℕ) (families : List FamilyValue) (store : StoreValue) (key : ℕ) → are_within lo hi families ≡ true
     → get (with_families store families) key ≡ (if is_some (family_in families key) then family_in families key else get store key)
-get-with_families lo hi [] store key e = refl
-get-with_families lo hi (family ∷ families) store key e =
-    let r = rises lo hi family families e in
-    get-with_families (family.root + 1) hi families (insert store family.root family) key r.rest
-    ∙ ap (λ found. if is_some (family_in families key) then family_in families key else found) (get-insert nat_cmp_total store family.root family key ∙ ap (λ b. if b then Some family else get store key) (unsigned_tied key family.root))
-    ∙ ⊎_elim
-    (λ (same : (family.root == key ≡ true) × (family.root ≡ key)).
-    let none : family_in families key ≡ None = none_below (family.root + 1) hi families key r.rest (omega (arith, same.1)) in
-    let here : (key == family.root) ≡ true = subst (λ k. (k == family.root) ≡ true) same.1 (subst (λ k. (family.root == k) ≡ true) (sym same.1) same.0) in
-    (λ i. if is_some (none i) then none i else if here i then Some family else get store key)
-    ∙ sym (ap (λ b. if is_some (if b then Some family else family_in families key) then (if b then Some family else family_in families key) else get store key) same.0))
-    (λ (apart : (family.root == key ≡ false) × (family.root ≢ key)).
-    let off : (key == family.root) ≡ false = ne_eqb key family.root (λ x. apart.1 (sym x)) in
-    ap (λ b. if is_some (family_in families key) then family_in families key else if b then Some family else get store key) off
-    ∙ sym (ap (λ b. if is_some (if b then Some family else family_in families key) then (if b then Some family else family_in families key) else get store key) apart.0))
-    (eqb_tells family.root key)
+get-with_families lo hi families store key e = get-with_new families store key (differ-within lo hi families e)
 
 -- the root keys of rising families are those at which there is one
 pub roots-within : (n lo hi : ℕ) (families : List FamilyValue) (stands : ℕ → Bool) → n ≡ hi - lo → are_within lo hi families ≡ true

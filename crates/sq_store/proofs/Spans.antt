@@ -13,7 +13,7 @@ use Rattle.std.proofs.lemmas.List.{take-append-drop, drop-drop, get_or-take, get
 use Rattle.std.proofs.lemmas.List.Elements.{filter-append, All-tail}
 use Rattle.sq_schema.specs.Family.{FamilyValue}
 use Rattle.sq_store.specs.StoreValue.{families_between, without_between}
-use Rattle.sq_store.specs.Listed.{entries_of, are_rising, store_of, IsStart}
+use Rattle.sq_store.specs.Listed.{entries_of, roots_rise, store_of, IsStart}
 use Rattle.sq_store.proofs.Lists.{entries-store_of, get-store_of, values-entries_of, IsListed, from_T}
 
 -- every element passes, or none
@@ -71,12 +71,12 @@ filter-entries_of p (family ∷ families) =
     ]
 
 -- the store without the root keys that fail a test
-kept : (p : ℕ → Bool) (families : List FamilyValue) → are_rising families ≡ true → IsListed (retain_keys (store_of families) p) (filter (λ family. p family.root) families)
+kept : (p : ℕ → Bool) (families : List FamilyValue) → roots_rise families ≡ true → IsListed (retain_keys (store_of families) p) (filter (λ family. p family.root) families)
 kept p families rising =
     let alike : (q x : ℕ) → nat_cmp q x ≡ Equal → p x ≡ p q = λ q x tied. ap p (sym (nat_cmp-IsAntisymmetric q x tied)) in
     let left = filter (λ family. p family.root) families in
-    let left_rises : are_rising left ≡ true =
-    ap (is_sorted nat_cmp) (sym (filter-entries_of p families)) ∙ from_T (is_sorted nat_cmp (where_key nat_cmp p (entries_of families))) (is_sorted-where_key nat_cmp p (entries_of families) (T_from_true (are_rising families) rising)) in
+    let left_rises : roots_rise left ≡ true =
+    ap (is_sorted nat_cmp) (sym (filter-entries_of p families)) ∙ from_T (is_sorted nat_cmp (where_key nat_cmp p (entries_of families))) (is_sorted-where_key nat_cmp p (entries_of families) (T_from_true (roots_rise families) rising)) in
     record {
       rising = left_rises;
       same = same_map nat_cmp_total nat_cmp-IsAntisymmetric (retain_keys (store_of families) p) (store_of left) (λ q.
@@ -84,7 +84,7 @@ kept p families rising =
           ∙ sym (get-store_of left q left_rises ∙ ap (find nat_cmp q) (sym (filter-entries_of p families)) ∙ find-where_key nat_cmp p q (alike q) (entries_of families)));
     }
 
-module _ (families : List FamilyValue) (lo hi first last : ℕ) (rising : are_rising families ≡ true) (rise : first ≤ last) (low : IsStart families lo first) (high : IsStart families hi last) where
+module _ (families : List FamilyValue) (lo hi first last : ℕ) (rising : roots_rise families ≡ true) (rise : first ≤ last) (low : IsStart families lo first) (high : IsStart families hi last) where
   before_first : (k : ℕ) (d : FamilyValue) → 0 ≤ k → k < first → (nat_le lo (get_or families k d).root && nat_lt (get_or families k d).root hi) ≡ false
   before_first k d zero_upto inside = and_left (nat_le lo (get_or families k d).root) (nat_lt (get_or families k d).root hi) (lt-leb lo (get_or families k d).root (low.below k d zero_upto inside))
 

@@ -3,3 +3,5 @@ pub mod InOrder
 pub mod Listed
 pub mod Merging
 pub mod Counting
+pub mod Commands
+pub mod Laws

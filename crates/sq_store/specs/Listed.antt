@@ -14,28 +14,28 @@ abbrev pub entries_of : List FamilyValue → List (ℕ × FamilyValue)
 entries_of families = map (λ family. (family.root, family)) families
 
 -- the root keys strictly rise
-abbrev pub are_rising : List FamilyValue → Bool
-are_rising families = is_sorted nat_cmp (entries_of families)
+abbrev pub roots_rise : List FamilyValue → Bool
+roots_rise families = is_sorted nat_cmp (entries_of families)
 
 -- the store of rising families
 abbrev pub store_of : List FamilyValue → StoreValue
 store_of families = from_sorted (entries_of families)
 
 -- the family of this root key is at this place
-pub record IsAt (families : List FamilyValue) (root at : ℕ) : Type 0 where
+pub record IsRootAt (families : List FamilyValue) (root at : ℕ) : Type 0 where
   pub within : at < length families
   pub here : (d : FamilyValue) → (get_or families at d).root ≡ root
 
 -- no family has this root key: those before this place have lower ones, and the others have higher ones
-pub record IsGap (families : List FamilyValue) (root at : ℕ) : Type 0 where
+pub record IsRootGap (families : List FamilyValue) (root at : ℕ) : Type 0 where
   pub within : at ≤ length families
   pub below : (k : ℕ) (d : FamilyValue) → 0 ≤ k → k < at → (get_or families k d).root < root
   pub above : (k : ℕ) (d : FamilyValue) → at ≤ k → k < length families → root < (get_or families k d).root
 
 -- what a search for a root key answers
-abbrev pub IsPlace : List FamilyValue → ℕ → Result ℕ ℕ → Type 0
-IsPlace families root (Ok at) = IsAt families root at
-IsPlace families root (Err at) = IsGap families root at
+abbrev pub IsRootPlace : List FamilyValue → ℕ → Result ℕ ℕ → Type 0
+IsRootPlace families root (Ok at) = IsRootAt families root at
+IsRootPlace families root (Err at) = IsRootGap families root at
 
 -- the families before this place have root keys below this number, and the others don't
 pub record IsStart (families : List FamilyValue) (key at : ℕ) : Type 0 where

@@ -1,5 +1,6 @@
 -- What a store contains: a finite map from root keys to families, however it is kept.
-use Rattle.std.specs.Prelude.{◌≡◌, ℕ, true, ◌==◌, ◌&&◌, not, nat_le, nat_lt, List, [], ◌∷◌, ◌++◌, map, fold, filter, Option, None, is_some, unwrap_or, find}
+use Rattle.std.specs.Prelude.{ℕ, Bool, true, ◌==◌, ◌&&◌, not, nat_le, nat_lt, List, [], ◌∷◌, ◌++◌, map, fold, filter, Option, is_none, unwrap_or, find}
+use Rattle.std.specs.List.{list_any, list_all}
 use Rattle.std.specs.Ordering.{nat_cmp}
 use Rattle.std.specs.FinMap.{FinMap, get, insert, entries, retain_keys}
 use Rattle.sq_schema.specs.TxnValue.{TxnValue}
@@ -58,6 +59,11 @@ with_families store families = fold (λ so_far family. insert so_far family.root
 abbrev pub family_in : List FamilyValue → ℕ → Option FamilyValue
 family_in families root = find (λ family. family.root == root) families
 
--- no family of the store has a root key of these
-abbrev pub AreApart : StoreValue → List FamilyValue → Type 0
-AreApart store families = (root : ℕ) → is_some (family_in families root) ≡ true → get store root ≡ None
+-- no two of the families have the same root key
+abbrev pub roots_differ : List FamilyValue → Bool
+roots_differ [] = true
+roots_differ (family ∷ families) = not (list_any (λ other. other.root == family.root) families) && roots_differ families
+
+-- the store has a family of none of these root keys
+abbrev pub has_none_of : StoreValue → List FamilyValue → Bool
+has_none_of store families = list_all (λ family. is_none (get store family.root)) families

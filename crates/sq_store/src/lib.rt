@@ -1,12 +1,15 @@
 //! The families of one partition, by root key.
 #![tactic(auto)]
 
+mod command;
 pub mod laws;
 mod merge;
+mod run;
 mod sorted;
+mod store;
 mod vec_store;
 
-pub use vec_store::{Cut, VecStore};
-
-#[cfg(test)]
-mod tests;
+pub use command::{StoreAnswer, StoreCommand};
+pub use run::run_store;
+pub use store::{Cut, FamilyStore};
+pub use vec_store::VecStore;

@@ -1,7 +1,7 @@
 // Two lists of families put together.
 ghost use Rattle.std.specs.Prelude.{◌≡◌, ◌+◌, ◌++◌, ◌≤◌, length, vec_len, vec_capacity, IsTrue};
-ghost use Rattle.sq_store.specs.StoreValue.{with_families, AreApart};
-ghost use Rattle.sq_store.specs.Listed.{are_rising, store_of};
+ghost use Rattle.sq_store.specs.StoreValue.{with_families, has_none_of};
+ghost use Rattle.sq_store.specs.Listed.{roots_rise, store_of};
 ghost use Rattle.sq_store.specs.Merging.{is_first_next, TakesNext};
 
 use sq_schema::Family;
@@ -10,11 +10,11 @@ use std::collections::VecDeque;
 // Puts the families of two rising lists, which have no root key in common, after those that are there. There is room
 // for them.
 pub(crate) fn merge(into: &mut Vec<Family>, mut left: VecDeque<Family>, mut right: VecDeque<Family>)
-    requires left { IsTrue (are_rising (into.old.items ++ left.items)) }
-    requires right { IsTrue (are_rising (into.old.items ++ right.items)) }
-    requires apart { AreApart (store_of (into.old.items ++ left.items)) right.items }
+    requires left { IsTrue (roots_rise (into.old.items ++ left.items)) }
+    requires right { IsTrue (roots_rise (into.old.items ++ right.items)) }
+    requires absent { IsTrue (has_none_of (store_of (into.old.items ++ left.items)) right.items) }
     requires room { vec_len into.old + (length left.items + length right.items) ≤ vec_capacity into.old }
-    ensures rising { IsTrue (are_rising into.new.items) }
+    ensures rising { IsTrue (roots_rise into.new.items) }
     ensures all { store_of into.new.items ≡ with_families (store_of (into.old.items ++ left.items)) right.items }
 {
     while let Some(family) = next(&mut left, &mut right) {

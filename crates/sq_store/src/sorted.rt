@@ -1,22 +1,23 @@
 // Families in a slice, by rising root key.
-ghost use Rattle.std.specs.Prelude.{◌≡◌, ◌+◌, ◌++◌, ◌≤◌, nat_lt, vec_len, slice_range, take, drop, IsTrue, IfOk, OnOk, OnErr};
-ghost use Rattle.sq_store.specs.Listed.{are_rising, IsPlace, IsStart};
+ghost use Rattle.std.specs.Prelude.{◌≡◌, ◌+◌, ◌++◌, ◌≤◌, nat_lt, vec_len, slice_range, take, drop, IsTrue, IfOk, OnOk, OnErr, All};
+ghost use Rattle.std.specs.List.Sorted.{IsPermutation, IsNonDecreasingBy};
+ghost use Rattle.sq_store.specs.Listed.{roots_rise, IsRootPlace, IsStart};
 ghost use Rattle.sq_store.specs.Counting.{chunk_count as count_of, root_after};
 
-use sq_schema::{Family, Root};
-use std::alloc::{AllocError, Global};
+use sq_schema::{Family, ROOT_END, Root};
+use std::alloc::AllocError;
 
 // Where the family of a root key is, or where it would go.
 pub(crate) fn place(families: &[Family], root: Root) -> Result<usize, usize>
-    requires { IsTrue (are_rising families.now) }
-    ensures { IsPlace families.now root result }
+    requires { IsTrue (roots_rise families.now) }
+    ensures { IsRootPlace families.now root result }
 {
     families.binary_search_by_key(&root, |family| family.root())
 }
 
 // How many families have a root key below this one.
 pub(crate) fn start(families: &[Family], key: u64) -> usize
-    requires { IsTrue (are_rising families.now) }
+    requires { IsTrue (roots_rise families.now) }
     ensures { IsStart families.now key result }
 {
     families.partition_point(
@@ -26,7 +27,7 @@ pub(crate) fn start(families: &[Family], key: u64) -> usize
     )
 }
 
-// How many families a chunk takes of so many bytes: the first, and then as many as fit.
+// How many families a chunk takes: the first, and then as many as fit into this many bytes.
 pub(crate) fn chunk_count(families: &[Family], limit: u64) -> usize
     ensures { result ≡ count_of limit families.now }
 {
@@ -53,10 +54,9 @@ pub(crate) fn root_at(families: &[Family], at: usize, bound: u64) -> u64
     }
 }
 
-// Takes so many families out, from a place on. Where there is no memory for them all families stay.
+// Takes this many families out, from a place on. Where there is no memory for them all families stay.
 pub(crate) fn take_out(
     families: &mut Vec<Family>,
-    alloc: Global,
     first: usize,
     count: usize,
 ) -> Result<Vec<Family>, AllocError>
@@ -65,9 +65,29 @@ pub(crate) fn take_out(
     ensures left { OnOk result (families.new.items ≡ take first families.old.items ++ drop (first + count) families.old.items) }
     ensures err { OnErr result (families.new.items ≡ families.old.items) }
 {
-    let mut taken = Vec::with_capacity(alloc, count)?;
+    let mut taken = Vec::with_capacity(*families.allocator(), count)?;
     for family in families.drain(first..first + count) {
         taken.push_reserved(family);
     }
     Ok(taken)
+}
+
+// The least root key of families; where there are none, one that is past all.
+pub(crate) fn least_root(families: &[Family]) -> u64
+    ensures { All (λ family. result ≤ family.root) families.now }
+{
+    families
+        .iter()
+        .map(|family| family.root().number())
+        .min()
+        .unwrap_or(ROOT_END)
+}
+
+// The families by root key.
+pub(crate) fn sorted(mut families: Vec<Family>) -> Vec<Family>
+    ensures permutation { IsPermutation families.items result.items }
+    ensures sorted { IsNonDecreasingBy (λ family. family.root) result.items }
+{
+    families.sort_unstable_by_key(Family::root);
+    families
 }

@@ -1,8 +1,9 @@
 -- What a writer got in pieces.
-use Rattle.std.proofs.Common.{◌≡◌, ℕ, List, [], ◌∷◌, ◌++◌, map, length, Option, Some, None, refl, sym, ap, ◌∙◌, append_assoc}
+use Rattle.std.proofs.Common.{◌≡◌, ℕ, ◌+◌, ◌<◌, ◌≤◌, List, [], ◌∷◌, ◌++◌, map, length, get_or, take, Option, Some, None, refl, sym, ap, ◌∙◌, append_assoc}
 use Rattle.std.specs.Prelude.{Result, Ok, Err, OnOk, decimal, codes}
 use Rattle.std.specs.List.{flat_map, join_with_byte}
-use Rattle.std.proofs.lemmas.List.{append-nil}
+use Rattle.std.proofs.lemmas.List.{append-nil, take_more, take_all}
+use Rattle.std.proofs.lemmas.Grind.{flat_map-append}
 use Rattle.std.proofs.lemmas.List.Folds.{flat_map-map}
 use Rattle.std.specs.Io.KnownBytes.{Appends}
 use Rattle.sq_schema.specs.declared.row.RowKey.{RowKey}
@@ -11,7 +12,8 @@ use Rattle.sq_schema.specs.declared.txn.Reply.{Reply}
 use Rattle.sq_schema.specs.declared.txn.Reply.TheVariants.{Committed}
 use Rattle.sq_schema.specs.Values.{RowValue}
 use Rattle.sq_schema.specs.Family.{FamilyValue, rows_of}
-use Rattle.sq_text.specs.Texts.{line, op_answer_text, reply_words, entry_text, family_words}
+use Rattle.sq_chunk.specs.ChunkValue.{ChunkValue}
+use Rattle.sq_text.specs.Texts.{line, op_answer_text, reply_words, note_words, entry_text, family_words, in_line, way_lines}
 
 -- bytes, and then more
 pub both : (a b c : Option (List ℕ)) (xs ys zs : List ℕ) → Appends a b xs → Appends b c ys → xs ++ ys ≡ zs → Appends a c zs
@@ -24,6 +26,21 @@ both (Some front) (Some bs) (Some cs) xs ys zs h k e = k ∙ ap (λ (t : List �
 pub three : {T E : Type 0} (r : Result T E) (a b c d : Option (List ℕ)) (xs ys zs all : List ℕ) → Appends a b xs → Appends b c ys → OnOk r (Appends c d zs) → xs ++ (ys ++ zs) ≡ all → OnOk r (Appends a d all)
 three (Err x) a b c d xs ys zs all h k l e = tt
 three (Ok x) a b c d xs ys zs all h k l e = both a c d (xs ++ ys) zs all (both a b c xs ys (xs ++ ys) h k refl) l (append_assoc xs ys zs ∙ e)
+
+-- nothing
+pub appends_none : (a : Option (List ℕ)) → Appends a a []
+appends_none None = tt
+appends_none (Some front) = sym (append-nil front)
+
+-- the text of one more thing, after the texts of those before it
+pub appends_next : {X : Type 0} (text : X → List ℕ) (xs : List X) (i : ℕ) (x : X) (a b c : Option (List ℕ)) → i < length xs → x ≡ get_or xs i x → Appends a b (flat_map text (take i xs)) → Appends b c (text x) → Appends a c (flat_map text (take (i + 1) xs))
+appends_next text xs i x a b c within is before here =
+    both a b c (flat_map text (take i xs)) (text x) (flat_map text (take (i + 1) xs)) before here
+    (rw (take_more xs i x within, ← is, flat_map-append) (ap (λ (t : List ℕ). flat_map text (take i xs) ++ t) (sym (append-nil (text x)))))
+
+-- the texts of all things
+pub appends_all : {X : Type 0} (text : X → List ℕ) (xs : List X) (i : ℕ) (a b : Option (List ℕ)) → length xs ≤ i → Appends a b (flat_map text (take i xs)) → Appends a b (flat_map text xs)
+appends_all text xs i a b end all = rw take_all at all
 
 -- words with a space between each two are the first word, and then the others behind a space each
 spaced : (word : List ℕ) (words : List (List ℕ)) → join_with_byte 32 (word ∷ words) ≡ word ++ flat_map (λ other. 32 ∷ other) words
@@ -48,3 +65,12 @@ commit_line id reply answers text is e = rw (is, e) (line_from (codes "commit") 
 -- what a line says of a family
 pub family_line : (family : FamilyValue) (root size : ℕ) (entries : List (RowKey × RowValue)) (text : List ℕ) → root ≡ family.root → size ≡ length family.log → entries ≡ rows_of family → text ≡ decimal root ++ (32 ∷ decimal size) → text ++ (flat_map (λ entry. 32 ∷ entry_text entry) entries ++ (10 ∷ [])) ≡ line (family_words family)
 family_line family root size entries text at long all e = rw (e, at, long, all) (line_from (decimal family.root) (decimal (length family.log)) entry_text (rows_of family))
+
+-- what the lines of a chunk under way say of its note and of its families
+pub lines_of_way : (chunk : ChunkValue) (src dst : ℕ) (text : List ℕ) → src ≡ chunk.note.src → dst ≡ chunk.note.dst → text ≡ codes "way " ++ (decimal src ++ (32 ∷ (decimal dst ++ (32 ∷ [])))) → text ++ (line (note_words chunk.note (length chunk.families)) ++ flat_map in_line chunk.families) ≡ way_lines chunk
+lines_of_way chunk src dst text from to e =
+    let words = join_with_byte 32 (note_words chunk.note (length chunk.families)) in
+    rw (e, from, to) (way_before (decimal chunk.note.src) (decimal chunk.note.dst) words (flat_map in_line chunk.families))
+  where
+    way_before : (from to words families : List ℕ) → (codes "way " ++ (from ++ (32 ∷ (to ++ (32 ∷ []))))) ++ ((words ++ (10 ∷ [])) ++ families) ≡ ((codes "way" ++ (32 ∷ (from ++ (32 ∷ (to ++ (32 ∷ words)))))) ++ (10 ∷ [])) ++ families
+    way_before from to words families = simp append_assoc

@@ -22,9 +22,6 @@ value_grows n (c ∷ digits) = omega (arith, value_grows (n * 10 + digit_value c
 pub step : (n c : ℕ) (digits : List ℕ) → is_ascii_digit c ≡ true → digits_after n (c ∷ digits) ≡ digits_after (n * 10 + (c - 48)) digits
 step n c digits e = rw (e, value_of_digit c e) refl
 
-pub not_digit : (n c : ℕ) (digits : List ℕ) → is_ascii_digit c ≡ false → digits_after n (c ∷ digits) ≡ None
-not_digit n c digits e = rw e refl
-
 -- a number that is too large stays so
 pub too_large : (n : ℕ) (digits : List ℕ) → 2 ^ 64 ≤ n → digits_after n digits ≡ None
 too_large n digits le = rw (le-ltb (digits_value_after 10 n digits) (2 ^ 64) (omega (arith, value_grows n digits))) (both_off (list_all is_ascii_digit digits) (digits_value_after 10 n digits))

@@ -1,4 +1,4 @@
-pub mod Parts
+pub mod Splits
 pub mod DigitRun
 pub mod Onto
 pub mod HexRun

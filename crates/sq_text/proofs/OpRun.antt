@@ -4,22 +4,22 @@ use Rattle.sq_schema.specs.declared.txn.Op.{Op}
 use Rattle.sq_text.specs.declared.verb.OpName.{OpName}
 use Rattle.sq_text.specs.Words.{Word, ◌>>=◌}
 use Rattle.sq_text.specs.Verbs.{op_name_in}
-use Rattle.sq_text.specs.Ops.{op_with, op_at, ops_within, ops_in}
-use Rattle.sq_text.specs.Fields.{word_at}
+use Rattle.sq_text.specs.Ops.{op_with, op_field, ops_within, ops_in}
+use Rattle.sq_text.specs.Fields.{word_field}
 use Rattle.sq_text.proofs.Shrinks.{Shrinks, word_shrinks, op_shrinks, bind_some}
 use Rattle.std.proofs.lemmas.List.{append-nil}
 use Rattle.sq_text.specs.declared.fault.ReadFault.{ReadFault}
 use Rattle.sq_text.specs.declared.fault.ReadFault.TheVariants as faults
-use Rattle.sq_text.specs.Faults.{Gives}
+use Rattle.sq_text.specs.Faults.{IsParsedGivenMemory}
 use Rattle.sq_text.proofs.Onto.{onto, onto_more}
 
 -- an operation takes words
-op_at_shrinks : Shrinks op_at
-op_at_shrinks words x e =
-    let name = bind_some (word_at op_name_in words) (λ name. op_with name.0 name.1) x e in
+op_field_shrinks : Shrinks op_field
+op_field_shrinks words x e =
+    let name = bind_some (word_field op_name_in words) (λ name. op_with name.0 name.1) x e in
     omega (arith, word_shrinks op_name_in words name.0 name.1, op_shrinks name.0.0 name.0.1 x name.2)
 
--- the operations after the first, of which there are so many at most
+-- the operations after the first, at most n of them
 abbrev with_others : ℕ → Op × List Word → Option (List Op)
 with_others n first = ops_within n first.1 >>= λ others. Some (first.0 ∷ others)
 
@@ -34,7 +34,7 @@ ops_same n m [] le le' = refl
 ops_same zero m (word ∷ words) le le' = absurd (omega arith)
 ops_same (suc n) zero (word ∷ words) le le' = absurd (omega arith)
 ops_same (suc n) (suc m) (word ∷ words) le le' =
-    same_after n m (op_at (word ∷ words)) (λ x e. let less = op_at_shrinks (word ∷ words) x e in ops_same n m x.1 (omega arith) (omega arith))
+    same_after n m (op_field (word ∷ words)) (λ x e. let less = op_field_shrinks (word ∷ words) x e in ops_same n m x.1 (omega arith) (omega arith))
 
 -- one more operation is read
 pub goes_on : (front new : List Op) (word : Word) (before words rest : List Word) (name : OpName) (o : Op) (total : Option (List Op)) → before ≡ word ∷ words → op_name_in word ≡ Some name → op_with name words ≡ Some (o, rest) → new ≡ front ++ o ∷ [] → onto front (ops_in before) ≡ total
@@ -53,7 +53,7 @@ unfolding ops_within
 malformed front word before words name total next named none so_far = sym (rw (next, named, none) at so_far)
 
 pub fails : {X Y : Type 0} (view : X → Op × List Word) (all : Y → List Op) (e : ReadFault) (front : List Op) (word : Word) (before words : List Word) (name : OpName) (total : Option (List Op)) → before ≡ word ∷ words → op_name_in word ≡ Some name
-    → Gives view (Err e) (op_with name words) → onto front (ops_in before) ≡ total → Gives all (Err e) total
+    → IsParsedGivenMemory view (Err e) (op_with name words) → onto front (ops_in before) ≡ total → IsParsedGivenMemory all (Err e) total
 fails view all faults.Malformed front word before words name total next named none so_far = malformed front word before words name total next named none so_far
 fails view all faults.Memory front word before words name total next named none so_far = tt
 

@@ -1,12 +1,12 @@
 -- What reads the front of the words leaves fewer of them.
-use Rattle.std.proofs.Common.{◌≡◌, ℕ, ◌<◌, Bool, true, false, cond, List, [], ◌∷◌, length, Option, Some, None, refl, ap, arith}
-use Rattle.std.specs.Prelude.{option_map, nat_le}
+use Rattle.std.proofs.Common.{◌≡◌, ℕ, ◌^◌, ◌<◌, Bool, true, false, cond, List, [], ◌∷◌, length, Option, Some, None, refl, ap, arith}
+use Rattle.std.specs.Prelude.{option_map, nat_lt}
 use Rattle.sq_schema.specs.declared.txn.Op.TheVariants as op
 use Rattle.sq_schema.specs.Values.{RowValue}
 use Rattle.sq_text.specs.declared.verb.OpName.{OpName}
 use Rattle.sq_text.specs.declared.verb.OpName.TheVariants.{Get, Put, Add, Del, Check}
 use Rattle.sq_text.specs.Words.{Word, ◌>>=◌}
-use Rattle.sq_text.specs.Fields.{word_at, number_at, number_to, signed_at, note_at, key_at, row_at}
+use Rattle.sq_text.specs.Fields.{word_field, number_field, number_below, signed_field, note_field, key_field, row_field}
 use Rattle.sq_text.specs.Ops.{op_with}
 
 -- the value of a step that found one
@@ -24,7 +24,7 @@ some_is x y e = cc
 abbrev pub Shrinks : {A : Type 0} → (List Word → Option (A × List Word)) → Type 0
 Shrinks {A} read = (words : List Word) (x : A × List Word) → read words ≡ Some x → length x.1 < length words
 
-pub word_shrinks : {A : Type 0} (read : Word → Option A) → Shrinks (word_at read)
+pub word_shrinks : {A : Type 0} (read : Word → Option A) → Shrinks (word_field read)
 word_shrinks read [] x e = absurd cc
 word_shrinks {A} read (word ∷ words) x e = by_word (read word) e
   where
@@ -37,42 +37,42 @@ made_shrinks : {A B : Type 0} (f : A → B) (read : Option (A × List Word)) (n 
 made_shrinks {A} {B} f None n x shrinks e = absurd cc
 made_shrinks {A} {B} f (Some y) n x shrinks e = omega (arith, shrinks y refl, ap (λ (p : B × List Word). length p.1) (some_is (f y.0, y.1) x e))
 
-pub number_to_shrinks : (most : ℕ) → Shrinks (number_to most)
-number_to_shrinks most words x e =
-    let a = bind_some (number_at words) (λ n. cond (nat_le n.0 most) (Some n) None) x e in
-    by_test (nat_le a.0.0 most) a.0 (word_shrinks _ words a.0 a.1) a.2
+pub number_below_shrinks : (end : ℕ) → Shrinks (number_below end)
+number_below_shrinks end words x e =
+    let a = bind_some (number_field words) (λ n. cond (nat_lt n.0 end) (Some n) None) x e in
+    by_test (nat_lt a.0.0 end) a.0 (word_shrinks _ words a.0 a.1) a.2
   where
     by_test : (b : Bool) (y : ℕ × List Word) → length y.1 < length words → cond b (Some y) None ≡ Some x → length x.1 < length words
     by_test true y lt e = omega (arith, ap (λ (p : ℕ × List Word). length p.1) (some_is y x e))
     by_test false y lt e = absurd cc
 
-pub key_shrinks : Shrinks key_at
-unfolding key_at
+pub key_shrinks : Shrinks key_field
+unfolding key_field
 key_shrinks words x e =
-    let a = bind_some (number_to 255 words) (λ t. number_to 4294967295 t.1 >>= λ s. Some (record { table = t.0; sub = s.0 }, s.1)) x e in
-    let first = number_to_shrinks 255 words a.0 a.1 in
-    made_shrinks (λ (s : ℕ). record { table = a.0.0; sub = s }) (number_to 4294967295 a.0.1) (length words) x (λ y f. omega (arith, first, number_to_shrinks 4294967295 a.0.1 y f)) a.2
+    let a = bind_some (number_below (2 ^ 8) words) (λ t. number_below (2 ^ 32) t.1 >>= λ s. Some (record { table = t.0; sub = s.0 }, s.1)) x e in
+    let first = number_below_shrinks (2 ^ 8) words a.0 a.1 in
+    made_shrinks (λ (s : ℕ). record { table = a.0.0; sub = s }) (number_below (2 ^ 32) a.0.1) (length words) x (λ y f. omega (arith, first, number_below_shrinks (2 ^ 32) a.0.1 y f)) a.2
 
-pub row_shrinks : Shrinks row_at
-unfolding row_at
+pub row_shrinks : Shrinks row_field
+unfolding row_field
 row_shrinks words x e =
-    let a = bind_some (signed_at words) (λ n. note_at n.1 >>= λ t. Some (record { number = n.0; note = t.0 }, t.1)) x e in
+    let a = bind_some (signed_field words) (λ n. note_field n.1 >>= λ t. Some (record { number = n.0; note = t.0 }, t.1)) x e in
     let first = word_shrinks _ words a.0 a.1 in
-    made_shrinks (λ (t : List ℕ). record { number = a.0.0; note = t }) (note_at a.0.1) (length words) x (λ y f. omega (arith, first, word_shrinks _ a.0.1 y f)) a.2
+    made_shrinks (λ (t : List ℕ). record { number = a.0.0; note = t }) (note_field a.0.1) (length words) x (λ y f. omega (arith, first, word_shrinks _ a.0.1 y f)) a.2
 
 pub op_shrinks : (name : OpName) → Shrinks (op_with name)
 unfolding op_with
-op_shrinks Get words x e = made_shrinks op.Get (key_at words) (length words) x (key_shrinks words) e
-op_shrinks Del words x e = made_shrinks op.Del (key_at words) (length words) x (key_shrinks words) e
+op_shrinks Get words x e = made_shrinks op.Get (key_field words) (length words) x (key_shrinks words) e
+op_shrinks Del words x e = made_shrinks op.Del (key_field words) (length words) x (key_shrinks words) e
 op_shrinks Put words x e =
-    let a = bind_some (key_at words) (λ k. row_at k.1 >>= λ r. Some (op.Put k.0 r.0, r.1)) x e in
+    let a = bind_some (key_field words) (λ k. row_field k.1 >>= λ r. Some (op.Put k.0 r.0, r.1)) x e in
     let first = key_shrinks words a.0 a.1 in
-    made_shrinks (λ (r : RowValue). op.Put a.0.0 r) (row_at a.0.1) (length words) x (λ y f. omega (arith, first, row_shrinks a.0.1 y f)) a.2
+    made_shrinks (λ (r : RowValue). op.Put a.0.0 r) (row_field a.0.1) (length words) x (λ y f. omega (arith, first, row_shrinks a.0.1 y f)) a.2
 op_shrinks Add words x e =
-    let a = bind_some (key_at words) (λ k. signed_at k.1 >>= λ n. Some (op.Add k.0 n.0, n.1)) x e in
+    let a = bind_some (key_field words) (λ k. signed_field k.1 >>= λ n. Some (op.Add k.0 n.0, n.1)) x e in
     let first = key_shrinks words a.0 a.1 in
-    made_shrinks (λ n. op.Add a.0.0 n) (signed_at a.0.1) (length words) x (λ y f. omega (arith, first, word_shrinks _ a.0.1 y f)) a.2
+    made_shrinks (λ n. op.Add a.0.0 n) (signed_field a.0.1) (length words) x (λ y f. omega (arith, first, word_shrinks _ a.0.1 y f)) a.2
 op_shrinks Check words x e =
-    let a = bind_some (key_at words) (λ k. signed_at k.1 >>= λ n. Some (op.Check k.0 n.0, n.1)) x e in
+    let a = bind_some (key_field words) (λ k. signed_field k.1 >>= λ n. Some (op.Check k.0 n.0, n.1)) x e in
     let first = key_shrinks words a.0 a.1 in
-    made_shrinks (λ n. op.Check a.0.0 n) (signed_at a.0.1) (length words) x (λ y f. omega (arith, first, word_shrinks _ a.0.1 y f)) a.2
+    made_shrinks (λ n. op.Check a.0.0 n) (signed_field a.0.1) (length words) x (λ y f. omega (arith, first, word_shrinks _ a.0.1 y f)) a.2

@@ -1,5 +1,6 @@
--- What a reader answers, against what is there to be read.
-use Rattle.std.specs.Prelude.{◌≡◌, Option, Some, None, Result, Ok, Err}
+-- What a reader answers, against what is there to be read, and the number of its fault.
+use Rattle.std.specs.Prelude.{◌≡◌, ℕ, Option, Some, None, Result, Ok, Err}
+use Rattle.sq_schema.specs.Fault.{memory_number, txn_fault_number}
 use Rattle.sq_text.specs.declared.fault.Malformed.{Malformed}
 use Rattle.sq_text.specs.declared.fault.ReadFault.{ReadFault}
 use Rattle.sq_text.specs.declared.fault.ReadFault.TheVariants as faults
@@ -7,22 +8,29 @@ use Rattle.sq_text.specs.declared.fault.LineFault.{LineFault}
 use Rattle.sq_text.specs.declared.fault.LineFault.TheVariants as lines
 
 -- the answer, seen by view, is what is there
-abbrev pub Tells : {X Y : Type 0} → (X → Y) → Result X Malformed → Option Y → Type 0
-Tells view (Ok x) there = there ≡ Some (view x)
-Tells view (Err malformed) there = there ≡ None
+abbrev pub IsParsed : {X Y : Type 0} → (X → Y) → Result X Malformed → Option Y → Type 0
+IsParsed view (Ok x) there = there ≡ Some (view x)
+IsParsed view (Err malformed) there = there ≡ None
 
 -- the answer, seen by view, is what is there, unless memory ran out
-abbrev pub Gives : {X Y : Type 0} → (X → Y) → Result X ReadFault → Option Y → Type 0
-Gives view (Ok x) there = there ≡ Some (view x)
-Gives view (Err faults.Malformed) there = there ≡ None
-Gives view (Err faults.Memory) there = Unit {0}
+abbrev pub IsParsedGivenMemory : {X Y : Type 0} → (X → Y) → Result X ReadFault → Option Y → Type 0
+IsParsedGivenMemory view (Ok x) there = there ≡ Some (view x)
+IsParsedGivenMemory view (Err faults.Malformed) there = there ≡ None
+IsParsedGivenMemory view (Err faults.Memory) there = Unit {0}
 
 -- a line of the script that can't be read
 abbrev pub line_fault : ReadFault → LineFault
 line_fault faults.Malformed = lines.NotAStep
 line_fault faults.Memory = lines.Memory
 
--- this is what came, unless memory ran out
+-- the number that a user sees
+abbrev pub line_fault_number : LineFault → ℕ
+line_fault_number lines.NotAStep = 230
+line_fault_number lines.TooLong = 231
+line_fault_number (lines.Txn fault) = txn_fault_number fault
+line_fault_number lines.Memory = memory_number
+
+-- the step that is wanted, or why there is none, unless memory ran out
 abbrev pub IsStep : {A : Type 0} → Result A LineFault → Result A LineFault → Type 0
 IsStep (Err lines.Memory) wanted = Unit {0}
-IsStep came wanted = came ≡ wanted
+IsStep read wanted = read ≡ wanted

@@ -11,18 +11,18 @@ use Rattle.sq_ranges.specs.OpeningValue.{OpeningValue}
 use Rattle.sq_ranges.specs.Given.{IsOpeningOf}
 use Rattle.sq_ranges.specs.Refused.{opening_fault}
 use Rattle.sq_text.specs.declared.header.RowLines.{RowLines}
+use Rattle.sq_text.specs.declared.step.TheConstants.{MAX_LINE}
 use Rattle.sq_text.specs.declared.input_fault.InputFault.{InputFault}
 use Rattle.sq_text.specs.declared.input_fault.InputFault.TheVariants.{Plan, Opening, BadHeader, TooLong, LineTooLong, Memory}
 use Rattle.sq_text.specs.Words.{words_of}
-use Rattle.sq_text.specs.Steps.{line_limit}
 use Rattle.sq_text.specs.Pieces.{PieceValue, Line, Rest, Endless, TooMany, piece_begins}
 use Rattle.sq_text.specs.InputFaults.{◌>>=◌, IsRead}
 use Rattle.sq_text.specs.HeaderFields.{GivenValue, value_of, config_in, given_in}
 
 -- the bytes of a line of the header, or why it is none: it has too many bytes, or no end
 abbrev pub line_in : PieceValue → Result (List ℕ) InputFault
-line_in (Line bytes) = if nat_lt line_limit (length bytes) then Err LineTooLong else Ok bytes
-line_in (Rest bytes) = if nat_lt line_limit (length bytes) then Err LineTooLong else Err BadHeader
+line_in (Line bytes) = if nat_lt MAX_LINE (length bytes) then Err LineTooLong else Ok bytes
+line_in (Rest bytes) = if nat_lt MAX_LINE (length bytes) then Err LineTooLong else Err BadHeader
 line_in (Endless bytes) = Err TooLong
 line_in TooMany = Err TooLong
 
@@ -70,16 +70,16 @@ pub record RowsValue : Type 0 where
   pub ending : Result (List PieceValue) InputFault
 
 -- a row before others
-abbrev pub with_row : Result (GivenValue × List PieceValue) InputFault → RowsValue → RowsValue
-with_row (Ok row) others = record { rows = row.0 ∷ others.rows; ending = others.ending }
-with_row (Err fault) others = record { rows = []; ending = Err fault }
+abbrev pub row_then : Result (GivenValue × List PieceValue) InputFault → RowsValue → RowsValue
+row_then (Ok row) others = record { rows = row.0 ∷ others.rows; ending = others.ending }
+row_then (Err fault) others = record { rows = []; ending = Err fault }
 
 -- the rows of the lines that begin as a row's line does, up to the first that spells none
 abbrev pub row_lines : List PieceValue → RowsValue
 row_lines [] = record { rows = []; ending = Ok [] }
 row_lines (piece ∷ pieces) =
     if piece_begins (codes "row ") piece
-    then with_row (row_line (piece ∷ pieces)) (row_lines pieces)
+    then row_then (row_line (piece ∷ pieces)) (row_lines pieces)
     else record { rows = []; ending = Ok (piece ∷ pieces) }
 
 -- rows were read as these lines spell them, and they end so

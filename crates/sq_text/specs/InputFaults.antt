@@ -2,10 +2,13 @@
 use Rattle.std.specs.Prelude.{◌≡◌, ℕ, Result, Ok, Err}
 use Rattle.sq_plan.specs.declared.fault.PlanFault.{PlanFault}
 use Rattle.sq_plan.specs.declared.fault.PlanFault.TheVariants as plan
-use Rattle.sq_plan.specs.Fault.{number_of}
+use Rattle.sq_plan.specs.Fault.{plan_fault_number}
 use Rattle.sq_ranges.specs.declared.fault.OpeningFault.{OpeningFault}
 use Rattle.sq_ranges.specs.declared.fault.OpeningFault.TheVariants as opening
-use Rattle.sq_ranges.specs.Refused.{opening_number_of}
+use Rattle.sq_ranges.specs.Fault.{opening_fault_number}
+use Rattle.sq_schema.specs.Fault.{memory_number}
+use Rattle.sq_text.specs.Faults.{line_fault_number}
+use Rattle.sq_text.specs.declared.fault.LineFault.TheVariants as lines
 use Rattle.sq_text.specs.declared.fault.ReadFault.{ReadFault}
 use Rattle.sq_text.specs.declared.fault.ReadFault.TheVariants as words
 use Rattle.sq_text.specs.declared.input_fault.InputFault.{InputFault}
@@ -13,13 +16,13 @@ use Rattle.sq_text.specs.declared.input_fault.InputFault.TheVariants.{Plan, Open
 
 -- the number that a user sees
 abbrev pub input_fault_number : InputFault → ℕ
-input_fault_number (Plan fault) = number_of fault
-input_fault_number (Opening fault) = opening_number_of fault
+input_fault_number (Plan fault) = plan_fault_number fault
+input_fault_number (Opening fault) = opening_fault_number fault
 input_fault_number BadHeader = 121
 input_fault_number TooLong = 122
 input_fault_number ReadFailed = 123
-input_fault_number Memory = 222
-input_fault_number LineTooLong = 231
+input_fault_number Memory = memory_number
+input_fault_number LineTooLong = line_fault_number lines.TooLong
 
 -- why a text is no plan, told as a fault of the input
 abbrev pub of_plan : PlanFault → InputFault
@@ -48,7 +51,7 @@ IsRead view (Ok x) wanted = wanted ≡ Ok (view x)
 IsRead view (Err fault) wanted = wanted ≡ Err fault
 
 -- the answer, seen by view, is this, unless memory ran out
-abbrev pub Reads : {X Y : Type 0} → (X → Y) → Result X InputFault → Result Y InputFault → Type 0
-Reads view (Err Memory) wanted = Unit {0}
-Reads view (Err fault) wanted = wanted ≡ Err fault
-Reads view (Ok x) wanted = wanted ≡ Ok (view x)
+abbrev pub IsReadGivenMemory : {X Y : Type 0} → (X → Y) → Result X InputFault → Result Y InputFault → Type 0
+IsReadGivenMemory view (Err Memory) wanted = Unit {0}
+IsReadGivenMemory view (Err fault) wanted = wanted ≡ Err fault
+IsReadGivenMemory view (Ok x) wanted = wanted ≡ Ok (view x)

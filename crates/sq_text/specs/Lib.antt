@@ -7,7 +7,6 @@ pub mod Verbs
 pub mod Ops
 pub mod Steps
 pub mod Pieces
-pub mod Refusals
 pub mod Texts
 pub mod InputFaults
 pub mod HeaderFields

@@ -3,7 +3,8 @@ use Rattle.std.specs.Prelude.{ℕ, Bool, false, ◌-◌, ◌==◌, nat_eq, nat_l
 use Rattle.std.specs.List.{starts_with}
 use Rattle.sq_text.specs.declared.piece.Piece.{Piece}
 use Rattle.sq_text.specs.declared.piece.Piece.TheVariants as piece
-use Rattle.sq_text.specs.Words.{parts}
+use Rattle.sq_text.specs.declared.piece.TheConstants.{MAX_LINES, MAX_UNENDED}
+use Rattle.sq_text.specs.Words.{split_by}
 
 -- what comes next of an input
 pub data PieceValue : Type 0 where
@@ -23,42 +24,34 @@ view_of (piece.Rest bytes) = Rest bytes.now
 view_of (piece.Endless bytes) = Endless bytes.now
 view_of piece.TooMany = TooMany
 
--- an input has this many lines at most
-abbrev pub lines_limit : ℕ
-lines_limit = 1000000
-
--- this many bytes may come without a line end
-abbrev pub unended_limit : ℕ
-unended_limit = 1048576
-
--- the last part of an input, where so many lines may come: a rest, unless it is empty
+-- what stands after the last line end of an input, where at most this many lines may come: a rest, unless it is empty
 abbrev pub last_piece : ℕ → List ℕ → List PieceValue
 last_piece lines [] = []
 last_piece lines (byte ∷ bytes) =
     if lines == 0 then TooMany ∷ []
-    else if nat_lt unended_limit (length (byte ∷ bytes)) then Endless (byte ∷ bytes) ∷ []
+    else if nat_lt MAX_UNENDED (length (byte ∷ bytes)) then Endless (byte ∷ bytes) ∷ []
     else Rest (byte ∷ bytes) ∷ []
 
 -- a line with its end, and what comes after it
 abbrev pub line_then : ℕ → List ℕ → List PieceValue → List PieceValue
 line_then lines line others =
     if lines == 0 then TooMany ∷ []
-    else if nat_lt unended_limit (length line) then Endless line ∷ []
+    else if nat_lt MAX_UNENDED (length line) then Endless line ∷ []
     else Line line ∷ others
 
--- the pieces of an input that consists of these parts between its line ends, where so many lines may come
+-- the pieces of an input, given what stands between its line ends, where at most this many lines may come
 abbrev pub pieces_of : ℕ → List (List ℕ) → List PieceValue
 pieces_of lines [] = []
 pieces_of lines (rest ∷ []) = last_piece lines rest
 pieces_of lines (line ∷ next ∷ others) = line_then lines line (pieces_of (lines - 1) (next ∷ others))
 
--- the pieces of bytes, where so many lines may come
+-- the pieces of bytes, where at most this many lines may come
 abbrev pub pieces_in : ℕ → List ℕ → List PieceValue
-pieces_in lines bytes = pieces_of lines (parts 10 bytes)
+pieces_in lines bytes = pieces_of lines (split_by 10 bytes)
 
 -- the pieces of an input
 abbrev pub pieces : List ℕ → List PieceValue
-pieces input = pieces_in lines_limit input
+pieces input = pieces_in MAX_LINES input
 
 -- the bytes of a piece begin so
 abbrev pub piece_begins : List ℕ → PieceValue → Bool

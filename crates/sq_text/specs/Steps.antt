@@ -1,5 +1,5 @@
 -- The step that a line of the script spells.
-use Rattle.std.specs.Prelude.{ℕ, Bool, false, nat_lt, if◌then◌else◌, List, [], ◌∷◌, length, Option, Some, None, Result, Ok, Err, bytes_eq, codes, ok_or}
+use Rattle.std.specs.Prelude.{ℕ, Bool, false, ◌^◌, nat_lt, if◌then◌else◌, List, [], ◌∷◌, length, Option, Some, None, Result, Ok, Err, bytes_eq, codes, ok_or}
 use Rattle.sq_schema.specs.declared.txn.Op.{Op}
 use Rattle.sq_schema.specs.declared.fault.TxnFault.{TxnFault}
 use Rattle.sq_schema.specs.Refusals.{txn_fault}
@@ -7,61 +7,58 @@ use Rattle.sq_model.specs.declared.step.Step.{Step}
 use Rattle.sq_model.specs.declared.step.Step.TheVariants as step
 use Rattle.sq_text.specs.declared.fault.LineFault.{LineFault}
 use Rattle.sq_text.specs.declared.fault.LineFault.TheVariants.{NotAStep, TooLong, Txn}
+use Rattle.sq_text.specs.declared.step.TheConstants.{MAX_LINE}
 use Rattle.sq_text.specs.declared.verb.Verb.{Verb}
 use Rattle.sq_text.specs.declared.verb.Verb.TheVariants.{Prepare, Start, Claim, Begin, Cut, Push, Pop, Load, Complete, Report, Finish}
 use Rattle.sq_text.specs.Words.{Word, words_of, ◌>>=◌}
-use Rattle.sq_text.specs.Fields.{number_at, number_to, whole}
+use Rattle.sq_text.specs.Fields.{number_field, number_below, value_at_end}
 use Rattle.sq_text.specs.Verbs.{verb_in}
 use Rattle.sq_text.specs.Ops.{ops_in}
 
--- a line has this many bytes at most
-abbrev pub line_limit : ℕ
-line_limit = 65536
-
 -- a segment, a node and a pull
-unfoldable pub pull_at : List Word → Option ((ℕ × ℕ × ℕ) × List Word)
-pull_at words = do
-  seg ← number_at words
-  node ← number_at seg.1
-  pull ← number_to 4294967295 node.1
+unfoldable pub pull_field : List Word → Option ((ℕ × ℕ × ℕ) × List Word)
+pull_field words = do
+  seg ← number_field words
+  node ← number_field seg.1
+  pull ← number_below (2 ^ 32) node.1
   Some ((seg.0, node.0, pull.0), pull.1)
 
 -- a source and a destination
-unfoldable pub link_at : List Word → Option ((ℕ × ℕ) × List Word)
-link_at words = do
-  src ← number_at words
-  dst ← number_at src.1
+unfoldable pub link_field : List Word → Option ((ℕ × ℕ) × List Word)
+link_field words = do
+  src ← number_field words
+  dst ← number_field src.1
   Some ((src.0, dst.0), dst.1)
 
 -- the step of this verb
 unfoldable pub step_with : Verb → List Word → Option (Step × List Word)
 step_with Prepare words = do
-  part ← number_at words
+  part ← number_field words
   Some (step.Prepare part.0, part.1)
 step_with Start words = Some (step.Start, words)
 step_with Claim words = do
-  at ← pull_at words
+  at ← pull_field words
   Some (step.Claim at.0.0 at.0.1 at.0.2, at.1)
 step_with Begin words = do
-  at ← pull_at words
+  at ← pull_field words
   Some (step.Begin at.0.0 at.0.1 at.0.2, at.1)
 step_with Cut words = do
-  link ← link_at words
+  link ← link_field words
   Some (step.Cut link.0.0 link.0.1, link.1)
 step_with Push words = do
-  link ← link_at words
+  link ← link_field words
   Some (step.Push link.0.0 link.0.1, link.1)
 step_with Pop words = do
-  link ← link_at words
+  link ← link_field words
   Some (step.Pop link.0.0 link.0.1, link.1)
 step_with Load words = do
-  link ← link_at words
+  link ← link_field words
   Some (step.Load link.0.0 link.0.1, link.1)
 step_with Complete words = do
-  at ← pull_at words
+  at ← pull_field words
   Some (step.Complete at.0.0 at.0.1 at.0.2, at.1)
 step_with Report words = do
-  part ← number_at words
+  part ← number_field words
   Some (step.Report part.0, part.1)
 step_with Finish words = Some (step.Finish, words)
 
@@ -69,7 +66,7 @@ step_with Finish words = Some (step.Finish, words)
 abbrev pub verb_step : Word → List Word → Option Step
 verb_step first words = do
   verb ← verb_in first
-  whole (step_with verb words)
+  value_at_end (step_with verb words)
 
 -- a transaction as its line spells it: a partition, an id, a root key, and operations
 pub record TxnLine : Type 0 where
@@ -81,9 +78,9 @@ pub record TxnLine : Type 0 where
 -- a partition, an id, a root key and operations, up to the end of the words
 unfoldable pub txn_in : List Word → Option TxnLine
 txn_in words = do
-  part ← number_at words
-  id ← number_at part.1
-  root ← number_at id.1
+  part ← number_field words
+  id ← number_field part.1
+  root ← number_field id.1
   ops ← ops_in root.1
   Some (record { part = part.0; id = id.0; root = root.0; ops = ops })
 
@@ -92,7 +89,7 @@ abbrev pub submit_unless : Option TxnFault → TxnLine → Result Step LineFault
 submit_unless None txn = Ok (step.Submit txn.part (record { id = txn.id; root = txn.root; ops = txn.ops }))
 submit_unless (Some fault) txn = Err (Txn fault)
 
--- the transaction is submitted, unless no schema of so many tables has it
+-- the transaction is submitted, unless no schema of this many tables has it
 abbrev pub submitted : ℕ → Option TxnLine → Result Step LineFault
 submitted tables None = Err NotAStep
 submitted tables (Some txn) = submit_unless (txn_fault tables txn.root txn.ops) txn
@@ -108,6 +105,6 @@ abbrev pub begins_txn : List Word → Bool
 begins_txn [] = false
 begins_txn (first ∷ words) = bytes_eq first (codes "txn")
 
--- the step that a line spells, where the schema has so many tables
+-- the step that a line spells, where the schema has this many tables
 abbrev pub step_of : ℕ → List ℕ → Result Step LineFault
-step_of tables line = if nat_lt line_limit (length line) then Err TooLong else step_in tables (words_of line)
+step_of tables line = if nat_lt MAX_LINE (length line) then Err TooLong else step_in tables (words_of line)

@@ -15,10 +15,10 @@ use Rattle.sq_chunk.specs.declared.chunk.Note.{Note}
 use Rattle.sq_chunk.specs.ChunkValue.{ChunkValue}
 use Rattle.sq_model.specs.declared.answer.Answer.{Answer}
 use Rattle.sq_model.specs.declared.answer.Answer.TheVariants as answer
+use Rattle.sq_model.specs.Refusal.{refusal_number}
 use Rattle.sq_model.specs.declared.step.Phase.{Phase}
 use Rattle.sq_model.specs.declared.step.Phase.TheVariants as phase
 use Rattle.sq_text.specs.Words.{Word}
-use Rattle.sq_text.specs.Refusals.{refusal_number}
 
 -- a line of these words, with its end
 abbrev pub line : List Word → List ℕ

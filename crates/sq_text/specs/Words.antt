@@ -6,13 +6,13 @@ use Rattle.std.specs.List.{slice_split}
 abbrev pub Word : Type 0
 Word = List ℕ
 
--- the parts of bytes between those that are this byte
-abbrev pub parts : ℕ → List ℕ → List (List ℕ)
-parts at bytes = slice_split (λ byte. byte == at) bytes
+-- bytes split at each place of this byte
+abbrev pub split_by : ℕ → List ℕ → List (List ℕ)
+split_by at bytes = slice_split (λ byte. byte == at) bytes
 
--- the parts of a line between its spaces; where two spaces follow one another, or one stands at an end, a part is empty
+-- a line split at its spaces; where two spaces follow one another, or one stands at an end, a word is empty
 abbrev pub words_of : List ℕ → List Word
-words_of line = parts 32 line
+words_of line = split_by 32 line
 
 -- the words of what is left of a line
 abbrev pub words_left : Option (List ℕ) → List Word

@@ -4,7 +4,6 @@ ghost use Rattle.std.specs.List.{flat_map, join_with_byte};
 ghost use Rattle.std.specs.Io.KnownBytes.{Appends};
 ghost use Rattle.sq_text.specs.Texts.{line, op_answer_text, cause_text, mark_text, reply_words, note_words, answer_line, refused_line, fault_line};
 
-use crate::refusal::refusal_number;
 use crate::row_text::write_op_answer;
 use sq_chunk::Note;
 use sq_model::Answer;
@@ -62,14 +61,8 @@ fn mark_text(last: bool) -> &'static str
 pub(crate) fn write_note<W: Write>(writer: &mut W, note: &Note, families: u64) -> io::Result<()>
     ensures { OnOk result (Appends (W.contents writer.old) (W.contents writer.new) (line (note_words note.now families))) }
 {
-    let Note {
-        number,
-        seg,
-        node,
-        lo,
-        hi,
-        ..
-    } = *note;
+    let Note { number, lo, hi, .. } = *note;
+    let (seg, node) = (note.seg.number(), note.node.number());
     let mark = mark_text(note.last);
     write!(writer, "{number} {seg} {node} ")?;
     writeln!(writer, "{lo} {hi} {mark} {families}")
@@ -86,7 +79,10 @@ pub fn write_answer<W: Write>(writer: &mut W, answer: &Answer) -> io::Result<()>
             let to = to.number();
             writeln!(writer, "moved {id} {to}")
         }
-        Answer::Waits { id, seg, leaf } => writeln!(writer, "waits {id} {seg} {leaf}"),
+        Answer::Waits { id, seg, leaf } => {
+            let (seg, leaf) = (seg.number(), leaf.number());
+            writeln!(writer, "waits {id} {seg} {leaf}")
+        }
         Answer::WasCut { note, families } => {
             write!(writer, "cut ")?;
             write_note(writer, note, *families)
@@ -95,7 +91,7 @@ pub fn write_answer<W: Write>(writer: &mut W, answer: &Answer) -> io::Result<()>
             write!(writer, "load ")?;
             write_note(writer, note, *families)
         }
-        Answer::Refused(refusal) => write_refused(writer, refusal_number(*refusal)),
+        Answer::Refused(refusal) => write_refused(writer, refusal.number()),
     }
 }
 

@@ -1,40 +1,44 @@
 // Why a line can't be read.
-use crate::refusal::txn_fault_number;
-use sq_schema::TxnFault;
+ghost use Rattle.std.specs.Prelude.{◌≡◌};
+ghost use Rattle.sq_text.specs.Faults.{line_fault_number};
+
+use crate::step::MAX_LINE;
+use sq_schema::{OUT_OF_MEMORY, TxnFault};
 use std::alloc::{AllocError, AllocFailed};
+use thiserror::Error;
 
 /// Why a line of the script is no step.
-#[derive(Clone, Copy, Debug, PartialEq, Eq)]
+#[derive(Clone, Copy, Debug, PartialEq, Eq, Error)]
 pub enum LineFault {
-    /// 230: the line is of no step's form.
+    /// 230.
+    #[error("a line is of no step's form")]
     NotAStep,
-    /// 231: the line has over 65,536 bytes.
+    /// 231.
+    #[error("a line has more than {MAX_LINE} bytes")]
     TooLong,
-    /// 131 to 135: a transaction that the schema doesn't have.
+    /// The schema doesn't have the transaction.
+    #[error(transparent)]
     Txn(TxnFault),
-    /// 222: memory ran out.
+    /// Memory ran out.
+    #[error("{}", AllocError)]
     Memory,
 }
 
 impl LineFault {
-    ghost use Rattle.std.specs.Prelude.{◌≡◌};
-    ghost use Rattle.sq_text.specs.Refusals.{line_fault_number};
-
-    /// The number that a user sees, as above.
+    /// The number that a user sees.
     pub fn number(self) -> u16
         ensures { result ≡ line_fault_number self }
     {
         match self {
             LineFault::NotAStep => 230,
             LineFault::TooLong => 231,
-            LineFault::Txn(fault) => txn_fault_number(fault),
-            LineFault::Memory => 222,
+            LineFault::Txn(fault) => fault.number(),
+            LineFault::Memory => OUT_OF_MEMORY,
         }
     }
 }
 
 impl From<Malformed> for LineFault {
-    ghost use Rattle.std.specs.Prelude.{◌≡◌};
     ghost use Rattle.sq_text.specs.declared.fault.LineFault.TheVariants as faults;
 
     ghost from_gives = { λ _ fault. fault ≡ faults.NotAStep };
@@ -45,7 +49,6 @@ impl From<Malformed> for LineFault {
 }
 
 impl From<ReadFault> for LineFault {
-    ghost use Rattle.std.specs.Prelude.{◌≡◌};
     ghost use Rattle.sq_text.specs.Faults.{line_fault};
 
     ghost from_gives = { λ cause fault. fault ≡ line_fault cause };
@@ -72,7 +75,6 @@ pub(crate) enum ReadFault {
 }
 
 impl From<Malformed> for ReadFault {
-    ghost use Rattle.std.specs.Prelude.{◌≡◌};
     ghost use Rattle.sq_text.specs.declared.fault.ReadFault.TheVariants as faults;
 
     ghost from_gives = { λ _ fault. fault ≡ faults.Malformed };
@@ -83,7 +85,6 @@ impl From<Malformed> for ReadFault {
 }
 
 impl From<AllocError> for ReadFault {
-    ghost use Rattle.std.specs.Prelude.{◌≡◌};
     ghost use Rattle.sq_text.specs.declared.fault.ReadFault.TheVariants as faults;
 
     ghost from_gives = { λ _ fault. fault ≡ faults.Memory };
@@ -94,7 +95,6 @@ impl From<AllocError> for ReadFault {
 }
 
 impl<T: Drop> From<AllocFailed<T>> for ReadFault {
-    ghost use Rattle.std.specs.Prelude.{◌≡◌};
     ghost use Rattle.sq_text.specs.declared.fault.ReadFault.TheVariants as faults;
 
     ghost from_gives = { λ _ fault. fault ≡ faults.Memory };

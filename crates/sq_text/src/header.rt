@@ -2,8 +2,8 @@
 ghost use Rattle.std.specs.Prelude.{◌≡◌, codes, Err, IfOk};
 ghost use Rattle.sq_text.specs.Words.{words_of};
 ghost use Rattle.sq_text.specs.Pieces.{view_of};
-ghost use Rattle.sq_text.specs.Faults.{Tells, Gives};
-ghost use Rattle.sq_text.specs.InputFaults.{IsRead, Reads};
+ghost use Rattle.sq_text.specs.Faults.{IsParsed, IsParsedGivenMemory};
+ghost use Rattle.sq_text.specs.InputFaults.{IsRead, IsReadGivenMemory};
 ghost use Rattle.sq_text.specs.HeaderFields.{value_of, config_in, given_in};
 ghost use Rattle.sq_text.specs.Header.{line_in, behind, line_behind, plan_line, config_line, row_line, row_lines, AreRows, header_of, Opens};
 
@@ -51,7 +51,7 @@ fn line_behind<'a>(front: &[u8], pieces: &mut Pieces<'a>) -> Result<&'a [u8], In
 
 // The plan of a line.
 fn plan_line(alloc: Global, front: &[u8], pieces: &mut Pieces<'_>) -> Result<Plan, InputFault>
-    ensures { Reads (λ plan. (plan, pieces.new)) result (plan_line front.now pieces.old) }
+    ensures { IsReadGivenMemory (λ plan. (plan, pieces.new)) result (plan_line front.now pieces.old) }
 {
     let text = line_behind(front, pieces)?;
     Ok(Plan::read(alloc, text)?)
@@ -60,7 +60,7 @@ fn plan_line(alloc: Global, front: &[u8], pieces: &mut Pieces<'_>) -> Result<Pla
 // The sizes that words spell.
 #[tactic(auto, unfolding(crate::specs::HeaderFields::config_in))]
 fn config(mut words: Words<'_>) -> Result<Config, Malformed>
-    ensures { Tells (λ config. config) result (config_in words.entry) }
+    ensures { IsParsed (λ config. config) result (config_in words.entry) }
 {
     let width = words.number()?;
     let limit = words.number()?;
@@ -86,7 +86,7 @@ fn config_line(pieces: &mut Pieces<'_>) -> Result<Config, InputFault>
 // The opening row that words spell.
 #[tactic(auto, unfolding(crate::specs::HeaderFields::given_in))]
 fn given(alloc: Global, mut words: Words<'_>) -> Result<GivenRow, ReadFault>
-    ensures { Gives value_of result (given_in words.entry) }
+    ensures { IsParsedGivenMemory value_of result (given_in words.entry) }
 {
     let root = words.number()?;
     let RowKey { table, sub } = words.key()?;
@@ -107,7 +107,7 @@ fn given(alloc: Global, mut words: Words<'_>) -> Result<GivenRow, ReadFault>
 
 // The opening row of a line.
 fn row_line(alloc: Global, pieces: &mut Pieces<'_>) -> Result<GivenRow, InputFault>
-    ensures { Reads (λ row. (value_of row, pieces.new)) result (row_line pieces.old) }
+    ensures { IsReadGivenMemory (λ row. (value_of row, pieces.new)) result (row_line pieces.old) }
 {
     let text = line_behind(b"row ", pieces)?;
     Ok(given(alloc, Words::of(text))?)
@@ -156,8 +156,8 @@ fn row_lines(alloc: Global, pieces: &mut Pieces<'_>) -> Result<RowLines, AllocEr
 /// chunk and the chunks of a link's queue; and then, as long as lines begin with `row `, opening rows:
 /// `row ROOT T S N NOTE`. A refusal is the first fault in the order of the lines: that of a plan; a line that is
 /// missing, has no end, or isn't of its form; one with over [`MAX_LINE`] bytes; an input that is too long; and for
-/// the plans, the sizes and each row the fault that [`Opening::new`] finds. Want of memory may come in place of any
-/// answer.
+/// the plans, the sizes and each row the fault that [`Opening::new`] finds. [`InputFault::Memory`] may come in
+/// place of any answer.
 pub fn read_header(
     alloc: Global,
     schema: Schema,

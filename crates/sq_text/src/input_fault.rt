@@ -1,34 +1,43 @@
 // Why an input gives no run.
 ghost use Rattle.std.specs.Prelude.{◌≡◌};
+ghost use Rattle.sq_text.specs.InputFaults.{input_fault_number};
 
-use crate::fault::{Malformed, ReadFault};
+use crate::fault::{LineFault, Malformed, ReadFault};
+use crate::step::MAX_LINE;
 use sq_plan::PlanFault;
 use sq_ranges::{OpeningFault, RefusedOpening};
+use sq_schema::OUT_OF_MEMORY;
 use std::alloc::AllocError;
+use thiserror::Error;
 
 /// Why an input gives no run.
-#[derive(Clone, Copy, Debug, PartialEq, Eq)]
+#[derive(Clone, Copy, Debug, PartialEq, Eq, Error)]
 pub enum InputFault {
-    /// 101 to 107: a line of the header spells no plan.
+    /// A line of the header spells no plan.
+    #[error(transparent)]
     Plan(PlanFault),
-    /// 111 to 115 and 132 to 137: the plans, the sizes and the rows of the header make no opening.
+    /// The plans, the sizes and the rows of the header make no opening.
+    #[error(transparent)]
     Opening(OpeningFault),
-    /// 121: a line of the header is missing, or isn't of its form.
+    /// 121.
+    #[error("a line of the header is missing or malformed")]
     BadHeader,
-    /// 122: there are too many lines, or one has no end.
+    /// 122.
+    #[error("the input is too long, or a line of it has no end")]
     TooLong,
-    /// 123: a read failed.
+    /// 123.
+    #[error("the input can't be read")]
     ReadFailed,
-    /// 222: memory ran out.
+    /// Memory ran out, wherever it did.
+    #[error("{}", AllocError)]
     Memory,
-    /// 231: a line of the header has over 65,536 bytes.
+    /// A line of the header is too long.
+    #[error("a line of the header has more than {MAX_LINE} bytes")]
     LineTooLong,
 }
 
 impl InputFault {
-    ghost use Rattle.sq_text.specs.InputFaults.{input_fault_number};
-
-    /// The number that a user sees, as above.
+    /// The number that a user sees.
     pub fn number(self) -> u16
         ensures { result ≡ input_fault_number self }
     {
@@ -38,8 +47,8 @@ impl InputFault {
             InputFault::BadHeader => 121,
             InputFault::TooLong => 122,
             InputFault::ReadFailed => 123,
-            InputFault::Memory => 222,
-            InputFault::LineTooLong => 231,
+            InputFault::Memory => OUT_OF_MEMORY,
+            InputFault::LineTooLong => LineFault::TooLong.number(),
         }
     }
 }

@@ -11,7 +11,6 @@ mod note;
 mod number;
 mod op;
 mod piece;
-mod refusal;
 mod row_text;
 mod split;
 mod step;
@@ -24,10 +23,4 @@ pub use fault::LineFault;
 pub use header::read_header;
 pub use input_fault::InputFault;
 pub use piece::{MAX_LINES, MAX_UNENDED, Piece, Pieces};
-pub use refusal::{refusal_number, txn_fault_number};
 pub use step::{MAX_LINE, read_step};
-
-#[cfg(test)]
-mod header_tests;
-#[cfg(test)]
-mod tests;

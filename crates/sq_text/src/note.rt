@@ -1,7 +1,7 @@
 // Notes as words spell them.
 ghost use Rattle.std.specs.Prelude.{◌≡◌};
 ghost use Rattle.sq_text.specs.Notes.{hex_digit_in, hex_byte_in, hex_in, note_in};
-ghost use Rattle.sq_text.specs.Faults.{Gives};
+ghost use Rattle.sq_text.specs.Faults.{IsParsedGivenMemory};
 
 use crate::fault::ReadFault;
 use std::alloc::Global;
@@ -25,7 +25,7 @@ fn hex_byte(high: u8, low: u8) -> Option<u8>
 
 // The bytes that hexadecimal digits spell, two digits each.
 fn hex(alloc: Global, digits: &[u8]) -> Result<Vec<u8>, ReadFault>
-    ensures { Gives (λ bytes. bytes.items) result (hex_in digits.now) }
+    ensures { IsParsedGivenMemory (λ bytes. bytes.items) result (hex_in digits.now) }
 {
     let mut bytes = Vec::with_capacity(alloc, digits.len() / 2)?;
     let mut rest = digits;
@@ -45,7 +45,7 @@ fn hex(alloc: Global, digits: &[u8]) -> Result<Vec<u8>, ReadFault>
 
 // The note that a word spells.
 pub(crate) fn note(alloc: Global, word: &[u8]) -> Result<Vec<u8>, ReadFault>
-    ensures { Gives (λ bytes. bytes.items) result (note_in word.now) }
+    ensures { IsParsedGivenMemory (λ bytes. bytes.items) result (note_in word.now) }
 {
     match word {
         [] => Err(ReadFault::Malformed),

@@ -1,6 +1,6 @@
 // The operations of a transaction.
 ghost use Rattle.sq_text.specs.Ops.{op_with, ops_in};
-ghost use Rattle.sq_text.specs.Faults.{Gives};
+ghost use Rattle.sq_text.specs.Faults.{IsParsedGivenMemory};
 
 use crate::fault::{Malformed, ReadFault};
 use crate::verb::OpName;
@@ -11,7 +11,7 @@ use std::alloc::Global;
 // The operation of this name.
 #[tactic(auto, unfolding(crate::specs::Ops::op_with))]
 fn op(alloc: Global, name: OpName, words: &mut Words<'_>) -> Result<Op, ReadFault>
-    ensures { Gives (λ op. (op, words.new)) result (op_with name words.old) }
+    ensures { IsParsedGivenMemory (λ op. (op, words.new)) result (op_with name words.old) }
 {
     let key = words.key()?;
     match name {
@@ -25,7 +25,7 @@ fn op(alloc: Global, name: OpName, words: &mut Words<'_>) -> Result<Op, ReadFaul
 
 // The operations up to the end of the words.
 pub(crate) fn ops(alloc: Global, mut words: Words<'_>) -> Result<Vec<Op>, ReadFault>
-    ensures { Gives (λ ops. ops.items) result (ops_in words.entry) }
+    ensures { IsParsedGivenMemory (λ ops. ops.items) result (ops_in words.entry) }
 {
     let mut ops = Vec::new(alloc);
     while let Some(word) = words.next() {

@@ -1,6 +1,6 @@
 // Bytes, cut at one byte.
 ghost use Rattle.std.specs.Prelude.{◌≡◌, ◌==◌, [], ◌∷◌, MatchOption, position};
-ghost use Rattle.sq_text.specs.Words.{parts};
+ghost use Rattle.sq_text.specs.Words.{split_by};
 
 // The first place of a byte.
 fn place_of(byte: u8, bytes: &[u8]) -> Option<usize>
@@ -11,7 +11,7 @@ fn place_of(byte: u8, bytes: &[u8]) -> Option<usize>
 
 // What stands before the first of these bytes, and what stands after it; `None` where there is none.
 pub(crate) fn split_once(byte: u8, bytes: &[u8]) -> Option<(&[u8], &[u8])>
-    ensures { MatchOption result (parts byte bytes.now ≡ bytes.now ∷ []) (λ x. parts byte bytes.now ≡ x.0.now ∷ parts byte x.1.now) }
+    ensures { MatchOption result (split_by byte bytes.now ≡ bytes.now ∷ []) (λ x. split_by byte bytes.now ≡ x.0.now ∷ split_by byte x.1.now) }
 {
     let at = place_of(byte, bytes)?;
     Some((&bytes[..at], &bytes[at + 1..]))

@@ -1,8 +1,8 @@
 // The steps that lines of the script spell.
 ghost use Rattle.std.specs.Prelude.{◌≡◌, true, Err};
-ghost use Rattle.sq_text.specs.Steps.{pull_at, link_at, step_with, verb_step, txn_in, submitted, step_in, step_of, begins_txn};
+ghost use Rattle.sq_text.specs.Steps.{pull_field, link_field, step_with, verb_step, txn_in, submitted, step_in, step_of, begins_txn};
 ghost use Rattle.sq_text.specs.Words.{words_of};
-ghost use Rattle.sq_text.specs.Faults.{Tells, Gives, IsStep};
+ghost use Rattle.sq_text.specs.Faults.{IsParsed, IsParsedGivenMemory, IsStep};
 
 use crate::fault::{LineFault, Malformed};
 use crate::op::ops;
@@ -16,17 +16,17 @@ use std::alloc::Global;
 pub const MAX_LINE: usize = 65_536;
 
 // A segment, a node and a pull.
-#[tactic(auto, unfolding(crate::specs::Steps::pull_at))]
+#[tactic(auto, unfolding(crate::specs::Steps::pull_field))]
 fn pull(words: &mut Words<'_>) -> Result<(u64, u64, u32), Malformed>
-    ensures { Tells (λ pull. (pull, words.new)) result (pull_at words.old) }
+    ensures { IsParsed (λ pull. (pull, words.new)) result (pull_field words.old) }
 {
     Ok((words.number()?, words.number()?, words.small()?))
 }
 
 // A source and a destination.
-#[tactic(auto, unfolding(crate::specs::Steps::link_at))]
+#[tactic(auto, unfolding(crate::specs::Steps::link_field))]
 fn link(words: &mut Words<'_>) -> Result<(u64, u64), Malformed>
-    ensures { Tells (λ link. (link, words.new)) result (link_at words.old) }
+    ensures { IsParsed (λ link. (link, words.new)) result (link_field words.old) }
 {
     Ok((words.number()?, words.number()?))
 }
@@ -34,7 +34,7 @@ fn link(words: &mut Words<'_>) -> Result<(u64, u64), Malformed>
 // The step of this verb.
 #[tactic(auto, unfolding(crate::specs::Steps::step_with))]
 fn step(verb: Verb, words: &mut Words<'_>) -> Result<Step, Malformed>
-    ensures { Tells (λ step. (step, words.new)) result (step_with verb words.old) }
+    ensures { IsParsed (λ step. (step, words.new)) result (step_with verb words.old) }
 {
     match verb {
         Verb::Prepare => Ok(Step::Prepare(words.number()?)),
@@ -74,7 +74,7 @@ fn step(verb: Verb, words: &mut Words<'_>) -> Result<Step, Malformed>
 
 // The step of a line that begins with a verb.
 fn verb_step(first: &[u8], mut words: Words<'_>) -> Result<Step, Malformed>
-    ensures { Tells (λ step. step) result (verb_step first.now words.entry) }
+    ensures { IsParsed (λ step. step) result (verb_step first.now words.entry) }
 {
     let verb = Verb::of(first).ok_or(Malformed)?;
     let step = step(verb, &mut words)?;

@@ -18,27 +18,46 @@ pub(crate) enum Verb {
 }
 
 impl Verb {
-    ghost use Rattle.sq_text.specs.Verbs.{verb_in};
+    ghost use Rattle.sq_text.specs.Verbs.{verb_word, verb_in};
+
+    const ALL: [Verb; 11] = [
+        Verb::Prepare,
+        Verb::Start,
+        Verb::Claim,
+        Verb::Begin,
+        Verb::Cut,
+        Verb::Push,
+        Verb::Pop,
+        Verb::Load,
+        Verb::Complete,
+        Verb::Report,
+        Verb::Finish,
+    ];
+
+    fn word(self) -> &'static [u8]
+        ensures { result.now ≡ verb_word self }
+    {
+        match self {
+            Verb::Prepare => b"prepare",
+            Verb::Start => b"start",
+            Verb::Claim => b"claim",
+            Verb::Begin => b"begin",
+            Verb::Cut => b"cut",
+            Verb::Push => b"push",
+            Verb::Pop => b"pop",
+            Verb::Load => b"load",
+            Verb::Complete => b"complete",
+            Verb::Report => b"report",
+            Verb::Finish => b"finish",
+        }
+    }
 
     // The verb that a word spells.
     #[tactic(auto, unfolding(crate::specs::Verbs::verb_in))]
     pub(crate) fn of(word: &[u8]) -> Option<Verb>
         ensures { result ≡ verb_in word.now }
     {
-        Some(match word {
-            b"prepare" => Verb::Prepare,
-            b"start" => Verb::Start,
-            b"claim" => Verb::Claim,
-            b"begin" => Verb::Begin,
-            b"cut" => Verb::Cut,
-            b"push" => Verb::Push,
-            b"pop" => Verb::Pop,
-            b"load" => Verb::Load,
-            b"complete" => Verb::Complete,
-            b"report" => Verb::Report,
-            b"finish" => Verb::Finish,
-            _ => return None,
-        })
+        Verb::ALL.iter().copied().find(|verb| verb.word() == word)
     }
 }
 
@@ -53,20 +72,33 @@ pub(crate) enum OpName {
 }
 
 impl OpName {
-    ghost use Rattle.sq_text.specs.Verbs.{op_name_in};
+    ghost use Rattle.sq_text.specs.Verbs.{op_word, op_name_in};
+
+    const ALL: [OpName; 5] = [
+        OpName::Get,
+        OpName::Put,
+        OpName::Add,
+        OpName::Del,
+        OpName::Check,
+    ];
+
+    fn word(self) -> &'static [u8]
+        ensures { result.now ≡ op_word self }
+    {
+        match self {
+            OpName::Get => b"get",
+            OpName::Put => b"put",
+            OpName::Add => b"add",
+            OpName::Del => b"del",
+            OpName::Check => b"check",
+        }
+    }
 
     // The name that a word spells.
     #[tactic(auto, unfolding(crate::specs::Verbs::op_name_in))]
     pub(crate) fn of(word: &[u8]) -> Option<OpName>
         ensures { result ≡ op_name_in word.now }
     {
-        match word {
-            b"get" => Some(OpName::Get),
-            b"put" => Some(OpName::Put),
-            b"add" => Some(OpName::Add),
-            b"del" => Some(OpName::Del),
-            b"check" => Some(OpName::Check),
-            _ => None,
-        }
+        OpName::ALL.iter().copied().find(|name| name.word() == word)
     }
 }

@@ -1,5 +1,5 @@
 -- In a grown tree each leaf has one live node above it that isn't split.
-use Rattle.std.proofs.Common.{◌≡◌, ◌≢◌, ◌⊎◌, inl, inr, ℕ, zero, suc, ◌+◌, ◌*◌, ◌/◌, ◌^◌, ◌<◌, ◌≤◌, Bool, true, false, ◌==◌, if◌then◌else◌, IsTrue, refl, sym, ap, ap₂, ◌∙◌, subst, arith, true≢false, pow-suc, mul_assoc, mul_comm, mul-le-mul_right, le_trans}
+use Rattle.std.proofs.Common.{◌≡◌, ◌≢◌, inl, inr, ℕ, zero, suc, ◌+◌, ◌*◌, ◌/◌, ◌^◌, ◌<◌, ◌≤◌, true, false, ◌==◌, if◌then◌else◌, IsTrue, refl, sym, ap, ◌∙◌, subst, arith, true≢false, pow-suc, mul_assoc, mul_comm, mul-le-mul_right, le_trans}
 use Rattle.std.proofs.lemmas.Bool.{or_cases, or_right, cond-true, cond-false, cond_both, eqb-true, le-leb, cases_Bool, cases_eq, cases_lt, leb-false, false_from_ne_true}
 use Rattle.sq_tree.specs.declared.status.Status.{Status}
 use Rattle.sq_tree.specs.Node.{is_node, is_leaf, parent, span, first_leaf, is_above, is_under}
@@ -30,7 +30,7 @@ split_above status grown n m node other live under differ = within m m other liv
               up.1 higher (let f = up.0 in omega arith)
         ]
 
--- a place on the way down from node 1 to a leaf, which is at most so many halvings below it
+-- a place on the way down from node 1 to a leaf, which is at most `depth` halvings below it
 record Step (status : ℕ → Status) (leaf depth n : ℕ) : Type 0 where
   node : IsTrue (is_node n)
   above : IsTrue (is_above n leaf)
@@ -193,27 +193,6 @@ covering_is status grown leaf few =
 pub covering_touched : (status : ℕ → Status) → IsGrown status → (leaf n : ℕ) → leaf < 32 → IsTrue (is_node n) → IsTrue (is_above n leaf) → is_free (status n) ≡ false → is_split (status n) ≡ false → covering status leaf ≡ n
 covering_touched status grown leaf n few node above touched whole =
     sym ((covering_is status grown leaf few).only n node above (grown.live n touched) whole)
-
--- two nodes that are neither free nor split aren't nested
-pub touched_not_under : (status : ℕ → Status) → IsGrown status → (n m : ℕ) → IsTrue (is_node n) → IsTrue (is_node m) → n ≢ m → is_split (status n) ≡ false → is_free (status m) ≡ false → is_under n m ≡ false
-touched_not_under status grown n m node other differ whole touched =
-    false_from_ne_true (is_under n m) (λ under. true≢false (sym (split_above status grown n m node other (grown.live m touched) under differ) ∙ whole))
-
--- so their leaves are apart
-pub touched_apart : (status : ℕ → Status) → IsGrown status → (n m : ℕ) → IsTrue (is_node n) → IsTrue (is_node m) → n ≢ m → is_free (status n) ≡ false → is_split (status n) ≡ false → is_free (status m) ≡ false → is_split (status m) ≡ false → (first_leaf n + span n ≤ first_leaf m) ⊎ (first_leaf m + span m ≤ first_leaf n)
-touched_apart status grown n m node other differ touched whole touched' whole' =
-    apart n m node other
-    (touched_not_under status grown n m node other differ whole touched')
-    (touched_not_under status grown m n other node (λ e. differ (sym e)) whole' touched)
-
--- which node covers a leaf depends only on which nodes are split
-pub covering-same : (status other : ℕ → Status) → ((n : ℕ) → is_split (status n) ≡ is_split (other n)) → (leaf : ℕ) → covering status leaf ≡ covering other leaf
-covering-same status other same leaf = within 5 1
-  where
-    within : (depth n : ℕ) → covering_within depth status leaf n ≡ covering_within depth other leaf n
-    within zero n = refl
-    within (suc depth) n =
-        ap₂ (λ (b : Bool) (k : ℕ). if b then k else n) (same n) (within depth (if is_above (2 * n) leaf then 2 * n else 2 * n + 1))
 
 -- looking for the node that covers a leaf, from this node on, finds that one
 pub record LooksFrom (status : ℕ → Status) (leaf n found : ℕ) : Type 0 where

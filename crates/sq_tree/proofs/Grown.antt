@@ -1,5 +1,5 @@
 -- Each step keeps a tree grown.
-use Rattle.std.proofs.Common.{◌≡◌, ℕ, true, false, IsTrue, sym, ap, ◌∙◌, true≢false, subst, arith}
+use Rattle.std.proofs.Common.{◌≡◌, ℕ, true, false, IsTrue, sym, ap, ◌∙◌, true≢false, arith}
 use Rattle.std.proofs.lemmas.Bool.Decides.{nat_tests}
 use Rattle.sq_tree.specs.declared.status.Status.{Status}
 use Rattle.sq_tree.specs.declared.status.Status.TheVariants.{Free}
@@ -21,7 +21,3 @@ grown-set_at status n st grown node live whole leaf = record {
   live = λ m touched. grind (arith, nat_tests, grown.live m);
   leaves = λ m is. grind (arith, nat_tests, grown.leaves m);
 }
-
--- being grown is a matter of each node's status
-pub grown-same : (status other : ℕ → Status) → ((n : ℕ) → status n ≡ other n) → IsGrown status → IsGrown other
-grown-same status other same grown = subst IsGrown (λ i n. same n i) grown

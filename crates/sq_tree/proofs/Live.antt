@@ -1,49 +1,10 @@
 -- The nearest live node above a node.
-use Rattle.std.proofs.Common.{◌≡◌, inl, inr, ℕ, zero, suc, ◌/◌, ◌^◌, ◌<◌, ◌≤◌, true, false, ◌==◌, IsTrue, sym, ◌∙◌, refl, arith, pow-suc}
+use Rattle.std.proofs.Common.{◌≡◌, inl, inr, ℕ, zero, suc, ◌^◌, ◌<◌, ◌≤◌, true, false, ◌==◌, IsTrue, sym, ◌∙◌, refl, arith, pow-suc}
 use Rattle.std.proofs.lemmas.Bool.{or_parts, or_left, cond-true, cond-false, eqb-false, eq-eqb, cases_Bool}
 use Rattle.sq_tree.specs.declared.status.Status.{Status}
 use Rattle.sq_tree.specs.Node.{is_node, parent}
 use Rattle.sq_tree.specs.Status.{is_split, is_live, live_within}
 use Rattle.sq_tree.proofs.Nested.{node_bounds, node_within}
-
--- looking for the nearest live node, from this node upward, finds that one
-pub record ClimbsFrom (status : ℕ → Status) (n found : ℕ) : Type 0 where
-  pub node : IsTrue (is_node n)
-  pub steps : ℕ
-  pub few : n < 2 ^ suc steps
-  pub finds : live_within steps status n ≡ found
-
-pub climbs_from : (status : ℕ → Status) (n : ℕ) → IsTrue (is_node n) → ClimbsFrom status n (live_within 5 status n)
-climbs_from status n node = let bounds = node_bounds n node in record { node = node; steps = 5; few = omega arith; finds = refl }
-
--- also from the parent of a node that isn't live
-pub climbs_from_parent : (status : ℕ → Status) (n found : ℕ) → ClimbsFrom status n found → is_live status n ≡ false → ClimbsFrom status (n / 2) found
-climbs_from_parent status n found from dead = within from.steps from.few from.finds
-  where
-    bounds : (1 < n) × (n ≤ 63)
-    bounds =
-        let at = node_bounds n from.node in
-        let other = eqb-false n 1 (or_parts (n == 1) (is_split (status (parent n))) dead).0 in
-        (omega arith, at.1)
-
-    within : (steps : ℕ) → n < 2 ^ suc steps → live_within steps status n ≡ found → ClimbsFrom status (n / 2) found
-    within zero few finds = absurd (omega (arith, bounds))
-    within (suc steps) few finds =
-        let more = pow-suc 2 (suc steps) in
-        record {
-          node = node_within (n / 2) (omega (arith, bounds)) (omega (arith, bounds));
-          steps = steps;
-          few = omega arith;
-          finds = sym (cond-false (is_live status n) n (live_within steps status (parent n)) dead) ∙ finds;
-        }
-
--- what is found from a live node is this node
-pub climbs_no_further : (status : ℕ → Status) (n found : ℕ) → ClimbsFrom status n found → is_live status n ≡ true → n ≡ found
-climbs_no_further status n found from live = within from.steps from.finds
-  where
-    within : (steps : ℕ) → live_within steps status n ≡ found → n ≡ found
-    within zero finds = finds
-    within (suc steps) finds = sym (cond-true (is_live status n) n (live_within steps status (parent n)) live) ∙ finds
 
 -- node 1 is live
 first_live : (status : ℕ → Status) (n : ℕ) → n < 2 → 1 ≤ n → is_live status n ≡ true
@@ -73,8 +34,11 @@ far_enough status (suc steps) (suc more) n node few few' =
 -- the nearest live node above a node that isn't live is that of its parent
 pub live_within-parent : (status : ℕ → Status) (n : ℕ) → IsTrue (is_node n) → is_live status n ≡ false → live_within 5 status n ≡ live_within 5 status (parent n)
 live_within-parent status n node dead =
-    let up = climbs_from_parent status n (live_within 5 status n) (climbs_from status n node) dead in
-    sym up.finds ∙ far_enough status up.steps 5 (parent n) up.node up.few (let at = node_bounds (parent n) up.node in omega arith)
+    let at = node_bounds n node in
+    let other = eqb-false n 1 (or_parts (n == 1) (is_split (status (parent n))) dead).0 in
+    let low : 1 < n = omega arith in
+    cond-false (is_live status n) n (live_within 4 status (parent n)) dead
+    ∙ far_enough status 4 5 (parent n) (node_within (parent n) (omega arith) (omega arith)) (omega arith) (omega arith)
 
 -- that of a live node is the node
 pub live_within-live : (status : ℕ → Status) (n : ℕ) → is_live status n ≡ true → live_within 5 status n ≡ n

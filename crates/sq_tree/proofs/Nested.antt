@@ -1,8 +1,8 @@
 -- Two nodes are nested, or their leaves are apart.
-use Rattle.std.proofs.Common.{◌≡◌, ◌≢◌, ◌⊎◌, inl, inr, ℕ, zero, suc, ◌+◌, ◌-◌, ◌*◌, ◌<◌, ◌≤◌, Bool, true, false, ◌==◌, ◌&&◌, ◌||◌, nat_lt, nat_le, if◌then◌else◌, IsTrue, refl, sym, ◌∙◌, subst, arith, true≢false, le_trans, lt_of_lt_of_le}
+use Rattle.std.proofs.Common.{◌≡◌, ◌≢◌, ◌⊎◌, inl, inr, ℕ, zero, suc, ◌+◌, ◌-◌, ◌*◌, ◌<◌, ◌≤◌, Bool, true, false, ◌==◌, ◌&&◌, ◌||◌, nat_lt, nat_le, if◌then◌else◌, IsTrue, refl, sym, ◌∙◌, subst, arith, true≢false}
 use Rattle.std.proofs.lemmas.Bool.{and_parts, or_cases, and_from, ltb-true, leb-true, lt-ltb, le-leb, cond-true, cond-false, eqb-true, leb-false, cases_Bool}
 use Rattle.std.proofs.lemmas.Bool.Decides.{nat_tests}
-use Rattle.sq_tree.specs.Node.{is_node, is_leaf, parent, span, first_leaf, is_above, is_under}
+use Rattle.sq_tree.specs.Node.{is_node, is_leaf, parent, span, first_leaf, is_above, is_under, node_above}
 
 -- a test holds of each number below a bound
 abbrev all_below : (ℕ → Bool) → ℕ → Bool
@@ -121,15 +121,6 @@ nested n m leaf node other above above' =
           ]
     ]
 
--- a node covers the leaves of what is under it
-pub above_under : (n m leaf : ℕ) → is_under n m ≡ true → IsTrue (is_above m leaf) → IsTrue (is_above n leaf)
-above_under n m leaf under above =
-    let parts = and_parts (nat_le (first_leaf n) (first_leaf m)) (nat_le (first_leaf m + span m) (first_leaf n + span n)) under in
-    let bounds = above_bounds m leaf above in
-    above_within n leaf
-    (le_trans (leb-true (first_leaf n) (first_leaf m) parts.0) bounds.0)
-    (lt_of_lt_of_le bounds.1 (leb-true (first_leaf m + span m) (first_leaf n + span n) parts.1))
-
 -- a split node's halves share its leaves: the low half has those below the high half's first one
 abbrev halves : ℕ → Bool
 halves n = (first_leaf (2 * n) == first_leaf n) && ((first_leaf (2 * n + 1) == first_leaf n + span (2 * n)) && ((span (2 * n) + span (2 * n) == span n) && ((span (2 * n + 1) == span (2 * n)) && nat_lt 0 (span (2 * n)))))
@@ -166,3 +157,32 @@ halves_of n node inner =
 
     test : halves n ≡ true
     test = subst (λ (k : ℕ). halves k ≡ true) (next_place n low') (all_below_at (λ k. halves (suc k)) 31 (n - 1) each_halves before)
+
+-- the nodes above a leaf, and its own: each covers the leaf, and only its own is a leaf
+abbrev covers : ℕ → ℕ → Bool
+covers leaf levels =
+    is_node (node_above leaf levels) && (is_above (node_above leaf levels) leaf && ((levels == 0) || nat_lt (node_above leaf levels) 32))
+
+each_covers : all_below (λ leaf. all_below (covers leaf) 6) 32 ≡ true
+each_covers = refl
+
+pub record Covers (leaf levels : ℕ) : Type 0 where
+  pub node : IsTrue (is_node (node_above leaf levels))
+  pub above : IsTrue (is_above (node_above leaf levels) leaf)
+  pub inner : 0 < levels → node_above leaf levels < 32
+
+pub node_above_covers : (leaf levels : ℕ) → leaf < 32 → levels ≤ 5 → Covers leaf levels
+node_above_covers leaf levels few low =
+    let n = node_above leaf levels in
+    let row = all_below_at (λ k. all_below (covers k) 6) 32 leaf each_covers few in
+    let a = and_parts (is_node n) (is_above n leaf && ((levels == 0) || nat_lt n 32)) (all_below_at (covers leaf) 6 levels row (omega arith)) in
+    let b = and_parts (is_above n leaf) ((levels == 0) || nat_lt n 32) a.1 in
+    record {
+      node = a.0;
+      above = b.0;
+      inner = λ some.
+          elim (or_cases (levels == 0) (nat_lt n 32) b.1) [
+            | inl own ↦ absurd (let e = eqb-true levels 0 own in omega arith)
+            | inr high ↦ ltb-true n 32 high
+          ];
+    }

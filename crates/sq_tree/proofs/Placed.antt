@@ -1,5 +1,5 @@
 -- What is read of a tree after a node got a status.
-use Rattle.std.proofs.Common.{◌≡◌, ℕ, zero, suc, ◌-◌, ◌<◌, true, false, ◌==◌, if◌then◌else◌, IsTrue, List, [], ◌∷◌, length, slice_index_or, slice_set, refl, sym, ap, length-set, ◌∙◌, arith}
+use Rattle.std.proofs.Common.{◌≡◌, ℕ, zero, suc, ◌-◌, ◌<◌, true, false, ◌==◌, if◌then◌else◌, IsTrue, List, [], ◌∷◌, length, slice_index_or, slice_set, refl, sym, ap, ◌∙◌, arith}
 use Rattle.std.specs.List.{list_all}
 use Rattle.std.proofs.lemmas.Bool.{ne_eqb, and_parts}
 use Rattle.std.proofs.lemmas.Bool.Decides.{nat_tests}
@@ -51,9 +51,6 @@ pub placed-set : (sts : List Status) (i : ℕ) (st : Status) → i < length sts 
 placed-set [] i st within = absurd (omega arith)
 placed-set (x ∷ xs) zero st within = refl
 placed-set (x ∷ xs) (suc i) st within = ap (λ ys. x ∷ ys) (placed-set xs i st (omega arith))
-
-pub length-with_status : (sts : List Status) (n : ℕ) (st : Status) → IsTrue (is_node n) → length sts ≡ 63 → length (with_status sts n st) ≡ 63
-length-with_status sts n st node all = ap length (placed-set sts (n - 1) st (grind (arith, nat_tests))) ∙ length-set sts (n - 1) st ∙ all
 
 -- a list of free ones has nothing else
 pub status_at-free : (sts : List Status) (n : ℕ) → list_all is_free sts ≡ true → status_at sts n ≡ Free

@@ -33,7 +33,7 @@ both_complete reads.Partial reads.Complete e = absurd cc
 both_complete reads.Partial reads.NotStarted e = absurd cc
 both_complete reads.Partial reads.Partial e = absurd cc
 
--- each leaf of a node has a complete node above it, at most so many halvings below
+-- each leaf of a node has a complete node above it, at most `depth` halvings below
 abbrev AllComplete : (ℕ → Status) → ℕ → ℕ → Type 0
 AllComplete status depth n = (leaf : ℕ) → IsTrue (is_above n leaf) → is_complete (status (covering_within depth status leaf n)) ≡ true
 

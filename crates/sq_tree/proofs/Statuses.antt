@@ -28,12 +28,12 @@ split_touched (Partial p) e = refl
 split_touched (Complete p) e = refl
 
 -- an answer that tells whether a status is split is the test
-pub told_split : (answer : Bool) (st : Status) → (IsTrue answer ↔ (st ≡ Split)) → answer ≡ is_split st
-told_split answer Free tells = false_from_ne_true answer (λ e. let other = tells.0 e in absurd cc)
-told_split answer Split tells = tells.1 refl
-told_split answer (Claimed p) tells = false_from_ne_true answer (λ e. let other = tells.0 e in absurd cc)
-told_split answer (Partial p) tells = false_from_ne_true answer (λ e. let other = tells.0 e in absurd cc)
-told_split answer (Complete p) tells = false_from_ne_true answer (λ e. let other = tells.0 e in absurd cc)
+pub answer_is_split : (answer : Bool) (st : Status) → (IsTrue answer ↔ (st ≡ Split)) → answer ≡ is_split st
+answer_is_split answer Free tells = false_from_ne_true answer (λ e. let other = tells.0 e in absurd cc)
+answer_is_split answer Split tells = tells.1 refl
+answer_is_split answer (Claimed p) tells = false_from_ne_true answer (λ e. let other = tells.0 e in absurd cc)
+answer_is_split answer (Partial p) tells = false_from_ne_true answer (λ e. let other = tells.0 e in absurd cc)
+answer_is_split answer (Complete p) tells = false_from_ne_true answer (λ e. let other = tells.0 e in absurd cc)
 
 pub claimed_is : (st : Status) → is_claimed st ≡ true → st ≡ Claimed (pull_of st)
 claimed_is Free e = absurd cc

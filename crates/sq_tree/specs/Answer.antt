@@ -9,14 +9,13 @@ use Rattle.sq_tree.specs.declared.fault.BeginFault.{BeginFault}
 use Rattle.sq_tree.specs.declared.fault.BeginFault.TheVariants as begin
 use Rattle.sq_tree.specs.declared.fault.CompleteFault.{CompleteFault}
 use Rattle.sq_tree.specs.declared.fault.CompleteFault.TheVariants as complete
-use Rattle.sq_tree.specs.Node.{is_node, is_leaf}
+use Rattle.sq_tree.specs.Node.{is_leaf}
 use Rattle.sq_tree.specs.Status.{is_free, is_claimed, is_partial, is_live, pull_of}
 
 -- splitting node n
 abbrev pub split_answer : (ℕ → Status) → ℕ → Result (Unit {0}) SplitFault
 split_answer status n =
-    if not (is_node n) then Err split.NoSuchNode
-    else if is_leaf n then Err split.IsLeaf
+    if is_leaf n then Err split.IsLeaf
     else if not (is_live status n) then Err split.NotLive
     else if not (is_free (status n)) then Err (split.NotFree (status n))
     else Ok tt
@@ -24,23 +23,20 @@ split_answer status n =
 -- claiming node n for pull p
 abbrev pub claim_answer : (ℕ → Status) → ℕ → ℕ → Result (Unit {0}) ClaimFault
 claim_answer status n p =
-    if not (is_node n) then Err claim.NoSuchNode
-    else if not (is_live status n) then Err claim.NotLive
+    if not (is_live status n) then Err claim.NotLive
     else if not (is_free (status n)) then Err (claim.NotFree (status n))
     else Ok tt
 
 -- beginning node n for pull p
 abbrev pub begin_answer : (ℕ → Status) → ℕ → ℕ → Result (Unit {0}) BeginFault
 begin_answer status n p =
-    if not (is_node n) then Err begin.NoSuchNode
-    else if not (is_claimed (status n)) then Err (begin.NotClaimed (status n))
+    if not (is_claimed (status n)) then Err (begin.NotClaimed (status n))
     else if not (pull_of (status n) == p) then Err begin.WrongPull
     else Ok tt
 
 -- completing node n for pull p
 abbrev pub complete_answer : (ℕ → Status) → ℕ → ℕ → Result (Unit {0}) CompleteFault
 complete_answer status n p =
-    if not (is_node n) then Err complete.NoSuchNode
-    else if not (is_partial (status n)) then Err (complete.NotPartial (status n))
+    if not (is_partial (status n)) then Err (complete.NotPartial (status n))
     else if not (pull_of (status n) == p) then Err complete.WrongPull
     else Ok tt

@@ -89,12 +89,12 @@ reading_of below n (Partial p) = reads.Partial
 reading_of below n (Complete p) = reads.Complete
 reading_of below n Split = both (below (2 * n)) (below (2 * n + 1))
 
--- what a live node reads as whose leaves are at most so many halvings below it
+-- what a live node reads as whose leaves are at most `depth` halvings below it
 abbrev pub reading_within : ℕ → (ℕ → Status) → ℕ → Reading
 reading_within zero status n = reading_of (λ _. reads.Partial) n (status n)
 reading_within (suc depth) status n = reading_of (reading_within depth status) n (status n)
 
--- the nearest live node from n upward, in at most so many steps
+-- the nearest live node from n upward, in at most `steps` steps
 abbrev pub live_within : ℕ → (ℕ → Status) → ℕ → ℕ
 live_within zero status n = n
 live_within (suc steps) status n = if is_live status n then n else live_within steps status (parent n)
@@ -103,7 +103,7 @@ live_within (suc steps) status n = if is_live status n then n else live_within s
 abbrev pub reading : (ℕ → Status) → ℕ → Reading
 reading status n = reading_within 5 status (live_within 5 status n)
 
--- the live node above a leaf that isn't split, looked for from n downward in at most so many steps
+-- the live node above a leaf that isn't split, looked for from n downward in at most `steps` steps
 abbrev pub covering_within : ℕ → (ℕ → Status) → ℕ → ℕ → ℕ
 covering_within zero status leaf n = n
 covering_within (suc steps) status leaf n =

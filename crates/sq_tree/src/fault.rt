@@ -4,9 +4,7 @@ use crate::status::Status;
 /// Why a node wasn't split.
 #[derive(Clone, Copy, Debug, PartialEq, Eq)]
 pub enum SplitFault {
-    /// The node isn't one of 1 to 63.
-    NoSuchNode,
-    /// It is a leaf.
+    /// A leaf has no halves.
     IsLeaf,
     /// Its parent isn't split.
     NotLive,
@@ -17,8 +15,6 @@ pub enum SplitFault {
 /// Why a node wasn't claimed.
 #[derive(Clone, Copy, Debug, PartialEq, Eq)]
 pub enum ClaimFault {
-    /// The node isn't one of 1 to 63.
-    NoSuchNode,
     /// Its parent isn't split.
     NotLive,
     /// It isn't free. This is what was found.
@@ -28,8 +24,6 @@ pub enum ClaimFault {
 /// Why a node wasn't begun.
 #[derive(Clone, Copy, Debug, PartialEq, Eq)]
 pub enum BeginFault {
-    /// The node isn't one of 1 to 63.
-    NoSuchNode,
     /// It isn't claimed. This is what was found.
     NotClaimed(Status),
     /// Another pull claimed it.
@@ -39,8 +33,6 @@ pub enum BeginFault {
 /// Why a node wasn't completed.
 #[derive(Clone, Copy, Debug, PartialEq, Eq)]
 pub enum CompleteFault {
-    /// The node isn't one of 1 to 63.
-    NoSuchNode,
     /// It isn't partial. This is what was found.
     NotPartial(Status),
     /// Another pull began it.

@@ -8,9 +8,6 @@ mod status;
 mod word;
 
 pub use fault::{BeginFault, ClaimFault, CompleteFault, SplitFault};
-pub use node::{first_leaf, is_node, span};
+pub use node::{LEAVES, Leaf, NODES, NodeId};
 pub use plain::PlainTree;
 pub use status::{Reading, Status};
-
-#[cfg(test)]
-mod tests;

@@ -1,18 +1,18 @@
 // A split tree that one thread keeps.
 ghost use Rattle.std.specs.Prelude.{◌≡◌, ◌↔◌, ℕ, ◌<◌, ◌≤◌, ◌-◌, ◌^◌, ◌*◌, true, false, IsTrue, List, length, is_ok, if◌then◌else◌};
 ghost use Rattle.sq_tree.specs.declared.status.Status.{Status};
-ghost use Rattle.sq_tree.specs.Node.{is_node, is_leaf, is_above};
+ghost use Rattle.sq_tree.specs.declared.node.TheConstants.{LEAVES};
+ghost use Rattle.sq_tree.specs.Node.{is_node, is_leaf};
 ghost use Rattle.sq_tree.specs.Status.{is_free, is_split, is_complete, is_live, reading, reading_within, covering, live_within};
 ghost use Rattle.sq_tree.specs.Tree.{status_at, with_status, IsGrown, IsReading, IsCovering};
 ghost use Rattle.sq_tree.specs.Answer.{split_answer, claim_answer, begin_answer, complete_answer};
 
 use crate::fault::{BeginFault, ClaimFault, CompleteFault, SplitFault};
-use crate::node::{NODES, is_above, is_leaf, is_node};
+use crate::node::{Leaf, NODES, NodeId};
 use crate::status::{Reading, Status};
 use std::marker::Model;
 
-/// The split tree of one segment: the status of each node, 1 to 63. Nodes `2n` and `2n + 1` are the
-/// halves of node `n`, and nodes 32 to 63 are the leaves 0 to 31. It takes no memory.
+/// The split tree of one segment: the status of each node. It takes no memory.
 #[derive(Debug, Drop)]
 pub struct PlainTree {
     statuses: [Status; NODES],
@@ -30,32 +30,28 @@ impl PlainTree {
     /// The tree in which each node is free.
     pub fn new() -> Self
         ensures free { (n : ℕ) → status_at result n ≡ Status.Free }
-        ensures nodes { length result ≡ 63 }
+        ensures nodes { length result ≡ NODES }
     {
         PlainTree {
             statuses: [Status::Free; NODES],
         }
     }
 
-    /// The status of a node, which is one of 1 to 63.
-    pub fn status(&self, node: u64) -> Status
-        requires { IsTrue (is_node node) }
+    /// The status of a node.
+    pub fn status(&self, node: NodeId) -> Status
         ensures status { result ≡ status_at self.now node }
         ensures grown { IsGrown (status_at self.now) }
     {
-        self.statuses[node as usize - 1]
+        self.statuses[node.index()]
     }
 
-    /// Splits a free node, so that its halves are live. Refused are, in this order: a node that isn't one
-    /// of 1 to 63, a leaf, a node that isn't live, and one that isn't free. A refusal changes nothing.
-    pub fn split(&mut self, node: u64) -> Result<(), SplitFault>
+    /// Splits a free node, so that its halves are live. Refused are, in this order: a leaf, a node that isn't
+    /// live, and one that isn't free. A refusal changes nothing.
+    pub fn split(&mut self, node: NodeId) -> Result<(), SplitFault>
         ensures answer { result ≡ split_answer (status_at self.old) node }
         ensures after { self.new ≡ (if is_ok result then with_status self.old node Status.Split else self.old) }
     {
-        if !is_node(node) {
-            return Err(SplitFault::NoSuchNode);
-        }
-        if is_leaf(node) {
+        if node.is_leaf() {
             return Err(SplitFault::IsLeaf);
         }
         if !self.is_live(node) {
@@ -70,15 +66,12 @@ impl PlainTree {
         }
     }
 
-    /// Claims a free node for a pull. Refused are, in this order: a node that isn't one of 1 to 63, one
-    /// that isn't live, and one that isn't free. A refusal changes nothing.
-    pub fn claim(&mut self, node: u64, pull: u32) -> Result<(), ClaimFault>
+    /// Claims a free node for a pull. Refused are, in this order: a node that isn't live, and one that isn't
+    /// free. A refusal changes nothing.
+    pub fn claim(&mut self, node: NodeId, pull: u32) -> Result<(), ClaimFault>
         ensures answer { result ≡ claim_answer (status_at self.old) node pull }
         ensures after { self.new ≡ (if is_ok result then with_status self.old node (Status.Claimed pull) else self.old) }
     {
-        if !is_node(node) {
-            return Err(ClaimFault::NoSuchNode);
-        }
         if !self.is_live(node) {
             return Err(ClaimFault::NotLive);
         }
@@ -92,15 +85,11 @@ impl PlainTree {
     }
 
     /// Gives a node that this pull claimed up to it: the node is partial. Refused are, in this order: a
-    /// node that isn't one of 1 to 63, one that isn't claimed, and one that another pull claimed. A refusal
-    /// changes nothing.
-    pub fn begin(&mut self, node: u64, pull: u32) -> Result<(), BeginFault>
+    /// node that isn't claimed, and one that another pull claimed. A refusal changes nothing.
+    pub fn begin(&mut self, node: NodeId, pull: u32) -> Result<(), BeginFault>
         ensures answer { result ≡ begin_answer (status_at self.old) node pull }
         ensures after { self.new ≡ (if is_ok result then with_status self.old node (Status.Partial pull) else self.old) }
     {
-        if !is_node(node) {
-            return Err(BeginFault::NoSuchNode);
-        }
         match self.status(node) {
             Status::Claimed(by) if by == pull => {
                 self.set(node, Status::Partial(pull));
@@ -111,15 +100,12 @@ impl PlainTree {
         }
     }
 
-    /// Completes a node that this pull began. Refused are, in this order: a node that isn't one of 1 to 63,
-    /// one that isn't partial, and one that another pull began. A refusal changes nothing.
-    pub fn complete(&mut self, node: u64, pull: u32) -> Result<(), CompleteFault>
+    /// Completes a node that this pull began. Refused are, in this order: a node that isn't partial, and one
+    /// that another pull began. A refusal changes nothing.
+    pub fn complete(&mut self, node: NodeId, pull: u32) -> Result<(), CompleteFault>
         ensures answer { result ≡ complete_answer (status_at self.old) node pull }
         ensures after { self.new ≡ (if is_ok result then with_status self.old node (Status.Complete pull) else self.old) }
     {
-        if !is_node(node) {
-            return Err(CompleteFault::NoSuchNode);
-        }
         match self.status(node) {
             Status::Partial(by) if by == pull => {
                 self.set(node, Status::Complete(pull));
@@ -130,26 +116,24 @@ impl PlainTree {
         }
     }
 
-    /// What a node reads as, which is one of 1 to 63. One that isn't live reads as the nearest live node
-    /// above it.
-    pub fn reads(&self, node: u64) -> Reading
-        requires { IsTrue (is_node node) }
+    /// What a node reads as. One that isn't live reads as the nearest live node above it.
+    pub fn reads(&self, node: NodeId) -> Reading
         ensures reading { result ≡ reading (status_at self.now) node }
         ensures rule { IsReading (status_at self.now) (reading (status_at self.now)) }
     {
         self.reads_live(self.nearest_live(node))
     }
 
-    /// The live node above a leaf, which is one of 0 to 31, that isn't split.
-    pub fn covering(&self, leaf: u64) -> u64
-        requires { leaf < 32 }
+    /// The live node above a leaf that isn't split.
+    pub fn covering(&self, leaf: Leaf) -> NodeId
         ensures covering { result ≡ covering (status_at self.now) leaf }
         ensures only { IsCovering (status_at self.now) leaf result }
     {
-        let mut node = 1;
+        // For the proof alone: the leaf is below 32, so the whole segment covers it.
+        let _ = leaf.number();
+        let mut node = NodeId::WHOLE;
         while self.status(node).is_split() {
-            let low = 2 * node;
-            node = if is_above(low, leaf) { low } else { low + 1 };
+            node = node.half_above(leaf);
         }
         node
     }
@@ -159,14 +143,13 @@ impl PlainTree {
     pub fn all_complete(&self) -> bool
         ensures reading { IsTrue result ↔ (reading (status_at self.now) 1 ≡ Reading.Complete) }
         ensures leaves { IsTrue result
-            ↔ ((leaf : ℕ) → leaf < 32 → IsTrue (is_complete (status_at self.now (covering (status_at self.now) leaf)))) }
+            ↔ ((leaf : ℕ) → leaf < LEAVES → IsTrue (is_complete (status_at self.now (covering (status_at self.now) leaf)))) }
     {
-        self.reads_live(1) == Reading::Complete
+        self.reads_live(NodeId::WHOLE) == Reading::Complete
     }
 
     // What a live node reads as, looked for at any depth that reaches the leaves.
-    fn reads_live(&self, node: u64) -> Reading
-        requires { IsTrue (is_node node) }
+    fn reads_live(&self, node: NodeId) -> Reading
         ensures reading { (depth : ℕ) → 32 ≤ node * 2 ^ depth → result ≡ reading_within depth (status_at self.now) node }
         ensures grown { IsGrown (status_at self.now) }
     {
@@ -175,41 +158,39 @@ impl PlainTree {
             Status::Partial(_) => Reading::Partial,
             Status::Complete(_) => Reading::Complete,
             Status::Split => self
-                .reads_live(2 * node)
-                .with(self.reads_live(2 * node + 1)),
+                .reads_live(node.low_half())
+                .with(self.reads_live(node.high_half())),
         }
     }
 
     // The nearest live node from a node upward.
-    fn nearest_live(&self, node: u64) -> u64
-        requires { IsTrue (is_node node) }
+    fn nearest_live(&self, node: NodeId) -> NodeId
         ensures node { IsTrue (is_node result) }
         ensures nearest { result ≡ live_within 5 (status_at self.now) node }
     {
-        let mut nearest = node;
-        while !self.is_live(nearest) {
-            nearest /= 2;
+        if self.is_live(node) {
+            node
+        } else {
+            self.nearest_live(node.parent())
         }
-        nearest
     }
 
     // Whether a node is the whole segment, or a half of a split node.
-    fn is_live(&self, node: u64) -> bool
-        requires { IsTrue (is_node node) }
-        ensures { result ≡ is_live (status_at self.now) node }
+    fn is_live(&self, node: NodeId) -> bool
+        ensures live { result ≡ is_live (status_at self.now) node }
+        ensures node { IsTrue (is_node node) }
     {
-        node == 1 || self.status(node / 2).is_split()
+        node == NodeId::WHOLE || self.status(node.parent()).is_split()
     }
 
     // Gives a live node that isn't split another status.
-    fn set(&mut self, node: u64, status: Status)
-        requires node { IsTrue (is_node node) }
+    fn set(&mut self, node: NodeId, status: Status)
         requires live { is_free (status_at self.old node) ≡ true → IsTrue (is_live (status_at self.old) node) }
         requires whole { is_split (status_at self.old node) ≡ false }
         requires leaf { IsTrue (is_leaf node) → is_split status ≡ false }
         ensures { self.new ≡ with_status self.old node status }
     {
-        self.statuses[node as usize - 1] = status;
+        self.statuses[node.index()] = status;
     }
 }
 

@@ -36,24 +36,3 @@ impl Status {
         }
     }
 }
-
-#[cfg(test)]
-mod tests {
-    use crate::status::Status;
-
-    #[test]
-    fn words_of_a_pull(rt: HostRuntime) {
-        let words = [
-            (0, Status::Free),
-            (1, Status::Split),
-            (26, Status::Claimed(3)),
-            (27, Status::Partial(3)),
-            (28, Status::Complete(3)),
-            (34_359_738_362, Status::Claimed(u32::MAX)),
-        ];
-        for (word, status) in words {
-            assert_eq!(rt; status.word(), word);
-            assert_eq!(rt; Status::from_word(status.word()), status);
-        }
-    }
-}

@@ -14,17 +14,17 @@ zip_push [] (w ∷ vs) k v same = absurd (omega (arith, same))
 zip_push (j ∷ ks) [] k v same = absurd (omega (arith, same))
 zip_push (j ∷ ks) (w ∷ vs) k v same = ap (λ rest. (j, w) ∷ rest) (zip_push ks vs k v (omega (arith, same)))
 
-history_push : (steps : List Step) (answers : List Answer) (step : Step) (told : Answer) → length answers ≡ length steps → history_of (steps ++ step ∷ []) (answers ++ told ∷ []) ≡ (step, told) ∷ history_of steps answers
-history_push steps answers step told same =
-    ap reverse (zip_push steps answers step told same) ∙ reverse-append (zip steps answers) ((step, told) ∷ [])
+history_push : (steps : List Step) (answers : List Answer) (step : Step) (given : Answer) → length answers ≡ length steps → history_of (steps ++ step ∷ []) (answers ++ given ∷ []) ≡ (step, given) ∷ history_of steps answers
+history_push steps answers step given same =
+    ap reverse (zip_push steps answers step given same) ∙ reverse-append (zip steps answers) ((step, given) ∷ [])
 
 -- one more step is made
-pub history_grows : (steps : List Step) (answers : List Answer) (at : ℕ) (step : Step) (told : Answer) → at < length steps → length answers ≡ at → step ≡ slice_index_or steps at step
-    → history_of (take (at + 1) steps) (answers ++ told ∷ []) ≡ (step, told) ∷ history_of (take at steps) answers
-history_grows steps answers at step told within count is =
+pub history_grows : (steps : List Step) (answers : List Answer) (at : ℕ) (step : Step) (given : Answer) → at < length steps → length answers ≡ at → step ≡ slice_index_or steps at step
+    → history_of (take (at + 1) steps) (answers ++ given ∷ []) ≡ (step, given) ∷ history_of (take at steps) answers
+history_grows steps answers at step given within count is =
     let one : at + 1 ≡ suc at = omega arith in
     let next : take (at + 1) steps ≡ take at steps ++ step ∷ [] =
     ap (λ n. take n steps) one ∙ take-suc steps at step within ∙ ap (λ s. take at steps ++ s ∷ []) (sym is) in
     let upto : at ≤ length steps = omega (arith, within) in
-    ap (λ made. history_of made (answers ++ told ∷ [])) next
-    ∙ history_push (take at steps) answers step told (count ∙ sym (length-take-le at steps upto))
+    ap (λ made. history_of made (answers ++ given ∷ [])) next
+    ∙ history_push (take at steps) answers step given (count ∙ sym (length-take-le at steps upto))

@@ -1,7 +1,8 @@
 -- Inputs as they are read.
 use Rattle.std.proofs.Common.{◌≡◌, ℕ, zero, suc, List, [], ◌∷◌, ◌++◌, length, take, Option, Some, None, option_map, refl, subst, ap, ◌∙◌, arith}
-use Rattle.std.specs.Prelude.{◌<◌, ◌≤◌, ◌+◌, IfSome}
-use Rattle.sq_world.specs.Input.{input_limit, IsInput}
+use Rattle.std.specs.Prelude.{◌<◌, ◌≤◌, IfSome}
+use Rattle.sq_world.specs.declared.input.TheConstants.{MAX_INPUT}
+use Rattle.sq_world.specs.Input.{IsInput}
 
 -- what a bounded reader gave is the whole input, where it isn't as much as it may give
 pub whole_input : (known other : Option (List ℕ)) (limit most : ℕ) (start bytes : List ℕ) → start ≡ [] → most ≡ limit → other ≡ known → IfSome (option_map (take most) other) (λ xs. bytes ≡ start ++ xs) → length bytes < limit → IsInput known bytes
@@ -17,8 +18,8 @@ whole_input known (Some xs) limit most start bytes empty limits same read short 
     take_short (suc n) (y ∷ ys) less = ap (λ rest. y ∷ rest) (take_short n ys (omega (arith, less)))
 
 -- where it gave as much as it may give, the input has at least as many bytes
-pub long_input : (known other : Option (List ℕ)) (limit most : ℕ) (start bytes : List ℕ) → start ≡ [] → most ≡ limit → other ≡ known → IfSome (option_map (take most) other) (λ xs. bytes ≡ start ++ xs) → input_limit < length bytes
-    → (input : List ℕ) × IsInput known input × (input_limit < length input)
+pub long_input : (known other : Option (List ℕ)) (limit most : ℕ) (start bytes : List ℕ) → start ≡ [] → most ≡ limit → other ≡ known → IfSome (option_map (take most) other) (λ xs. bytes ≡ start ++ xs) → MAX_INPUT < length bytes
+    → (input : List ℕ) × IsInput known input × (MAX_INPUT < length input)
 long_input known None limit most start bytes empty limits same read long = (bytes, subst (λ k. IsInput k bytes) same tt, long)
 long_input known (Some xs) limit most start bytes empty limits same read long =
     let all : bytes ≡ take most xs = read ∙ ap (λ s. s ++ take most xs) empty in

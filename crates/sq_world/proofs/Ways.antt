@@ -1,9 +1,9 @@
 -- What is under way on a link is what its history tells.
-use Rattle.std.proofs.Common.{◌≡◌, ℕ, zero, suc, true, false, List, [], ◌∷◌, refl, sym, ap, ◌∙◌, subst, true≢false, map, length}
+use Rattle.std.proofs.Common.{◌≡◌, ℕ, zero, suc, false, List, [], ◌∷◌, refl, sym, ap, ◌∙◌, subst, true≢false, map}
 use Rattle.std.specs.Prelude.{◌==◌, ◌&&◌, drop, reverse, slice_get, Option, Some, None, is_some}
 use Rattle.std.specs.Option.{option_map}
 use Rattle.std.specs.List.{Contains}
-use Rattle.std.proofs.lemmas.Bool.{eqb-true}
+use Rattle.std.proofs.lemmas.Bool.{eqb-true, and_parts}
 use Rattle.std.proofs.lemmas.List.{reverse-reverse}
 use Rattle.std.proofs.lemmas.List.Quantifiers.{position-Some}
 use Rattle.std.proofs.lemmas.Option.{slice_get-map, slice_get-get_or}
@@ -11,16 +11,15 @@ use Rattle.sq_chunk.specs.declared.chunk.Note.{Note}
 use Rattle.sq_chunk.specs.ChunkValue.{ChunkValue}
 use Rattle.sq_ranges.specs.ReconValue.{is_link}
 use Rattle.sq_ranges.specs.OpeningValue.{OpeningValue}
-use Rattle.sq_store.proofs.Rising.{both_left, both_right}
-use Rattle.sq_model.specs.Opening.{IsOpening}
-use Rattle.sq_model.specs.Trace.{Trace, notes, loads, link, load_count}
+use Rattle.sq_ranges.specs.Opening.{IsOpening}
+use Rattle.sq_model.specs.Trace.{Trace, notes, link, load_count}
 use Rattle.sq_model.specs.Legal.{IsLegal}
 use Rattle.sq_model.proofs.Lists.{Contains-slice_get, kept_in}
 use Rattle.sq_model.proofs.Notes.{note_goes}
 use Rattle.sq_model.proofs.Keys.{linked}
-use Rattle.sq_turn.specs.WorldValue.{WorldValue, LinkValue, no_link, link_index, link_value}
-use Rattle.sq_turn.specs.Holds.{history, Holds, LinkHolds, under_way}
-use Rattle.sq_state.specs.Readers.{way_of, chunk_at, way_notes, TellsChunk}
+use Rattle.sq_transition.specs.WorldValue.{WorldValue, LinkStateValue, no_link, link_index, link_value}
+use Rattle.sq_transition.specs.Holds.{Holds, LinkHolds, under_way}
+use Rattle.sq_state.specs.Readers.{way_of, chunk_at, way_notes, IsChunkAfter}
 
 empty_if : {X : Type 0} (xs : List X) → ((x : X) → Contains xs x → ⊥) → xs ≡ []
 empty_if [] none = refl
@@ -39,33 +38,33 @@ module _ (o : OpeningValue) (t : Trace) (w : WorldValue) (is : IsOpening o) (leg
       on_none note has =
           let kept = kept_in (λ (note : Note). (note.src == src) && (note.dst == dst)) (notes t) note has in
           let goes = note_goes o t legal note kept.0 in
-          let from : goes.segment.src ≡ src = goes.source ∙ eqb-true note.src src (both_left (note.src == src) (note.dst == dst) kept.1) in
-          let to : goes.segment.dst ≡ dst = goes.destination ∙ eqb-true note.dst dst (both_right (note.src == src) (note.dst == dst) kept.1) in
+          let from : goes.segment.src ≡ src = goes.source ∙ eqb-true note.src src (and_parts (note.src == src) (note.dst == dst) kept.1).0 in
+          let to : goes.segment.dst ≡ dst = goes.destination ∙ eqb-true note.dst dst (and_parts (note.src == src) (note.dst == dst) kept.1).1 in
           true≢false (sym (linked o is note.seg goes.segment goes.there) ∙ (λ k. is_link o.recon.ranges (from k) (to k)) ∙ none)
 
-  told_by : (src dst i : ℕ) (l : LinkValue) → LinkHolds o (history o t) l → map (λ (c : ChunkValue). c.note) (under_way l) ≡ way_notes t src dst
-      → (found : Option ChunkValue) → slice_get (under_way l) i ≡ found → TellsChunk o t src dst i found
-  told_by src dst i l lh way None at =
+  chunk_by : (src dst i : ℕ) (l : LinkStateValue) → LinkHolds o t l → map (λ (c : ChunkValue). c.note) (under_way l) ≡ way_notes t src dst
+      → (found : Option ChunkValue) → slice_get (under_way l) i ≡ found → IsChunkAfter o t src dst i found
+  chunk_by src dst i l lh way None at =
       sym (ap (λ ns. slice_get ns i) way) ∙ slice_get-map (λ (c : ChunkValue). c.note) (under_way l) i ∙ ap (option_map (λ (c : ChunkValue). c.note)) at
-  told_by src dst i l lh way (Some chunk) at = (
+  chunk_by src dst i l lh way (Some chunk) at = (
     sym (ap (λ ns. slice_get ns i) way) ∙ slice_get-map (λ (c : ChunkValue). c.note) (under_way l) i ∙ ap (option_map (λ (c : ChunkValue). c.note)) at,
     lh.chunks i chunk at,
   )
 
-  by_place : (src dst i : ℕ) (at : Option ℕ) → link_index w src dst ≡ at → TellsChunk o t src dst i (slice_get (way_of w at) i)
+  by_place : (src dst i : ℕ) (at : Option ℕ) → link_index w src dst ≡ at → IsChunkAfter o t src dst i (slice_get (way_of w at) i)
   by_place src dst i None e =
-      let none : is_link o.recon.ranges src dst ≡ false = sym (h.ends src dst) ∙ ap is_some e in
+      let none : is_link o.recon.ranges src dst ≡ false = sym (h.links.ends src dst) ∙ ap is_some e in
       subst (λ ns. slice_get (drop (load_count t src dst) (reverse ns)) i ≡ None) (sym (none_cut src dst none)) (none_left (load_count t src dst) i)
   by_place src dst i (Some at) e =
       let l = link_value w at in
-      let found = position-Some (λ (other : LinkValue). (other.src == src) && (other.dst == dst)) w.links at no_link e in
-      let lh = h.links at l (slice_get-get_or w.links at no_link found.0) in
-      let from : l.src ≡ src = eqb-true l.src src (both_left _ _ found.1) in
-      let to : l.dst ≡ dst = eqb-true l.dst dst (both_right _ _ found.1) in
+      let found = position-Some (λ (other : LinkStateValue). (other.src == src) && (other.dst == dst)) w.links at no_link e in
+      let lh = h.links.each at l (slice_get-get_or w.links at no_link found.0) in
+      let from : l.src ≡ src = eqb-true l.src src (and_parts _ _ found.1).0 in
+      let to : l.dst ≡ dst = eqb-true l.dst dst (and_parts _ _ found.1).1 in
       let cut : l.notes ≡ reverse (link src dst (notes t)) = sym (reverse-reverse l.notes) ∙ ap reverse (lh.notes ∙ (λ k. link (from k) (to k) (notes t))) in
-      let count : l.loaded ≡ load_count t src dst = lh.loaded ∙ (λ k. length (link (from k) (to k) (loads t))) in
+      let count : l.loaded ≡ load_count t src dst = lh.loaded ∙ (λ k. load_count t (from k) (to k)) in
       let way : map (λ (c : ChunkValue). c.note) (under_way l) ≡ way_notes t src dst = lh.way ∙ (λ k. drop (count k) (cut k)) in
-      told_by src dst i l lh way (slice_get (under_way l) i) refl
+      chunk_by src dst i l lh way (slice_get (under_way l) i) refl
 
-  pub tells_chunk : (src dst i : ℕ) → TellsChunk o t src dst i (chunk_at w src dst i)
-  tells_chunk src dst i = by_place src dst i (link_index w src dst) refl
+  pub is_chunk_after : (src dst i : ℕ) → IsChunkAfter o t src dst i (chunk_at w src dst i)
+  is_chunk_after src dst i = by_place src dst i (link_index w src dst) refl

@@ -1,10 +1,10 @@
 -- The worlds that can be: those that a legal history leads to.
 use Rattle.sq_ranges.specs.OpeningValue.{OpeningValue}
-use Rattle.sq_model.specs.Opening.{IsOpening}
+use Rattle.sq_ranges.specs.Opening.{IsOpening}
 use Rattle.sq_model.specs.Trace.{Trace}
 use Rattle.sq_model.specs.Legal.{IsLegal}
-use Rattle.sq_turn.specs.WorldValue.{WorldValue}
-use Rattle.sq_turn.specs.Holds.{Holds}
+use Rattle.sq_transition.specs.WorldValue.{WorldValue}
+use Rattle.sq_transition.specs.Holds.{Holds}
 
 -- some legal history of some opening leads to this world
 abbrev pub IsReached : WorldValue → Type 0

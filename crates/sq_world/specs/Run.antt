@@ -1,20 +1,21 @@
 -- A run: what is written for an input.
-use Rattle.std.specs.Prelude.{◌≡◌, ◌⊎◌, ℕ, ◌<◌, ◌≤◌, true, List, [], ◌∷◌, ◌++◌, length, Option, Result, Ok, Err}
+use Rattle.std.specs.Prelude.{◌≡◌, ◌⊎◌, ℕ, ◌<◌, ◌≤◌, true, List, [], ◌∷◌, ◌++◌, length, Option, Ok, Err}
 use Rattle.std.specs.Io.KnownBytes.{Appends}
 use Rattle.sq_ranges.specs.OpeningValue.{OpeningValue}
 use Rattle.sq_model.specs.declared.step.Step.{Step}
 use Rattle.sq_model.specs.declared.answer.Answer.{Answer}
 use Rattle.sq_model.specs.Trace.{Trace}
-use Rattle.sq_model.specs.Opening.{IsOpening}
+use Rattle.sq_ranges.specs.Opening.{IsOpening}
 use Rattle.sq_model.specs.Legal.{IsAnswer}
-use Rattle.sq_turn.specs.WorldValue.{WorldValue}
-use Rattle.sq_turn.specs.Holds.{Holds}
+use Rattle.sq_transition.specs.WorldValue.{WorldValue}
+use Rattle.sq_transition.specs.Holds.{Holds}
 use Rattle.sq_text.specs.declared.fault.LineFault.{LineFault}
+use Rattle.sq_text.specs.declared.fault.LineFault.TheVariants as line_fault
 use Rattle.sq_text.specs.declared.input_fault.InputFault.{InputFault}
 use Rattle.sq_text.specs.declared.input_fault.InputFault.TheVariants.{TooLong, ReadFailed, Memory}
 use Rattle.sq_text.specs.Words.{words_of}
 use Rattle.sq_text.specs.Steps.{step_of, begins_txn}
-use Rattle.sq_text.specs.Refusals.{line_fault_number}
+use Rattle.sq_text.specs.Faults.{line_fault_number}
 use Rattle.sq_text.specs.InputFaults.{input_fault_number}
 use Rattle.sq_text.specs.Texts.{answer_line, refused_line, fault_line}
 use Rattle.sq_text.specs.Pieces.{PieceValue, Line, Rest, Endless, TooMany, pieces}
@@ -22,16 +23,17 @@ use Rattle.sq_text.specs.Header.{header_of, Opens}
 use Rattle.sq_world.specs.declared.ending.Ending.{Ending}
 use Rattle.sq_world.specs.declared.ending.Ending.TheVariants.{Done, Fault}
 use Rattle.sq_state.specs.Dump.{dump}
-use Rattle.sq_world.specs.Input.{input_limit, IsInput}
+use Rattle.sq_world.specs.declared.input.TheConstants.{MAX_INPUT}
+use Rattle.sq_world.specs.Input.{IsInput}
 
 -- the line spells a step, which is answered by the history
 pub record IsStepLine (o : OpeningValue) (t : Trace) (line : List ℕ) (after : Trace) (text : List ℕ) : Type 0 where
   pub step : Step
-  pub told : Answer
+  pub given : Answer
   pub spelled : step_of o.tables line ≡ Ok step
-  pub answered : IsAnswer o t step told
-  pub goes_on : after ≡ (step, told) ∷ t
-  pub says : text ≡ answer_line told
+  pub answered : IsAnswer o t step given
+  pub goes_on : after ≡ (step, given) ∷ t
+  pub says : text ≡ answer_line given
 
 -- the line spells no step, which is refused by its number
 pub record IsNoStep (o : OpeningValue) (t : Trace) (line : List ℕ) (after : Trace) (text : List ℕ) : Type 0 where
@@ -40,15 +42,15 @@ pub record IsNoStep (o : OpeningValue) (t : Trace) (line : List ℕ) (after : Tr
   pub stays : after ≡ t
   pub says : text ≡ refused_line (line_fault_number fault)
 
--- the words of a transaction found no memory, and the line is no step
+-- memory ran out at the words of a transaction, and the line is no step
 pub record IsUnread (t : Trace) (line : List ℕ) (after : Trace) (text : List ℕ) : Type 0 where
   pub transaction : begins_txn (words_of line) ≡ true
   pub stays : after ≡ t
-  pub says : text ≡ refused_line 222
+  pub says : text ≡ refused_line (line_fault_number line_fault.Memory)
 
 -- what a line is answered after this history, and the history after it
-abbrev pub Tells : OpeningValue → Trace → List ℕ → Trace → List ℕ → Type 0
-Tells o t line after text = IsStepLine o t line after text ⊎ (IsNoStep o t line after text ⊎ IsUnread t line after text)
+abbrev pub AnswersLine : OpeningValue → Trace → List ℕ → Trace → List ℕ → Type 0
+AnswersLine o t line after text = IsStepLine o t line after text ⊎ (IsNoStep o t line after text ⊎ IsUnread t line after text)
 
 -- at the end of the script the world that the history leads to is dumped
 pub record IsDumped (o : OpeningValue) (t : Trace) (out : List ℕ) : Type 0 where
@@ -56,19 +58,19 @@ pub record IsDumped (o : OpeningValue) (t : Trace) (out : List ℕ) : Type 0 whe
   pub holds : Holds o t world
   pub says : out ≡ dump world
 
--- what is written for the pieces of a script after this history, and how the run ends
-abbrev pub Writes : OpeningValue → Trace → List PieceValue → List ℕ → Ending → Type 0
-Writes o t [] out ending = IsDumped o t out × (ending ≡ Done)
-Writes o t (Line line ∷ others) out ending =
-    (after : Trace) × (text : List ℕ) × (later : List ℕ) × Tells o t line after text × (out ≡ text ++ later) × Writes o after others later ending
-Writes o t (Rest bytes ∷ others) out ending = (later : List ℕ) × (out ≡ refused_line 230 ++ later) × Writes o t others later ending
-Writes o t (Endless bytes ∷ others) out ending = (out ≡ fault_line 122) × (ending ≡ Fault TooLong)
-Writes o t (TooMany ∷ others) out ending = (out ≡ fault_line 122) × (ending ≡ Fault TooLong)
-
 -- a fault is all that is written
 pub record IsFault (fault : InputFault) (out : List ℕ) (ending : Ending) : Type 0 where
   pub says : out ≡ fault_line (input_fault_number fault)
   pub ends : ending ≡ Fault fault
+
+-- what is written for the pieces of a script after this history, and how the run ends
+abbrev pub Writes : OpeningValue → Trace → List PieceValue → List ℕ → Ending → Type 0
+Writes o t [] out ending = IsDumped o t out × (ending ≡ Done)
+Writes o t (Line line ∷ others) out ending =
+    (after : Trace) × (text : List ℕ) × (later : List ℕ) × AnswersLine o t line after text × (out ≡ text ++ later) × Writes o after others later ending
+Writes o t (Rest bytes ∷ others) out ending = (later : List ℕ) × (out ≡ refused_line (line_fault_number line_fault.NotAStep) ++ later) × Writes o t others later ending
+Writes o t (Endless bytes ∷ others) out ending = IsFault TooLong out ending
+Writes o t (TooMany ∷ others) out ending = IsFault TooLong out ending
 
 -- the header is read to this opening, and then the script is run from it
 pub record IsRunFrom (tables : ℕ) (input : List ℕ) (out : List ℕ) (ending : Ending) : Type 0 where
@@ -83,21 +85,21 @@ pub record IsRefused (tables : ℕ) (input : List ℕ) (out : List ℕ) (ending 
   pub fault : InputFault
   pub left : List PieceValue
   pub header : Opens tables (Err fault) left (header_of (pieces input))
-  pub told : IsFault fault out ending
+  pub wrote : IsFault fault out ending
 
 -- what is written for an input, and how the run ends
 abbrev pub IsRun : ℕ → List ℕ → List ℕ → Ending → Type 0
 IsRun tables input out ending =
     IsFault ReadFailed out ending
     ⊎ (IsFault Memory out ending
-    ⊎ (((input_limit < length input) × IsFault TooLong out ending)
-    ⊎ ((length input ≤ input_limit) × (IsRunFrom tables input out ending ⊎ IsRefused tables input out ending))))
+    ⊎ (((MAX_INPUT < length input) × IsFault TooLong out ending)
+    ⊎ ((length input ≤ MAX_INPUT) × (IsRunFrom tables input out ending ⊎ IsRefused tables input out ending))))
 
 -- the input, which is what a reader gives where that is known, is run, and what is written for it goes to the end of what a writer holds
 abbrev pub Runs : ℕ → Option (List ℕ) → Option (List ℕ) → Option (List ℕ) → Ending → Type 0
 Runs tables known before now ending = (input : List ℕ) × IsInput known input × (out : List ℕ) × Appends before now out × IsRun tables input out ending
 
 -- the exit status of an ending
-abbrev pub status_of : Ending → ℕ
-status_of Done = 0
-status_of (Fault fault) = 2
+abbrev pub exit_status_of : Ending → ℕ
+exit_status_of Done = 0
+exit_status_of (Fault fault) = 2

@@ -3,13 +3,13 @@ use Rattle.std.specs.Prelude.{ℕ, List, Option}
 use Rattle.std.specs.Io.KnownBytes.{Appends}
 use Rattle.sq_ranges.specs.OpeningValue.{OpeningValue}
 use Rattle.sq_model.specs.Trace.{Trace}
-use Rattle.sq_model.specs.Opening.{IsOpening}
+use Rattle.sq_ranges.specs.Opening.{IsOpening}
 use Rattle.sq_model.specs.Legal.{IsLegal}
-use Rattle.sq_turn.specs.WorldValue.{WorldValue}
-use Rattle.sq_turn.specs.Holds.{Holds}
+use Rattle.sq_transition.specs.WorldValue.{WorldValue}
+use Rattle.sq_transition.specs.Holds.{Holds}
 use Rattle.sq_text.specs.Pieces.{PieceValue}
 use Rattle.sq_world.specs.declared.ending.Ending.{Ending}
-use Rattle.sq_world.specs.Run.{Tells, Writes}
+use Rattle.sq_world.specs.Run.{AnswersLine, Writes}
 
 -- a legal history from this opening leads to the world
 pub record LeadsTo (o : OpeningValue) (t : Trace) (w : WorldValue) : Type 0 where
@@ -21,7 +21,7 @@ pub record LeadsTo (o : OpeningValue) (t : Trace) (w : WorldValue) : Type 0 wher
 pub record IsAnswered (o : OpeningValue) (t : Trace) (line : List ℕ) (before now : Option (List ℕ)) (w : WorldValue) : Type 0 where
   pub after : Trace
   pub text : List ℕ
-  pub tells : Tells o t line after text
+  pub answers_line : AnswersLine o t line after text
   pub leads : LeadsTo o after w
   pub written : Appends before now text
 

@@ -3,6 +3,7 @@ ghost use Rattle.std.specs.Prelude.{◌≡◌};
 
 use sq_text::InputFault;
 use std::io;
+use thiserror::Error;
 
 /// How a run ends.
 #[derive(Clone, Copy, Debug, PartialEq, Eq)]
@@ -14,11 +15,11 @@ pub enum Ending {
 }
 
 impl Ending {
-    ghost use Rattle.sq_world.specs.Run.{status_of};
+    ghost use Rattle.sq_world.specs.Run.{exit_status_of};
 
     /// The exit status: 0 after the dump, 2 after a fault.
     pub fn status(self) -> u8
-        ensures { result ≡ status_of self }
+        ensures { result ≡ exit_status_of self }
     {
         match self {
             Ending::Done => 0,
@@ -28,11 +29,12 @@ impl Ending {
 }
 
 /// A write failed. How much went out isn't told.
-#[derive(Clone, Copy, Debug, PartialEq, Eq)]
+#[derive(Clone, Copy, Debug, PartialEq, Eq, Error)]
+#[error("the output can't be written")]
 pub struct WriteFault;
 
 impl WriteFault {
-    /// The number that a user sees: 124.
+    /// The number that a user sees.
     pub fn number(self) -> u16
         ensures { result ≡ 124 }
     {

@@ -4,7 +4,7 @@ ghost use Rattle.std.specs.Io.KnownBytes.{Appends};
 ghost use Rattle.sq_ranges.specs.OpeningValue.{OpeningValue};
 ghost use Rattle.sq_text.specs.declared.input_fault.InputFault.{InputFault};
 ghost use Rattle.sq_text.specs.Header.{header_of, Opens};
-ghost use Rattle.sq_world.specs.Input.{input_limit, IsInput, IsNotTaken};
+ghost use Rattle.sq_world.specs.Input.{IsInput, IsNotTaken};
 ghost use Rattle.sq_world.specs.Run.{IsRunFrom, IsRefused, Runs};
 ghost use Rattle.sq_world.specs.Script.{LeadsTo};
 
@@ -33,7 +33,7 @@ pub fn run<R: Read, W: Write>(
     reader: &mut R,
     writer: &mut W,
 ) -> Result<Ending, WriteFault>
-    ensures { IfOk result (Runs 8 (R.remaining reader.old) (W.contents writer.old) (W.contents writer.new)) }
+    ensures { IfOk result (Runs MAX_TABLES (R.remaining reader.old) (W.contents writer.old) (W.contents writer.new)) }
 {
     let ending = run_unflushed(alloc, reader, writer)?;
     writer.flush()?;
@@ -46,7 +46,7 @@ fn run_unflushed<R: Read, W: Write>(
     reader: &mut R,
     writer: &mut W,
 ) -> io::Result<Ending>
-    ensures { IfOk result (Runs 8 (R.remaining reader.old) (W.contents writer.old) (W.contents writer.new)) }
+    ensures { IfOk result (Runs MAX_TABLES (R.remaining reader.old) (W.contents writer.old) (W.contents writer.new)) }
 {
     match read_input(alloc, reader) {
         Ok(input) => run_input(alloc, &input, writer),
@@ -57,7 +57,7 @@ fn run_unflushed<R: Read, W: Write>(
 // Reads all that a reader gives.
 fn read_input<R: Read>(alloc: Global, reader: &mut R) -> Result<Vec<u8>, InputFault>
     ensures input { IfOk result (λ input. IsInput (R.remaining reader.old) input.items) }
-    ensures short { IfOk result (λ input. length input.items ≤ input_limit) }
+    ensures short { IfOk result (λ input. length input.items ≤ MAX_INPUT) }
     ensures fault { IfErr result (IsNotTaken (R.remaining reader.old)) }
 {
     let mut input = Vec::new(alloc);
@@ -81,7 +81,7 @@ fn read_fault(error: &io::Error) -> InputFault
 
 // Runs an input.
 fn run_input<W: Write>(alloc: Global, input: &[u8], writer: &mut W) -> io::Result<Ending>
-    ensures { IfOk result (λ ending. (out : List ℕ) × Appends (W.contents writer.old) (W.contents writer.new) out × (IsRunFrom 8 input.now out ending ⊎ IsRefused 8 input.now out ending)) }
+    ensures { IfOk result (λ ending. (out : List ℕ) × Appends (W.contents writer.old) (W.contents writer.new) out × (IsRunFrom MAX_TABLES input.now out ending ⊎ IsRefused MAX_TABLES input.now out ending)) }
 {
     let Some(schema) = Schema::new(MAX_TABLES) else {
         unreachable!()

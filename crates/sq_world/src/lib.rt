@@ -11,8 +11,3 @@ pub use ending::{Ending, WriteFault};
 pub use input::{MAX_INPUT, run};
 pub use whole_run::run_world;
 pub use world::{NotOpened, World};
-
-#[cfg(test)]
-mod run_tests;
-#[cfg(test)]
-mod tests;

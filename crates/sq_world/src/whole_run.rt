@@ -1,6 +1,6 @@
 // Whole runs of a world.
 ghost use Rattle.std.specs.Prelude.{◌≡◌, length, IfOk, IfErr};
-ghost use Rattle.sq_turn.specs.Goes.{Goes};
+ghost use Rattle.sq_transition.specs.Headline.{KeepsHeadline};
 ghost use Rattle.sq_world.specs.History.{history_of};
 
 use crate::world::World;
@@ -8,7 +8,7 @@ use sq_model::{Answer, Step};
 use sq_ranges::Opening;
 use std::alloc::Global;
 
-/// Opens a world and makes these steps in turn: the world that they lead to, and their answers. Where there is no
+/// Opens a world and makes these steps in step_result: the world that they lead to, and their answers. Where there is no
 /// memory for the world or for the room of the answers no step is made, and the opening comes back as it was.
 ///
 /// The steps with their answers are a history whose answers are those that it determines, its moves are in order, and
@@ -19,7 +19,7 @@ pub fn run_world(
     steps: &[Step],
 ) -> Result<(World, Vec<Answer>), Opening>
     ensures each { IfOk result (λ ran. length ran.1.items ≡ length steps.now) }
-    ensures ran { IfOk result (λ ran. Goes opening (history_of steps.now ran.1.items) ran.0) }
+    ensures ran { IfOk result (λ ran. KeepsHeadline opening (history_of steps.now ran.1.items) ran.0) }
     ensures back { IfErr result (λ back. back ≡ opening) }
 {
     let Ok(mut answers) = Vec::with_capacity(alloc, steps.len()) else {

@@ -3,12 +3,12 @@ ghost use Rattle.std.specs.Prelude.{◌≡◌, [], ◌∷◌, None, IfOk, IfErr}
 ghost use Rattle.sq_ranges.specs.OpeningValue.{OpeningValue};
 ghost use Rattle.sq_ranges.specs.Given.{IsOpeningOf};
 ghost use Rattle.sq_ranges.specs.Refused.{opening_fault};
-ghost use Rattle.sq_model.specs.Opening.{IsOpening};
+ghost use Rattle.sq_ranges.specs.Opening.{IsOpening};
 ghost use Rattle.sq_model.specs.Trace.{Trace};
 ghost use Rattle.sq_model.specs.Legal.{IsLegal};
-ghost use Rattle.sq_turn.specs.Turn.{Turn};
-ghost use Rattle.sq_turn.specs.Holds.{Holds};
-ghost use Rattle.sq_turn.specs.Goes.{Goes};
+ghost use Rattle.sq_transition.specs.Transition.{IsTransition};
+ghost use Rattle.sq_transition.specs.Holds.{Holds};
+ghost use Rattle.sq_transition.specs.Headline.{KeepsHeadline};
 ghost use Rattle.sq_world.specs.History.{IsNotOpened};
 ghost use Rattle.sq_state.specs.Sound.{IsSound};
 
@@ -35,7 +35,7 @@ impl Model for World {
     ghost use Rattle.std.specs.Ordering.{nat_cmp};
     ghost use Rattle.std.specs.FinMap as fin;
     ghost use Rattle.sq_schema.specs.Family.{FamilyValue};
-    ghost use Rattle.sq_turn.specs.WorldValue.{WorldValue};
+    ghost use Rattle.sq_transition.specs.WorldValue.{WorldValue};
     ghost use Rattle.sq_world.specs.Reached.{IsReached};
 
     ghost Value = { WorldValue };
@@ -94,8 +94,8 @@ impl World {
     /// Whatever the steps before were: if their answers were those that the history determines, and this world is the
     /// one that they lead to, then so it is with this step. No row is lost, doubled or read stale.
     pub fn step(&mut self, step: &Step) -> Answer
-        ensures turn { Turn self.old step.now result self.new }
-        ensures headline { (o : OpeningValue) (t : Trace) → IsOpening o → IsLegal o t → Holds o t self.old → Goes o ((step.now, result) ∷ t) self.new }
+        ensures step_result { IsTransition self.old step.now result self.new }
+        ensures headline { (o : OpeningValue) (t : Trace) → IsOpening o → IsLegal o t → Holds o t self.old → KeepsHeadline o ((step.now, result) ∷ t) self.new }
     {
         self.state.step(step)
     }
@@ -113,12 +113,12 @@ impl World {
 impl World {
     ghost use Rattle.std.specs.Option.{option_copied};
     ghost use Rattle.sq_model.specs.Leader.{phase as phase_of};
-    ghost use Rattle.sq_state.specs.Readers.{store_at, chunk_at, status_there, TellsStore, TellsChunk, told_status};
+    ghost use Rattle.sq_state.specs.Readers.{store_at, chunk_at, status_there, IsStoreAfter, IsChunkAfter, status_after};
 
     /// How far the leader is, which is as the history tells.
     pub fn phase(&self) -> Phase
         ensures phase { result ≡ self.now.phase }
-        ensures told { (o : OpeningValue) (t : Trace) → Holds o t self.now → result ≡ phase_of t }
+        ensures by_history { (o : OpeningValue) (t : Trace) → Holds o t self.now → result ≡ phase_of t }
     {
         self.state.phase()
     }
@@ -127,7 +127,7 @@ impl World {
     /// partition.
     pub fn store(&self, part: u64) -> Option<&VecStore>
         ensures store { option_copied result ≡ store_at self.now part }
-        ensures told { (o : OpeningValue) (t : Trace) → Holds o t self.now → TellsStore o t part (option_copied result) }
+        ensures by_history { (o : OpeningValue) (t : Trace) → Holds o t self.now → IsStoreAfter o t part (option_copied result) }
     {
         self.state.store(part)
     }
@@ -136,7 +136,7 @@ impl World {
     /// oldest first, as the history tells, with exactly the families that its note covers; `None` where there is none.
     pub fn under_way(&self, src: u64, dst: u64, i: u64) -> Option<&Chunk>
         ensures chunk { option_copied result ≡ chunk_at self.now src dst i }
-        ensures told { (o : OpeningValue) (t : Trace) → IsOpening o → IsLegal o t → Holds o t self.now → TellsChunk o t src dst i (option_copied result) }
+        ensures by_history { (o : OpeningValue) (t : Trace) → IsOpening o → IsLegal o t → Holds o t self.now → IsChunkAfter o t src dst i (option_copied result) }
     {
         self.state.under_way(src, dst, i)
     }
@@ -144,7 +144,7 @@ impl World {
     /// The status of a node, which is as the history tells; `None` where there is no such segment or node.
     pub fn status(&self, seg: u64, node: u64) -> Option<Status>
         ensures status { result ≡ status_there self.now seg node }
-        ensures told { (o : OpeningValue) (t : Trace) → Holds o t self.now → result ≡ told_status o t seg node }
+        ensures by_history { (o : OpeningValue) (t : Trace) → Holds o t self.now → result ≡ status_after o t seg node }
     {
         self.state.status(seg, node)
     }

@@ -98,11 +98,11 @@ module _ (s : Shape) (names : Names) (enabled : s.disable_help_subcommand ≡ fa
   read true w word still fault = ap is_own (stays s.rules word w w.held value still refl)
   read false w word still fault = named (subcommand_met names w.waiting word) w word still fault
 
-  turn : (stop : Option (Text × List Text)) (w : Walk) (word : Text) (rest : Kinds) → w.stopped ≡ stop → is_own stop ≡ true
+  step_result : (stop : Option (Text × List Text)) (w : Walk) (word : Text) (rest : Kinds) → w.stopped ≡ stop → is_own stop ≡ true
       → (if is_some stop then [] else or_else (word_fault s names w.is_trailing w.waiting word w.held) rest) ≡ []
       → is_own (walked_from s.rules names stop w word).stopped ≡ true
-  turn (Some p) w word rest at own fault = own
-  turn None w word rest at own fault = read w.is_trailing w word at (none_before (word_fault s names w.is_trailing w.waiting word w.held) rest fault)
+  step_result (Some p) w word rest at own fault = own
+  step_result None w word rest at own fault = read w.is_trailing w word at (none_before (word_fault s names w.is_trailing w.waiting word w.held) rest fault)
 
   walks : (w : Walk) (words : List Text) → is_own w.stopped ≡ true → walk_fault s names w words ≡ [] → is_own (fold (walked s.rules names) w words).stopped ≡ true
   unfolding walk_fault walked
@@ -111,7 +111,7 @@ module _ (s : Shape) (names : Names) (enabled : s.disable_help_subcommand ≡ fa
       let met = word_met s.rules names w.is_trailing w.waiting w.position word w.held in
       let after = walk_fault s names (walked s.rules names w word) words in
       walks (walked s.rules names w word) words
-      (turn w.stopped w word (step_fault s w.position met.0 met.1) refl own (none_before (turn_fault s names w word) after fault))
+      (step_result w.stopped w word (step_fault s w.position met.0 met.1) refl own (none_before (turn_fault s names w word) after fault))
       (none_after (turn_fault s names w word) after fault)
 
 -- ---- the command's own subcommand

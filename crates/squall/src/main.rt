@@ -1,14 +1,18 @@
 //! The program `squall`: it reads what to do from standard input, and writes what came of it to standard output.
 #![tactic(auto)]
 
-ghost use Rattle.std.specs.Prelude.{◌≡◌, ◌⊎◌};
+ghost use Rattle.std.specs.Prelude.{◌≡◌, ◌⊎◌, map};
+ghost use Rattle.clap.specs.Words.{fault_of};
+ghost use Rattle.squall.specs.Line.{squall};
+ghost use Rattle.squall.specs.Session.{EndsWell};
 
-mod fault;
 mod line;
 mod session;
 
 use line::{Line, line_of};
-use session::{script, told, unread};
+use session::{print_usage, refuse_for_memory, refuse_words, script};
+use std::convert::AsStr;
+use std::io::{BufWriter, Read, Write};
 use std::process::ExitCode;
 use std::rt::Env;
 use std::{env, io};
@@ -20,19 +24,43 @@ fn words_of(rt: &(impl Env + AllocGlobal)) -> io::Result<Vec<String>> {
 }
 
 // Does what the words of a command line ask for, and gives the exit status.
-fn obey(rt: &(impl Input + Print + Eprint + AllocGlobal), words: &[String]) -> u8
-    ensures { (result ≡ 0) ⊎ (result ≡ 2) }
+fn obey<S: AsStr, R: Read, W: Write>(
+    rt: &(impl Print + Eprint + AllocGlobal),
+    words: &[S],
+    reader: &mut R,
+    writer: &mut W,
+) -> u8
+    ensures status { (result ≡ 0) ⊎ (result ≡ 2) }
+    ensures well { result ≡ 0 → EndsWell (fault_of squall (map S.text words.now)) (R.remaining reader.old) (W.contents writer.old) (W.contents writer.new) }
 {
     match line_of(rt.alloc(), words) {
-        Ok(Line::Run) => script(rt),
-        Err(error) => told(rt, &error),
+        Ok(Line::Run) => script(rt, reader, writer),
+        Err(error) => print_usage(rt, &error),
     }
+}
+
+// The same with a buffer in front of the writer. After a failed write nothing more is written.
+fn obey_buffered<S: AsStr, R: Read, W: Write + Drop>(
+    rt: &(impl Print + Eprint + AllocGlobal),
+    words: &[S],
+    reader: &mut R,
+    writer: W,
+) -> u8
+    ensures { (result ≡ 0) ⊎ (result ≡ 2) }
+{
+    let Ok(mut writer) = BufWriter::new(rt.alloc(), writer) else {
+        return refuse_for_memory(rt);
+    };
+    let status = obey(rt, words, reader, &mut writer);
+    // A failed write has left bytes, which a buffer that is dropped would write.
+    let (_unbuffered, _unwritten) = writer.into_parts();
+    status
 }
 
 fn main(rt: HostRuntime) -> ExitCode {
     let status = match words_of(&rt) {
-        Ok(words) => obey(&rt, words.as_slice()),
-        Err(error) => unread(&rt, &error),
+        Ok(words) => obey_buffered(&rt, &words, &mut rt.reader(), io::writer(&rt)),
+        Err(error) => refuse_words(&rt, &error),
     };
     ExitCode::from(status)
 }

@@ -1,48 +1,71 @@
-// One run, from standard input to standard output.
-ghost use Rattle.std.specs.Prelude.{◌≡◌, ◌≢◌, ◌⊎◌, IfOk, IfErr};
+// Runs, what is said of their faults, and the exit status.
+ghost use Rattle.std.specs.Prelude.{◌≡◌, ◌⊎◌};
 ghost use Rattle.clap.specs.Values.{kind_of};
-ghost use Rattle.squall.specs.Session.{IsRunOf};
+ghost use Rattle.sq_schema.specs.declared.schema.TheConstants.{MAX_TABLES};
+ghost use Rattle.sq_world.specs.Run.{Runs};
+ghost use Rattle.squall.specs.Session.{exit_status};
 
-use crate::fault::Fault;
 use clap::Error;
 use clap::error::ErrorKind;
-use sq_world::{Ending, run};
-use std::alloc::Global;
+use sq_text::InputFault;
+use sq_world::{Ending, WriteFault, run};
+use std::fmt::Display;
 use std::io;
-use std::io::{BufReader, BufWriter, Read, Write};
+use std::io::{Read, Write};
 
 /// The exit status after a fault, and after a command line that was refused.
 pub const REFUSED: u8 = 2;
 
-// Says on standard error what a fault of this number means.
-fn explain(rt: &impl Eprint, number: u16) {
-    let _ = match Fault::numbered(number) {
-        Some(fault) => eprintln!(rt; "squall: fault {number}: {fault}"),
-        None => eprintln!(rt; "squall: fault {number}"),
-    };
+/// Runs the script in `reader`, writes what it comes to, and says on standard error what its fault means. Gives the
+/// exit status.
+pub fn script<R: Read, W: Write>(
+    rt: &(impl Eprint + AllocGlobal),
+    reader: &mut R,
+    writer: &mut W,
+) -> u8
+    ensures status { (result ≡ 0) ⊎ (result ≡ 2) }
+    ensures dumped { result ≡ 0 → Runs MAX_TABLES (R.remaining reader.old) (W.contents writer.old) (W.contents writer.new) Ending.Done }
+{
+    let ran = run(rt.alloc(), reader, writer);
+    match ran {
+        Ok(Ending::Done) => {}
+        Ok(Ending::Fault(fault)) => explain(rt, fault.number(), &fault),
+        Err(fault) => explain(rt, fault.number(), &fault),
+    }
+    exit_status(ran)
 }
 
-/// Says on standard error what a fault means, and gives the exit status after it.
-pub fn refused(rt: &impl Eprint, fault: Fault) -> u8
+/// The exit status after a run: 0 where its world was dumped, and 2 after a fault.
+pub fn exit_status(ran: Result<Ending, WriteFault>) -> u8
+    ensures { result ≡ exit_status ran }
+{
+    match ran {
+        Ok(ending) => ending.status(),
+        Err(_) => REFUSED,
+    }
+}
+
+/// Tells the fault that memory ran out before the run, and gives the exit status after it.
+pub fn refuse_for_memory(rt: &(impl Print + Eprint)) -> u8
     ensures { result ≡ 2 }
 {
-    explain(rt, fault.number());
+    let fault = InputFault::Memory;
+    let number = fault.number();
+    let _ = println!(rt; "fault {number}");
+    explain(rt, number, &fault);
     REFUSED
 }
 
-/// Says on standard error why the command line can't be read, and gives the exit status after it.
-pub fn unread(rt: &impl Eprint, error: &io::Error) -> u8
-    ensures { result ≡ 2 }
-{
-    let _ = eprintln!(rt; "squall: the command line can't be read: {error}");
-    REFUSED
+// Says on standard error what a fault means.
+fn explain(rt: &impl Eprint, number: u16, fault: &impl Display) {
+    let _ = eprintln!(rt; "squall: fault {number}: {fault}");
 }
 
 /// Prints what `clap` says of a command line: a help text that was asked for to standard output, anything else to
 /// standard error. Gives the exit status, 0 after a help text that was printed.
-pub fn told<R: Print + Eprint>(rt: &R, error: &Error) -> u8
+pub fn print_usage<R: Print + Eprint>(rt: &R, error: &Error) -> u8
     ensures status { (result ≡ 0) ⊎ (result ≡ 2) }
-    ensures mistake { kind_of error.now ≢ ErrorKind.DisplayHelp → kind_of error.now ≢ ErrorKind.DisplayVersion → result ≡ 2 }
+    ensures asked { result ≡ 0 → (kind_of error.now ≡ ErrorKind.DisplayHelp) ⊎ (kind_of error.now ≡ ErrorKind.DisplayVersion) }
 {
     match error.print(rt) {
         Ok(()) if !error.use_stderr() => 0,
@@ -50,42 +73,10 @@ pub fn told<R: Print + Eprint>(rt: &R, error: &Error) -> u8
     }
 }
 
-/// Runs the script in `reader`, and writes what it comes to. Where a write fails, what isn't written yet stays so.
-pub fn run_through<R: Read, W: Write + Drop>(
-    alloc: Global,
-    reader: &mut R,
-    mut writer: BufWriter<W>,
-) -> Result<Ending, Fault>
-    ensures ran { IfOk result (λ ending. IsRunOf (R.remaining reader.old) ending) }
-    ensures fault { IfErr result (λ fault. fault ≡ Fault.WriteFailed) }
+/// Says on standard error why the command line can't be read, and gives the exit status after it.
+pub fn refuse_words(rt: &impl Eprint, error: &io::Error) -> u8
+    ensures { result ≡ 2 }
 {
-    match run(alloc, reader, &mut writer) {
-        Ok(ending) => Ok(ending),
-        Err(_) => {
-            let (_inner, _unwritten) = writer.into_parts();
-            Err(Fault::WriteFailed)
-        }
-    }
-}
-
-/// Makes the steps of the script on standard input, and gives the exit status.
-pub fn script(rt: &(impl Input + Print + Eprint + AllocGlobal)) -> u8
-    ensures { (result ≡ 0) ⊎ (result ≡ 2) }
-{
-    let alloc = rt.alloc();
-    let reader = BufReader::new(alloc, rt.reader());
-    let writer = BufWriter::new(alloc, io::writer(rt));
-    let (Ok(mut reader), Ok(writer)) = (reader, writer) else {
-        let _ = println!(rt; "fault {}", Fault::Memory.number());
-        return refused(rt, Fault::Memory);
-    };
-    match run_through(alloc, &mut reader, writer) {
-        Ok(ending) => {
-            if let Ending::Fault(fault) = &ending {
-                explain(rt, fault.number());
-            }
-            ending.status()
-        }
-        Err(fault) => refused(rt, fault),
-    }
+    let _ = eprintln!(rt; "squall: the command line can't be read: {error}");
+    REFUSED
 }

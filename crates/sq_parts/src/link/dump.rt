@@ -3,8 +3,8 @@ ghost use Rattle.std.specs.Prelude.{OnOk};
 ghost use Rattle.std.specs.List.{flat_map};
 ghost use Rattle.std.specs.Io.KnownBytes.{Appends};
 ghost use Rattle.sq_text.specs.Texts.{way_lines};
-ghost use Rattle.sq_turn.specs.WorldValue.{option_list};
-ghost use Rattle.sq_turn.specs.Holds.{under_way};
+ghost use Rattle.sq_transition.specs.WorldValue.{option_list};
+ghost use Rattle.sq_transition.specs.Holds.{under_way};
 
 use crate::link::LinkState;
 use sq_chunk::Chunk;

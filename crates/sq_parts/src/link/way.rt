@@ -1,7 +1,7 @@
 // The chunks that a link has under way.
 ghost use Rattle.std.specs.Prelude.{◌≡◌, slice_get};
 ghost use Rattle.std.specs.Option.{option_copied};
-ghost use Rattle.sq_turn.specs.Holds.{under_way};
+ghost use Rattle.sq_transition.specs.Holds.{under_way};
 
 use crate::link::LinkState;
 use sq_chunk::Chunk;

@@ -3,7 +3,7 @@ ghost use Rattle.std.specs.Prelude.{OnOk};
 ghost use Rattle.std.specs.List.{flat_map, range_with_len};
 ghost use Rattle.std.specs.Io.KnownBytes.{Appends};
 ghost use Rattle.sq_text.specs.Texts.{at_line};
-ghost use Rattle.sq_turn.specs.WorldValue.{link_index};
+ghost use Rattle.sq_transition.specs.WorldValue.{link_index};
 ghost use Rattle.sq_state.specs.Sound.{IsSound};
 ghost use Rattle.sq_state.specs.Dump.{part_lines, link_lines, source_lines, dump};
 

@@ -1,8 +1,8 @@
 // The steps of the leader.
 ghost use Rattle.std.specs.Prelude.{◌≡◌, ◌||◌, not, length};
 ghost use Rattle.std.specs.List.{list_all, list_any, range_with_len};
-ghost use Rattle.sq_turn.specs.LeaderTurn.{prepare_turn, start_turn, report_turn, finish_turn, flag_at, into, whole, segment_range};
-ghost use Rattle.sq_state.specs.Told.{told};
+ghost use Rattle.sq_transition.specs.LeaderResults.{prepare_result, start_result, report_result, finish_result, flag_at, is_segment_into, is_segment_whole, segment_range};
+ghost use Rattle.sq_state.specs.Results.{answer_of};
 ghost use Rattle.sq_state.specs.Sound.{IsSound};
 
 use crate::state::State;
@@ -12,7 +12,7 @@ impl State {
     /// A partition prepares.
     pub(crate) fn prepare(&mut self, part: u64) -> Result<Answer, Refusal>
         requires { IsSound self.old }
-        ensures { (told result, self.new) ≡ prepare_turn self.old part }
+        ensures { (answer_of result, self.new) ≡ prepare_result self.old part }
     {
         self.check_part(part)?;
         self.check_not_started()?;
@@ -24,7 +24,7 @@ impl State {
     /// The leader starts the move, for which each partition has prepared.
     pub(crate) fn start(&mut self) -> Result<Answer, Refusal>
         requires { IsSound self.old }
-        ensures { (told result, self.new) ≡ start_turn self.old }
+        ensures { (answer_of result, self.new) ≡ start_result self.old }
     {
         self.check_not_started()?;
         if !all_set(&self.prepared) {
@@ -37,7 +37,7 @@ impl State {
     /// A partition reports that each segment into it is whole.
     pub(crate) fn report(&mut self, part: u64) -> Result<Answer, Refusal>
         requires { IsSound self.old }
-        ensures { (told result, self.new) ≡ report_turn self.old part }
+        ensures { (answer_of result, self.new) ≡ report_result self.old part }
     {
         self.check_moving()?;
         self.check_part(part)?;
@@ -51,7 +51,7 @@ impl State {
     /// The leader ends the move, which each partition has reported that a segment goes into.
     pub(crate) fn finish(&mut self) -> Result<Answer, Refusal>
         requires { IsSound self.old }
-        ensures { (told result, self.new) ≡ finish_turn self.old }
+        ensures { (answer_of result, self.new) ≡ finish_result self.old }
     {
         self.check_moving()?;
         if !self.is_reported() {
@@ -64,7 +64,7 @@ impl State {
     // Whether each segment into a partition is whole.
     fn has_all(&self, part: u64) -> bool
         requires { IsSound self.now }
-        ensures { result ≡ list_all (λ seg. not (into self.now part seg) || whole self.now seg) (segment_range self.now) }
+        ensures { result ≡ list_all (λ seg. not (is_segment_into self.now part seg) || is_segment_whole self.now seg) (segment_range self.now) }
     {
         for (seg, range) in self.recon.segments().iter().enumerate() {
             if u64::from(range.dst.number()) == part && !self.segments[seg].is_whole() {
@@ -76,7 +76,7 @@ impl State {
 
     // Whether some segment goes into a partition.
     fn has_any(&self, part: u64) -> bool
-        ensures { result ≡ list_any (into self.now part) (segment_range self.now) }
+        ensures { result ≡ list_any (is_segment_into self.now part) (segment_range self.now) }
     {
         self.recon
             .segments()
@@ -87,7 +87,7 @@ impl State {
     // Whether each partition has reported that a segment goes into.
     fn is_reported(&self) -> bool
         requires { IsSound self.now }
-        ensures { result ≡ list_all (λ part. flag_at self.now.reported part || not (list_any (into self.now part) (segment_range self.now))) (range_with_len 0 self.now.old.parts) }
+        ensures { result ≡ list_all (λ part. flag_at self.now.reported part || not (list_any (is_segment_into self.now part) (segment_range self.now))) (range_with_len 0 self.now.old.parts) }
     {
         for part in 0..self.old_plan.parts() {
             if !self.reported[usize::from(part)] && self.has_any(u64::from(part)) {

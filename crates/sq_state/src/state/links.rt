@@ -1,20 +1,21 @@
 // The steps of the links.
 ghost use Rattle.std.specs.Prelude.{◌≡◌};
-ghost use Rattle.sq_turn.specs.WorldValue.{link_index};
+ghost use Rattle.sq_transition.specs.WorldValue.{link_index};
 ghost use Rattle.sq_model.specs.declared.step.Step.{Step};
-ghost use Rattle.sq_turn.specs.LinkTurn.{push_turn, pop_turn, cut_turn, load_turn};
-ghost use Rattle.sq_state.specs.Told.{told, ComesTo};
+ghost use Rattle.sq_transition.specs.LinkResults.{push_result, pop_result, cut_result, load_result};
+ghost use Rattle.sq_state.specs.Results.{answer_of};
+ghost use Rattle.sq_transition.specs.Transition.{IsResult};
 ghost use Rattle.sq_state.specs.Sound.{IsSound};
 
 use crate::state::State;
 use sq_model::{Answer, Refusal};
-use sq_parts::Mark;
+use sq_parts::Progress;
 
 impl State {
     /// The chunk that was cut goes onto its link.
     pub(crate) fn push(&mut self, src: u64, dst: u64) -> Result<Answer, Refusal>
         requires { IsSound self.old }
-        ensures { (told result, self.new) ≡ push_turn self.old src dst }
+        ensures { (answer_of result, self.new) ≡ push_result self.old src dst }
     {
         self.check_moving()?;
         let Some(at) = self.link_at(src, dst) else {
@@ -28,7 +29,7 @@ impl State {
     /// The oldest chunk on a link comes to its destination.
     pub(crate) fn pop(&mut self, src: u64, dst: u64) -> Result<Answer, Refusal>
         requires { IsSound self.old }
-        ensures { (told result, self.new) ≡ pop_turn self.old src dst }
+        ensures { (answer_of result, self.new) ≡ pop_result self.old src dst }
     {
         self.check_moving()?;
         let Some(at) = self.link_at(src, dst) else {
@@ -41,7 +42,7 @@ impl State {
     /// A chunk of the work that is done next is cut for its link. Where there is no memory nothing changes.
     pub(crate) fn cut(&mut self, src: u64, dst: u64) -> Result<Answer, Refusal>
         requires { IsSound self.old }
-        ensures { ComesTo (Step.Cut src dst) self.old (cut_turn self.old src dst) (told result) self.new }
+        ensures { IsResult (Step.Cut src dst) self.old (cut_result self.old src dst) (answer_of result) self.new }
     {
         self.check_moving()?;
         let Some(at) = self.link_at(src, dst) else {
@@ -49,13 +50,13 @@ impl State {
         };
         let link = &mut self.links[at];
         let part = &mut self.parts[usize::from(link.src().number())];
-        link.cut(part, self.config.limit, self.alloc)
+        link.cut(part, self.config.limit)
     }
 
     /// The chunk that came to a destination is loaded. Where there is no memory nothing changes.
     pub(crate) fn load(&mut self, src: u64, dst: u64) -> Result<Answer, Refusal>
         requires { IsSound self.old }
-        ensures { ComesTo (Step.Load src dst) self.old (load_turn self.old src dst) (told result) self.new }
+        ensures { IsResult (Step.Load src dst) self.old (load_result self.old src dst) (answer_of result) self.new }
     {
         self.check_moving()?;
         let Some(at) = self.link_at(src, dst) else {
@@ -64,8 +65,8 @@ impl State {
         let link = &mut self.links[at];
         let part = &mut self.parts[usize::from(link.dst().number())];
         let (note, families) = link.load(part)?;
-        let mark = Mark::new(note.hi, note.last);
-        self.segments[note.seg as usize].set_mark(note.node, mark);
+        let progress = Progress::new(note.hi, note.last);
+        self.segments[note.seg.index()].set_progress(note.node, progress);
         Ok(Answer::WasLoaded { note, families })
     }
 

@@ -1,21 +1,21 @@
 // The state that a world opens in.
-ghost use Rattle.std.specs.Prelude.{◌≡◌, ℕ, false, map, replicate, IfOk, IfErr, IsTrue};
+ghost use Rattle.std.specs.Prelude.{◌≡◌, ℕ, false, [], map, replicate, IfOk, IfErr, IsTrue};
 ghost use Rattle.std.specs.List.{range_with_len};
 ghost use Rattle.std.specs.FinMap.{empty};
 ghost use Rattle.sq_chunk.specs.ChunkValue.{are_within};
 ghost use Rattle.sq_plan.specs.PlanValue.{IsPlan};
 ghost use Rattle.sq_ranges.specs.SetUp.{IsSetUp};
 ghost use Rattle.sq_store.specs.StoreValue.{with_families};
-ghost use Rattle.sq_turn.specs.Opened.{IsOpened};
+ghost use Rattle.sq_transition.specs.Holds.{Holds};
 ghost use Rattle.sq_state.specs.Openings.{opened_families, opened_part, AreNewSegments, AreNewLinks};
 
 use crate::state::State;
 use sq_model::Phase;
-use sq_parts::{LinkState, Part, Segment};
+use sq_parts::{LinkState, Partition, Segment};
 use sq_plan::{PartId, Plan};
-use sq_ranges::{Opening, OpeningParts, Recon};
+use sq_ranges::{Opening, OpeningParts, Recon, SegId};
 use sq_schema::{Family, Table};
-use sq_store::VecStore;
+use sq_store::{FamilyStore, VecStore};
 use std::alloc::{AllocError, Global};
 
 // What a state has beside its opening.
@@ -23,7 +23,7 @@ use std::alloc::{AllocError, Global};
 struct Fresh {
     prepared: Vec<bool>,
     reported: Vec<bool>,
-    parts: Vec<Part>,
+    parts: Vec<Partition>,
     segments: Vec<Segment>,
     links: Vec<LinkState>,
 }
@@ -31,7 +31,7 @@ struct Fresh {
 impl State {
     /// The state that a world opens in. Where there is no memory for it the opening comes back.
     pub fn open(alloc: Global, opening: Opening) -> Result<State, Opening>
-        ensures opened { IfOk result (IsOpened opening) }
+        ensures opened { IfOk result (Holds opening []) }
         ensures set_up { IfOk result (λ _. IsSetUp opening) }
         ensures back { IfErr result (λ back. back ≡ opening) }
     {
@@ -89,7 +89,7 @@ fn fresh_state(alloc: Global, opening: &Opening) -> Result<Fresh, AllocError>
 }
 
 // The partitions of the plan before the move, each with the families of the root keys that it owns.
-fn parts(alloc: Global, opening: &Opening) -> Result<Vec<Part>, AllocError>
+fn parts(alloc: Global, opening: &Opening) -> Result<Vec<Partition>, AllocError>
     ensures { IfOk result (λ parts. parts.items ≡ map (opened_part opening.now.old opening.now.table) (range_with_len 0 opening.now.old.parts)) }
 {
     let mut parts = Vec::new(alloc);
@@ -100,7 +100,7 @@ fn parts(alloc: Global, opening: &Opening) -> Result<Vec<Part>, AllocError>
             PartId::new(number),
             opening.table(),
         )?;
-        parts.push(Part::new(alloc, store(alloc, families)?))?;
+        parts.push(Partition::new(alloc, store(alloc, families)?))?;
     }
     Ok(parts)
 }
@@ -144,7 +144,10 @@ fn segments(alloc: Global, recon: &Recon) -> Result<Vec<Segment>, AllocError>
 {
     let count = recon.segments().len() as u64;
     let mut segments = Vec::new(alloc);
-    for seg in 0..count {
+    for number in 0..count {
+        let Some(seg) = SegId::new(number) else {
+            unreachable!()
+        };
         segments.push(Segment::new(recon, seg))?;
     }
     Ok(segments)

@@ -7,7 +7,7 @@ use crate::state::State;
 use sq_chunk::Chunk;
 use sq_model::Phase;
 use sq_store::VecStore;
-use sq_tree::{Status, is_node};
+use sq_tree::{NodeId, Status};
 
 impl State {
     /// How far the leader is.
@@ -38,9 +38,7 @@ impl State {
     pub fn status(&self, seg: u64, node: u64) -> Option<Status>
         ensures { result ≡ status_there self.now seg node }
     {
-        if !is_node(node) {
-            return None;
-        }
+        let node = NodeId::new(node)?;
         let segment = self.segments.get(seg as usize)?;
         Some(segment.status(node))
     }

@@ -1,5 +1,5 @@
 // One step of any kind.
-ghost use Rattle.sq_turn.specs.Turn.{Turn};
+ghost use Rattle.sq_transition.specs.Transition.{IsTransition};
 ghost use Rattle.sq_state.specs.Sound.{IsSound};
 
 use crate::state::State;
@@ -9,9 +9,9 @@ impl State {
     /// Makes one step, and answers it.
     pub fn step(&mut self, step: &Step) -> Answer
         requires { IsSound self.old }
-        ensures { Turn self.old step.now result self.new }
+        ensures { IsTransition self.old step.now result self.new }
     {
-        let told = match step {
+        let result = match step {
             Step::Prepare(part) => self.prepare(*part),
             Step::Start => self.start(),
             Step::Submit(part, txn) => self.submit(*part, txn),
@@ -25,7 +25,7 @@ impl State {
             Step::Report(part) => self.report(*part),
             Step::Finish => self.finish(),
         };
-        match told {
+        match result {
             Ok(answer) => answer,
             Err(refusal) => Answer::Refused(refusal),
         }

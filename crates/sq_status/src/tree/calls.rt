@@ -1,6 +1,6 @@
 // Steps on one node.
 ghost use Rattle.std.specs.Prelude.{◌≡◌, ◌≢◌, ◌+◌, ◌≤◌, true, false, IsTrue, MatchBool, MatchResult};
-ghost use Rattle.sq_tree.specs.Node.{is_node, is_leaf};
+ghost use Rattle.sq_tree.specs.Node.{is_leaf};
 ghost use Rattle.sq_tree.specs.Status.{before};
 ghost use Rattle.sq_tree.specs.declared.status.Status.TheVariants.{Free, Split, Claimed, Partial, Complete};
 ghost use Rattle.sq_status.specs.View.{entries};
@@ -10,36 +10,16 @@ ghost use Rattle.sq_status.specs.Seat.{IsSameSeat};
 
 use super::{StatusTree, TreeSeat};
 use crate::rule::{Advance, Look};
-use sq_tree::{BeginFault, ClaimFault, CompleteFault, SplitFault, Status};
-
-const NODES: u64 = 63;
-
-pub(super) const FIRST_LEAF: u64 = 32;
-
-// Whether there is such a node.
-fn is_node(n: u64) -> bool
-    ensures { result ≡ is_node n }
-{
-    (1..=NODES).contains(&n)
-}
-
-// Where the node's word stands.
-fn index(n: u64) -> usize
-    requires { IsTrue (is_node n) }
-    ensures { result + 1 ≡ n }
-{
-    (n - 1) as usize
-}
+use sq_tree::{BeginFault, ClaimFault, CompleteFault, NodeId, SplitFault, Status};
 
 impl StatusTree {
-    /// The status of a node, which is one of 1 to 63.
-    pub fn look(&self, seat: &mut TreeSeat, n: u64) -> Status
+    /// The status of a node.
+    pub fn look(&self, seat: &mut TreeSeat, node: NodeId) -> Status
         requires tree { seat.old.tree ≡ self.now }
-        requires node { IsTrue (is_node n) }
         ensures seat { IsSameSeat seat.old seat.new }
-        ensures found { Found seat.old.view n result seat.new.view }
+        ensures found { Found seat.old.view node result seat.new.view }
     {
-        let word = self.table.shared.load::<Look>(&mut seat.seat, index(n));
+        let word = self.table.shared.load::<Look>(&mut seat.seat, node.index());
         Status::from_word(word)
     }
 
@@ -47,19 +27,18 @@ impl StatusTree {
     pub(super) fn advance(
         &self,
         seat: &mut TreeSeat,
-        n: u64,
+        node: NodeId,
         old: Status,
         new: Status,
     ) -> Result<(), Status>
         requires tree { seat.old.tree ≡ self.now }
-        requires node { IsTrue (is_node n) }
-        requires step { (old ≡ before new) × MayBring seat.old.view n new }
+        requires step { (old ≡ before new) × MayBring seat.old.view node new }
         ensures seat { IsSameSeat seat.old seat.new }
         ensures step { MatchResult result
-            (λ _. Won seat.old.view n new seat.new.view)
-            (λ found. (found ≢ old) × Found seat.old.view n found seat.new.view) }
+            (λ _. Won seat.old.view node new seat.new.view)
+            (λ found. (found ≢ old) × Found seat.old.view node found seat.new.view) }
     {
-        let at = index(n);
+        let at = node.index();
         let expected = old.word();
         let shared = &self.table.shared;
         let found = shared.compare_exchange::<Advance>(&mut seat.seat, at, expected, new.word());
@@ -70,80 +49,68 @@ impl StatusTree {
     }
 
     // Whether a node is live: node 1 is, and any other whose parent is found split.
-    fn finds_live(&self, seat: &mut TreeSeat, n: u64) -> bool
+    fn finds_live(&self, seat: &mut TreeSeat, node: NodeId) -> bool
         requires tree { seat.old.tree ≡ self.now }
-        requires node { IsTrue (is_node n) }
         ensures seat { IsSameSeat seat.old seat.new }
         ensures found { MatchBool result
-            (FoundLive seat.old.view n seat.new.view)
-            (FoundNotLive seat.old.view n seat.new.view) }
+            (FoundLive seat.old.view node seat.new.view)
+            (FoundNotLive seat.old.view node seat.new.view) }
     {
-        n == 1 || self.look(seat, n / 2).is_split()
+        node == NodeId::WHOLE || self.look(seat, node.parent()).is_split()
     }
 
     /// Splits a free node. This takes at most two steps: a look at the parent, and one exchange.
     ///
-    /// It is refused, in this order, where there is no such node, at a leaf, where the parent isn't split,
-    /// and where the node isn't free. In the first two cases nothing was looked at.
-    pub fn split(&self, seat: &mut TreeSeat, n: u64) -> Result<(), SplitFault>
+    /// It is refused, in this order, at a leaf, where the parent isn't split, and where the node isn't free.
+    /// At a leaf nothing was looked at.
+    pub fn split(&self, seat: &mut TreeSeat, node: NodeId) -> Result<(), SplitFault>
         requires tree { seat.old.tree ≡ self.now }
         ensures seat { IsSameSeat seat.old seat.new }
         ensures split { MatchResult result
-            (λ _. IsTrue (is_node n) × (is_leaf n ≡ false) × WonLive seat.old.view n Split seat.new.view)
-            (SplitRefused n seat.old.view seat.new.view) }
+            (λ _. (is_leaf node ≡ false) × WonLive seat.old.view node Split seat.new.view)
+            (SplitRefused node seat.old.view seat.new.view) }
         ensures entries { entries seat.new.view ≤ entries seat.old.view + 2 }
     {
-        if !is_node(n) {
-            return Err(SplitFault::NoSuchNode);
-        }
-        if n >= FIRST_LEAF {
+        if node.is_leaf() {
             return Err(SplitFault::IsLeaf);
         }
-        if !self.finds_live(seat, n) {
+        if !self.finds_live(seat, node) {
             return Err(SplitFault::NotLive);
         }
-        self.advance(seat, n, Status::Free, Status::Split)
+        self.advance(seat, node, Status::Free, Status::Split)
             .map_err(SplitFault::NotFree)
     }
 
     /// Claims a free node for a pull. This takes at most two steps: a look at the parent, and one exchange.
     ///
-    /// It is refused, in this order, where there is no such node, where the parent isn't split, and where
-    /// the node isn't free.
-    pub fn claim(&self, seat: &mut TreeSeat, n: u64, pull: u32) -> Result<(), ClaimFault>
+    /// It is refused, in this order, where the parent isn't split, and where the node isn't free.
+    pub fn claim(&self, seat: &mut TreeSeat, node: NodeId, pull: u32) -> Result<(), ClaimFault>
         requires tree { seat.old.tree ≡ self.now }
         ensures seat { IsSameSeat seat.old seat.new }
         ensures claim { MatchResult result
-            (λ _. IsTrue (is_node n) × WonLive seat.old.view n (Claimed pull) seat.new.view)
-            (ClaimRefused n seat.old.view seat.new.view) }
+            (λ _. WonLive seat.old.view node (Claimed pull) seat.new.view)
+            (ClaimRefused node seat.old.view seat.new.view) }
         ensures entries { entries seat.new.view ≤ entries seat.old.view + 2 }
     {
-        if !is_node(n) {
-            return Err(ClaimFault::NoSuchNode);
-        }
-        if !self.finds_live(seat, n) {
+        if !self.finds_live(seat, node) {
             return Err(ClaimFault::NotLive);
         }
-        self.advance(seat, n, Status::Free, Status::Claimed(pull))
+        self.advance(seat, node, Status::Free, Status::Claimed(pull))
             .map_err(ClaimFault::NotFree)
     }
 
     /// Begins a node that the pull claimed, by one exchange.
     ///
-    /// It is refused where there is no such node, where the node isn't claimed, and where another pull
-    /// claimed it.
-    pub fn begin(&self, seat: &mut TreeSeat, n: u64, pull: u32) -> Result<(), BeginFault>
+    /// It is refused where the node isn't claimed, and where another pull claimed it.
+    pub fn begin(&self, seat: &mut TreeSeat, node: NodeId, pull: u32) -> Result<(), BeginFault>
         requires tree { seat.old.tree ≡ self.now }
         ensures seat { IsSameSeat seat.old seat.new }
         ensures begin { MatchResult result
-            (λ _. IsTrue (is_node n) × Won seat.old.view n (Partial pull) seat.new.view)
-            (BeginRefused n pull seat.old.view seat.new.view) }
+            (λ _. Won seat.old.view node (Partial pull) seat.new.view)
+            (BeginRefused node pull seat.old.view seat.new.view) }
         ensures entries { entries seat.new.view ≤ entries seat.old.view + 1 }
     {
-        if !is_node(n) {
-            return Err(BeginFault::NoSuchNode);
-        }
-        match self.advance(seat, n, Status::Claimed(pull), Status::Partial(pull)) {
+        match self.advance(seat, node, Status::Claimed(pull), Status::Partial(pull)) {
             Ok(()) => Ok(()),
             Err(Status::Claimed(_)) => Err(BeginFault::WrongPull),
             Err(found) => Err(BeginFault::NotClaimed(found)),
@@ -152,20 +119,21 @@ impl StatusTree {
 
     /// Completes a node that the pull began, by one exchange.
     ///
-    /// It is refused where there is no such node, where the node isn't partial, and where another pull
-    /// began it.
-    pub fn complete(&self, seat: &mut TreeSeat, n: u64, pull: u32) -> Result<(), CompleteFault>
+    /// It is refused where the node isn't partial, and where another pull began it.
+    pub fn complete(
+        &self,
+        seat: &mut TreeSeat,
+        node: NodeId,
+        pull: u32,
+    ) -> Result<(), CompleteFault>
         requires tree { seat.old.tree ≡ self.now }
         ensures seat { IsSameSeat seat.old seat.new }
         ensures complete { MatchResult result
-            (λ _. IsTrue (is_node n) × Won seat.old.view n (Complete pull) seat.new.view)
-            (CompleteRefused n pull seat.old.view seat.new.view) }
+            (λ _. Won seat.old.view node (Complete pull) seat.new.view)
+            (CompleteRefused node pull seat.old.view seat.new.view) }
         ensures entries { entries seat.new.view ≤ entries seat.old.view + 1 }
     {
-        if !is_node(n) {
-            return Err(CompleteFault::NoSuchNode);
-        }
-        match self.advance(seat, n, Status::Partial(pull), Status::Complete(pull)) {
+        match self.advance(seat, node, Status::Partial(pull), Status::Complete(pull)) {
             Ok(()) => Ok(()),
             Err(Status::Partial(_)) => Err(CompleteFault::WrongPull),
             Err(found) => Err(CompleteFault::NotPartial(found)),

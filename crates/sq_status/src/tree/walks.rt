@@ -1,92 +1,90 @@
 // Claims that go over several nodes.
 ghost use Rattle.std.specs.Prelude.{◌≡◌, ◌≢◌, ℕ, ◌+◌, ◌<◌, ◌≤◌, ◌⊎◌, IsTrue, MatchResult};
 ghost use Rattle.sq_tree.specs.declared.status.Status.TheVariants.{Split};
-ghost use Rattle.sq_tree.specs.Node.{is_node, parent};
+ghost use Rattle.sq_tree.specs.declared.node.TheConstants.{LEAVES};
+ghost use Rattle.sq_tree.specs.Node.{parent};
 ghost use Rattle.sq_status.specs.View.{entries};
 ghost use Rattle.sq_status.specs.Plays.{KnowsSplit, Found, Won};
 ghost use Rattle.sq_status.specs.Seat.{IsSameSeat};
 
-use super::calls::FIRST_LEAF;
 use super::{StatusTree, TreeSeat};
-use sq_tree::Status;
+use sq_tree::{Leaf, NodeId, Status};
 
 /// What became of a claim of a leaf.
 #[derive(Clone, Copy, Debug, PartialEq, Eq)]
 pub enum LeafClaim {
     /// The leaf's node is claimed. This is the node.
-    Claimed(u64),
+    Claimed(NodeId),
     /// A pull has the leaf already. These are the node and the status that was found: the leaf's own node
     /// or one above it, claimed or further.
-    Held(u64, Status),
+    Held(NodeId, Status),
 }
 
 impl StatusTree {
     ghost use Rattle.sq_status.specs.Walks.{is_taken, WalkedLeaf, Searched, ClaimedOnly, claims_of_walk, claims_of_search};
 
     // Splits an inner node whose parent is split, or finds it split. Another status is an `Err`.
-    fn pass(&self, seat: &mut TreeSeat, n: u64) -> Result<(), Status>
+    fn pass(&self, seat: &mut TreeSeat, node: NodeId) -> Result<(), Status>
         requires tree { seat.old.tree ≡ self.now }
-        requires inner { IsTrue (is_node n) × (n < 32) }
-        requires live { 1 < n → KnowsSplit seat.old.view (parent n) }
+        requires inner { node < LEAVES }
+        requires live { 1 < node → KnowsSplit seat.old.view (parent node) }
         ensures seat { IsSameSeat seat.old seat.new }
         ensures passed { MatchResult result
-            (λ _. Won seat.old.view n Split seat.new.view ⊎ Found seat.old.view n Split seat.new.view)
-            (λ found. IsTrue (is_taken found) × Found seat.old.view n found seat.new.view) }
+            (λ _. Won seat.old.view node Split seat.new.view ⊎ Found seat.old.view node Split seat.new.view)
+            (λ found. IsTrue (is_taken found) × Found seat.old.view node found seat.new.view) }
     {
-        match self.advance(seat, n, Status::Free, Status::Split) {
+        match self.advance(seat, node, Status::Free, Status::Split) {
             Ok(()) | Err(Status::Split) => Ok(()),
             Err(found) => Err(found),
         }
     }
 
     /// Claims the leaf's node, and splits the nodes above it where they are free. This takes at most six
-    /// steps, from node 1 downward. The leaf is below 32.
-    pub fn claim_leaf(&self, seat: &mut TreeSeat, leaf: u64, pull: u32) -> LeafClaim
+    /// steps, from node 1 downward.
+    pub fn claim_leaf(&self, seat: &mut TreeSeat, leaf: Leaf, pull: u32) -> LeafClaim
         requires tree { seat.old.tree ≡ self.now }
-        requires leaf { leaf < 32 }
         ensures seat { IsSameSeat seat.old seat.new }
         ensures walk { WalkedLeaf leaf pull seat.old.view seat.new.view result }
         ensures claims { ClaimedOnly seat.old.view (claims_of_walk pull result) seat.new.view }
         ensures entries { entries seat.new.view ≤ entries seat.old.view + 6 }
     {
-        let end = FIRST_LEAF + leaf;
-        for levels in (1..=5u32).rev() {
-            let n = end >> levels;
-            if let Err(found) = self.pass(seat, n) {
-                return LeafClaim::Held(n, found);
+        let own = leaf.node();
+        for levels in (1..=5).rev() {
+            let node = leaf.node_above(levels);
+            if let Err(found) = self.pass(seat, node) {
+                return LeafClaim::Held(node, found);
             }
         }
-        match self.advance(seat, end, Status::Free, Status::Claimed(pull)) {
-            Ok(()) => LeafClaim::Claimed(end),
-            Err(found) => LeafClaim::Held(end, found),
+        match self.advance(seat, own, Status::Free, Status::Claimed(pull)) {
+            Ok(()) => LeafClaim::Claimed(own),
+            Err(found) => LeafClaim::Held(own, found),
         }
     }
 
     /// Claims the first node, from node 1 downward and in order of the leaves, that is free to it, or none
     /// where each leaf has a pull. This takes at most 63 steps.
-    pub fn claim_any(&self, seat: &mut TreeSeat, pull: u32) -> Option<u64>
+    pub fn claim_any(&self, seat: &mut TreeSeat, pull: u32) -> Option<NodeId>
         requires tree { seat.old.tree ≡ self.now }
         ensures seat { IsSameSeat seat.old seat.new }
         ensures search { Searched 1 pull seat.old.view seat.new.view result }
         ensures claims { ClaimedOnly seat.old.view (claims_of_search pull result) seat.new.view }
         ensures entries { entries seat.new.view ≤ entries seat.old.view + 63 }
     {
-        self.claim_under(seat, 1, pull)
+        self.claim_under(seat, NodeId::WHOLE, pull)
     }
 
     // The same from a live node downward.
-    fn claim_under(&self, seat: &mut TreeSeat, n: u64, pull: u32) -> Option<u64>
+    fn claim_under(&self, seat: &mut TreeSeat, node: NodeId, pull: u32) -> Option<NodeId>
         requires tree { seat.old.tree ≡ self.now }
-        requires node { IsTrue (is_node n) }
-        requires live { 1 < n → KnowsSplit seat.old.view (parent n) }
+        requires live { 1 < node → KnowsSplit seat.old.view (parent node) }
         ensures seat { IsSameSeat seat.old seat.new }
-        ensures search { Searched n pull seat.old.view seat.new.view result }
+        ensures search { Searched node pull seat.old.view seat.new.view result }
     {
-        match self.advance(seat, n, Status::Free, Status::Claimed(pull)) {
-            Ok(()) => Some(n),
-            Err(Status::Split) => match self.claim_under(seat, 2 * n, pull) {
+        match self.advance(seat, node, Status::Free, Status::Claimed(pull)) {
+            Ok(()) => Some(node),
+            Err(Status::Split) => match self.claim_under(seat, node.low_half(), pull) {
                 Some(claimed) => Some(claimed),
-                None => self.claim_under(seat, 2 * n + 1, pull),
+                None => self.claim_under(seat, node.high_half(), pull),
             },
             Err(_) => None,
         }

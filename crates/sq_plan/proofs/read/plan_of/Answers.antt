@@ -6,7 +6,7 @@ use Rattle.sq_plan.proofs.read.plan_of.Goals as goal
 
 pub ranges_of-requires : goal.ranges_of-requires
 ranges_of-requires c =
-    let draft = c.in_ok-draft.ensures in
-    let passed = c.in_ok-parts.ensures draft.0 draft.1 in
-    let is_plan = (checked-ok _ draft.0 _ passed).0 in
-    subst AreSmall (sym draft.1.items) (small_owners c.in_ok-draft.draft.parts draft.0 (omega (arith, is_plan.few_parts)) is_plan.owners)
+    let fields = c.in_ok-fields.ensures in
+    let passed = c.in_ok-parts.ensures fields.0 fields.1 in
+    let is_plan = (checked-ok _ fields.0 _ passed).0 in
+    subst AreSmall (sym fields.1.items) (small_owners c.in_ok-fields.fields.parts fields.0 (omega (arith, is_plan.few_parts)) is_plan.owners)

@@ -1,22 +1,23 @@
 use Rattle.std.proofs.Common.{◌≡◌, [], ◌∷◌, ◌++◌, length, sym, ap, ◌∙◌, arith}
 use Rattle.std.proofs.lemmas.Bool.{le-leb, lt-leb}
+use Rattle.sq_ranges.specs.declared.segment.TheConstants.{SEGMENT_LIMIT}
 use Rattle.sq_ranges.specs.ReconValue.{segments_of}
 use Rattle.sq_ranges.specs.Moves.{moves_of}
 use Rattle.sq_ranges.proofs.Cuts.{length-segments_of-append, length-segments_of-push, split_more, split_all}
-use Rattle.sq_ranges.proofs.Sweeps.{comes_within}
+use Rattle.sq_ranges.proofs.Sweeps.{runs_within}
 use Rattle.sq_ranges.proofs.cut.fits.Goals as goal
 
 pub segment_count-count-requires-clause-some : goal.segment_count-count-requires-clause-some
 segment_count-count-requires-clause-some c =
     let ahead = c.loop-run.invariant.ahead in
     let next = c.in-Some.ensures.next ahead.1 ahead.3 in
-    (comes_within c.loop-run.sweep c.in-Some.run' ahead.1 next.0 ahead.3 next.1).0
+    (runs_within c.loop-run.sweep c.in-Some.run' ahead.1 next.0 ahead.3 next.1).0
 
 pub segment_count-count-requires-clause-within : goal.segment_count-count-requires-clause-within
 segment_count-count-requires-clause-within c =
     let ahead = c.loop-run.invariant.ahead in
     let next = c.in-Some.ensures.next ahead.1 ahead.3 in
-    (comes_within c.loop-run.sweep c.in-Some.run' ahead.1 next.0 ahead.3 next.1).1
+    (runs_within c.loop-run.sweep c.in-Some.run' ahead.1 next.0 ahead.3 next.1).1
 
 pub returns-then-count-gt-SEGMENT_LIMIT : goal.returns-then-count-gt-SEGMENT_LIMIT
 returns-then-count-gt-SEGMENT_LIMIT c =
@@ -29,7 +30,7 @@ returns-then-count-gt-SEGMENT_LIMIT c =
     let long = ap (λ ranges. length (segments_of width ranges)) is ∙ length-segments_of-append width done next.0 in
     let more = length-segments_of-push width ahead.0 c.in-Some.run' in
     let over = c.if-count-gt-SEGMENT_LIMIT.true in
-    sym (lt-leb (length (segments_of width moves)) 256 (omega (arith, long, more, ahead.4, over, c.segment_count-count.ensures.count)))
+    sym (lt-leb (length (segments_of width moves)) SEGMENT_LIMIT (omega (arith, long, more, ahead.4, over, c.segment_count-count.ensures.count)))
 
 pub loop-run-preserved : goal.loop-run-preserved
 loop-run-preserved c =
@@ -48,4 +49,4 @@ returns c =
     let ahead = c.loop-run.invariant.ahead in
     let none = c.in_default.ensures.next ahead.1 ahead.3 in
     let all = ap (λ ranges. length (segments_of c.args.width ranges)) (split_all moves ahead.0 ahead.1 ahead.2 none) in
-    sym (le-leb (length (segments_of c.args.width moves)) 256 (omega (arith, all, ahead.4, c.loop-run.invariant.few)))
+    sym (le-leb (length (segments_of c.args.width moves)) SEGMENT_LIMIT (omega (arith, all, ahead.4, c.loop-run.invariant.few)))

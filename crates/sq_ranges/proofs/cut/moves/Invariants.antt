@@ -1,11 +1,11 @@
 use Rattle.std.proofs.Common.{◌≡◌, ◌++◌, List}
 use Rattle.sq_ranges.specs.declared.recon.Range.{Range}
 use Rattle.sq_ranges.specs.Moves.{moves_of}
-use Rattle.sq_ranges.specs.Sweep.{ComesTo, left}
+use Rattle.sq_ranges.specs.Sweep.{HasAhead, left}
 use Rattle.sq_ranges.proofs.cut.moves.Given as goal
 
 abbrev pub invariant-loop-run : goal.invariant-loop-run
-invariant-loop-run l = (rest : List Range) × (moves_of l.old l.new ≡ l.moves.items ++ rest) × ComesTo l.sweep rest
+invariant-loop-run l = (rest : List Range) × (moves_of l.old l.new ≡ l.moves.items ++ rest) × HasAhead l.sweep rest
 
 abbrev pub decreases-loop-run : goal.decreases-loop-run
 decreases-loop-run l = left l.sweep

@@ -1,4 +1,5 @@
-use Rattle.std.proofs.Common.{sym, ◌∙◌, ◌-◌, ◌*◌, arith}
+use Rattle.std.proofs.Common.{sym, ◌∙◌, ◌-◌, arith}
+use Rattle.sq_ranges.specs.ReconValue.{segment_width}
 use Rattle.sq_ranges.proofs.Cuts.{count_is}
 use Rattle.sq_ranges.proofs.Segments.{width_bounds}
 use Rattle.sq_ranges.proofs.cut.segment_count.Goals as goal
@@ -7,4 +8,4 @@ pub returns-clause-count : goal.returns-clause-count
 returns-clause-count c =
     let range = c.args.range.now in
     let bounds = width_bounds c.args.width c.requires.width in
-    c.div_ceil.ensures ∙ sym (count_is (range.hi - range.lo) (32 * c.args.width) (omega arith))
+    c.div_ceil.ensures ∙ sym (count_is (range.hi - range.lo) (segment_width c.args.width) (omega arith))

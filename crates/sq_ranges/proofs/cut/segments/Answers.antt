@@ -1,6 +1,6 @@
 use Rattle.std.proofs.Common.{refl, length, arith}
 use Rattle.std.proofs.lemmas.Option.{slice_get_read}
-use Rattle.sq_plan.specs.PlanValue.{root_end}
+use Rattle.sq_schema.specs.declared.root.TheConstants.{ROOT_END}
 use Rattle.sq_ranges.proofs.Rows.{row_at}
 use Rattle.sq_ranges.proofs.Cuts.{Moves, row_from_rising}
 use Rattle.sq_ranges.proofs.cut.segments.Goals as goal
@@ -9,10 +9,10 @@ pub push_segments-requires-clause-some : goal.push_segments-requires-clause-some
 push_segments-requires-clause-some c =
     let ranges = c.args.ranges.now in
     let at = slice_get_read ranges (length ranges) c.loop-range.range-index c.range-item.result refl (omega arith) c.range-item.is in
-    (row_at Moves 0 root_end ranges c.loop-range.range-index c.range-item.result (row_from_rising 0 ranges (omega arith) c.requires.rising) at).some
+    (row_at Moves 0 ROOT_END ranges c.loop-range.range-index c.range-item.result (row_from_rising 0 ranges (omega arith) c.requires.rising) at).some
 
 pub push_segments-requires-clause-within : goal.push_segments-requires-clause-within
 push_segments-requires-clause-within c =
     let ranges = c.args.ranges.now in
     let at = slice_get_read ranges (length ranges) c.loop-range.range-index c.range-item.result refl (omega arith) c.range-item.is in
-    (row_at Moves 0 root_end ranges c.loop-range.range-index c.range-item.result (row_from_rising 0 ranges (omega arith) c.requires.rising) at).high
+    (row_at Moves 0 ROOT_END ranges c.loop-range.range-index c.range-item.result (row_from_rising 0 ranges (omega arith) c.requires.rising) at).high

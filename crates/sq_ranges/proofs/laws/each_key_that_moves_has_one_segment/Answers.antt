@@ -1,12 +1,13 @@
 use Rattle.std.proofs.Common.{◌≡◌, ℕ, ◌<◌, Option, Some, None, refl}
-use Rattle.sq_plan.specs.PlanValue.{PlanValue, root_end}
+use Rattle.sq_schema.specs.declared.root.TheConstants.{ROOT_END}
+use Rattle.sq_plan.specs.PlanValue.{PlanValue}
 use Rattle.sq_ranges.specs.ReconValue.{ReconValue, segment_of}
 use Rattle.sq_ranges.specs.Between.{IsReconOf}
-use Rattle.sq_ranges.specs.Laws.{Tells}
+use Rattle.sq_ranges.specs.Laws.{IsSegmentOf}
 use Rattle.sq_ranges.proofs.Segments.{found_owners, unfound_owner, segment_run, one_segment}
 use Rattle.sq_ranges.proofs.laws.each_key_that_moves_has_one_segment.Goals as goal
 
-told : (old new : PlanValue) (width : ℕ) (recon : ReconValue) (key : ℕ) → IsReconOf old new width recon → key < root_end → (found : Option ℕ) → segment_of recon.segments key ≡ found → Tells old new recon.segments key found
+told : (old new : PlanValue) (width : ℕ) (recon : ReconValue) (key : ℕ) → IsReconOf old new width recon → key < ROOT_END → (found : Option ℕ) → segment_of recon.segments key ≡ found → IsSegmentOf old new recon.segments key found
 told old new width recon key is within None e = unfound_owner recon is.whole old new is.moves key within e
 told old new width recon key is within (Some i) e =
     let found = found_owners recon is.whole old new is.moves key i e in (

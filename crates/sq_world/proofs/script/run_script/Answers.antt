@@ -1,7 +1,7 @@
-use Rattle.std.proofs.Common.{◌≡◌, [], ◌∷◌, ap, ◌∙◌, subst}
+use Rattle.std.proofs.Common.{◌≡◌, ◌∷◌, ap, ◌∙◌, subst}
 use Rattle.std.specs.Io.KnownBytes.{Appends}
 use Rattle.sq_text.specs.declared.piece.Piece.{Piece}
-use Rattle.sq_text.specs.Pieces.{PieceValue, Line, Rest, Endless, TooMany, view_of}
+use Rattle.sq_text.specs.Pieces.{Line, Rest, Endless, TooMany, view_of}
 use Rattle.sq_state.specs.Dump.{dump}
 use Rattle.sq_world.proofs.Scripts.{begun, on_line, on_rest, at_end, over_endless, over_many}
 use Rattle.sq_world.proofs.script.run_script.Goals as goal

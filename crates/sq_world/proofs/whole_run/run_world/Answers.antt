@@ -1,5 +1,5 @@
-use Rattle.std.proofs.Common.{subst, sym, ap, ◌∙◌, arith, List, ◌∷◌, ◌++◌, [], ◌≡◌, ◌+◌, length, take}
-use Rattle.sq_turn.specs.Goes.{Goes}
+use Rattle.std.proofs.Common.{subst, sym, ap, ◌∙◌, arith, ◌+◌, take}
+use Rattle.sq_transition.specs.Headline.{KeepsHeadline}
 use Rattle.sq_world.specs.History.{history_of}
 use Rattle.sq_world.proofs.Histories.{history_grows}
 use Rattle.sq_world.proofs.whole_run.run_world.Goals as goal
@@ -11,12 +11,12 @@ loop-step-preserved c =
     let answers = c.loop-step.answers.items in
     let at = c.loop-step.step-index in
     let step = c.step-item.result in
-    let told = c.step.result in
+    let given = c.step.result in
     let so_far = c.loop-step.invariant in
     let went = c.step.ensures.headline c.args.opening (history_of (take at steps) answers) c.in_ok-world.ensures.opened.0 so_far.goes.legal so_far.goes.holds in
-    let grown = history_grows steps answers at step told c.loop-step-test.true so_far.count c.step-item.is in
+    let grown = history_grows steps answers at step given c.loop-step-test.true so_far.count c.step-item.is in
     record {
       count = omega (arith, so_far.count, c.push_reserved.ensures.len);
       room = omega (arith, so_far.room, c.push_reserved.ensures.capacity);
-      goes = subst (λ t. Goes c.args.opening t c.step.new.self) (sym (ap (history_of (take (at + 1) steps)) c.push_reserved.ensures.items ∙ grown)) went;
+      goes = subst (λ t. KeepsHeadline c.args.opening t c.step.new.self) (sym (ap (history_of (take (at + 1) steps)) c.push_reserved.ensures.items ∙ grown)) went;
     }

@@ -1,5 +1,5 @@
 use Rattle.std.proofs.Common.{sym, ap, ◌∙◌}
-use Rattle.sq_turn.specs.LinkTurn.{next_work}
+use Rattle.sq_transition.specs.LinkResults.{next_work}
 use Rattle.sq_parts.proofs.Works.{rests_found, was_cut}
 use Rattle.sq_parts.proofs.link.LinkState.cut.Goals as goal
 

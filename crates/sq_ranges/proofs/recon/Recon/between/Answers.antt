@@ -1,12 +1,12 @@
 use Rattle.std.proofs.Common.{sym, ap, ◌∙◌, subst, List}
 use Rattle.sq_ranges.specs.declared.recon.Range.{Range}
-use Rattle.sq_ranges.specs.ReconValue.{are_rising, segments_of, AreLinks}
+use Rattle.sq_ranges.specs.ReconValue.{are_in_key_order, segments_of, AreLinks}
 use Rattle.sq_ranges.proofs.Made.{moves_of-rising, fine, made}
 use Rattle.sq_ranges.proofs.recon.Recon.between.Goals as goal
 
 pub segments-requires-clause-rising : goal.segments-requires-clause-rising
 segments-requires-clause-rising c =
-    ap (are_rising 0) (c.as_slice.ensures.value ∙ c.in_ok-ranges.ensures.moves) ∙ moves_of-rising c.args.old.now c.args.new.now c.moves.ensures.plans.0 c.moves.ensures.plans.1
+    ap (are_in_key_order 0) (c.as_slice.ensures.value ∙ c.in_ok-ranges.ensures.moves) ∙ moves_of-rising c.args.old.now c.args.new.now c.moves.ensures.plans.0 c.moves.ensures.plans.1
 
 pub invariant_of-result : goal.invariant_of-result
 invariant_of-result c =

@@ -1,6 +1,6 @@
 use Rattle.std.proofs.Common.{◌==◌, sym, arith}
 use Rattle.std.proofs.lemmas.Bool.{not-true, not-false, eqb-true, eqb-false}
-use Rattle.sq_ranges.proofs.Sweeps.{Went, comes_past, comes_first, comes_none, went_fewer}
+use Rattle.sq_ranges.proofs.Sweeps.{Went, runs_past, runs_first, runs_none, went_fewer}
 use Rattle.sq_ranges.proofs.sweep.Sweep.next_run.Goals as goal
 
 pub returns-then-ne : goal.returns-then-ne
@@ -8,8 +8,8 @@ returns-then-ne c =
     let piece = c.in-Some.piece in
     let went : Went c.loop-piece.self c.skip_to.new.self piece = record { found = sym c.in-Some.ensures; at = c.skip_to.ensures.at; olds = c.skip_to.ensures.olds; news = c.skip_to.ensures.news } in
     record {
-      next = λ runs comes.
-          comes_first c.loop-piece.self c.skip_to.new.self c.extended.new.self piece c.extended.result runs (c.loop-piece.invariant.comes runs comes) went
+      next = λ runs has.
+          runs_first c.loop-piece.self c.skip_to.new.self c.extended.new.self piece c.extended.result runs (c.loop-piece.invariant.has runs has) went
           (eqb-false piece.src piece.dst (not-true (piece.src == piece.dst) (sym c.if-ne.ensures)))
           c.extended.ensures.whole;
       fewer = omega (arith, went_fewer c.loop-piece.self c.skip_to.new.self piece went);
@@ -20,11 +20,11 @@ loop-piece-preserved c =
     let piece = c.in-Some.piece in
     let went : Went c.loop-piece.self c.skip_to.new.self piece = record { found = sym c.in-Some.ensures; at = c.skip_to.ensures.at; olds = c.skip_to.ensures.olds; news = c.skip_to.ensures.news } in
     record {
-      comes = λ runs comes.
-          comes_past c.loop-piece.self c.skip_to.new.self piece runs (c.loop-piece.invariant.comes runs comes) went
+      has = λ runs has.
+          runs_past c.loop-piece.self c.skip_to.new.self piece runs (c.loop-piece.invariant.has runs has) went
           (eqb-true piece.src piece.dst (not-false (piece.src == piece.dst) (sym c.if-ne.ensures)));
       fewer = omega (arith, went_fewer c.loop-piece.self c.skip_to.new.self piece went);
     }
 
 pub returns-clause-next : goal.returns-clause-next
-returns-clause-next c = λ runs comes. comes_none c.loop-piece.self runs (c.loop-piece.invariant.comes runs comes) (sym c.in_default.ensures)
+returns-clause-next c = λ runs has. runs_none c.loop-piece.self runs (c.loop-piece.invariant.has runs has) (sym c.in_default.ensures)

@@ -1,11 +1,11 @@
 use Rattle.std.proofs.Common.{List, ◌≤◌}
 use Rattle.sq_ranges.specs.declared.recon.Range.{Range}
-use Rattle.sq_ranges.specs.Sweep.{ComesTo, left}
+use Rattle.sq_ranges.specs.Sweep.{HasAhead, left}
 use Rattle.sq_ranges.proofs.sweep.Sweep.next_run.Given as goal
 
 abbrev pub invariant-loop-piece : goal.invariant-loop-piece
 invariant-loop-piece l = record {
-  comes : (runs : List Range) → ComesTo l.initial.self runs → ComesTo l.self runs;
+  has : (runs : List Range) → HasAhead l.initial.self runs → HasAhead l.self runs;
   fewer : left l.self ≤ left l.initial.self;
 }
 

@@ -1,7 +1,7 @@
 use Rattle.std.proofs.Common.{◌≡◌, Some, ap, ◌∙◌, arith}
 use Rattle.std.proofs.lemmas.Bool.Decides.{nat_tests}
 use Rattle.sq_schema.specs.Effect.{row_at}
-use Rattle.sq_schema.proofs.Drafts.{size_of}
+use Rattle.sq_schema.proofs.PendingWrites.{size_of}
 use Rattle.sq_schema.proofs.Kept.{IsRowList-with_row}
 use Rattle.sq_schema.proofs.Sizes.{rows_size_bound}
 use Rattle.sq_schema.proofs.Weights.{rows_size-with_write}

@@ -1,7 +1,7 @@
 use Rattle.std.proofs.Common.{◌≡◌, ◌<◌, ◌||◌, not, true, false, length, get_or, sym, ap, ◌∙◌, arith, below_more}
 use Rattle.std.specs.Prelude.{◌≢◌}
-use Rattle.sq_turn.specs.WorldValue.{WorldValue}
-use Rattle.sq_turn.specs.LeaderTurn.{into, whole}
+use Rattle.sq_transition.specs.WorldValue.{WorldValue}
+use Rattle.sq_transition.specs.LeaderResults.{is_segment_into, is_segment_whole}
 use Rattle.sq_state.proofs.Places.{all_pass, one_fails, goes_here, goes_elsewhere, whole_there, missing, not_wanted, not_missing}
 use Rattle.sq_state.proofs.state.State.has_all.Goals as goal
 use Rattle.sq_state.proofs.state.State.has_all.Goals.{else-from-part-via-then-from-part+else-not-is_whole, else-from-part-via-else-from-part}
@@ -19,10 +19,10 @@ returns-then-not-is_whole c =
     let is : range ≡ get_or w.recon.segments seg range = rw ranges c.range-item.is in
     let same : range.dst ≡ part = sym c.number.ensures ∙ sym c.from.ensures ∙ c.if-from-part.true in
     let at : state ≡ get_or w.segments seg state = rw segments c.index.ensures in
-    let told : c.is_whole.result ≡ whole w seg = c.is_whole.ensures ∙ whole_there w seg state (omega arith) at in
+    let is_so : c.is_whole.result ≡ is_segment_whole w seg = c.is_whole.ensures ∙ whole_there w seg state (omega arith) at in
     let unset : c.is_whole.result ≡ false = c.if-not-is_whole.true in
-    let wants : into w part seg ≡ true = goes_here w.recon.segments part seg range low is same in
-    sym (one_fails (λ s. not (into w part s) || whole w s) (length w.recon.segments) seg low (missing (into w part seg) (whole w seg) wants (sym told ∙ unset)))
+    let wants : is_segment_into w part seg ≡ true = goes_here w.recon.segments part seg range low is same in
+    sym (one_fails (λ s. not (is_segment_into w part s) || is_segment_whole w s) (length w.recon.segments) seg low (missing (is_segment_into w part seg) (is_segment_whole w seg) wants (sym is_so ∙ unset)))
 
 pub loop-seg-preserved : goal.loop-seg-preserved
 loop-seg-preserved c =
@@ -34,18 +34,18 @@ loop-seg-preserved c =
     let segments : w.segments ≡ c.self.inside.segments.items = ap (λ (v : WorldValue). v.segments) (sym c.self.view_is) in
     let low : seg < length w.recon.segments = rw ranges (omega arith) in
     let is : range ≡ get_or w.recon.segments seg range = rw ranges c.range-item.is in
-    let here : (not (into w part seg) || whole w seg) ≡ true = elim c.else-from-part.branch [
+    let here : (not (is_segment_into w part seg) || is_segment_whole w seg) ≡ true = elim c.else-from-part.branch [
       | else-from-part-via-then-from-part+else-not-is_whole b ↦
           let state = b.index.result.now in
           let at : state ≡ get_or w.segments seg state = rw segments b.index.ensures in
-          let told : b.is_whole.result ≡ whole w seg = b.is_whole.ensures ∙ whole_there w seg state (omega arith) at in
+          let is_so : b.is_whole.result ≡ is_segment_whole w seg = b.is_whole.ensures ∙ whole_there w seg state (omega arith) at in
           let set : b.is_whole.result ≡ true = b.if-not-is_whole.false in
-          not_missing (into w part seg) (whole w seg) (sym told ∙ set)
+          not_missing (is_segment_into w part seg) (is_segment_whole w seg) (sym is_so ∙ set)
       | else-from-part-via-else-from-part b ↦
           let other : range.dst ≢ part = λ same. b.if-from-part.false (c.from.ensures ∙ c.number.ensures ∙ same) in
-          not_wanted (into w part seg) (whole w seg) (goes_elsewhere w.recon.segments part seg range low is other)
+          not_wanted (is_segment_into w part seg) (is_segment_whole w seg) (goes_elsewhere w.recon.segments part seg range low is other)
     ] in
-    below_more (λ k. (not (into w part k) || whole w k) ≡ true) seg c.loop-seg.invariant here
+    below_more (λ k. (not (is_segment_into w part k) || is_segment_whole w k) ≡ true) seg c.loop-seg.invariant here
 
 pub returns : goal.returns
 returns c =
@@ -53,4 +53,4 @@ returns c =
     let part = c.args.part in
     let ranges : w.recon.segments ≡ c.segments-range-items.result.now = ap (λ (v : WorldValue). v.recon.segments) (sym c.self.view_is) ∙ sym c.segments-range-items.ensures.segments in
     let all : length w.recon.segments ≡ length c.segments-range-items.result.now = rw ranges in
-    sym (all_pass (λ k. not (into w part k) || whole w k) 0 (length w.recon.segments) (λ k low high. c.loop-seg.invariant k (omega arith)))
+    sym (all_pass (λ k. not (is_segment_into w part k) || is_segment_whole w k) 0 (length w.recon.segments) (λ k low high. c.loop-seg.invariant k (omega arith)))

@@ -1,12 +1,12 @@
 use Rattle.std.proofs.Common.{refl}
-use Rattle.sq_state.proofs.Opened.{opened_is}
+use Rattle.sq_state.proofs.Opened.{opened_holds}
 use Rattle.sq_state.proofs.state.State.open.Goals as goal
 
 pub returns-clause-opened : goal.returns-clause-opened
 returns-clause-opened c =
     let moved = c.into_parts-schema.ensures in
     let fresh = c.in-Ok.ensures in
-    opened_is c.args.opening _ moved.set_up
+    opened_holds c.args.opening _ moved.set_up
     (record {
       old = moved.old;
       new = moved.new;

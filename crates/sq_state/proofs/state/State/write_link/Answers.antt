@@ -1,5 +1,5 @@
 use Rattle.std.proofs.Common.{◌≡◌, Some, sym, ap, ◌∙◌}
-use Rattle.sq_turn.specs.WorldValue.{WorldValue, link_index}
+use Rattle.sq_transition.specs.WorldValue.{WorldValue, link_index}
 use Rattle.sq_state.proofs.Dumps.{link_said, same_text}
 use Rattle.sq_state.proofs.state.State.write_link.Goals as goal
 

@@ -1,5 +1,5 @@
 use Rattle.std.proofs.Common.{◌≡◌, ◌+◌, ◌<◌, length, refl, sym, ap, arith}
-use Rattle.sq_turn.specs.WorldValue.{WorldValue}
+use Rattle.sq_transition.specs.WorldValue.{WorldValue}
 use Rattle.sq_state.specs.Dump.{part_lines}
 use Rattle.sq_state.proofs.Dumps.{one_more, part_said}
 use Rattle.sq_state.proofs.state.State.write_parts.Goals as goal

@@ -1,5 +1,5 @@
 use Rattle.std.proofs.Common.{◌+◌, refl, ap}
-use Rattle.sq_turn.specs.WorldValue.{link_index}
+use Rattle.sq_transition.specs.WorldValue.{link_index}
 use Rattle.sq_state.specs.Dump.{link_lines}
 use Rattle.sq_state.proofs.Dumps.{one_more}
 use Rattle.sq_state.proofs.state.State.write_source.Goals as goal

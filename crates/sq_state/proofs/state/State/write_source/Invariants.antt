@@ -1,6 +1,6 @@
 use Rattle.std.specs.List.{flat_map, range_with_len}
 use Rattle.std.specs.Io.KnownBytes.{Appends}
-use Rattle.sq_turn.specs.WorldValue.{link_index}
+use Rattle.sq_transition.specs.WorldValue.{link_index}
 use Rattle.sq_state.specs.Dump.{link_lines}
 use Rattle.sq_state.proofs.state.State.write_source.Given as goal
 

@@ -1,4 +1,4 @@
-use Rattle.std.proofs.Common.{subst, sym, ap, ◌∙◌, arith, ◌≡◌, ℕ, List, [], ◌∷◌, ◌++◌, length, append_assoc}
+use Rattle.std.proofs.Common.{subst, sym, ap, ◌∙◌, arith, ◌≡◌, ℕ, [], ◌∷◌, ◌++◌, length, append_assoc}
 use Rattle.std.specs.Prelude.{true, false, ◌==◌, not}
 use Rattle.sq_plan.specs.PlanValue.{owner}
 use Rattle.std.specs.List.{AllPass}
@@ -7,8 +7,8 @@ use Rattle.std.proofs.lemmas.List.Elements.{All-tail}
 use Rattle.sq_schema.specs.Effect.{RowList}
 use Rattle.sq_schema.specs.Family.{FamilyValue}
 use Rattle.sq_schema.specs.Rows.{is_rooted}
-use Rattle.sq_schema.specs.Table.{TableValue, is_opening}
-use Rattle.sq_store.proofs.Rising.{both_right}
+use Rattle.sq_schema.specs.Table.{is_opening}
+use Rattle.std.proofs.lemmas.Bool.{and_parts}
 use Rattle.sq_state.specs.Openings.{opened_family, opened_families}
 use Rattle.sq_state.proofs.Families.{kept, left_out}
 use Rattle.sq_state.proofs.state.open.families.Goals as goal
@@ -31,7 +31,7 @@ pub opened-requires : goal.opened-requires
 opened-requires c =
     let rows = c.in-Some.rows.now in
     let all = subst (AllPass (λ (entry : ℕ × RowList). is_opening entry.1)) c.in-Some.ensures.steps c.loop-root.invariant.3 in
-    ap is_rooted c.in_ok-clone.ensures.cases ∙ both_right (not (length rows == 0)) (is_rooted rows) (all 0 (c.in-Some.root.now, rows) (omega arith))
+    ap is_rooted c.in_ok-clone.ensures.cases ∙ (and_parts (not (length rows == 0)) (is_rooted rows) (all 0 (c.in-Some.root.now, rows) (omega arith))).1
 
 -- src/state/open.rt:113:5
 pub loop-root-preserved-in_ok-push : goal.loop-root-preserved-in_ok-push

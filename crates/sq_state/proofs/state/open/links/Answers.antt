@@ -1,6 +1,5 @@
 use Rattle.std.proofs.Common.{ap, ◌∙◌, arith, ◌≡◌, ℕ, map, take, length}
 use Rattle.std.proofs.Math.Seq.{take-length}
-use Rattle.sq_state.specs.Openings.{AreNewLinks}
 use Rattle.sq_parts.specs.LinkSteps.{opened_link}
 use Rattle.sq_state.proofs.state.open.links.Goals as goal
 

@@ -1,18 +1,17 @@
 use Rattle.std.proofs.Common.{subst, sym, ap, ◌∙◌, arith, ◌≡◌, ℕ, ◌+◌, [], ◌∷◌, ◌++◌, length, get_or, below_more}
 use Rattle.std.proofs.lemmas.List.{get_or_append_left, length-append}
 use Rattle.std.proofs.Math.Seq.{get_or-append_seam}
-use Rattle.sq_turn.specs.WorldValue.{no_segment}
-use Rattle.sq_state.specs.Openings.{AreNewSegments}
+use Rattle.sq_transition.specs.WorldValue.{no_segment}
 use Rattle.sq_parts.specs.Segments.{IsNewSegment}
 use Rattle.sq_state.proofs.state.open.segments.Goals as goal
 
-pub loop-seg-preserved : goal.loop-seg-preserved
-loop-seg-preserved c =
+pub loop-number-preserved : goal.loop-number-preserved
+loop-number-preserved c =
     let recon = c.args.recon.now in
-    let before = c.loop-seg.segments.items in
-    let new = c.new.result in
-    let n = c.loop-seg.seg in
-    let count : length before ≡ n = c.loop-seg.invariant.0 in
+    let before = c.loop-number.segments.items in
+    let new = c.new-in-loop-number.result in
+    let n = c.loop-number.number in
+    let count : length before ≡ n = c.loop-number.invariant.0 in
     let all : c.push.new.self.items ≡ before ++ new ∷ [] = c.in_ok-push.ensures.items in
     let longer = length-append before (new ∷ []) in
     let last : get_or c.push.new.self.items n no_segment ≡ new =
@@ -22,14 +21,14 @@ loop-seg-preserved c =
           (λ seg low.
           subst (IsNewSegment recon seg)
           (sym (ap (λ xs. get_or xs seg no_segment) all ∙ get_or_append_left before (new ∷ []) no_segment seg (omega (arith, count, low))))
-          (c.loop-seg.invariant.1 seg low))
-          (subst (IsNewSegment recon n) (sym last) c.new.ensures),
+          (c.loop-number.invariant.1 seg low))
+          (subst (IsNewSegment recon n) (sym last) (subst (λ (seg : ℕ). IsNewSegment recon seg new) c.in-Some.ensures.1 c.new-in-loop-number.ensures)),
     )
 
 pub returns : goal.returns
 returns c =
-    let end : c.loop-seg.seg ≡ length c.segments.result.now = omega (arith, c.loop-seg-test.false, c.loop-seg.auto.seg-end) in
+    let end : c.loop-number.number ≡ length c.segments.result.now = omega (arith, c.loop-number-test.false, c.loop-number.auto.number-end) in
     record {
-      count = c.loop-seg.invariant.0 ∙ end ∙ ap length c.segments.ensures.segments;
-      each = λ seg low. c.loop-seg.invariant.1 seg (omega (arith, low, c.loop-seg.invariant.0));
+      count = c.loop-number.invariant.0 ∙ end ∙ ap length c.segments.ensures.segments;
+      each = λ seg low. c.loop-number.invariant.1 seg (omega (arith, low, c.loop-number.invariant.0));
     }

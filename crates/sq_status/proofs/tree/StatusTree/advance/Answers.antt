@@ -1,35 +1,33 @@
-use Rattle.std.proofs.Common.{◌≢◌, ◌∙◌, ◌<◌, rules, sym, ap, subst, arith}
+use Rattle.std.proofs.Common.{◌≢◌, ◌∙◌, rules, sym, ap, subst, arith}
 use Rattle.sq_status.specs.declared.view.View.{View}
 use Rattle.sq_status.specs.View.{SameRole}
 use Rattle.sq_status.specs.Plays.{MayBring, Found, Won}
 use Rattle.sq_status.proofs.Exchanges.{advances_by}
-use Rattle.sq_status.proofs.Tellings.{node_bounds, Tried, tried, role, hit, miss, missed}
+use Rattle.sq_status.proofs.Outcomes.{WordTried, word_tried, role, hit, miss, missed}
 use Rattle.sq_status.proofs.tree.StatusTree.advance.Goals as goal
 use Rattle.sq_status.proofs.tree.StatusTree.advance.Goals.{After-compare_exchange-found}
 
 pub compare_exchange-found-requires : goal.compare_exchange-found-requires
 compare_exchange-found-requires c =
-    let bounds = node_bounds c.args.n c.requires.node in
-    let within : c.index-at.result < 63 = omega (arith, bounds.1, c.index-at.ensures) in
-    let may : MayBring c.seat.inside.seat.me.0 c.args.n c.args.new = subst (λ (v : View). MayBring v c.args.n c.args.new) (sym (ap (λ s. s.view) c.seat.view_is)) c.requires.step.1 in (
+    let may : MayBring c.seat.inside.seat.me.0 c.args.node c.args.new = subst (λ (v : View). MayBring v c.args.node c.args.new) (sym (ap (λ s. s.view) c.seat.view_is)) c.requires.step.1 in (
       search rules,
-      omega (arith, within, c.self.invariant.0),
-      advances_by _ _ _ _ c.args.n c.args.old c.args.new c.word-expected.result c.word.result (sym c.index-at.ensures) within c.seat.invariant.0 c.requires.step.0 c.word-expected.ensures c.word.ensures may,
+      omega (arith, c.index-at.ensures.bound, c.self.invariant.0),
+      advances_by _ _ _ _ c.args.node c.args.old c.args.new c.word-expected.result c.word.result (sym c.index-at.ensures.place) c.index-at.ensures.bound c.seat.invariant.0 c.requires.step.0 c.word-expected.ensures c.word.ensures may,
     )
 
-trial : (c : goal.After-compare_exchange-found) → Tried c.args.n c.args.new c.seat.inside.seat.me c.compare_exchange-found.result c.compare_exchange-found.new.seat.me
+trial : (c : goal.After-compare_exchange-found) → WordTried c.args.node c.args.new c.seat.inside.seat.me c.compare_exchange-found.result c.compare_exchange-found.new.seat.me
 trial c =
-    tried c.self.inside.table.shared.table_id.slots c.index-at.result c.args.n c.args.old c.args.new c.word-expected.result c.word.result c.seat.inside.seat.me c.compare_exchange-found.result c.compare_exchange-found.new.seat.me
-    c.index-at.ensures c.requires.step.0 c.word-expected.ensures c.word.ensures c.compare_exchange-found.ensures.2
+    word_tried c.self.inside.table.shared.table_id.slots c.index-at.result c.args.node c.args.old c.args.new c.word-expected.result c.word.result c.seat.inside.seat.me c.compare_exchange-found.result c.compare_exchange-found.new.seat.me
+    c.index-at.ensures.place c.requires.step.0 c.word-expected.ensures c.word.ensures c.compare_exchange-found.ensures.2
 
 -- the seat keeps its role
 same_role : (c : goal.After-compare_exchange-found) → SameRole c.seat.inside.seat.me.0 c.compare_exchange-found.new.seat.me.0
-same_role c = role c.args.n c.args.old c.args.new c.word-expected.result c.seat.inside.seat.me c.compare_exchange-found.result c.compare_exchange-found.new.seat.me c.requires.step.0 c.word-expected.ensures (trial c)
+same_role c = role c.args.node c.args.old c.args.new c.word-expected.result c.seat.inside.seat.me c.compare_exchange-found.result c.compare_exchange-found.new.seat.me c.requires.step.0 c.word-expected.ensures (trial c)
 
 pub from_word-requires : goal.from_word-requires
 from_word-requires c =
     let t = trial (goal.at.from_word-requires c).After-compare_exchange-found in
-    let found = missed c.args.n c.args.old c.args.new c.word-expected.result c.seat.inside.seat.me c.compare_exchange-found.result c.compare_exchange-found.new.seat.me c.requires.step.0 c.word-expected.ensures t c.if-found-expected.true in
+    let found = missed c.args.node c.args.old c.args.new c.word-expected.result c.seat.inside.seat.me c.compare_exchange-found.result c.compare_exchange-found.new.seat.me c.requires.step.0 c.word-expected.ensures t c.if-found-expected.true in
     (t.found, found.fits.0, t.is)
 
 pub invariant_of-seat : goal.invariant_of-seat
@@ -47,8 +45,8 @@ returns-then-found-expected-clause-seat c =
 pub returns-then-found-expected-clause-step : goal.returns-then-found-expected-clause-step
 returns-then-found-expected-clause-step c =
     let t = trial (goal.at.returns-then-found-expected-clause-step c).After-compare_exchange-found in
-    subst (λ (v : View). (c.from_word.result ≢ c.args.old) × Found v c.args.n c.from_word.result c.compare_exchange-found.new.seat.me.0) (ap (λ s. s.view) c.seat.view_is)
-    (miss c.args.n c.args.old c.args.new c.word-expected.result c.seat.inside.seat.me c.compare_exchange-found.result c.compare_exchange-found.new.seat.me c.requires.step.0 c.word-expected.ensures t c.if-found-expected.true c.from_word.result (c.from_word.ensures.only t.found t.is))
+    subst (λ (v : View). (c.from_word.result ≢ c.args.old) × Found v c.args.node c.from_word.result c.compare_exchange-found.new.seat.me.0) (ap (λ s. s.view) c.seat.view_is)
+    (miss c.args.node c.args.old c.args.new c.word-expected.result c.seat.inside.seat.me c.compare_exchange-found.result c.compare_exchange-found.new.seat.me c.requires.step.0 c.word-expected.ensures t c.if-found-expected.true c.from_word.result (c.from_word.ensures.only t.found t.is))
 
 pub invariant_of-seat-2 : goal.invariant_of-seat-2
 invariant_of-seat-2 c =
@@ -65,5 +63,5 @@ returns-clause-seat c =
 pub returns-clause-step : goal.returns-clause-step
 returns-clause-step c =
     let t = trial (goal.at.returns-clause-step c).After-compare_exchange-found in
-    subst (λ (v : View). Won v c.args.n c.args.new c.compare_exchange-found.new.seat.me.0) (ap (λ s. s.view) c.seat.view_is)
-    (hit c.args.n c.args.old c.args.new c.word-expected.result c.seat.inside.seat.me c.compare_exchange-found.result c.compare_exchange-found.new.seat.me c.requires.step.0 c.word-expected.ensures t c.if-found-expected.false)
+    subst (λ (v : View). Won v c.args.node c.args.new c.compare_exchange-found.new.seat.me.0) (ap (λ s. s.view) c.seat.view_is)
+    (hit c.args.node c.args.old c.args.new c.word-expected.result c.seat.inside.seat.me c.compare_exchange-found.result c.compare_exchange-found.new.seat.me c.requires.step.0 c.word-expected.ensures t c.if-found-expected.false)

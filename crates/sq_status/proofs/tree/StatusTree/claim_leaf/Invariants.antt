@@ -1,3 +1,4 @@
+use Rattle.std.proofs.Common.{◌<◌}
 use Rattle.sq_status.specs.Seat.{IsSameSeat}
 use Rattle.sq_status.specs.Walks.{WalkedTo}
 use Rattle.sq_status.proofs.tree.StatusTree.claim_leaf.Given as goal
@@ -5,6 +6,7 @@ use Rattle.sq_status.proofs.tree.StatusTree.claim_leaf.Given as goal
 abbrev pub invariant-loop-levels : goal.invariant-loop-levels
 invariant-loop-levels l =
     record {
+      few : l.leaf < 32;
       seat : IsSameSeat l.fn.seat l.seat;
       walk : WalkedTo l.leaf l.levels l.fn.seat.view l.seat.view;
     }

@@ -11,7 +11,8 @@ returns-in-Split-clause-reading t c = λ depth deep.
     let status = status_at c.args.self.now in
     let looked = c.in-Split.ensures in
     let not_leaf = inner status looked.grown c.args.node (sym (ap is_split looked.status)) in
-    c.with.ensures ∙ reads_split status c.args.node c.reads_live.result c.reads_live-in-Split.result looked.status not_leaf c.reads_live.ensures.reading c.reads_live-in-Split.ensures.reading depth deep
+    c.with.ensures
+    ∙ reads_split status c.args.node c.reads_live.result c.reads_live-in-Split.result looked.status not_leaf (rw c.low_half.ensures.half at c.reads_live.ensures.reading) (rw c.high_half.ensures.half at c.reads_live-in-Split.ensures.reading) depth deep
 
 pub returns-in-Free-clause-reading : goal.returns-in-Free-clause-reading
 returns-in-Free-clause-reading t c = λ depth deep.

@@ -4,8 +4,8 @@ use Rattle.sq_tree.specs.Tree.{status_at}
 use Rattle.sq_tree.proofs.Covering.{LooksFrom}
 use Rattle.sq_tree.proofs.plain.PlainTree.covering.Given as goal
 
-abbrev pub invariant-loop-low : goal.invariant-loop-low
-invariant-loop-low l = LooksFrom (status_at l.self) l.leaf l.node (covering (status_at l.self) l.leaf)
+abbrev pub invariant-loop-leaf : goal.invariant-loop-leaf
+invariant-loop-leaf l = LooksFrom (status_at l.self) l.leaf l.node (covering (status_at l.self) l.leaf)
 
-abbrev pub decreases-loop-low : goal.decreases-loop-low
-decreases-loop-low l = 64 - l.node
+abbrev pub decreases-loop-leaf : goal.decreases-loop-leaf
+decreases-loop-leaf l = 64 - l.node

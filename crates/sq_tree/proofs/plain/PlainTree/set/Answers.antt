@@ -1,18 +1,27 @@
-use Rattle.std.proofs.Common.{◌≡◌, inl, inr, ◌-◌, ◌<◌, ◌∙◌, true, List, sym, ap, subst, length, slice_set, arith}
+use Rattle.std.proofs.Common.{◌≡◌, inl, inr, ◌-◌, ◌<◌, ◌∙◌, true, IsTrue, List, sym, ap, subst, length, slice_set, arith}
 use Rattle.std.proofs.lemmas.Bool.{cases_Bool}
 use Rattle.sq_tree.specs.declared.status.Status.{Status}
+use Rattle.sq_tree.specs.Node.{is_node}
 use Rattle.sq_tree.specs.Status.{is_free, is_live}
 use Rattle.sq_tree.specs.Tree.{status_at, with_status, IsGrown}
-use Rattle.sq_tree.proofs.Nested.{node_bounds}
+use Rattle.sq_tree.proofs.Nested.{node_within}
 use Rattle.sq_tree.proofs.Placed.{placed-set, statuses-with_status}
 use Rattle.sq_tree.proofs.Grown.{grown-set_at}
 use Rattle.sq_tree.proofs.plain.PlainTree.set.Goals as goal
 
-written : (c : goal.After-way_told-1) → slice_set c.self.inside.statuses (c.args.node - 1) c.args.status ≡ with_status c.args.self.now c.args.node c.args.status
+place : (c : goal.After-way_told-1) → c.index.result ≡ c.args.node - 1
+place c = omega arith
+
+node : (c : goal.After-way_told-1) → IsTrue (is_node c.args.node)
+node c = node_within c.args.node (omega arith) (omega arith)
+
+written : (c : goal.After-way_told-1) → slice_set c.self.inside.statuses c.index.result c.args.status ≡ with_status c.args.self.now c.args.node c.args.status
 written c =
-    let bounds = node_bounds c.args.node c.requires.node in
     let within : c.args.node - 1 < length c.self.inside.statuses = omega arith in
-    sym (placed-set c.self.inside.statuses (c.args.node - 1) c.args.status within) ∙ ap (λ sts. with_status sts c.args.node c.args.status) c.self.view_is
+    let at = place c in
+    ap (λ i. slice_set c.self.inside.statuses i c.args.status) at
+    ∙ sym (placed-set c.self.inside.statuses (c.args.node - 1) c.args.status within)
+    ∙ ap (λ sts. with_status sts c.args.node c.args.status) c.self.view_is
 
 pub invariant_of-self : goal.invariant_of-self
 invariant_of-self c =
@@ -22,8 +31,8 @@ invariant_of-self c =
       | inl free ↦ c.requires.live free
       | inr touched ↦ grown.live c.args.node touched
     ] in
-    let after = grown-set_at status c.args.node c.args.status grown c.requires.node live c.requires.whole c.requires.leaf in
-    subst (λ (sts : List Status). IsGrown (status_at sts)) (sym (written c)) (subst IsGrown (sym (statuses-with_status c.args.self.now c.args.node c.args.status c.requires.node)) after)
+    let after = grown-set_at status c.args.node c.args.status grown (node c) live c.requires.whole c.requires.leaf in
+    subst (λ (sts : List Status). IsGrown (status_at sts)) (sym (written c)) (subst IsGrown (sym (statuses-with_status c.args.self.now c.args.node c.args.status (node c))) after)
 
 pub returns : goal.returns
 returns c = written c

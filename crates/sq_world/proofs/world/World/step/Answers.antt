@@ -1,12 +1,6 @@
-use Rattle.std.proofs.Common.{subst, sym, rules, ◌∷◌, ◌≡◌, ℕ, ◌+◌, ◌-◌, ◌*◌, ◌<◌, ◌≤◌, length, ◌/◌, ◌%◌, Bool, true, false, nat_eq, nat_lt, List, [], ◌++◌, slice_index_or, slice_set, bit_and, bit_or, Fits, w8, w32, w64, Bor, MutBor}
-use Rattle.sq_ranges.specs.OpeningValue.{OpeningValue}
-use Rattle.sq_model.specs.Opening.{IsOpening}
-use Rattle.sq_model.specs.Trace.{Trace}
-use Rattle.sq_model.specs.Legal.{IsLegal}
-use Rattle.sq_turn.specs.Turn.{Turn}
-use Rattle.sq_turn.specs.Holds.{Holds}
-use Rattle.sq_turn.specs.Goes.{Goes}
-use Rattle.sq_turn.proofs.Facts.{headline}
+use Rattle.std.proofs.Common.{subst, sym, ◌∷◌}
+use Rattle.sq_transition.specs.Holds.{Holds}
+use Rattle.sq_transition.proofs.Facts.{headline}
 use Rattle.sq_world.proofs.Sound.{sound}
 use Rattle.sq_world.proofs.world.World.step.Goals as goal
 

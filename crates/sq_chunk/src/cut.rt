@@ -1,0 +1,40 @@
+// Chunks that are cut out of a store.
+ghost use Rattle.std.specs.Prelude.{◌≡◌, ◌≤◌, IfOk, OnErr};
+ghost use Rattle.sq_store.specs.StoreValue.{without_between};
+ghost use Rattle.sq_chunk.specs.NextChunk.{next_chunk};
+
+use crate::chunk::{Chunk, Note};
+use sq_ranges::Extent;
+use sq_store::{Cut, FamilyStore};
+use std::alloc::AllocError;
+
+/// Cuts the next chunk out of a store: families of the rest of a node by rising root key, the first, and then as many as
+/// fit with it into `limit` bytes. It ends at the root key of the first family that it doesn't take, or at the end of
+/// the rest, and is the node's last exactly if it ends there; in all else its note is `base`. Where there is no memory
+/// for it the store stays as it was.
+pub fn cut_next<S: FamilyStore>(
+    store: &mut S,
+    base: Note,
+    rest: Extent,
+    limit: u64,
+) -> Result<Chunk, AllocError>
+    ensures chunk { IfOk result (λ chunk. chunk ≡ next_chunk (S.contents store.old) base rest limit) }
+    ensures store { IfOk result (λ chunk. S.contents store.new ≡ without_between (S.contents store.old) rest.lo chunk.note.hi) }
+    ensures err { OnErr result (S.contents store.new ≡ S.contents store.old) }
+
+    ensures from { rest.lo ≤ rest.hi → IfOk result (λ chunk. rest.lo ≤ chunk.note.hi) }
+    ensures upto { IfOk result (λ chunk. chunk.note.hi ≤ rest.hi) }
+{
+    let Cut {
+        families,
+        end,
+        last,
+    } = store.take(rest, limit)?;
+    let note = Note {
+        lo: rest.lo,
+        hi: end,
+        last,
+        ..base
+    };
+    Ok(Chunk::new(note, families))
+}

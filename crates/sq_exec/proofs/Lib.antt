@@ -1,0 +1,11 @@
+pub mod Runs
+pub mod Works
+pub mod GivenUp
+pub mod Seen
+pub mod Ends
+pub mod Cuts
+pub mod Begins
+pub mod Waits
+pub mod Opens
+pub mod Resumes
+pub mod Loads

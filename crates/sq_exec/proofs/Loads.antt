@@ -1,0 +1,82 @@
+-- The chunk that came is loaded.
+use Rattle.std.proofs.Common.{◌≡◌, ℕ, ◌<◌, Bool, true, false, not, List, [], map, length, get_or, set, Option, Some, None, Result, Ok, Err, refl, sym, ap, subst, ◌∙◌}
+use Rattle.std.specs.Prelude.{◌==◌, ◌&&◌, slice_get, IsTrue, OnErr}
+use Rattle.std.proofs.lemmas.List.{get_or_default, set-get_or}
+use Rattle.std.proofs.lemmas.Option.{same_Some, slice_get_within}
+use Rattle.sq_ranges.specs.declared.recon.Range.{Range}
+use Rattle.sq_chunk.specs.ChunkValue.{ChunkValue}
+use Rattle.sq_store.specs.StoreValue.{StoreValue, with_families, has_none_of}
+use Rattle.sq_exec.specs.declared.run.Run.{Run}
+use Rattle.sq_ranges.specs.ReconValue.{extent}
+use Rattle.sq_exec.specs.Runs.{is_met, runs_with}
+use Rattle.sq_exec.specs.CoreValue.{CoreValue, PartCoreValue, inbox_at, loaded_at}
+use Rattle.sq_exec.specs.Moving.{lies_in, can_load, can_load_in, loaded_core, LoadsFrom}
+use Rattle.sq_exec.proofs.Seen.{seen_changed, seen_kept}
+
+-- what holds anyway holds on an error
+pub on_err : {T E : Type 0} {P : Type 0} → (result : Result T E) → P → OnErr result P
+on_err (Ok x) p = tt
+on_err (Err e) p = p
+
+-- what a chunk that can be loaded is about
+pub record Loadable (core : CoreValue) (chunk : ChunkValue) : Type 0 where
+  pub exists : chunk.note.seg < length core.recon.segments
+  pub absent : has_none_of core.store chunk.families ≡ true
+
+and_right : (a b : Bool) → (a && b) ≡ true → b ≡ true
+and_right true b h = h
+and_right false b h = cc
+
+loadable : (core : CoreValue) (src : ℕ) (chunk : ChunkValue) → IsTrue (can_load core src chunk) → Loadable core chunk
+loadable core src chunk can = of_segment (slice_get core.recon.segments chunk.note.seg) refl can
+  where
+    parts : (a b c d e : Bool) → (a && (b && (c && (d && e)))) ≡ true → e ≡ true
+    parts a b c d e all = and_right d e (and_right c (d && e) (and_right b (c && (d && e)) (and_right a (b && (c && (d && e))) all)))
+
+    of_segment : (read : Option Range) → slice_get core.recon.segments chunk.note.seg ≡ read → can_load_in core src chunk read ≡ true → Loadable core chunk
+    of_segment None read can = cc
+    of_segment (Some segment) read can = record {
+      exists = slice_get_within core.recon.segments chunk.note.seg segment read;
+      absent = parts (segment.src == src) (segment.dst == core.part) (lies_in chunk.note (extent core.recon.width segment chunk.note.node)) (not (is_met (loaded_at core chunk.note.seg) chunk.note)) (has_none_of core.store chunk.families) can;
+    }
+
+module _ {seen now : PartCoreValue} (view_is : seen ≡ now) (src from : ℕ) (from_is : from ≡ src) (within : from < length seen.core.inboxes) where
+  -- what stands in the inbox came from there
+  pub came : (inbox : Option ChunkValue) (chunk : ChunkValue) → inbox ≡ get_or seen.core.inboxes from inbox → inbox ≡ Some chunk → inbox_at now.core src ≡ Some chunk
+  came inbox chunk read is =
+      ap (λ (v : PartCoreValue). inbox_at v.core src) (sym view_is) ∙ ap (inbox_at seen.core) (sym from_is) ∙ sym (get_or_default seen.core.inboxes from inbox None within) ∙ sym read ∙ is
+
+  -- its families aren't here, and its segment is one of these
+  pub came_loadable : ((chunk : ChunkValue) → inbox_at now.core src ≡ Some chunk → IsTrue (can_load now.core src chunk)) → (inbox : Option ChunkValue) (chunk : ChunkValue) → inbox ≡ get_or seen.core.inboxes from inbox → inbox ≡ Some chunk
+      → Loadable seen.core chunk
+  came_loadable can inbox chunk read is = subst (λ (v : PartCoreValue). Loadable v.core chunk) (sym view_is) (loadable now.core src chunk (can chunk (came inbox chunk read is)))
+
+  module _ {A : Type 0} (items : A → List Run) (loaded : List A) (loaded_is : map items loaded ≡ seen.core.loaded) where
+    -- the parts of the partition are those of the definition
+    pub was_loaded : (inbox gone : Option ChunkValue) (first chunk : ChunkValue) (at : ℕ) (runs more : A) (store : StoreValue) → inbox ≡ get_or seen.core.inboxes from inbox → inbox ≡ Some first → inbox ≡ Some chunk → gone ≡ None
+        → at ≡ first.note.seg → runs ≡ get_or loaded at runs → items more ≡ runs_with (items runs) chunk.note → store ≡ with_families seen.core.store chunk.families
+        → LoadsFrom now.core src chunk.note (record seen.core { inboxes = set seen.core.inboxes from gone; store = store; loaded = map items (set loaded at more) })
+    was_loaded inbox gone first chunk at runs more store read is_first is_chunk gone_is at_is runs_is more_is store_is =
+        let same : first ≡ chunk = same_Some first chunk (sym is_first ∙ is_chunk) in
+        let seg_is : at ≡ chunk.note.seg = at_is ∙ ap (λ (c : ChunkValue). c.note.seg) same in
+        let runs_are : map items (set loaded at more) ≡ set (map items loaded) chunk.note.seg (runs_with (get_or (map items loaded) chunk.note.seg []) chunk.note) =
+        seen_changed items loaded [] (λ rs. runs_with rs chunk.note) at chunk.note.seg runs more seg_is runs_is more_is in
+        let after : record seen.core { inboxes = set seen.core.inboxes from gone; store = store; loaded = map items (set loaded at more) } ≡ loaded_core seen.core src chunk =
+        λ k. record seen.core {
+          inboxes = set seen.core.inboxes (from_is k) (gone_is k);
+          store = store_is k;
+          loaded = (runs_are ∙ ap (λ rss. set rss chunk.note.seg (runs_with (get_or rss chunk.note.seg []) chunk.note)) loaded_is) k;
+        } in
+        record { chunk = chunk; came = came inbox chunk read is_chunk; noted = refl; after = after ∙ ap (λ (v : PartCoreValue). loaded_core v.core src chunk) view_is }
+
+    -- where there is no room for a run all stays
+    pub runs_kept : (at : ℕ) (runs more : A) → runs ≡ get_or loaded at runs → items more ≡ items runs → record seen.core { loaded = map items (set loaded at more) } ≡ now.core
+    runs_kept at runs more runs_is more_is =
+        ap (λ rss. record seen.core { loaded = rss }) (seen_kept items loaded at runs more runs_is more_is ∙ loaded_is) ∙ ap (λ (v : PartCoreValue). v.core) view_is
+
+    -- and where there is none for the families
+    pub all_kept : (inbox back : Option ChunkValue) (at : ℕ) (runs more : A) (store : StoreValue) → inbox ≡ get_or seen.core.inboxes from inbox → back ≡ inbox → runs ≡ get_or loaded at runs → items more ≡ items runs → store ≡ seen.core.store
+        → record seen.core { inboxes = set seen.core.inboxes from back; store = store; loaded = map items (set loaded at more) } ≡ now.core
+    all_kept inbox back at runs more store read back_is runs_is more_is store_is =
+        (λ k. record seen.core { inboxes = (ap (set seen.core.inboxes from) (back_is ∙ read) ∙ set-get_or seen.core.inboxes from inbox) k; store = store_is k; loaded = (seen_kept items loaded at runs more runs_is more_is ∙ loaded_is) k })
+        ∙ ap (λ (v : PartCoreValue). v.core) view_is

@@ -1,0 +1,89 @@
+-- A partition by itself.
+use Rattle.std.specs.Prelude.{◌≡◌, ℕ, Bool, true, false, ◌&&◌, nat_lt, List, [], replicate, length, slice_set, slice_index_or, Option, None, is_some}
+use Rattle.std.specs.List.{list_all}
+use Rattle.sq_schema.specs.TxnValue.{TxnValue}
+use Rattle.sq_plan.specs.PlanValue.{PlanValue}
+use Rattle.sq_ranges.specs.declared.recon.Link.{Link}
+use Rattle.sq_ranges.specs.declared.recon.Range.{Range}
+use Rattle.sq_ranges.specs.ReconValue.{ReconValue, leaf_at}
+use Rattle.sq_ranges.specs.OpeningValue.{OpeningValue}
+use Rattle.sq_store.specs.StoreValue.{StoreValue}
+use Rattle.sq_chunk.specs.ChunkValue.{ChunkValue}
+use Rattle.sq_exec.specs.declared.run.Run.{Run}
+use Rattle.sq_exec.specs.GivenUp.{none_given_up}
+use Rattle.sq_exec.specs.OutLink.{OutLinkValue, new_out_link}
+
+-- a partition: the plan before the move and what moves, how many bytes of families a chunk holds, whether the move has started; its families, and the transactions that wait in the order in which they came; for each partition the end of the link to it, and the chunk that came from it; and for each segment the leaves that were given up, and what was loaded
+pub record CoreValue : Type 0 where
+  pub part : ℕ
+  pub plan : PlanValue
+  pub recon : ReconValue
+  pub limit : ℕ
+  pub started : Bool
+  pub store : StoreValue
+  pub waiting : List TxnValue
+  pub outs : List OutLinkValue
+  pub inboxes : List (Option ChunkValue)
+  pub given_up : List (List Bool)
+  pub loaded : List (List Run)
+
+-- a partition, with whether there is room for what the next Begin adds
+pub record PartCoreValue : Type 0 where
+  pub core : CoreValue
+  pub has_room : Bool
+
+-- a partition with these families, before the move
+abbrev pub opened_core : OpeningValue → ℕ → StoreValue → CoreValue
+opened_core o part store =
+    record {
+      part = part;
+      plan = o.old;
+      recon = o.recon;
+      limit = o.config.limit;
+      started = false;
+      store = store;
+      waiting = [];
+      outs = replicate o.old.parts new_out_link;
+      inboxes = replicate o.old.parts None;
+      given_up = replicate (length o.recon.segments) none_given_up;
+      loaded = replicate (length o.recon.segments) [];
+    }
+
+-- the end of the link to a partition
+abbrev pub out_at : CoreValue → ℕ → OutLinkValue
+out_at core dst = slice_index_or core.outs dst new_out_link
+
+abbrev pub with_out : CoreValue → ℕ → OutLinkValue → CoreValue
+with_out core dst out = record core { outs = slice_set core.outs dst out }
+
+-- the chunk that came from a partition and isn't loaded
+abbrev pub inbox_at : CoreValue → ℕ → Option ChunkValue
+inbox_at core src = slice_index_or core.inboxes src None
+
+abbrev pub with_inbox : CoreValue → ℕ → Option ChunkValue → CoreValue
+with_inbox core src inbox = record core { inboxes = slice_set core.inboxes src inbox }
+
+-- the leaves of a segment that were given up here
+abbrev pub given_up_at : CoreValue → ℕ → List Bool
+given_up_at core seg = slice_index_or core.given_up seg none_given_up
+
+-- what of a segment was loaded here
+abbrev pub loaded_at : CoreValue → ℕ → List Run
+loaded_at core seg = slice_index_or core.loaded seg []
+
+-- the link from here to a partition
+abbrev pub link_to : CoreValue → ℕ → Link
+link_to core dst = record { src = core.part; dst = dst }
+
+-- a segment goes from one of this many partitions to another
+abbrev pub has_ends : ℕ → Range → Bool
+has_ends parts segment = nat_lt segment.src parts && nat_lt segment.dst parts
+
+-- each partition and each segment has its place, each segment goes from one partition to another, and what waits moves
+pub record IsCore (core : CoreValue) : Type 0 where
+  pub outs : length core.outs ≡ core.plan.parts
+  pub inboxes : length core.inboxes ≡ core.plan.parts
+  pub given_up : length core.given_up ≡ length core.recon.segments
+  pub loaded : length core.loaded ≡ length core.recon.segments
+  pub ends : list_all (has_ends core.plan.parts) core.recon.segments ≡ true
+  pub moving : list_all (λ txn. is_some (leaf_at core.recon txn.root)) core.waiting ≡ true

@@ -1,0 +1,9 @@
+pub mod Fault
+pub mod Runs
+pub mod GivenUp
+pub mod Work
+pub mod OutLink
+pub mod CoreValue
+pub mod Location
+pub mod Serving
+pub mod Moving

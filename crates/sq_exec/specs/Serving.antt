@@ -1,0 +1,90 @@
+-- What transactions come to that are submitted at a partition, and those that waited at it.
+use Rattle.std.specs.Prelude.{◌≡◌, ℕ, Bool, true, false, ◌==◌, ◌&&◌, ◌||◌, not, nat_le, if◌then◌else◌, [], ◌∷◌, ◌++◌, length, position, remove, slice_get, Option, Some, None, is_none, option_and_then}
+use Rattle.std.specs.Option.{option_map_or}
+use Rattle.std.specs.List.{list_all}
+use Rattle.sq_schema.specs.TxnValue.{TxnValue}
+use Rattle.sq_schema.specs.declared.family.TheConstants.{MAX_LOG}
+use Rattle.sq_store.specs.StoreValue.{StoreValue, store_reply, store_after}
+use Rattle.sq_store.specs.Commands.{log_length}
+use Rattle.sq_exec.specs.declared.TheConstants.{MAX_WAITING}
+use Rattle.sq_exec.specs.declared.fault.SubmitFault.{SubmitFault}
+use Rattle.sq_exec.specs.declared.fault.SubmitFault.TheVariants as submit
+use Rattle.sq_exec.specs.declared.fault.ResumeFault.{ResumeFault}
+use Rattle.sq_exec.specs.declared.fault.ResumeFault.TheVariants as resume
+use Rattle.sq_exec.specs.declared.outcome.Outcome.{Outcome}
+use Rattle.sq_exec.specs.declared.outcome.Outcome.TheVariants.{Done, Moved, Waits}
+use Rattle.sq_exec.specs.declared.outcome.Resumed.{Resumed}
+use Rattle.sq_exec.specs.declared.location.Location.{Location}
+use Rattle.sq_exec.specs.CoreValue.{CoreValue}
+use Rattle.sq_exec.specs.Location.{location, is_coming, route, waits_for}
+
+-- the log of the transaction's root key is full
+abbrev pub is_log_full : StoreValue → TxnValue → Bool
+is_log_full store txn = nat_le MAX_LOG (log_length store txn.root)
+
+-- the transaction belongs here, and the log of its root key is full
+abbrev pub is_stuck : ℕ → ℕ → StoreValue → TxnValue → Bool
+is_stuck here who store txn = (who == here) && is_log_full store txn
+
+-- a transaction that belongs to one partition is served at another: it runs where these are one, and else it is sent on; with the store after it
+abbrev pub served : ℕ → ℕ → StoreValue → TxnValue → Outcome × StoreValue
+served here who store txn =
+    if who == here then (Done (store_reply store txn), store_after store txn (store_reply store txn)) else (Moved who, store)
+
+-- a transaction on the root key has to wait: one does already, or the rows come and aren't here
+abbrev pub must_wait : CoreValue → ℕ → Bool
+must_wait core root = waits_for core root || is_coming core root
+
+-- why a transaction isn't taken
+abbrev pub submit_refusal : CoreValue → TxnValue → Option SubmitFault
+submit_refusal core txn =
+    if must_wait core txn.root then if nat_le MAX_WAITING (length core.waiting) then Some submit.WaitFull else None
+    else if is_stuck core.part (route core txn.root) core.store txn then Some submit.LogFull
+    else None
+
+-- taking it uses memory: it waits, or it runs here
+abbrev pub submit_takes_memory : CoreValue → TxnValue → Bool
+submit_takes_memory core txn = must_wait core txn.root || (route core txn.root == core.part)
+
+-- the transaction waits behind all others, and its segment and leaf are told
+pub record IsMadeToWait (old : CoreValue) (txn : TxnValue) (outcome : Outcome) (new : CoreValue) : Type 0 where
+  pub at : Location
+  pub moves : location old txn.root ≡ Some at
+  pub told : outcome ≡ Waits at.seg at.leaf
+  pub last : new ≡ record old { waiting = old.waiting ++ txn ∷ [] }
+
+-- a transaction that needn't wait is served
+pub record IsServed (old : CoreValue) (txn : TxnValue) (outcome : Outcome) (new : CoreValue) : Type 0 where
+  pub told : outcome ≡ (served old.part (route old txn.root) old.store txn).0
+  pub after : new ≡ record old { store = (served old.part (route old txn.root) old.store txn).1 }
+
+abbrev pub IsTaken : Bool → CoreValue → TxnValue → Outcome → CoreValue → Type 0
+IsTaken true old txn outcome new = IsMadeToWait old txn outcome new
+IsTaken false old txn outcome new = IsServed old txn outcome new
+
+-- a waiting transaction can go: its rows aren't on their way here, and where it would run the log has room
+abbrev pub is_ready : CoreValue → TxnValue → Bool
+is_ready core txn = not (is_coming core txn.root) && not (is_stuck core.part (route core txn.root) core.store txn)
+
+-- why no waiting transaction goes
+abbrev pub resume_refusal : CoreValue → Option ResumeFault
+resume_refusal core =
+    if list_all (λ txn. is_coming core txn.root) core.waiting then Some resume.NoneReady
+    else if is_none (position (is_ready core) core.waiting) then Some resume.LogFull
+    else None
+
+-- the first waiting transaction that is ready
+abbrev pub first_ready : CoreValue → Option TxnValue
+first_ready core = option_and_then (slice_get core.waiting) (position (is_ready core) core.waiting)
+
+-- it runs here, which uses memory
+abbrev pub resume_takes_memory : CoreValue → Bool
+resume_takes_memory core = option_map_or (λ txn. route core txn.root == core.part) (first_ready core) false
+
+-- the first waiting transaction that is ready was served, and waits no more
+pub record IsResumed (old : CoreValue) (resumed : Resumed) (new : CoreValue) : Type 0 where
+  pub place : ℕ
+  pub first : position (is_ready old) old.waiting ≡ Some place
+  pub found : slice_get old.waiting place ≡ Some resumed.txn
+  pub told : resumed.outcome ≡ (served old.part (route old resumed.txn.root) old.store resumed.txn).0
+  pub after : new ≡ record old { store = (served old.part (route old resumed.txn.root) old.store resumed.txn).1; waiting = remove old.waiting place }

@@ -1,0 +1,21 @@
+// Where root keys are that move.
+use sq_plan::PartId;
+use sq_ranges::SegId;
+use sq_tree::Leaf;
+
+/// Where a root key is that moves, as far as a partition by itself can tell.
+#[derive(Clone, Copy, Debug)]
+pub struct Location {
+    /// Its segment.
+    pub seg: SegId,
+    /// Its leaf.
+    pub leaf: Leaf,
+    /// The partition that it leaves.
+    pub src: PartId,
+    /// The partition that it comes to.
+    pub dst: PartId,
+    /// Whether it was given up here.
+    pub given_up: bool,
+    /// Whether it was loaded here.
+    pub loaded: bool,
+}

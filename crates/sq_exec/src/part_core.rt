@@ -1,0 +1,145 @@
+// One partition by itself.
+ghost use Rattle.std.specs.Prelude.{◌≡◌, true, map};
+ghost use Rattle.std.specs.Option.{option_copied};
+ghost use Rattle.sq_exec.specs.CoreValue.{out_at, inbox_at};
+
+use crate::given_up::GivenUp;
+use crate::out_link::OutLink;
+use crate::run::Run;
+use sq_chunk::Chunk;
+use sq_plan::{PartId, Plan};
+use sq_ranges::Recon;
+use sq_schema::{Root, Txn};
+use sq_store::FamilyStore;
+use std::marker::Model;
+
+mod moving;
+mod open;
+mod serving;
+
+/// One partition by itself: its families, the transactions that wait at it, and its ends of the links. To a contract it
+/// is a `CoreValue`, and whether there is room for what the next Begin adds.
+#[derive(Drop)]
+pub struct PartCore<S: FamilyStore> {
+    part: PartId,
+    plan: Plan,
+    recon: Recon,
+    limit: u64,
+    started: bool,
+    store: S,
+    waiting: Vec<Txn>,
+    outs: Vec<OutLink>,
+    inboxes: Vec<Option<Chunk>>,
+    given_up: Vec<GivenUp>,
+    loaded: Vec<Vec<Run>>,
+}
+
+impl<S: FamilyStore> Model for PartCore<S> {
+    ghost use Rattle.std.specs.Prelude.{map};
+    ghost use Rattle.std.specs.List.{list_all};
+    ghost use Rattle.std.specs.Coded.{Coded, coded_ℕ, codes};
+    ghost use Rattle.std.specs.Ordering.{nat_cmp};
+    ghost use Rattle.std.specs.FinMap as fin;
+    ghost use Rattle.sq_schema.specs.Family.{FamilyValue};
+    ghost use Rattle.sq_exec.specs.CoreValue.{CoreValue, PartCoreValue, IsCore};
+
+    ghost Value = { PartCoreValue };
+
+    ghost coded = { let family : Coded FamilyValue = Prim.hlevel codes in let store : Coded (fin.FinMap nat_cmp FamilyValue) = fin.code coded_ℕ family in Prim.hlevel (codes, store) };
+
+    ghost view = { λ p. record {
+      core = record {
+        part = p.part;
+        plan = p.plan;
+        recon = p.recon;
+        limit = p.limit;
+        started = p.started;
+        store = S.contents p.store;
+        waiting = p.waiting.items;
+        outs = map (λ out. out.link) p.outs.items;
+        inboxes = p.inboxes.items;
+        given_up = p.given_up.items;
+        loaded = map (λ runs. runs.items) p.loaded.items;
+      };
+      has_room = list_all (λ out. out.has_room) p.outs.items;
+    } };
+
+    ghost invariant = { λ p. IsCore (record {
+      part = p.part;
+      plan = p.plan;
+      recon = p.recon;
+      limit = p.limit;
+      started = p.started;
+      store = S.contents p.store;
+      waiting = p.waiting.items;
+      outs = map (λ out. out.link) p.outs.items;
+      inboxes = p.inboxes.items;
+      given_up = p.given_up.items;
+      loaded = map (λ runs. runs.items) p.loaded.items;
+    }) };
+}
+
+/// What a partition that is closed hands out.
+#[derive(Debug, Drop)]
+pub struct CoreParts<S> {
+    /// The families.
+    pub store: S,
+    /// The transactions that wait, in the order in which they came.
+    pub waiting: Vec<Txn>,
+    /// For each partition the chunk that came from it and isn't loaded.
+    pub inboxes: Vec<Option<Chunk>>,
+    /// For each partition the end of the link to it: the notes of all chunks that were cut, and the one that isn't sent.
+    pub outs: Vec<OutLink>,
+}
+
+impl<S: FamilyStore> PartCore<S> {
+    /// The move has started.
+    pub fn start(&mut self)
+        ensures { self.new.core ≡ record self.old.core { started = true } }
+    {
+        self.started = true;
+    }
+
+    /// The chunk that came from a partition and isn't loaded.
+    pub fn inbox(&self, src: PartId) -> Option<&Chunk>
+        ensures { option_copied result ≡ inbox_at self.now.core src }
+    {
+        self.inboxes.get(usize::from(src.number()))?.as_ref()
+    }
+
+    /// The chunk for a partition that was cut and isn't sent.
+    pub fn outbox(&self, dst: PartId) -> Option<&Chunk>
+        ensures { option_copied result ≡ (out_at self.now.core dst).outbox }
+    {
+        self.outs.get(usize::from(dst.number()))?.outbox()
+    }
+
+    /// The families.
+    pub fn store(&self) -> &S
+        ensures { S.contents result.now ≡ self.now.core.store }
+    {
+        &self.store
+    }
+
+    /// What it holds, without a copy.
+    pub fn close(self) -> CoreParts<S>
+        ensures store { S.contents result.store ≡ self.core.store }
+        ensures waiting { result.waiting.items ≡ self.core.waiting }
+        ensures inboxes { result.inboxes.items ≡ self.core.inboxes }
+        ensures outs { map (λ out. out.link) result.outs.items ≡ self.core.outs }
+    {
+        let PartCore {
+            store,
+            waiting,
+            inboxes,
+            outs,
+            ..
+        } = self;
+        CoreParts {
+            store,
+            waiting,
+            inboxes,
+            outs,
+        }
+    }
+}

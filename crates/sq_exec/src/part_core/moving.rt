@@ -1,0 +1,220 @@
+// The steps of a move at a partition.
+ghost use Rattle.std.specs.Prelude.{◌≡◌, ◌<◌, true, List, if◌then◌else◌, length, map, Some, None, is_some, IfOk, IfErr, IsErr, ◌↔◌, OnOk, OnErr, IsTrue};
+ghost use Rattle.std.specs.List.{list_all};
+ghost use Rattle.sq_schema.specs.Family.{FamilyValue};
+ghost use Rattle.sq_store.specs.StoreValue.{has_none_of, with_families};
+ghost use Rattle.sq_chunk.specs.ChunkValue.{ChunkValue};
+ghost use Rattle.sq_exec.specs.Runs.{is_whole};
+ghost use Rattle.sq_exec.specs.OutLink.{cut_fault, may_cut};
+ghost use Rattle.sq_exec.specs.CoreValue.{out_at, with_out, inbox_at, with_inbox, loaded_at};
+ghost use Rattle.sq_exec.specs.Moving.{begun_core, can_load, may_load, load_fault, CutsFor, LoadsFrom};
+
+use crate::fault::{CutFault, LoadFault};
+use crate::out_link::OutLink;
+use crate::part_core::PartCore;
+use crate::run::{add, is_met, is_whole};
+use crate::work::Work;
+use sq_chunk::{Chunk, Note};
+use sq_plan::PartId;
+use sq_ranges::{Link, SegId};
+use sq_schema::Family;
+use sq_store::FamilyStore;
+use sq_tree::NodeId;
+use std::alloc::AllocError;
+
+impl<S: FamilyStore> PartCore<S> {
+    /// Takes room for what the next Begin adds.
+    pub fn reserve_begin(&mut self) -> Result<(), AllocError>
+        ensures same { self.new.core ≡ self.old.core }
+        ensures ok { OnOk result (self.new.has_room ≡ true) }
+    {
+        reserve_work(&mut self.outs)
+    }
+
+    /// A node of a segment was begun, for this pull: its keys are given up, and are the last work of the link to the
+    /// segment's destination.
+    pub fn begun(&mut self, seg: SegId, node: NodeId, pull: u32)
+        requires room { self.old.has_room ≡ true }
+        requires exists { seg < length self.old.core.recon.segments }
+        ensures { self.new.core ≡ begun_core self.old.core seg node pull }
+    {
+        let at = seg.number() as usize;
+        let dst = self.recon.segments()[at].dst;
+        let Some(keys) = self.recon.extent(seg, node) else {
+            unreachable!()
+        };
+        self.outs[usize::from(dst.number())].add_work(Work::new(seg, node, pull, keys));
+        self.given_up[at].add(node);
+    }
+
+    /// Whether a chunk for a partition can be cut, but for memory.
+    pub fn may_cut(&self, dst: PartId) -> bool
+        ensures { result ≡ may_cut (out_at self.now.core dst) }
+    {
+        match self.outs.get(usize::from(dst.number())) {
+            Some(out) => out.may_cut(),
+            None => false,
+        }
+    }
+
+    /// Cuts a chunk for a partition: the first families of the first node that was begun for a reactive pull, or where
+    /// there is none for an asynchronous one. Refused with [`CutFault::OutboxFull`] where the last one isn't sent, and
+    /// with [`CutFault::NothingToCut`] where no node is begun that isn't cut to its end. A refusal leaves all as it was.
+    pub fn cut(&mut self, dst: PartId) -> Result<Note, CutFault>
+        ensures ok { IfOk result (λ note. CutsFor self.old.core dst note self.new.core) }
+        ensures refusal { IfErr result (λ fault. fault ≡ cut_fault (out_at self.old.core dst)) }
+        ensures err { OnErr result (self.new.core ≡ self.old.core) }
+    {
+        let at = usize::from(dst.number());
+        if at >= self.outs.len() {
+            return Err(CutFault::NothingToCut);
+        }
+        let ends = Link {
+            src: self.part,
+            dst,
+        };
+        self.outs[at].cut(&mut self.store, ends, self.limit)
+    }
+
+    /// Takes the chunk for a partition that isn't sent; `None` where there is none.
+    pub fn take_outbox(&mut self, dst: PartId) -> Option<Chunk>
+        ensures chunk { result ≡ (out_at self.old.core dst).outbox }
+        ensures core { self.new.core ≡ with_out self.old.core dst (record (out_at self.old.core dst) { outbox = None }) }
+    {
+        let at = usize::from(dst.number());
+        if at >= self.outs.len() {
+            return None;
+        }
+        self.outs[at].take_outbox()
+    }
+
+    /// Puts a chunk for a partition back that couldn't be sent.
+    pub fn put_outbox(&mut self, dst: PartId, chunk: Chunk)
+        requires exists { dst < length self.old.core.outs }
+        requires empty { (out_at self.old.core dst).outbox ≡ None }
+        ensures { self.new.core ≡ with_out self.old.core dst (record (out_at self.old.core dst) { outbox = Some chunk }) }
+    {
+        self.outs[usize::from(dst.number())].put_outbox(chunk);
+    }
+
+    /// Puts in a chunk that came from a partition. Where that inbox holds one the chunk comes back.
+    pub fn put_inbox(&mut self, src: PartId, chunk: Chunk) -> Result<(), Chunk>
+        requires { src < length self.old.core.inboxes }
+        ensures full { IsErr result ↔ (is_some (inbox_at self.old.core src) ≡ true) }
+        ensures ok { OnOk result (self.new.core ≡ with_inbox self.old.core src (Some chunk)) }
+        ensures chunk_returned { IfErr result (λ back. back ≡ chunk) }
+        ensures err { OnErr result (self.new.core ≡ self.old.core) }
+    {
+        let inbox = &mut self.inboxes[usize::from(src.number())];
+        if inbox.is_some() {
+            return Err(chunk);
+        }
+        *inbox = Some(chunk);
+        Ok(())
+    }
+
+    /// Whether a chunk came from a partition that can be loaded, but for memory.
+    pub fn may_load(&self, src: PartId) -> bool
+        ensures { result ≡ may_load self.now.core src }
+    {
+        match self.inbox(src) {
+            Some(chunk) => self.can_load(src, chunk),
+            None => false,
+        }
+    }
+
+    /// Loads the chunk that came from a partition: all its families, or where there is no memory none. Refused with
+    /// [`LoadFault::InboxEmpty`] where none came. A refusal leaves all as it was.
+    pub fn load(&mut self, src: PartId) -> Result<Note, LoadFault>
+        requires { (chunk : ChunkValue) → inbox_at self.old.core src ≡ Some chunk → IsTrue (can_load self.old.core src chunk) }
+        ensures ok { IfOk result (λ note. LoadsFrom self.old.core src note self.new.core) }
+        ensures refusal { IfErr result (λ fault. fault ≡ load_fault self.old.core src) }
+        ensures err { OnErr result (self.new.core ≡ self.old.core) }
+    {
+        let from = usize::from(src.number());
+        if from >= self.inboxes.len() {
+            return Err(LoadFault::InboxEmpty);
+        }
+        let Some(chunk) = &self.inboxes[from] else {
+            return Err(LoadFault::InboxEmpty);
+        };
+        let runs = &mut self.loaded[chunk.note().seg.number() as usize];
+        if runs.reserve(1).is_err() {
+            return Err(LoadFault::Memory);
+        }
+        let note = give(&mut self.store, &mut self.inboxes[from])?;
+        add(runs, &note);
+        Ok(note)
+    }
+
+    /// Whether the last chunk of a node was loaded.
+    pub fn loaded_last(&self, seg: SegId, node: NodeId) -> bool
+        ensures { result ≡ is_whole (loaded_at self.now.core seg) node }
+    {
+        match self.loaded.get(seg.number() as usize) {
+            Some(runs) => is_whole(runs, node),
+            None => false,
+        }
+    }
+
+    // Whether a chunk that came from a partition can be loaded.
+    fn can_load(&self, src: PartId, chunk: &Chunk) -> bool
+        ensures { result ≡ can_load self.now.core src chunk.now }
+    {
+        let note = chunk.note();
+        let at = note.seg.number() as usize;
+        let Some(segment) = self.recon.segments().get(at) else {
+            return false;
+        };
+        let Some(keys) = self.recon.extent(note.seg, note.node) else {
+            return false;
+        };
+        segment.src == src
+            && segment.dst == self.part
+            && keys.lo <= note.lo
+            && note.hi <= keys.hi
+            && !is_met(&self.loaded[at], &note)
+            && self.has_none_of(chunk.families())
+    }
+
+    // Whether the store has a family of none of these root keys.
+    fn has_none_of(&self, families: &[Family]) -> bool
+        ensures { result ≡ has_none_of self.now.core.store families.now }
+    {
+        families
+            .iter()
+            .all(|family| self.store.get(family.root()).is_none())
+    }
+}
+
+// Takes room for one more piece of work at each end of a link.
+fn reserve_work(outs: &mut [OutLink]) -> Result<(), AllocError>
+    ensures same { map (λ out. out.link) outs.new ≡ map (λ out. out.link) outs.old }
+    ensures ok { OnOk result (list_all (λ out. out.has_room) outs.new ≡ true) }
+{
+    for out in outs.iter_mut() {
+        out.reserve_work()?;
+    }
+    Ok(())
+}
+
+// Gives the families of the chunk in an inbox to the store. Where there is no memory the chunk stays.
+fn give<S: FamilyStore>(store: &mut S, inbox: &mut Option<Chunk>) -> Result<Note, LoadFault>
+    requires { (chunk : ChunkValue) → inbox.old ≡ Some chunk → IsTrue (has_none_of (S.contents store.old) chunk.families) }
+    ensures ok { IfOk result (λ note. (families : List FamilyValue)
+        × (inbox.old ≡ Some (record { note = note; families = families }))
+        × (inbox.new ≡ None)
+        × (S.contents store.new ≡ with_families (S.contents store.old) families)) }
+    ensures refusal { IfErr result (λ fault. fault ≡ (if is_some inbox.old then LoadFault.Memory else LoadFault.InboxEmpty)) }
+    ensures err { OnErr result ((inbox.new ≡ inbox.old) × (S.contents store.new ≡ S.contents store.old)) }
+{
+    let Some(chunk) = inbox.take() else {
+        return Err(LoadFault::InboxEmpty);
+    };
+    let (note, families) = chunk.into_parts();
+    if let Err(back) = store.give(families) {
+        *inbox = Some(Chunk::new(note, back));
+        return Err(LoadFault::Memory);
+    }
+    Ok(note)
+}

@@ -1,0 +1,120 @@
+// Opening a partition.
+ghost use Rattle.std.specs.Prelude.{◌≡◌, true, replicate, length, map, IfOk, IfErr, []};
+ghost use Rattle.std.specs.List.{list_all};
+ghost use Rattle.sq_exec.specs.GivenUp.{none_given_up};
+ghost use Rattle.sq_exec.specs.OutLink.{new_out_link};
+ghost use Rattle.sq_exec.specs.CoreValue.{opened_core, has_ends};
+
+use crate::given_up::GivenUp;
+use crate::out_link::OutLink;
+use crate::part_core::PartCore;
+use crate::run::Run;
+use sq_chunk::Chunk;
+use sq_plan::{PartId, Plan};
+use sq_ranges::{Opening, Recon};
+use sq_store::FamilyStore;
+use std::alloc::{AllocError, Global};
+
+// What a partition has besides its families.
+#[derive(Drop)]
+struct Places {
+    plan: Plan,
+    recon: Recon,
+    outs: Vec<OutLink>,
+    inboxes: Vec<Option<Chunk>>,
+    given_up: Vec<GivenUp>,
+    loaded: Vec<Vec<Run>>,
+}
+
+impl<S: FamilyStore> PartCore<S> {
+    /// A partition before the move, with these families. Where there is no memory they come back.
+    pub fn open(alloc: Global, opening: &Opening, part: PartId, store: S) -> Result<PartCore<S>, S>
+        ensures ok { IfOk result (λ opened. opened.core ≡ opened_core opening.now part (S.contents store)) }
+        ensures store_returned { IfErr result (λ back. S.contents back ≡ S.contents store) }
+    {
+        let Ok(places) = Places::new(alloc, opening) else {
+            return Err(store);
+        };
+        Ok(PartCore {
+            part,
+            plan: places.plan,
+            recon: places.recon,
+            limit: opening.config().limit,
+            started: false,
+            store,
+            waiting: Vec::new(alloc),
+            outs: places.outs,
+            inboxes: places.inboxes,
+            given_up: places.given_up,
+            loaded: places.loaded,
+        })
+    }
+}
+
+impl Places {
+    // The places of a partition, with nothing in them.
+    fn new(alloc: Global, opening: &Opening) -> Result<Places, AllocError>
+        ensures plan { IfOk result (λ places. places.plan ≡ opening.now.old) }
+        ensures recon { IfOk result (λ places. places.recon ≡ opening.now.recon) }
+        ensures outs { IfOk result (λ places. map (λ out. out.link) places.outs.items ≡ replicate opening.now.old.parts new_out_link) }
+        ensures inboxes { IfOk result (λ places. places.inboxes.items ≡ replicate opening.now.old.parts None) }
+        ensures given_up { IfOk result (λ places. places.given_up.items ≡ replicate (length opening.now.recon.segments) none_given_up) }
+        ensures ends { IfOk result (λ _. list_all (has_ends opening.now.old.parts) opening.now.recon.segments ≡ true) }
+        ensures loaded { IfOk result (λ places. map (λ runs. runs.items) places.loaded.items ≡ replicate (length opening.now.recon.segments) []) }
+    {
+        let parts = usize::from(opening.old_plan().parts());
+        let segments = opening.recon().segments().len();
+        Ok(Places {
+            plan: opening.old_plan().clone()?,
+            recon: opening.recon().clone()?,
+            outs: out_links(alloc, parts)?,
+            inboxes: inboxes(alloc, parts)?,
+            given_up: given_up(alloc, segments)?,
+            loaded: loaded(alloc, segments)?,
+        })
+    }
+}
+
+// The ends of this many links that nothing was begun for.
+fn out_links(alloc: Global, count: usize) -> Result<Vec<OutLink>, AllocError>
+    ensures { IfOk result (λ outs. map (λ out. out.link) outs.items ≡ replicate count new_out_link) }
+{
+    let mut outs = Vec::new(alloc);
+    for _made in 0..count {
+        outs.push(OutLink::new(alloc))?;
+    }
+    Ok(outs)
+}
+
+// This many empty inboxes.
+fn inboxes(alloc: Global, count: usize) -> Result<Vec<Option<Chunk>>, AllocError>
+    ensures { IfOk result (λ inboxes. inboxes.items ≡ replicate count None) }
+{
+    let mut inboxes = Vec::new(alloc);
+    for _made in 0..count {
+        inboxes.push(None)?;
+    }
+    Ok(inboxes)
+}
+
+// For this many segments that no leaf is given up.
+fn given_up(alloc: Global, count: usize) -> Result<Vec<GivenUp>, AllocError>
+    ensures { IfOk result (λ given_up. given_up.items ≡ replicate count none_given_up) }
+{
+    let mut given_up = Vec::new(alloc);
+    for _made in 0..count {
+        given_up.push(GivenUp::new())?;
+    }
+    Ok(given_up)
+}
+
+// For this many segments that nothing is loaded.
+fn loaded(alloc: Global, count: usize) -> Result<Vec<Vec<Run>>, AllocError>
+    ensures { IfOk result (λ loaded. map (λ runs. runs.items) loaded.items ≡ replicate count []) }
+{
+    let mut loaded = Vec::new(alloc);
+    for _made in 0..count {
+        loaded.push(Vec::new(alloc))?;
+    }
+    Ok(loaded)
+}

@@ -1,0 +1,203 @@
+// Transactions at a partition.
+ghost use Rattle.std.specs.Prelude.{◌≡◌, ◌==◌, ◌∷◌, ◌++◌, [], true, false, length, position, unwrap_or, IfOk, IfErr, OnOk, OnErr, IsErrOf, ◌↔◌, MatchResult, IsTrue};
+ghost use Rattle.std.specs.List.{list_all};
+ghost use Rattle.sq_store.specs.Commands.{log_length};
+ghost use Rattle.sq_exec.specs.Location.{location, is_coming, is_coming_from, route, route_from, waits_for};
+ghost use Rattle.sq_exec.specs.Serving.{is_stuck, served, must_wait, submit_refusal, submit_takes_memory, is_ready, resume_refusal, resume_takes_memory, IsMadeToWait, IsTaken, IsResumed};
+
+use crate::MAX_WAITING;
+use crate::fault::{ResumeFault, SubmitFault};
+use crate::location::Location;
+use crate::outcome::{Outcome, Resumed};
+use crate::part_core::PartCore;
+use crate::run::is_loaded;
+use sq_plan::PartId;
+use sq_schema::{ApplyFault, MAX_LOG, Root, Txn};
+use sq_store::FamilyStore;
+
+impl<S: FamilyStore> PartCore<S> {
+    /// Submits a transaction. It waits where one on its root key waits already, and where its rows come here and aren't
+    /// loaded: refused with [`SubmitFault::WaitFull`] where [`MAX_WAITING`] wait. Else it runs if its root key is here,
+    /// and is sent on if not: refused with [`SubmitFault::LogFull`] where the log of its root key is full. A refusal
+    /// leaves all as it was.
+    pub fn submit(&mut self, txn: &Txn) -> Result<Outcome, SubmitFault>
+        ensures refused { MatchResult result
+            (λ _. submit_refusal self.old.core txn.now ≡ None)
+            (λ fault. fault ≡ unwrap_or (submit_refusal self.old.core txn.now) SubmitFault.Memory) }
+        ensures memory { result ≡ Err SubmitFault.Memory → IsTrue (submit_takes_memory self.old.core txn.now) }
+        ensures ok { IfOk result (λ outcome. IsTaken (must_wait self.old.core txn.now.root) self.old.core txn.now outcome self.new.core) }
+        ensures err { OnErr result (self.new.core ≡ self.old.core) }
+    {
+        let root = txn.root();
+        let found = self.location(root);
+        if self.waits_for(root) || self.is_coming(&found) {
+            return self.wait(txn, &found);
+        }
+        let who = self.route(root, &found);
+        match serve(&mut self.store, self.part, who, txn) {
+            Ok(outcome) => Ok(outcome),
+            Err(ApplyFault::LogFull) => Err(SubmitFault::LogFull),
+            Err(ApplyFault::Memory) => Err(SubmitFault::Memory),
+        }
+    }
+
+    /// Takes up the first waiting transaction whose rows aren't on their way here and, where it runs here, the log of
+    /// whose root key isn't full. Refused with [`ResumeFault::NoneReady`] where the rows of all are on their way, and
+    /// with [`ResumeFault::LogFull`] where the logs of all others are full. A refusal leaves all as it was.
+    pub fn resume(&mut self) -> Result<Resumed, ResumeFault>
+        ensures refused { MatchResult result
+            (λ _. resume_refusal self.old.core ≡ None)
+            (λ fault. fault ≡ unwrap_or (resume_refusal self.old.core) ResumeFault.Memory) }
+        ensures memory { result ≡ Err ResumeFault.Memory → IsTrue (resume_takes_memory self.old.core) }
+        ensures ok { IfOk result (λ resumed. IsResumed self.old.core resumed self.new.core) }
+        ensures err { OnErr result (self.new.core ≡ self.old.core) }
+    {
+        let Some(at) = self.first_ready() else {
+            return Err(self.none_ready());
+        };
+        let root = self.waiting[at].root();
+        let who = self.route(root, &self.location(root));
+        let Ok(outcome) = serve(&mut self.store, self.part, who, &self.waiting[at]) else {
+            return Err(ResumeFault::Memory);
+        };
+        let txn = self.waiting.remove(at);
+        Ok(Resumed { txn, outcome })
+    }
+
+    /// How many transactions on a root key committed here, and where it came from.
+    pub fn position(&self, root: Root) -> usize
+        ensures { result ≡ log_length self.now.core.store root }
+    {
+        match self.store.get(root) {
+            Some(family) => family.log().len(),
+            None => 0,
+        }
+    }
+
+    // Where a root key is, if it moves.
+    fn location(&self, root: Root) -> Option<Location>
+        ensures { result ≡ location self.now.core root }
+    {
+        let (seg, leaf) = self.recon.find(root)?;
+        let at = seg.number() as usize;
+        let segment = self.recon.segments()[at];
+        Some(Location {
+            seg,
+            leaf,
+            src: segment.src,
+            dst: segment.dst,
+            given_up: self.given_up[at].has(leaf),
+            loaded: is_loaded(&self.loaded[at], root),
+        })
+    }
+
+    // Whether a root key comes here and isn't loaded.
+    fn is_coming(&self, found: &Option<Location>) -> bool
+        ensures { result ≡ is_coming_from self.now.core found.now }
+    {
+        match found {
+            Some(at) => self.started && at.dst == self.part && !at.loaded,
+            None => false,
+        }
+    }
+
+    // The partition that transactions on a root key go to, as far as this one can tell.
+    fn route(&self, root: Root, found: &Option<Location>) -> PartId
+        ensures { result ≡ route_from self.now.core root found.now }
+    {
+        let Some(at) = found else {
+            return self.plan.owner(root);
+        };
+        let has_left = at.src == self.part && at.given_up;
+        let has_come = at.src != self.part && at.dst == self.part && at.loaded;
+        if has_left || has_come { at.dst } else { at.src }
+    }
+
+    // Whether a transaction on a root key waits.
+    fn waits_for(&self, root: Root) -> bool
+        ensures { result ≡ waits_for self.now.core root }
+    {
+        self.waiting.iter().any(|txn| txn.root() == root)
+    }
+
+    // Lets a transaction wait, behind all that do.
+    fn wait(&mut self, txn: &Txn, found: &Option<Location>) -> Result<Outcome, SubmitFault>
+        requires waits { must_wait self.old.core txn.now.root ≡ true }
+        requires located { found.now ≡ location self.old.core txn.now.root }
+        ensures refused { MatchResult result
+            (λ _. submit_refusal self.old.core txn.now ≡ None)
+            (λ fault. fault ≡ unwrap_or (submit_refusal self.old.core txn.now) SubmitFault.Memory) }
+        ensures ok { IfOk result (λ outcome. IsMadeToWait self.old.core txn.now outcome self.new.core) }
+        ensures err { OnErr result (self.new.core ≡ self.old.core) }
+    {
+        if self.waiting.len() >= MAX_WAITING {
+            return Err(SubmitFault::WaitFull);
+        }
+        let Some(at) = found else { unreachable!() };
+        let Ok(entry) = txn.clone() else {
+            return Err(SubmitFault::Memory);
+        };
+        if self.waiting.push(entry).is_err() {
+            return Err(SubmitFault::Memory);
+        }
+        Ok(Outcome::Waits(at.seg, at.leaf))
+    }
+
+    // Whether a waiting transaction can go.
+    fn is_ready(&self, txn: &Txn) -> bool
+        ensures { result ≡ is_ready self.now.core txn.now }
+    {
+        let root = txn.root();
+        let found = self.location(root);
+        !self.is_coming(&found)
+            && !(self.route(root, &found) == self.part && self.position(root) >= MAX_LOG)
+    }
+
+    // Where the first waiting transaction stands that can go.
+    fn first_ready(&self) -> Option<usize>
+        ensures { result ≡ position (is_ready self.now.core) self.now.core.waiting }
+    {
+        self.waiting.iter().position(|txn| self.is_ready(txn))
+    }
+
+    // Why no waiting transaction can go.
+    fn none_ready(&self) -> ResumeFault
+        requires { position (is_ready self.now.core) self.now.core.waiting ≡ None }
+        ensures { Some result ≡ resume_refusal self.now.core }
+    {
+        if self.all_are_coming() {
+            ResumeFault::NoneReady
+        } else {
+            ResumeFault::LogFull
+        }
+    }
+
+    // Whether the rows of all waiting transactions come here and aren't loaded.
+    fn all_are_coming(&self) -> bool
+        ensures { result ≡ list_all (λ txn. is_coming self.now.core txn.root) self.now.core.waiting }
+    {
+        self.waiting
+            .iter()
+            .all(|txn| self.is_coming(&self.location(txn.root())))
+    }
+}
+
+// Serves a transaction that belongs to one partition at another: it runs where these are one, and else it is sent on.
+fn serve<S: FamilyStore>(
+    store: &mut S,
+    here: PartId,
+    who: PartId,
+    txn: &Txn,
+) -> Result<Outcome, ApplyFault>
+    ensures full { IsErrOf result ApplyFault.LogFull ↔ IsTrue (is_stuck here who (S.contents store.old) txn.now) }
+    ensures runs { OnErr result (who ≡ here) }
+    ensures outcome { IfOk result (λ outcome. outcome ≡ (served here who (S.contents store.old) txn.now).0) }
+    ensures store { IfOk result (λ _. S.contents store.new ≡ (served here who (S.contents store.old) txn.now).1) }
+    ensures err { OnErr result (S.contents store.new ≡ S.contents store.old) }
+{
+    if who == here {
+        Ok(Outcome::Done(store.apply(txn)?))
+    } else {
+        Ok(Outcome::Moved(who))
+    }
+}

@@ -1,0 +1,99 @@
+// What is loaded of a segment, as runs of root keys.
+ghost use Rattle.std.specs.Prelude.{◌≡◌, ◌<◌, position, vec_len, vec_capacity};
+ghost use Rattle.sq_exec.specs.Runs.{has_key, meets, goes_on, run_with, is_loaded, is_met, is_whole, runs_with};
+
+use sq_chunk::Note;
+use sq_schema::Root;
+use sq_tree::NodeId;
+
+/// Root keys of a node that were loaded without a gap, from `lo` up to `hi`; none unless `lo` is below `hi`.
+#[derive(Clone, Copy, Debug)]
+pub(crate) struct Run {
+    /// The node.
+    pub(crate) node: NodeId,
+    /// The first key.
+    pub(crate) lo: u64,
+    /// The key after the last.
+    pub(crate) hi: u64,
+    /// Whether the last chunk of the node is among what was loaded.
+    pub(crate) whole: bool,
+}
+
+impl Run {
+    // Whether the root key is in it.
+    fn has_key(&self, key: u64) -> bool
+        ensures { result ≡ has_key self.now key }
+    {
+        self.lo <= key && key < self.hi
+    }
+
+    // Whether one of the keys that a chunk covers is in it.
+    fn meets(&self, note: &Note) -> bool
+        ensures { result ≡ meets note.now self.now }
+    {
+        self.lo.max(note.lo) < self.hi.min(note.hi)
+    }
+
+    // Whether a chunk goes on where it ends.
+    fn goes_on(&self, note: &Note) -> bool
+        ensures { result ≡ goes_on note.now self.now }
+    {
+        self.node == note.node && self.lo <= self.hi && self.hi == note.lo
+    }
+
+    // It with the keys of a chunk that goes on where it ends.
+    fn with(self, note: &Note) -> Run
+        ensures { result ≡ run_with note.now self }
+    {
+        Run {
+            hi: self.hi.max(note.hi),
+            whole: self.whole || note.last,
+            ..self
+        }
+    }
+}
+
+/// Whether a root key is loaded.
+pub(crate) fn is_loaded(runs: &[Run], root: Root) -> bool
+    ensures { result ≡ is_loaded runs.now root }
+{
+    let key = root.number();
+    runs.iter().any(|run| run.has_key(key))
+}
+
+/// Whether one of the keys that a chunk covers is loaded.
+pub(crate) fn is_met(runs: &[Run], note: &Note) -> bool
+    ensures { result ≡ is_met runs.now note.now }
+{
+    runs.iter().any(|run| run.meets(note))
+}
+
+/// Whether the last chunk of a node is loaded.
+pub(crate) fn is_whole(runs: &[Run], node: NodeId) -> bool
+    ensures { result ≡ is_whole runs.now node }
+{
+    runs.iter().any(|run| run.node == node && run.whole)
+}
+
+/// Adds what a chunk brings, where there is room for a run more.
+pub(crate) fn add(runs: &mut Vec<Run>, note: &Note)
+    requires { vec_len runs.old < vec_capacity runs.old }
+    ensures { runs.new.items ≡ runs_with runs.old.items note.now }
+{
+    match place(runs, note) {
+        Some(at) => runs[at] = runs[at].with(note),
+        None => runs.push_reserved(Run {
+            node: note.node,
+            lo: note.lo,
+            hi: note.hi,
+            whole: note.last,
+        }),
+    }
+}
+
+// Where the first run stands that a chunk goes on from.
+fn place(runs: &[Run], note: &Note) -> Option<usize>
+    ensures { result ≡ position (goes_on note.now) runs.now }
+{
+    runs.iter().position(|run| run.goes_on(note))
+}

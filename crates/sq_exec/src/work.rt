@@ -1,0 +1,118 @@
+// What the source of a link has to cut.
+ghost use Rattle.std.specs.Prelude.{◌≡◌, ◌≤◌, ◌<◌, position, vec_len, slice_index_or};
+ghost use Rattle.sq_exec.specs.Work.{is_reactive, next_work, no_work, work_after};
+
+use sq_ranges::{Extent, SegId};
+use sq_tree::NodeId;
+use std::marker::Model;
+
+/// What is left of a begun node that isn't cut to its end. To a contract it is a `WorkValue`.
+#[derive(Clone, Copy, Debug)]
+pub(crate) struct Work {
+    seg: SegId,
+    node: NodeId,
+    pull: u32,
+    rest: Extent,
+}
+
+impl Model for Work {
+    ghost use Rattle.std.specs.Prelude.{◌≤◌};
+    ghost use Rattle.sq_exec.specs.Work.{WorkValue};
+
+    ghost Value = { WorkValue };
+
+    ghost view = { λ w. record { seg = w.seg; node = w.node; pull = w.pull; rest = w.rest.lo; hi = w.rest.hi } };
+
+    ghost invariant = { λ w. w.rest.lo ≤ w.rest.hi };
+
+    ghost inverse = { λ w. record { seg = w.seg; node = w.node; pull = w.pull; rest = record { lo = w.rest; hi = w.hi } } };
+}
+
+impl Work {
+    /// All of a node, whose keys are these.
+    pub(crate) fn new(seg: SegId, node: NodeId, pull: u32, keys: Extent) -> Work
+        requires { keys.lo ≤ keys.hi }
+        ensures { result ≡ record { seg = seg; node = node; pull = pull; rest = keys.lo; hi = keys.hi } }
+    {
+        Work {
+            seg,
+            node,
+            pull,
+            rest: keys,
+        }
+    }
+
+    /// The segment.
+    pub(crate) fn seg(self) -> SegId
+        ensures { result ≡ self.seg }
+    {
+        self.seg
+    }
+
+    /// The node.
+    pub(crate) fn node(self) -> NodeId
+        ensures { result ≡ self.node }
+    {
+        self.node
+    }
+
+    /// The keys that aren't cut.
+    pub(crate) fn rest(self) -> Extent
+        ensures from { result.lo ≡ self.rest }
+        ensures upto { result.hi ≡ self.hi }
+        ensures rises { self.rest ≤ self.hi }
+    {
+        self.rest
+    }
+
+    /// Whether a transaction waits for it.
+    fn is_reactive(self) -> bool
+        ensures { result ≡ is_reactive self }
+    {
+        self.pull % 2 == 1
+    }
+
+    // What is left from this key on.
+    fn from(self, key: u64) -> Work
+        requires { key ≤ self.hi }
+        ensures { result ≡ record { seg = self.seg; node = self.node; pull = self.pull; rest = key; hi = self.hi } }
+    {
+        let rest = Extent {
+            lo: key,
+            hi: self.rest.hi,
+        };
+        Work { rest, ..self }
+    }
+}
+
+// Where the first work stands that a transaction waits for.
+fn first_reactive(work: &[Work]) -> Option<usize>
+    ensures { result ≡ position is_reactive work.now }
+{
+    work.iter().position(|work| work.is_reactive())
+}
+
+/// Where the work stands that is done next: the first for a reactive pull, or where there is none the first.
+#[tactic(auto, using(crate::proofs::Works::front_found, crate::proofs::Works::front_first, crate::proofs::Works::front_none))]
+pub(crate) fn next_work(work: &[Work]) -> Option<usize>
+    ensures { result ≡ next_work work.now }
+{
+    if let Some(at) = first_reactive(work) {
+        return Some(at);
+    }
+    if work.is_empty() { None } else { Some(0) }
+}
+
+/// Takes the work at a place up to this key off the list: after its last key it is gone.
+pub(crate) fn go_on(works: &mut Vec<Work>, at: usize, end: u64)
+    requires exists { at < vec_len works.old }
+    requires within { end ≤ (slice_index_or works.old.items at no_work).hi }
+    ensures { works.new.items ≡ work_after works.old.items at end }
+{
+    let work = works[at];
+    if end == work.rest().hi {
+        works.remove(at);
+    } else {
+        works[at] = work.from(end);
+    }
+}

@@ -1,0 +1,54 @@
+// The numbers of segments.
+ghost use Rattle.std.specs.Prelude.{◌≡◌, ◌<◌};
+ghost use Rattle.std.specs.Option.{SomeIff};
+
+use std::marker::Model;
+
+/// How many segments a reconfiguration has at most.
+pub const SEGMENT_LIMIT: u64 = 256;
+
+/// A segment, by its number from 0 in key order. To a contract it is the number.
+#[derive(Clone, Copy, Debug, PartialEq, Eq, PartialOrd, Ord)]
+pub struct SegId(u16);
+
+impl Model for SegId {
+    ghost use Rattle.std.specs.Prelude.{ℕ, ◌<◌};
+    ghost use Rattle.sq_ranges.specs.declared.segment.TheConstants.{SEGMENT_LIMIT};
+
+    ghost Value = { ℕ };
+
+    ghost view = { λ s. s.0 };
+
+    ghost invariant = { λ s. s.0 < SEGMENT_LIMIT };
+
+    ghost inverse = { λ n. record { 0 = n } };
+}
+
+impl SegId {
+    /// The segment of this number; `None` from [`SEGMENT_LIMIT`] on.
+    pub fn new(number: u64) -> Option<SegId>
+        ensures { SomeIff result (number < SEGMENT_LIMIT) number }
+    {
+        if number < SEGMENT_LIMIT {
+            Some(SegId(number as u16))
+        } else {
+            None
+        }
+    }
+
+    /// Its number, below [`SEGMENT_LIMIT`].
+    pub fn number(self) -> u64
+        ensures number { result ≡ self }
+        ensures bound { result < SEGMENT_LIMIT }
+    {
+        u64::from(self.0)
+    }
+
+    /// Where the segment stands in a list of all segments.
+    pub fn index(self) -> usize
+        ensures place { result ≡ self }
+        ensures bound { result < SEGMENT_LIMIT }
+    {
+        usize::from(self.0)
+    }
+}

@@ -1,0 +1,28 @@
+use Rattle.std.proofs.Common.{◌≡◌, sym, ap, ◌∙◌, arith}
+use Rattle.sq_schema.specs.declared.schema.TheConstants.{MAX_TABLES}
+use Rattle.sq_schema.specs.Effect.{RowList}
+use Rattle.sq_schema.specs.Family.{rows_size}
+use Rattle.sq_schema.specs.Writes.{PendingValue, with_writes, pending_rows}
+use Rattle.sq_schema.proofs.Runs.{op_fault-at, ran_one, aborted_at, ran_all}
+use Rattle.sq_schema.proofs.pending.run.Goals as goal
+
+pub run-requires : goal.run-requires
+run-requires c = rw c.index-ops-at.is (op_fault-at MAX_TABLES c.args.ops.now c.loop-at.at c.index-ops-at.result (omega arith) c.requires)
+
+pub loop-at-preserved : goal.loop-at-preserved
+loop-at-preserved c = record {
+  base = c.in-Ok.ensures.base ∙ c.loop-at.invariant.base;
+  rest = rw c.in_ok-push-in-Ok.ensures.items (ran_one c.args.ops.now c.args.rows.now c.loop-at.at c.loop-at.answers.items (pending_rows c.loop-at.pending) c.loop-at.invariant.rest c.index-ops-at.result (omega arith) c.index-ops-at.is (pending_rows c.run.new.self) c.in-Ok.answer c.in-Ok.ensures.ok);
+}
+
+pub returns-in-Err-Abort : goal.returns-in-Err-Abort
+returns-in-Err-Abort c = rw c.in-Err-Abort.cause-is (aborted_at c.args.ops.now c.args.rows.now c.loop-at.at c.loop-at.answers.items (pending_rows c.loop-at.pending) c.loop-at.invariant.rest c.index-ops-at.result (omega arith) c.index-ops-at.is c.in-Err-Abort.cause (rw c.in-Err-Abort.field-0-is at c.in-Err-Abort.ensures.err))
+
+pub returns : goal.returns
+returns c =
+    let rows = c.args.rows.now in
+    let writes = c.pending-2.inside.writes.items in
+    let base : c.pending-2.inside.rows.now ≡ rows = ap (λ (p : PendingValue). p.base) c.pending-2.view_is ∙ c.loop-at.invariant.base in
+    let now : pending_rows c.loop-at.pending ≡ with_writes rows writes = ap pending_rows (sym c.pending-2.view_is) ∙ ap (λ (r : RowList). with_writes r writes) base in
+    let ran = ran_all c.args.ops.now rows c.loop-at.at c.loop-at.answers.items (pending_rows c.loop-at.pending) c.loop-at.invariant.rest c.loop-at-test.false in
+    (rw (c.new.ensures, ← now) ran, c.pending-2.invariant.writes, c.pending-2.invariant.size ∙ ap (λ (r : RowList). rows_size (with_writes r writes)) base)

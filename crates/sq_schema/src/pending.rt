@@ -1,0 +1,229 @@
+// Operations on the rows of a root key, which make no write before all of them have run.
+ghost use Rattle.std.specs.Prelude.{◌≡◌, ◌≤◌, ◌++◌, ◌∷◌, [], None, Ok, length, IfOk, IfErr, IfSome, OnOk, OnErr};
+ghost use Rattle.std.specs.Option.{option_copied};
+ghost use Rattle.sq_schema.specs.declared.schema.TheConstants.{MAX_NOTE, MAX_TABLES};
+ghost use Rattle.sq_schema.specs.Refusals.{ops_fault};
+ghost use Rattle.sq_schema.specs.Runs.{EndsBy};
+
+use crate::row::{Row, RowKey};
+use crate::rows::{Rows, weight};
+use crate::txn::{Cause, Op, OpAnswer, OpAnswers};
+use std::alloc::{AllocError, Global};
+use std::marker::Model;
+
+/// Rows with pending writes: all operations of a transaction run before the first write is made. To a contract it is
+/// a `PendingValue`.
+#[derive(Drop)]
+pub(crate) struct PendingRows<'a> {
+    rows: &'a Rows,
+    writes: Vec<(RowKey, Option<Row>)>,
+    count: usize,
+    size: u64,
+}
+
+impl<'a> Model for PendingRows<'a> {
+    ghost use Rattle.sq_schema.specs.Writes.{PendingValue, IsPending};
+
+    ghost Value = { PendingValue };
+
+    ghost view = { λ d. record { base = d.rows.now; writes = d.writes.items } };
+
+    ghost invariant = { λ d. IsPending (record { base = d.rows.now; writes = d.writes.items }) d.count d.size };
+}
+
+/// Why an operation has no answer.
+#[derive(Clone, Copy)]
+pub(crate) enum Stop {
+    Abort(Cause),
+    Memory,
+}
+
+/// What running operations comes to.
+#[derive(Drop)]
+pub(crate) enum RunOutcome {
+    /// All have an answer.
+    Committed {
+        answers: OpAnswers,
+        /// What is still to be written.
+        writes: Vec<(RowKey, Option<Row>)>,
+        /// The size in bytes of a family with the rows after these writes.
+        size: u64,
+    },
+    /// One of them aborts.
+    Aborted {
+        /// Its position, from 0.
+        at: usize,
+        cause: Cause,
+    },
+}
+
+impl From<Cause> for Stop {
+    ghost use Rattle.std.specs.Prelude.{◌≡◌};
+    ghost use Rattle.sq_schema.specs.declared.pending.Stop.TheVariants.{Abort};
+
+    ghost from_gives = { λ cause stop. stop ≡ Abort cause };
+
+    fn from(cause: Cause) -> Stop {
+        Stop::Abort(cause)
+    }
+}
+
+impl From<AllocError> for Stop {
+    ghost use Rattle.std.specs.Prelude.{◌≡◌};
+    ghost use Rattle.sq_schema.specs.declared.pending.Stop.TheVariants.{Memory};
+
+    ghost from_gives = { λ _ stop. stop ≡ Memory };
+
+    fn from(_error: AllocError) -> Stop {
+        Stop::Memory
+    }
+}
+
+impl<'a> PendingRows<'a> {
+    ghost use Rattle.sq_schema.specs.Effect.{row_at, op_outcome, put_outcome, add_outcome, del_outcome, check_outcome};
+    ghost use Rattle.sq_schema.specs.Refusals.{op_fault};
+    ghost use Rattle.sq_schema.specs.Writes.{is_write, pending_rows};
+    ghost use Rattle.sq_schema.specs.Runs.{StopsBy};
+
+    // These rows, and no writes.
+    fn new(alloc: Global, rows: &'a Rows) -> PendingRows<'a>
+        ensures rows { result.base ≡ rows.now }
+        ensures writes { result.writes ≡ [] }
+    {
+        PendingRows {
+            count: rows.len(),
+            size: rows.size(),
+            rows,
+            writes: Vec::new(alloc),
+        }
+    }
+
+    // The row of a key after the writes.
+    fn get(&self, key: RowKey) -> Option<&Row>
+        ensures row { option_copied result ≡ row_at (pending_rows self.now) key }
+        ensures short { IfSome result (λ row. length row.now.note ≤ MAX_NOTE) }
+    {
+        match self.writes.iter().rev().find(|write| write.0 == key) {
+            Some((_, row)) => row.as_ref(),
+            None => self.rows.get(key),
+        }
+    }
+
+    // Adds a write.
+    fn write(&mut self, key: RowKey, row: Option<Row>) -> Result<(), AllocError>
+        requires { IfSome row (λ row. length row.note ≤ MAX_NOTE) }
+        ensures base { self.new.base ≡ self.old.base }
+        ensures ok { OnOk result (self.new.writes ≡ self.old.writes ++ (key, row) ∷ []) }
+    {
+        let (old_count, old_size) = weight(self.get(key));
+        let (new_count, new_size) = weight(row.as_ref());
+        self.writes.push((key, row))?;
+        self.count = self.count + new_count - old_count;
+        self.size = self.size + new_size - old_size;
+        Ok(())
+    }
+
+    // Runs an operation.
+    fn run(&mut self, op: &Op) -> Result<OpAnswer, Stop>
+        requires { op_fault MAX_TABLES op.now ≡ None }
+        ensures base { self.new.base ≡ self.old.base }
+        ensures ok { IfOk result (λ answer. op_outcome (pending_rows self.old) op.now ≡ Ok (pending_rows self.new, answer)) }
+        ensures err { IfErr result (StopsBy (op_outcome (pending_rows self.old) op.now)) }
+    {
+        match op {
+            Op::Get(key) => self.find(*key),
+            Op::Put(key, row) => self.put(*key, row),
+            Op::Add(key, by) => self.add(*key, *by),
+            Op::Del(key) => self.del(*key),
+            Op::Check(key, least) => self.check(*key, *least),
+        }
+    }
+
+    fn find(&self, key: RowKey) -> Result<OpAnswer, Stop>
+        ensures ok { IfOk result (λ answer. answer ≡ OpAnswer.Found (row_at (pending_rows self.now) key)) }
+        ensures err { IfErr result (λ stop. stop ≡ Stop.Memory) }
+    {
+        match self.get(key) {
+            Some(row) => Ok(OpAnswer::Found(Some(row.clone()?))),
+            None => Ok(OpAnswer::Found(None)),
+        }
+    }
+
+    fn put(&mut self, key: RowKey, row: &Row) -> Result<OpAnswer, Stop>
+        requires { length row.now.note ≤ MAX_NOTE }
+        ensures base { self.new.base ≡ self.old.base }
+        ensures ok { IfOk result (λ answer. put_outcome (pending_rows self.old) key row.now ≡ Ok (pending_rows self.new, answer)) }
+        ensures err { IfErr result (StopsBy (put_outcome (pending_rows self.old) key row.now)) }
+    {
+        if key.table != 0 && self.get(RowKey::ROOT).is_none() {
+            return Err(Stop::Abort(Cause::NoRoot));
+        }
+        self.write(key, Some(row.clone()?))?;
+        Ok(OpAnswer::Done)
+    }
+
+    fn add(&mut self, key: RowKey, by: i64) -> Result<OpAnswer, Stop>
+        ensures base { self.new.base ≡ self.old.base }
+        ensures ok { IfOk result (λ answer. add_outcome (pending_rows self.old) key by (row_at (pending_rows self.old) key) ≡ Ok (pending_rows self.new, answer)) }
+        ensures err { IfErr result (StopsBy (add_outcome (pending_rows self.old) key by (row_at (pending_rows self.old) key))) }
+    {
+        let row = self.get(key).ok_or(Cause::Absent)?;
+        let number = row.number().checked_add(by).ok_or(Cause::Range)?;
+        let row = row.with_number(number)?;
+        self.write(key, Some(row))?;
+        Ok(OpAnswer::Number(number))
+    }
+
+    fn del(&mut self, key: RowKey) -> Result<OpAnswer, Stop>
+        ensures base { self.new.base ≡ self.old.base }
+        ensures ok { IfOk result (λ answer. del_outcome (pending_rows self.old) key (row_at (pending_rows self.old) key) ≡ Ok (pending_rows self.new, answer)) }
+        ensures err { IfErr result (StopsBy (del_outcome (pending_rows self.old) key (row_at (pending_rows self.old) key))) }
+    {
+        if self.get(key).is_none() {
+            return Err(Stop::Abort(Cause::Absent));
+        }
+        if key == RowKey::ROOT && self.count != 1 {
+            return Err(Stop::Abort(Cause::Children));
+        }
+        self.write(key, None)?;
+        Ok(OpAnswer::Done)
+    }
+
+    fn check(&self, key: RowKey, least: i64) -> Result<OpAnswer, Stop>
+        ensures ok { IfOk result (λ answer. check_outcome (pending_rows self.now) least (row_at (pending_rows self.now) key) ≡ Ok (pending_rows self.now, answer)) }
+        ensures err { IfErr result (StopsBy (check_outcome (pending_rows self.now) least (row_at (pending_rows self.now) key))) }
+    {
+        let row = self.get(key).ok_or(Cause::Absent)?;
+        if row.number() < least {
+            return Err(Stop::Abort(Cause::Small));
+        }
+        Ok(OpAnswer::Done)
+    }
+}
+
+// Runs operations on these rows, up to the first that aborts. The rows stay as they are.
+pub(crate) fn run(alloc: Global, rows: &Rows, ops: &[Op]) -> Result<RunOutcome, AllocError>
+    requires { ops_fault MAX_TABLES ops.now ≡ None }
+    ensures { IfOk result (EndsBy rows.now ops.now) }
+{
+    let mut pending = PendingRows::new(alloc, rows);
+    let mut answers = Vec::with_capacity(alloc, ops.len())?;
+    for (at, op) in ops.iter().enumerate() {
+        match pending.run(op) {
+            Ok(answer) => answers.push(answer)?,
+            Err(Stop::Abort(cause)) => return Ok(RunOutcome::Aborted { at, cause }),
+            Err(Stop::Memory) => return Err(AllocError),
+        }
+    }
+    let PendingRows {
+        rows: _,
+        writes,
+        count: _,
+        size,
+    } = pending;
+    Ok(RunOutcome::Committed {
+        answers: OpAnswers::new(answers),
+        writes,
+        size,
+    })
+}

@@ -1,0 +1,17 @@
+-- What laws say of the families that are taken of a store.
+use Rattle.std.specs.Prelude.{◌≡◌, ◌+◌, ◌<◌, ◌≤◌, ◌⊎◌, ℕ, List, length, sum_by, Some}
+use Rattle.std.specs.FinMap.{get}
+use Rattle.sq_schema.specs.Family.{FamilyValue}
+use Rattle.sq_store.specs.StoreValue.{StoreValue, families_between}
+use Rattle.sq_store.specs.Counting.{family_size}
+
+-- the sizes of families together
+abbrev pub total_size : List FamilyValue → ℕ
+total_size families = sum_by family_size families
+
+-- the families from lo up to this end are as many as may be taken: they fit into so many bytes, or there is one alone;
+-- and where it ends before hi some are taken, and the family that stands at the end doesn't fit with them
+pub record IsFullest (store : StoreValue) (lo hi limit end : ℕ) : Type 0 where
+  pub fits : (total_size (families_between store lo end) ≤ limit) ⊎ (length (families_between store lo end) ≡ 1)
+  pub some : end < hi → 0 < length (families_between store lo end)
+  pub next : end < hi → (family : FamilyValue) × (get store end ≡ Some family) × (limit < total_size (families_between store lo end) + family_size family)

@@ -1,0 +1,95 @@
+// A store that is given commands.
+ghost use Rattle.std.specs.Prelude.{◌≡◌, ◌==◌, nat_lt, IsTrue, IfOk, IfErr, OnErr};
+ghost use Rattle.std.specs.List.{list_any};
+ghost use Rattle.sq_store.specs.StoreValue.{roots_differ, has_none_of};
+ghost use Rattle.sq_store.specs.Listed.{roots_rise};
+ghost use Rattle.sq_store.specs.Commands.{IsStoreAnswer, AreStoreAnswers};
+
+use crate::command::{StoreAnswer, StoreCommand};
+use crate::store::FamilyStore;
+use sq_schema::{Family, Root};
+use std::alloc::Global;
+
+/// Runs commands in order, and answers each as a finite map by root key does. A command for which memory runs out says
+/// so in its answer and changes nothing; families whose root keys aren't all different, or of which one stands, are
+/// handed back without a call of the store. Where there is no memory for the answers the commands come back, and none
+/// has run.
+pub fn run_store<S: FamilyStore>(
+    alloc: Global,
+    store: &mut S,
+    commands: Vec<StoreCommand>,
+) -> Result<Vec<StoreAnswer>, Vec<StoreCommand>>
+    ensures ok { IfOk result (λ answers. AreStoreAnswers (S.contents store.old) commands.items answers.items (S.contents store.new)) }
+    ensures commands_returned { IfErr result (λ back. back.items ≡ commands.items) }
+    ensures err { OnErr result (S.contents store.new ≡ S.contents store.old) }
+{
+    let mut answers = Vec::new(alloc);
+    if answers.reserve(commands.len()).is_err() {
+        return Err(commands);
+    }
+    for command in commands {
+        answers.push_reserved(answer(store, command));
+    }
+    Ok(answers)
+}
+
+// Runs one command.
+fn answer<S: FamilyStore>(store: &mut S, command: StoreCommand) -> StoreAnswer
+    ensures { IsStoreAnswer (S.contents store.old) command result (S.contents store.new) }
+{
+    match command {
+        StoreCommand::Apply(txn) => StoreAnswer::Applied(store.apply(&txn)),
+        StoreCommand::Take(extent, limit) => StoreAnswer::Taken(store.take(extent, limit)),
+        StoreCommand::Give(families) if differ(&families) && has_none(store, &families) => {
+            StoreAnswer::Given(store.give(families))
+        }
+        StoreCommand::Give(families) => StoreAnswer::NotGiven(families),
+    }
+}
+
+// Whether no two of the families have the same root key. Those that left a store together are sorted, which tells it at
+// once; of others each is looked for behind itself.
+fn differ(families: &[Family]) -> bool
+    ensures { result ≡ roots_differ families.now }
+{
+    are_sorted(families) || differ_in_pairs(families)
+}
+
+// Whether the root keys rise.
+fn are_sorted(families: &[Family]) -> bool
+    ensures { IsTrue result → IsTrue (roots_rise families.now) }
+{
+    families.is_sorted_by(
+        |family: &Family, next: &Family| -> bool
+            ensures { result ≡ nat_lt family.now.root next.now.root }
+        { family.root() < next.root() },
+    )
+}
+
+// Whether no family is followed by one of its root key.
+fn differ_in_pairs(families: &[Family]) -> bool
+    ensures { result ≡ roots_differ families.now }
+{
+    for (at, family) in families.iter().enumerate() {
+        if has(&families[at + 1..], family.root()) {
+            return false;
+        }
+    }
+    true
+}
+
+// Whether one of the families has the root key.
+fn has(families: &[Family], root: Root) -> bool
+    ensures { result ≡ list_any (λ family. family.root == root) families.now }
+{
+    families.iter().any(|family| family.root() == root)
+}
+
+// Whether the store has a family of none of these root keys.
+fn has_none<S: FamilyStore>(store: &S, families: &[Family]) -> bool
+    ensures { result ≡ has_none_of (S.contents store.now) families.now }
+{
+    families
+        .iter()
+        .all(|family| store.get(family.root()).is_none())
+}

@@ -1,0 +1,220 @@
+// Two partitions, between which root keys 4 to 7 move in chunks of one family, with ample memory.
+use sq_chunk::{Chunk, Note};
+use sq_exec::{MAX_WAITING, Outcome, PartCore};
+use sq_plan::{PartId, Plan};
+use sq_ranges::{Config, Opening, SegId};
+use sq_schema::{Op, OpAnswer, Reply, Root, Row, RowKey, Schema, Txn};
+use sq_store::{FamilyStore, VecStore};
+use sq_tree::NodeId;
+use std::alloc::Global;
+use std::test::Fail;
+
+const OLD: &[u8] = b"{\"version\":1,\"partitions\":2,\"ranges\":[[0,4294967296,0]]}";
+
+const NEW: &[u8] =
+    b"{\"version\":1,\"partitions\":2,\"ranges\":[[0,4,0],[4,8,1],[8,4294967296,0]]}";
+
+const SIZES: Config = Config {
+    width: 1,
+    limit: 64,
+    capacity: 1,
+};
+
+fn opening(alloc: Global) -> Result<Opening, Fail> {
+    let schema = Schema::new(1).ok_or("one table is a schema")?;
+    let old = Plan::read(alloc, OLD)?;
+    let new = Plan::read(alloc, NEW)?;
+    let rows = Vec::new(alloc);
+    Ok(Opening::new(alloc, schema, old, new, SIZES, rows)?)
+}
+
+// A transaction of one operation.
+fn txn(alloc: Global, root: u64, op: Op) -> Result<Txn, Fail> {
+    let schema = Schema::new(1).ok_or("one table is a schema")?;
+    let mut ops = Vec::new(alloc);
+    ops.push(op)?;
+    Ok(Txn::new(&schema, root, root, ops)?)
+}
+
+// Adds 1 to the number of the root row.
+fn add(alloc: Global, root: u64) -> Result<Txn, Fail> {
+    txn(alloc, root, Op::Add(RowKey::ROOT, 1))
+}
+
+// Families of 56 bytes, whose root rows have the number 10.
+fn store(alloc: Global, roots: &[u64]) -> Result<VecStore, Fail> {
+    let mut store = VecStore::new(alloc);
+    for root in roots {
+        let row = Row::new(10, Vec::new(alloc));
+        store.apply(&txn(alloc, *root, Op::Put(RowKey::ROOT, row))?)?;
+    }
+    Ok(store)
+}
+
+// The source with these families, once all that moves is begun.
+fn source(alloc: Global, roots: &[u64]) -> Result<PartCore<VecStore>, Fail> {
+    let opening = opening(alloc)?;
+    let segments = opening.recon().segments().len() as u64;
+    let mut part = PartCore::open(alloc, &opening, PartId::new(0), store(alloc, roots)?)?;
+    part.start();
+    part.reserve_begin()?;
+    match SegId::new(0) {
+        Some(seg) if seg.number() < segments => part.begun(seg, NodeId::WHOLE, 2),
+        _ => Err("no segment")?,
+    }
+    Ok(part)
+}
+
+// The destination, once this chunk came.
+fn destination(alloc: Global, chunk: Option<Chunk>) -> Result<PartCore<VecStore>, Fail> {
+    let opening = opening(alloc)?;
+    let parts = opening.old_plan().parts();
+    let mut part = PartCore::open(alloc, &opening, PartId::new(1), VecStore::new(alloc))?;
+    part.start();
+    if let Some(chunk) = chunk {
+        if parts > 0 {
+            part.put_inbox(PartId::new(0), chunk)?;
+        }
+    }
+    Ok(part)
+}
+
+// What a partition is asked to do.
+#[derive(Clone, Copy, Debug)]
+enum Call {
+    // To add 1 to the number of this root key.
+    Submit(u64),
+    Resume,
+    Cut(u8),
+    TakeOutbox,
+    Load,
+}
+
+// What it answers.
+#[derive(Clone, Copy, Debug, PartialEq, Eq)]
+enum Told {
+    // It ran, and this is the number now.
+    Number(i64),
+    Moved(u8),
+    // For this leaf.
+    Waits(u64),
+    // A chunk of this number, of these keys, and whether it is the last.
+    Chunk(u64, u64, u64, bool),
+    // So many families.
+    Families(usize),
+    Refused(u16),
+    Else,
+}
+
+fn what_became(outcome: &Outcome) -> Told {
+    match outcome {
+        Outcome::Done(Reply::Committed(answers)) => match answers.as_slice() {
+            [OpAnswer::Number(number)] => Told::Number(*number),
+            _ => Told::Else,
+        },
+        Outcome::Done(Reply::Aborted { .. }) => Told::Else,
+        Outcome::Moved(to) => Told::Moved(to.number()),
+        Outcome::Waits(_, leaf) => Told::Waits(leaf.number()),
+    }
+}
+
+fn noted(note: Note) -> Told {
+    Told::Chunk(note.number, note.lo, note.hi, note.last)
+}
+
+fn answer(alloc: Global, part: &mut PartCore<VecStore>, call: Call) -> Result<Told, Fail> {
+    let src = PartId::new(0);
+    Ok(match call {
+        Call::Submit(root) => match part.submit(&add(alloc, root)?) {
+            Ok(done) => what_became(&done),
+            Err(fault) => Told::Refused(fault.number()),
+        },
+        Call::Resume => match part.resume() {
+            Ok(resumed) => what_became(&resumed.outcome),
+            Err(fault) => Told::Refused(fault.number()),
+        },
+        Call::Cut(dst) => match part.cut(PartId::new(dst)) {
+            Ok(note) => noted(note),
+            Err(fault) => Told::Refused(fault.number()),
+        },
+        Call::TakeOutbox => match part.take_outbox(PartId::new(1)) {
+            Some(chunk) => Told::Families(chunk.len()),
+            None => Told::Refused(211),
+        },
+        Call::Load if part.may_load(src) || part.inbox(src).is_none() => match part.load(src) {
+            Ok(note) => noted(note),
+            Err(fault) => Told::Refused(fault.number()),
+        },
+        Call::Load => Told::Else,
+    })
+}
+
+#[test]
+fn calls_at_the_source(rt: HostRuntime) -> Result<(), Fail> {
+    let mut part = source(rt.alloc(), &[4, 7, 9])?;
+    let calls = [
+        (Call::Submit(4), Told::Moved(1)),
+        (Call::Submit(9), Told::Number(11)),
+        (Call::Resume, Told::Refused(223)),
+        (Call::Cut(1), Told::Chunk(0, 4, 7, false)),
+        (Call::Cut(1), Told::Refused(210)),
+        (Call::TakeOutbox, Told::Families(1)),
+        (Call::TakeOutbox, Told::Refused(211)),
+        (Call::Cut(1), Told::Chunk(1, 7, 8, true)),
+        (Call::TakeOutbox, Told::Families(1)),
+        (Call::Cut(1), Told::Refused(209)),
+        (Call::Cut(0), Told::Refused(209)),
+        (Call::Cut(9), Told::Refused(209)),
+        (Call::Load, Told::Refused(215)),
+        (Call::Submit(9), Told::Number(12)),
+    ];
+    for (call, wanted) in calls {
+        assert_eq!(rt; answer(rt.alloc(), &mut part, call)?, wanted);
+    }
+    let parts = part.close();
+    assert_eq!(rt; (parts.store.len(), parts.outs.len()), (1, 2));
+    Ok(())
+}
+
+#[test]
+fn calls_at_the_destination(rt: HostRuntime) -> Result<(), Fail> {
+    let mut source = source(rt.alloc(), &[4, 7])?;
+    let first = answer(rt.alloc(), &mut source, Call::Cut(1))?;
+    let mut part = destination(rt.alloc(), source.take_outbox(PartId::new(1)))?;
+    let calls = [
+        (Call::Submit(4), Told::Waits(0)),
+        (Call::Submit(7), Told::Waits(3)),
+        (Call::Resume, Told::Refused(223)),
+        (Call::Load, first),
+        (Call::Load, Told::Refused(215)),
+        (Call::Submit(4), Told::Waits(0)),
+        (Call::Resume, Told::Number(11)),
+        (Call::Resume, Told::Number(12)),
+        (Call::Resume, Told::Refused(223)),
+        (Call::Submit(4), Told::Number(13)),
+        (Call::Submit(9), Told::Moved(0)),
+    ];
+    for (call, wanted) in calls {
+        assert_eq!(rt; answer(rt.alloc(), &mut part, call)?, wanted);
+    }
+    let root = Root::new(4).ok_or("a root key")?;
+    assert_eq!(rt; part.position(root), 4);
+    Ok(())
+}
+
+#[test]
+fn as_many_wait_as_may(rt: HostRuntime) -> Result<(), Fail> {
+    let mut part = destination(rt.alloc(), None)?;
+    for _ in 0..MAX_WAITING {
+        assert_eq!(rt;
+            answer(rt.alloc(), &mut part, Call::Submit(7))?,
+            Told::Waits(3)
+        );
+    }
+    assert_eq!(rt;
+        answer(rt.alloc(), &mut part, Call::Submit(7))?,
+        Told::Refused(220)
+    );
+    assert_eq!(rt; part.close().waiting.len(), MAX_WAITING);
+    Ok(())
+}

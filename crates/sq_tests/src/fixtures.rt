@@ -1,0 +1,78 @@
+// What the tests of several crates start from, read from the texts of a run.
+use sq_chunk::Note;
+use sq_model::{Answer, Step};
+use sq_plan::PartId;
+use sq_ranges::{Opening, SegId};
+use sq_schema::{Reply, Root, RowKey, Schema, Table, Txn};
+use sq_text::{Pieces, read_header, read_step, write_answer};
+use sq_tree::NodeId;
+use std::alloc::Global;
+use std::test::Fail;
+
+/// The lines of two plans, by which the root keys 4 to 7 go from partition 0 to partition 1.
+pub const PLANS: &str = r#"old {"version":1,"partitions":2,"ranges":[[0,4294967296,0]]}
+new {"version":1,"partitions":2,"ranges":[[0,4,0],[4,8,1],[8,4294967296,0]]}
+"#;
+
+/// The schema of 8 tables.
+pub fn schema() -> Result<Schema, Fail> {
+    Ok(Schema::new(8).ok_or("8 tables are a schema")?)
+}
+
+/// The step of a line.
+pub fn step(alloc: Global, line: &str) -> Result<Step, Fail> {
+    Ok(read_step(alloc, &schema()?, line.as_bytes())?)
+}
+
+/// The transaction of a line.
+pub fn transaction(alloc: Global, line: &str) -> Result<Txn, Fail> {
+    match step(alloc, line)? {
+        Step::Submit(_, txn) => Ok(txn),
+        _ => Err("no transaction")?,
+    }
+}
+
+/// The opening of a header: the lines of [`PLANS`], and then these.
+pub fn opening(alloc: Global, lines: &str) -> Result<Opening, Fail> {
+    let header = format!(in alloc; "{PLANS}{lines}")?;
+    Ok(read_header(alloc, schema()?, &mut Pieces::of(header.as_bytes()))?)
+}
+
+/// The line of a reply to transaction 1.
+pub fn reply_line(alloc: Global, reply: Reply) -> Result<Vec<u8>, Fail> {
+    let mut line = Vec::new(alloc);
+    write_answer(&mut line, &Answer::Replied { id: 1, reply })?;
+    Ok(line)
+}
+
+/// Whether the table has this number and note at a key, or no row.
+pub fn has(table: &Table, root: u64, key: RowKey, want: Option<(i64, &[u8])>) -> bool {
+    let found = Root::new(root)
+        .and_then(|root| table.rows(root))
+        .and_then(|rows| rows.get(key));
+    match (found, want) {
+        (None, None) => true,
+        (Some(row), Some((number, note))) => row.number() == number && row.note() == note,
+        _ => false,
+    }
+}
+
+/// The node of this number.
+pub fn node(number: u64) -> Result<NodeId, Fail> {
+    Ok(NodeId::new(number).ok_or("no node")?)
+}
+
+/// The note of the chunk of this number from partition 0 to partition 1, on the keys 4 to 7 of the first segment. More
+/// chunks of it follow.
+pub fn note(number: u64) -> Result<Note, Fail> {
+    Ok(Note {
+        src: PartId::new(0),
+        dst: PartId::new(1),
+        number,
+        seg: SegId::new(0).ok_or("no segment")?,
+        node: NodeId::WHOLE,
+        lo: 4,
+        hi: 8,
+        last: false,
+    })
+}

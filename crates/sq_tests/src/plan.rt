@@ -1,0 +1,179 @@
+// Which texts are plans, and what is read of plans.
+use sq_plan::{Plan, PlanFault};
+use sq_schema::Root;
+use std::test::Fail;
+
+// Texts with the number of their fault, or 0 where they are plans.
+const TEXTS: [(&str, u16); 38] = [
+    ("", 101),
+    ("{", 101),
+    (r#"{"version":1e400}"#, 101),
+    (r#"{"x":"\ud800"}"#, 101),
+    (r#"{"version":01}"#, 101),
+    (r#"{"version":1}}"#, 101),
+    ("[1]", 102),
+    (r#"{"version":1}"#, 102),
+    (r#"{"version":-1}"#, 102),
+    (r#"{"version":-0}"#, 102),
+    (r#"{"version":1.0}"#, 102),
+    (r#"{"version":1e0}"#, 102),
+    (r#"{"version":18446744073709551616}"#, 102),
+    (r#"{"version":"1"}"#, 102),
+    (
+        r#"{"version":1,"partitions":1.0,"ranges":[[0,4294967296,0]]}"#,
+        102,
+    ),
+    (r#"{"version":1,"partitions":1,"ranges":{}}"#, 102),
+    (
+        r#"{"version":1,"partitions":1,"ranges":[0,4294967296,0]}"#,
+        102,
+    ),
+    (
+        r#"{"version":1,"partitions":1,"ranges":[[-0,4294967296,0]]}"#,
+        102,
+    ),
+    (
+        r#"{"version":1,"partitions":1,"ranges":[[0,18446744073709551616,0]]}"#,
+        102,
+    ),
+    (
+        r#"{"version":1,"partitions":1,"ranges":[[0,4294967296,1e0]]}"#,
+        102,
+    ),
+    (
+        r#"{"version":1,"partitions":1,"ranges":[[0,4294967296]]}"#,
+        102,
+    ),
+    (
+        r#"{"version":1,"partitions":1,"ranges":[[0,4294967296,0,0]]}"#,
+        102,
+    ),
+    (r#"{"version":1,"partitions":17,"ranges":[[0,1]]}"#, 102),
+    (r#"{"version":2}"#, 103),
+    (r#"{"version":2,"partitions":17,"ranges":[[0,1]]}"#, 103),
+    (
+        r#"{"version":1,"partitions":1,"ranges":[[0,4294967296,0]],"version":2}"#,
+        103,
+    ),
+    (r#"{"version":1,"partitions":17,"ranges":[]}"#, 104),
+    (r#"{"version":1,"partitions":0,"ranges":[[1,0,9]]}"#, 104),
+    (r#"{"version":1,"partitions":2,"ranges":[]}"#, 105),
+    (
+        r#"{"version":1,"partitions":2,"ranges":[[0,4,0],[5,4294967296,0]]}"#,
+        105,
+    ),
+    (
+        r#"{"version":1,"partitions":2,"ranges":[[0,4294967295,0]]}"#,
+        105,
+    ),
+    (
+        r#"{"version":1,"partitions":1,"ranges":[[0,4,9],[5,4294967296,0]]}"#,
+        105,
+    ),
+    (
+        r#"{"version":1,"partitions":2,"ranges":[[0,4294967296,2]]}"#,
+        106,
+    ),
+    (
+        r#"{"x":null,"version":1,"partitions":1,"ranges":[[0,4294967296,0]]}"#,
+        0,
+    ),
+    (
+        r#"{"ranges":[[0,4294967296,0]],"partitions":1,"version":1}"#,
+        0,
+    ),
+    (
+        " \t\r\n{ \"version\" : 1 , \"partitions\" : 1 ,\n\"ranges\" : [ [ 0 , 4294967296 , 0 ] ] } \r",
+        0,
+    ),
+    (
+        r#"{"version":2,"partitions":17,"ranges":[],"version":1,"partitions":1,"ranges":[[0,4294967296,0]]}"#,
+        0,
+    ),
+    (
+        r#"{"versio\u006e":1,"partitions":1,"ranges":[[0,4294967296,0]]}"#,
+        0,
+    ),
+];
+
+#[test]
+fn texts_of_plans(rt: HostRuntime) {
+    for (text, number) in TEXTS {
+        let fault = Plan::read(rt.alloc(), text.as_bytes()).err();
+        assert_eq!(rt; fault.map_or(0, |fault| fault.number()), number, "{text}");
+    }
+    let bytes = b"{\"\xff\":1}";
+    assert_eq!(rt;
+        Plan::read(rt.alloc(), bytes).err(),
+        Some(PlanFault::NotJson)
+    );
+    assert_eq!(rt; PlanFault::Memory.number(), 222);
+}
+
+// Ranges with their owners, by lower bound, and keys with their owners.
+type Owned<'a> = (&'a [(u64, u64, u8)], &'a [(u64, u8)]);
+
+// Plans of so many partitions, with what they own.
+const PLANS: [(&str, u8, Owned<'static>); 3] = [
+    (
+        r#"{"version":1,"partitions":1,"ranges":[[0,4294967296,0]]}"#,
+        1,
+        (&[(0, 4_294_967_296, 0)], &[(0, 0), (4_294_967_295, 0)]),
+    ),
+    (
+        r#"{"version":1,"partitions":2,"ranges":[[0,4294967295,0],[4294967295,4294967296,1]]}"#,
+        2,
+        (
+            &[(0, 4_294_967_295, 0), (4_294_967_295, 4_294_967_296, 1)],
+            &[(4_294_967_294, 0), (4_294_967_295, 1)],
+        ),
+    ),
+    (
+        r#"{"version":1,"partitions":4,"ranges":[[0,5,0],[5,10,1],[10,15,2],[15,20,3],[20,4294967296,0]]}"#,
+        4,
+        (
+            &[
+                (0, 5, 0),
+                (5, 10, 1),
+                (10, 15, 2),
+                (15, 20, 3),
+                (20, 4_294_967_296, 0),
+            ],
+            &[
+                (0, 0),
+                (4, 0),
+                (5, 1),
+                (9, 1),
+                (10, 2),
+                (14, 2),
+                (15, 3),
+                (19, 3),
+                (20, 0),
+                (4_294_967_295, 0),
+            ],
+        ),
+    ),
+];
+
+// Whether the plan has these ranges, and the keys these owners.
+fn owns(plan: &Plan, (ranges, owners): Owned<'_>) -> bool {
+    let found = plan
+        .ranges()
+        .iter()
+        .map(|range| (range.lo, range.hi, range.owner.number()));
+    let owner_of = |key| Root::new(key).map(|root| plan.owner(root).number());
+    found.eq(ranges.iter().copied())
+        && owners
+            .iter()
+            .all(|(key, owner)| owner_of(*key) == Some(*owner))
+}
+
+#[test]
+fn owners(rt: HostRuntime) -> Result<(), Fail> {
+    for (text, parts, owned) in PLANS {
+        let plan = Plan::read(rt.alloc(), text.as_bytes())?;
+        assert_eq!(rt; plan.parts(), parts);
+        assert!(rt; owns(&plan, owned), "{text}");
+    }
+    Ok(())
+}

@@ -1,0 +1,316 @@
+// Trees that threads share: two seats in turn, and threads at once.
+ghost use Rattle.std.specs.Prelude.{◌≡◌, ◌<◌, true, IsTrue, IfOk};
+ghost use Rattle.sq_tree.specs.Node.{is_node};
+
+use sq_status::{LeafClaim, StatusTree, TreeSeat};
+use sq_tree::{BeginFault, ClaimFault, CompleteFault, Leaf, NODES, NodeId, SplitFault, Status};
+use std::alloc::{AllocError, Global};
+use std::test::Fail;
+use std::thread;
+use std::thread::Threads;
+
+fn node(number: u64) -> NodeId
+    requires { IsTrue (is_node number) }
+    ensures { result ≡ number }
+{
+    NodeId::new(number).unwrap()
+}
+
+fn leaf(number: u64) -> Leaf
+    requires { number < 32 }
+    ensures { result ≡ number }
+{
+    Leaf::new(number).unwrap()
+}
+
+// Pulls with the nodes that they get, one after another, where leaf 0 alone was claimed.
+const CLAIMS: [(u32, Option<u64>); 6] = [
+    (2, Some(33)),
+    (4, Some(17)),
+    (6, Some(9)),
+    (8, Some(5)),
+    (10, Some(3)),
+    (12, None),
+];
+
+// Whether the pulls get these nodes.
+fn claims_the_rest(tree: &StatusTree, seat: &mut TreeSeat) -> bool
+    requires { (seat.old.tree ≡ tree.now) × (seat.old.view.first ≡ true) }
+    ensures { (seat.new.tree ≡ tree.now) × (seat.new.view.first ≡ true) }
+{
+    for (pull, want) in CLAIMS {
+        if tree.claim_any(seat, pull).map(NodeId::number) != want {
+            return false;
+        }
+    }
+    true
+}
+
+// What comes of it, where node 9 was completed then.
+fn claimed_statuses() -> [Status; NODES] {
+    let mut statuses = [Status::Free; NODES];
+    for index in [0, 1, 3, 7, 15] {
+        statuses[index] = Status::Split;
+    }
+    statuses[31] = Status::Claimed(3);
+    statuses[32] = Status::Claimed(2);
+    statuses[16] = Status::Claimed(4);
+    statuses[8] = Status::Complete(6);
+    statuses[4] = Status::Claimed(8);
+    statuses[2] = Status::Claimed(10);
+    statuses
+}
+
+// One seat walks, claims and is refused; a second one begins what the first claimed.
+#[test]
+fn two_seats_in_turn(rt: HostRuntime) -> Result<(), Fail> {
+    let (tree, mut first) = StatusTree::open(rt.alloc())?;
+    assert!(rt; tree.claim_leaf(&mut first, leaf(0), 3) == LeafClaim::Claimed(node(32)));
+    assert!(rt; claims_the_rest(&tree, &mut first));
+    let held = LeafClaim::Held(node(9), Status::Claimed(6));
+    assert!(rt; tree.claim_leaf(&mut first, leaf(5), 5) == held);
+    assert!(rt; tree.split(&mut first, node(32)) == Err(SplitFault::IsLeaf));
+    assert!(rt; tree.begin(&mut first, node(33), 4) == Err(BeginFault::WrongPull));
+    let claimed = CompleteFault::NotPartial(Status::Claimed(2));
+    assert!(rt; tree.complete(&mut first, node(33), 2) == Err(claimed));
+
+    let mut second = tree.share(&mut first);
+    assert!(rt; tree.look(&mut second, node(9)) == Status::Claimed(6));
+    let split = ClaimFault::NotFree(Status::Split);
+    assert!(rt; tree.claim(&mut second, node(16), 7) == Err(split));
+    assert!(rt; tree.begin(&mut second, node(9), 6).is_ok());
+    assert!(rt; tree.complete(&mut first, node(9), 6).is_ok());
+    tree.join(&mut first, second);
+    assert!(rt; tree.close(first) == claimed_statuses());
+    Ok(())
+}
+
+// The nodes that one thread was given, until none was left.
+fn claims(tree: &StatusTree, mut seat: TreeSeat, pull: u32) -> (TreeSeat, [Option<NodeId>; NODES])
+    requires { seat.tree ≡ tree.now }
+    ensures { result.0.tree ≡ tree.now }
+{
+    let mut nodes = [None; NODES];
+    for slot in nodes.iter_mut() {
+        *slot = tree.claim_any(&mut seat, pull);
+        if slot.is_none() {
+            return (seat, nodes);
+        }
+    }
+    (seat, nodes)
+}
+
+// Splits each inner node.
+fn split_all(tree: &StatusTree, seat: &mut TreeSeat)
+    requires { (seat.old.tree ≡ tree.now) × (seat.old.view.first ≡ true) }
+    ensures { (seat.new.tree ≡ tree.now) × (seat.new.view.first ≡ true) }
+{
+    for node in NodeId::all() {
+        let _ = tree.split(seat, node);
+    }
+}
+
+// Two threads claim what they find: what each was given, and the statuses then.
+fn share_out<R: Threads + Sync>(
+    rt: &R,
+    alloc: Global,
+) -> Result<
+    (
+        [Option<NodeId>; NODES],
+        [Option<NodeId>; NODES],
+        [Status; NODES],
+    ),
+    AllocError,
+> {
+    let (tree, mut first) = StatusTree::open(alloc)?;
+    split_all(&tree, &mut first);
+    let even = tree.share(&mut first);
+    let odd = tree.share(&mut first);
+    let shared = &tree;
+    let (evens, odds) = thread::join(
+        rt,
+        move ||
+            requires { even.tree ≡ shared.now }
+            ensures { result.0.tree ≡ shared.entry.now }
+        { claims(shared, even, 2) },
+        move ||
+            requires { odd.tree ≡ shared.now }
+            ensures { result.0.tree ≡ shared.entry.now }
+        { claims(shared, odd, 3) },
+    );
+    let (even, to_even) = evens;
+    let (odd, to_odd) = odds;
+    tree.join(&mut first, even);
+    tree.join(&mut first, odd);
+    Ok((to_even, to_odd, tree.close(first)))
+}
+
+// How often a node was given.
+fn count(given: &[Option<NodeId>], node: NodeId) -> usize {
+    given.iter().filter(|given| **given == Some(node)).count()
+}
+
+// Each leaf goes to exactly one of two threads, and no other node to any.
+#[test]
+fn each_leaf_goes_to_one_thread(rt: HostRuntime) -> Result<(), Fail> {
+    let (to_even, to_odd, statuses) = share_out(&rt, rt.alloc())?;
+    for node in NodeId::all() {
+        let by_even = count(&to_even, node);
+        let by_odd = count(&to_odd, node);
+        let want = match (by_even, by_odd) {
+            (1, 0) => Status::Claimed(2),
+            (0, 1) => Status::Claimed(3),
+            _ => Status::Split,
+        };
+        let is_given = matches!((by_even, by_odd), (0, 1) | (1, 0));
+        assert!(rt; is_given == node.is_leaf(), "{node:?}");
+        assert!(rt; statuses[node.index()] == want, "{node:?}");
+    }
+    Ok(())
+}
+
+// Whether what was won at a node leads to this status, each of its steps once.
+fn lead_to(wins: &[(NodeId, Status)], node: NodeId, status: Status) -> bool {
+    let count = wins.iter().filter(|won| won.0 == node).count();
+    let has = |step| wins.contains(&(node, step));
+    match status {
+        Status::Free => count == 0,
+        Status::Split => count == 1 && has(Status::Split),
+        Status::Claimed(pull) => count == 1 && has(Status::Claimed(pull)),
+        Status::Partial(pull) => {
+            count == 2 && has(Status::Claimed(pull)) && has(Status::Partial(pull))
+        }
+        Status::Complete(pull) => {
+            count == 3
+                && has(Status::Claimed(pull))
+                && has(Status::Partial(pull))
+                && has(Status::Complete(pull))
+        }
+    }
+}
+
+// One step of one thread: which one, and at which node, follows from the round. Where it is won, the status that it
+// gives the node.
+fn step(
+    tree: &StatusTree,
+    seat: &mut TreeSeat,
+    round: u64,
+    node: NodeId,
+    own: u32,
+) -> Option<Status>
+    requires { seat.old.tree ≡ tree.now }
+    ensures { seat.new.tree ≡ tree.now }
+{
+    let pull = 1 + (round / 16 % 4) as u32;
+    let (won, status) = match (5 * (round % 16) + 7 * node.number()) % 16 {
+        0 => (tree.split(seat, node).is_ok(), Status::Split),
+        1 if node.number() >= 16 => (tree.claim(seat, node, own).is_ok(), Status::Claimed(own)),
+        2 => (tree.begin(seat, node, pull).is_ok(), Status::Partial(pull)),
+        3 => (
+            tree.complete(seat, node, pull).is_ok(),
+            Status::Complete(pull),
+        ),
+        _ => (false, Status::Free),
+    };
+    won.then_some(status)
+}
+
+// All steps of one thread, and what it won.
+fn work(
+    alloc: Global,
+    tree: &StatusTree,
+    mut seat: TreeSeat,
+    own: u32,
+) -> Result<(TreeSeat, Vec<(NodeId, Status)>), AllocError>
+    requires { seat.tree ≡ tree.now }
+    ensures { IfOk result (λ r. r.0.tree ≡ tree.now) }
+{
+    let mut wins = Vec::new(alloc);
+    for round in 0..256 {
+        for node in NodeId::all() {
+            if let Some(status) = step(tree, &mut seat, round, node, own) {
+                wins.push((node, status))?;
+            }
+        }
+    }
+    Ok((seat, wins))
+}
+
+// Two threads, and what they won.
+fn pair<R: Threads + Sync>(
+    rt: &R,
+    alloc: Global,
+    tree: &StatusTree,
+    left: TreeSeat,
+    right: TreeSeat,
+    own: u32,
+) -> Result<(TreeSeat, TreeSeat, Vec<(NodeId, Status)>), AllocError>
+    requires { (left.tree ≡ tree.now) × (right.tree ≡ tree.now) × (own < 99) }
+    ensures { IfOk result (λ r. (r.0.tree ≡ tree.now) × (r.1.tree ≡ tree.now)) }
+{
+    let (left, right) = thread::join(
+        rt,
+        move ||
+            requires { left.tree ≡ tree.now }
+            ensures { IfOk result (λ r. r.0.tree ≡ tree.entry.now) }
+        { work(alloc, tree, left, own) },
+        move ||
+            requires { (right.tree ≡ tree.now) × (own < 99) }
+            ensures { IfOk result (λ r. r.0.tree ≡ tree.entry.now) }
+        { work(alloc, tree, right, own + 1) },
+    );
+    let (left, mut wins) = left?;
+    let (right, mut others) = right?;
+    wins.append(&mut others)?;
+    Ok((left, right, wins))
+}
+
+// Four threads: what the tree has in the end, and what the threads won.
+fn four<R: Threads + Sync>(
+    rt: &R,
+    alloc: Global,
+) -> Result<([Status; NODES], Vec<(NodeId, Status)>), AllocError> {
+    let (tree, mut first) = StatusTree::open(alloc)?;
+    let a = tree.share(&mut first);
+    let b = tree.share(&mut first);
+    let c = tree.share(&mut first);
+    let d = tree.share(&mut first);
+    let shared = &tree;
+    let (left, right) = thread::join(
+        rt,
+        move ||
+            requires { (a.tree ≡ shared.now) × (b.tree ≡ shared.now) }
+            ensures { IfOk result (λ r. (r.0.tree ≡ shared.entry.now) × (r.1.tree ≡ shared.entry.now)) }
+        { pair(rt, alloc, shared, a, b, 1) },
+        move ||
+            requires { (c.tree ≡ shared.now) × (d.tree ≡ shared.now) }
+            ensures { IfOk result (λ r. (r.0.tree ≡ shared.entry.now) × (r.1.tree ≡ shared.entry.now)) }
+        { pair(rt, alloc, shared, c, d, 3) },
+    );
+    let (a, b, mut wins) = left?;
+    let (c, d, mut others) = right?;
+    wins.append(&mut others)?;
+    tree.join(&mut first, a);
+    tree.join(&mut first, b);
+    tree.join(&mut first, c);
+    tree.join(&mut first, d);
+    Ok((tree.close(first), wins))
+}
+
+// Four threads split, claim, begin and complete, and the statuses are those that what they won leads to.
+#[test]
+fn four_threads_agree_with_what_they_won(rt: HostRuntime) -> Result<(), Fail> {
+    for _ in 0..20 {
+        let (statuses, wins) = four(&rt, rt.alloc())?;
+        for node in NodeId::all() {
+            let status = statuses[node.index()];
+            assert!(rt; lead_to(&wins, node, status), "{node:?} is {status:?}");
+        }
+        let splits = wins.iter().filter(|won| won.1 == Status::Split).count();
+        let completes = wins
+            .iter()
+            .filter(|won| matches!(won.1, Status::Complete(_)));
+        assert!(rt; splits >= 15 && completes.count() >= 16);
+    }
+    Ok(())
+}

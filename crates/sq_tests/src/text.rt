@@ -1,0 +1,205 @@
+// Lines, headers and inputs.
+use crate::fixtures::{PLANS, has, schema, step};
+use sq_schema::{RowKey, Schema};
+use sq_text::{Piece, Pieces, read_header, read_step};
+use std::alloc::Global;
+use std::test::Fail;
+
+// Lines with the steps that they spell.
+const STEPS: [(&str, &str); 13] = [
+    ("prepare 1", "Prepare(1)"),
+    ("start", "Start"),
+    ("claim 0 1 2", "Claim { seg: 0, node: 1, pull: 2 }"),
+    ("begin 0 1 4", "Begin { seg: 0, node: 1, pull: 4 }"),
+    ("cut 1 0", "Cut { src: 1, dst: 0 }"),
+    ("push 0 1", "Push { src: 0, dst: 1 }"),
+    ("pop 0 1", "Pop { src: 0, dst: 1 }"),
+    ("load 0 1", "Load { src: 0, dst: 1 }"),
+    ("complete 0 1 2", "Complete { seg: 0, node: 1, pull: 2 }"),
+    ("report 1", "Report(1)"),
+    ("finish", "Finish"),
+    (
+        "txn 0 7 9 get 2 3",
+        "Submit(0, Txn { id: 7, root: Root(9), ops: [Get(RowKey { table: 2, sub: 3 })] })",
+    ),
+    (
+        "txn 1 6 5 put 1 7 3 6869 add 0 0 -3 del 1 8 check 0 0 11",
+        "Submit(1, Txn { id: 6, root: Root(5), ops: [Put(RowKey { table: 1, sub: 7 }, Row { number: 3, note: [104, 105] }), Add(RowKey { table: 0, sub: 0 }, -3), Del(RowKey { table: 1, sub: 8 }), Check(RowKey { table: 0, sub: 0 }, 11)] })",
+    ),
+];
+
+#[test]
+fn steps(rt: HostRuntime) -> Result<(), Fail> {
+    for (line, want) in STEPS {
+        let step = step(rt.alloc(), line)?;
+        let text = format!(in rt.alloc(); "{step:?}")?;
+        assert!(rt; text.as_str() == want, "{line} is {text}");
+    }
+    Ok(())
+}
+
+// Lines with the number by which a schema of so many tables refuses them, or 0 where they are steps.
+const REFUSED: [(&str, u8, u16); 23] = [
+    ("", 8, 230),
+    ("push 0", 8, 230),
+    ("split 0 1", 8, 230),
+    ("resume 1", 8, 230),
+    ("status 0 1", 8, 230),
+    (" start", 8, 230),
+    ("prepare 01", 8, 230),
+    ("prepare 18446744073709551616", 8, 230),
+    ("txn 0 1 5 get 256 0", 8, 230),
+    ("txn 0 1 5 add 0 0 -0", 8, 230),
+    ("txn 0 1 5", 8, 131),
+    ("txn 0 7 4294967296", 2, 131),
+    ("txn 0 1 4294967296 get 0 0", 8, 132),
+    ("txn 0 7 4294967296 get 2 0", 2, 132),
+    ("txn 0 1 5 get 8 0", 8, 133),
+    ("txn 0 7 4294967295 del 1 1 add 2 1 0 get 0 1", 2, 133),
+    ("txn 0 1 5 get 0 1", 8, 134),
+    ("txn 0 7 1 check 0 1 0 get 2 0", 2, 134),
+    ("txn 0 7 1 get 1 0", 1, 133),
+    ("txn 0 7 1 get 1 0", 2, 0),
+    ("txn 0 7 0 get 0 0", 2, 0),
+    ("txn 0 7 1 get 7 0", 8, 0),
+    ("txn 0 7 1 get 7 0", 7, 133),
+];
+
+#[test]
+fn lines_that_are_refused(rt: HostRuntime) -> Result<(), Fail> {
+    for (line, tables, want) in REFUSED {
+        let schema = Schema::new(tables).ok_or("no schema")?;
+        let fault = read_step(rt.alloc(), &schema, line.as_bytes()).err();
+        assert!(rt; fault.map_or(0, |fault| fault.number()) == want, "{line}");
+    }
+    Ok(())
+}
+
+// The number of the fault of an input's header, or 0 where it has an opening.
+fn fault_of(alloc: Global, input: &str) -> Result<u16, Fail> {
+    let fault = read_header(alloc, schema()?, &mut Pieces::of(input.as_bytes())).err();
+    Ok(fault.map_or(0, |fault| fault.number()))
+}
+
+// Headers with the numbers of their faults.
+const HEADERS: [(&str, u16); 16] = [
+    ("", 121),
+    ("old", 121),
+    ("old\n", 121),
+    ("new {}\n", 121),
+    (
+        "old {\"version\":1,\"partitions\":1,\"ranges\":[[0,4294967296,0]]}\r\nold {}\n",
+        121,
+    ),
+    ("old \n", 101),
+    ("old {\n", 101),
+    ("old [1]\n", 102),
+    ("old {\"version\":1}\n", 102),
+    ("old {\"version\":2}\n", 103),
+    ("old {\"version\":1,\"partitions\":17,\"ranges\":[]}\n", 104),
+    ("old {\"version\":1,\"partitions\":2,\"ranges\":[]}\n", 105),
+    (
+        "old {\"version\":1,\"partitions\":2,\"ranges\":[[0,4,0],[5,4294967296,0]]}\n",
+        105,
+    ),
+    (
+        "old {\"version\":1,\"partitions\":2,\"ranges\":[[0,4294967296,2]]}\n",
+        106,
+    ),
+    (
+        "old {\"version\":1,\"partitions\":2,\"ranges\":[[0,4294967296,0]]}
+new {\"version\":1,\"partitions\":1,\"ranges\":[[0,4294967296,0]]}
+config 0 64 1
+",
+        111,
+    ),
+    (
+        "old {\"version\":1,\"partitions\":2,\"ranges\":[[0,4294967296,0]]}
+new {\"version\":1,\"partitions\":2,\"ranges\":[[0,4294967296,1]]}
+config 65536 64 1
+",
+        113,
+    ),
+];
+
+#[test]
+fn faults_of_plans(rt: HostRuntime) -> Result<(), Fail> {
+    for (input, number) in HEADERS {
+        assert!(rt; fault_of(rt.alloc(), input)? == number, "{input}");
+    }
+    Ok(())
+}
+
+// What comes behind the lines of two plans, with the number of its fault, or 0 where it ends a header.
+const LINES: [(&str, u16); 27] = [
+    ("config 1 64 1\n", 0),
+    ("config 1 64 1\nrow\n", 0),
+    ("config 1 64 1\nrow 5 0 0 10 -\nprepare 0", 0),
+    ("config 1 64 1\nrows\nrow x\n", 0),
+    ("", 121),
+    ("config 1 64 1", 121),
+    ("config 1 64\n", 121),
+    ("config 1 64 1 1\n", 121),
+    ("config 01 64 1\n", 121),
+    ("config 18446744073709551616 64 1\n", 121),
+    ("config 0 64 1\n", 112),
+    ("config 1 63 1\n", 114),
+    ("config 1 64 65\n", 115),
+    ("config 0 63 65\nrow x\n", 112),
+    ("config 1 64 1\nrow 5 0 0 10 -", 121),
+    ("config 1 64 1\nrow 5 0 0 10\n", 121),
+    ("config 1 64 1\nrow 5 0 0 10 - \n", 121),
+    ("config 1 64 1\nrow 5 256 0 10 -\n", 121),
+    ("config 1 64 1\nrow 5 0 4294967296 10 -\n", 121),
+    ("config 1 64 1\nrow 5 0 0 10 6\n", 121),
+    ("config 1 64 1\nrow 4294967296 0 0 1 -\n", 132),
+    ("config 1 64 1\nrow 5 8 0 1 -\n", 133),
+    ("config 1 64 1\nrow 5 0 1 1 -\n", 134),
+    ("config 1 64 1\nrow 5 0 0 1 -\nrow 5 0 0 2 -\n", 136),
+    ("config 1 64 1\nrow 5 1 0 1 -\n", 137),
+    ("config 1 64 1\nrow 5 1 0 1 -\nrow x\n", 137),
+    ("config 1 64 1\nrow x\nrow 5 1 0 1 -\n", 121),
+];
+
+#[test]
+fn faults_of_sizes_and_rows(rt: HostRuntime) -> Result<(), Fail> {
+    for (lines, number) in LINES {
+        let input = format!(in rt.alloc(); "{PLANS}{lines}")?;
+        assert!(rt; fault_of(rt.alloc(), input.as_str())? == number, "{lines}");
+    }
+    Ok(())
+}
+
+#[test]
+fn a_header_and_the_script_after_it(rt: HostRuntime) -> Result<(), Fail> {
+    let lines = "config 1 64 2\nrow 5 0 0 10 -\nrow 5 1 7 3 6869\nprepare 0\n";
+    let input = format!(in rt.alloc(); "{PLANS}{lines}")?;
+    let mut pieces = Pieces::of(input.as_bytes());
+    let opening = read_header(rt.alloc(), schema()?, &mut pieces)?;
+    let config = opening.config();
+    assert!(rt; config.width == 1 && config.limit == 64 && config.capacity == 2);
+    assert!(rt;
+        has(
+            opening.table(),
+            5,
+            RowKey { table: 1, sub: 7 },
+            Some((3, b"hi"))
+        )
+    );
+    assert!(rt; pieces.next() == Some(Piece::Line(b"prepare 0")));
+    Ok(())
+}
+
+#[test]
+fn lines_of_an_input(rt: HostRuntime) {
+    let mut pieces = Pieces::of(b"start\n\npush 0");
+    for piece in [
+        Some(Piece::Line(b"start")),
+        Some(Piece::Line(b"")),
+        Some(Piece::Rest(b"push 0")),
+        None,
+    ] {
+        assert!(rt; pieces.next() == piece);
+    }
+    assert!(rt; Pieces::of(b"").next() == None);
+}

@@ -1,0 +1,261 @@
+// Worlds, and whole runs through readers and writers that give or take little at a time, or fail. The other whole runs
+// are stored in `tests/runs`.
+use crate::fixtures::{note, opening, step};
+use sq_chunk::Note;
+use sq_model::{Answer, Phase, Refusal, Step};
+use sq_ranges::GivenRow;
+use sq_store::VecStore;
+use sq_tree::Status;
+use sq_world::{Ending, World, WriteFault, run, run_world};
+use std::alloc::Global;
+use std::io;
+use std::io::{ErrorKind, Read, Write};
+use std::test::Fail;
+
+// The sizes and the row of an opening.
+const LINES: &str = "config 1 64 1\nrow 5 0 0 10 -\n";
+
+fn steps(alloc: Global, lines: &[&str]) -> Result<Vec<Step>, Fail> {
+    let mut steps = Vec::new(alloc);
+    for line in lines {
+        steps.push(step(alloc, line)?)?;
+    }
+    Ok(steps)
+}
+
+#[test]
+fn a_list_of_steps(rt: HostRuntime) -> Result<(), Fail> {
+    let steps = steps(rt.alloc(), &["start", "prepare 0"])?;
+    let (world, answers) = run_world(rt.alloc(), opening(rt.alloc(), LINES)?, &steps)?;
+    assert!(rt;
+        matches!(
+            answers.as_slice(),
+            [Answer::Refused(Refusal::NotPrepared), Answer::Done]
+        )
+    );
+    assert!(rt; world.phase() == Phase::Preparing);
+    Ok(())
+}
+
+// The root row of root key 5, with number 10.
+fn rows(alloc: Global) -> Result<Vec<GivenRow>, Fail> {
+    let mut rows = Vec::new(alloc);
+    rows.push(GivenRow {
+        root: 5,
+        table: 0,
+        sub: 0,
+        number: 10,
+        note: Vec::new(alloc),
+    })?;
+    Ok(rows)
+}
+
+#[test]
+fn a_world_before_any_step(rt: HostRuntime) -> Result<(), Fail> {
+    let parts = opening(rt.alloc(), "config 1 64 1\n")?.into_parts();
+    let rows = rows(rt.alloc())?;
+    let world = World::open(
+        rt.alloc(),
+        parts.schema,
+        parts.old,
+        parts.new,
+        parts.config,
+        rows,
+    )?;
+    assert!(rt; world.phase() == Phase::Idle && world.status(0, 63) == Some(Status::Free));
+    for (part, families) in [(0, Some(1)), (1, Some(0)), (2, None)] {
+        assert!(rt;
+            world.store(part).map(VecStore::len) == families,
+            "at {part}"
+        );
+    }
+    assert!(rt; world.under_way(0, 1, 0).is_none());
+    Ok(())
+}
+
+// The world of an opening after the steps of these lines.
+fn world_after(alloc: Global, lines: &[&str]) -> Result<World, Fail> {
+    let mut world = World::from_opening(alloc, opening(alloc, LINES)?)?;
+    for line in lines {
+        drop(world.step(&step(alloc, line)?));
+    }
+    Ok(world)
+}
+
+#[test]
+fn a_chunk_under_way(rt: HostRuntime) -> Result<(), Fail> {
+    let world = world_after(
+        rt.alloc(),
+        &[
+            "prepare 0",
+            "prepare 1",
+            "start",
+            "claim 0 1 2",
+            "begin 0 1 2",
+            "cut 0 1",
+        ],
+    )?;
+    let note = Note {
+        last: true,
+        ..note(0)?
+    };
+    let chunk = world.under_way(0, 1, 0).ok_or("no chunk")?;
+    assert!(rt; chunk.note() == note && chunk.len() == 1);
+    assert!(rt; world.phase() == Phase::Moving && world.status(0, 1) == Some(Status::Partial(2)));
+    assert!(rt; world.under_way(0, 1, 1).is_none());
+    Ok(())
+}
+
+// A move of the root keys 4 to 7 from partition 0 to partition 1, with answers of each form. Its last line is cut off,
+// and a chunk stays under way.
+const INPUT: &[u8] = b"old {\"version\":1,\"partitions\":2,\"ranges\":[[0,4294967296,0]]}
+new {\"version\":1,\"partitions\":2,\"ranges\":[[0,4,0],[4,8,1],[8,4294967296,0]]}
+config 1 64 1
+row 4 0 0 1 -
+row 5 0 0 10 -
+row 9 0 0 10 -
+prepare 0
+prepare 1
+start
+claim 0 1 2
+txn 0 7 5 add 0 0 1
+txn 0 6 9 put 1 7 3 6869 get 1 7 get 1 8 add 0 0 -3
+txn 0 5 9 check 0 0 11
+begin 0 1 2
+txn 0 8 5 add 0 0 1
+txn 1 9 5 add 0 0 1
+cut 0 1
+push 0 1
+pop 0 1
+load 0 1
+cut 0 1
+push 0";
+
+// All that is written for it.
+const OUTPUT: &[u8] = b"ok
+ok
+ok
+ok
+commit 7 11
+commit 6 ok 3/6869 none 7
+abort 5 0 small
+ok
+moved 8 1
+waits 9 0 1
+cut 0 0 1 4 5 more 1
+ok
+ok
+load 0 0 1 4 5 more 1
+cut 1 0 1 5 8 last 1
+refused 230
+end moving
+at 0 9 1 0.0=7/- 1.7=3/6869
+at 1 4 0 0.0=1/-
+way 0 1 1 0 1 5 8 last 1
+in 5 1 0.0=11/-
+";
+
+// A reader that gives one byte a call, and after the last one ends or fails.
+#[derive(Drop)]
+struct Drip<'a> {
+    rest: &'a [u8],
+    fails: bool,
+}
+
+impl Read for Drip<'_> {
+    fn read(&mut self, buf: &mut [u8]) -> io::Result<usize> {
+        if self.rest.is_empty() && self.fails {
+            return Err(io::Error::from(ErrorKind::BrokenPipe));
+        }
+        let most = buf.len().min(1);
+        self.rest.read(&mut buf[..most])
+    }
+}
+
+// A writer that takes three bytes a call, and fails when it holds as many as it may, or when it is flushed.
+#[derive(Drop)]
+struct Narrow {
+    got: Vec<u8>,
+    most: usize,
+    flushes: bool,
+}
+
+impl Write for Narrow {
+    fn write(&mut self, buf: &[u8]) -> io::Result<usize> {
+        let room = self.most.saturating_sub(self.got.len());
+        if room == 0 {
+            return Err(io::Error::from(ErrorKind::BrokenPipe));
+        }
+        let taken = buf.len().min(room).min(3);
+        self.got.extend_from_slice(&buf[..taken])?;
+        Ok(taken)
+    }
+
+    fn flush(&mut self) -> io::Result<()> {
+        if self.flushes {
+            Ok(())
+        } else {
+            Err(io::Error::from(ErrorKind::BrokenPipe))
+        }
+    }
+}
+
+#[test]
+fn short_reads_and_writes(rt: HostRuntime) -> Result<(), Fail> {
+    let mut reader = Drip {
+        rest: INPUT,
+        fails: false,
+    };
+    let mut writer = Narrow {
+        got: Vec::new(rt.alloc()),
+        most: OUTPUT.len(),
+        flushes: true,
+    };
+    let ending = run(rt.alloc(), &mut reader, &mut writer)?;
+    assert!(rt; ending == Ending::Done && ending.status() == 0);
+    assert!(rt; writer.got.as_slice() == OUTPUT);
+    Ok(())
+}
+
+#[test]
+fn readers_that_fail(rt: HostRuntime) -> Result<(), Fail> {
+    for most in 0..=INPUT.len() {
+        let mut reader = Drip {
+            rest: &INPUT[..most],
+            fails: true,
+        };
+        let mut output = Vec::new(rt.alloc());
+        let ending = run(rt.alloc(), &mut reader, &mut output)?;
+        assert!(rt; ending.status() == 2 && output.as_slice() == b"fault 123\n".as_slice());
+    }
+    Ok(())
+}
+
+// Whether a run through a writer that fails after so many bytes fails, after the first of what it writes otherwise.
+fn fails_to_write(alloc: Global, mut input: &[u8], output: &[u8], most: usize) -> bool {
+    let mut writer = Narrow {
+        got: Vec::new(alloc),
+        most,
+        flushes: false,
+    };
+    let ending = run(alloc, &mut input, &mut writer);
+    ending == Err(WriteFault) && output.starts_with(&writer.got) && writer.got.len() == most
+}
+
+#[test]
+fn writers_that_fail(rt: HostRuntime) {
+    let fault = b"fault 101\n";
+    for most in 0..=OUTPUT.len() {
+        assert!(rt;
+            fails_to_write(rt.alloc(), INPUT, OUTPUT, most),
+            "after {most}"
+        );
+    }
+    for most in 0..=fault.len() {
+        assert!(rt;
+            fails_to_write(rt.alloc(), b"old {\n", fault, most),
+            "after {most}"
+        );
+    }
+    assert!(rt; WriteFault.number() == 124);
+}

@@ -1,9 +1,0 @@
-pub mod WorldValue
-pub mod LeaderTurn
-pub mod TreeTurn
-pub mod LinkTurn
-pub mod SubmitTurn
-pub mod Turn
-pub mod Holds
-pub mod Goes
-pub mod Opened
