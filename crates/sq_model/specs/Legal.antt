@@ -9,7 +9,7 @@ use Rattle.sq_model.specs.declared.answer.Refusal.TheVariants.{Memory}
 use Rattle.sq_model.specs.Trace.{Trace}
 use Rattle.sq_model.specs.Answers.{answer}
 
--- a step with this answer takes memory: a transaction that runs or waits, and a Begin, a Cut or a Load that goes
+-- a step with this answer takes memory: a transaction that runs or waits, and a Begin, a Cut or a Load that is done
 abbrev pub takes_memory : Step → Answer → Bool
 takes_memory (Submit part txn) (Replied id reply) = true
 takes_memory (Submit part txn) (Waits id seg leaf) = true
@@ -18,7 +18,7 @@ takes_memory (Cut src dst) (WasCut note families) = true
 takes_memory (Load src dst) (WasLoaded note families) = true
 takes_memory _ _ = false
 
--- the answer is the one that the trace determines, or that there is no memory, where the step takes some
+-- the answer is the one that the trace determines, or, where the step takes memory, that it ran out
 abbrev pub IsAnswer : OpeningValue → Trace → Step → Answer → Type 0
 IsAnswer o t step given =
     (given ≡ answer o t step) ⊎ ((given ≡ Refused Memory) × IsTrue (takes_memory step (answer o t step)))
@@ -28,7 +28,7 @@ abbrev pub IsLegal : OpeningValue → Trace → Type 0
 IsLegal o [] = Unit {0}
 IsLegal o ((step, given) ∷ trace) = IsAnswer o trace step given × IsLegal o trace
 
--- the answers to steps, one after another, where memory never lacks
+-- the answers to steps, one after another, where memory never runs out
 abbrev pub answers : OpeningValue → Trace → List Step → List Answer
 answers o t [] = []
 answers o t (step ∷ steps) = answer o t step ∷ answers o ((step, answer o t step) ∷ t) steps

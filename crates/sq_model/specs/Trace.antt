@@ -1,4 +1,4 @@
--- A trace is the steps so far with their answers, the newest first. What it tells is told by the steps that went.
+-- A trace is the steps so far with their answers, the newest first. What it says follows from the steps that went.
 use Rattle.std.specs.Prelude.{ℕ, ◌+◌, ◌==◌, ◌&&◌, if◌then◌else◌, List, [], ◌∷◌, ◌++◌, filter, length}
 use Rattle.sq_schema.specs.TxnValue.{TxnValue}
 use Rattle.sq_schema.specs.declared.txn.Reply.TheVariants.{Committed}

@@ -75,7 +75,7 @@ abbrev pub whole_path_answers : List Answer
 whole_path_answers =
     begun_answers ++ Done ∷ Done ∷ WasCut (noted 0 1 4 8) 1 ∷ Done ∷ Done ∷ WasLoaded (noted 0 1 4 8) 1 ∷ Done ∷ Done ∷ Done ∷ got 9 (pos 10) ∷ []
 
--- a row of this size in the way: one root row with a note
+-- one root row with a note, which makes its family larger
 abbrev pub noted_row : ℤ → List ℕ → RowList
 noted_row number note = (root_key, record { number = number; note = note }) ∷ []
 

@@ -23,7 +23,6 @@ pub enum Answer {
     Moved {
         /// The transaction's number.
         id: u64,
-        /// That partition.
         to: PartId,
     },
     /// The transaction waits for its rows.

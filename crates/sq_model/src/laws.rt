@@ -1,4 +1,4 @@
-// Laws of the definitions: worked examples, computed by the checker, and two limits.
+// Laws of the definitions: worked examples, which the checker computes, two limits, and what every legal history keeps.
 ghost use Rattle.std.specs.Prelude.{◌≡◌, ◌≤◌, ◌<◌, ℕ, [], length, false, true, Some};
 ghost use Rattle.sq_schema.specs.TxnValue.{TxnValue};
 ghost use Rattle.sq_ranges.specs.OpeningValue.{OpeningValue};

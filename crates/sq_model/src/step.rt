@@ -12,55 +12,41 @@ pub enum Step {
     Submit(u64, Txn),
     /// A node of a segment is claimed for a pull.
     Claim {
-        /// The segment.
         seg: u64,
-        /// The node.
         node: u64,
         /// The pull: odd for a reactive one, even for an asynchronous one.
         pull: u32,
     },
     /// The source gives a claimed node up.
     Begin {
-        /// The segment.
         seg: u64,
-        /// The node.
         node: u64,
         /// The pull that claimed it.
         pull: u32,
     },
     /// The source cuts the next chunk for a destination.
     Cut {
-        /// The source.
         src: u64,
-        /// The destination.
         dst: u64,
     },
     /// The chunk that was cut goes onto its link.
     Push {
-        /// The source.
         src: u64,
-        /// The destination.
         dst: u64,
     },
     /// The oldest chunk on the link comes to the destination.
     Pop {
-        /// The source.
         src: u64,
-        /// The destination.
         dst: u64,
     },
     /// The destination loads the chunk that came.
     Load {
-        /// The source.
         src: u64,
-        /// The destination.
         dst: u64,
     },
     /// A node is completed, all of which was loaded.
     Complete {
-        /// The segment.
         seg: u64,
-        /// The node.
         node: u64,
         /// The pull that began it.
         pull: u32,

@@ -20,7 +20,7 @@ pub record AreRootsOf (roots : List ℕ) (txns : List TxnValue) : Type 0 where
 abbrev pub is_log_full : PartitionValue → TxnValue → Bool
 is_log_full part txn = nat_le MAX_LOG (length (family_at part.store txn.root).log)
 
--- why a transaction doesn't run: its log is full, or memory lacks
+-- why a transaction doesn't run: its log is full, or memory runs out
 abbrev pub IsRunRefusal : Bool → Refusal → Type 0
 IsRunRefusal true refusal = refusal ≡ LogFull
 IsRunRefusal false refusal = refusal ≡ Memory

@@ -98,7 +98,7 @@ impl LinkState {
         Ok(())
     }
 
-    /// Puts the chunk that was cut onto the link, which holds so many at most.
+    /// Moves the chunk that was cut onto the queue, which holds at most `capacity` chunks.
     pub fn push(&mut self, capacity: u64) -> Result<(), Refusal>
         requires { capacity ≤ MAX_CAPACITY }
         ensures answer { result_err result ≡ push_fault capacity self.old }
@@ -119,7 +119,7 @@ impl LinkState {
         Ok(())
     }
 
-    /// Takes the oldest chunk off the link.
+    /// Moves the oldest chunk of the queue into the inbox.
     pub fn pop(&mut self) -> Result<(), Refusal>
         ensures answer { result_err result ≡ pop_fault self.old }
         ensures ok { OnOk result ((self.old.queue ≡ option_list self.new.inbox ++ self.new.queue) × (is_some self.new.inbox ≡ true) × (self.new ≡ record self.old { queue = self.new.queue; inbox = self.new.inbox })) }
@@ -210,14 +210,14 @@ impl LinkState {
     }
 }
 
-// Where the first work stands that a transaction waits for.
+// The place of the first work of a reactive pull.
 fn first_reactive(work: &[Work]) -> Option<usize>
     ensures { result ≡ position is_odd work.now }
 {
     work.iter().position(|work| work.is_reactive())
 }
 
-// Where the work stands that is done next: the first for a reactive pull, or where there is none the first.
+// The place of the work that is done next: the first of a reactive pull, or the first where there is none.
 #[tactic(auto, using(crate::proofs::Works::front_found, crate::proofs::Works::front_first, crate::proofs::Works::front_none))]
 fn next_work(work: &[Work]) -> Option<usize>
     ensures { result ≡ next_work work.now }

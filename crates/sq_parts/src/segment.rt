@@ -57,7 +57,7 @@ impl Segment {
         )
     }
 
-    /// The first key of a leaf, or of what is moved with it, that isn't loaded.
+    /// How far the node is loaded that a leaf is moved with: the first of its keys that isn't.
     pub fn loaded_upto(&self, leaf: Leaf) -> u64
         ensures { result ≡ (slice_index_or self.now.progress (covering (status_at self.now.statuses) leaf - 1) no_progress).upto }
     {
@@ -85,7 +85,7 @@ impl Segment {
         self.progress[node.index()]
     }
 
-    /// Says how far a node is loaded.
+    /// Records how far a node is loaded.
     pub fn set_progress(&mut self, node: NodeId, reached: Progress)
         ensures { self.new ≡ record self.old { progress = slice_set self.old.progress (node - 1) reached } }
     {

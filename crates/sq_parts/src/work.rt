@@ -27,7 +27,7 @@ impl Model for Work {
 }
 
 impl Work {
-    /// All of a node, whose keys are these.
+    /// The work on a whole node, which has these keys.
     pub fn new(seg: SegId, node: NodeId, pull: u32, keys: Extent) -> Work
         ensures { result ≡ record { seg = seg; node = node; pull = pull; rest = keys.lo; hi = keys.hi } }
     {
@@ -40,14 +40,12 @@ impl Work {
         }
     }
 
-    /// The segment.
     pub fn seg(self) -> SegId
         ensures { result ≡ self.seg }
     {
         self.seg
     }
 
-    /// The node.
     pub fn node(self) -> NodeId
         ensures { result ≡ self.node }
     {

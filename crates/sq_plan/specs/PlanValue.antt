@@ -5,6 +5,7 @@ use Rattle.sq_schema.specs.declared.root.TheConstants.{ROOT_END}
 use Rattle.sq_plan.specs.declared.plan.PlanRange.{PlanRange}
 use Rattle.sq_plan.specs.declared.plan.TheConstants.{MAX_PARTS, MAX_RANGES}
 
+-- how many partitions there are, and which of them owns which root keys
 pub record PlanValue : Type 0 where
   pub parts : ℕ
   pub ranges : List PlanRange
@@ -14,6 +15,7 @@ abbrev pub is_tiling : ℕ → List PlanRange → Bool
 is_tiling lo [] = lo == ROOT_END
 is_tiling lo (range ∷ ranges) = (range.lo == lo) && (nat_lt range.lo range.hi && is_tiling range.hi ranges)
 
+-- there are partitions, not too many; the ranges tile the root keys, and the partitions own them
 pub record IsPlan (plan : PlanValue) : Type 0 where
   pub some_part : 1 ≤ plan.parts
   pub few_parts : plan.parts ≤ MAX_PARTS
@@ -25,6 +27,7 @@ pub record IsPlan (plan : PlanValue) : Type 0 where
 abbrev pub holds : PlanRange → ℕ → Bool
 holds range key = nat_le range.lo key && nat_lt key range.hi
 
+-- the owner of a range that was found
 abbrev pub owner_in : Option PlanRange → ℕ
 owner_in None = 0
 owner_in (Some range) = range.owner

@@ -93,7 +93,7 @@ impl Recon {
     }
 
     /// What moves between two plans, cut into segments of [`LEAVES`] leaves of `width` root keys each. It is refused where
-    /// [`Recon::fault`] finds a cause; memory is taken, and may be wanted, only where it finds none.
+    /// [`Recon::fault`] finds a cause; memory is taken, and may run out, only where it finds none.
     pub fn between(alloc: Global, old: &Plan, new: &Plan, width: u64) -> Result<Recon, ReconFault>
         ensures answer { MatchResult result
             (λ recon. (recon_fault old.now new.now width ≡ None) × (recon ≡ recon_of old.now new.now width))

@@ -19,15 +19,19 @@ use Rattle.sq_schema.specs.TxnValue.{TxnValue}
 abbrev pub RowList : Type 0
 RowList = List (RowKey × RowValue)
 
+-- the key of the root row
 abbrev pub root_key : RowKey
 root_key = record { table = 0; sub = 0 }
 
+-- the row that a key has, if it has one
 abbrev pub row_at : RowList → RowKey → Option RowValue
 row_at rows key = find key_cmp key rows
 
+-- the rows with this one put, new or in place of the one that stands
 abbrev pub with_row : RowList → RowKey → RowValue → RowList
 with_row rows key row = put key_cmp key row rows
 
+-- the rows without that of a key
 abbrev pub without_row : RowList → RowKey → RowList
 without_row rows key = where_key key_cmp (λ other. not (eq_by_cmp key_cmp key other)) rows
 
@@ -45,6 +49,7 @@ abbrev pub put_outcome : RowList → RowKey → RowValue → OpOutcome
 put_outcome rows key row =
     if not (key.table == 0) && not (is_some (row_at rows root_key)) then Err NoRoot else Ok (with_row rows key row, Done)
 
+-- the number of a row that stands grows by this, where the sum is an `i64`
 abbrev pub add_outcome : RowList → RowKey → ℤ → Option RowValue → OpOutcome
 add_outcome rows key by None = Err Absent
 add_outcome rows key by (Some row) =
@@ -52,15 +57,18 @@ add_outcome rows key by (Some row) =
     then Ok (with_row rows key (record { number = row.number +ℤ by; note = row.note }), Number (row.number +ℤ by))
     else Err Range
 
+-- a row that stands is deleted, the root row only where it stands alone
 abbrev pub del_outcome : RowList → RowKey → Option RowValue → OpOutcome
 del_outcome rows key None = Err Absent
 del_outcome rows key (Some row) =
     if eq_by_cmp key_cmp key root_key && not (length rows == 1) then Err Children else Ok (without_row rows key, Done)
 
+-- a row stands, and its number isn't below this
 abbrev pub check_outcome : RowList → ℤ → Option RowValue → OpOutcome
 check_outcome rows least None = Err Absent
 check_outcome rows least (Some row) = if is_lt (int_cmp row.number least) then Err Small else Ok (rows, Done)
 
+-- what this operation comes to
 abbrev pub op_outcome : RowList → Op → OpOutcome
 op_outcome rows (Get key) = Ok (rows, Found (row_at rows key))
 op_outcome rows (Put key row) = put_outcome rows key row
@@ -72,6 +80,7 @@ op_outcome rows (Check key least) = check_outcome rows least (row_at rows key)
 abbrev pub OpsOutcome : Type 0
 OpsOutcome = Result (RowList × List OpAnswer) (ℕ × Cause)
 
+-- what the rest comes to, with the answer before those of the rest
 abbrev pub with_answer : OpAnswer → OpsOutcome → OpsOutcome
 with_answer answer (Ok told) = Ok (told.0, answer ∷ told.1)
 with_answer answer (Err abort) = Err abort
@@ -81,14 +90,17 @@ abbrev pub then_rest : ℕ → (RowList → OpsOutcome) → OpOutcome → OpsOut
 then_rest at rest (Ok done) = with_answer done.1 (rest done.0)
 then_rest at rest (Err cause) = Err (at, cause)
 
+-- what these operations come to, of which the first has this position
 abbrev pub ops_outcome : ℕ → List Op → RowList → OpsOutcome
 ops_outcome at [] rows = Ok (rows, [])
 ops_outcome at (op ∷ ops) rows = then_rest at (ops_outcome (at + 1) ops) (op_outcome rows op)
 
+-- the rows after the operations, which are those before them where one aborts
 abbrev pub rows_after : RowList → OpsOutcome → RowList
 rows_after rows (Ok told) = told.0
 rows_after rows (Err abort) = rows
 
+-- what a transaction is answered whose operations come to this
 abbrev pub reply_of : OpsOutcome → Reply
 reply_of (Ok told) = Committed told.1
 reply_of (Err abort) = Aborted abort.0 abort.1
@@ -109,6 +121,7 @@ replay_rows rows txns = fold effect rows txns
 abbrev pub RowTable : Type 0
 RowTable = ℕ → RowList
 
+-- the table after a transaction, which changes the rows of its root key alone
 abbrev pub table_after : RowTable → TxnValue → RowTable
 table_after table txn root = if txn.root == root then effect (table root) txn else table root
 

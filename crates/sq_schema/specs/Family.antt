@@ -6,6 +6,7 @@ use Rattle.sq_schema.specs.Values.{RowValue}
 use Rattle.sq_schema.specs.Effect.{RowList, replay_rows}
 use Rattle.sq_schema.specs.TxnValue.{TxnValue}
 
+-- a root key, the rows that its log starts from, and its log
 pub record FamilyValue : Type 0 where
   pub root : ℕ
   pub base : RowList

@@ -18,6 +18,7 @@ key_fault tables key =
     then Some BadTable
     else (if key.table == 0 && not (key.sub == 0) then Some BadSub else None)
 
+-- a note isn't too long
 abbrev pub note_fault : List ℕ → Option TxnFault
 note_fault note = if nat_lt MAX_NOTE (length note) then Some BadNote else None
 
@@ -25,6 +26,7 @@ note_fault note = if nat_lt MAX_NOTE (length note) then Some BadNote else None
 abbrev pub row_fault : ℕ → RowKey → RowValue → Option TxnFault
 row_fault tables key row = option_or (key_fault tables key) (note_fault row.note)
 
+-- an operation of such a schema: the key of its row, and the row that it puts
 abbrev pub op_fault : ℕ → Op → Option TxnFault
 op_fault tables (Get key) = key_fault tables key
 op_fault tables (Put key row) = row_fault tables key row

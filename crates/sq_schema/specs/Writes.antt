@@ -11,6 +11,7 @@ use Rattle.sq_schema.specs.Rows.{is_entry, IsRowList}
 abbrev pub Write : Type 0
 Write = RowKey × Option RowValue
 
+-- the rows after a write
 abbrev pub with_write : RowList → RowKey → Option RowValue → RowList
 with_write rows key (Some row) = with_row rows key row
 with_write rows key None = without_row rows key
@@ -19,11 +20,12 @@ with_write rows key None = without_row rows key
 abbrev pub with_writes : RowList → List Write → RowList
 with_writes rows writes = fold (λ now write. with_write now write.0 write.1) rows writes
 
--- what is written is sound
+-- a row that is written under this key is sound
 abbrev pub is_sound : RowKey → Option RowValue → Bool
 is_sound key None = true
 is_sound key (Some row) = is_entry (key, row)
 
+-- what the write puts is sound
 abbrev pub is_write : Write → Bool
 is_write write = is_sound write.0 write.1
 

@@ -1,24 +1,13 @@
 -- What a store answers to commands, as a finite map by root key.
-use Rattle.std.specs.Prelude.{◌≡◌, ◌==◌, ◌&&◌, ◌<◌, ◌≤◌, ℕ, true, false, List, [], ◌∷◌, length, Ok, Err}
+use Rattle.std.specs.Prelude.{◌≡◌, ◌<◌, ◌≤◌, true, false, List, [], ◌∷◌, Ok, Err}
 use Rattle.sq_schema.specs.declared.family.TheConstants.{MAX_LOG}
 use Rattle.sq_schema.specs.declared.fault.ApplyFault.TheVariants.{LogFull, Memory}
-use Rattle.sq_ranges.specs.declared.recon.Extent.{Extent}
-use Rattle.sq_store.specs.declared.store.Cut.{Cut}
 use Rattle.sq_store.specs.declared.command.StoreCommand.{StoreCommand}
 use Rattle.sq_store.specs.declared.command.StoreCommand.TheVariants.{Apply, Take, Give}
 use Rattle.sq_store.specs.declared.command.StoreAnswer.{StoreAnswer}
 use Rattle.sq_store.specs.declared.command.StoreAnswer.TheVariants.{Applied, Taken, Given, NotGiven}
-use Rattle.sq_store.specs.StoreValue.{StoreValue, family_at, store_reply, store_after, families_between, without_between, take_end, with_families, roots_differ, has_none_of}
-
--- how many transactions the family of a root key has in its log
-abbrev pub log_length : StoreValue → ℕ → ℕ
-log_length store root = length (family_at store root).log
-
--- what is taken of an extent: the first family, and then as many as fit into so many bytes
-pub record IsTaken (store : StoreValue) (extent : Extent) (limit : ℕ) (cut : Cut) : Type 0 where
-  pub end : cut.end ≡ take_end store extent.lo extent.hi limit
-  pub last : cut.last ≡ (cut.end == extent.hi)
-  pub families : cut.families.items ≡ families_between store extent.lo cut.end
+use Rattle.sq_store.specs.StoreValue.{StoreValue, log_length, store_reply, store_after, without_between, with_families, can_give}
+use Rattle.sq_store.specs.Cut.{IsCutOf}
 
 -- the answer to a command, and the store after it
 abbrev pub IsStoreAnswer : StoreValue → StoreCommand → StoreAnswer → StoreValue → Type 0
@@ -27,14 +16,11 @@ IsStoreAnswer store (Apply txn) (Applied (Ok reply)) after =
 IsStoreAnswer store (Apply txn) (Applied (Err LogFull)) after = (MAX_LOG ≤ log_length store txn.root) × (after ≡ store)
 IsStoreAnswer store (Apply txn) (Applied (Err Memory)) after = (log_length store txn.root < MAX_LOG) × (after ≡ store)
 IsStoreAnswer store (Take extent limit) (Taken (Ok cut)) after =
-    IsTaken store extent limit cut × (after ≡ without_between store extent.lo cut.end)
+    IsCutOf store extent limit cut × (after ≡ without_between store extent.lo cut.end)
 IsStoreAnswer store (Take extent limit) (Taken (Err memory)) after = after ≡ store
-IsStoreAnswer store (Give families) (Given (Ok done)) after =
-    ((roots_differ families.items && has_none_of store families.items) ≡ true) × (after ≡ with_families store families.items)
-IsStoreAnswer store (Give families) (Given (Err back)) after =
-    ((roots_differ families.items && has_none_of store families.items) ≡ true) × (back.items ≡ families.items) × (after ≡ store)
-IsStoreAnswer store (Give families) (NotGiven back) after =
-    ((roots_differ families.items && has_none_of store families.items) ≡ false) × (back.items ≡ families.items) × (after ≡ store)
+IsStoreAnswer store (Give families) (Given (Ok done)) after = (can_give store families.items ≡ true) × (after ≡ with_families store families.items)
+IsStoreAnswer store (Give families) (Given (Err back)) after = (can_give store families.items ≡ true) × (back.items ≡ families.items) × (after ≡ store)
+IsStoreAnswer store (Give families) (NotGiven back) after = (can_give store families.items ≡ false) × (back.items ≡ families.items) × (after ≡ store)
 IsStoreAnswer store command answer after = ⊥
 
 -- the answers to commands in their order, and the store after them

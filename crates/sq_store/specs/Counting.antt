@@ -7,7 +7,7 @@ use Rattle.sq_schema.specs.Family.{FamilyValue, rows_of, rows_size}
 abbrev pub family_size : FamilyValue → ℕ
 family_size family = rows_size (rows_of family)
 
--- how many families from the front fit into so many bytes
+-- how many families from the front fit into this room
 abbrev pub fitting : ℕ → List FamilyValue → ℕ
 fitting room [] = 0
 fitting room (family ∷ families) = if nat_le (family_size family) room then suc (fitting (room - family_size family) families) else 0
@@ -17,6 +17,6 @@ abbrev pub chunk_count : ℕ → List FamilyValue → ℕ
 chunk_count limit [] = 0
 chunk_count limit (family ∷ families) = suc (fitting (limit - family_size family) families)
 
--- the root key after so many families, or the upper bound
+-- the root key after this many families, or the upper bound
 abbrev pub root_after : ℕ → List FamilyValue → ℕ → ℕ
 root_after hi families count = option_map_or (λ family. family.root) (slice_get families count) hi

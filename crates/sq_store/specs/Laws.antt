@@ -9,8 +9,8 @@ use Rattle.sq_store.specs.Counting.{family_size}
 abbrev pub total_size : List FamilyValue → ℕ
 total_size families = sum_by family_size families
 
--- the families from lo up to this end are as many as may be taken: they fit into so many bytes, or there is one alone;
--- and where it ends before hi some are taken, and the family that stands at the end doesn't fit with them
+-- the families from lo up to this end are as many as a chunk of at most this size takes: they fit, or there is one
+-- alone; and where it ends before hi there is one, and the family that stands at the end doesn't fit with them
 pub record IsFullest (store : StoreValue) (lo hi limit end : ℕ) : Type 0 where
   pub fits : (total_size (families_between store lo end) ≤ limit) ⊎ (length (families_between store lo end) ≡ 1)
   pub some : end < hi → 0 < length (families_between store lo end)

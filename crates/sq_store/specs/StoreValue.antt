@@ -1,5 +1,5 @@
 -- What a store contains: a finite map from root keys to families, however it is kept.
-use Rattle.std.specs.Prelude.{ℕ, Bool, true, ◌==◌, ◌&&◌, not, nat_le, nat_lt, List, [], ◌∷◌, ◌++◌, map, fold, filter, Option, is_none, unwrap_or, find}
+use Rattle.std.specs.Prelude.{ℕ, Bool, true, ◌==◌, ◌&&◌, not, nat_le, nat_lt, List, [], ◌∷◌, ◌++◌, length, map, fold, filter, Option, is_none, unwrap_or, find}
 use Rattle.std.specs.List.{list_any, list_all}
 use Rattle.std.specs.Ordering.{nat_cmp}
 use Rattle.std.specs.FinMap.{FinMap, get, insert, entries, retain_keys}
@@ -21,6 +21,10 @@ absent root = record { root = root; base = []; log = [] }
 -- the family of a root key, which may be an empty one that doesn't stand
 abbrev pub family_at : StoreValue → ℕ → FamilyValue
 family_at store root = unwrap_or (get store root) (absent root)
+
+-- how many transactions the log of its family holds
+abbrev pub log_length : StoreValue → ℕ → ℕ
+log_length store root = length (family_at store root).log
 
 -- what a transaction is answered on the family of its root key
 abbrev pub store_reply : StoreValue → TxnValue → Reply
@@ -47,7 +51,7 @@ without_between store lo hi = retain_keys store (λ root. not (nat_le lo root &&
 abbrev pub stored_size : StoreValue → ℕ → ℕ
 stored_size store root = rows_size (rows_of (family_at store root))
 
--- where a chunk ends that takes families from lo on, below hi and within so many bytes
+-- where a chunk of at most this size ends that takes families from lo on and below hi
 abbrev pub take_end : StoreValue → ℕ → ℕ → ℕ → ℕ
 take_end store lo hi limit = end_of (stored_size store) hi limit (map (λ family. family.root) (families_between store lo hi))
 
@@ -67,3 +71,7 @@ roots_differ (family ∷ families) = not (list_any (λ other. other.root == fami
 -- the store has a family of none of these root keys
 abbrev pub has_none_of : StoreValue → List FamilyValue → Bool
 has_none_of store families = list_all (λ family. is_none (get store family.root)) families
+
+-- these families can be given: their root keys differ, and none of them stands
+abbrev pub can_give : StoreValue → List FamilyValue → Bool
+can_give store families = roots_differ families && has_none_of store families

@@ -9,7 +9,7 @@ use std::alloc::AllocError;
 pub enum StoreCommand {
     /// Runs a transaction.
     Apply(Txn),
-    /// Takes families of an extent out, within so many bytes.
+    /// Takes families of an extent out, of at most this size in bytes.
     Take(Extent, u64),
     /// Puts families in.
     Give(Vec<Family>),

@@ -1,9 +1,9 @@
 // What a store of families promises, however it keeps them.
-ghost use Rattle.std.specs.Prelude.{◌≡◌, ◌≤◌, ◌==◌, ◌↔◌, length, IfOk, IfErr, IfSome, OnOk, OnErr, IsErrOf, IsTrue};
+ghost use Rattle.std.specs.Prelude.{◌≡◌, ◌≤◌, ◌↔◌, IfOk, IfErr, IfSome, OnOk, OnErr, IsErrOf, IsTrue};
 ghost use Rattle.std.specs.Option.{option_copied};
 ghost use Rattle.std.specs.FinMap.{get};
 ghost use Rattle.sq_schema.specs.declared.family.TheConstants.{MAX_LOG};
-ghost use Rattle.sq_store.specs.StoreValue.{StoreValue, family_at, store_reply, store_after, families_between, without_between, take_end, with_families, roots_differ, has_none_of};
+ghost use Rattle.sq_store.specs.StoreValue.{StoreValue, log_length, store_reply, store_after, without_between, with_families, roots_differ, has_none_of};
 ghost use Rattle.sq_store.specs.InOrder.{family_from, are_within, HoldsByRoot};
 
 use sq_ranges::Extent;
@@ -23,6 +23,8 @@ pub struct Cut {
 
 /// The families of one partition: a finite map from root keys to families, however they are kept.
 pub trait FamilyStore {
+    ghost use Rattle.sq_store.specs.Cut.{IsCutOf};
+
     /// The families by root key.
     ghost contents: { Self → StoreValue };
 
@@ -41,7 +43,7 @@ pub trait FamilyStore {
     /// it commits the family stands then, with the transaction at the end of its log; where it aborts, and on an
     /// error, the store stays as it was. A full log refuses before any operation is looked at.
     fn apply(&mut self, txn: &Txn) -> Result<Reply, ApplyFault>
-        ensures full { IsErrOf result ApplyFault.LogFull ↔ (MAX_LOG ≤ length (family_at (contents self.old) txn.now.root).log) }
+        ensures full { IsErrOf result ApplyFault.LogFull ↔ (MAX_LOG ≤ log_length (contents self.old) txn.now.root) }
         ensures reply { IfOk result (λ reply. reply ≡ store_reply (contents self.old) txn.now) }
         ensures store { IfOk result (λ reply. contents self.new ≡ store_after (contents self.old) txn.now reply) }
         ensures err { OnErr result (contents self.new ≡ contents self.old) };
@@ -49,9 +51,7 @@ pub trait FamilyStore {
     /// Takes families of an extent out, by rising root key: the first, and then as many as fit with it into `limit`
     /// bytes. Where there is no memory for them the store stays as it was.
     fn take(&mut self, extent: Extent, limit: u64) -> Result<Cut, AllocError>
-        ensures end { IfOk result (λ cut. cut.end ≡ take_end (contents self.old) extent.lo extent.hi limit) }
-        ensures last { IfOk result (λ cut. cut.last ≡ (cut.end == extent.hi)) }
-        ensures families { IfOk result (λ cut. cut.families.items ≡ families_between (contents self.old) extent.lo cut.end) }
+        ensures cut { IfOk result (IsCutOf (contents self.old) extent limit) }
         ensures store { IfOk result (λ cut. contents self.new ≡ without_between (contents self.old) extent.lo cut.end) }
         ensures err { OnErr result (contents self.new ≡ contents self.old) }
 
@@ -59,8 +59,8 @@ pub trait FamilyStore {
         ensures upto { IfOk result (λ cut. cut.end ≤ extent.hi) }
         ensures within { IfOk result (λ cut. IsTrue (are_within extent.lo cut.end cut.families.items)) };
 
-    /// Puts families in, in any order. Where there is no memory for them all they come back, and the store stays as it
-    /// was.
+    /// Puts families in, in any order, whose root keys differ and none of which stands. Where there is no memory for
+    /// them all they come back, and the store stays as it was.
     fn give(&mut self, families: Vec<Family>) -> Result<(), Vec<Family>>
         requires differ { IsTrue (roots_differ families.items) }
         requires absent { IsTrue (has_none_of (contents self.old) families.items) }

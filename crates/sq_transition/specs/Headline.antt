@@ -1,4 +1,4 @@
--- A world goes as its history says: the history is legal and its moves are orderly, and the world is the one that it leads to.
+-- The headline: the history is legal and its moves are orderly, and the world is the one that it leads to.
 use Rattle.sq_ranges.specs.OpeningValue.{OpeningValue}
 use Rattle.sq_model.specs.Trace.{Trace}
 use Rattle.sq_model.specs.Legal.{IsLegal}

@@ -12,7 +12,7 @@ use Rattle.sq_transition.specs.TreeResults.{claim_result, begin_result, complete
 use Rattle.sq_transition.specs.LinkResults.{cut_result, push_result, pop_result, load_result}
 use Rattle.sq_transition.specs.SubmitResults.{submit_result}
 
--- the answer to a step where memory doesn't lack, and the world after it
+-- the answer to a step for which memory doesn't run out, and the world after it
 abbrev pub step_result : WorldValue → Step → StepResult
 step_result w (Prepare part) = prepare_result w part
 step_result w Start = start_result w
@@ -27,11 +27,11 @@ step_result w (Complete seg node pull) = complete_result w seg node pull
 step_result w (Report part) = report_result w part
 step_result w Finish = finish_result w
 
--- a step comes to this result; or it takes memory and there is none, and then nothing changes
+-- a step has this result; or it takes memory, which runs out, and then nothing changes
 abbrev pub IsResult : Step → WorldValue → StepResult → Answer → WorldValue → Type 0
 IsResult step old result answer new =
     ((answer, new) ≡ result) ⊎ ((answer ≡ Refused Memory) × IsTrue (takes_memory step result.0) × (new ≡ old))
 
--- the step is answered so, and leaves this world
+-- the step is answered with this, and leaves this world
 abbrev pub IsTransition : WorldValue → Step → Answer → WorldValue → Type 0
 IsTransition old step answer new = IsResult step old (step_result old step) answer new

@@ -36,7 +36,7 @@ pub record WorkValue : Type 0 where
   pub rest : ℕ
   pub hi : ℕ
 
--- a link: the notes of all chunks that were cut for it, the open work, and the chunks that are under way; the first so many notes are loaded
+-- a link: the notes of all chunks that were cut for it, the open work, and the chunks that are under way; of the notes, the first `loaded` are of chunks that were loaded
 pub record LinkStateValue : Type 0 where
   pub src : ℕ
   pub dst : ℕ
@@ -106,7 +106,7 @@ with_link w i value = record w { links = slice_set w.links i value }
 abbrev pub range_of : WorldValue → ℕ → Option Range
 range_of w seg = slice_get w.recon.segments seg
 
--- what a link has under way, the oldest first
+-- a chunk as a list, which is empty where there is none
 abbrev pub option_list : Option ChunkValue → List ChunkValue
 option_list None = []
 option_list (Some chunk) = chunk ∷ []

@@ -8,7 +8,7 @@ use sq_model::{Answer, Step};
 use sq_ranges::Opening;
 use std::alloc::Global;
 
-/// Opens a world and makes these steps in step_result: the world that they lead to, and their answers. Where there is no
+/// Opens a world and makes these steps one after another: the world that they lead to, and their answers. Where there is no
 /// memory for the world or for the room of the answers no step is made, and the opening comes back as it was.
 ///
 /// The steps with their answers are a history whose answers are those that it determines, its moves are in order, and

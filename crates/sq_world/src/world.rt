@@ -58,8 +58,8 @@ pub enum NotOpened {
 
 impl World {
     /// The world of two plans with these sizes and rows, before any step. Otherwise what it was to open with comes
-    /// back, with the first fault, as [`Opening::new`] has them; want of memory is told as that function tells it, or
-    /// by [`NotOpened::Memory`] where there is no fault.
+    /// back, with the first fault, as [`Opening::new`] has them. Where memory runs out, that function says how it is
+    /// answered, and [`NotOpened::Memory`] is the answer where there is no fault.
     pub fn open(
         alloc: Global,
         schema: Schema,

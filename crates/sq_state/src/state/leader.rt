@@ -9,7 +9,7 @@ use crate::state::State;
 use sq_model::{Answer, Phase, Refusal};
 
 impl State {
-    /// A partition prepares.
+    /// Records that a partition is ready, which it may say until the move starts.
     pub(crate) fn prepare(&mut self, part: u64) -> Result<Answer, Refusal>
         requires { IsSound self.old }
         ensures { (answer_of result, self.new) ≡ prepare_result self.old part }
@@ -21,7 +21,7 @@ impl State {
         Ok(Answer::Done)
     }
 
-    /// The leader starts the move, for which each partition has prepared.
+    /// Starts the move, once every partition has prepared.
     pub(crate) fn start(&mut self) -> Result<Answer, Refusal>
         requires { IsSound self.old }
         ensures { (answer_of result, self.new) ≡ start_result self.old }
@@ -34,7 +34,7 @@ impl State {
         Ok(Answer::Done)
     }
 
-    /// A partition reports that each segment into it is whole.
+    /// Records that a partition has all of the segments that move into it, once each of them is whole.
     pub(crate) fn report(&mut self, part: u64) -> Result<Answer, Refusal>
         requires { IsSound self.old }
         ensures { (answer_of result, self.new) ≡ report_result self.old part }
@@ -48,7 +48,7 @@ impl State {
         Ok(Answer::Done)
     }
 
-    /// The leader ends the move, which each partition has reported that a segment goes into.
+    /// Ends the move, once every partition into which a segment moves has reported.
     pub(crate) fn finish(&mut self) -> Result<Answer, Refusal>
         requires { IsSound self.old }
         ensures { (answer_of result, self.new) ≡ finish_result self.old }
@@ -61,7 +61,7 @@ impl State {
         Ok(Answer::Done)
     }
 
-    // Whether each segment into a partition is whole.
+    // Whether every segment that moves into a partition is whole.
     fn has_all(&self, part: u64) -> bool
         requires { IsSound self.now }
         ensures { result ≡ list_all (λ seg. not (is_segment_into self.now part seg) || is_segment_whole self.now seg) (segment_range self.now) }
@@ -74,7 +74,7 @@ impl State {
         true
     }
 
-    // Whether some segment goes into a partition.
+    // Whether a segment moves into a partition.
     fn has_any(&self, part: u64) -> bool
         ensures { result ≡ list_any (is_segment_into self.now part) (segment_range self.now) }
     {
@@ -84,7 +84,7 @@ impl State {
             .any(|range| u64::from(range.dst.number()) == part)
     }
 
-    // Whether each partition has reported that a segment goes into.
+    // Whether every partition into which a segment moves has reported.
     fn is_reported(&self) -> bool
         requires { IsSound self.now }
         ensures { result ≡ list_all (λ part. flag_at self.now.reported part || not (list_any (is_segment_into self.now part) (segment_range self.now))) (range_with_len 0 self.now.old.parts) }

@@ -12,7 +12,7 @@ use sq_model::{Answer, Phase, Refusal};
 use sq_plan::PartId;
 use sq_schema::{Root, Txn};
 
-/// How many transactions wait at a partition at most.
+/// The most transactions that wait at a partition.
 const MAX_WAITING: usize = 1024;
 
 impl State {

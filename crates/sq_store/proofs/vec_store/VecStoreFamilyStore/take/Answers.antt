@@ -1,4 +1,4 @@
-use Rattle.std.proofs.Common.{◌≡◌, ◌+◌, ◌++◌, ◌≤◌, sym, ap, subst, take, drop, ◌∙◌, arith}
+use Rattle.std.proofs.Common.{refl, ◌≡◌, ◌+◌, ◌++◌, ◌≤◌, sym, ap, subst, take, drop, ◌∙◌, arith}
 use Rattle.std.specs.Prelude.{slice_range}
 use Rattle.sq_store.specs.InOrder.{are_within}
 use Rattle.sq_store.specs.Counting.{chunk_count, root_after}
@@ -56,11 +56,10 @@ cut c =
 pub invariant_of-self-2 : goal.invariant_of-self-2
 invariant_of-self-2 c = ap roots_rise c.in_ok-families.ensures.left ∙ (cut (goal.at.invariant_of-self-2 c).After-root_at-end).left_is.rising
 
-pub returns-clause-end : goal.returns-clause-end
-returns-clause-end c = (cut (goal.at.returns-clause-end c).After-root_at-end).ends
-
-pub returns-clause-families : goal.returns-clause-families
-returns-clause-families c = c.in_ok-families.ensures.taken ∙ (cut (goal.at.returns-clause-families c).After-root_at-end).taken_is
+pub returns-clause-cut : goal.returns-clause-cut
+returns-clause-cut c =
+    let is = cut (goal.at.returns-clause-cut c).After-root_at-end in
+    record { end = is.ends; last = refl; families = c.in_ok-families.ensures.taken ∙ is.taken_is }
 
 pub returns-clause-store : goal.returns-clause-store
 returns-clause-store c = ap store_of c.in_ok-families.ensures.left ∙ sym (cut (goal.at.returns-clause-store c).After-root_at-end).left_is.same
