@@ -122,13 +122,51 @@ fault arrays_in_128_arrays 101
     header
     start
     repeat 1024 'txn 1 1 5 get 0 0'
-    printf '%s\n' 'txn 1 2 6 get 0 0' 'txn 1 3 9 get 0 0' 'txn 0 4 5 get 0 0'
+    printf '%s\n' 'txn 1 2 6 get 0 0' 'txn 1 3 9 get 0 0' 'resume 1' 'txn 0 4 5 get 0 0'
 } > full_waiting_list.in
 {
     started
     repeat 1024 'waits 1 0 1'
-    printf '%s\n' 'refused 220' 'moved 3 0' 'commit 4 10/-' 'end moving' 'at 0 5 1 0.0=10/-'
+    printf '%s\n' 'refused 220' 'moved 3 0' 'refused 223' 'commit 4 10/-' 'end moving' 'at 0 5 1 0.0=10/-'
 } > full_waiting_list.out
+
+# Each that is resumed leaves room for another one, which waits behind those on its root key and runs after them.
+{
+    header
+    start
+    repeat 1024 'txn 1 1 5 add 0 0 1'
+    printf '%s\n' 'claim 0 1 2' 'begin 0 1 2' 'cut 0 1' 'push 0 1' 'pop 0 1' 'load 0 1'
+    printf '%s\n' 'txn 1 2 5 get 0 0' 'txn 1 3 6 get 0 0' 'resume 1' 'txn 1 4 5 get 0 0'
+    repeat 1024 'resume 1'
+    printf '%s\n' 'resume 1' 'txn 1 5 5 get 0 0'
+} > waiting_list_that_empties.in
+{
+    started
+    repeat 1024 'waits 1 0 1'
+    printf '%s\n' ok ok 'cut 0 0 1 4 8 last 1' ok ok 'load 0 0 1 4 8 last 1'
+    printf '%s\n' 'refused 220' 'commit 3 none' 'commit 1 11' 'waits 4 0 1'
+    printf 'commit 1 %d\n' $(seq 12 1034)
+    printf '%s\n' 'commit 4 1034/-' 'refused 223' 'commit 5 1034/-'
+    printf '%s\n' 'end moving' 'at 1 5 1026 0.0=1034/-' 'at 1 6 1'
+} > waiting_list_that_empties.out
+
+# A transaction whose log is full is passed over, and goes on waiting.
+{
+    header
+    repeat 4096 'txn 0 1 5 get 0 0'
+    start
+    printf '%s\n' 'txn 1 2 5 get 0 0' 'txn 1 3 6 put 0 0 3 -' 'resume 1'
+    printf '%s\n' 'claim 0 1 2' 'begin 0 1 2' 'cut 0 1' 'push 0 1' 'pop 0 1' 'load 0 1'
+    printf '%s\n' 'resume 1' 'resume 1' 'txn 1 4 5 get 0 0' 'txn 1 5 6 get 0 0' 'resume 1'
+} > resumes_past_a_full_log.in
+{
+    repeat 4096 'commit 1 10/-'
+    started
+    printf '%s\n' 'waits 2 0 1' 'waits 3 0 2' 'refused 223'
+    printf '%s\n' ok ok 'cut 0 0 1 4 8 last 1' ok ok 'load 0 0 1 4 8 last 1'
+    printf '%s\n' 'commit 3 ok' 'refused 221' 'waits 4 0 1' 'commit 5 3/-' 'refused 221'
+    printf '%s\n' 'end moving' 'at 1 5 4096 0.0=10/-' 'at 1 6 2 0.0=3/-'
+} > resumes_past_a_full_log.out
 
 # A link's queue holds at most 64 chunks: of 66 chunks with a family each the 65th stays at the source.
 families=$(seq 0 65)

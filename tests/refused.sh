@@ -20,11 +20,11 @@ trap 'rm -r "$room"' EXIT
 # How many items the unread field has, the allocation that fails, and how many texts the first and the last input have.
 items=256
 failing=260
-fewest=110
-most=220
+fewest=95
+most=200
 
 # The steps with their answers. Those that take memory are given twice: after the line stands the answer to the first
-# that goes, and then the answer to the second. Two transactions that commit count in the dump.
+# that goes, and then the answer to the second. The transactions that commit count in the dump.
 steps() {
     cat <<'STEPS'
 txn 0 1 5 put 1 8 4 ff get 1 7 add 0 0 -3|commit 1 ok 3/6869 7|commit 1 ok 3/6869 4
@@ -34,11 +34,12 @@ prepare 1|ok
 start|ok
 claim 0 1 2|ok
 begin 0 1 2|ok|refused 207
-txn 1 3 5 get 0 0|waits 3 0 1|waits 3 0 1
+txn 1 3 5 get 1 7|waits 3 0 1|waits 3 0 1
 cut 0 1|cut 0 0 1 4 6 more 1|refused 210
 push 0 1|ok
 pop 0 1|ok
 load 0 1|load 0 0 1 4 6 more 1|refused 215
+resume 1|commit 3 3/6869|commit 3 3/6869
 cut 0 1|cut 1 0 1 6 8 last 1|refused 210
 STEPS
 }
@@ -59,19 +60,24 @@ input() {
 
 # output STEP: what is to be written where the growth of this step, counted from 1, is refused; 0: of none.
 output() {
-    local line first second step=0 changes=2 puts=2
-    if [ "$1" = 1 ] || [ "$1" = 2 ]; then changes=1; fi
-    if [ "$1" = 3 ] || [ "$1" = 4 ]; then puts=1; fi
+    local line first second step=0 changes=2 puts=2 resumes=2
+    case $1 in
+        1 | 2) changes=1 ;;
+        3 | 4) puts=1 ;;
+        11 | 12 | 19 | 20) resumes=1 ;;
+    esac
     while IFS='|' read -r line first second; do
         step=$((step + 1))
         if [ "$step" = "$1" ]; then printf 'refused 222\n%s\n' "$first"; step=$((step + 1)); continue; fi
         echo "$first"
         if [ -z "$second" ]; then continue; fi
+        # One that wasn't let in to wait isn't resumed.
+        if [ "$line" = 'resume 1' ] && [ "$1" != 20 ] && [ "$resumes" = 1 ]; then second='refused 223'; fi
         step=$((step + 1))
         if [ "$step" = "$1" ]; then echo 'refused 222'; else echo "$second"; fi
     done < <(steps)
     printf '%s\n' 'end moving' 'at 0 9 0 0.0=1/-'
-    echo "at 1 5 $changes 0.0=$((10 - 3 * changes))/- 1.7=3/6869 1.8=4/ff"
+    echo "at 1 5 $((changes + resumes)) 0.0=$((10 - 3 * changes))/- 1.7=3/6869 1.8=4/ff"
     printf '%s\n' 'way 0 1 1 0 1 6 8 last 1' "in 6 $puts 0.0=1/61"
 }
 
@@ -105,7 +111,7 @@ for texts in $(seq "$fewest" "$most"); do
 done
 
 # The steps that take memory: each was refused in some run.
-for step in header 1 2 3 4 9 11 12 13 17 19; do
+for step in header 1 2 3 4 9 11 12 13 17 19 20 21; do
     if [ -z "${met[$step]:-}" ]; then
         failed=$((failed + 1))
         echo "no growth of step $step was refused"

@@ -141,12 +141,23 @@ try_command_lines() {
     answer word_too_many 2 run fast
 }
 
+# The tour in the docs is a stored run: the lines of its blocks that begin with '> ' are the input, and the others the
+# output.
+try_tour() {
+    local page
+    page=$(dirname "$tests")/docs/tour.md
+    sed -n 's/^    > //p' "$page" > "$room/input"
+    sed -n '/^    > /d; s/^    //p' "$page" > "$room/output"
+    count tour_as_it_is_told "$(difference "$tests/runs/tour.in" "$room/input"; difference "$tests/runs/tour.out" "$room/output")"
+}
+
 programs=("${SQUALL:-$built}")
 if [ -z "${SQUALL:-}" ] && [ -x "$built.by-rattle" ]; then programs+=("$built.by-rattle"); fi
 # Each runs under one name, which it gives in its help texts.
 squall=$room/squall
 mkdir "$room/limits"
 bash "$tests/limits.sh" "$room/limits"
+try_tour
 for program in "${programs[@]}"; do
     if [ ! -x "$program" ]; then
         echo "tests: no program at $program: run 'rt ci' at the top first" >&2

@@ -2,7 +2,7 @@
 ghost use Rattle.std.specs.Prelude.{◌≡◌};
 ghost use Rattle.sq_exec.specs.Fault.{submit_fault_number, resume_fault_number, cut_fault_number, load_fault_number};
 
-use crate::MAX_WAITING;
+use sq_ranges::MAX_WAITING;
 use sq_schema::{MAX_LOG, OUT_OF_MEMORY};
 use std::alloc::AllocError;
 use thiserror::Error;

@@ -15,6 +15,3 @@ pub use fault::{CutFault, LoadFault, ResumeFault, SubmitFault};
 pub use out_link::OutLink;
 pub use outcome::{Outcome, Resumed};
 pub use part_core::{CoreParts, PartCore};
-
-/// How many transactions wait at a partition at most.
-pub const MAX_WAITING: usize = 1024;

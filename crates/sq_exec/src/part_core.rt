@@ -1,5 +1,5 @@
 // One partition by itself.
-ghost use Rattle.std.specs.Prelude.{◌≡◌, true, map};
+ghost use Rattle.std.specs.Prelude.{◌≡◌, true, length, map};
 ghost use Rattle.std.specs.Option.{option_copied};
 ghost use Rattle.sq_exec.specs.CoreValue.{out_at, inbox_at};
 
@@ -100,9 +100,10 @@ impl<S: FamilyStore> PartCore<S> {
         self.started = true;
     }
 
-    /// The chunk that came from a partition and isn't loaded.
+    /// The chunk that came from a partition and isn't loaded. There is a place for one from each partition.
     pub fn inbox(&self, src: PartId) -> Option<&Chunk>
-        ensures { option_copied result ≡ inbox_at self.now.core src }
+        ensures chunk { option_copied result ≡ inbox_at self.now.core src }
+        ensures places { length self.now.core.inboxes ≡ self.now.core.plan.parts }
     {
         self.inboxes.get(usize::from(src.number()))?.as_ref()
     }

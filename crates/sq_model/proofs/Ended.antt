@@ -15,7 +15,7 @@ use Rattle.sq_ranges.specs.declared.recon.Range.{Range}
 use Rattle.sq_ranges.specs.ReconValue.{segment_of, leaf_of}
 use Rattle.sq_ranges.specs.OpeningValue.{OpeningValue}
 use Rattle.sq_model.specs.declared.step.Step.{Step}
-use Rattle.sq_model.specs.declared.step.Step.TheVariants.{Prepare, Start, Claim, Begin, Cut, Load, Complete as Complete_step, Report, Finish}
+use Rattle.sq_model.specs.declared.step.Step.TheVariants.{Prepare, Start, Split, Claim, Begin, Cut, Load, Complete as Complete_step, Report, Finish}
 use Rattle.sq_model.specs.declared.step.Phase.{Phase}
 use Rattle.sq_model.specs.declared.step.Phase.TheVariants.{Moving, Ended}
 use Rattle.sq_model.specs.declared.answer.Answer.{Answer}
@@ -83,6 +83,8 @@ reported_whole o ((Report which, Done) ∷ t) legal part g reported there into =
       | inl now ↦ into_whole o t part g (subst (λ p. has_all o t p ≡ true) (eqb-true which part now) (report_goes o t which legal.0)) there into
       | inr before ↦ reported_whole o t legal.1 part g before there into
     ]
+reported_whole o ((Split seg node, given) ∷ t) legal part g reported there into =
+    stays_whole o t (Split seg node) given legal g (reported_whole o t legal.1 part g reported there into)
 reported_whole o ((Claim seg node pull, given) ∷ t) legal part g reported there into =
     stays_whole o t (Claim seg node pull) given legal g (reported_whole o t legal.1 part g reported there into)
 reported_whole o ((Begin seg node pull, given) ∷ t) legal part g reported there into =

@@ -1,7 +1,7 @@
 -- Lists: what they contain, what is found in them and what a filter keeps of them.
-use Rattle.std.proofs.Common.{◌≡◌, ◌⊎◌, inl, inr, ℕ, zero, suc, ◌+◌, ◌<◌, ◌≤◌, Bool, true, false, ◌||◌, if◌then◌else◌, List, [], ◌∷◌, map, length, get_or, slice_get, find, filter, Contains, Option, Some, None, refl, sym, ap, ◌∙◌, subst, true≢false, arith}
+use Rattle.std.proofs.Common.{◌≡◌, ◌⊎◌, inl, inr, ℕ, zero, suc, ◌+◌, ◌<◌, ◌≤◌, Bool, true, false, ◌||◌, if◌then◌else◌, List, [], ◌∷◌, map, remove, length, get_or, slice_get, find, filter, Contains, Option, Some, None, refl, sym, ap, ◌∙◌, subst, true≢false, arith}
 use Rattle.std.specs.List.{list_any, list_all, flat_map, range_with_len}
-use Rattle.std.proofs.lemmas.Bool.{cases_Bool, cases_eq, and_parts, cond-true, cond-false, or_left, or_right, false_from_ne_true, or_parts}
+use Rattle.std.proofs.lemmas.Bool.{cases_Bool, cases_eq, and_parts, cond-true, cond-false, or_left, or_right, or_cases, false_from_ne_true, or_parts}
 use Rattle.std.proofs.lemmas.List.Elements.{Contains-append_cases}
 use Rattle.std.proofs.lemmas.List.Folds.{Any-from_list_any}
 use Rattle.std.proofs.lemmas.Option.{slice_get-get_or}
@@ -68,6 +68,17 @@ list_any-Contains p (y ∷ xs) x has passes =
     elim (Contains-cases y xs x has) [
       | inl same ↦ or_left (p y) (list_any p xs) (ap p same ∙ passes)
       | inr later ↦ or_right (p y) (list_any p xs) (list_any-Contains p xs x later passes)
+    ]
+
+-- what passes a test in a list without one of its elements, passes it in the list
+pub list_any-remove : {X : Type 0} (p : X → Bool) (xs : List X) (i : ℕ) → list_any p (remove xs i) ≡ true → list_any p xs ≡ true
+list_any-remove p [] zero any = any
+list_any-remove p [] (suc i) any = any
+list_any-remove p (x ∷ xs) zero any = or_right (p x) (list_any p xs) any
+list_any-remove p (x ∷ xs) (suc i) any =
+    elim (or_cases (p x) (list_any p (remove xs i)) any) [
+      | inl here ↦ or_left (p x) (list_any p xs) here
+      | inr later ↦ or_right (p x) (list_any p xs) (list_any-remove p xs i later)
     ]
 
 -- a test that no element passes finds none

@@ -2,12 +2,12 @@
 use Rattle.std.proofs.Common.{◌≡◌, inl, inr, ℕ, true, false, ◌==◌, ◌&&◌, not, List, [], ◌∷◌, ◌++◌, length, slice_get, find, Contains, Option, Some, None, refl, sym, ap, ◌∙◌, ap₂, subst, subst₂, true≢false, append_assoc}
 use Rattle.std.proofs.lemmas.Bool.{and_parts, and_from, eqb-true, eq-eqb, not-true, or_right, false_from_ne_true}
 use Rattle.std.proofs.lemmas.List.Elements.{Contains-append_right}
-use Rattle.sq_tree.specs.declared.status.Status.TheVariants.{Claimed, Partial, Complete}
+use Rattle.sq_tree.specs.declared.status.Status.TheVariants.{Split, Claimed, Partial, Complete}
 use Rattle.sq_tree.specs.Status.{is_begun, is_complete}
 use Rattle.sq_chunk.specs.declared.chunk.Note.{Note}
 use Rattle.sq_ranges.specs.declared.recon.Range.{Range}
 use Rattle.sq_ranges.specs.OpeningValue.{OpeningValue}
-use Rattle.sq_model.specs.declared.step.Step.TheVariants.{Claim, Begin, Cut, Load, Complete as Complete_step}
+use Rattle.sq_model.specs.declared.step.Step.TheVariants.{Split as Split_step, Claim, Begin, Cut, Load, Complete as Complete_step}
 use Rattle.sq_model.specs.declared.answer.Answer.TheVariants.{Done, WasCut, WasLoaded}
 use Rattle.sq_model.specs.Trace.{Trace, notes, loads, link, load_count}
 use Rattle.sq_model.specs.Nodes.{Item, status_of, items}
@@ -95,6 +95,7 @@ note_begun o ((Cut src dst, WasCut next families) ∷ t) legal note has =
           subst (λ (n : Note). is_begun (status_of t n.seg n.node) ≡ true) (sym cut.noted ∙ same) (item_begun o t legal.1 cut.item item.among)
       | inr older ↦ note_begun o t legal.1 note older
     ]
+note_begun o ((Split_step seg node, Done) ∷ t) legal note has = stays_begun o t (Split_step seg node) Done legal note.seg note.node (note_begun o t legal.1 note has)
 note_begun o ((Claim seg node pull, Done) ∷ t) legal note has = stays_begun o t (Claim seg node pull) Done legal note.seg note.node (note_begun o t legal.1 note has)
 note_begun o ((Begin seg node pull, Done) ∷ t) legal note has = stays_begun o t (Begin seg node pull) Done legal note.seg note.node (note_begun o t legal.1 note has)
 note_begun o ((Complete_step seg node pull, Done) ∷ t) legal note has = stays_begun o t (Complete_step seg node pull) Done legal note.seg note.node (note_begun o t legal.1 note has)
@@ -278,6 +279,9 @@ last_cut o t legal seg node last =
 -- of a complete node the last note was loaded
 pub complete_loaded : (o : OpeningValue) (t : Trace) → IsLegal o t → (g n : ℕ) → is_complete (status_of t g n) ≡ true → has_last g n (loads t) ≡ true
 complete_loaded o [] legal g n complete = absurd (true≢false (sym complete))
+complete_loaded o ((Split_step seg node, Done) ∷ t) legal g n complete =
+    set_if_at (λ st. is_complete st ≡ true → has_last g n (loads t) ≡ true) seg node Split g n (status_of t g n)
+    (λ same there is. absurd (true≢false (sym is))) (complete_loaded o t legal.1 g n) complete
 complete_loaded o ((Claim seg node pull, Done) ∷ t) legal g n complete =
     set_if_at (λ st. is_complete st ≡ true → has_last g n (loads t) ≡ true) seg node (Claimed pull) g n (status_of t g n)
     (λ same there is. absurd (true≢false (sym is))) (complete_loaded o t legal.1 g n) complete

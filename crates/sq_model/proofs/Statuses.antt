@@ -15,14 +15,14 @@ use Rattle.sq_tree.proofs.Changed.{set_at}
 use Rattle.sq_tree.proofs.Grown.{grown-free, grown-set_at}
 use Rattle.sq_ranges.specs.OpeningValue.{OpeningValue}
 use Rattle.sq_model.specs.declared.step.Step.{Step}
-use Rattle.sq_model.specs.declared.step.Step.TheVariants.{Claim, Begin, Complete as Complete_step}
+use Rattle.sq_model.specs.declared.step.Step.TheVariants.{Split as Split_step, Claim, Begin, Complete as Complete_step}
 use Rattle.sq_model.specs.declared.answer.Answer.{Answer}
 use Rattle.sq_model.specs.declared.answer.Answer.TheVariants.{Done}
 use Rattle.sq_model.specs.Trace.{Trace}
 use Rattle.sq_model.specs.Nodes.{Item, set_if, status_of, items}
 use Rattle.sq_model.specs.Legal.{IsLegal}
 use Rattle.sq_model.proofs.Lists.{Contains-nothing, any_in}
-use Rattle.sq_model.proofs.Steps.{claim_goes, begin_goes, complete_goes}
+use Rattle.sq_model.proofs.Steps.{split_goes, claim_goes, begin_goes, complete_goes}
 
 -- what is set at one node, and at all nodes of a segment
 set_if-set_at : (sts : ℕ → ℕ → Status) (seg node g : ℕ) (st : Status) (n : ℕ) → set_if seg node st g n (sts g n) ≡ (if seg == g then set_at (sts seg) node st n else sts g n)
@@ -39,6 +39,11 @@ grown-set_if sts seg node g st other here =
 -- a node that isn't free is live, and no leaf is split
 pub grown : (o : OpeningValue) (t : Trace) → IsLegal o t → (g : ℕ) → IsGrown (status_of t g)
 grown o [] legal g = grown-free (λ n. Free) (λ n. refl)
+grown o ((Split_step seg node, Done) ∷ t) legal g =
+    let goes = split_goes o t seg node legal.0 in
+    let was = goes.splits in
+    grown-set_if (status_of t) seg node g Split (grown o t legal.1 g)
+    (grown-set_at (status_of t seg) node Split (grown o t legal.1 seg) goes.exists was.live (ap is_split was.free) (λ leaf. absurd (true≢false (sym leaf ∙ was.inner))))
 grown o ((Claim seg node pull, Done) ∷ t) legal g =
     let goes = claim_goes o t seg node pull legal.0 in
     let was = goes.claims in
@@ -77,6 +82,10 @@ is_past-same (Complete p) = eq-eqb p p refl
 
 -- no status goes back
 pub later : (o : OpeningValue) (t : Trace) (step : Step) (given : Answer) → IsLegal o ((step, given) ∷ t) → (g n : ℕ) → is_past (status_of t g n) (status_of ((step, given) ∷ t) g n) ≡ true
+later o t (Split_step seg node) Done legal g n =
+    set_if_at (λ st. is_past (status_of t g n) st ≡ true) seg node Split g n (status_of t g n)
+    (λ same there. let was = (split_goes o t seg node legal.0).splits.free in let e : status_of t g n ≡ Free = cc in subst (λ st. is_past st Split ≡ true) (sym e) refl)
+    (is_past-same (status_of t g n))
 later o t (Claim seg node pull) Done legal g n =
     set_if_at (λ st. is_past (status_of t g n) st ≡ true) seg node (Claimed pull) g n (status_of t g n)
     (λ same there. let was = (claim_goes o t seg node pull legal.0).claims.free in let e : status_of t g n ≡ Free = cc in subst (λ st. is_past st (Claimed pull) ≡ true) (sym e) refl)
@@ -114,6 +123,9 @@ there_if o seg node new g n before here other =
 
 pub is_there : (o : OpeningValue) (t : Trace) → IsLegal o t → (g n : ℕ) → is_free (status_of t g n) ≡ false → IsThere o g n
 is_there o [] legal g n touched = absurd (true≢false touched)
+is_there o ((Split_step seg node, Done) ∷ t) legal g n touched =
+    let goes = split_goes o t seg node legal.0 in
+    there_if o seg node Split g n (status_of t g n) (record { segment = goes.segment; node = goes.exists }) (is_there o t legal.1 g n) touched
 is_there o ((Claim seg node pull, Done) ∷ t) legal g n touched =
     let goes = claim_goes o t seg node pull legal.0 in
     there_if o seg node (Claimed pull) g n (status_of t g n) (record { segment = goes.segment; node = goes.exists }) (is_there o t legal.1 g n) touched
@@ -135,6 +147,7 @@ item_begun o ((Begin seg node pull, Done) ∷ t) legal item has =
           subst (λ (other : Item). is_begun (set_if seg node (Partial pull) other.seg other.node (status_of t other.seg other.node)) ≡ true) new
           (ap is_begun (set_if_same seg node (Partial pull) (status_of t seg node)))
     ]
+item_begun o ((Split_step seg node, Done) ∷ t) legal item has = stays_begun o t (Split_step seg node) Done legal item.seg item.node (item_begun o t legal.1 item has)
 item_begun o ((Claim seg node pull, Done) ∷ t) legal item has = stays_begun o t (Claim seg node pull) Done legal item.seg item.node (item_begun o t legal.1 item has)
 item_begun o ((Complete_step seg node pull, Done) ∷ t) legal item has = stays_begun o t (Complete_step seg node pull) Done legal item.seg item.node (item_begun o t legal.1 item has)
 item_begun o ((step, given) ∷ t) legal item has = item_begun o t legal.1 item has
@@ -146,6 +159,10 @@ item_for g n st = record { seg = g; node = n; pull = pull_of st }
 -- and each begun node has an item, with its pull
 pub begun_item : (o : OpeningValue) (t : Trace) → IsLegal o t → (g n : ℕ) → is_begun (status_of t g n) ≡ true → Contains (items t) (item_for g n (status_of t g n))
 begun_item o [] legal g n begun = absurd (true≢false (sym begun))
+begun_item o ((Split_step seg node, Done) ∷ t) legal g n begun =
+    set_if_at (λ st. is_begun st ≡ true → Contains (items t) (item_for g n st)) seg node Split g n (status_of t g n)
+    (λ same there no_begun. absurd (true≢false (sym no_begun)))
+    (begun_item o t legal.1 g n) begun
 begun_item o ((Claim seg node pull, Done) ∷ t) legal g n begun =
     set_if_at (λ st. is_begun st ≡ true → Contains (items t) (item_for g n st)) seg node (Claimed pull) g n (status_of t g n)
     (λ same there no_begun. absurd (true≢false (sym no_begun)))

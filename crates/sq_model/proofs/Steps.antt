@@ -2,6 +2,8 @@
 use Rattle.std.proofs.Common.{Contains, ◌≡◌, inl, inr, ℕ, ◌<◌, Bool, true, false, ◌==◌, nat_le, nat_lt, not, if◌then◌else◌, length, find, Option, Some, None, Result, Ok, Err, refl, sym, ap, ◌∙◌, true≢false}
 use Rattle.std.specs.List.{list_all}
 use Rattle.std.proofs.lemmas.Bool.{leb-false, not-false, cond_both, cond-false, true_from_ne_false}
+use Rattle.sq_tree.specs.declared.fault.SplitFault.{SplitFault}
+use Rattle.sq_tree.specs.declared.fault.SplitFault.TheVariants as split
 use Rattle.sq_tree.specs.declared.fault.ClaimFault.{ClaimFault}
 use Rattle.sq_tree.specs.declared.fault.ClaimFault.TheVariants as claim
 use Rattle.sq_tree.specs.declared.fault.BeginFault.{BeginFault}
@@ -9,8 +11,8 @@ use Rattle.sq_tree.specs.declared.fault.BeginFault.TheVariants as begin
 use Rattle.sq_tree.specs.declared.fault.CompleteFault.{CompleteFault}
 use Rattle.sq_tree.specs.declared.fault.CompleteFault.TheVariants as complete
 use Rattle.sq_tree.specs.Node.{is_node}
-use Rattle.sq_tree.specs.Answer.{claim_answer, begin_answer, complete_answer}
-use Rattle.sq_tree.proofs.Went.{ClaimWent, claim_went, BeginWent, begin_went, CompleteWent, complete_went}
+use Rattle.sq_tree.specs.Answer.{split_answer, claim_answer, begin_answer, complete_answer}
+use Rattle.sq_tree.proofs.Went.{SplitWent, split_went, ClaimWent, claim_went, BeginWent, begin_went, CompleteWent, complete_went}
 use Rattle.sq_chunk.specs.declared.chunk.Note.{Note}
 use Rattle.sq_ranges.specs.ReconValue.{is_link}
 use Rattle.sq_ranges.specs.OpeningValue.{OpeningValue}
@@ -20,16 +22,16 @@ use Rattle.sq_model.specs.Waiting.{has_to_wait}
 use Rattle.sq_model.specs.Place.{runner}
 use Rattle.sq_model.specs.Tables.{now, is_full}
 use Rattle.sq_model.specs.declared.step.Step.{Step}
-use Rattle.sq_model.specs.declared.step.Step.TheVariants.{Claim, Begin, Cut, Load, Complete, Report, Finish, Submit}
+use Rattle.sq_model.specs.declared.step.Step.TheVariants.{Prepare, Split, Claim, Begin, Cut, Load, Complete, Report, Finish, Submit}
 use Rattle.sq_model.specs.declared.answer.Answer.{Answer}
 use Rattle.sq_model.specs.declared.answer.Answer.TheVariants.{Done, WasCut, WasLoaded, Refused, Replied, Moved, Waits}
 use Rattle.sq_model.specs.declared.answer.Refusal.{Refusal}
-use Rattle.sq_model.specs.declared.answer.Refusal.TheVariants.{NotMoving, NoSuchLink, NoSuchPartition, OutboxFull, InboxEmpty, NotFinished, LogFull}
+use Rattle.sq_model.specs.declared.answer.Refusal.TheVariants.{NotMoving, NoSuchLink, NoSuchPartition, OutboxFull, InboxEmpty, AlreadyMoving, NotFinished, LogFull}
 use Rattle.sq_model.specs.Trace.{Trace, notes, loads, link, cut_count, push_count, pop_count, load_count}
-use Rattle.sq_model.specs.Leader.{is_moving}
+use Rattle.sq_model.specs.Leader.{is_moving, is_started}
 use Rattle.sq_model.specs.Nodes.{Item, status_of}
 use Rattle.sq_model.specs.Links.{has_last, open_items, next_item, next_note}
-use Rattle.sq_model.specs.Answers.{answer, partitions, has_all, counts_reported, claim_answered, begin_answered, complete_answered, cut_for, load_of, wait_answer, run_answer, routed}
+use Rattle.sq_model.specs.Answers.{answer, partitions, has_all, counts_reported, split_answered, claim_answered, begin_answered, complete_answered, cut_for, load_of, wait_answer, run_answer, routed}
 use Rattle.sq_model.specs.Legal.{IsAnswer}
 use Rattle.sq_model.proofs.Lists.{found_in}
 use Rattle.sq_model.proofs.Link.{IsOf, link_has}
@@ -47,6 +49,35 @@ answered o t step given went (inr lacked) = absurd (let e = sym (ap is_refused l
 past : (cause : Bool) (refusal : Refusal) (rest given : Answer) → is_refused given ≡ false → given ≡ (if cause then Refused refusal else rest) → (cause ≡ false) × (given ≡ rest)
 past true refusal rest given went e = absurd (let f = sym (ap is_refused e) ∙ went in cc)
 past false refusal rest given went e = (refl, e)
+
+-- a Prepare went, so the move wasn't started
+pub prepare_goes : (o : OpeningValue) (t : Trace) (part : ℕ) → IsAnswer o t (Prepare part) Done → is_started t ≡ false
+prepare_goes o t part given =
+    let a = past (nat_le o.old.parts part) NoSuchPartition _ Done refl (answered o t (Prepare part) Done refl given) in
+    (past (is_started t) AlreadyMoving Done Done refl a.1).0
+
+-- a Split that went
+pub record SplitGoes (o : OpeningValue) (t : Trace) (seg node : ℕ) : Type 0 where
+  pub segment : seg < length o.recon.segments
+  pub exists : is_node node ≡ true
+  pub splits : SplitWent (status_of t seg) node
+
+split_done : (result : Result (Unit {0}) SplitFault) → Done ≡ split_answered result → result ≡ Ok tt
+split_done (Ok done) e = refl
+split_done (Err split.IsLeaf) e = absurd cc
+split_done (Err split.NotLive) e = absurd cc
+split_done (Err (split.NotFree found)) e = absurd cc
+
+pub split_goes : (o : OpeningValue) (t : Trace) (seg node : ℕ) → IsAnswer o t (Split seg node) Done → SplitGoes o t seg node
+split_goes o t seg node given =
+    let a = past _ _ _ Done refl (answered o t (Split seg node) Done refl given) in
+    let b = past _ _ _ Done refl a.1 in
+    let c = past _ _ _ Done refl b.1 in
+    record {
+      segment = leb-false (length o.recon.segments) seg b.0;
+      exists = not-false (is_node node) c.0;
+      splits = split_went (status_of t seg) node (split_done (split_answer (status_of t seg) node) c.1);
+    }
 
 -- a Claim that went
 pub record ClaimGoes (o : OpeningValue) (t : Trace) (seg node pull : ℕ) : Type 0 where
@@ -180,12 +211,20 @@ routed_is_no_wait o t part txn (Some who) =
     (λ here. cond_both (is_full t txn.root) (Refused LogFull) (Replied txn.id (reply (now o t txn.root) txn)) (λ given. is_wait given ≡ false) (λ full. refl) (λ room. refl))
     (λ there. refl)
 
--- a transaction waits, so it has to
-pub wait_goes : (o : OpeningValue) (t : Trace) (part : ℕ) (txn : TxnValue) (id seg leaf : ℕ) → IsAnswer o t (Submit part txn) (Waits id seg leaf) → has_to_wait o t part txn.root ≡ true
+-- a transaction was made to wait
+pub record WaitGoes (o : OpeningValue) (t : Trace) (part : ℕ) (txn : TxnValue) : Type 0 where
+  pub exists : part < o.old.parts
+  pub has_to : has_to_wait o t part txn.root ≡ true
+
+pub wait_goes : (o : OpeningValue) (t : Trace) (part : ℕ) (txn : TxnValue) (id seg leaf : ℕ) → IsAnswer o t (Submit part txn) (Waits id seg leaf) → WaitGoes o t part txn
 wait_goes o t part txn id seg leaf given =
     let a = past (nat_le o.old.parts part) NoSuchPartition _ (Waits id seg leaf) refl (answered o t (Submit part txn) (Waits id seg leaf) refl given) in
-    true_from_ne_false (has_to_wait o t part txn.root) (λ at_once.
-    true≢false (ap is_wait (a.1 ∙ cond-false (has_to_wait o t part txn.root) (wait_answer o t part txn) (routed o t part txn (runner o t txn.root)) at_once) ∙ routed_is_no_wait o t part txn (runner o t txn.root)))
+    record {
+      exists = leb-false o.old.parts part a.0;
+      has_to =
+          true_from_ne_false (has_to_wait o t part txn.root) (λ at_once.
+          true≢false (ap is_wait (a.1 ∙ cond-false (has_to_wait o t part txn.root) (wait_answer o t part txn) (routed o t part txn (runner o t txn.root)) at_once) ∙ routed_is_no_wait o t part txn (runner o t txn.root)));
+    }
 
 -- the note of a Cut that went is of its link
 pub cut_is_of : (o : OpeningValue) (t : Trace) (src dst : ℕ) (note : Note) (families : ℕ) → CutGoes o t src dst note families → IsOf src dst note

@@ -5,6 +5,8 @@ use Rattle.sq_schema.specs.TxnValue.{TxnValue}
 use Rattle.sq_schema.specs.Effect.{reply}
 use Rattle.sq_tree.specs.declared.status.Reading.{Reading}
 use Rattle.sq_tree.specs.declared.status.Reading.TheVariants as reads
+use Rattle.sq_tree.specs.declared.fault.SplitFault.{SplitFault}
+use Rattle.sq_tree.specs.declared.fault.SplitFault.TheVariants as split
 use Rattle.sq_tree.specs.declared.fault.ClaimFault.{ClaimFault}
 use Rattle.sq_tree.specs.declared.fault.ClaimFault.TheVariants as claim
 use Rattle.sq_tree.specs.declared.fault.BeginFault.{BeginFault}
@@ -13,23 +15,24 @@ use Rattle.sq_tree.specs.declared.fault.CompleteFault.{CompleteFault}
 use Rattle.sq_tree.specs.declared.fault.CompleteFault.TheVariants as complete
 use Rattle.sq_tree.specs.Node.{is_node}
 use Rattle.sq_tree.specs.Status.{reading}
-use Rattle.sq_tree.specs.Answer.{claim_answer, begin_answer, complete_answer}
+use Rattle.sq_tree.specs.Answer.{split_answer, claim_answer, begin_answer, complete_answer}
 use Rattle.sq_chunk.specs.declared.chunk.Note.{Note}
 use Rattle.sq_ranges.specs.declared.recon.Range.{Range}
+use Rattle.sq_ranges.specs.declared.opening.TheConstants.{MAX_WAITING}
 use Rattle.sq_ranges.specs.ReconValue.{ReconValue, is_link, leaf_at}
 use Rattle.sq_ranges.specs.OpeningValue.{OpeningValue}
 use Rattle.sq_model.specs.declared.step.Step.{Step}
-use Rattle.sq_model.specs.declared.step.Step.TheVariants.{Prepare, Start, Submit, Claim, Begin, Cut, Push, Pop, Load, Complete, Report, Finish}
+use Rattle.sq_model.specs.declared.step.Step.TheVariants.{Prepare, Start, Submit, Resume, Split, Claim, Begin, Cut, Push, Pop, Load, Complete, Report, Finish, Status}
 use Rattle.sq_model.specs.declared.answer.Answer.{Answer}
-use Rattle.sq_model.specs.declared.answer.Answer.TheVariants.{Done, Replied, Moved, Waits, WasCut, WasLoaded, Refused}
-use Rattle.sq_model.specs.declared.answer.Refusal.TheVariants.{NotMoving, NoSuchSegment, NoSuchNode, NotFree, NotLive, NotClaimed, WrongPull, NothingToCut, OutboxFull, OutboxEmpty, LinkFull, LinkEmpty, InboxFull, InboxEmpty, NotLoaded, AlreadyMoving, NotFinished, NoSuchPartition, WaitFull, LogFull, NoSuchLink, NotPartial, NotPrepared}
+use Rattle.sq_model.specs.declared.answer.Answer.TheVariants.{Done, Replied, Moved, Waits, Resumed, WasCut, WasLoaded, Reads, Refused}
+use Rattle.sq_model.specs.declared.answer.Refusal.TheVariants.{NotMoving, NoSuchSegment, NoSuchNode, NotFree, NotLive, IsLeaf, NotClaimed, WrongPull, NothingToCut, OutboxFull, OutboxEmpty, LinkFull, LinkEmpty, InboxFull, InboxEmpty, NotLoaded, AlreadyMoving, NotFinished, NoSuchPartition, WaitFull, LogFull, NoneReady, NoSuchLink, NotPartial, NotPrepared}
 use Rattle.sq_model.specs.Trace.{Trace, notes, loads, link, cut_count, push_count, pop_count, load_count}
 use Rattle.sq_model.specs.Leader.{is_moving, is_started, is_prepared, is_reported}
 use Rattle.sq_model.specs.Nodes.{Item, status_of}
 use Rattle.sq_model.specs.Tables.{now, is_full}
 use Rattle.sq_model.specs.Place.{destination, runner}
 use Rattle.sq_model.specs.Links.{has_last, open_items, next_item, next_note, family_count}
-use Rattle.sq_model.specs.Waiting.{waiting, wait_limit, has_to_wait}
+use Rattle.sq_model.specs.Waiting.{waiting, has_to_wait, are_coming, first_ready}
 
 -- the answer, where the partition is one of the plan's
 abbrev pub at_partition : OpeningValue → ℕ → Answer → Answer
@@ -70,7 +73,7 @@ waits_at recon txn = let at = unwrap_or (leaf_at recon txn.root) (0, 0) in Waits
 
 abbrev pub wait_answer : OpeningValue → Trace → ℕ → TxnValue → Answer
 wait_answer o t part txn =
-    if nat_le wait_limit (length (waiting t part)) then Refused WaitFull
+    if nat_le MAX_WAITING (length (waiting o t part)) then Refused WaitFull
     else waits_at o.recon txn
 
 abbrev pub run_answer : OpeningValue → Trace → TxnValue → Answer
@@ -87,6 +90,21 @@ submit_answer o t part txn =
     if has_to_wait o t part txn.root then wait_answer o t part txn else routed o t part txn (runner o t txn.root)
     )
 
+-- the transaction that waits no more is answered
+abbrev pub resumed : OpeningValue → Trace → Option TxnValue → Answer
+resumed o t None = Refused LogFull
+resumed o t (Some txn) = Resumed txn (reply (now o t txn.root) txn)
+
+abbrev pub resume_answer : OpeningValue → Trace → ℕ → Answer
+resume_answer o t part =
+    at_partition o part (if are_coming o t part then Refused NoneReady else resumed o t (first_ready o t part))
+
+abbrev pub split_answered : Result (Unit {0}) SplitFault → Answer
+split_answered (Ok done) = Done
+split_answered (Err split.IsLeaf) = Refused IsLeaf
+split_answered (Err split.NotLive) = Refused NotLive
+split_answered (Err (split.NotFree found)) = Refused NotFree
+
 abbrev pub claim_answered : Result (Unit {0}) ClaimFault → Answer
 claim_answered (Ok done) = Done
 claim_answered (Err claim.NotLive) = Refused NotLive
@@ -102,6 +120,10 @@ abbrev pub complete_answered : Bool → Result (Unit {0}) CompleteFault → Answ
 complete_answered loaded (Ok done) = if loaded then Done else Refused NotLoaded
 complete_answered loaded (Err (complete.NotPartial found)) = Refused NotPartial
 complete_answered loaded (Err complete.WrongPull) = Refused WrongPull
+
+abbrev pub split_step : OpeningValue → Trace → ℕ → ℕ → Answer
+split_step o t seg node =
+    while_moving t (in_segment o seg (at_node node (split_answered (split_answer (status_of t seg) node))))
 
 abbrev pub claim_step : OpeningValue → Trace → ℕ → ℕ → ℕ → Answer
 claim_step o t seg node pull =
@@ -190,10 +212,16 @@ abbrev pub finish_answer : OpeningValue → Trace → Answer
 finish_answer o t =
     while_moving t (if list_all (counts_reported o t) (partitions o) then Done else Refused NotFinished)
 
+-- the status of a node, and what it reads as
+abbrev pub status_answer : OpeningValue → Trace → ℕ → ℕ → Answer
+status_answer o t seg node = in_segment o seg (at_node node (Reads (status_of t seg node) (reading (status_of t seg) node)))
+
 abbrev pub answer : OpeningValue → Trace → Step → Answer
 answer o t (Prepare part) = prepare_answer o t part
 answer o t Start = start_answer o t
 answer o t (Submit part txn) = submit_answer o t part txn
+answer o t (Resume part) = resume_answer o t part
+answer o t (Split seg node) = split_step o t seg node
 answer o t (Claim seg node pull) = claim_step o t seg node pull
 answer o t (Begin seg node pull) = begin_step o t seg node pull
 answer o t (Cut src dst) = cut_answer o t src dst
@@ -203,3 +231,4 @@ answer o t (Load src dst) = load_answer o t src dst
 answer o t (Complete seg node pull) = complete_step o t seg node pull
 answer o t (Report part) = report_answer o t part
 answer o t Finish = finish_answer o t
+answer o t (Status seg node) = status_answer o t seg node

@@ -2,17 +2,18 @@
 use Rattle.std.specs.Prelude.{◌≡◌, ◌⊎◌, Bool, true, false, IsTrue, List, [], ◌∷◌}
 use Rattle.sq_ranges.specs.OpeningValue.{OpeningValue}
 use Rattle.sq_model.specs.declared.step.Step.{Step}
-use Rattle.sq_model.specs.declared.step.Step.TheVariants.{Submit, Begin, Cut, Load}
+use Rattle.sq_model.specs.declared.step.Step.TheVariants.{Submit, Resume, Begin, Cut, Load}
 use Rattle.sq_model.specs.declared.answer.Answer.{Answer}
-use Rattle.sq_model.specs.declared.answer.Answer.TheVariants.{Done, Replied, Waits, WasCut, WasLoaded, Refused}
+use Rattle.sq_model.specs.declared.answer.Answer.TheVariants.{Done, Replied, Waits, Resumed, WasCut, WasLoaded, Refused}
 use Rattle.sq_model.specs.declared.answer.Refusal.TheVariants.{Memory}
 use Rattle.sq_model.specs.Trace.{Trace}
 use Rattle.sq_model.specs.Answers.{answer}
 
--- a step with this answer takes memory: a transaction that runs or waits, and a Begin, a Cut or a Load that is done
+-- a step with this answer takes memory: a transaction that runs, waits or is resumed, and a Begin, a Cut or a Load that is done
 abbrev pub takes_memory : Step → Answer → Bool
 takes_memory (Submit part txn) (Replied id reply) = true
 takes_memory (Submit part txn) (Waits id seg leaf) = true
+takes_memory (Resume part) (Resumed txn reply) = true
 takes_memory (Begin seg node pull) Done = true
 takes_memory (Cut src dst) (WasCut note families) = true
 takes_memory (Load src dst) (WasLoaded note families) = true

@@ -4,7 +4,7 @@ use Rattle.sq_tree.specs.declared.status.Status.{Status}
 use Rattle.sq_tree.specs.declared.status.Status.TheVariants.{Free}
 use Rattle.sq_tree.specs.declared.status.Status.TheVariants as status
 use Rattle.sq_model.specs.declared.step.Step.{Step}
-use Rattle.sq_model.specs.declared.step.Step.TheVariants.{Claim, Begin, Complete}
+use Rattle.sq_model.specs.declared.step.Step.TheVariants.{Split, Claim, Begin, Complete}
 use Rattle.sq_model.specs.declared.answer.Answer.{Answer}
 use Rattle.sq_model.specs.declared.answer.Answer.TheVariants.{Done}
 use Rattle.sq_model.specs.Trace.{Trace}
@@ -14,6 +14,7 @@ abbrev pub set_if : ℕ → ℕ → Status → ℕ → ℕ → Status → Status
 set_if seg node new g n before = if (seg == g) && (node == n) then new else before
 
 abbrev pub sets_status : Step → Answer → ℕ → ℕ → Status → Status
+sets_status (Split seg node) Done g n before = set_if seg node status.Split g n before
 sets_status (Claim seg node pull) Done g n before = set_if seg node (status.Claimed pull) g n before
 sets_status (Begin seg node pull) Done g n before = set_if seg node (status.Partial pull) g n before
 sets_status (Complete seg node pull) Done g n before = set_if seg node (status.Complete pull) g n before

@@ -3,7 +3,7 @@ use Rattle.std.specs.Prelude.{ℕ}
 use Rattle.sq_schema.specs.declared.fault.ApplyFault.TheVariants as apply
 use Rattle.sq_schema.specs.Fault.{memory_number, apply_fault_number}
 use Rattle.sq_model.specs.declared.answer.Refusal.{Refusal}
-use Rattle.sq_model.specs.declared.answer.Refusal.TheVariants.{NotMoving, NoSuchSegment, NoSuchNode, NotFree, NotLive, NotClaimed, WrongPull, NothingToCut, OutboxFull, OutboxEmpty, LinkFull, LinkEmpty, InboxFull, InboxEmpty, NotLoaded, AlreadyMoving, NotFinished, NoSuchPartition, WaitFull, LogFull, Memory, NoSuchLink, NotPartial, NotPrepared}
+use Rattle.sq_model.specs.declared.answer.Refusal.TheVariants.{NotMoving, NoSuchSegment, NoSuchNode, NotFree, NotLive, IsLeaf, NotClaimed, WrongPull, NothingToCut, OutboxFull, OutboxEmpty, LinkFull, LinkEmpty, InboxFull, InboxEmpty, NotLoaded, AlreadyMoving, NotFinished, NoSuchPartition, WaitFull, LogFull, Memory, NoneReady, NoSuchLink, NotPartial, NotPrepared}
 
 abbrev pub refusal_number : Refusal → ℕ
 refusal_number NotMoving = 201
@@ -11,6 +11,7 @@ refusal_number NoSuchSegment = 202
 refusal_number NoSuchNode = 203
 refusal_number NotFree = 204
 refusal_number NotLive = 205
+refusal_number IsLeaf = 206
 refusal_number NotClaimed = 207
 refusal_number WrongPull = 208
 refusal_number NothingToCut = 209
@@ -27,6 +28,7 @@ refusal_number NoSuchPartition = 219
 refusal_number WaitFull = 220
 refusal_number LogFull = apply_fault_number apply.LogFull
 refusal_number Memory = memory_number
+refusal_number NoneReady = 223
 refusal_number NoSuchLink = 224
 refusal_number NotPartial = 227
 refusal_number NotPrepared = 228

@@ -4,15 +4,16 @@ use Rattle.sq_schema.specs.TxnValue.{TxnValue}
 use Rattle.sq_schema.specs.declared.txn.Reply.TheVariants.{Committed}
 use Rattle.sq_chunk.specs.declared.chunk.Note.{Note}
 use Rattle.sq_model.specs.declared.step.Step.{Step}
-use Rattle.sq_model.specs.declared.step.Step.TheVariants.{Submit, Cut, Push, Pop, Load}
+use Rattle.sq_model.specs.declared.step.Step.TheVariants.{Submit, Resume, Cut, Push, Pop, Load}
 use Rattle.sq_model.specs.declared.answer.Answer.{Answer}
-use Rattle.sq_model.specs.declared.answer.Answer.TheVariants.{Done, Replied, WasCut, WasLoaded}
+use Rattle.sq_model.specs.declared.answer.Answer.TheVariants.{Done, Replied, Resumed, WasCut, WasLoaded}
 
 abbrev pub Trace : Type 0
 Trace = List (Step × Answer)
 
 abbrev pub commits : Step → Answer → List TxnValue → List TxnValue
 commits (Submit at txn) (Replied id (Committed answers)) txns = txns ++ txn ∷ []
+commits (Resume at) (Resumed txn (Committed answers)) txns = txns ++ txn ∷ []
 commits _ _ txns = txns
 
 -- the transactions that committed, in order

@@ -1,20 +1,23 @@
 -- Worked examples: what steps from one opening are answered.
-use Rattle.std.specs.Prelude.{ℕ, ℤ, pos, ◌==◌, List, [], ◌∷◌, ◌++◌, Some, None}
+use Rattle.std.specs.Prelude.{ℕ, ℤ, pos, true, ◌==◌, List, [], ◌∷◌, ◌++◌, Some, None}
 use Rattle.sq_schema.specs.declared.txn.Op.TheVariants as op
 use Rattle.sq_schema.specs.declared.txn.OpAnswer.TheVariants as op_answer
+use Rattle.sq_schema.specs.declared.txn.Reply.{Reply}
 use Rattle.sq_schema.specs.declared.txn.Reply.TheVariants.{Committed}
 use Rattle.sq_schema.specs.Effect.{RowList, root_key}
 use Rattle.sq_schema.specs.TxnValue.{TxnValue}
 use Rattle.sq_schema.specs.Table.{TableValue}
 use Rattle.sq_schema.specs.declared.root.TheConstants.{ROOT_END}
+use Rattle.sq_tree.specs.declared.status.Status.TheVariants as status
+use Rattle.sq_tree.specs.declared.status.Reading.TheVariants as reads
 use Rattle.sq_chunk.specs.declared.chunk.Note.{Note}
 use Rattle.sq_ranges.specs.declared.recon.Range.{Range}
 use Rattle.sq_ranges.specs.OpeningValue.{OpeningValue}
 use Rattle.sq_model.specs.declared.step.Step.{Step}
-use Rattle.sq_model.specs.declared.step.Step.TheVariants.{Prepare, Start, Submit, Claim, Begin, Cut, Push, Pop, Load, Complete, Report, Finish}
+use Rattle.sq_model.specs.declared.step.Step.TheVariants.{Prepare, Start, Submit, Resume, Split, Claim, Begin, Cut, Push, Pop, Load, Complete, Report, Finish, Status}
 use Rattle.sq_model.specs.declared.answer.Answer.{Answer}
-use Rattle.sq_model.specs.declared.answer.Answer.TheVariants.{Done, Replied, Moved, Waits, WasCut, WasLoaded, Refused}
-use Rattle.sq_model.specs.declared.answer.Refusal.TheVariants.{NotMoving, NoSuchSegment, NoSuchNode, NotLive, NotClaimed, WrongPull, NothingToCut, OutboxFull, OutboxEmpty, LinkFull, LinkEmpty, InboxEmpty, NotLoaded, AlreadyMoving, NotFinished, NoSuchPartition, NoSuchLink, NotPartial, NotPrepared}
+use Rattle.sq_model.specs.declared.answer.Answer.TheVariants.{Done, Replied, Moved, Waits, Resumed, WasCut, WasLoaded, Reads, Refused}
+use Rattle.sq_model.specs.declared.answer.Refusal.TheVariants.{NotMoving, NoSuchSegment, NoSuchNode, NotFree, NotLive, IsLeaf, NotClaimed, WrongPull, NothingToCut, OutboxFull, OutboxEmpty, LinkFull, LinkEmpty, InboxEmpty, NotLoaded, AlreadyMoving, NotFinished, NoSuchPartition, NoneReady, NoSuchLink, NotPartial, NotPrepared}
 
 -- a root row with this number and no note
 abbrev pub row : ℤ → RowList
@@ -56,8 +59,11 @@ abbrev pub add_one : ℕ → ℕ → TxnValue
 add_one id root = record { id = id; root = root; ops = op.Add root_key (pos 1) ∷ [] }
 
 -- what getting a row with this number and no note is answered
+abbrev pub found : ℤ → Reply
+found number = Committed (op_answer.Found (Some (record { number = number; note = [] })) ∷ [])
+
 abbrev pub got : ℕ → ℤ → Answer
-got id number = Replied id (Committed (op_answer.Found (Some (record { number = number; note = [] })) ∷ []))
+got id number = Replied id (found number)
 
 abbrev pub got_none : ℕ → Answer
 got_none id = Replied id (Committed (op_answer.Found None ∷ []))
@@ -66,14 +72,19 @@ got_none id = Replied id (Committed (op_answer.Found None ∷ []))
 abbrev pub noted : ℕ → ℕ → ℕ → ℕ → Note
 noted number node lo hi = record { src = 0; dst = 1; number = number; seg = 0; node = node; lo = lo; hi = hi; last = hi == 8 }
 
+-- the next chunk is cut, goes over the link, and is loaded
+abbrev pub carried : List Step
+carried = Cut 0 1 ∷ Push 0 1 ∷ Pop 0 1 ∷ Load 0 1 ∷ []
+
+abbrev pub carried_answers : Note → ℕ → List Answer
+carried_answers note families = WasCut note families ∷ Done ∷ Done ∷ WasLoaded note families ∷ []
+
 -- the shortest whole path
 abbrev pub whole_path : List Step
-whole_path =
-    begun ++ Claim 0 1 2 ∷ Begin 0 1 2 ∷ Cut 0 1 ∷ Push 0 1 ∷ Pop 0 1 ∷ Load 0 1 ∷ Complete 0 1 2 ∷ Report 1 ∷ Finish ∷ Submit 1 (get_row 9 5) ∷ []
+whole_path = begun ++ Claim 0 1 2 ∷ Begin 0 1 2 ∷ carried ++ Complete 0 1 2 ∷ Report 1 ∷ Finish ∷ Submit 1 (get_row 9 5) ∷ []
 
 abbrev pub whole_path_answers : List Answer
-whole_path_answers =
-    begun_answers ++ Done ∷ Done ∷ WasCut (noted 0 1 4 8) 1 ∷ Done ∷ Done ∷ WasLoaded (noted 0 1 4 8) 1 ∷ Done ∷ Done ∷ Done ∷ got 9 (pos 10) ∷ []
+whole_path_answers = begun_answers ++ Done ∷ Done ∷ carried_answers (noted 0 1 4 8) 1 ++ Done ∷ Done ∷ Done ∷ got 9 (pos 10) ∷ []
 
 -- one root row with a note, which makes its family larger
 abbrev pub noted_row : ℤ → List ℕ → RowList
@@ -117,9 +128,13 @@ large_chunk = begun ++ Claim 0 1 2 ∷ Begin 0 1 2 ∷ Cut 0 1 ∷ Push 0 1 ∷ 
 abbrev pub large_chunk_answers : List Answer
 large_chunk_answers = begun_answers ++ Done ∷ Done ∷ WasCut (noted 0 1 4 6) 1 ∷ Done ∷ WasCut (noted 1 1 6 8) 1 ∷ []
 
+-- the rows 4, 5 and 6 of numbers 1, 2 and 3
+abbrev pub three_rows : TableValue
+three_rows = (4, row (pos 1)) ∷ (5, row (pos 2)) ∷ (6, row (pos 3)) ∷ []
+
 -- three families, and a link that holds one chunk
 abbrev pub three_families : OpeningValue
-three_families = four_keys 64 1 ((4, row (pos 1)) ∷ (5, row (pos 2)) ∷ (6, row (pos 3)) ∷ [])
+three_families = four_keys 64 1 three_rows
 
 abbrev pub full_link : List Step
 full_link = begun ++ Claim 0 1 2 ∷ Begin 0 1 2 ∷ Cut 0 1 ∷ Push 0 1 ∷ Cut 0 1 ∷ Push 0 1 ∷ Cut 0 1 ∷ []
@@ -131,12 +146,12 @@ full_link_answers =
 -- steps in the wrong order, and with wrong numbers
 abbrev pub out_of_order : List Step
 out_of_order =
-    Claim 0 1 2 ∷ Prepare 2 ∷ Start ∷ Prepare 0 ∷ Start ∷ Prepare 1 ∷ Start ∷ Start ∷ Prepare 0 ∷ Cut 1 0 ∷ Cut 0 1 ∷ Push 0 1 ∷ Pop 0 1 ∷ Load 0 1 ∷ []
+    Claim 0 1 2 ∷ Prepare 2 ∷ Start ∷ Prepare 0 ∷ Start ∷ Prepare 1 ∷ Start ∷ Start ∷ Prepare 0 ∷ Cut 1 0 ∷ Cut 0 1 ∷ Push 0 1 ∷ Pop 0 1 ∷ Load 0 1 ∷ Resume 1 ∷ Resume 2 ∷ []
 
 abbrev pub out_of_order_answers : List Answer
 out_of_order_answers =
     Refused NotMoving ∷ Refused NoSuchPartition ∷ Refused NotPrepared ∷ Done ∷ Refused NotPrepared ∷ Done ∷ Done ∷ Refused AlreadyMoving ∷ Refused AlreadyMoving
-    ∷ Refused NoSuchLink ∷ Refused NothingToCut ∷ Refused OutboxEmpty ∷ Refused LinkEmpty ∷ Refused InboxEmpty ∷ []
+    ∷ Refused NoSuchLink ∷ Refused NothingToCut ∷ Refused OutboxEmpty ∷ Refused LinkEmpty ∷ Refused InboxEmpty ∷ Refused NoneReady ∷ Refused NoSuchPartition ∷ []
 
 -- a transaction waits at the destination until its rows are loaded; one on a key that doesn't move is sent on
 abbrev pub waits_for_rows : List Step
@@ -152,3 +167,74 @@ too_soon = begun ++ Claim 0 1 2 ∷ Complete 0 1 2 ∷ Begin 0 1 2 ∷ Complete 
 abbrev pub too_soon_answers : List Answer
 too_soon_answers =
     begun_answers ++ Done ∷ Refused NotPartial ∷ Done ∷ Refused NotLoaded ∷ Refused NotFinished ∷ Done ∷ Refused NotFinished ∷ Refused NoSuchSegment ∷ Refused NotLive ∷ Refused NoSuchNode ∷ []
+
+-- transactions that wait run in the order in which they came, and not before their rows are loaded; one that comes while another waits on its root key waits too
+abbrev pub resumed_in_order : List Step
+resumed_in_order =
+    begun ++ Submit 1 (get_row 7 5) ∷ Resume 1 ∷ Claim 0 1 3 ∷ Begin 0 1 3 ∷ carried ++ Submit 1 (get_row 8 5) ∷ Resume 1 ∷ Resume 1 ∷ Resume 1 ∷ []
+
+abbrev pub resumed_in_order_answers : List Answer
+resumed_in_order_answers =
+    begun_answers ++ Waits 7 0 1 ∷ Refused NoneReady ∷ Done ∷ Done ∷ carried_answers (noted 0 1 4 8) 1
+    ++ Waits 8 0 1 ∷ Resumed (get_row 7 5) (found (pos 10)) ∷ Resumed (get_row 8 5) (found (pos 10)) ∷ Refused NoneReady ∷ []
+
+-- a claimed node isn't split
+abbrev pub claimed_whole : List Step
+claimed_whole = begun ++ Claim 0 1 2 ∷ Split 0 1 ∷ Status 0 1 ∷ []
+
+abbrev pub claimed_whole_answers : List Answer
+claimed_whole_answers = begun_answers ++ Done ∷ Refused NotFree ∷ Reads (status.Claimed 2) reads.NotStarted ∷ []
+
+-- a split node isn't claimed, but its halves are
+abbrev pub claimed_half : List Step
+claimed_half = begun ++ Split 0 1 ∷ Claim 0 1 2 ∷ Claim 0 2 2 ∷ Status 0 1 ∷ []
+
+abbrev pub claimed_half_answers : List Answer
+claimed_half_answers = begun_answers ++ Done ∷ Refused NotFree ∷ Done ∷ Reads status.Split reads.NotStarted ∷ []
+
+-- nothing is claimed or split below a node that isn't split, and no leaf is split
+abbrev pub split_too_low : List Step
+split_too_low = begun ++ Split 0 1 ∷ Claim 0 33 3 ∷ Split 0 33 ∷ Split 0 64 ∷ Split 0 16 ∷ Claim 1 1 2 ∷ []
+
+abbrev pub split_too_low_answers : List Answer
+split_too_low_answers =
+    begun_answers ++ Done ∷ Refused NotLive ∷ Refused IsLeaf ∷ Refused NoSuchNode ∷ Refused NotLive ∷ Refused NoSuchSegment ∷ []
+
+-- the last leaf of the segment has no keys: its node moves in one chunk that is empty
+abbrev pub empty_leaf : List Step
+empty_leaf =
+    begun ++ Split 0 1 ∷ Split 0 3 ∷ Split 0 7 ∷ Split 0 15 ∷ Split 0 31 ∷ Claim 0 63 2 ∷ Begin 0 63 2 ∷ carried ++ Complete 0 63 2 ∷ []
+
+abbrev pub empty_leaf_answers : List Answer
+empty_leaf_answers =
+    begun_answers ++ Done ∷ Done ∷ Done ∷ Done ∷ Done ∷ Done ∷ Done ∷ carried_answers (noted 0 63 8 8) 0 ++ Done ∷ []
+
+-- what nodes read as: a split node as its halves do together, and one that isn't live as the live node above it
+abbrev pub read_nodes : List Step
+read_nodes =
+    Status 0 1 ∷ Status 1 1 ∷ Status 0 0 ∷ begun
+    ++ Split 0 1 ∷ Claim 0 2 2 ∷ Begin 0 2 2 ∷ Status 0 1 ∷ Status 0 4 ∷ Status 0 3 ∷ Status 0 2 ∷ []
+
+abbrev pub read_nodes_answers : List Answer
+read_nodes_answers =
+    Reads status.Free reads.NotStarted ∷ Refused NoSuchSegment ∷ Refused NoSuchNode ∷ begun_answers
+    ++ Done ∷ Done ∷ Done ∷ Reads status.Split reads.Partial ∷ Reads status.Free reads.Partial ∷ Reads status.Free reads.NotStarted ∷ Reads (status.Partial 2) reads.Partial ∷ []
+
+-- three families, and a link that holds four chunks
+abbrev pub wide_link : OpeningValue
+wide_link = four_keys 64 4 three_rows
+
+-- a reactive pull comes while an asynchronous one is under way: its node is cut next, and then the rest of the other
+abbrev pub reactive_first : List Step
+reactive_first =
+    begun ++ Split 0 1 ∷ Split 0 2 ∷ Split 0 4 ∷ Split 0 8 ∷ Claim 0 16 2 ∷ Begin 0 16 2 ∷ Cut 0 1 ∷ Claim 0 17 3 ∷ Begin 0 17 3 ∷ Push 0 1 ∷ Cut 0 1 ∷ Push 0 1
+    ∷ Cut 0 1 ∷ Push 0 1 ∷ Pop 0 1 ∷ Load 0 1 ∷ Pop 0 1 ∷ Load 0 1 ∷ Pop 0 1 ∷ Load 0 1 ∷ Complete 0 17 3 ∷ Complete 0 16 2 ∷ Status 0 8 ∷ Status 0 1 ∷ Status 0 32 ∷ []
+
+abbrev pub reactive_first_answers : List Answer
+reactive_first_answers =
+    let first = noted 0 16 4 5 in
+    let other = noted 1 17 6 8 in
+    let rest : Note = record (noted 2 16 5 6) { last = true } in
+    begun_answers ++ Done ∷ Done ∷ Done ∷ Done ∷ Done ∷ Done ∷ WasCut first 1 ∷ Done ∷ Done ∷ Done ∷ WasCut other 1 ∷ Done
+    ∷ WasCut rest 1 ∷ Done ∷ Done ∷ WasLoaded first 1 ∷ Done ∷ WasLoaded other 1 ∷ Done ∷ WasLoaded rest 1 ∷ Done ∷ Done
+    ∷ Reads status.Split reads.Complete ∷ Reads status.Split reads.Partial ∷ Reads status.Free reads.Complete ∷ []

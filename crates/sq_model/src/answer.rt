@@ -2,8 +2,8 @@
 use sq_chunk::Note;
 use sq_plan::PartId;
 use sq_ranges::SegId;
-use sq_schema::{ApplyFault, OUT_OF_MEMORY, Reply};
-use sq_tree::Leaf;
+use sq_schema::{ApplyFault, OUT_OF_MEMORY, Reply, Txn};
+use sq_tree::{Leaf, Reading, Status};
 use std::alloc::AllocError;
 use thiserror::Error;
 
@@ -34,6 +34,12 @@ pub enum Answer {
         /// The leaf of its root key.
         leaf: Leaf,
     },
+    /// A transaction that waited ran.
+    Resumed {
+        txn: Txn,
+        /// What it was answered.
+        reply: Reply,
+    },
     /// A chunk was cut.
     WasCut {
         /// What it covers.
@@ -47,6 +53,12 @@ pub enum Answer {
         note: Note,
         /// How many families it held.
         families: u64,
+    },
+    /// A node has this status.
+    Reads {
+        status: Status,
+        /// What the node reads as.
+        reading: Reading,
     },
     /// The step was refused, and nothing changed.
     Refused(Refusal),
@@ -65,6 +77,8 @@ pub enum Refusal {
     NotFree = 204,
     #[error("the node's parent isn't split")]
     NotLive = 205,
+    #[error("a leaf isn't split")]
+    IsLeaf = 206,
     #[error("the node isn't claimed")]
     NotClaimed = 207,
     #[error("another pull has the node")]
@@ -97,6 +111,8 @@ pub enum Refusal {
     LogFull = ApplyFault::LogFull as isize,
     #[error("{}", AllocError)]
     Memory = OUT_OF_MEMORY as isize,
+    #[error("the rows of all waiting transactions are on their way")]
+    NoneReady = 223,
     #[error("no range goes from the one partition to the other")]
     NoSuchLink = 224,
     #[error("the node isn't partial")]

@@ -2,16 +2,17 @@
 ghost use Rattle.std.specs.Prelude.{◌≡◌, ◌≤◌, ◌<◌, ℕ, [], length, false, true, Some};
 ghost use Rattle.sq_schema.specs.TxnValue.{TxnValue};
 ghost use Rattle.sq_ranges.specs.OpeningValue.{OpeningValue};
+ghost use Rattle.sq_ranges.specs.declared.opening.TheConstants.{MAX_WAITING};
 ghost use Rattle.sq_model.specs.Trace.{Trace, notes, loads};
 ghost use Rattle.sq_model.specs.Tables.{is_full};
 ghost use Rattle.sq_model.specs.Leader.{phase};
 ghost use Rattle.sq_model.specs.Place.{At, place, destination, runner};
-ghost use Rattle.sq_model.specs.Waiting.{waiting, wait_limit, has_to_wait};
+ghost use Rattle.sq_model.specs.Waiting.{waiting, has_to_wait};
 ghost use Rattle.sq_model.specs.Answers.{answer};
 ghost use Rattle.sq_ranges.specs.Opening.{IsOpening};
 ghost use Rattle.sq_model.specs.Legal.{IsLegal, answers};
 ghost use Rattle.sq_model.specs.Orderly.{IsOrderly, CoverOnce};
-ghost use Rattle.sq_model.specs.Worked.{one_row, whole_path, whole_path_answers, given_up, given_up_answers, begun_again, begun_again_answers, two_families, two_chunks, two_chunks_answers, large_family, large_chunk, large_chunk_answers, three_families, full_link, full_link_answers, out_of_order, out_of_order_answers, waits_for_rows, waits_for_rows_answers, too_soon, too_soon_answers};
+ghost use Rattle.sq_model.specs.Worked.{one_row, whole_path, whole_path_answers, given_up, given_up_answers, begun_again, begun_again_answers, two_families, two_chunks, two_chunks_answers, large_family, large_chunk, large_chunk_answers, three_families, full_link, full_link_answers, out_of_order, out_of_order_answers, waits_for_rows, waits_for_rows_answers, too_soon, too_soon_answers, resumed_in_order, resumed_in_order_answers, claimed_whole, claimed_whole_answers, claimed_half, claimed_half_answers, split_too_low, split_too_low_answers, empty_leaf, empty_leaf_answers, read_nodes, read_nodes_answers, wide_link, reactive_first, reactive_first_answers};
 
 use crate::answer::{Answer, Refusal};
 use crate::step::{Phase, Step};
@@ -61,6 +62,41 @@ pub fn refuses_too_soon()
     ensures { answers one_row [] too_soon ≡ too_soon_answers }
 {}
 
+/// Transactions that wait run in the order in which they came, once their rows are loaded.
+pub fn resumes_in_order()
+    ensures { answers one_row [] resumed_in_order ≡ resumed_in_order_answers }
+{}
+
+/// A claimed node isn't split.
+pub fn splits_no_claimed_node()
+    ensures { answers one_row [] claimed_whole ≡ claimed_whole_answers }
+{}
+
+/// A split node isn't claimed, but its halves are.
+pub fn claims_halves()
+    ensures { answers one_row [] claimed_half ≡ claimed_half_answers }
+{}
+
+/// Nothing is claimed or split below a node that isn't split, and no leaf is split.
+pub fn splits_from_the_top()
+    ensures { answers one_row [] split_too_low ≡ split_too_low_answers }
+{}
+
+/// A node without keys moves in one empty chunk.
+pub fn moves_an_empty_node()
+    ensures { answers one_row [] empty_leaf ≡ empty_leaf_answers }
+{}
+
+/// A split node reads as its halves do together, and one that isn't live as the live node above it.
+pub fn reads_by_halves()
+    ensures { answers one_row [] read_nodes ≡ read_nodes_answers }
+{}
+
+/// What a reactive pull asked for is cut before the rest of what an asynchronous one did.
+pub fn cuts_reactive_first()
+    ensures { answers wide_link [] reactive_first ≡ reactive_first_answers }
+{}
+
 /// A log that is full takes no further transaction, whatever came before.
 pub fn refuses_at_a_full_log()
     ensures { (o : OpeningValue) (t : Trace) (part : ℕ) (txn : TxnValue) → part < o.old.parts → has_to_wait o t part txn.root ≡ false → runner o t txn.root ≡ Some part → is_full t txn.root ≡ true → answer o t (Step.Submit part txn) ≡ Answer.Refused Refusal.LogFull }
@@ -68,7 +104,7 @@ pub fn refuses_at_a_full_log()
 
 /// Where as many wait as can, a further transaction isn't let in, whatever came before.
 pub fn refuses_a_crowd()
-    ensures { (o : OpeningValue) (t : Trace) (part : ℕ) (txn : TxnValue) → part < o.old.parts → has_to_wait o t part txn.root ≡ true → wait_limit ≤ length (waiting t part) → answer o t (Step.Submit part txn) ≡ Answer.Refused Refusal.WaitFull }
+    ensures { (o : OpeningValue) (t : Trace) (part : ℕ) (txn : TxnValue) → part < o.old.parts → has_to_wait o t part txn.root ≡ true → MAX_WAITING ≤ length (waiting o t part) → answer o t (Step.Submit part txn) ≡ Answer.Refused Refusal.WaitFull }
 {}
 
 /// Whatever the steps: of two places in the list of the notes that were cut both are the same place where they cover one

@@ -10,6 +10,13 @@ pub enum Step {
     Start,
     /// A transaction is submitted at a partition.
     Submit(u64, Txn),
+    /// The first transaction that waits at a partition and can run is run.
+    Resume(u64),
+    /// A node of a segment is split, so that its halves are moved each for itself.
+    Split {
+        seg: u64,
+        node: u64,
+    },
     /// A node of a segment is claimed for a pull.
     Claim {
         seg: u64,
@@ -55,6 +62,11 @@ pub enum Step {
     Report(u64),
     /// The leader ends the reconfiguration.
     Finish,
+    /// A node of a segment is looked at, which changes nothing.
+    Status {
+        seg: u64,
+        node: u64,
+    },
 }
 
 /// How far the leader is.

@@ -5,3 +5,4 @@ pub mod Checks
 pub mod Ranges
 pub mod Spelled
 pub mod Bytes
+pub mod Texts

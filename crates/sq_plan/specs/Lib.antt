@@ -3,3 +3,4 @@ pub mod Fault
 pub mod Spelling
 pub mod Reading
 pub mod PlanFields
+pub mod PlanText

@@ -1,6 +1,6 @@
 -- How a plan stands in JSON: {"version":1,"partitions":P,"ranges":[[lo,hi,owner],..]}, the fields in any order and among others.
 use Rattle.std.specs.Prelude.{◌≡◌, ℕ, List, [], ◌∷◌, Some, codes}
-use Rattle.serde_json.specs.Data.{Data, Items, number, unsigned, array, no_items, item}
+use Rattle.serde_json.specs.Data.{Data, Items, number, unsigned, array, no_items, item, object, member, no_members}
 use Rattle.serde_json.specs.Find.{get}
 use Rattle.sq_plan.specs.declared.plan.PlanRange.{PlanRange}
 use Rattle.sq_plan.specs.PlanValue.{PlanValue}
@@ -23,3 +23,7 @@ pub record Spells (value : Data) (plan : PlanValue) : Type 0 where
   pub version : get (codes "version") value ≡ Some (number_data 1)
   pub partitions : get (codes "partitions") value ≡ Some (number_data plan.parts)
   pub ranges : get (codes "ranges") value ≡ Some (array (ranges_data plan.ranges))
+
+-- the JSON value that has the fields of the plan alone
+abbrev pub plan_data : PlanValue → Data
+plan_data plan = object (member (codes "partitions") (number_data plan.parts) (member (codes "ranges") (array (ranges_data plan.ranges)) (member (codes "version") (number_data 1) no_members)))

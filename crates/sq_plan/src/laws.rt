@@ -6,12 +6,18 @@ ghost use Rattle.sq_schema.specs.declared.root.TheConstants.{ROOT_END};
 ghost use Rattle.sq_plan.specs.declared.plan.PlanRange.{PlanRange};
 ghost use Rattle.sq_plan.specs.PlanValue.{PlanValue, IsPlan, IsHolder, holds, owner};
 ghost use Rattle.sq_plan.specs.Spelling.{Spells};
-ghost use Rattle.sq_plan.specs.Reading.{plan_of};
+ghost use Rattle.sq_plan.specs.Reading.{plan_of, plan_in};
+ghost use Rattle.sq_plan.specs.PlanText.{plan_text};
 
 /// A plan is read from a JSON value exactly where the value spells it, whichever checks come first.
 pub fn each_plan_is_read()
     ensures { (value : Data) (plan : PlanValue)
         → (plan_of value ≡ Ok plan) ↔ (Spells value plan × IsPlan plan) }
+{}
+
+/// What is written for a plan is read as this plan.
+pub fn each_plan_is_read_back()
+    ensures { (plan : PlanValue) → IsPlan plan → plan_in (plan_text plan) ≡ Ok plan }
 {}
 
 /// Just one range of a plan holds each root key, and each key that a range holds has the range's owner.

@@ -6,6 +6,7 @@ pub mod laws;
 mod part;
 mod plan;
 mod read;
+mod write;
 
 pub use fault::PlanFault;
 pub use part::PartId;

@@ -1,9 +1,10 @@
 // Plans.
-ghost use Rattle.std.specs.Prelude.{◌≡◌, ◌<◌, ◌≤◌, nat_le, length, IfOk};
+ghost use Rattle.std.specs.Prelude.{◌≡◌, ◌<◌, ◌≤◌, nat_le, length, string_bytes, IfOk};
 
 use crate::fault::PlanFault;
 use crate::part::PartId;
 use crate::read::{json_in, plan_of};
+use crate::write::plan_value;
 use sq_schema::Root;
 use std::alloc::{AllocError, Global};
 use std::marker::Model;
@@ -47,6 +48,7 @@ impl Plan {
     ghost use Rattle.sq_plan.specs.PlanValue.{PlanValue, IsPlan, owner};
     ghost use Rattle.sq_plan.specs.Spelling.{Spells};
     ghost use Rattle.sq_plan.specs.Reading.{ReadsPlan, json_of, plan_in};
+    ghost use Rattle.sq_plan.specs.PlanText.{plan_text};
 
     // A plan of this many partitions with these ranges.
     pub(crate) fn of(parts: u8, ranges: Vec<PlanRange>) -> Plan
@@ -74,6 +76,17 @@ impl Plan {
     {
         let value = json_in(alloc, bytes)?;
         plan_of(alloc, &value)
+    }
+
+    /// The plan in compact JSON, as `{"partitions":P,"ranges":[[lo,hi,owner],..],"version":1}`, with the ranges as they
+    /// are: none is merged. The only fault is that memory ran out.
+    pub fn write(&self) -> Result<String, AllocError>
+        ensures text { IfOk result (λ text. string_bytes text ≡ plan_text self.now) }
+        // Reading the text gives the plan again.
+        ensures reads_back { IfOk result (λ text. plan_in (string_bytes text) ≡ Ok self.now) }
+    {
+        let alloc = *self.ranges.allocator();
+        plan_value(alloc, self)?.to_string(alloc)
     }
 
     /// The owner of a root key.

@@ -12,7 +12,8 @@ mod sweep;
 
 pub use fault::{OpeningFault, ReconFault};
 pub use opening::{
-    Config, GivenRow, MAX_CAPACITY, MAX_LIMIT, MIN_LIMIT, Opening, OpeningParts, RefusedOpening,
+    Config, GivenRow, MAX_CAPACITY, MAX_LIMIT, MAX_WAITING, MIN_LIMIT, Opening, OpeningParts,
+    RefusedOpening,
 };
 pub use recon::{Extent, Link, MAX_WIDTH, Range, Recon};
 pub use segment::{SEGMENT_LIMIT, SegId};

@@ -18,6 +18,9 @@ pub const MAX_LIMIT: u64 = 1_048_576;
 /// The most chunks that the queue of a link may be set to hold.
 pub const MAX_CAPACITY: u64 = 64;
 
+/// How many transactions wait at a partition at most.
+pub const MAX_WAITING: usize = 1024;
+
 /// The sizes that a reconfiguration is run with.
 #[derive(Clone, Copy, Debug, PartialEq, Eq)]
 pub struct Config {

@@ -1,5 +1,5 @@
 -- The parts of a dump, one after another.
-use Rattle.std.proofs.Common.{◌≡◌, ℕ, zero, suc, ◌+◌, ◌<◌, ◌&&◌, arith, List, [], ◌++◌, length, Option, Some, None, slice_index_or, sym, ap, ◌∙◌, subst, append_assoc}
+use Rattle.std.proofs.Common.{◌≡◌, ℕ, zero, suc, ◌+◌, ◌<◌, ◌&&◌, arith, List, [], ◌++◌, length, Option, Some, None, slice_index_or, map, sym, ap, ◌∙◌, subst, append_assoc}
 use Rattle.std.specs.Prelude.{◌==◌, Result, OnOk}
 use Rattle.std.specs.List.{flat_map, range_with_len}
 use Rattle.std.specs.Io.KnownBytes.{Appends}
@@ -8,10 +8,12 @@ use Rattle.std.proofs.lemmas.List.Quantifiers.{position-Some}
 use Rattle.sq_schema.specs.Family.{FamilyValue}
 use Rattle.sq_store.specs.StoreValue.{StoreValue}
 use Rattle.sq_store.specs.InOrder.{families_in}
-use Rattle.sq_transition.specs.WorldValue.{WorldValue, PartitionValue, LinkStateValue, no_part, part_at, no_link, link_value, link_index}
-use Rattle.sq_transition.specs.Holds.{under_way}
+use Rattle.sq_exec.specs.CoreValue.{CoreValue, PartCoreValue}
+use Rattle.sq_exec.proofs.Seen.{seen_read}
+use Rattle.sq_transition.specs.WorldValue.{WorldValue, QueueValue, no_core, core_at, no_queue, queue_at, link_index, under_way}
 use Rattle.sq_text.specs.Texts.{at_line, way_lines}
 use Rattle.sq_text.proofs.Appending.{both}
+use Rattle.sq_state.specs.Queue.{link_of}
 use Rattle.sq_state.specs.Dump.{part_lines, link_lines}
 
 -- what is said of one more number goes to the end
@@ -34,28 +36,28 @@ nothing None = tt
 nothing (Some bytes) = sym (append-nil bytes)
 
 -- what is written of a partition is what is said of it
-pub part_said : (w : WorldValue) (parts : List PartitionValue) (part at number : ℕ) (here : PartitionValue) (store : StoreValue) (families : List FamilyValue) → w.parts ≡ parts → at ≡ part → number ≡ part → part < length parts
-    → here ≡ slice_index_or parts at here → store ≡ here.store → families ≡ families_in store → flat_map (at_line number) families ≡ part_lines w part
+pub part_said : (w : WorldValue) (parts : List PartCoreValue) (part at number : ℕ) (here : PartCoreValue) (store : StoreValue) (families : List FamilyValue) → w.cores ≡ map (λ p. p.core) parts → at ≡ part → number ≡ part → part < length parts
+    → here ≡ slice_index_or parts at here → store ≡ here.core.store → families ≡ families_in store → flat_map (at_line number) families ≡ part_lines w part
 part_said w parts part at number here store families same at_is number_is within here_by store_is families_is =
-    let here_is : here ≡ part_at w part =
-    here_by ∙ ap (λ i. slice_index_or parts i here) at_is ∙ get_or_default parts part here no_part within ∙ ap (λ ps. slice_index_or ps part no_part) (sym same) in
-    let all : families ≡ families_in (part_at w part).store = families_is ∙ ap families_in (store_is ∙ ap (λ (p : PartitionValue). p.store) here_is) in
+    let here_is : here.core ≡ core_at w part =
+    seen_read (λ (p : PartCoreValue). p.core) parts part here no_core within (here_by ∙ ap (λ i. slice_index_or parts i here) at_is) ∙ ap (λ cores. slice_index_or cores part no_core) (sym same) in
+    let all : families ≡ families_in (core_at w part).store = families_is ∙ ap families_in (store_is ∙ ap (λ (core : CoreValue). core.store) here_is) in
     λ k. flat_map (at_line (number_is k)) (all k)
 
--- a link that is found stands among the links
-pub link_within : (w : WorldValue) (links : List LinkStateValue) (src dst at : ℕ) → w.links ≡ links → Some at ≡ link_index w src dst → at < length links
-link_within w links src dst at same found =
-    let low : at < length w.links = (position-Some (λ link. (link.src == src) && (link.dst == dst)) w.links at no_link (sym found)).0 in
-    let lengths : length w.links ≡ length links = ap length same in
+-- a queue that is found stands among the queues
+pub queue_within : (w : WorldValue) (queues : List QueueValue) (src dst at : ℕ) → w.queues ≡ queues → Some at ≡ link_index w src dst → at < length queues
+queue_within w queues src dst at same found =
+    let low : at < length w.queues = (position-Some (λ queue. (queue.src == src) && (queue.dst == dst)) w.queues at no_queue (sym found)).0 in
+    let lengths : length w.queues ≡ length queues = ap length same in
     omega (arith, low, lengths)
 
 -- what is written of a link is what is said of it
-pub link_said : (w : WorldValue) (links : List LinkStateValue) (src dst at : ℕ) (here : LinkStateValue) → w.links ≡ links → Some at ≡ link_index w src dst → here ≡ slice_index_or links at here
-    → flat_map way_lines (under_way here) ≡ link_lines w (link_index w src dst)
-link_said w links src dst at here same found here_by =
-    let here_is : here ≡ link_value w at =
-    here_by ∙ get_or_default links at here no_link (link_within w links src dst at same found) ∙ ap (λ ls. slice_index_or ls at no_link) (sym same) in
-    ap (λ l. flat_map way_lines (under_way l)) here_is ∙ ap (link_lines w) found
+pub link_said : (w : WorldValue) (queues : List QueueValue) (src dst at : ℕ) (here : QueueValue) → w.queues ≡ queues → Some at ≡ link_index w src dst → here ≡ slice_index_or queues at here
+    → flat_map way_lines (under_way (link_of w here)) ≡ link_lines w (link_index w src dst)
+link_said w queues src dst at here same found here_by =
+    let here_is : here ≡ queue_at w at =
+    here_by ∙ get_or_default queues at here no_queue (queue_within w queues src dst at same found) ∙ ap (λ qs. slice_index_or qs at no_queue) (sym same) in
+    ap (λ queue. flat_map way_lines (under_way (link_of w queue))) here_is ∙ ap (link_lines w) found
 
 -- what was written is this text
 pub same_text : {T E : Type 0} (r : Result T E) (a b : Option (List ℕ)) (text other : List ℕ) → text ≡ other → OnOk r (Appends a b text) → OnOk r (Appends a b other)

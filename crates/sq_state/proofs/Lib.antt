@@ -1,11 +1,12 @@
-pub mod Begins
-pub mod Cuts
+pub mod Cores
 pub mod Dumps
+pub mod Each
 pub mod Families
 pub mod Found
 pub mod Guards
+pub mod LinkSteps
 pub mod Opened
 pub mod Places
-pub mod SoundLinks
-pub mod Locations
-pub mod Submitted
+pub mod Serves
+pub mod Steps
+pub mod Trees

@@ -1,5 +1,5 @@
 -- Tests of each number of a range, and of each element by its place.
-use Rattle.std.proofs.Common.{◌≡◌, ℕ, zero, suc, ◌+◌, ◌<◌, ◌≤◌, Bool, true, false, ◌||◌, List, [], ◌∷◌, length, get_or, refl, sym, ap, ◌∙◌, arith}
+use Rattle.std.proofs.Common.{◌≡◌, ℕ, zero, suc, ◌+◌, ◌<◌, ◌≤◌, Bool, true, false, ◌||◌, IsTrue, ◌↔◌, List, [], ◌∷◌, length, get_or, refl, sym, ap, ◌∙◌, arith}
 use Rattle.std.specs.Prelude.{◌==◌, ◌≢◌, not, slice_get}
 use Rattle.std.specs.List.{list_any, list_all, range_with_len}
 use Rattle.std.proofs.lemmas.List.FromFn.{length-range_with_len, get_or-range_with_len}
@@ -8,10 +8,13 @@ use Rattle.std.proofs.lemmas.Option.{slice_get-get_or, slice_get_read}
 use Rattle.std.proofs.lemmas.List.{get_or_default}
 use Rattle.std.proofs.lemmas.Bool.{eq-eqb, ne_eqb}
 use Rattle.sq_ranges.specs.declared.recon.Range.{Range}
+use Rattle.sq_tree.specs.declared.status.Status.{Status}
+use Rattle.sq_tree.specs.declared.status.Reading.{Reading}
+use Rattle.sq_tree.specs.declared.status.Reading.TheVariants.{NotStarted, Partial, Complete}
 use Rattle.sq_tree.specs.Status.{reading}
 use Rattle.sq_tree.specs.Tree.{status_at}
 use Rattle.sq_model.specs.Answers.{goes_into, is_complete_reading}
-use Rattle.sq_transition.specs.WorldValue.{WorldValue, SegmentValue, no_segment}
+use Rattle.sq_transition.specs.WorldValue.{WorldValue}
 use Rattle.sq_transition.specs.LeaderResults.{flag_at, is_segment_whole}
 
 -- each number passes
@@ -75,11 +78,21 @@ pub goes_elsewhere : (segments : List Range) (part i : ℕ) (range : Range) → 
 goes_elsewhere segments part i range lt is other =
     ap (λ found. goes_into found part) (slice_get_read segments (length segments) i range refl lt is) ∙ ne_eqb range.dst part other
 
--- whether a segment is whole is read off the one that stands there
-pub whole_there : (w : WorldValue) (seg : ℕ) (state : SegmentValue) → seg < length w.segments → state ≡ get_or w.segments seg state
-    → is_complete_reading (reading (status_at state.statuses) 1) ≡ is_segment_whole w seg
-whole_there w seg state lt is =
-    ap (λ one. is_complete_reading (reading (status_at one.statuses) 1)) (is ∙ get_or_default w.segments seg state no_segment lt)
+-- what reads complete is whole
+tells_complete : (b : Bool) (r : Reading) → (IsTrue b ↔ (r ≡ Complete)) → b ≡ is_complete_reading r
+tells_complete true Complete tells = refl
+tells_complete true NotStarted tells = let same : NotStarted ≡ Complete = tells.0 refl in cc
+tells_complete true Partial tells = let same : Partial ≡ Complete = tells.0 refl in cc
+tells_complete false Complete tells = tells.1 refl
+tells_complete false NotStarted tells = refl
+tells_complete false Partial tells = refl
+
+-- whether a segment is whole is read off its tree
+pub whole_there : (w : WorldValue) (seg : ℕ) (tree : List Status) (is_whole : Bool) → seg < length w.trees → tree ≡ get_or w.trees seg tree
+    → (IsTrue is_whole ↔ (reading (status_at tree) 1 ≡ Complete)) → is_whole ≡ is_segment_whole w seg
+whole_there w seg tree is_whole lt is tells =
+    tells_complete is_whole (reading (status_at tree) 1) tells
+    ∙ ap (λ one. is_complete_reading (reading (status_at one) 1)) (is ∙ get_or_default w.trees seg tree [] lt)
 
 -- a segment into the partition is wanted whole, and no other is
 pub missing : (goes done : Bool) → goes ≡ true → done ≡ false → (not goes || done) ≡ false

@@ -3,12 +3,11 @@ use Rattle.std.specs.Prelude.{ℕ, List, [], ◌++◌, Option, Some, None}
 use Rattle.std.specs.List.{flat_map, range_with_len}
 use Rattle.sq_store.specs.InOrder.{families_in}
 use Rattle.sq_text.specs.Texts.{end_line, at_line, way_lines}
-use Rattle.sq_transition.specs.WorldValue.{WorldValue, part_at, link_index, link_value}
-use Rattle.sq_transition.specs.Holds.{under_way}
+use Rattle.sq_transition.specs.WorldValue.{WorldValue, core_at, link_index, link_value, under_way}
 
 -- the families in the store of a partition, by rising root key
 abbrev pub part_lines : WorldValue → ℕ → List ℕ
-part_lines w part = flat_map (at_line part) (families_in (part_at w part).store)
+part_lines w part = flat_map (at_line part) (families_in (core_at w part).store)
 
 -- the chunks of a link that were cut and aren't loaded, in rising number
 abbrev pub link_lines : WorldValue → Option ℕ → List ℕ

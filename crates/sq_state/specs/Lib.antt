@@ -1,3 +1,4 @@
+pub mod Queue
 pub mod Dump
 pub mod Openings
 pub mod Readers

@@ -10,12 +10,13 @@ use Rattle.sq_store.specs.StoreValue.{StoreValue}
 use Rattle.sq_ranges.specs.OpeningValue.{OpeningValue}
 use Rattle.sq_model.specs.Trace.{Trace, notes, link, load_count}
 use Rattle.sq_model.specs.Nodes.{status_of}
-use Rattle.sq_transition.specs.WorldValue.{WorldValue, PartitionValue, status_in, link_index, link_value}
-use Rattle.sq_transition.specs.Holds.{share_at, under_way, ChunkHolds}
+use Rattle.sq_exec.specs.CoreValue.{CoreValue}
+use Rattle.sq_transition.specs.WorldValue.{WorldValue, status_in, link_index, link_value, under_way}
+use Rattle.sq_transition.specs.Holds.{share_at, ChunkHolds}
 
 -- the store of a partition; none past the last
 abbrev pub store_at : WorldValue → ℕ → Option StoreValue
-store_at w part = option_map (λ (p : PartitionValue). p.store) (slice_get w.parts part)
+store_at w part = option_map (λ (core : CoreValue). core.store) (slice_get w.cores part)
 
 -- what the link at this place has under way; nothing where there is no link
 abbrev pub way_of : WorldValue → Option ℕ → List ChunkValue
@@ -28,7 +29,7 @@ chunk_at w src dst i = slice_get (way_of w (link_index w src dst)) i
 
 -- the status of a node; none where there is no such segment or node
 abbrev pub status_there : WorldValue → ℕ → ℕ → Option Status
-status_there w seg node = if is_node node && nat_lt seg (length w.segments) then Some (status_in w seg node) else None
+status_there w seg node = if is_node node && nat_lt seg (length w.trees) then Some (status_in w seg node) else None
 
 -- the store of each partition holds exactly the families that are there by the history
 abbrev pub IsStoreAfter : OpeningValue → Trace → ℕ → Option StoreValue → Type 0

@@ -1,8 +1,14 @@
 -- What a step came to.
-use Rattle.std.specs.Prelude.{Bool, if◌then◌else◌, Result, Ok, Err}
+use Rattle.std.specs.Prelude.{ℕ, Bool, if◌then◌else◌, length, Option, Some, None, Result, Ok, Err}
+use Rattle.sq_chunk.specs.ChunkValue.{ChunkValue}
 use Rattle.sq_model.specs.declared.answer.Answer.{Answer}
-use Rattle.sq_model.specs.declared.answer.Answer.TheVariants.{Refused}
+use Rattle.sq_model.specs.declared.answer.Answer.TheVariants.{Done, Refused}
 use Rattle.sq_model.specs.declared.answer.Refusal.{Refusal}
+use Rattle.sq_model.specs.declared.answer.Refusal.TheVariants.{OutboxFull, NothingToCut, InboxEmpty, Memory}
+use Rattle.sq_exec.specs.declared.fault.CutFault.{CutFault}
+use Rattle.sq_exec.specs.declared.fault.CutFault.TheVariants as cut
+use Rattle.sq_exec.specs.declared.fault.LoadFault.{LoadFault}
+use Rattle.sq_exec.specs.declared.fault.LoadFault.TheVariants as load
 
 -- what a step is answered that has an answer or is refused
 abbrev pub answer_of : Result Answer Refusal → Answer
@@ -16,3 +22,22 @@ unless wrong refusal value = if wrong then Err refusal else Ok value
 -- a check that only refuses
 abbrev pub refuse_if : Bool → Refusal → Result (Unit {0}) Refusal
 refuse_if wrong refusal = unless wrong refusal tt
+
+-- what a step is answered that is done or refused
+abbrev pub done_or : Result (Unit {0}) Refusal → Answer
+done_or (Ok done) = Done
+done_or (Err refusal) = Refused refusal
+
+abbrev pub cut_refused : CutFault → Refusal
+cut_refused cut.OutboxFull = OutboxFull
+cut_refused cut.NothingToCut = NothingToCut
+cut_refused cut.Memory = Memory
+
+abbrev pub load_refused : LoadFault → Refusal
+load_refused load.InboxEmpty = InboxEmpty
+load_refused load.Memory = Memory
+
+-- how many families a chunk holds; none where there is no chunk
+abbrev pub families_of : Option ChunkValue → ℕ
+families_of None = 0
+families_of (Some chunk) = length chunk.families

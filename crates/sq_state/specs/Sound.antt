@@ -1,32 +1,34 @@
 -- What the steps of a world rely on.
-use Rattle.std.specs.Prelude.{◌≡◌, ℕ, ◌<◌, ◌≤◌, true, length, slice_get, Some, is_some, IsTrue}
-use Rattle.sq_ranges.specs.declared.recon.Range.{Range}
+use Rattle.std.specs.Prelude.{◌≡◌, ℕ, false, ◌<◌, ◌≤◌, length, Some, slice_get, IsTrue}
+use Rattle.sq_schema.specs.TxnValue.{TxnValue}
 use Rattle.sq_ranges.specs.declared.opening.TheConstants.{MAX_CAPACITY}
-use Rattle.sq_chunk.specs.ChunkValue.{ChunkValue, are_within}
-use Rattle.sq_store.specs.StoreValue.{has_none_of}
-use Rattle.sq_transition.specs.WorldValue.{WorldValue, LinkStateValue, WorkValue, part_at, range_of, link_index}
-use Rattle.sq_transition.specs.SubmitResults.{location, waits_for}
+use Rattle.sq_ranges.specs.declared.recon.Range.{Range}
+use Rattle.sq_chunk.specs.ChunkValue.{ChunkValue}
+use Rattle.sq_exec.specs.CoreValue.{inbox_at}
+use Rattle.sq_exec.specs.Location.{is_coming, route}
+use Rattle.sq_exec.specs.Moving.{can_load}
+use Rattle.sq_transition.specs.WorldValue.{WorldValue, QueueValue, core_at, range_of}
 
--- a chunk that came can be loaded: it is about a segment that there is, and none of its families stands at the destination
-pub record CanLoad (w : WorldValue) (dst : ℕ) (chunk : ChunkValue) : Type 0 where
-  pub segment : chunk.note.seg < length w.recon.segments
-  pub rising : IsTrue (are_within chunk.note.lo chunk.note.hi chunk.families)
-  pub apart : IsTrue (has_none_of (part_at w dst).store chunk.families)
+-- a partition knows its number, the plan and what moves; and a transaction that waits there runs there once its rows came
+pub record IsSoundCore (w : WorldValue) (part : ℕ) : Type 0 where
+  pub number : (core_at w part).part ≡ part
+  pub plan : (core_at w part).plan ≡ w.old
+  pub recon : (core_at w part).recon ≡ w.recon
+  pub runs : (place : ℕ) (txn : TxnValue) → slice_get (core_at w part).waiting place ≡ Some txn → is_coming (core_at w part) txn.root ≡ false → route (core_at w part) txn.root ≡ part
 
--- a link goes from one partition to another, no work of it is past its end, and what came can be loaded
-pub record IsSoundLink (w : WorldValue) (link : LinkStateValue) : Type 0 where
-  pub source : link.src < w.old.parts
-  pub destination : link.dst < w.old.parts
-  pub rests : (i : ℕ) (work : WorkValue) → slice_get link.work i ≡ Some work → work.rest ≤ work.hi
-  pub loads : (chunk : ChunkValue) → link.inbox ≡ Some chunk → CanLoad w link.dst chunk
+-- a queue goes from one partition to another, and a chunk that came off it can be loaded
+pub record IsSoundLink (w : WorldValue) (queue : QueueValue) : Type 0 where
+  pub source : queue.src < w.old.parts
+  pub destination : queue.dst < w.old.parts
+  pub loads : (chunk : ChunkValue) → inbox_at (core_at w queue.dst) queue.src ≡ Some chunk → IsTrue (can_load (core_at w queue.dst) queue.src chunk)
 
--- the lists have their lengths, each segment has its link, and a transaction waits only on a root key that moves
+-- the lists have their lengths, a segment goes from one partition to another, and each partition and each link is sound
 pub record IsSound (w : WorldValue) : Type 0 where
   pub prepared : length w.prepared ≡ w.old.parts
   pub reported : length w.reported ≡ w.old.parts
-  pub parts : length w.parts ≡ w.old.parts
-  pub segments : length w.segments ≡ length w.recon.segments
+  pub cores : length w.cores ≡ w.old.parts
+  pub trees : length w.trees ≡ length w.recon.segments
   pub capacity : w.config.capacity ≤ MAX_CAPACITY
-  pub links : (i : ℕ) (link : LinkStateValue) → slice_get w.links i ≡ Some link → IsSoundLink w link
-  pub linked : (seg : ℕ) (range : Range) → range_of w seg ≡ Some range → is_some (link_index w range.src range.dst) ≡ true
-  pub waiting : (part root : ℕ) → part < w.old.parts → waits_for w part root ≡ true → is_some (location w root) ≡ true
+  pub ends : (seg : ℕ) (range : Range) → range_of w seg ≡ Some range → (range.src < w.old.parts) × (range.dst < w.old.parts)
+  pub parts : (part : ℕ) → part < w.old.parts → IsSoundCore w part
+  pub links : (i : ℕ) (queue : QueueValue) → slice_get w.queues i ≡ Some queue → IsSoundLink w queue

@@ -1,7 +1,7 @@
 //! The state of a world in memory, and what each step does to it.
 #![tactic(auto)]
 
-mod location;
+mod queue;
 mod state;
 
 pub use state::State;

@@ -5,11 +5,13 @@ ghost use Rattle.sq_model.specs.Leader.{is_moving_phase, is_started_phase};
 ghost use Rattle.sq_tree.specs.Node.{is_node};
 ghost use Rattle.sq_state.specs.Results.{refuse_if, unless};
 
+use crate::queue::Queue;
+use sq_exec::PartCore;
 use sq_model::{Phase, Refusal};
-use sq_parts::{LinkState, Partition, Segment};
 use sq_plan::Plan;
 use sq_ranges::{Config, Recon, SegId};
-use sq_tree::NodeId;
+use sq_store::VecStore;
+use sq_tree::{NodeId, PlainTree};
 use std::alloc::Global;
 use std::marker::Model;
 
@@ -22,7 +24,8 @@ mod step;
 mod submit;
 mod trees;
 
-/// The plans of a world, what moves between them, and how far it is. To a contract it is a `WorldValue`.
+/// A world: the plans, what moves between them and how far the leader is; the partitions, each by itself; for each
+/// segment its split tree; and the queues between the partitions. To a contract it is a `WorldValue`.
 #[derive(Drop)]
 pub struct State {
     alloc: Global,
@@ -34,12 +37,13 @@ pub struct State {
     phase: Phase,
     prepared: Vec<bool>,
     reported: Vec<bool>,
-    parts: Vec<Partition>,
-    segments: Vec<Segment>,
-    links: Vec<LinkState>,
+    cores: Vec<PartCore<VecStore>>,
+    trees: Vec<PlainTree>,
+    queues: Vec<Queue>,
 }
 
 impl Model for State {
+    ghost use Rattle.std.specs.Prelude.{map};
     ghost use Rattle.std.specs.Coded.{Coded, coded_ℕ, codes};
     ghost use Rattle.std.specs.Ordering.{nat_cmp};
     ghost use Rattle.std.specs.FinMap as fin;
@@ -59,9 +63,9 @@ impl Model for State {
       phase = s.phase;
       prepared = s.prepared.items;
       reported = s.reported.items;
-      parts = s.parts.items;
-      segments = s.segments.items;
-      links = s.links.items;
+      cores = map (λ part. part.core) s.cores.items;
+      trees = s.trees.items;
+      queues = s.queues.items;
     } };
 }
 

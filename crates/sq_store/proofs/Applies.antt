@@ -15,10 +15,25 @@ use Rattle.sq_store.specs.Listed.{roots_rise, store_of, opened, IsRootAt, IsRoot
 use Rattle.sq_store.proofs.Lists.{get_at, get_gap, insert_at, insert_gap}
 
 -- a family keeps its root key
-root_kept : (old now : FamilyValue) (txn : TxnValue) (result : Result Reply ApplyFault) → IfOk result (λ r. now ≡ answered old txn r) → OnErr result (now ≡ old) → now.root ≡ old.root
+pub root_kept : (old now : FamilyValue) (txn : TxnValue) (result : Result Reply ApplyFault) → IfOk result (λ r. now ≡ answered old txn r) → OnErr result (now ≡ old) → now.root ≡ old.root
 root_kept old now txn (Ok (Committed answers)) ok err = ap (λ f. f.root) ok
 root_kept old now txn (Ok (Aborted at cause)) ok err = ap (λ f. f.root) ok
 root_kept old now txn (Err fault) ok err = ap (λ f. f.root) err
+
+-- the family of a root key, whether it stands or not
+pub found_family : (store : StoreValue) (root : ℕ) (family : FamilyValue) → get store root ≡ Some family → family_at store root ≡ family
+found_family store root family found = ap (λ o. unwrap_or o (absent root)) found
+
+pub absent_family : (store : StoreValue) (root : ℕ) → get store root ≡ None → family_at store root ≡ absent root
+absent_family store root none = ap (λ o. unwrap_or o (absent root)) none
+
+-- the log of a family that isn't there isn't full
+pub absent_not_full : (store : StoreValue) (root : ℕ) → get store root ≡ None → (result : Result Reply ApplyFault) → IfErr result (λ fault. fault ≡ Memory) → IsErrOf result LogFull ↔ (MAX_LOG ≤ length (family_at store root).log)
+absent_not_full store root absence result memory = (λ full. absurd (by_case result memory full), λ long. absurd (let none = ap (λ f. length f.log) (absent_family store root absence) in omega (arith, none, long)))
+  where
+    by_case : (result : Result Reply ApplyFault) → IfErr result (λ fault. fault ≡ Memory) → IsErrOf result LogFull → ⊥
+    by_case (Ok reply) memory full = cc
+    by_case (Err fault) memory full = cc
 
 -- the store of a list that has a family of the transaction's root key at this place
 module _ (store : StoreValue) (families : List FamilyValue) (txn : TxnValue) (at : ℕ) (rising : roots_rise families ≡ true) (is : store_of families ≡ store) (here : IsRootAt families txn.root at) where
@@ -26,7 +41,7 @@ module _ (store : StoreValue) (families : List FamilyValue) (txn : TxnValue) (at
   get_found old read = ap (λ s. get s txn.root) (sym is) ∙ get_at families txn.root at old rising here ∙ ap Some (sym read)
 
   pub family_found : (old : FamilyValue) → old ≡ get_or families at old → family_at store txn.root ≡ old
-  family_found old read = ap (λ found. unwrap_or found (absent txn.root)) (get_found old read)
+  family_found old read = found_family store txn.root old (get_found old read)
 
   root_found : (old : FamilyValue) → old ≡ get_or families at old → old.root ≡ txn.root
   root_found old read = ap (λ f. f.root) read ∙ here.here old
@@ -57,7 +72,7 @@ module _ (store : StoreValue) (families : List FamilyValue) (txn : TxnValue) (at
   get_absent = ap (λ s. get s txn.root) (sym is) ∙ get_gap families txn.root at rising gap
 
   pub family_absent : family_at store txn.root ≡ absent txn.root
-  family_absent = ap (λ found. unwrap_or found (absent txn.root)) get_absent
+  family_absent = absent_family store txn.root get_absent
 
   pub rising_opened : (now : List FamilyValue) (result : Result Reply ApplyFault) → IfOk result (λ r. now ≡ opened families at txn r) → OnErr result (now ≡ families) → roots_rise now ≡ true
   rising_opened now (Ok (Committed answers)) ok err = ap roots_rise ok ∙ (insert_gap families at (with_txn (absent txn.root) txn) rising gap).rising
@@ -71,10 +86,5 @@ module _ (store : StoreValue) (families : List FamilyValue) (txn : TxnValue) (at
   store_opened now (Ok (Aborted n cause)) ok = ap store_of ok ∙ is
   store_opened now (Err fault) ok = tt
 
-  -- the log of a family that isn't there isn't full
   pub not_full : (result : Result Reply ApplyFault) → IfErr result (λ fault. fault ≡ Memory) → IsErrOf result LogFull ↔ (MAX_LOG ≤ length (family_at store txn.root).log)
-  not_full result memory = (λ full. absurd (by_case result memory full), λ long. absurd (let none = ap (λ f. length f.log) family_absent in omega (arith, none, long)))
-    where
-      by_case : (result : Result Reply ApplyFault) → IfErr result (λ fault. fault ≡ Memory) → IsErrOf result LogFull → ⊥
-      by_case (Ok reply) memory full = cc
-      by_case (Err fault) memory full = cc
+  not_full result memory = absent_not_full store txn.root get_absent result memory

@@ -8,7 +8,7 @@ use Rattle.std.specs.FinMap.{get, entries, entries_sorted, retain_keys, get-entr
 use Rattle.std.specs.FinMap.Entries.{find, below_all, where_key, is_sorted-where_key, find-where_key}
 use Rattle.std.proofs.lemmas.Bool.{ne_eqb, eqb-true, ltb-true, leb-true, le-leb, lt-leb, le-ltb, lt-ltb, and_left, and_right, cases_lt, cases_eq}
 use Rattle.sq_schema.specs.Family.{FamilyValue}
-use Rattle.sq_store.specs.InOrder.{are_within}
+use Rattle.sq_store.specs.InOrder.{are_within, HoldsByRoot}
 use Rattle.sq_store.specs.StoreValue.{StoreValue, family_in, families_between, without_between}
 use Rattle.sq_store.proofs.Order.{less_from_cmp}
 use Rattle.sq_store.proofs.Lists.{from_T}
@@ -72,10 +72,13 @@ within-entries lo hi (entry ∷ es) sorted rooted bounds =
 pub record IsRooted (store : StoreValue) : Type 0 where
   pub root : (key : ℕ) (family : FamilyValue) → get store key ≡ Some family → family.root ≡ key
 
-abbrev is_between : ℕ → ℕ → ℕ → Bool
+pub rooted_by : (store : StoreValue) → HoldsByRoot store → IsRooted store
+rooted_by store by = record { root = by }
+
+abbrev pub is_between : ℕ → ℕ → ℕ → Bool
 is_between lo hi root = nat_le lo root && nat_lt root hi
 
-kept : (lo hi : ℕ) (store : StoreValue) (key : ℕ) → get (retain_keys store (is_between lo hi)) key ≡ (if is_between lo hi key then get store key else None)
+pub kept : (lo hi : ℕ) (store : StoreValue) (key : ℕ) → get (retain_keys store (is_between lo hi)) key ≡ (if is_between lo hi key then get store key else None)
 kept lo hi store key = get-retain_keys store (is_between lo hi) key (λ x tied. ap (is_between lo hi) (sym (tied_is key x (ap is_eq tied))))
 
 -- the entries that a test of the keys keeps
@@ -89,10 +92,10 @@ entries-retain_keys p store =
     ∙ sym (get-from_sorted nat_cmp es q sorted ∙ find-where_key nat_cmp p q (alike q) (entries store))))
     ∙ entries-from_sorted nat_cmp es sorted
 
-entries_between : (lo hi : ℕ) (store : StoreValue) → map (λ entry. entry.1) (entries (retain_keys store (is_between lo hi))) ≡ families_between store lo hi
+pub entries_between : (lo hi : ℕ) (store : StoreValue) → map (λ entry. entry.1) (entries (retain_keys store (is_between lo hi))) ≡ families_between store lo hi
 entries_between lo hi store = ap (map (λ entry. entry.1)) (entries-retain_keys (is_between lo hi) store)
 
-sorted_is : (store : StoreValue) → is_sorted nat_cmp (entries store) ≡ true
+pub sorted_is : (store : StoreValue) → is_sorted nat_cmp (entries store) ≡ true
 sorted_is store = from_T (is_sorted nat_cmp (entries store)) (entries_sorted store)
 
 both_if : (b : Bool) (found : Option FamilyValue) (family : FamilyValue) → (if b then found else None) ≡ Some family → (b ≡ true) × (found ≡ Some family)

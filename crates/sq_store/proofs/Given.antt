@@ -38,7 +38,7 @@ none_of : (found : Option FamilyValue) → is_some found ≡ false → found ≡
 none_of None none = refl
 none_of (Some family) none = absurd (true≢false none)
 
-none_found : (families : List FamilyValue) (root : ℕ) → names families root ≡ false → family_in families root ≡ None
+pub none_found : (families : List FamilyValue) (root : ℕ) → names families root ≡ false → family_in families root ≡ None
 none_found families root none = none_of (family_in families root) (found-names families root ∙ none)
 
 -- what the first of families whose root keys differ is to the others

@@ -13,3 +13,8 @@ pub mod Given
 pub mod Runs
 pub mod Taken
 pub mod Fullest
+pub mod Keys
+pub mod Firsts
+pub mod Indexes
+pub mod Writes
+pub mod PutsIn

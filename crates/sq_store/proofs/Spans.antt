@@ -61,7 +61,7 @@ module _ {X : Type 0} (xs : List X) (first last : ℕ) (rise : first ≤ last) (
       ∙ (λ i. filter_all p (take first xs) (All-front (λ x. p x ≡ true) before) i ++ filter-append p (slice_range xs first last) (drop last xs) i)
       ∙ (λ i. take first xs ++ (filter_none p (slice_range xs first last) (All-middle (λ x. p x ≡ false) inside) i ++ filter_all p (drop last xs) (All-back (λ x. p x ≡ true) after) i))
 
-filter-entries_of : (p : ℕ → Bool) (families : List FamilyValue) → filter (λ entry. p entry.0) (entries_of families) ≡ entries_of (filter (λ family. p family.root) families)
+pub filter-entries_of : (p : ℕ → Bool) (families : List FamilyValue) → filter (λ entry. p entry.0) (entries_of families) ≡ entries_of (filter (λ family. p family.root) families)
 filter-entries_of p [] = refl
 filter-entries_of p (family ∷ families) =
     let rest = filter-entries_of p families in

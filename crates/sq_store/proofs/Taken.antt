@@ -10,10 +10,7 @@ use Rattle.sq_store.specs.StoreValue.{StoreValue, families_between, without_betw
 use Rattle.sq_store.specs.InOrder.{HoldsByRoot}
 use Rattle.sq_store.proofs.Given.{get-with_new, has_none_of-from_each}
 use Rattle.sq_store.proofs.Rising.{differ-within}
-use Rattle.sq_store.proofs.Between.{IsRooted, family_in-between, within-between, get-without}
-
-rooted_by : (store : StoreValue) → HoldsByRoot store → IsRooted store
-rooted_by store by = record { root = by }
+use Rattle.sq_store.proofs.Between.{rooted_by, family_in-between, within-between, get-without}
 
 back : (between : Bool) (found : Option FamilyValue) (left : Option FamilyValue) → left ≡ cond between None found → cond (is_some (cond between found None)) (cond between found None) left ≡ found
 back true None left is = is
@@ -39,7 +36,7 @@ has_none_of-taken store lo hi by =
     get-without lo hi store root
     ∙ gone (nat_le lo root && nat_lt root hi) (get store root) (ap is_some (sym (family_in-between lo hi store root (rooted_by store by))) ∙ found))
 
-none_is : (found : Option FamilyValue) → is_none found ≡ true → found ≡ None
+pub none_is : (found : Option FamilyValue) → is_none found ≡ true → found ≡ None
 none_is None none = refl
 none_is (Some family) none = absurd (true≢false (sym none))
 

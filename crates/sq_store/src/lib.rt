@@ -5,11 +5,13 @@ mod command;
 pub mod laws;
 mod merge;
 mod run;
+mod slab_store;
 mod sorted;
 mod store;
 mod vec_store;
 
 pub use command::{StoreAnswer, StoreCommand};
 pub use run::run_store;
+pub use slab_store::SlabStore;
 pub use store::{Cut, FamilyStore};
 pub use vec_store::VecStore;

@@ -1,8 +1,8 @@
 // Two partitions, between which root keys 4 to 7 move in chunks of one family, with ample memory.
 use sq_chunk::{Chunk, Note};
-use sq_exec::{MAX_WAITING, Outcome, PartCore};
+use sq_exec::{Outcome, PartCore};
 use sq_plan::{PartId, Plan};
-use sq_ranges::{Config, Opening, SegId};
+use sq_ranges::{Config, MAX_WAITING, Opening, SegId};
 use sq_schema::{Op, OpAnswer, Reply, Root, Row, RowKey, Schema, Txn};
 use sq_store::{FamilyStore, VecStore};
 use sq_tree::NodeId;
@@ -100,7 +100,7 @@ enum Told {
     Waits(u64),
     // A chunk of this number, of these keys, and whether it is the last.
     Chunk(u64, u64, u64, bool),
-    // So many families.
+    // This many families.
     Families(usize),
     Refused(u16),
     Else,

@@ -8,6 +8,8 @@ mod exec;
 #[cfg(test)]
 mod fixtures;
 #[cfg(test)]
+mod leader;
+#[cfg(test)]
 mod link;
 #[cfg(test)]
 mod plan;

@@ -71,7 +71,7 @@ fn chunks(alloc: Global, count: u32) -> Result<Vec<Chunk>, Fail> {
     Ok(chunks)
 }
 
-// Sends the chunks in order, with at most so many tries, and gives back those that didn't go.
+// Sends the chunks in order, with at most this many tries, and gives back those that didn't go.
 fn send_all<R: Wait>(
     rt: &R,
     link: &Link,

@@ -113,7 +113,7 @@ fn texts_of_plans(rt: HostRuntime) {
 // Ranges with their owners, by lower bound, and keys with their owners.
 type Owned<'a> = (&'a [(u64, u64, u8)], &'a [(u64, u8)]);
 
-// Plans of so many partitions, with what they own.
+// Plans of this many partitions, with what they own.
 const PLANS: [(&str, u8, Owned<'static>); 3] = [
     (
         r#"{"version":1,"partitions":1,"ranges":[[0,4294967296,0]]}"#,
@@ -174,6 +174,43 @@ fn owners(rt: HostRuntime) -> Result<(), Fail> {
         let plan = Plan::read(rt.alloc(), text.as_bytes())?;
         assert_eq!(rt; plan.parts(), parts);
         assert!(rt; owns(&plan, owned), "{text}");
+    }
+    Ok(())
+}
+
+// Texts of plans, and what is written for the plans that are read from them.
+const WRITTEN: [(&str, &str); 5] = [
+    (
+        r#"{"x":null,"version":1,"partitions":1,"ranges":[[0,4294967296,0]]}"#,
+        r#"{"partitions":1,"ranges":[[0,4294967296,0]],"version":1}"#,
+    ),
+    (
+        " \t\r\n{ \"version\" : 1 , \"partitions\" : 1 ,\n\"ranges\" : [ [ 0 , 4294967296 , 0 ] ] } \r",
+        r#"{"partitions":1,"ranges":[[0,4294967296,0]],"version":1}"#,
+    ),
+    (
+        r#"{"version":2,"partitions":3,"ranges":[],"version":1,"partitions":2,"ranges":[[0,9,1],[9,4294967296,0]]}"#,
+        r#"{"partitions":2,"ranges":[[0,9,1],[9,4294967296,0]],"version":1}"#,
+    ),
+    (
+        r#"{"ranges":[[0,10,1],[10,20,1],[20,4294967295,0],[4294967295,4294967296,15]],"version":1,"partitions":16}"#,
+        r#"{"partitions":16,"ranges":[[0,10,1],[10,20,1],[20,4294967295,0],[4294967295,4294967296,15]],"version":1}"#,
+    ),
+    (
+        r#"{"partitions":4,"ranges":[[0,5,0],[5,10,1],[10,15,2],[15,20,3],[20,4294967296,0]],"version":1}"#,
+        r#"{"partitions":4,"ranges":[[0,5,0],[5,10,1],[10,15,2],[15,20,3],[20,4294967296,0]],"version":1}"#,
+    ),
+];
+
+#[test]
+fn written(rt: HostRuntime) -> Result<(), Fail> {
+    for (text, wanted) in WRITTEN {
+        let plan = Plan::read(rt.alloc(), text.as_bytes())?;
+        let written = plan.write()?;
+        assert_eq!(rt; written.as_str(), wanted);
+        let again = Plan::read(rt.alloc(), written.as_bytes())?;
+        assert_eq!(rt; again.parts(), plan.parts(), "{text}");
+        assert!(rt; again.ranges() == plan.ranges(), "{text}");
     }
     Ok(())
 }

@@ -163,7 +163,7 @@ fn segments(rt: HostRuntime) {
     }
 }
 
-// Plans to which nothing moves with leaves of so many root keys, and the number of the fault.
+// Plans to which nothing moves with leaves of this many root keys, and the number of the fault.
 const REFUSED: [(&str, u64, u16); 4] = [
     (
         r#"{"version":1,"partitions":1,"ranges":[[0,4294967296,0]]}"#,

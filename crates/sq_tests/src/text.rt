@@ -1,14 +1,18 @@
-// Lines, headers and inputs.
-use crate::fixtures::{PLANS, has, schema, step};
-use sq_schema::{RowKey, Schema};
-use sq_text::{Piece, Pieces, read_header, read_step};
+// Lines, headers and inputs, and the lines of answers.
+use crate::fixtures::{PLANS, has, schema, step, transaction};
+use sq_model::{Answer, Refusal};
+use sq_schema::{Cause, OpAnswer, OpAnswers, Reply, RowKey, Schema};
+use sq_text::{Piece, Pieces, read_header, read_step, write_answer};
+use sq_tree::{Reading, Status};
 use std::alloc::Global;
 use std::test::Fail;
 
 // Lines with the steps that they spell.
-const STEPS: [(&str, &str); 13] = [
+const STEPS: [(&str, &str); 16] = [
     ("prepare 1", "Prepare(1)"),
     ("start", "Start"),
+    ("resume 1", "Resume(1)"),
+    ("split 3 17", "Split { seg: 3, node: 17 }"),
     ("claim 0 1 2", "Claim { seg: 0, node: 1, pull: 2 }"),
     ("begin 0 1 4", "Begin { seg: 0, node: 1, pull: 4 }"),
     ("cut 1 0", "Cut { src: 1, dst: 0 }"),
@@ -18,6 +22,7 @@ const STEPS: [(&str, &str); 13] = [
     ("complete 0 1 2", "Complete { seg: 0, node: 1, pull: 2 }"),
     ("report 1", "Report(1)"),
     ("finish", "Finish"),
+    ("status 3 17", "Status { seg: 3, node: 17 }"),
     (
         "txn 0 7 9 get 2 3",
         "Submit(0, Txn { id: 7, root: Root(9), ops: [Get(RowKey { table: 2, sub: 3 })] })",
@@ -38,13 +43,18 @@ fn steps(rt: HostRuntime) -> Result<(), Fail> {
     Ok(())
 }
 
-// Lines with the number by which a schema of so many tables refuses them, or 0 where they are steps.
-const REFUSED: [(&str, u8, u16); 23] = [
+// Lines with the number by which a schema of this many tables refuses them, or 0 where they are steps.
+const REFUSED: [(&str, u8, u16); 28] = [
     ("", 8, 230),
     ("push 0", 8, 230),
-    ("split 0 1", 8, 230),
-    ("resume 1", 8, 230),
-    ("status 0 1", 8, 230),
+    ("resume", 8, 230),
+    ("resume 0 1", 8, 230),
+    ("split 0", 8, 230),
+    ("split 0 1 2", 8, 230),
+    ("split 0 18446744073709551616", 8, 230),
+    ("status 0", 8, 230),
+    ("status 0 1 2", 8, 230),
+    ("statuses 0 1", 8, 230),
     (" start", 8, 230),
     ("prepare 01", 8, 230),
     ("prepare 18446744073709551616", 8, 230),
@@ -72,6 +82,94 @@ fn lines_that_are_refused(rt: HostRuntime) -> Result<(), Fail> {
         let fault = read_step(rt.alloc(), &schema, line.as_bytes()).err();
         assert!(rt; fault.map_or(0, |fault| fault.number()) == want, "{line}");
     }
+    Ok(())
+}
+
+// Statuses of nodes, and what the nodes read as, with the lines that tell them.
+const READINGS: [(Status, Reading, &str); 7] = [
+    (Status::Free, Reading::NotStarted, "is free not-started\n"),
+    (Status::Free, Reading::Complete, "is free complete\n"),
+    (Status::Split, Reading::Partial, "is split partial\n"),
+    (
+        Status::Claimed(2),
+        Reading::NotStarted,
+        "is claimed 2 not-started\n",
+    ),
+    (
+        Status::Partial(0),
+        Reading::Partial,
+        "is partial 0 partial\n",
+    ),
+    (
+        Status::Complete(3),
+        Reading::Complete,
+        "is complete 3 complete\n",
+    ),
+    (
+        Status::Complete(4_294_967_295),
+        Reading::Complete,
+        "is complete 4294967295 complete\n",
+    ),
+];
+
+#[test]
+fn readings_of_nodes(rt: HostRuntime) -> Result<(), Fail> {
+    for (status, reading, want) in READINGS {
+        let mut line = Vec::new(rt.alloc());
+        write_answer(&mut line, &Answer::Reads { status, reading })?;
+        assert!(rt;
+            line.as_slice() == want.as_bytes(),
+            "{status:?} is {line:?}"
+        );
+    }
+    Ok(())
+}
+
+// Refusals with their lines.
+const REFUSALS: [(Refusal, &str); 2] = [
+    (Refusal::IsLeaf, "refused 206\n"),
+    (Refusal::NoneReady, "refused 223\n"),
+];
+
+#[test]
+fn refusals(rt: HostRuntime) -> Result<(), Fail> {
+    for (refusal, want) in REFUSALS {
+        let mut line = Vec::new(rt.alloc());
+        write_answer(&mut line, &Answer::Refused(refusal))?;
+        assert!(rt;
+            line.as_slice() == want.as_bytes(),
+            "{refusal:?} is {line:?}"
+        );
+    }
+    Ok(())
+}
+
+// A transaction that was resumed is told as one that was submitted.
+#[test]
+fn resumed_transactions(rt: HostRuntime) -> Result<(), Fail> {
+    let mut answers = Vec::new(rt.alloc());
+    answers.push(OpAnswer::Found(None))?;
+    answers.push(OpAnswer::Number(-3))?;
+    let reply = Reply::Committed(OpAnswers::new(answers));
+    let txn = transaction(rt.alloc(), "txn 1 6 5 get 1 7 add 0 0 -13")?;
+    let mut line = Vec::new(rt.alloc());
+    write_answer(&mut line, &Answer::Resumed { txn, reply })?;
+    assert!(rt;
+        line.as_slice() == "commit 6 none -3\n".as_bytes(),
+        "{line:?}"
+    );
+
+    let reply = Reply::Aborted {
+        at: 1,
+        cause: Cause::Small,
+    };
+    let txn = transaction(rt.alloc(), "txn 1 7 5 get 0 0 check 0 0 11")?;
+    let mut line = Vec::new(rt.alloc());
+    write_answer(&mut line, &Answer::Resumed { txn, reply })?;
+    assert!(rt;
+        line.as_slice() == "abort 7 1 small\n".as_bytes(),
+        "{line:?}"
+    );
     Ok(())
 }
 

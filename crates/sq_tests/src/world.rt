@@ -231,7 +231,7 @@ fn readers_that_fail(rt: HostRuntime) -> Result<(), Fail> {
     Ok(())
 }
 
-// Whether a run through a writer that fails after so many bytes fails, after the first of what it writes otherwise.
+// Whether a run through a writer that fails after this many bytes fails, after the first of what it writes otherwise.
 fn fails_to_write(alloc: Global, mut input: &[u8], output: &[u8], most: usize) -> bool {
     let mut writer = Narrow {
         got: Vec::new(alloc),

@@ -9,11 +9,18 @@ use Rattle.sq_text.specs.declared.fault.LineFault.{LineFault}
 use Rattle.sq_text.specs.declared.fault.LineFault.TheVariants.{NotAStep, TooLong, Txn}
 use Rattle.sq_text.specs.declared.step.TheConstants.{MAX_LINE}
 use Rattle.sq_text.specs.declared.verb.Verb.{Verb}
-use Rattle.sq_text.specs.declared.verb.Verb.TheVariants.{Prepare, Start, Claim, Begin, Cut, Push, Pop, Load, Complete, Report, Finish}
+use Rattle.sq_text.specs.declared.verb.Verb.TheVariants.{Prepare, Start, Resume, Split, Claim, Begin, Cut, Push, Pop, Load, Complete, Report, Finish, Status}
 use Rattle.sq_text.specs.Words.{Word, words_of, ◌>>=◌}
 use Rattle.sq_text.specs.Fields.{number_field, number_below, value_at_end}
 use Rattle.sq_text.specs.Verbs.{verb_in}
 use Rattle.sq_text.specs.Ops.{ops_in}
+
+-- a segment and a node
+unfoldable pub node_field : List Word → Option ((ℕ × ℕ) × List Word)
+node_field words = do
+  seg ← number_field words
+  node ← number_field seg.1
+  Some ((seg.0, node.0), node.1)
 
 -- a segment, a node and a pull
 unfoldable pub pull_field : List Word → Option ((ℕ × ℕ × ℕ) × List Word)
@@ -36,6 +43,12 @@ step_with Prepare words = do
   part ← number_field words
   Some (step.Prepare part.0, part.1)
 step_with Start words = Some (step.Start, words)
+step_with Resume words = do
+  part ← number_field words
+  Some (step.Resume part.0, part.1)
+step_with Split words = do
+  at ← node_field words
+  Some (step.Split at.0.0 at.0.1, at.1)
 step_with Claim words = do
   at ← pull_field words
   Some (step.Claim at.0.0 at.0.1 at.0.2, at.1)
@@ -61,6 +74,9 @@ step_with Report words = do
   part ← number_field words
   Some (step.Report part.0, part.1)
 step_with Finish words = Some (step.Finish, words)
+step_with Status words = do
+  at ← node_field words
+  Some (step.Status at.0.0 at.0.1, at.1)
 
 -- the step of a line that begins with a verb, and has no word past the step's
 abbrev pub verb_step : Word → List Word → Option Step

@@ -11,6 +11,10 @@ use Rattle.sq_schema.specs.declared.txn.Reply.{Reply}
 use Rattle.sq_schema.specs.declared.txn.Reply.TheVariants.{Committed, Aborted}
 use Rattle.sq_schema.specs.Values.{RowValue}
 use Rattle.sq_schema.specs.Family.{FamilyValue, rows_of}
+use Rattle.sq_tree.specs.declared.status.Status.{Status}
+use Rattle.sq_tree.specs.declared.status.Status.TheVariants as status
+use Rattle.sq_tree.specs.declared.status.Reading.{Reading}
+use Rattle.sq_tree.specs.declared.status.Reading.TheVariants as reading
 use Rattle.sq_chunk.specs.declared.chunk.Note.{Note}
 use Rattle.sq_chunk.specs.ChunkValue.{ChunkValue}
 use Rattle.sq_model.specs.declared.answer.Answer.{Answer}
@@ -75,14 +79,34 @@ abbrev pub note_words : Note → ℕ → List Word
 note_words note families =
     decimal note.number ∷ decimal note.seg ∷ decimal note.node ∷ decimal note.lo ∷ decimal note.hi ∷ mark_text note.last ∷ decimal families ∷ []
 
+-- the status of a node, with the pull that has the node
+abbrev pub status_text : Status → List ℕ
+status_text status.Free = codes "free"
+status_text status.Split = codes "split"
+status_text (status.Claimed pull) = codes "claimed " ++ decimal pull
+status_text (status.Partial pull) = codes "partial " ++ decimal pull
+status_text (status.Complete pull) = codes "complete " ++ decimal pull
+
+-- what a node reads as
+abbrev pub reading_text : Reading → List ℕ
+reading_text reading.NotStarted = codes "not-started"
+reading_text reading.Partial = codes "partial"
+reading_text reading.Complete = codes "complete"
+
+-- a node's status, and what the node reads as
+abbrev pub node_words : Status → Reading → List Word
+node_words status reading = codes "is" ∷ status_text status ∷ reading_text reading ∷ []
+
 -- the words of an answer
 abbrev pub answer_words : Answer → List Word
 answer_words answer.Done = codes "ok" ∷ []
 answer_words (answer.Replied id reply) = reply_words id reply
 answer_words (answer.Moved id to) = codes "moved" ∷ decimal id ∷ decimal to ∷ []
 answer_words (answer.Waits id seg leaf) = codes "waits" ∷ decimal id ∷ decimal seg ∷ decimal leaf ∷ []
+answer_words (answer.Resumed txn reply) = reply_words txn.id reply
 answer_words (answer.WasCut note families) = codes "cut" ∷ note_words note families
 answer_words (answer.WasLoaded note families) = codes "load" ∷ note_words note families
+answer_words (answer.Reads status reading) = node_words status reading
 answer_words (answer.Refused refusal) = codes "refused" ∷ decimal (refusal_number refusal) ∷ []
 
 -- the line that a step is answered

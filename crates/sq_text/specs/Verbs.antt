@@ -2,7 +2,7 @@
 use Rattle.std.specs.Prelude.{[], ◌∷◌, Option, bytes_eq, codes, find}
 use Rattle.sq_text.specs.Words.{Word}
 use Rattle.sq_text.specs.declared.verb.Verb.{Verb}
-use Rattle.sq_text.specs.declared.verb.Verb.TheVariants.{Prepare, Start, Claim, Begin, Cut, Push, Pop, Load, Complete, Report, Finish}
+use Rattle.sq_text.specs.declared.verb.Verb.TheVariants.{Prepare, Start, Resume, Split, Claim, Begin, Cut, Push, Pop, Load, Complete, Report, Finish, Status}
 use Rattle.sq_text.specs.declared.verb.OpName.{OpName}
 use Rattle.sq_text.specs.declared.verb.OpName.TheVariants.{Get, Put, Add, Del, Check}
 
@@ -10,6 +10,8 @@ use Rattle.sq_text.specs.declared.verb.OpName.TheVariants.{Get, Put, Add, Del, C
 abbrev pub verb_word : Verb → Word
 verb_word Prepare = codes "prepare"
 verb_word Start = codes "start"
+verb_word Resume = codes "resume"
+verb_word Split = codes "split"
 verb_word Claim = codes "claim"
 verb_word Begin = codes "begin"
 verb_word Cut = codes "cut"
@@ -19,12 +21,13 @@ verb_word Load = codes "load"
 verb_word Complete = codes "complete"
 verb_word Report = codes "report"
 verb_word Finish = codes "finish"
+verb_word Status = codes "status"
 
 -- the step that a line with this first word asks for
 unfoldable pub verb_in : Word → Option Verb
 verb_in word =
     find (λ verb. bytes_eq (verb_word verb) word)
-    (Prepare ∷ Start ∷ Claim ∷ Begin ∷ Cut ∷ Push ∷ Pop ∷ Load ∷ Complete ∷ Report ∷ Finish ∷ [])
+    (Prepare ∷ Start ∷ Resume ∷ Split ∷ Claim ∷ Begin ∷ Cut ∷ Push ∷ Pop ∷ Load ∷ Complete ∷ Report ∷ Finish ∷ Status ∷ [])
 
 -- the word that stands for an operation
 abbrev pub op_word : OpName → Word

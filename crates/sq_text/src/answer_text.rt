@@ -2,12 +2,13 @@
 ghost use Rattle.std.specs.Prelude.{◌≡◌, ◌∷◌, ◌++◌, [], OnOk};
 ghost use Rattle.std.specs.List.{flat_map, join_with_byte};
 ghost use Rattle.std.specs.Io.KnownBytes.{Appends};
-ghost use Rattle.sq_text.specs.Texts.{line, op_answer_text, cause_text, mark_text, reply_words, note_words, answer_line, refused_line, fault_line};
+ghost use Rattle.sq_text.specs.Texts.{line, op_answer_text, cause_text, mark_text, reply_words, note_words, status_text, reading_text, node_words, answer_line, refused_line, fault_line};
 
 use crate::row_text::write_op_answer;
 use sq_chunk::Note;
 use sq_model::Answer;
 use sq_schema::{Cause, OpAnswer, Reply};
+use sq_tree::{Reading, Status};
 use std::io;
 use std::io::Write;
 
@@ -68,6 +69,39 @@ pub(crate) fn write_note<W: Write>(writer: &mut W, note: &Note, families: u64) -
     writeln!(writer, "{lo} {hi} {mark} {families}")
 }
 
+// Writes the status of a node.
+fn write_status<W: Write>(writer: &mut W, status: Status) -> io::Result<()>
+    ensures { OnOk result (Appends (W.contents writer.old) (W.contents writer.new) (status_text status)) }
+{
+    match status {
+        Status::Free => write!(writer, "free"),
+        Status::Split => write!(writer, "split"),
+        Status::Claimed(pull) => write!(writer, "claimed {pull}"),
+        Status::Partial(pull) => write!(writer, "partial {pull}"),
+        Status::Complete(pull) => write!(writer, "complete {pull}"),
+    }
+}
+
+fn reading_text(reading: Reading) -> &'static str
+    ensures { result.now ≡ reading_text reading }
+{
+    match reading {
+        Reading::NotStarted => "not-started",
+        Reading::Partial => "partial",
+        Reading::Complete => "complete",
+    }
+}
+
+// Writes the line of a node's status and of what the node reads as.
+fn write_node<W: Write>(writer: &mut W, status: Status, reading: Reading) -> io::Result<()>
+    ensures { OnOk result (Appends (W.contents writer.old) (W.contents writer.new) (line (node_words status reading))) }
+{
+    let reading = reading_text(reading);
+    write!(writer, "is ")?;
+    write_status(writer, status)?;
+    writeln!(writer, " {reading}")
+}
+
 /// Writes the line that a step is answered. An error is the writer's.
 pub fn write_answer<W: Write>(writer: &mut W, answer: &Answer) -> io::Result<()>
     ensures { OnOk result (Appends (W.contents writer.old) (W.contents writer.new) (answer_line answer.now)) }
@@ -83,6 +117,7 @@ pub fn write_answer<W: Write>(writer: &mut W, answer: &Answer) -> io::Result<()>
             let (seg, leaf) = (seg.number(), leaf.number());
             writeln!(writer, "waits {id} {seg} {leaf}")
         }
+        Answer::Resumed { txn, reply } => write_reply(writer, txn.id(), reply),
         Answer::WasCut { note, families } => {
             write!(writer, "cut ")?;
             write_note(writer, note, *families)
@@ -91,6 +126,7 @@ pub fn write_answer<W: Write>(writer: &mut W, answer: &Answer) -> io::Result<()>
             write!(writer, "load ")?;
             write_note(writer, note, *families)
         }
+        Answer::Reads { status, reading } => write_node(writer, *status, *reading),
         Answer::Refused(refusal) => write_refused(writer, refusal.number()),
     }
 }

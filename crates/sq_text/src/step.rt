@@ -1,6 +1,6 @@
 // The steps that lines of the script spell.
 ghost use Rattle.std.specs.Prelude.{◌≡◌, true, Err};
-ghost use Rattle.sq_text.specs.Steps.{pull_field, link_field, step_with, verb_step, txn_in, submitted, step_in, step_of, begins_txn};
+ghost use Rattle.sq_text.specs.Steps.{node_field, pull_field, link_field, step_with, verb_step, txn_in, submitted, step_in, step_of, begins_txn};
 ghost use Rattle.sq_text.specs.Words.{words_of};
 ghost use Rattle.sq_text.specs.Faults.{IsParsed, IsParsedGivenMemory, IsStep};
 
@@ -14,6 +14,14 @@ use std::alloc::Global;
 
 /// The most bytes that a line has, without its end.
 pub const MAX_LINE: usize = 65_536;
+
+// A segment and a node.
+#[tactic(auto, unfolding(crate::specs::Steps::node_field))]
+fn node(words: &mut Words<'_>) -> Result<(u64, u64), Malformed>
+    ensures { IsParsed (λ at. (at, words.new)) result (node_field words.old) }
+{
+    Ok((words.number()?, words.number()?))
+}
 
 // A segment, a node and a pull.
 #[tactic(auto, unfolding(crate::specs::Steps::pull_field))]
@@ -39,6 +47,11 @@ fn step(verb: Verb, words: &mut Words<'_>) -> Result<Step, Malformed>
     match verb {
         Verb::Prepare => Ok(Step::Prepare(words.number()?)),
         Verb::Start => Ok(Step::Start),
+        Verb::Resume => Ok(Step::Resume(words.number()?)),
+        Verb::Split => {
+            let (seg, node) = node(words)?;
+            Ok(Step::Split { seg, node })
+        }
         Verb::Claim => {
             let (seg, node, pull) = pull(words)?;
             Ok(Step::Claim { seg, node, pull })
@@ -69,6 +82,10 @@ fn step(verb: Verb, words: &mut Words<'_>) -> Result<Step, Malformed>
         }
         Verb::Report => Ok(Step::Report(words.number()?)),
         Verb::Finish => Ok(Step::Finish),
+        Verb::Status => {
+            let (seg, node) = node(words)?;
+            Ok(Step::Status { seg, node })
+        }
     }
 }
 

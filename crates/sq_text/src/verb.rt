@@ -6,6 +6,8 @@ ghost use Rattle.std.specs.Prelude.{◌≡◌};
 pub(crate) enum Verb {
     Prepare,
     Start,
+    Resume,
+    Split,
     Claim,
     Begin,
     Cut,
@@ -15,14 +17,17 @@ pub(crate) enum Verb {
     Complete,
     Report,
     Finish,
+    Status,
 }
 
 impl Verb {
     ghost use Rattle.sq_text.specs.Verbs.{verb_word, verb_in};
 
-    const ALL: [Verb; 11] = [
+    const ALL: [Verb; 14] = [
         Verb::Prepare,
         Verb::Start,
+        Verb::Resume,
+        Verb::Split,
         Verb::Claim,
         Verb::Begin,
         Verb::Cut,
@@ -32,6 +37,7 @@ impl Verb {
         Verb::Complete,
         Verb::Report,
         Verb::Finish,
+        Verb::Status,
     ];
 
     fn word(self) -> &'static [u8]
@@ -40,6 +46,8 @@ impl Verb {
         match self {
             Verb::Prepare => b"prepare",
             Verb::Start => b"start",
+            Verb::Resume => b"resume",
+            Verb::Split => b"split",
             Verb::Claim => b"claim",
             Verb::Begin => b"begin",
             Verb::Cut => b"cut",
@@ -49,6 +57,7 @@ impl Verb {
             Verb::Complete => b"complete",
             Verb::Report => b"report",
             Verb::Finish => b"finish",
+            Verb::Status => b"status",
         }
     }
 

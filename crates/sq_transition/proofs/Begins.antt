@@ -1,21 +1,30 @@
 -- Begin keeps what holds.
-use Rattle.std.proofs.Common.{subst, ◌≡◌, ℕ, Bool, true, false, List, [], ◌∷◌, ◌++◌, refl, sym, ap, ◌∙◌, true≢false, append-nil, eq-eqb}
-use Rattle.std.specs.Prelude.{◌<◌, length, ◌==◌, ◌&&◌, ◌||◌, if◌then◌else◌, not, map, filter, find, slice_get, slice_index_or, Option, Some, None, is_some, Result, Ok, Err, unwrap_or, option_and_then}
-use Rattle.std.proofs.lemmas.List.{map-append}
+use Rattle.std.proofs.Common.{subst, ◌≡◌, ℕ, Bool, true, false, List, [], ◌∷◌, ◌++◌, refl, sym, ap, ◌∙◌, arith, true≢false, append-nil, eq-eqb}
+use Rattle.std.specs.Prelude.{◌<◌, ◌≢◌, length, ◌==◌, ◌&&◌, ◌||◌, if◌then◌else◌, not, map, filter, find, slice_get, Option, Some, None, is_some, Result, Ok, Err}
+use Rattle.std.specs.Option.{option_map_or}
+use Rattle.std.proofs.lemmas.List.{length-set, map-append}
 use Rattle.std.proofs.lemmas.List.Elements.{filter-append}
-use Rattle.std.proofs.lemmas.Option.{slice_get-get_or}
+use Rattle.std.proofs.lemmas.List.Folds.{list_any-append}
+use Rattle.std.proofs.lemmas.Bool.{ne_eqb}
 use Rattle.sq_tree.specs.declared.status.Status.{Status}
 use Rattle.sq_tree.specs.declared.status.Status.TheVariants as status
+use Rattle.sq_tree.specs.declared.node.TheConstants.{LEAVES}
 use Rattle.sq_tree.specs.declared.fault.BeginFault.{BeginFault}
 use Rattle.sq_tree.specs.declared.fault.BeginFault.TheVariants as begin
-use Rattle.sq_tree.specs.Node.{is_node}
+use Rattle.sq_tree.specs.Node.{is_node, is_above}
 use Rattle.sq_tree.specs.Status.{is_claimed}
 use Rattle.sq_tree.specs.Answer.{begin_answer}
 use Rattle.sq_tree.proofs.Went.{begin_went}
 use Rattle.sq_chunk.specs.declared.chunk.Note.{Note}
 use Rattle.sq_ranges.specs.declared.recon.Range.{Range}
-use Rattle.sq_ranges.specs.ReconValue.{is_link}
+use Rattle.sq_ranges.specs.ReconValue.{extent, is_link}
 use Rattle.sq_ranges.specs.OpeningValue.{OpeningValue}
+use Rattle.sq_exec.specs.GivenUp.{none_given_up, is_given_up, given_up_with}
+use Rattle.sq_exec.specs.Work.{WorkValue}
+use Rattle.sq_exec.specs.OutLink.{OutLinkValue, new_out_link}
+use Rattle.sq_exec.specs.CoreValue.{CoreValue, out_at, given_up_at}
+use Rattle.sq_exec.specs.Moving.{whole_node, with_work, begun_in, begun_core}
+use Rattle.sq_exec.proofs.GivenUp.{given_up-with}
 use Rattle.sq_model.specs.declared.step.Step.{Step}
 use Rattle.sq_model.specs.declared.step.Step.TheVariants.{Begin}
 use Rattle.sq_model.specs.declared.answer.Answer.TheVariants.{Done}
@@ -25,15 +34,18 @@ use Rattle.sq_model.specs.Nodes.{Item, items, status_of}
 use Rattle.sq_model.specs.Place.{extent_of, extent_in}
 use Rattle.sq_model.specs.Links.{is_about, has_last, reached, end_of_note, is_on_link, goes, is_open, open_items}
 use Rattle.sq_model.specs.Answers.{answer, begin_answered}
-use Rattle.sq_transition.specs.WorldValue.{WorldValue, LinkStateValue, WorkValue, link_index, link_value, with_link, range_of, status_in}
-use Rattle.sq_transition.specs.TreeResults.{with_node, if_done, whole_node, with_work, segment_link, add_work}
+use Rattle.sq_transition.specs.WorldValue.{WorldValue, LinkValue, core_at, with_core, link_index, link_value, status_in, source_of}
+use Rattle.sq_transition.specs.TreeResults.{with_node, if_done, with_begun}
 use Rattle.sq_transition.specs.Transition.{step_result}
-use Rattle.sq_transition.specs.Holds.{LinkHolds, LinksHold, work_of}
-use Rattle.sq_transition.proofs.Changed.{PartsHold, segments_changed, links_changed}
+use Rattle.sq_transition.specs.Holds.{LinkHolds, LinksHold, CoreHolds, PartitionsHold, work_of, leaves_from, is_leaf_begun}
+use Rattle.sq_transition.proofs.Sets.{by_place, get_or-set}
+use Rattle.sq_transition.proofs.Changed.{PartsHold, segments_changed, partitions_changed, links_changed}
+use Rattle.sq_transition.proofs.Cores.{core_set, core_kept}
 use Rattle.sq_transition.proofs.Keeps.{Keeps, keeps_refused}
 use Rattle.sq_transition.proofs.Leader.{keeps_moving}
-use Rattle.sq_transition.proofs.Nodes.{keeps_segment, keeps_node, node_set, statuses_same}
-use Rattle.sq_transition.proofs.Links.{IsFrom, index_found, link_there, link_set}
+use Rattle.sq_transition.proofs.Links.{IsFrom, index_found, same_ends, link_set}
+use Rattle.sq_transition.proofs.LinkEnds.{EndsBelow, out_of, out_set, out_stays}
+use Rattle.sq_transition.proofs.Nodes.{AllEndsBelow, keeps_segment, keeps_node, node_set, statuses_same, range_there, range_same}
 
 some_none : {X : Type 0} (x : X) → Some x ≡ None → ⊥
 some_none x e = cc
@@ -41,6 +53,10 @@ some_none x e = cc
 and_true : (b : Bool) → (b && not false) ≡ b
 and_true true = refl
 and_true false = refl
+
+or_false : (b : Bool) → (b || false) ≡ b
+or_false true = refl
+or_false false = refl
 
 none_here : (b last rest : Bool) (found : Option Note) (note : Note) → (if b then Some note else found) ≡ None → (found ≡ None → rest ≡ false) → ((b && last) || rest) ≡ false
 none_here true last rest found note e later = absurd (some_none note e)
@@ -61,6 +77,7 @@ items_more o t src dst item false is = filter-append (is_open o t src dst) (item
 record Added (o : OpeningValue) (t : Trace) (seg node : ℕ) (range : Range) : Type 0 where
   there : slice_get o.recon.segments seg ≡ Some range
   fresh : find (is_about seg node) (notes t) ≡ None
+  ends : EndsBelow o range.src range.dst
 
 abbrev item_of : ℕ → ℕ → ℕ → Item
 item_of seg node pull = record { seg = seg; node = node; pull = pull }
@@ -72,14 +89,34 @@ on_its_link o t seg node pull src dst range a =
     ap (λ b. is_on_link o src dst seg && not b) (none_last seg node (notes t) a.fresh)
     ∙ and_true (is_on_link o src dst seg) ∙ ap (λ found. goes found src dst) a.there
 
+-- the leaves that are begun when one more node is
+leaf_begun-more : (t : Trace) (seg node pull s leaf : ℕ) → is_leaf_begun ((Begin seg node pull, Done) ∷ t) s leaf ≡ (is_leaf_begun t s leaf || ((seg == s) && is_above node leaf))
+leaf_begun-more t seg node pull s leaf =
+    list_any-append (λ (item : Item). (item.seg == s) && is_above item.node leaf) (items t) (item_of seg node pull ∷ [])
+    ∙ ap (λ b. is_leaf_begun t s leaf || b) (or_false ((seg == s) && is_above node leaf))
+
+-- none of another segment
+leaf_begun-other : (t : Trace) (seg node pull s leaf : ℕ) → seg ≢ s → is_leaf_begun ((Begin seg node pull, Done) ∷ t) s leaf ≡ is_leaf_begun t s leaf
+leaf_begun-other t seg node pull s leaf apart =
+    leaf_begun-more t seg node pull s leaf
+    ∙ ap (λ b. is_leaf_begun t s leaf || (b && is_above node leaf)) (ne_eqb seg s apart)
+    ∙ or_false (is_leaf_begun t s leaf)
+
+-- the work on the whole node is what is left of it
+whole_is : (o : OpeningValue) (t : Trace) (core : CoreValue) (seg node pull : ℕ) (range : Range) → core.recon ≡ o.recon → Added o t seg node range
+    → whole_node core range seg node pull ≡ work_of o (notes t) (item_of seg node pull)
+whole_is o t core seg node pull range same a =
+    let keys : extent core.recon.width range node ≡ extent_of o seg node = ap (λ recon. extent recon.width range node) same ∙ ap (λ found. extent_in o.recon.width found node) (sym a.there) in
+    let low : (extent core.recon.width range node).lo ≡ reached o seg node (notes t) = ap (λ e. e.lo) keys ∙ ap (end_of_note (extent_of o seg node).lo) (sym a.fresh) in
+    λ i. record { seg = seg; node = node; pull = pull; rest = low i; hi = (keys i).hi }
+
 -- the link of the node
-more_link : (o : OpeningValue) (t : Trace) (seg node pull : ℕ) (l : LinkStateValue) (work : WorkValue) → LinkHolds o t l → is_open o t l.src l.dst (item_of seg node pull) ≡ true → work ≡ work_of o (notes t) (item_of seg node pull)
-    → LinkHolds o ((Begin seg node pull, Done) ∷ t) (with_work l (l.work ++ work ∷ []))
+more_link : (o : OpeningValue) (t : Trace) (seg node pull : ℕ) (l : LinkValue) (work : WorkValue) → LinkHolds o t l → is_open o t l.src l.dst (item_of seg node pull) ≡ true → work ≡ work_of o (notes t) (item_of seg node pull)
+    → LinkHolds o ((Begin seg node pull, Done) ∷ t) (record l { out = with_work l.out work })
 more_link o t seg node pull l work h mine is =
     record {
       work = (λ i. h.work i ++ is i ∷ []) ∙ sym (map-append (work_of o (notes t)) (open_items o t l.src l.dst) (item_of seg node pull ∷ [])) ∙ ap (map (work_of o (notes t))) (sym (items_more o t l.src l.dst (item_of seg node pull) true mine));
       notes = h.notes;
-      loaded = h.loaded;
       few_loaded = h.few_loaded;
       popped = h.popped;
       pushed = h.pushed;
@@ -87,53 +124,126 @@ more_link o t seg node pull l work h mine is =
       chunks = h.chunks;
     }
 
--- the work on the whole node is what is left of it
-whole_is : (o : OpeningValue) (t : Trace) (w : WorldValue) (seg node pull : ℕ) (range : Range) → w.recon ≡ o.recon → Added o t seg node range → whole_node w seg node pull ≡ work_of o (notes t) (item_of seg node pull)
-whole_is o t w seg node pull range same a =
-    let keys : extent_in w.recon.width (range_of w seg) node ≡ extent_of o seg node = λ i. extent_in (same i).width (slice_get (same i).segments seg) node in
-    let low : (extent_in w.recon.width (range_of w seg) node).lo ≡ reached o seg node (notes t) = ap (λ e. e.lo) keys ∙ ap (end_of_note (extent_of o seg node).lo) (sym a.fresh) in
-    λ i. record { seg = seg; node = node; pull = pull; rest = low i; hi = (keys i).hi }
+module _ (o : OpeningValue) (t : Trace) (w : WorldValue) (seg node pull : ℕ) (range : Range) (h : PartsHold o t w) (below : seg < length o.recon.segments) (a : Added o t seg node range) where
+  -- the source once the node is begun
+  abbrev begun : CoreValue
+  begun = begun_in (core_at w range.src) seg node pull (Some range)
 
--- the links, where the source has work on the node
-work_added : (o : OpeningValue) (t : Trace) (w : WorldValue) (seg node pull i : ℕ) (range : Range) → PartsHold o t w → Added o t seg node range → IsFrom w i range.src range.dst
-    → LinksHold o ((Begin seg node pull, Done) ∷ t) (with_link w i (with_work (link_value w i) ((link_value w i).work ++ whole_node w seg node pull ∷ [])))
-work_added o t w seg node pull i range h a from =
-    let l = link_value w i in
-    let mine : is_open o t l.src l.dst (item_of seg node pull) ≡ true =
-    on_its_link o t seg node pull l.src l.dst range a ∙ ap (λ b. b && (range.dst == l.dst)) (eq-eqb range.src l.src (sym from.starts)) ∙ eq-eqb range.dst l.dst (sym from.ends) in
-    link_set o t ((Begin seg node pull, Done) ∷ t) w i range.src range.dst (with_work l (l.work ++ whole_node w seg node pull ∷ [])) h.links from refl refl (λ chunk c. c)
-    (more_link o t seg node pull l (whole_node w seg node pull) (h.links.each i l (link_there w i from.within)) mine (whole_is o t w seg node pull range h.plans.recon a))
-    (λ s d apart. record {
-      work = ap (map (work_of o (notes t))) (items_more o t s d (item_of seg node pull) false (on_its_link o t seg node pull s d range a ∙ apart));
-      notes = refl;
-      loaded = refl;
-      popped = refl;
-      pushed = refl;
-    })
+  source_before : CoreHolds o t range.src (core_at w range.src)
+  source_before = h.partitions.each range.src a.ends.source
 
--- the link of a segment is the one with its ends
-pub segment_link_is : (w : WorldValue) (seg i : ℕ) (range : Range) → range_of w seg ≡ Some range → link_index w range.src range.dst ≡ Some i → segment_link w seg ≡ i
-segment_link_is w seg i range is at =
-    ap (λ found. unwrap_or (option_and_then (λ (r : Range). link_index w r.src r.dst) found) 0) is ∙ ap (λ found. unwrap_or found 0) at
+  -- the leaves that the source gave up
+  leaves_begun : (s leaf : ℕ) → leaves_from o range.src s → leaf < LEAVES → is_given_up (given_up_at begun s) leaf ≡ is_leaf_begun ((Begin seg node pull, Done) ∷ t) s leaf
+  leaves_begun s leaf from low =
+      let core = core_at w range.src in
+      let leaves = given_up_with (given_up_at core seg) node in
+      let was = source_before.moves.given_up in
+      ap (λ l. is_given_up l leaf) (get_or-set core.given_up seg s leaves none_given_up (omega (arith, below, source_before.set.given_up)))
+      ∙ by_place seg s (λ b. is_given_up (if b then leaves else given_up_at core s) leaf ≡ is_leaf_begun ((Begin seg node pull, Done) ∷ t) s leaf)
+      (λ same.
+      given_up-with (given_up_at core seg) node leaf low
+      ∙ ap (λ k. is_given_up (given_up_at core k) leaf || is_above node leaf) same
+      ∙ ap (λ b. b || is_above node leaf) (was s leaf from low)
+      ∙ ap (λ b. is_leaf_begun t s leaf || (b && is_above node leaf)) (sym (eq-eqb seg s same))
+      ∙ sym (leaf_begun-more t seg node pull s leaf))
+      (λ apart. was s leaf from low ∙ sym (leaf_begun-other t seg node pull s leaf apart))
 
--- the world after a node was begun
-begun_at : (o : OpeningValue) (t : Trace) (w : WorldValue) (seg node pull : ℕ) (range : Range) (found : Option ℕ) → PartsHold o t w → seg < length o.recon.segments → is_node node ≡ true → Added o t seg node range
-    → range_of w seg ≡ Some range → link_index w range.src range.dst ≡ found → is_some found ≡ true
-    → PartsHold o ((Begin seg node pull, Done) ∷ t) (add_work (with_node w seg node (status.Partial pull)) (whole_node w seg node pull))
-begun_at o t w seg node pull range None h below is_n a there e is = absurd (true≢false (sym is))
-begun_at o t w seg node pull range (Some i) h below is_n a there e is =
-    let begun = with_node w seg node (status.Partial pull) in
-    subst (λ j. PartsHold o ((Begin seg node pull, Done) ∷ t) (with_link begun j (with_work (link_value begun j) ((link_value begun j).work ++ whole_node w seg node pull ∷ []))))
-    (sym (segment_link_is w seg i range there e))
-    (links_changed
-    (segments_changed h (node_set o t ((Begin seg node pull, Done) ∷ t) w seg node (status.Partial pull) h.segments below is_n (λ g n. refl) refl))
-    (work_added o t w seg node pull i range h a (index_found w range.src range.dst i e)))
+  source_begun : CoreHolds o ((Begin seg node pull, Done) ∷ t) range.src begun
+  source_begun =
+      let core = core_at w range.src in
+      let was = source_before in
+      record {
+        set = record {
+          part = was.set.part;
+          plan = was.set.plan;
+          recon = was.set.recon;
+          limit = was.set.limit;
+          started = was.set.started;
+          outs = length-set core.outs range.dst (with_work (out_at core range.dst) (whole_node core range seg node pull)) ∙ was.set.outs;
+          inboxes = was.set.inboxes;
+          given_up = length-set core.given_up seg (given_up_with (given_up_at core seg) node) ∙ was.set.given_up;
+          loaded = was.set.loaded;
+        };
+        store = was.store;
+        waiting = was.waiting;
+        moves = record { given_up = leaves_begun; loaded = was.moves.loaded; whole = was.moves.whole };
+      }
 
-begun_holds : (o : OpeningValue) (t : Trace) (w : WorldValue) (seg node pull : ℕ) (range : Range) → PartsHold o t w → seg < length o.recon.segments → is_node node ≡ true → Added o t seg node range → is_link o.recon.ranges range.src range.dst ≡ true
-    → PartsHold o ((Begin seg node pull, Done) ∷ t) (add_work (with_node w seg node (status.Partial pull)) (whole_node w seg node pull))
-begun_holds o t w seg node pull range h below is_n a linked =
-    let is : range_of w seg ≡ Some range = (λ i. slice_get (h.plans.recon i).segments seg) ∙ a.there in
-    begun_at o t w seg node pull range (link_index w range.src range.dst) h below is_n a is refl (h.links.ends range.src range.dst ∙ linked)
+  -- of the other partitions no leaf was begun
+  others_begun : (p s leaf : ℕ) → range.src ≢ p → leaves_from o p s → is_leaf_begun ((Begin seg node pull, Done) ∷ t) s leaf ≡ is_leaf_begun t s leaf
+  others_begun p s leaf apart from =
+      leaf_begun-other t seg node pull s leaf (λ same.
+      let one : Some from.0 ≡ Some range = sym from.1 ∙ ap (slice_get o.recon.segments) (sym same) ∙ a.there in
+      apart (sym (ap (λ found. option_map_or (λ (r : Range). r.src) found 0) one) ∙ from.2))
+
+  partitions_begun : PartitionsHold o ((Begin seg node pull, Done) ∷ t) (with_core w range.src begun)
+  partitions_begun =
+      core_set o t ((Begin seg node pull, Done) ∷ t) w range.src begun h.partitions a.ends.source source_begun
+      (λ p apart low was. core_kept o t ((Begin seg node pull, Done) ∷ t) p (core_at w p) was (record {
+        started = refl;
+        shares = λ root. refl;
+        waits = refl;
+        moves = record { begun = λ s leaf from _. others_begun p s leaf apart from; loaded = λ s root into. refl; whole = λ s n into. refl };
+      }))
+
+  -- the end of a link from the source
+  out_begun : (d : ℕ) → out_at begun d ≡ (if range.dst == d then with_work (out_at (core_at w range.src) range.dst) (whole_node (core_at w range.src) range seg node pull) else out_at (core_at w range.src) d)
+  out_begun d =
+      let core = core_at w range.src in
+      get_or-set core.outs range.dst d (with_work (out_at core range.dst) (whole_node core range seg node pull)) new_out_link (omega (arith, a.ends.destination, source_before.set.outs))
+
+  -- the link of the node, where its source has work on it
+  link_begun : (i : ℕ) → IsFrom w i range.src range.dst → LinkHolds o ((Begin seg node pull, Done) ∷ t) (link_value (with_core w range.src begun) i)
+  link_begun i from =
+      let core = core_at w range.src in
+      let l = link_value w i in
+      let work = whole_node core range seg node pull in
+      let there : range.src < length w.cores = omega (arith, a.ends.source, h.partitions.count) in
+      let mine : is_open o t l.src l.dst (item_of seg node pull) ≡ true =
+      on_its_link o t seg node pull l.src l.dst range a ∙ ap (λ b. b && (range.dst == l.dst)) (eq-eqb range.src l.src (sym from.starts)) ∙ eq-eqb range.dst l.dst (sym from.ends) in
+      let out : out_at begun range.dst ≡ with_work l.out work =
+      out_begun range.dst ∙ ap (λ b. if b then with_work (out_at core range.dst) work else out_at core range.dst) (eq-eqb range.dst range.dst refl)
+      ∙ ap (λ (end : OutLinkValue). with_work end work) (sym (out_of w i range.src range.dst from)) in
+      subst (LinkHolds o ((Begin seg node pull, Done) ∷ t))
+      (sym (out_set w i range.src range.dst begun from there refl ∙ ap (λ end. record l { out = end }) out))
+      (more_link o t seg node pull l work (h.links.each i from.within) mine (whole_is o t core seg node pull range source_before.set.recon a))
+
+  links_begun : (i : ℕ) → IsFrom w i range.src range.dst → LinksHold o ((Begin seg node pull, Done) ∷ t) (with_core w range.src begun)
+  links_begun i from =
+      let core = core_at w range.src in
+      link_set o t ((Begin seg node pull, Done) ∷ t) w (with_core w range.src begun) i range.src range.dst h.links from (same_ends w (with_core w range.src begun) refl)
+      (link_begun i from)
+      (λ j apart within. out_stays o t w i range.src range.dst h.links from begun j apart within (omega (arith, a.ends.source, h.partitions.count)) refl (λ d other.
+      out_begun d ∙ ap (λ b. if b then with_work (out_at core range.dst) (whole_node core range seg node pull) else out_at core d) (ne_eqb range.dst d other)))
+      (λ chunk c. c)
+      (λ s d apart. record {
+        work = ap (map (work_of o (notes t))) (items_more o t s d (item_of seg node pull) false (on_its_link o t seg node pull s d range a ∙ apart));
+        notes = refl;
+        loaded = refl;
+        popped = refl;
+        pushed = refl;
+      })
+
+  -- the world after a node was begun
+  begun_at : (found : Option ℕ) → is_node node ≡ true → link_index w range.src range.dst ≡ found → is_some found ≡ true
+      → PartsHold o ((Begin seg node pull, Done) ∷ t) (with_core (with_node w seg node (status.Partial pull)) range.src begun)
+  begun_at None is_n e is = absurd (true≢false (sym is))
+  begun_at (Some i) is_n e is =
+      links_changed
+      (partitions_changed
+      (segments_changed h (node_set o t ((Begin seg node pull, Done) ∷ t) w seg node (status.Partial pull) h.segments below is_n (λ g n. refl)))
+      partitions_begun)
+      (links_begun i (index_found w range.src range.dst i e))
+
+  begun_holds : is_node node ≡ true → is_link o.recon.ranges range.src range.dst ≡ true → PartsHold o ((Begin seg node pull, Done) ∷ t) (with_begun w seg node pull)
+  begun_holds is_n linked =
+      let comes : source_of w seg ≡ range.src = ap (λ found. option_map_or (λ (r : Range). r.src) found 0) (range_same o w seg range h.plans.recon a.there) in
+      let found : slice_get (core_at w range.src).recon.segments seg ≡ Some range = ap (λ recon. slice_get recon.segments seg) source_before.set.recon ∙ a.there in
+      let same : with_begun w seg node pull ≡ with_core (with_node w seg node (status.Partial pull)) range.src begun =
+      ap (λ src. with_core (with_node w seg node (status.Partial pull)) src (begun_core (core_at w src) seg node pull)) comes
+      ∙ ap (λ segment. with_core (with_node w seg node (status.Partial pull)) range.src (begun_in (core_at w range.src) seg node pull segment)) found in
+      subst (PartsHold o ((Begin seg node pull, Done) ∷ t)) (sym same)
+      (begun_at (link_index w range.src range.dst) is_n refl (h.links.ends range.src range.dst ∙ linked))
 
 begin_kept : (o : OpeningValue) (t : Trace) (w new : WorldValue) (step : Step) (begun : Result (Unit {0}) BeginFault) → PartsHold o t w
     → (begun ≡ Ok tt → PartsHold o ((step, Done) ∷ t) new)
@@ -142,23 +252,20 @@ begin_kept o t w new step (Ok tt) h went = (refl, went refl)
 begin_kept o t w new step (Err (begin.NotClaimed found)) h went = keeps_refused o t w step NotClaimed h
 begin_kept o t w new step (Err begin.WrongPull) h went = keeps_refused o t w step WrongPull h
 
--- no note is about a node that is only claimed, and each segment lies on a link
+-- no note is about a node that is only claimed, and each segment goes from one partition to another and lies on a link
 pub record BeginFacts (o : OpeningValue) (t : Trace) : Type 0 where
   pub fresh : (seg node : ℕ) → is_claimed (status_of t seg node) ≡ true → find (is_about seg node) (notes t) ≡ None
   pub linked : (seg : ℕ) (range : Range) → slice_get o.recon.segments seg ≡ Some range → is_link o.recon.ranges range.src range.dst ≡ true
+  pub ends : AllEndsBelow o
 
 pub begin_keeps : (o : OpeningValue) (t : Trace) (w : WorldValue) (seg node pull : ℕ) → BeginFacts o t → PartsHold o t w
     → Keeps o t (Begin seg node pull) (step_result w (Begin seg node pull)) (answer o t (Begin seg node pull))
 begin_keeps o t w seg node pull facts h =
     keeps_moving o t w (Begin seg node pull) _ _ h (keeps_segment o t w (Begin seg node pull) seg _ _ h (λ below. keeps_node o t w (Begin seg node pull) node _ _ h (λ is.
-    let range = slice_index_or o.recon.segments seg no_range in
-    let there : slice_get o.recon.segments seg ≡ Some range = slice_get-get_or o.recon.segments seg no_range below in
-    let new = add_work (with_node w seg node (status.Partial pull)) (whole_node w seg node pull) in
-    subst (λ sts. Keeps o t (Begin seg node pull) (if_done (begin_answered (begin_answer (status_in w seg) node pull)) w new) (begin_answered (begin_answer sts node pull)))
+    let found = range_there o seg below in
+    subst (λ sts. Keeps o t (Begin seg node pull) (if_done (begin_answered (begin_answer (status_in w seg) node pull)) w (with_begun w seg node pull)) (begin_answered (begin_answer sts node pull)))
     (statuses_same o t w seg h below)
-    (begin_kept o t w new (Begin seg node pull) (begin_answer (status_in w seg) node pull) h (λ went.
+    (begin_kept o t w (with_begun w seg node pull) (Begin seg node pull) (begin_answer (status_in w seg) node pull) h (λ went.
     let claimed = subst (λ (sts : ℕ → Status). is_claimed (sts node) ≡ true) (statuses_same o t w seg h below) (ap is_claimed (begin_went (status_in w seg) node pull went).claimed) in
-    begun_holds o t w seg node pull range h below is (record { there = there; fresh = facts.fresh seg node claimed }) (facts.linked seg range there))))))
-  where
-    no_range : Range
-    no_range = record { lo = 0; hi = 0; src = 0; dst = 0 }
+    let added : Added o t seg node found.0 = record { there = found.1; fresh = facts.fresh seg node claimed; ends = facts.ends seg found.0 found.1 } in
+    begun_holds o t w seg node pull found.0 h below added is (facts.linked seg found.0 found.1))))))

@@ -1,12 +1,12 @@
 -- Cut keeps what holds.
 use Rattle.std.proofs.Common.{subst, ⊎_elim, inl, inr, ◌≡◌, ℕ, zero, suc, Bool, true, false, List, [], ◌∷◌, ◌++◌, refl, sym, ap, ◌∙◌, arith, true≢false, length, length-append, append_assoc, append-nil, eq-eqb}
-use Rattle.std.specs.Prelude.{◌-◌, ◌<◌, ◌≤◌, ◌≢◌, ◌==◌, ◌&&◌, ◌||◌, ◌⊎◌, if◌then◌else◌, not, nat_le, nat_lt, map, filter, find, remove, slice_get, slice_set, slice_index_or, Option, Some, None, is_some, unwrap_or, option_map}
+use Rattle.std.specs.Prelude.{◌-◌, ◌<◌, ◌≤◌, ◌≢◌, ◌==◌, ◌&&◌, ◌||◌, ◌⊎◌, if◌then◌else◌, not, nat_le, nat_lt, map, filter, find, remove, slice_get, slice_set, Option, Some, None, is_some, unwrap_or, option_map}
 use Rattle.std.specs.List.{range_with_len, Contains, IsDistinct}
 use Rattle.std.specs.FinMap.{get}
 use Rattle.std.proofs.Math.Bool.{or-false, or-not_self}
 use Rattle.sq_model.proofs.Statuses.{is_same_node}
 use Rattle.std.proofs.lemmas.Option.{get_or_from_slice_get, slice_get-map}
-use Rattle.std.proofs.lemmas.List.{map-append, reverse-append, length-reverse, drop-append-le}
+use Rattle.std.proofs.lemmas.List.{map-append, reverse-append, length-reverse, drop-append-le, get_or-set_same, get_or-set_other}
 use Rattle.std.proofs.lemmas.Bool.{ne_eqb, eqb-true, lt-ltb, le-ltb, le-leb, and_parts, not-true}
 use Rattle.sq_schema.specs.Family.{FamilyValue, rows_of, rows_size}
 use Rattle.sq_chunk.specs.declared.chunk.Note.{Note}
@@ -17,11 +17,13 @@ use Rattle.sq_store.proofs.Between.{IsRooted, family_in-between, within-between,
 use Rattle.sq_ranges.specs.declared.recon.Range.{Range}
 use Rattle.sq_ranges.specs.CutEnd.{end_of, end_within}
 use Rattle.sq_ranges.specs.OpeningValue.{OpeningValue}
+use Rattle.sq_exec.specs.Work.{WorkValue, next_work, no_work, work_at, work_from, work_after}
+use Rattle.sq_exec.specs.OutLink.{OutLinkValue, new_out_link, note_for}
+use Rattle.sq_exec.specs.CoreValue.{CoreValue, out_at, with_out, link_to}
 use Rattle.sq_model.specs.declared.step.Step.TheVariants.{Cut}
-use Rattle.sq_model.specs.declared.answer.Answer.{Answer}
 use Rattle.sq_model.specs.declared.answer.Answer.TheVariants.{WasCut, Refused}
 use Rattle.sq_model.specs.declared.answer.Refusal.TheVariants.{OutboxFull, NothingToCut}
-use Rattle.sq_model.specs.Trace.{Trace, notes, loads, link, cut_count, push_count}
+use Rattle.sq_model.specs.Trace.{Trace, notes, loads, link, cut_count, push_count, load_count}
 use Rattle.sq_model.specs.Nodes.{Item, items}
 use Rattle.sq_model.specs.Tables.{stands, family_of, size_of}
 use Rattle.sq_model.specs.Place.{At, Under_way, place, extent_of, cut_place, loaded_place}
@@ -30,23 +32,25 @@ use Rattle.sq_model.specs.Answers.{answer, cut_for}
 use Rattle.sq_model.proofs.Lists.{kept_in, row_bounds, Contains-first, Contains-later, Contains-slice_get}
 use Rattle.sq_model.proofs.Tiles.{end_of_in, is_about-from}
 use Rattle.sq_model.proofs.Apart.{covers_bounds}
-use Rattle.sq_transition.specs.WorldValue.{WorldValue, LinkStateValue, WorkValue, part_at, with_part, link_value, with_link, option_list}
-use Rattle.sq_transition.specs.LinkResults.{next_work, no_work, note_for, work_after, cut_part, cut_work}
-use Rattle.sq_transition.specs.LeaderResults.{refuse}
+use Rattle.sq_transition.specs.WorldValue.{WorldValue, LinkValue, core_at, with_core, link_value, option_list, under_way}
+use Rattle.sq_transition.specs.LinkResults.{cut_work}
+use Rattle.sq_transition.specs.LeaderResults.{StepResult, refuse}
 use Rattle.sq_transition.specs.Transition.{step_result}
-use Rattle.sq_transition.specs.Holds.{LinkHolds, ChunkHolds, share, share_at, is_at, under_way, work_of}
+use Rattle.sq_transition.specs.Holds.{CoreHolds, LinkHolds, ChunkHolds, share, share_at, is_at, work_of}
 use Rattle.sq_transition.proofs.Sets.{by_place}
 use Rattle.sq_transition.proofs.Changed.{PartsHold, partitions_changed, links_changed}
 use Rattle.sq_transition.proofs.Keeps.{Keeps, keeps_refused}
-use Rattle.sq_transition.proofs.Links.{IsFrom, SaySame, keeps_link, link_there, link_set}
+use Rattle.sq_transition.proofs.Cores.{core_set}
+use Rattle.sq_transition.proofs.Links.{IsFrom, SaySame, keeps_link, same_ends, link_set}
+use Rattle.sq_transition.proofs.LinkEnds.{out_held, EndsBelow, out_of, out_set, out_stays}
 use Rattle.sq_transition.proofs.PushPop.{counted_at}
-use Rattle.sq_transition.proofs.Parts.{part_set, share_none, family_same, rows_now}
+use Rattle.sq_transition.proofs.Parts.{share_none, family_held, rows_now}
 use Rattle.sq_transition.proofs.Loads.{chunk_count}
 use Rattle.sq_transition.proofs.NextWork.{SameNext, next_same, distinct-filter, ChangesAt, item_gone, item_changed}
 
 -- what is known of an item that is open on a link: what is left of it stands at the source, and nothing of that was loaded
 pub record OpenFacts (o : OpeningValue) (t : Trace) (src dst : ℕ) (item : Item) : Type 0 where
-  pub below : src < o.old.parts
+  pub below : EndsBelow o src dst
   pub home : (root : ℕ) → reached o item.seg item.node (notes t) ≤ root → root < (extent_of o item.seg item.node).hi → place o t root ≡ At src
   pub unloaded : (root : ℕ) → reached o item.seg item.node (notes t) ≤ root → root < (extent_of o item.seg item.node).hi → find (λ note. covers note root) (loads t) ≡ None
 
@@ -55,9 +59,8 @@ pub record CutFacts (o : OpeningValue) (t : Trace) : Type 0 where
   pub each : (src dst : ℕ) (item : Item) → Contains (open_items o t src dst) item → OpenFacts o t src dst item
 
 -- a store's families are those of their root keys
-rooted : (o : OpeningValue) (t : Trace) (w : WorldValue) (part : ℕ) → PartsHold o t w → part < o.old.parts → IsRooted (part_at w part).store
-rooted o t w part h there =
-    record { root = λ key family e. here (stands o t key && is_at part (place o t key)) key family (sym (h.partitions.stores part key there) ∙ e) }
+rooted : (o : OpeningValue) (t : Trace) (part : ℕ) (core : CoreValue) → CoreHolds o t part core → IsRooted core.store
+rooted o t part core h = record { root = λ key family e. here (stands o t key && is_at part (place o t key)) key family (sym (h.store key) ∙ e) }
   where
     here : (b : Bool) (key : ℕ) (family : FamilyValue) → (if b then Some (family_of o t key) else None) ≡ Some family → family.root ≡ key
     here true key family e = sym (ap (λ (found : Option FamilyValue). (unwrap_or found family).root) e)
@@ -86,10 +89,10 @@ between_true : (lo hi root : ℕ) → lo ≤ root → root < hi → (nat_le lo r
 between_true lo hi root low high = (λ i. le-leb lo root low i && nat_lt root hi) ∙ lt-ltb root hi high
 
 -- what the store has between two keys that stand at the source
-module _ (o : OpeningValue) (t : Trace) (w : WorldValue) (src lo hi : ℕ) (h : PartsHold o t w) (below : src < o.old.parts) (home : (root : ℕ) → lo ≤ root → root < hi → place o t root ≡ At src) where
-  stored_home : (root : ℕ) → lo ≤ root → root < hi → get (part_at w src).store root ≡ (if stands o t root then Some (family_of o t root) else None)
+module _ (o : OpeningValue) (t : Trace) (src lo hi : ℕ) (core : CoreValue) (h : CoreHolds o t src core) (home : (root : ℕ) → lo ≤ root → root < hi → place o t root ≡ At src) where
+  stored_home : (root : ℕ) → lo ≤ root → root < hi → get core.store root ≡ (if stands o t root then Some (family_of o t root) else None)
   stored_home root low high =
-      h.partitions.stores src root below
+      h.store root
       ∙ ap (λ where_it. if stands o t root && is_at src where_it then Some (family_of o t root) else None) (home root low high)
       ∙ ap (λ b. if stands o t root && b then Some (family_of o t root) else None) (eq-eqb src src refl)
       ∙ here (stands o t root)
@@ -103,25 +106,26 @@ module _ (o : OpeningValue) (t : Trace) (w : WorldValue) (src lo hi : ℕ) (h : 
   some_stood false f = refl
 
   -- the families' root keys are those that stand
-  pub roots_stand : map (λ family. family.root) (families_between (part_at w src).store lo hi) ≡ standing o t lo hi
+  pub roots_stand : map (λ family. family.root) (families_between core.store lo hi) ≡ standing o t lo hi
   roots_stand =
-      roots-within (hi - lo) lo hi (families_between (part_at w src).store lo hi) (stands o t) refl (within-between lo hi (part_at w src).store (rooted o t w src h below))
+      roots-within (hi - lo) lo hi (families_between core.store lo hi) (stands o t) refl (within-between lo hi core.store (rooted o t src core h))
       (λ root low high.
-      ap is_some (family_in-between lo hi (part_at w src).store root (rooted o t w src h below) ∙ ap (λ b. if b then get (part_at w src).store root else None) (between_true lo hi root low high) ∙ stored_home root low high)
+      ap is_some (family_in-between lo hi core.store root (rooted o t src core h) ∙ ap (λ b. if b then get core.store root else None) (between_true lo hi root low high) ∙ stored_home root low high)
       ∙ some_stood (stands o t root) (family_of o t root))
 
   -- a chunk ends where the history says
-  pub end_same : take_end (part_at w src).store lo hi w.config.limit ≡ cut_end o t lo hi
+  pub end_same : take_end core.store lo hi core.limit ≡ cut_end o t lo hi
   end_same =
-      ap (end_of (stored_size (part_at w src).store) hi w.config.limit) roots_stand
-      ∙ ap (λ config. end_of (stored_size (part_at w src).store) hi config.limit (standing o t lo hi)) h.plans.config
-      ∙ end_of-same (stored_size (part_at w src).store) (size_of o t) hi o.config.limit (standing o t lo hi)
+      ap (end_of (stored_size core.store) hi core.limit) roots_stand
+      ∙ ap (λ limit. end_of (stored_size core.store) hi limit (standing o t lo hi)) h.set.limit
+      ∙ end_of-same (stored_size core.store) (size_of o t) hi o.config.limit (standing o t lo hi)
       (λ root c.
       let b = standing_bounds o t lo hi root c in
-      ap (λ f. rows_size (rows_of f)) (family_same o t w src root h below (home root b.0 b.1)) ∙ ap rows_size (rows_now o t root))
+      ap (λ f. rows_size (rows_of f)) (family_held o t src root core h (home root b.0 b.1)) ∙ ap rows_size (rows_now o t root))
 
-  pub end_upto : cut_end o t lo hi ≤ hi
-  end_upto = end_of_in (λ end. end ≤ hi) (size_of o t) hi o.config.limit (standing o t lo hi) (omega arith) (λ root c. omega (arith, (standing_bounds o t lo hi root c).1))
+-- a chunk ends within the keys that it is cut of
+end_upto : (o : OpeningValue) (t : Trace) (lo hi : ℕ) → cut_end o t lo hi ≤ hi
+end_upto o t lo hi = end_of_in (λ end. end ≤ hi) (size_of o t) hi o.config.limit (standing o t lo hi) (omega arith) (λ root c. omega (arith, (standing_bounds o t lo hi root c).1))
 
 -- the trace with one more cut
 abbrev pub cut_more : Trace → ℕ → ℕ → Note → ℕ → Trace
@@ -142,17 +146,30 @@ share_cut o t src dst note count p root true e unloaded = share_none o (cut_more
 share_cut o t src dst note count p root false e unloaded =
     ap (λ where_it. if stands o t root && is_at p where_it then Some (family_of o t root) else None) (place_cut o t src dst note count root false e unloaded)
 
+-- the end of the link with the chunk, and the partition that it leaves
+abbrev cut_out : CoreValue → OutLinkValue → ℕ → Note → OutLinkValue
+cut_out core out at note =
+    record { notes = out.notes ++ note ∷ []; work = work_after out.work at note.hi; outbox = Some (record { note = note; families = families_between core.store note.lo note.hi }) }
+
+abbrev cut_core : CoreValue → ℕ → ℕ → Note → CoreValue
+cut_core core dst at note = record (with_out core dst (cut_out core (out_at core dst) at note)) { store = without_between core.store note.lo note.hi }
+
 -- the source after the cut, and the other partitions
-module _ (o : OpeningValue) (t : Trace) (w : WorldValue) (src dst count : ℕ) (note : Note) (h : PartsHold o t w) (below : src < o.old.parts)
+module _ (o : OpeningValue) (t : Trace) (src dst count : ℕ) (note : Note)
     (home : (root : ℕ) → note.lo ≤ root → root < note.hi → place o t root ≡ At src) (unloaded : (root : ℕ) → note.lo ≤ root → root < note.hi → find (λ n. covers n root) (loads t) ≡ None) where
   free : (root : ℕ) → covers note root ≡ true → find (λ n. covers n root) (loads t) ≡ None
   free root e = let p = covers_bounds note root e in unloaded root p.0 p.1
 
-  left_here : (root : ℕ) → get (without_between (part_at w src).store note.lo note.hi) root ≡ share_at o (cut_more t src dst note count) src root
-  left_here root =
-      get-without note.lo note.hi (part_at w src).store root
-      ∙ ap (λ found. if covers note root then None else found) (h.partitions.stores src root below)
-      ∙ sym (share_cut o t src dst note count src root (covers note root) refl (free root))
+  source_cut : (at : ℕ) (core : CoreValue) → CoreHolds o t src core → CoreHolds o (cut_more t src dst note count) src (cut_core core dst at note)
+  source_cut at core h = record {
+    set = out_held o t src dst core (cut_out core (out_at core dst) at note) h.set;
+    store = λ root.
+        get-without note.lo note.hi core.store root
+        ∙ ap (λ found. if covers note root then None else found) (h.store root)
+        ∙ sym (share_cut o t src dst note count src root (covers note root) refl (free root));
+    waiting = h.waiting;
+    moves = h.moves;
+  }
 
   left_there : (p root : ℕ) → src ≢ p → share_at o t p root ≡ share_at o (cut_more t src dst note count) p root
   left_there p root apart = here (covers note root) refl ∙ sym (share_cut o t src dst note count p root (covers note root) refl (free root))
@@ -161,19 +178,22 @@ module _ (o : OpeningValue) (t : Trace) (w : WorldValue) (src dst count : ℕ) (
       here true e = let b = covers_bounds note root e in share_none o t (λ key. is_at p (place o t key)) root (ap (is_at p) (home root b.0 b.1) ∙ ne_eqb src p apart)
       here false e = refl
 
+  others_cut : (p : ℕ) (core : CoreValue) → src ≢ p → CoreHolds o t p core → CoreHolds o (cut_more t src dst note count) p core
+  others_cut p core apart h = record { set = h.set; store = λ root. h.store root ∙ left_there p root apart; waiting = h.waiting; moves = h.moves }
+
   -- the chunk that was cut
-  cut_chunk : ChunkHolds o t (record { note = note; families = families_between (part_at w src).store note.lo note.hi })
-  cut_chunk = record {
-    families = λ root. family_in-between note.lo note.hi (part_at w src).store root (rooted o t w src h below) ∙ here root (covers note root) refl;
-    rising = within-between note.lo note.hi (part_at w src).store (rooted o t w src h below);
+  cut_chunk : (core : CoreValue) → CoreHolds o t src core → ChunkHolds o t (record { note = note; families = families_between core.store note.lo note.hi })
+  cut_chunk core h = record {
+    families = λ root. family_in-between note.lo note.hi core.store root (rooted o t src core h) ∙ here root (covers note root) refl;
+    rising = within-between note.lo note.hi core.store (rooted o t src core h);
   }
     where
       tidy : (b : Bool) (f : FamilyValue) → (if b then Some f else None) ≡ (if b && true then Some f else None)
       tidy true f = refl
       tidy false f = refl
 
-      here : (root : ℕ) (b : Bool) → covers note root ≡ b → (if b then get (part_at w src).store root else None) ≡ share o t (λ _. b) root
-      here root true e = let p = covers_bounds note root e in stored_home o t w src note.lo note.hi h below home root p.0 p.1 ∙ tidy (stands o t root) (family_of o t root)
+      here : (root : ℕ) (b : Bool) → covers note root ≡ b → (if b then get core.store root else None) ≡ share o t (λ _. b) root
+      here root true e = let p = covers_bounds note root e in stored_home o t src note.lo note.hi core h home root p.0 p.1 ∙ tidy (stands o t root) (family_of o t root)
       here root false e = sym (share_none o t (λ _. false) root refl)
 
 -- whether an item is open with one more note
@@ -206,6 +226,12 @@ filter-by p q (x ∷ xs) implies = here (p x) (q x) refl refl (implies x) (filte
     here true false pa qb h rest = rest ∙ sym (ap (λ c. if c || not (p x) then x ∷ filter (λ y. q y || not (p y)) (filter p xs) else filter (λ y. q y || not (p y)) (filter p xs)) qb ∙ ap (λ c. if not c then x ∷ filter (λ y. q y || not (p y)) (filter p xs) else filter (λ y. q y || not (p y)) (filter p xs)) pa)
     here false true pa qb h rest = absurd (true≢false (sym (h refl)))
     here false false pa qb h rest = rest
+
+-- the work that stands where an open item does
+work_there : (o : OpeningValue) (t : Trace) (src dst at : ℕ) (item : Item) → slice_get (open_items o t src dst) at ≡ Some item → work_at (map (work_of o (notes t)) (open_items o t src dst)) at ≡ work_of o (notes t) item
+work_there o t src dst at item there =
+    get_or_from_slice_get (map (work_of o (notes t)) (open_items o t src dst)) at (work_of o (notes t) item) no_work
+    (slice_get-map (work_of o (notes t)) (open_items o t src dst) at ∙ ap (option_map (work_of o (notes t))) there)
 
 -- the work that is left after the cut
 module _ (o : OpeningValue) (t : Trace) (src dst : ℕ) (item : Item) (note : Note) (at : ℕ) (d : IsDistinct is_same_node (items t)) (there : slice_get (open_items o t src dst) at ≡ Some item)
@@ -259,13 +285,15 @@ module _ (o : OpeningValue) (t : Trace) (src dst : ℕ) (item : Item) (note : No
       ∙ ap (slice_set (map (work_of o (notes t)) (open_items o t src dst)) at) work_item
 
   -- the work of the link after the cut
-  pub work_left : map (work_of o (note ∷ notes t)) (filter (open_more o t note src dst) (items t)) ≡ work_after (map (work_of o (notes t)) (open_items o t src dst)) at (work_of o (notes t) item) note.hi
+  pub work_left : map (work_of o (note ∷ notes t)) (filter (open_more o t note src dst) (items t)) ≡ work_after (map (work_of o (notes t)) (open_items o t src dst)) at note.hi
   unfolding test
   work_left =
       ap (map (work_of o (note ∷ notes t))) (filter-by (is_open o t src dst) (open_more o t note src dst) (items t) more_implies)
       ∙ left_by note.last refl
       ∙ ap (λ b. if b then remove (map (work_of o (notes t)) (open_items o t src dst)) at
-      else slice_set (map (work_of o (notes t)) (open_items o t src dst)) at (record { seg = item.seg; node = item.node; pull = item.pull; rest = note.hi; hi = (extent_of o item.seg item.node).hi })) is_last
+      else slice_set (map (work_of o (notes t)) (open_items o t src dst)) at (work_from (work_of o (notes t) item) note.hi)) is_last
+      ∙ ap (λ work. if note.hi == work.hi then remove (map (work_of o (notes t)) (open_items o t src dst)) at
+      else slice_set (map (work_of o (notes t)) (open_items o t src dst)) at (work_from work note.hi)) (sym (work_there o t src dst at item there))
 
 -- maps that agree on what a filter keeps
 map_kept : (p : Item → Bool) (f g : Item → WorkValue) (xs : List Item) → ((x : Item) → p x ≡ true → f x ≡ g x) → map f (filter p xs) ≡ map g (filter p xs)
@@ -293,7 +321,7 @@ work_stays o t note src dst off = ap (λ p. map (work_of o (note ∷ notes t)) (
         (λ x e. work_other o t note x (ap (λ b. b && (note.node == x.node)) (ne_eqb note.seg x.seg (λ one. true≢false (sym (open_parts o t src dst x e).0 ∙ subst (λ g. is_on_link o src dst g ≡ false) one off)))))
 
 -- the link after the cut
-module _ (o : OpeningValue) (t : Trace) (src dst count at : ℕ) (item : Item) (l : LinkStateValue) (chunk : ChunkValue) (lh : LinkHolds o t l) (starts : l.src ≡ src) (ends : l.dst ≡ dst) (none : l.outbox ≡ None)
+module _ (o : OpeningValue) (t : Trace) (src dst count at : ℕ) (item : Item) (l : LinkValue) (chunk : ChunkValue) (lh : LinkHolds o t l) (starts : l.src ≡ src) (ends : l.dst ≡ dst) (none : l.out.outbox ≡ None)
     (d : IsDistinct is_same_node (items t)) (there : slice_get (open_items o t src dst) at ≡ Some item) (is_open_item : is_open o t src dst item ≡ true)
     (is_note : chunk.note ≡ next_note o t src dst item) (c : ChunkHolds o t chunk) where
   on_it : link l.src l.dst (chunk.note ∷ notes t) ≡ chunk.note ∷ link l.src l.dst (notes t)
@@ -314,21 +342,20 @@ module _ (o : OpeningValue) (t : Trace) (src dst count at : ℕ) (item : Item) (
   some_of (x ∷ xs) zero one e = inl e
   some_of (x ∷ xs) (suc i) one e = some_of xs i one e
 
-  cut_link_holds : LinkHolds o (cut_more t src dst chunk.note count) (record l { notes = l.notes ++ chunk.note ∷ []; work = work_after l.work at (work_of o (notes t) item) chunk.note.hi; outbox = Some chunk })
+  cut_link_holds : LinkHolds o (cut_more t src dst chunk.note count) (record l { out = record { notes = l.out.notes ++ chunk.note ∷ []; work = work_after l.out.work at chunk.note.hi; outbox = Some chunk } })
   cut_link_holds =
       record {
         work =
-            ap (λ ws. work_after ws at (work_of o (notes t) item) chunk.note.hi) (lh.work ∙ (λ i. map (work_of o (notes t)) (open_items o t (starts i) (ends i))))
+            ap (λ ws. work_after ws at chunk.note.hi) (lh.work ∙ (λ i. map (work_of o (notes t)) (open_items o t (starts i) (ends i))))
             ∙ sym (work_left o t src dst item chunk.note at d there is_open_item (ap (λ n. n.seg) is_note) (ap (λ n. n.node) is_note)
             (ap (λ n. n.last) is_note ∙ sym (ap (λ n. n.hi == (extent_of o item.seg item.node).hi) is_note)))
             ∙ (λ i. map (work_of o (chunk.note ∷ notes t)) (filter (open_more o t chunk.note (sym starts i) (sym ends i)) (items t)));
-        notes = reverse-append l.notes (chunk.note ∷ []) ∙ ap (λ ns. chunk.note ∷ ns) lh.notes ∙ sym on_it;
-        loaded = lh.loaded;
-        few_loaded = omega (arith, lh.few_loaded, length-append l.notes (chunk.note ∷ []));
+        notes = reverse-append l.out.notes (chunk.note ∷ []) ∙ ap (λ ns. chunk.note ∷ ns) lh.notes ∙ sym on_it;
+        few_loaded = omega (arith, lh.few_loaded, length-append l.out.notes (chunk.note ∷ []));
         popped = lh.popped;
         pushed = lh.pushed;
         way = ap (map (λ (one : ChunkValue). one.note)) after ∙ map-append (λ (one : ChunkValue). one.note) (under_way l) (chunk ∷ []) ∙ ap (λ ns. ns ++ chunk.note ∷ []) lh.way
-            ∙ sym (drop-append-le l.loaded l.notes (chunk.note ∷ []) lh.few_loaded);
+            ∙ sym (drop-append-le (load_count t l.src l.dst) l.out.notes (chunk.note ∷ []) lh.few_loaded);
         chunks = λ i one e. ⊎_elim (λ (old : slice_get (under_way l) i ≡ Some one). lh.chunks i one old) (λ (new : chunk ≡ one). subst (ChunkHolds o t) new c)
             (some_of (under_way l) i one (ap (λ cs. slice_get cs i) (sym after) ∙ e));
       }
@@ -354,64 +381,73 @@ passes : (p : Item → Bool) (xs : List Item) (i : ℕ) (item : Item) → slice_
 passes p xs i item e = (kept_in p xs item (Contains-slice_get (filter p xs) i item e)).1
 
 -- the world after the cut
-cut_holds : (o : OpeningValue) (t : Trace) (w : WorldValue) (src dst i at count : ℕ) (item : Item) → PartsHold o t w → IsFrom w i src dst → (link_value w i).outbox ≡ None → CutFacts o t → slice_get (open_items o t src dst) at ≡ Some item
-    → PartsHold o (cut_more t src dst (next_note o t src dst item) count)
-    (with_link (with_part w src (cut_part (part_at w src) (next_note o t src dst item).lo (next_note o t src dst item).hi)) i
-    (record (link_value w i) {
-      notes = (link_value w i).notes ++ next_note o t src dst item ∷ [];
-      work = work_after (link_value w i).work at (work_of o (notes t) item) (next_note o t src dst item).hi;
-      outbox = Some (record { note = next_note o t src dst item; families = families_between (part_at w src).store (next_note o t src dst item).lo (next_note o t src dst item).hi });
-    }))
+cut_holds : (o : OpeningValue) (t : Trace) (w : WorldValue) (src dst i at count : ℕ) (item : Item) → PartsHold o t w → IsFrom w i src dst → (out_at (core_at w src) dst).outbox ≡ None → CutFacts o t → slice_get (open_items o t src dst) at ≡ Some item
+    → PartsHold o (cut_more t src dst (next_note o t src dst item) count) (with_core w src (cut_core (core_at w src) dst at (next_note o t src dst item)))
 cut_holds o t w src dst i at count item h from none facts there =
     let l = link_value w i in
+    let core = core_at w src in
     let note = next_note o t src dst item in
     let known = facts.each src dst item (Contains-slice_get (open_items o t src dst) at item there) in
     let is_open_item = passes (is_open o t src dst) (items t) at item there in
     let hi = (extent_of o item.seg item.node).hi in
-    let upto : note.hi ≤ hi = end_upto o t w src note.lo hi h known.below known.home in
+    let upto : note.hi ≤ hi = end_upto o t note.lo hi in
     let home : (root : ℕ) → note.lo ≤ root → root < note.hi → place o t root ≡ At src = λ root low high. known.home root low (omega (arith, high, upto)) in
     let unloaded : (root : ℕ) → note.lo ≤ root → root < note.hi → find (λ n. covers n root) (loads t) ≡ None = λ root low high. known.unloaded root low (omega (arith, high, upto)) in
-    let chunk : ChunkValue = record { note = note; families = families_between (part_at w src).store note.lo note.hi } in
-    let new : LinkStateValue = record l { notes = l.notes ++ note ∷ []; work = work_after l.work at (work_of o (notes t) item) note.hi; outbox = Some chunk } in
+    let held = h.partitions.each src known.below.source in
+    let chunk : ChunkValue = record { note = note; families = families_between core.store note.lo note.hi } in
+    let cut = cut_core core dst at note in
     let after = cut_more t src dst note count in
+    let ready : out_at core dst ≡ l.out = sym (out_of w i src dst from) in
+    let put : out_at cut dst ≡ cut_out core l.out at note =
+    get_or-set_same core.outs dst _ new_out_link (omega (arith, known.below.destination, held.set.outs))
+    ∙ ap (λ (out : OutLinkValue). cut_out core out at note) ready in
+    let stands : src < length w.cores = omega (arith, known.below.source, h.partitions.count) in
+    let here : link_value (with_core w src cut) i ≡ record l { out = cut_out core l.out at note } =
+    out_set w i src dst cut from stands refl ∙ ap (λ (out : OutLinkValue). record l { out = out }) put in
     links_changed
     (partitions_changed h (
-    part_set o t after w src (cut_part (part_at w src) note.lo note.hi) h.partitions known.below
-    (left_here o t w src dst count note h known.below home unloaded)
-    (h.partitions.waiting src known.below)
-    (λ p root apart. left_there o t w src dst count note h known.below home unloaded p root apart)
-    (λ p apart. refl)
+    core_set o t after w src cut h.partitions known.below.source (source_cut o t src dst count note home unloaded at core held)
+    (λ p apart _ c. others_cut o t src dst count note home unloaded p (core_at w p) apart c)
     ))
-    (link_set o t after w i src dst new h.links from refl refl (λ one k. k)
-    (cut_link_holds o t src dst count at item l chunk (h.links.each i l (link_there w i from.within)) from.starts from.ends none facts.distinct there is_open_item refl (cut_chunk o t w src dst count note h known.below home unloaded))
+    (link_set o t after w (with_core w src cut) i src dst h.links from (same_ends w (with_core w src cut) refl)
+    (subst (LinkHolds o after) (sym here)
+    (cut_link_holds o t src dst count at item l chunk (h.links.each i from.within) from.starts from.ends (ap (λ (out : OutLinkValue). out.outbox) (sym ready) ∙ none) facts.distinct there is_open_item refl (cut_chunk o t src dst count note home unloaded core held)))
+    (λ j apart within. out_stays o t w i src dst h.links from cut j apart within stands refl (λ d other. get_or-set_other core.outs dst d _ new_out_link (λ e. other (sym e))))
+    (λ _ c. c)
     (λ s d apart. uncut_link o t src dst count note s d refl refl apart (goes_other (slice_get o.recon.segments item.seg) src dst s d (open_parts o t src dst item is_open_item).0 apart)))
 
--- what a cut comes to, by the source, the work, the end and the note
-abbrev cut_told : WorldValue → ℕ → ℕ → ℕ → WorkValue → ℕ → Note → Answer × WorldValue
-cut_told w i at src work end note = (
-  WasCut note (length (families_between (part_at w src).store work.rest end)),
-  with_link (with_part w src (cut_part (part_at w src) work.rest end)) i
-      (record (link_value w i) { notes = (link_value w i).notes ++ note ∷ []; work = work_after (link_value w i).work at work end; outbox = Some (record { note = note; families = families_between (part_at w src).store work.rest end }) }),
-)
+-- what a cut comes to, by its note
+abbrev cut_told : WorldValue → ℕ → ℕ → ℕ → Note → StepResult
+cut_told w src dst at note =
+    (WasCut note (length (families_between (core_at w src).store note.lo note.hi)), with_core w src (cut_core (core_at w src) dst at note))
 
-cut_some : (o : OpeningValue) (t : Trace) (w : WorldValue) (src dst i at : ℕ) (item : Item) → PartsHold o t w → IsFrom w i src dst → (link_value w i).outbox ≡ None → CutFacts o t
+-- the work of a link is the open items'
+works_of : (o : OpeningValue) (t : Trace) (w : WorldValue) (src dst i : ℕ) → PartsHold o t w → IsFrom w i src dst → (out_at (core_at w src) dst).work ≡ map (work_of o (notes t)) (open_items o t src dst)
+works_of o t w src dst i h from =
+    ap (λ (out : OutLinkValue). out.work) (sym (out_of w i src dst from)) ∙ (h.links.each i from.within).work ∙ (λ k. map (work_of o (notes t)) (open_items o t (from.starts k) (from.ends k)))
+
+cut_some : (o : OpeningValue) (t : Trace) (w : WorldValue) (src dst i at : ℕ) (item : Item) → PartsHold o t w → IsFrom w i src dst → (out_at (core_at w src) dst).outbox ≡ None → CutFacts o t
     → slice_get (open_items o t src dst) at ≡ Some item → next_item (open_items o t src dst) ≡ Some item
-    → Keeps o t (Cut src dst) (cut_work w i (Some at)) (cut_for o t src dst (next_item (open_items o t src dst)))
+    → Keeps o t (Cut src dst) (cut_work w src dst (Some at)) (cut_for o t src dst (next_item (open_items o t src dst)))
 cut_some o t w src dst i at item h from none facts there next =
     let l = link_value w i in
-    let lh = h.links.each i l (link_there w i from.within) in
+    let lh = h.links.each i from.within in
+    let core = core_at w src in
+    let out = out_at core dst in
     let note = next_note o t src dst item in
     let known = facts.each src dst item (Contains-slice_get (open_items o t src dst) at item there) in
+    let held = h.partitions.each src known.below.source in
     let hi = (extent_of o item.seg item.node).hi in
-    let works : l.work ≡ map (work_of o (notes t)) (open_items o t src dst) = lh.work ∙ (λ k. map (work_of o (notes t)) (open_items o t (from.starts k) (from.ends k))) in
-    let work_is : slice_index_or l.work at no_work ≡ work_of o (notes t) item = ap (λ ws. slice_index_or ws at no_work) works ∙ get_or_from_slice_get (map (work_of o (notes t)) (open_items o t src dst)) at (work_of o (notes t) item) no_work (slice_get-map (work_of o (notes t)) (open_items o t src dst) at ∙ ap (option_map (work_of o (notes t))) there) in
-    let end_is : take_end (part_at w l.src).store (slice_index_or l.work at no_work).rest (slice_index_or l.work at no_work).hi w.config.limit ≡ note.hi =
-    (λ k. take_end (part_at w (from.starts k)).store (work_is k).rest (work_is k).hi w.config.limit) ∙ end_same o t w src note.lo hi h known.below known.home in
-    let number : length l.notes ≡ cut_count t src dst = sym (length-reverse l.notes) ∙ ap length lh.notes ∙ (λ k. length (link (from.starts k) (from.ends k) (notes t))) in
-    let note_is : note_for l (slice_index_or l.work at no_work) (take_end (part_at w l.src).store (slice_index_or l.work at no_work).rest (slice_index_or l.work at no_work).hi w.config.limit) ≡ note =
+    let work_is : work_at out.work at ≡ work_of o (notes t) item =
+    ap (λ ws. work_at ws at) (works_of o t w src dst i h from) ∙ work_there o t src dst at item there in
+    let end_is : take_end core.store (work_at out.work at).rest (work_at out.work at).hi core.limit ≡ note.hi =
+    (λ k. take_end core.store (work_is k).rest (work_is k).hi core.limit) ∙ end_same o t src note.lo hi core held known.home in
+    let number : length out.notes ≡ cut_count t src dst =
+    ap (λ (out : OutLinkValue). length out.notes) (sym (out_of w i src dst from)) ∙ sym (length-reverse l.out.notes) ∙ ap length lh.notes ∙ (λ k. length (link (from.starts k) (from.ends k) (notes t))) in
+    let note_is : note_for (link_to core dst) out (work_at out.work at) (take_end core.store (work_at out.work at).rest (work_at out.work at).hi core.limit) ≡ note =
     λ k. record {
-      src = from.starts k;
-      dst = from.ends k;
+      src = held.set.part k;
+      dst = dst;
       number = number k;
       seg = (work_is k).seg;
       node = (work_is k).node;
@@ -419,40 +455,38 @@ cut_some o t w src dst i at item h from none facts there next =
       hi = end_is k;
       last = end_is k == (work_is k).hi;
     } in
-    let families = families_between (part_at w src).store note.lo note.hi in
-    let upto : note.hi ≤ hi = end_upto o t w src note.lo hi h known.below known.home in
-    let c = cut_chunk o t w src dst 0 note h known.below (λ root low high. known.home root low (omega (arith, high, upto))) (λ root low high. known.unloaded root low (omega (arith, high, upto))) in
-    subst (λ result. Keeps o t (Cut src dst) result (cut_for o t src dst (next_item (open_items o t src dst))))
-    (λ k. cut_told w i at (sym from.starts k) (sym work_is k) (sym end_is k) (sym note_is k)) (
+    let families = families_between core.store note.lo note.hi in
+    let upto : note.hi ≤ hi = end_upto o t note.lo hi in
+    let c = cut_chunk o t src dst 0 note (λ root low high. known.home root low (omega (arith, high, upto))) (λ root low high. known.unloaded root low (omega (arith, high, upto))) core held in
+    subst (λ one. Keeps o t (Cut src dst) (cut_told w src dst at one) (cut_for o t src dst (next_item (open_items o t src dst))))
+    (sym note_is) (
       ap (WasCut note) (chunk_count o t (record { note = note; families = families }) c) ∙ ap (cut_for o t src dst) (sym next),
       cut_holds o t w src dst i at (length families) item h from none facts there,
     )
 
-cut_found : (o : OpeningValue) (t : Trace) (w : WorldValue) (src dst i : ℕ) (found : Option ℕ) → PartsHold o t w → IsFrom w i src dst → (link_value w i).outbox ≡ None → CutFacts o t
+cut_found : (o : OpeningValue) (t : Trace) (w : WorldValue) (src dst i : ℕ) (found : Option ℕ) → PartsHold o t w → IsFrom w i src dst → (out_at (core_at w src) dst).outbox ≡ None → CutFacts o t
     → SameNext (work_of o (notes t)) (open_items o t src dst) found
-    → Keeps o t (Cut src dst) (cut_work w i found) (cut_for o t src dst (next_item (open_items o t src dst)))
-cut_found o t w src dst i None h from none facts same = subst (λ next. Keeps o t (Cut src dst) (cut_work w i None) (cut_for o t src dst next)) (sym same) (keeps_refused o t w (Cut src dst) NothingToCut h)
+    → Keeps o t (Cut src dst) (cut_work w src dst found) (cut_for o t src dst (next_item (open_items o t src dst)))
+cut_found o t w src dst i None h from none facts same = subst (λ next. Keeps o t (Cut src dst) (cut_work w src dst None) (cut_for o t src dst next)) (sym same) (keeps_refused o t w (Cut src dst) NothingToCut h)
 cut_found o t w src dst i (Some at) h from none facts same = cut_some o t w src dst i at same.item h from none facts same.there same.next
 
-cut_case : (o : OpeningValue) (t : Trace) (w : WorldValue) (src dst i : ℕ) (outbox : Option ChunkValue) → CutFacts o t → PartsHold o t w → IsFrom w i src dst → (link_value w i).outbox ≡ outbox
-    → Keeps o t (Cut src dst) (if is_some outbox then refuse w OutboxFull else cut_work w i (next_work (link_value w i).work))
+cut_case : (o : OpeningValue) (t : Trace) (w : WorldValue) (src dst i : ℕ) (outbox : Option ChunkValue) → CutFacts o t → PartsHold o t w → IsFrom w i src dst → (out_at (core_at w src) dst).outbox ≡ outbox
+    → Keeps o t (Cut src dst) (if is_some outbox then refuse w OutboxFull else cut_work w src dst (next_work (out_at (core_at w src) dst).work))
     (if nat_lt (push_count t src dst) (cut_count t src dst) then Refused OutboxFull else cut_for o t src dst (next_item (open_items o t src dst)))
 cut_case o t w src dst i (Some chunk) facts h from is =
     let c = counted_at o t w i src dst h from in
-    let one = ap (λ out. length (option_list out)) is in
+    let one = ap (λ (out : OutLinkValue). length (option_list out.outbox)) (out_of w i src dst from) ∙ ap (λ out. length (option_list out)) is in
     subst (λ b. Keeps o t (Cut src dst) (refuse w OutboxFull) (if b then Refused OutboxFull else cut_for o t src dst (next_item (open_items o t src dst))))
     (sym (lt-ltb (push_count t src dst) (cut_count t src dst) (omega (arith, c.cut, one))))
     (keeps_refused o t w (Cut src dst) OutboxFull h)
 cut_case o t w src dst i None facts h from is =
     let c = counted_at o t w i src dst h from in
-    let none = ap (λ out. length (option_list out)) is in
-    let l = link_value w i in
-    let lh = h.links.each i l (link_there w i from.within) in
-    let works : l.work ≡ map (work_of o (notes t)) (open_items o t src dst) = lh.work ∙ (λ k. map (work_of o (notes t)) (open_items o t (from.starts k) (from.ends k))) in
-    subst (λ b. Keeps o t (Cut src dst) (cut_work w i (next_work l.work)) (if b then Refused OutboxFull else cut_for o t src dst (next_item (open_items o t src dst))))
+    let none = ap (λ (out : OutLinkValue). length (option_list out.outbox)) (out_of w i src dst from) ∙ ap (λ out. length (option_list out)) is in
+    let work = (out_at (core_at w src) dst).work in
+    subst (λ b. Keeps o t (Cut src dst) (cut_work w src dst (next_work work)) (if b then Refused OutboxFull else cut_for o t src dst (next_item (open_items o t src dst))))
     (sym (le-ltb (push_count t src dst) (cut_count t src dst) (omega (arith, c.cut, none))))
-    (cut_found o t w src dst i (next_work l.work) h from is facts
-    (subst (λ ws. SameNext (work_of o (notes t)) (open_items o t src dst) (next_work ws)) (sym works) (next_same (work_of o (notes t)) (open_items o t src dst) (λ item. refl))))
+    (cut_found o t w src dst i (next_work work) h from is facts
+    (subst (λ ws. SameNext (work_of o (notes t)) (open_items o t src dst) (next_work ws)) (sym (works_of o t w src dst i h from)) (next_same (work_of o (notes t)) (open_items o t src dst) (λ item. refl))))
 
 pub cut_keeps : (o : OpeningValue) (t : Trace) (w : WorldValue) (src dst : ℕ) → CutFacts o t → PartsHold o t w → Keeps o t (Cut src dst) (step_result w (Cut src dst)) (answer o t (Cut src dst))
-cut_keeps o t w src dst facts h = keeps_link o t w (Cut src dst) src dst _ _ h (λ i from. cut_case o t w src dst i (link_value w i).outbox facts h from refl)
+cut_keeps o t w src dst facts h = keeps_link o t w (Cut src dst) src dst _ _ h (λ i from. cut_case o t w src dst i (out_at (core_at w src) dst).outbox facts h from refl)

@@ -3,7 +3,7 @@ use Rattle.std.proofs.Common.{subst, ⊎_elim, inl, inr, ◌≡◌, ◌∷◌, s
 use Rattle.std.specs.Prelude.{IsTrue}
 use Rattle.sq_ranges.specs.OpeningValue.{OpeningValue}
 use Rattle.sq_model.specs.declared.step.Step.{Step}
-use Rattle.sq_model.specs.declared.step.Step.TheVariants.{Prepare, Start, Submit, Claim, Begin, Cut, Push, Pop, Load, Complete, Report, Finish}
+use Rattle.sq_model.specs.declared.step.Step.TheVariants.{Prepare, Start, Submit, Resume, Split, Claim, Begin, Cut, Push, Pop, Load, Complete, Report, Finish, Status}
 use Rattle.sq_model.specs.declared.answer.Answer.{Answer}
 use Rattle.sq_model.specs.declared.answer.Answer.TheVariants.{Refused}
 use Rattle.sq_model.specs.declared.answer.Refusal.TheVariants.{Memory}
@@ -17,10 +17,12 @@ use Rattle.sq_transition.proofs.Changed.{PartsHold, parts_hold, holds}
 use Rattle.sq_transition.proofs.Kept.{refused}
 use Rattle.sq_transition.proofs.Keeps.{Keeps}
 use Rattle.sq_transition.proofs.Leader.{prepare_keeps, start_keeps, report_keeps, finish_keeps}
-use Rattle.sq_transition.proofs.Nodes.{claim_keeps, complete_keeps}
+use Rattle.sq_transition.proofs.Nodes.{split_keeps, claim_keeps, complete_keeps, status_keeps}
 use Rattle.sq_transition.proofs.PushPop.{push_keeps, pop_keeps}
 use Rattle.sq_transition.proofs.Begins.{BeginFacts, begin_keeps}
-use Rattle.sq_transition.proofs.Submits.{RunningFacts, submit_keeps}
+use Rattle.sq_transition.proofs.Runs.{RunningFacts}
+use Rattle.sq_transition.proofs.Submits.{submit_keeps}
+use Rattle.sq_transition.proofs.Resumes.{resume_keeps}
 use Rattle.sq_transition.proofs.Loads.{LoadFacts, load_keeps}
 use Rattle.sq_transition.proofs.Cuts.{CutFacts, cut_keeps}
 
@@ -35,15 +37,18 @@ pub result_keeps : (o : OpeningValue) (t : Trace) (w : WorldValue) (step : Step)
 result_keeps o t w (Prepare part) facts h = prepare_keeps o t w part h
 result_keeps o t w Start facts h = start_keeps o t w h
 result_keeps o t w (Submit part txn) facts h = submit_keeps o t w part txn facts.runs h
+result_keeps o t w (Resume part) facts h = resume_keeps o t w part facts.runs h
+result_keeps o t w (Split seg node) facts h = split_keeps o t w seg node h
 result_keeps o t w (Claim seg node pull) facts h = claim_keeps o t w seg node pull h
 result_keeps o t w (Begin seg node pull) facts h = begin_keeps o t w seg node pull facts.begins h
 result_keeps o t w (Cut src dst) facts h = cut_keeps o t w src dst facts.cuts h
 result_keeps o t w (Push src dst) facts h = push_keeps o t w src dst h
 result_keeps o t w (Pop src dst) facts h = pop_keeps o t w src dst h
 result_keeps o t w (Load src dst) facts h = load_keeps o t w src dst facts.loads h
-result_keeps o t w (Complete seg node pull) facts h = complete_keeps o t w seg node pull h
+result_keeps o t w (Complete seg node pull) facts h = complete_keeps o t w seg node pull facts.begins.ends h
 result_keeps o t w (Report part) facts h = report_keeps o t w part h
 result_keeps o t w Finish facts h = finish_keeps o t w h
+result_keeps o t w (Status seg node) facts h = status_keeps o t w seg node h
 
 -- a step is answered as the history says, and leads to the world that the longer history leads to
 pub transition_keeps : (o : OpeningValue) (t : Trace) (old new : WorldValue) (step : Step) (given : Answer) → StepFacts o t → Holds o t old → IsTransition old step given new

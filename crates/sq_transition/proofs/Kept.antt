@@ -2,7 +2,7 @@
 use Rattle.std.proofs.Common.{◌∷◌}
 use Rattle.sq_ranges.specs.OpeningValue.{OpeningValue}
 use Rattle.sq_model.specs.declared.step.Step.{Step}
-use Rattle.sq_model.specs.declared.step.Step.TheVariants.{Prepare, Start, Submit, Claim, Begin, Cut, Push, Pop, Load, Complete, Report, Finish}
+use Rattle.sq_model.specs.declared.step.Step.TheVariants.{Prepare, Start, Submit, Resume, Split, Claim, Begin, Cut, Push, Pop, Load, Complete, Report, Finish, Status}
 use Rattle.sq_model.specs.declared.answer.Refusal.{Refusal}
 use Rattle.sq_model.specs.declared.answer.Answer.TheVariants.{Refused}
 use Rattle.sq_model.specs.Trace.{Trace}
@@ -13,6 +13,8 @@ pub refused : (o : OpeningValue) (t : Trace) (w : WorldValue) (step : Step) (r :
 refused o t w (Prepare part) r h = h
 refused o t w Start r h = h
 refused o t w (Submit part txn) r h = h
+refused o t w (Resume part) r h = h
+refused o t w (Split seg node) r h = h
 refused o t w (Claim seg node pull) r h = h
 refused o t w (Begin seg node pull) r h = h
 refused o t w (Cut src dst) r h = h
@@ -22,3 +24,4 @@ refused o t w (Load src dst) r h = h
 refused o t w (Complete seg node pull) r h = h
 refused o t w (Report part) r h = h
 refused o t w Finish r h = h
+refused o t w (Status seg node) r h = h

@@ -1,50 +1,51 @@
 -- Load keeps what holds.
 use Rattle.std.proofs.Common.{subst, ◌≡◌, ℕ, zero, suc, Bool, true, false, List, [], ◌∷◌, ◌++◌, refl, sym, ap, ◌∙◌, arith, length, length-append, append_assoc, eq-eqb}
-use Rattle.std.specs.Prelude.{◌+◌, ◌-◌, ◌<◌, ◌≤◌, ◌≢◌, ◌==◌, ◌&&◌, ◌||◌, if◌then◌else◌, map, take, drop, reverse, nat_lt, find, slice_get, slice_set, slice_index_or, Option, Some, None, is_some}
+use Rattle.std.specs.Prelude.{◌+◌, ◌-◌, ◌<◌, ◌≤◌, ◌≢◌, ◌==◌, ◌&&◌, ◌||◌, if◌then◌else◌, map, take, drop, reverse, nat_lt, find, slice_get, Option, Some, None, is_some}
 use Rattle.std.specs.FinMap.{get}
-use Rattle.std.proofs.Math.Bool.{or-false}
-use Rattle.sq_model.proofs.Tiles.{about_is}
-use Rattle.std.proofs.lemmas.List.{take-append-drop, length-take-le, reverse-append, length-map, length-set, length-reverse, length-drop, get_or-set_same, get_or-set_other}
+use Rattle.std.proofs.lemmas.List.{take-append-drop, length-take-le, reverse-append, length-map, length-reverse, length-drop, get_or-set_same, get_or-set_other}
+use Rattle.std.proofs.lemmas.Option.{same_Some, slice_get_within}
 use Rattle.std.proofs.lemmas.Bool.{ne_eqb, lt-ltb, le-leb}
+use Rattle.std.proofs.Math.Bool.{or_comm}
 use Rattle.std.proofs.Math.Seq.{drop-append_seam}
 use Rattle.sq_schema.specs.Family.{FamilyValue}
-use Rattle.sq_tree.specs.Node.{is_node}
-use Rattle.sq_tree.specs.Tree.{status_at}
-use Rattle.sq_tree.proofs.Nested.{node_bounds}
 use Rattle.sq_chunk.specs.declared.chunk.Note.{Note}
 use Rattle.sq_chunk.specs.ChunkValue.{ChunkValue, covers}
 use Rattle.sq_store.specs.StoreValue.{with_families, family_in}
 use Rattle.sq_store.proofs.Rising.{get-with_families, roots-within}
+use Rattle.sq_ranges.specs.declared.recon.Range.{Range}
 use Rattle.sq_ranges.specs.OpeningValue.{OpeningValue}
+use Rattle.sq_exec.specs.Runs.{is_loaded, is_whole, runs_with}
+use Rattle.sq_exec.proofs.Runs.{loaded-runs_with, whole-runs_with}
+use Rattle.sq_exec.specs.CoreValue.{CoreValue, inbox_at, with_inbox, loaded_at}
+use Rattle.sq_exec.specs.Moving.{loaded_core}
 use Rattle.sq_model.specs.declared.step.Step.TheVariants.{Load}
 use Rattle.sq_model.specs.declared.answer.Answer.TheVariants.{WasLoaded, Refused}
 use Rattle.sq_model.specs.declared.answer.Refusal.TheVariants.{InboxEmpty}
 use Rattle.sq_model.specs.Trace.{Trace, notes, loads, link, load_count, pop_count}
 use Rattle.sq_model.specs.Tables.{stands, family_of}
-use Rattle.sq_model.specs.Place.{At, Under_way, place, extent_of, cut_place, loaded_place}
-use Rattle.sq_model.specs.Links.{is_about, has_last, reached, end_of_note, family_count}
+use Rattle.sq_model.specs.Place.{At, Under_way, place, cut_place, loaded_place}
+use Rattle.sq_model.specs.Links.{has_last, family_count}
 use Rattle.sq_model.specs.Orderly.{IsPrefix}
 use Rattle.sq_model.specs.Answers.{answer, load_of}
-use Rattle.sq_transition.specs.WorldValue.{WorldValue, SegmentValue, LinkStateValue, ProgressValue, part_at, with_part, segment_state, with_segment, progress_in, link_value, with_link, option_list, no_segment, no_progress}
-use Rattle.sq_transition.specs.LinkResults.{load_part, load_progress, loaded_link, load_chunk}
+use Rattle.sq_transition.specs.WorldValue.{WorldValue, LinkValue, core_at, with_core, link_value, option_list, under_way}
+use Rattle.sq_transition.specs.LinkResults.{load_chunk}
 use Rattle.sq_transition.specs.Transition.{step_result}
-use Rattle.sq_transition.specs.Holds.{SegmentsHold, LinkHolds, ChunkHolds, share, share_at, is_at, under_way}
+use Rattle.sq_transition.specs.Holds.{CoreHolds, LinkHolds, ChunkHolds, share, share_at, is_at, is_key_loaded, comes_into}
 use Rattle.sq_transition.proofs.Sets.{by_place, get_or-set}
-use Rattle.sq_transition.proofs.Changed.{PartsHold, partitions_changed, segments_changed, links_changed}
+use Rattle.sq_transition.proofs.Changed.{PartsHold, partitions_changed, links_changed}
 use Rattle.sq_transition.proofs.Keeps.{Keeps, keeps_refused}
-use Rattle.sq_transition.proofs.Links.{IsFrom, keeps_link, link_there, link_set}
+use Rattle.sq_transition.proofs.Cores.{core_set}
+use Rattle.sq_transition.proofs.Links.{IsFrom, keeps_link, same_ends, link_set}
+use Rattle.sq_transition.proofs.LinkEnds.{inbox_held, loaded_held, inbox_of, inbox_set, inbox_stays, way_below}
 use Rattle.sq_transition.proofs.PushPop.{counted_at}
-use Rattle.sq_transition.proofs.Parts.{part_set, share_none}
+use Rattle.sq_transition.proofs.Parts.{share_none}
 
 -- what is known of the chunk that a link has to load next: its note goes on where the loaded ones end
 pub record NextFacts (o : OpeningValue) (t : Trace) (src dst : ℕ) (note : Note) : Type 0 where
   pub comes_from : note.src ≡ src
   pub goes_to : note.dst ≡ dst
-  pub below : dst < o.old.parts
-  pub segment : note.seg < length o.recon.segments
-  pub node : is_node note.node ≡ true
+  pub arrives : comes_into o dst note.seg
   pub found : find (λ other. other.number == load_count t src dst) (link src dst (notes t)) ≡ Some note
-  pub before_last : has_last note.seg note.node (loads t) ≡ false
   pub away : (root : ℕ) → covers note root ≡ true → place o t root ≡ Under_way note
 
 -- the trace with one more load
@@ -69,10 +70,10 @@ share_away : (o : OpeningValue) (t : Trace) (src dst : ℕ) (note : Note) (p roo
 share_away o t src dst note p root facts e = share_none o t (λ key. is_at p (place o t key)) root (ap (is_at p) (facts.away root e))
 
 -- the store that the chunk is loaded into
-stored_here : (o : OpeningValue) (t : Trace) (w : WorldValue) (src dst count root : ℕ) (chunk : ChunkValue) (b : Bool) → PartsHold o t w → dst < o.old.parts → NextFacts o t src dst chunk.note → ChunkHolds o t chunk → covers chunk.note root ≡ b
-    → get (with_families (part_at w dst).store chunk.families) root ≡ share_at o (loaded t src dst chunk.note count) dst root
-stored_here o t w src dst count root chunk true h below facts c e =
-    get-with_families chunk.note.lo chunk.note.hi chunk.families (part_at w dst).store root c.rising
+stored_here : (o : OpeningValue) (t : Trace) (core : CoreValue) (src dst count root : ℕ) (chunk : ChunkValue) (b : Bool) → CoreHolds o t dst core → NextFacts o t src dst chunk.note → ChunkHolds o t chunk → covers chunk.note root ≡ b
+    → get (with_families core.store chunk.families) root ≡ share_at o (loaded t src dst chunk.note count) dst root
+stored_here o t core src dst count root chunk true h facts c e =
+    get-with_families chunk.note.lo chunk.note.hi chunk.families core.store root c.rising
     ∙ (λ i. if is_some (found i) then found i else none i)
     ∙ settled (share o t (λ _. chunk.note.dst == dst) root)
     ∙ sym (share_covered o t src dst chunk.note count dst root e)
@@ -80,16 +81,16 @@ stored_here o t w src dst count root chunk true h below facts c e =
     found : family_in chunk.families root ≡ share o t (λ _. chunk.note.dst == dst) root
     found = c.families root ∙ ap (λ b. if stands o t root && b then Some (family_of o t root) else None) (e ∙ sym (eq-eqb chunk.note.dst dst facts.goes_to))
 
-    none : get (part_at w dst).store root ≡ None
-    none = h.partitions.stores dst root below ∙ share_away o t src dst chunk.note dst root facts e
+    none : get core.store root ≡ None
+    none = h.store root ∙ share_away o t src dst chunk.note dst root facts e
 
     settled : (f : Option FamilyValue) → (if is_some f then f else None) ≡ f
     settled (Some f) = refl
     settled None = refl
-stored_here o t w src dst count root chunk false h below facts c e =
-    get-with_families chunk.note.lo chunk.note.hi chunk.families (part_at w dst).store root c.rising
-    ∙ ap (λ found. if is_some found then found else get (part_at w dst).store root) (c.families root ∙ share_none o t (covers chunk.note) root e)
-    ∙ h.partitions.stores dst root below ∙ sym (share_uncovered o t src dst chunk.note count dst root e)
+stored_here o t core src dst count root chunk false h facts c e =
+    get-with_families chunk.note.lo chunk.note.hi chunk.families core.store root c.rising
+    ∙ ap (λ found. if is_some found then found else get core.store root) (c.families root ∙ share_none o t (covers chunk.note) root e)
+    ∙ h.store root ∙ sym (share_uncovered o t src dst chunk.note count dst root e)
 
 -- the stores of the others
 share_stays : (o : OpeningValue) (t : Trace) (src dst count p root : ℕ) (note : Note) (b : Bool) → dst ≢ p → NextFacts o t src dst note → covers note root ≡ b → share_at o t p root ≡ share_at o (loaded t src dst note count) p root
@@ -99,66 +100,66 @@ share_stays o t src dst count p root note true apart facts e =
     ∙ sym (share_covered o t src dst note count p root e)
 share_stays o t src dst count p root note false apart facts e = sym (share_uncovered o t src dst note count p root e)
 
-abbrev mark : ℕ → Bool → ProgressValue
-mark upto whole = record { upto = upto; whole = whole }
+-- what is loaded of a segment at the destination after the load
+module _ (o : OpeningValue) (t : Trace) (src dst count : ℕ) (core : CoreValue) (chunk : ChunkValue) (h : CoreHolds o t dst core) (within : chunk.note.seg < length core.loaded) where
+  runs_now : (seg : ℕ) → loaded_at (loaded_core core src chunk) seg ≡ (if chunk.note.seg == seg then runs_with (loaded_at core chunk.note.seg) chunk.note else loaded_at core seg)
+  runs_now seg = get_or-set core.loaded chunk.note.seg seg (runs_with (loaded_at core chunk.note.seg) chunk.note) [] within
 
--- how far a node is loaded after the load
-progress_now : (o : OpeningValue) (t : Trace) (src dst : ℕ) (note : Note) (g n : ℕ) (b : Bool) → NextFacts o t src dst note → is_about g n note ≡ b
-    → mark (reached o g n (note ∷ loads t)) (has_last g n (note ∷ loads t)) ≡ (if b then mark note.hi note.last else mark (reached o g n (loads t)) (has_last g n (loads t)))
-progress_now o t src dst note g n true facts e =
-    let same = about_is g n note e in
-    let first : has_last g n (loads t) ≡ false = subst (λ m. has_last g m (loads t) ≡ false) same.1 (subst (λ k. has_last k note.node (loads t) ≡ false) same.0 facts.before_last) in
-    let whole : has_last g n (note ∷ loads t) ≡ note.last = ap (λ b. (b && note.last) || has_last g n (loads t)) e ∙ ap (λ b. note.last || b) first ∙ or-false note.last in
-    let upto : reached o g n (note ∷ loads t) ≡ note.hi = ap (λ b. end_of_note (extent_of o g n).lo (if b then Some note else find (is_about g n) (loads t))) e in
-    λ i. mark (upto i) (whole i)
-progress_now o t src dst note g n false facts e =
-    let whole : has_last g n (note ∷ loads t) ≡ has_last g n (loads t) = ap (λ b. (b && note.last) || has_last g n (loads t)) e in
-    let upto : reached o g n (note ∷ loads t) ≡ reached o g n (loads t) = ap (λ b. end_of_note (extent_of o g n).lo (if b then Some note else find (is_about g n) (loads t))) e in
-    λ i. mark (upto i) (whole i)
+  key_now : (seg root : ℕ) → comes_into o dst seg → is_loaded (loaded_at (loaded_core core src chunk) seg) root ≡ is_key_loaded (loaded t src dst chunk.note count) seg root
+  key_now seg root comes =
+      ap (λ runs. is_loaded runs root) (runs_now seg)
+      ∙ by_place chunk.note.seg seg (λ b. is_loaded (if b then runs_with (loaded_at core chunk.note.seg) chunk.note else loaded_at core seg) root ≡ ((b && covers chunk.note root) || is_key_loaded t seg root))
+      (λ same. ap (λ g. is_loaded (runs_with (loaded_at core g) chunk.note) root) same
+      ∙ loaded-runs_with (loaded_at core seg) chunk.note root
+      ∙ ap (λ b. b || covers chunk.note root) (h.moves.loaded seg root comes)
+      ∙ or_comm (is_key_loaded t seg root) (covers chunk.note root))
+      (λ apart. h.moves.loaded seg root comes)
 
--- what the world says of how far a node is loaded
-progress_set : (w : WorldValue) (seg g n : ℕ) (note : Note) → seg < length w.segments → note.node - 1 < length (segment_state w seg).progress → is_node note.node ≡ true → is_node n ≡ true
-    → slice_index_or (segment_state (with_segment w seg (load_progress (segment_state w seg) note)) g).progress (n - 1) no_progress
-    ≡ (if (seg == g) && (note.node == n) then mark note.hi note.last else progress_in w g n)
-progress_set w seg g n note there within is_m is_n =
-    ap (λ (s : SegmentValue). slice_index_or s.progress (n - 1) no_progress) (get_or-set w.segments seg g _ no_segment there)
-    ∙ by_place seg g (λ b. slice_index_or (if b then load_progress (segment_state w seg) note else segment_state w g).progress (n - 1) no_progress ≡ (if b && (note.node == n) then mark note.hi note.last else progress_in w g n))
-    (λ same. subst (λ k. slice_index_or (slice_set (segment_state w seg).progress (note.node - 1) (mark note.hi note.last)) (n - 1) no_progress ≡ (if note.node == n then mark note.hi note.last else progress_in w k n)) same
-    (by_place note.node n (λ b. slice_index_or (slice_set (segment_state w seg).progress (note.node - 1) (mark note.hi note.last)) (n - 1) no_progress ≡ (if b then mark note.hi note.last else progress_in w seg n))
-    (λ one. subst (λ m. slice_index_or (slice_set (segment_state w seg).progress (note.node - 1) (mark note.hi note.last)) (m - 1) no_progress ≡ mark note.hi note.last) one
-    (get_or-set_same (segment_state w seg).progress (note.node - 1) (mark note.hi note.last) no_progress within))
-    (λ apart. get_or-set_other (segment_state w seg).progress (note.node - 1) (n - 1) (mark note.hi note.last) no_progress
-    (λ e. absurd (apart (let a = node_bounds note.node is_m in let b = node_bounds n is_n in omega (arith, a.0, b.0, e)))))))
-    (λ apart. refl)
+  whole_now : (seg node : ℕ) → comes_into o dst seg → is_whole (loaded_at (loaded_core core src chunk) seg) node ≡ has_last seg node (chunk.note ∷ loads t)
+  whole_now seg node comes =
+      ap (λ runs. is_whole runs node) (runs_now seg)
+      ∙ by_place chunk.note.seg seg (λ b. is_whole (if b then runs_with (loaded_at core chunk.note.seg) chunk.note else loaded_at core seg) node ≡ (((b && (chunk.note.node == node)) && chunk.note.last) || has_last seg node (loads t)))
+      (λ same. ap (λ g. is_whole (runs_with (loaded_at core g) chunk.note) node) same
+      ∙ whole-runs_with (loaded_at core seg) chunk.note node
+      ∙ ap (λ b. b || ((chunk.note.node == node) && chunk.note.last)) (h.moves.whole seg node comes)
+      ∙ or_comm (has_last seg node (loads t)) ((chunk.note.node == node) && chunk.note.last))
+      (λ apart. h.moves.whole seg node comes)
 
--- the statuses stay
-statuses_kept : (w : WorldValue) (seg g n : ℕ) (note : Note) → seg < length w.segments → status_at (segment_state (with_segment w seg (load_progress (segment_state w seg) note)) g).statuses n ≡ status_at (segment_state w g).statuses n
-statuses_kept w seg g n note there =
-    ap (λ (s : SegmentValue). status_at s.statuses n) (get_or-set w.segments seg g _ no_segment there)
-    ∙ by_place seg g (λ b. status_at (if b then load_progress (segment_state w seg) note else segment_state w g).statuses n ≡ status_at (segment_state w g).statuses n)
-    (λ same. ap (λ k. status_at (segment_state w k).statuses n) same)
-    (λ apart. refl)
-
-length-progress_set : (w : WorldValue) (seg g : ℕ) (note : Note) → seg < length w.segments → length (segment_state (with_segment w seg (load_progress (segment_state w seg) note)) g).progress ≡ length (segment_state w g).progress
-length-progress_set w seg g note there =
-    ap (λ (s : SegmentValue). length s.progress) (get_or-set w.segments seg g _ no_segment there)
-    ∙ by_place seg g (λ b. length (if b then load_progress (segment_state w seg) note else segment_state w g).progress ≡ length (segment_state w g).progress)
-    (λ same. length-set (segment_state w seg).progress (note.node - 1) (mark note.hi note.last) ∙ ap (λ k. length (segment_state w k).progress) same)
-    (λ apart. refl)
-
--- the segments, where a node is loaded further
-load_set : (o : OpeningValue) (t : Trace) (w : WorldValue) (src dst count : ℕ) (note : Note) → SegmentsHold o t w → NextFacts o t src dst note → SegmentsHold o (loaded t src dst note count) (with_segment w note.seg (load_progress (segment_state w note.seg) note))
-load_set o t w src dst count note h facts =
-    let there : note.seg < length w.segments = omega (arith, h.count, facts.segment) in
-    let node_there : note.node - 1 < length (segment_state w note.seg).progress = let b = node_bounds note.node facts.node in let len = h.nodes note.seg facts.segment in omega (arith, b.0, b.1, len) in
+-- the destination after the load
+loads_here : (o : OpeningValue) (t : Trace) (src dst count : ℕ) (core : CoreValue) (chunk : ChunkValue) → CoreHolds o t dst core → NextFacts o t src dst chunk.note → ChunkHolds o t chunk
+    → CoreHolds o (loaded t src dst chunk.note count) dst (loaded_core core src chunk)
+loads_here o t src dst count core chunk h facts c =
+    let exists = slice_get_within o.recon.segments chunk.note.seg facts.arrives.0 facts.arrives.1 in
+    let within : chunk.note.seg < length core.loaded = omega (arith, exists, h.set.loaded) in
     record {
-      count = length-set w.segments note.seg _ ∙ h.count;
-      statuses = λ g n within. statuses_kept w note.seg g n note there ∙ h.statuses g n within;
-      nodes = λ g within. length-progress_set w note.seg g note there ∙ h.nodes g within;
-      progress = λ g n within is_n.
-          progress_set w note.seg g n note there node_there facts.node is_n
-          ∙ ap (λ p. if (note.seg == g) && (note.node == n) then mark note.hi note.last else p) (h.progress g n within is_n)
-          ∙ sym (progress_now o t src dst note g n (is_about g n note) facts refl);
+      set = loaded_held o t dst chunk.note.seg (with_inbox core src None) (runs_with (loaded_at core chunk.note.seg) chunk.note) (inbox_held o t dst src core None h.set);
+      store = λ root. stored_here o t core src dst count root chunk (covers chunk.note root) h facts c refl;
+      waiting = h.waiting;
+      moves = record {
+        given_up = h.moves.given_up;
+        loaded = key_now o t src dst count core chunk h within;
+        whole = whole_now o t src dst count core chunk h within;
+      };
+    }
+
+-- a segment comes to one partition alone
+comes_once : (o : OpeningValue) (part other seg : ℕ) → comes_into o part seg → comes_into o other seg → part ≡ other
+comes_once o part other seg one two = sym one.2 ∙ ap (λ (range : Range). range.dst) (same_Some one.0 two.0 (sym one.1 ∙ two.1)) ∙ two.2
+
+-- another partition after the load
+loads_there : (o : OpeningValue) (t : Trace) (src dst count p : ℕ) (note : Note) (core : CoreValue) → dst ≢ p → NextFacts o t src dst note → CoreHolds o t p core → CoreHolds o (loaded t src dst note count) p core
+loads_there o t src dst count p note core apart facts h =
+    let other : (seg : ℕ) → comes_into o p seg → (note.seg == seg) ≡ false =
+    λ seg comes. ne_eqb note.seg seg (λ same. apart (comes_once o dst p seg (subst (comes_into o dst) same facts.arrives) comes)) in
+    record {
+      set = h.set;
+      store = λ root. h.store root ∙ share_stays o t src dst count p root note (covers note root) apart facts refl;
+      waiting = h.waiting;
+      moves = record {
+        given_up = h.moves.given_up;
+        loaded = λ seg root comes. h.moves.loaded seg root comes ∙ sym (ap (λ b. (b && covers note root) || is_key_loaded t seg root) (other seg comes));
+        whole = λ seg node comes. h.moves.whole seg node comes ∙ sym (ap (λ b. ((b && (note.node == node)) && note.last) || has_last seg node (loads t)) (other seg comes));
+      };
     }
 
 drop_one : {X : Type 0} (n : ℕ) (xs : List X) → drop 1 (drop n xs) ≡ drop (n + 1) xs
@@ -171,50 +172,61 @@ more_loads : (src dst s d : ℕ) (note : Note) (loads : List Note) → note.src 
 more_loads src dst s d note loads from to = λ i. if (from i == s) && (to i == d) then note ∷ link s d loads else link s d loads
 
 -- a link whose oldest chunk was loaded
-unloaded : (o : OpeningValue) (t : Trace) (src dst count : ℕ) (l : LinkStateValue) (chunk : ChunkValue) → LinkHolds o t l → l.inbox ≡ Some chunk → l.src ≡ src → l.dst ≡ dst → NextFacts o t src dst chunk.note
-    → LinkHolds o (loaded t src dst chunk.note count) (loaded_link l)
+unloaded : (o : OpeningValue) (t : Trace) (src dst count : ℕ) (l : LinkValue) (chunk : ChunkValue) → LinkHolds o t l → l.inbox ≡ Some chunk → l.src ≡ src → l.dst ≡ dst → NextFacts o t src dst chunk.note
+    → LinkHolds o (loaded t src dst chunk.note count) (record l { inbox = None })
 unloaded o t src dst count l chunk h full same_src same_dst facts =
     let here : link l.src l.dst (chunk.note ∷ loads t) ≡ chunk.note ∷ link l.src l.dst (loads t) =
     more_loads src dst l.src l.dst chunk.note (loads t) facts.comes_from facts.goes_to
     ∙ (λ i. if eq-eqb src l.src (sym same_src) i && eq-eqb dst l.dst (sym same_dst) i then chunk.note ∷ link l.src l.dst (loads t) else link l.src l.dst (loads t)) in
-    let split : under_way l ≡ chunk ∷ (l.queue ++ option_list l.outbox) = ap (λ box. option_list box ++ (l.queue ++ option_list l.outbox)) full in
-    let way : chunk.note ∷ map (λ (c : ChunkValue). c.note) (l.queue ++ option_list l.outbox) ≡ drop l.loaded l.notes = sym (ap (map (λ (c : ChunkValue). c.note)) split) ∙ h.way in
-    let some = ap length way ∙ length-drop l.loaded l.notes in
-    let more = ap length here in
+    let split : under_way l ≡ chunk ∷ (l.queue ++ option_list l.out.outbox) = ap (λ box. option_list box ++ (l.queue ++ option_list l.out.outbox)) full in
+    let before = load_count t l.src l.dst in
+    let way : chunk.note ∷ map (λ (c : ChunkValue). c.note) (l.queue ++ option_list l.out.outbox) ≡ drop before l.out.notes = sym (ap (map (λ (c : ChunkValue). c.note)) split) ∙ h.way in
+    let some = ap length way ∙ length-drop before l.out.notes in
+    let more : load_count (loaded t src dst chunk.note count) l.src l.dst ≡ before + 1 = let len = ap length here in omega (arith, len) in
     let one = ap (λ box. length (option_list box)) full in
     record {
       work = h.work;
       notes = h.notes;
-      loaded = omega (arith, h.loaded, more);
-      few_loaded = omega (arith, some, h.few_loaded);
-      popped = omega (arith, h.popped, one);
+      few_loaded = omega (arith, some, h.few_loaded, more);
+      popped = omega (arith, h.popped, one, more);
       pushed = h.pushed;
-      way = ap (drop 1) way ∙ drop_one l.loaded l.notes;
+      way = ap (drop 1) way ∙ drop_one before l.out.notes ∙ ap (λ n. drop n l.out.notes) (sym more);
       chunks = λ i one at. h.chunks (suc i) one (ap (λ cs. slice_get cs (suc i)) split ∙ at);
     }
 
+-- the chunk that came to the destination of a link
+came_first : (o : OpeningValue) (t : Trace) (l : LinkValue) (chunk : ChunkValue) → LinkHolds o t l → l.inbox ≡ Some chunk → ChunkHolds o t chunk
+came_first o t l chunk h full = h.chunks 0 chunk (ap (λ box. slice_get (option_list box ++ (l.queue ++ option_list l.out.outbox)) 0) full)
+
 -- the world after a chunk was loaded
 load_holds : (o : OpeningValue) (t : Trace) (w : WorldValue) (src dst i count : ℕ) (chunk : ChunkValue) → PartsHold o t w → IsFrom w i src dst → (link_value w i).inbox ≡ Some chunk → NextFacts o t src dst chunk.note
-    → PartsHold o (loaded t src dst chunk.note count)
-    (with_link (with_segment (with_part w (link_value w i).dst (load_part (part_at w (link_value w i).dst) chunk)) chunk.note.seg (load_progress (segment_state w chunk.note.seg) chunk.note)) i (loaded_link (link_value w i)))
+    → PartsHold o (loaded t src dst chunk.note count) (with_core w dst (loaded_core (core_at w dst) src chunk))
 load_holds o t w src dst i count chunk h from full facts =
     let l = link_value w i in
-    let lh = h.links.each i l (link_there w i from.within) in
-    let c = lh.chunks 0 chunk (ap (λ box. slice_get (option_list box ++ (l.queue ++ option_list l.outbox)) 0) full) in
+    let lh = h.links.each i from.within in
+    let core = core_at w dst in
+    let now = loaded_core core src chunk in
     let after = loaded t src dst chunk.note count in
-    let below : l.dst < o.old.parts = omega (arith, from.ends, facts.below) in
+    let some : 0 < length (under_way l) =
+    let one = ap (λ box. length (option_list box)) full in
+    omega (arith, length-append (option_list l.inbox) (l.queue ++ option_list l.out.outbox), one) in
+    let below = way_below o t w i src dst h from some in
+    let held = h.partitions.each dst below.destination in
+    let there : dst < length w.cores = omega (arith, below.destination, h.partitions.count) in
+    let stands : src < length core.inboxes = omega (arith, below.source, held.set.inboxes) in
+    let new : WorldValue = with_core w dst now in
+    let here : link_value new i ≡ record l { inbox = None } =
+    inbox_set w i src dst now from there refl ∙ ap (λ (inbox : Option ChunkValue). record l { inbox = inbox }) (get_or-set_same core.inboxes src None None stands) in
     links_changed
-    (segments_changed
     (partitions_changed h (
-    part_set o t after w l.dst (load_part (part_at w l.dst) chunk) h.partitions below
-    (λ root. subst (λ d. get (with_families (part_at w d).store chunk.families) root ≡ share_at o after d root) (sym from.ends) (stored_here o t w src dst count root chunk (covers chunk.note root) h facts.below facts c refl))
-    (h.partitions.waiting l.dst below)
-    (λ p root apart. share_stays o t src dst count p root chunk.note (covers chunk.note root) (λ e. apart (from.ends ∙ e)) facts refl)
-    (λ p apart. refl)
+    core_set o t after w dst now h.partitions below.destination
+    (loads_here o t src dst count core chunk held facts (came_first o t l chunk lh full))
+    (λ p apart _ c. loads_there o t src dst count p chunk.note (core_at w p) apart facts c)
     ))
-    (load_set o t w src dst count chunk.note h.segments facts))
-    (link_set o t after w i src dst (loaded_link l) h.links from refl refl (λ chunk c. c)
-    (unloaded o t src dst count l chunk lh full from.starts from.ends facts)
+    (link_set o t after w new i src dst h.links from (same_ends w new refl)
+    (subst (LinkHolds o after) (sym here) (unloaded o t src dst count l chunk lh full from.starts from.ends facts))
+    (λ j apart within. inbox_stays o t w i src dst h.links from now j apart within there refl (λ s other. get_or-set_other core.inboxes src s None None (λ e. other (sym e))))
+    (λ _ c. c)
     (λ s d apart. record {
       work = refl;
       notes = refl;
@@ -237,18 +249,19 @@ same_rest us vs xs ys e even =
     sym (drop-append_seam us xs) ∙ (λ i. drop (len i) (e i)) ∙ drop-append_seam vs ys
 
 -- the notes of a link that aren't loaded, and those that are
-pub way_and_loads : (o : OpeningValue) (t : Trace) (l : LinkStateValue) → LinkHolds o t l → IsPrefix t l.src l.dst → reverse (drop l.loaded l.notes) ++ link l.src l.dst (loads t) ≡ link l.src l.dst (notes t)
+pub way_and_loads : (o : OpeningValue) (t : Trace) (l : LinkValue) → LinkHolds o t l → IsPrefix t l.src l.dst → reverse (drop (load_count t l.src l.dst) l.out.notes) ++ link l.src l.dst (loads t) ≡ link l.src l.dst (notes t)
 way_and_loads o t l h prefix =
-    let parts : reverse (drop l.loaded l.notes) ++ reverse (take l.loaded l.notes) ≡ link l.src l.dst (notes t) =
-    sym (reverse-append (take l.loaded l.notes) (drop l.loaded l.notes)) ∙ ap reverse (take-append-drop l.loaded l.notes) ∙ h.notes in
-    let even : length (reverse (take l.loaded l.notes)) ≡ length (link l.src l.dst (loads t)) = length-reverse (take l.loaded l.notes) ∙ length-take-le l.loaded l.notes h.few_loaded ∙ h.loaded in
-    ap (λ ns. reverse (drop l.loaded l.notes) ++ ns) (sym (same_rest (reverse (drop l.loaded l.notes)) prefix.0 (reverse (take l.loaded l.notes)) (link l.src l.dst (loads t)) (parts ∙ sym prefix.1) even)) ∙ parts
+    let n = load_count t l.src l.dst in
+    let parts : reverse (drop n l.out.notes) ++ reverse (take n l.out.notes) ≡ link l.src l.dst (notes t) =
+    sym (reverse-append (take n l.out.notes) (drop n l.out.notes)) ∙ ap reverse (take-append-drop n l.out.notes) ∙ h.notes in
+    let even : length (reverse (take n l.out.notes)) ≡ length (link l.src l.dst (loads t)) = length-reverse (take n l.out.notes) ∙ length-take-le n l.out.notes h.few_loaded in
+    ap (λ ns. reverse (drop n l.out.notes) ++ ns) (sym (same_rest (reverse (drop n l.out.notes)) prefix.0 (reverse (take n l.out.notes)) (link l.src l.dst (loads t)) (parts ∙ sym prefix.1) even)) ∙ parts
 
-pub next_note_of : (o : OpeningValue) (t : Trace) (l : LinkStateValue) (chunk : ChunkValue) → LinkHolds o t l → IsPrefix t l.src l.dst → l.inbox ≡ Some chunk
-    → reverse (map (λ (c : ChunkValue). c.note) (l.queue ++ option_list l.outbox)) ++ chunk.note ∷ link l.src l.dst (loads t) ≡ link l.src l.dst (notes t)
+pub next_note_of : (o : OpeningValue) (t : Trace) (l : LinkValue) (chunk : ChunkValue) → LinkHolds o t l → IsPrefix t l.src l.dst → l.inbox ≡ Some chunk
+    → reverse (map (λ (c : ChunkValue). c.note) (l.queue ++ option_list l.out.outbox)) ++ chunk.note ∷ link l.src l.dst (loads t) ≡ link l.src l.dst (notes t)
 next_note_of o t l chunk h prefix full =
-    let rest = map (λ (c : ChunkValue). c.note) (l.queue ++ option_list l.outbox) in
-    let way : chunk.note ∷ rest ≡ drop l.loaded l.notes = sym (ap (λ box. map (λ (c : ChunkValue). c.note) (option_list box ++ (l.queue ++ option_list l.outbox))) full) ∙ h.way in
+    let rest = map (λ (c : ChunkValue). c.note) (l.queue ++ option_list l.out.outbox) in
+    let way : chunk.note ∷ rest ≡ drop (load_count t l.src l.dst) l.out.notes = sym (ap (λ box. map (λ (c : ChunkValue). c.note) (option_list box ++ (l.queue ++ option_list l.out.outbox))) full) ∙ h.way in
     sym (append_assoc (reverse rest) (chunk.note ∷ []) (link l.src l.dst (loads t)))
     ∙ ap (λ ns. ns ++ link l.src l.dst (loads t)) (sym (reverse-append (chunk.note ∷ []) rest) ∙ ap reverse way)
     ∙ way_and_loads o t l h prefix
@@ -268,29 +281,28 @@ chunk_count o t chunk c =
     covered note key low high = (λ i. le-leb note.lo key low i && nat_lt key note.hi) ∙ lt-ltb key note.hi high
 
 load_case : (o : OpeningValue) (t : Trace) (w : WorldValue) (src dst i : ℕ) (inbox : Option ChunkValue) → LoadFacts o t → PartsHold o t w → IsFrom w i src dst → (link_value w i).inbox ≡ inbox
-    → Keeps o t (Load src dst) (load_chunk w i inbox)
+    → Keeps o t (Load src dst) (load_chunk w src dst inbox)
     (if load_count t src dst == pop_count t src dst then Refused InboxEmpty
     else load_of o t (find (λ note. note.number == load_count t src dst) (link src dst (notes t))))
 load_case o t w src dst i None facts h from is =
     let c = counted_at o t w i src dst h from in
     let none = ap (λ box. length (option_list box)) is in
-    subst (λ b. Keeps o t (Load src dst) (load_chunk w i None) (if b then Refused InboxEmpty else load_of o t (find (λ note. note.number == load_count t src dst) (link src dst (notes t)))))
+    subst (λ b. Keeps o t (Load src dst) (load_chunk w src dst None) (if b then Refused InboxEmpty else load_of o t (find (λ note. note.number == load_count t src dst) (link src dst (notes t)))))
     (sym (eq-eqb (load_count t src dst) (pop_count t src dst) (omega (arith, c.popped, none))))
     (keeps_refused o t w (Load src dst) InboxEmpty h)
 load_case o t w src dst i (Some chunk) facts h from is =
     let c = counted_at o t w i src dst h from in
     let one = ap (λ box. length (option_list box)) is in
     let l = link_value w i in
-    let lh = h.links.each i l (link_there w i from.within) in
-    let there = lh.chunks 0 chunk (ap (λ box. slice_get (option_list box ++ (l.queue ++ option_list l.outbox)) 0) is) in
-    let way = subst (λ (p : ℕ × ℕ). reverse (map (λ (c : ChunkValue). c.note) (l.queue ++ option_list l.outbox)) ++ chunk.note ∷ link p.0 p.1 (loads t) ≡ link p.0 p.1 (notes t)) (λ k. (from.starts k, from.ends k))
+    let lh = h.links.each i from.within in
+    let way = subst (λ (p : ℕ × ℕ). reverse (map (λ (c : ChunkValue). c.note) (l.queue ++ option_list l.out.outbox)) ++ chunk.note ∷ link p.0 p.1 (loads t) ≡ link p.0 p.1 (notes t)) (λ k. (from.starts k, from.ends k))
     (next_note_of o t l chunk lh (facts.prefix l.src l.dst) is) in
     let next = facts.next src dst _ chunk.note way in
-    subst (λ b. Keeps o t (Load src dst) (load_chunk w i (Some chunk)) (if b then Refused InboxEmpty else load_of o t (find (λ note. note.number == load_count t src dst) (link src dst (notes t)))))
+    subst (λ b. Keeps o t (Load src dst) (load_chunk w src dst (Some chunk)) (if b then Refused InboxEmpty else load_of o t (find (λ note. note.number == load_count t src dst) (link src dst (notes t)))))
     (sym (ne_eqb (load_count t src dst) (pop_count t src dst) (λ e. absurd (omega (arith, c.popped, one, e))))) (
-      ap (WasLoaded chunk.note) (chunk_count o t chunk there) ∙ ap (load_of o t) (sym next.found),
+      ap (WasLoaded chunk.note) (chunk_count o t chunk (came_first o t l chunk lh is)) ∙ ap (load_of o t) (sym next.found),
       load_holds o t w src dst i (length chunk.families) chunk h from is next,
     )
 
 pub load_keeps : (o : OpeningValue) (t : Trace) (w : WorldValue) (src dst : ℕ) → LoadFacts o t → PartsHold o t w → Keeps o t (Load src dst) (step_result w (Load src dst)) (answer o t (Load src dst))
-load_keeps o t w src dst facts h = keeps_link o t w (Load src dst) src dst _ _ h (λ i from. load_case o t w src dst i (link_value w i).inbox facts h from refl)
+load_keeps o t w src dst facts h = keeps_link o t w (Load src dst) src dst _ _ h (λ i from. load_case o t w src dst i (inbox_at (core_at w dst) src) facts h from (inbox_of w i src dst from))

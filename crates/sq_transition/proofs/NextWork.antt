@@ -5,11 +5,10 @@ use Rattle.std.specs.List.{position_or_len, IsDistinct, AllByRecursion}
 use Rattle.std.proofs.lemmas.List.{length-map}
 use Rattle.std.proofs.lemmas.Option.{slice_get_past, slice_get-get_or, same_Some}
 use Rattle.std.proofs.lemmas.Bool.{ltb-true, ltb-false, cond_both}
+use Rattle.sq_exec.specs.Work.{WorkValue, is_reactive as is_reactive_work, next_work, or_front}
 use Rattle.sq_model.specs.Nodes.{Item}
 use Rattle.sq_model.specs.Links.{is_reactive, next_item, or_first}
 use Rattle.sq_model.proofs.Statuses.{is_same_node, same_node_laws}
-use Rattle.sq_transition.specs.WorldValue.{WorkValue}
-use Rattle.sq_transition.specs.LinkResults.{is_odd, next_work, or_front}
 
 -- the first item that passes a test stands where the first work does
 find_there : (f : Item → WorkValue) (p : WorkValue → Bool) (q : Item → Bool) (items : List Item) → ((item : Item) → p (f item) ≡ q item) → find q items ≡ slice_get items (position_or_len p (map f items))
@@ -34,22 +33,22 @@ abbrev pub SameNext : (Item → WorkValue) → List Item → Option ℕ → Type
 SameNext f items None = next_item items ≡ None
 SameNext f items (Some at) = IsNext f items at
 
-next_by : (f : Item → WorkValue) (items : List Item) (b : Bool) → nat_lt (position_or_len is_odd (map f items)) (length (map f items)) ≡ b → find is_reactive items ≡ slice_get items (position_or_len is_odd (map f items))
-    → SameNext f items (or_front (map f items) (if b then Some (position_or_len is_odd (map f items)) else None))
+next_by : (f : Item → WorkValue) (items : List Item) (b : Bool) → nat_lt (position_or_len is_reactive_work (map f items)) (length (map f items)) ≡ b → find is_reactive items ≡ slice_get items (position_or_len is_reactive_work (map f items))
+    → SameNext f items (or_front (map f items) (if b then Some (position_or_len is_reactive_work (map f items)) else None))
 next_by f items true e found =
-    let low = ltb-true (position_or_len is_odd (map f items)) (length (map f items)) e in
+    let low = ltb-true (position_or_len is_reactive_work (map f items)) (length (map f items)) e in
     let len = length-map items f in
     let no_item : Item = record { seg = 0; node = 0; pull = 0 } in
-    let there = slice_get-get_or items (position_or_len is_odd (map f items)) no_item (omega (arith, low, len)) in
-    record { item = slice_index_or items (position_or_len is_odd (map f items)) no_item; there = there; next = ap (or_first items) (found ∙ there) }
+    let there = slice_get-get_or items (position_or_len is_reactive_work (map f items)) no_item (omega (arith, low, len)) in
+    record { item = slice_index_or items (position_or_len is_reactive_work (map f items)) no_item; there = there; next = ap (or_first items) (found ∙ there) }
 next_by f [] false e found = refl
 next_by f (item ∷ items) false e found =
-    let high = ltb-false (position_or_len is_odd (map f (item ∷ items))) (length (map f (item ∷ items))) e in
+    let high = ltb-false (position_or_len is_reactive_work (map f (item ∷ items))) (length (map f (item ∷ items))) e in
     let len = length-map (item ∷ items) f in
-    record { item = item; there = refl; next = ap (or_first (item ∷ items)) (found ∙ slice_get_past (item ∷ items) (position_or_len is_odd (map f (item ∷ items))) (omega (arith, high, len))) }
+    record { item = item; there = refl; next = ap (or_first (item ∷ items)) (found ∙ slice_get_past (item ∷ items) (position_or_len is_reactive_work (map f (item ∷ items))) (omega (arith, high, len))) }
 
-pub next_same : (f : Item → WorkValue) (items : List Item) → ((item : Item) → is_odd (f item) ≡ is_reactive item) → SameNext f items (next_work (map f items))
-next_same f items same = next_by f items (nat_lt (position_or_len is_odd (map f items)) (length (map f items))) refl (find_there f is_odd is_reactive items same)
+pub next_same : (f : Item → WorkValue) (items : List Item) → ((item : Item) → is_reactive_work (f item) ≡ is_reactive item) → SameNext f items (next_work (map f items))
+next_same f items same = next_by f items (nat_lt (position_or_len is_reactive_work (map f items)) (length (map f items))) refl (find_there f is_reactive_work is_reactive items same)
 
 -- an item is of another node than each of these
 abbrev Differs : Item → List Item → Type 0

@@ -1,24 +1,22 @@
--- A world in which one partition changed, and the families of its store.
-use Rattle.std.proofs.Common.{◌≡◌, ℕ, Bool, true, false, List, [], ◌∷◌, refl, sym, ap, ◌∙◌, arith, length, eq-eqb}
-use Rattle.std.specs.Prelude.{◌<◌, ◌≢◌, ◌==◌, ◌&&◌, if◌then◌else◌, not, Some, None, unwrap_or}
+-- The families of a partition's store.
+use Rattle.std.proofs.Common.{◌≡◌, ℕ, Bool, true, false, List, [], ◌∷◌, refl, sym, ap, ◌∙◌, length, eq-eqb}
+use Rattle.std.specs.Prelude.{◌<◌, ◌==◌, ◌&&◌, if◌then◌else◌, not, Some, None, unwrap_or}
 use Rattle.std.specs.List.{list_any}
-use Rattle.std.specs.FinMap.{get}
-use Rattle.std.proofs.lemmas.List.{length-set, nil_from_length}
+use Rattle.std.proofs.lemmas.List.{nil_from_length}
 use Rattle.std.proofs.lemmas.Bool.{eqb-true, or_parts, not-false}
 use Rattle.sq_schema.specs.TxnValue.{TxnValue}
 use Rattle.sq_schema.specs.Effect.{RowList, RowTable, effect, replay_rows, table_after, replay, only}
 use Rattle.sq_schema.specs.Family.{FamilyValue, rows_of}
 use Rattle.sq_store.specs.StoreValue.{family_at, absent}
 use Rattle.sq_ranges.specs.OpeningValue.{OpeningValue}
+use Rattle.sq_exec.specs.CoreValue.{CoreValue}
 use Rattle.sq_model.specs.Trace.{Trace, committed}
 use Rattle.sq_model.specs.Tables.{opening_rows, now, stands, family_of}
 use Rattle.sq_model.specs.Place.{At, place}
-use Rattle.sq_model.specs.Waiting.{waiting}
 use Rattle.sq_model.proofs.Lists.{nothing_kept}
-use Rattle.sq_transition.specs.WorldValue.{WorldValue, PartitionValue, part_at, with_part, no_part}
-use Rattle.sq_transition.specs.Holds.{PartitionsHold, share, share_at, is_at}
+use Rattle.sq_transition.specs.WorldValue.{WorldValue, core_at}
+use Rattle.sq_transition.specs.Holds.{CoreHolds, share, is_at}
 use Rattle.sq_transition.proofs.Changed.{PartsHold}
-use Rattle.sq_transition.proofs.Sets.{each-set}
 
 -- nothing is anywhere but at its place
 pub share_none : (o : OpeningValue) (t : Trace) (here : ℕ → Bool) (root : ℕ) → here root ≡ false → share o t here root ≡ None
@@ -27,24 +25,6 @@ share_none o t here root away = ap (λ b. if stands o t root && b then Some (fam
     none : (b : Bool) (f : FamilyValue) → (if b && false then Some f else None) ≡ None
     none true f = refl
     none false f = refl
-
--- the partitions, where one of them is set, and of the others the history says what it said
-pub part_set : (o : OpeningValue) (t after : Trace) (w : WorldValue) (part : ℕ) (value : PartitionValue) → PartitionsHold o t w → part < o.old.parts
-    → ((root : ℕ) → get value.store root ≡ share_at o after part root)
-    → value.waiting ≡ waiting after part
-    → ((p root : ℕ) → part ≢ p → share_at o t p root ≡ share_at o after p root)
-    → ((p : ℕ) → part ≢ p → waiting t p ≡ waiting after p)
-    → PartitionsHold o after (with_part w part value)
-part_set o t after w part value h below stores waits others others_wait =
-    record {
-      count = length-set w.parts part value ∙ h.count;
-      stores = λ p root.
-          each-set w.parts part value no_part (λ q v. q < o.old.parts → get v.store root ≡ share_at o after q root) (omega (arith, h.count))
-          (λ _. stores root) (λ q apart within. h.stores q root within ∙ others q root apart) p;
-      waiting =
-          each-set w.parts part value no_part (λ q v. q < o.old.parts → v.waiting ≡ waiting after q) (omega (arith, h.count))
-          (λ _. waits) (λ q apart within. h.waiting q within ∙ others_wait q apart);
-    }
 
 -- the rows of one root key on the whole table are those of its own transactions
 pub replayed_at : (table : RowTable) (txns : List TxnValue) (root : ℕ) → replay table txns root ≡ replay_rows (table root) (only root txns)
@@ -68,12 +48,16 @@ absent_is o t root e =
     λ i. record { root = root; base = sym no_rows i; log = sym no_log i }
 
 -- the family that a store has of a root key that is at its partition is the history's
-pub family_same : (o : OpeningValue) (t : Trace) (w : WorldValue) (part root : ℕ) → PartsHold o t w → part < o.old.parts → place o t root ≡ At part → family_at (part_at w part).store root ≡ family_of o t root
-family_same o t w part root h there at =
-    ap (λ found. unwrap_or found (absent root)) (h.partitions.stores part root there ∙ ap (λ p. if stands o t root && is_at part p then Some (family_of o t root) else None) at)
+pub family_held : (o : OpeningValue) (t : Trace) (part root : ℕ) (core : CoreValue) → CoreHolds o t part core → place o t root ≡ At part → family_at core.store root ≡ family_of o t root
+family_held o t part root core h at =
+    ap (λ found. unwrap_or found (absent root)) (h.store root ∙ ap (λ p. if stands o t root && is_at part p then Some (family_of o t root) else None) at)
     ∙ ap (λ b. unwrap_or (if stands o t root && b then Some (family_of o t root) else None) (absent root)) (eq-eqb part part refl)
     ∙ here (stands o t root) refl
   where
     here : (b : Bool) → stands o t root ≡ b → unwrap_or (if b && true then Some (family_of o t root) else None) (absent root) ≡ family_of o t root
     here true e = refl
     here false e = absent_is o t root e
+
+-- and so it is in a world
+pub family_same : (o : OpeningValue) (t : Trace) (w : WorldValue) (part root : ℕ) → PartsHold o t w → part < o.old.parts → place o t root ≡ At part → family_at (core_at w part).store root ≡ family_of o t root
+family_same o t w part root h there at = family_held o t part root (core_at w part) (h.partitions.each part there) at

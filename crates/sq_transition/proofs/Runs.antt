@@ -1,6 +1,6 @@
--- A submitted transaction that runs keeps what holds.
-use Rattle.std.proofs.Common.{subst, ⊎_elim, ◌≡◌, ℕ, Bool, true, false, List, [], ◌∷◌, ◌++◌, refl, sym, ap, ◌∙◌, length, append-nil, eq-eqb}
-use Rattle.std.specs.Prelude.{◌<◌, ◌≢◌, ◌==◌, ◌&&◌, ◌||◌, if◌then◌else◌, not, nat_le, Some, None, slice_get}
+-- A transaction that runs at the partition that has its family keeps what holds.
+use Rattle.std.proofs.Common.{subst, ⊎_elim, ◌≡◌, ℕ, Bool, true, false, List, [], ◌∷◌, ◌++◌, refl, sym, ap, ◌∙◌, arith, length, append-nil, eq-eqb}
+use Rattle.std.specs.Prelude.{◌<◌, ◌≢◌, ◌==◌, ◌&&◌, ◌||◌, if◌then◌else◌, not, nat_le, Option, Some, None, slice_get}
 use Rattle.std.specs.List.{list_any}
 use Rattle.std.specs.Cmp.{unsigned_tied, nat_cmp_total}
 use Rattle.std.specs.FinMap.{get, get-insert}
@@ -16,29 +16,61 @@ use Rattle.sq_schema.specs.Family.{FamilyValue, rows_of}
 use Rattle.sq_chunk.specs.ChunkValue.{ChunkValue, covers}
 use Rattle.sq_store.specs.StoreValue.{family_at, with_txn, store_reply, store_after}
 use Rattle.sq_ranges.specs.OpeningValue.{OpeningValue}
-use Rattle.sq_model.specs.declared.step.Step.TheVariants.{Submit}
-use Rattle.sq_model.specs.declared.answer.Answer.TheVariants.{Replied}
-use Rattle.sq_model.specs.declared.answer.Refusal.TheVariants.{LogFull}
+use Rattle.sq_exec.specs.CoreValue.{CoreValue}
+use Rattle.sq_exec.specs.Serving.{is_log_full}
 use Rattle.sq_model.specs.Trace.{Trace, committed}
-use Rattle.sq_model.specs.Tables.{opening_rows, now, stands, family_of}
-use Rattle.sq_model.specs.Place.{At, place}
-use Rattle.sq_model.specs.Answers.{run_answer}
-use Rattle.sq_transition.specs.WorldValue.{WorldValue, LinkStateValue, part_at, with_part}
-use Rattle.sq_transition.specs.SubmitResults.{run_in, run_result}
-use Rattle.sq_transition.specs.Holds.{LinkHolds, share, share_at, is_at, under_way}
+use Rattle.sq_model.specs.Leader.{phase, is_started_phase, is_prepared, is_reported}
+use Rattle.sq_model.specs.Nodes.{status_of}
+use Rattle.sq_model.specs.Tables.{opening_rows, now, is_full}
+use Rattle.sq_model.specs.Place.{At, place, runner, is_coming}
+use Rattle.sq_model.specs.Waiting.{waiting}
+use Rattle.sq_model.proofs.Waiters.{is_on}
+use Rattle.sq_transition.specs.WorldValue.{WorldValue, LinkValue, core_at, with_core, link_value, under_way}
+use Rattle.sq_transition.specs.Holds.{LeaderHolds, SegmentsHold, LinkHolds, ChunkHolds, CoreHolds, share, share_at, is_at}
 use Rattle.sq_transition.proofs.Sets.{by_place}
-use Rattle.sq_transition.proofs.Changed.{PartsHold, partitions_changed, links_changed}
-use Rattle.sq_transition.proofs.Keeps.{Keeps, keeps_if, keeps_refused}
-use Rattle.sq_transition.proofs.Links.{link_kept}
-use Rattle.sq_transition.proofs.Parts.{part_set, share_none, family_same, rows_now}
+use Rattle.sq_transition.proofs.Changed.{PartsHold}
+use Rattle.sq_transition.proofs.Cores.{core_set, link_stays, SayTheSameMoves, set_kept, moves_kept, core_kept}
+use Rattle.sq_transition.proofs.Links.{SaySame, same_ends, links_same}
+use Rattle.sq_transition.proofs.Parts.{share_none, family_same, rows_now}
+use Rattle.sq_transition.proofs.Locations.{RoutingFacts}
 
 -- no chunk under way covers a root key that is at a partition
 abbrev pub IsAway : OpeningValue → Trace → ℕ → ChunkValue → Type 0
 IsAway o t root chunk = covers chunk.note root ≡ false
 
-named_here : (part : ℕ) (txn : TxnValue) (xs : List TxnValue) → list_any (λ x. x.root == txn.root) (xs ++ txn ∷ []) ≡ true
-named_here part txn [] = ap (λ b. b || false) (eq-eqb txn.root txn.root refl)
-named_here part txn (x ∷ xs) = ap (λ b. (x.root == txn.root) || b) (named_here part txn xs) ∙ or-true (x.root == txn.root)
+-- what running rests on: a root key that a partition runs is there, and no chunk under way covers it; and a partition runs a root key that a transaction waits for at it, once the key isn't on its way any more
+pub record RunningFacts (o : OpeningValue) (t : Trace) : Type 0 where
+  pub routing : RoutingFacts o t
+  pub placed : (root part : ℕ) → runner o t root ≡ Some part → place o t root ≡ At part
+  pub away : (root part : ℕ) → runner o t root ≡ Some part → (l : LinkValue) → LinkHolds o t l → (i : ℕ) (chunk : ChunkValue) → slice_get (under_way l) i ≡ Some chunk → IsAway o t root chunk
+  pub resumes : (part root : ℕ) → is_on root (waiting o t part) ≡ true → is_coming o t part root ≡ false → runner o t root ≡ Some part
+
+-- the committed transactions after one with this reply
+abbrev pub committed_with : Reply → TxnValue → List TxnValue → List TxnValue
+committed_with (Committed answers) txn txns = txns ++ txn ∷ []
+committed_with (Aborted at cause) txn txns = txns
+
+-- the share of a part of the table once these transactions committed
+abbrev share_by : OpeningValue → List TxnValue → (ℕ → Bool) → ℕ → Option FamilyValue
+share_by o txns here root =
+    if (not (length (opening_rows o root) == 0) || list_any (λ txn. txn.root == root) txns) && here root
+    then Some (record { root = root; base = opening_rows o root; log = only root txns }) else None
+
+-- a history in which a transaction ran at a partition, with this reply, and which for the rest says the same, but of those that wait at the partition
+pub record SaysRan (o : OpeningValue) (t after : Trace) (part : ℕ) (txn : TxnValue) (given : Reply) : Type 0 where
+  pub committed : committed after ≡ committed_with given txn (committed t)
+  pub waits : (p : ℕ) → part ≢ p → waiting o after p ≡ waiting o t p
+  pub place : (key : ℕ) → place o after key ≡ place o t key
+  pub moves : (p : ℕ) → SayTheSameMoves o t after p
+  pub links : (src dst : ℕ) → SaySame o t after src dst
+  pub phase : phase after ≡ phase t
+  pub prepared : (p : ℕ) → is_prepared after p ≡ is_prepared t p
+  pub reported : (p : ℕ) → is_reported after p ≡ is_reported t p
+  pub statuses : (seg node : ℕ) → status_of after seg node ≡ status_of t seg node
+
+named_here : (txn : TxnValue) (xs : List TxnValue) → list_any (λ x. x.root == txn.root) (xs ++ txn ∷ []) ≡ true
+named_here txn [] = ap (λ b. b || false) (eq-eqb txn.root txn.root refl)
+named_here txn (x ∷ xs) = ap (λ b. (x.root == txn.root) || b) (named_here txn xs) ∙ or-true (x.root == txn.root)
 
 named_other : (root : ℕ) (txn : TxnValue) (xs : List TxnValue) → txn.root ≢ root → list_any (λ x. x.root == root) (xs ++ txn ∷ []) ≡ list_any (λ x. x.root == root) xs
 named_other root txn [] apart = ap (λ b. b || false) (ne_eqb txn.root root apart)
@@ -50,84 +82,119 @@ only_here txn xs = filter-append (λ x. x.root == txn.root) xs (txn ∷ []) ∙ 
 only_other : (root : ℕ) (txn : TxnValue) (xs : List TxnValue) → txn.root ≢ root → only root (xs ++ txn ∷ []) ≡ only root xs
 only_other root txn xs apart = filter-append (λ x. x.root == root) xs (txn ∷ []) ∙ ap (λ b. only root xs ++ (if b then txn ∷ [] else [])) (ne_eqb txn.root root apart) ∙ append-nil (only root xs)
 
--- the history after a transaction committed
-abbrev pub ran : OpeningValue → Trace → ℕ → TxnValue → Reply → Trace
-ran o t part txn given = (Submit part txn, Replied txn.id given) ∷ t
-
 -- each root key but the transaction's is as it was
-share_other : (o : OpeningValue) (t : Trace) (txn : TxnValue) (part : ℕ) (given : Reply) (here : ℕ → Bool) (root : ℕ) → txn.root ≢ root → share o (ran o t part txn given) here root ≡ share o t here root
-share_other o t txn part (Aborted at cause) here root apart = refl
-share_other o t txn part (Committed answers) here root apart =
-    λ i. if (not (length (opening_rows o root) == 0) || named_other root txn (committed t) apart i) && here root
-    then Some (record { root = root; base = opening_rows o root; log = only_other root txn (committed t) apart i }) else None
+share_other : (o : OpeningValue) (txns : List TxnValue) (txn : TxnValue) (given : Reply) (here : ℕ → Bool) (root : ℕ) → txn.root ≢ root → share_by o (committed_with given txn txns) here root ≡ share_by o txns here root
+share_other o txns txn (Aborted at cause) here root apart = refl
+share_other o txns txn (Committed answers) here root apart =
+    λ i. if (not (length (opening_rows o root) == 0) || named_other root txn txns apart i) && here root
+    then Some (record { root = root; base = opening_rows o root; log = only_other root txn txns apart i }) else None
 
--- so is a part of the table that the transaction's isn't in
-share_apart : (o : OpeningValue) (t : Trace) (txn : TxnValue) (part : ℕ) (given : Reply) (here : ℕ → Bool) (root : ℕ) → here txn.root ≡ false → share o t here root ≡ share o (ran o t part txn given) here root
-share_apart o t txn part given here root away = ⊎_elim
-    (λ (same : root ≡ txn.root).
-    let off : here root ≡ false = ap here same ∙ away in
-    share_none o t here root off ∙ sym (share_none o (ran o t part txn given) here root off))
-    (λ (far : root ≢ txn.root). sym (share_other o t txn part given here root (λ e. far (sym e))))
-    (cases_eq root txn.root)
+-- the transaction's is the family that it had, with the transaction at the end of the log
+share_here : (o : OpeningValue) (txns : List TxnValue) (txn : TxnValue) (here : ℕ → Bool) → here txn.root ≡ true
+    → share_by o (txns ++ txn ∷ []) here txn.root ≡ Some (record { root = txn.root; base = opening_rows o txn.root; log = only txn.root txns ++ txn ∷ [] })
+share_here o txns txn here at_home =
+    let stood : (not (length (opening_rows o txn.root) == 0) || list_any (λ x. x.root == txn.root) (txns ++ txn ∷ [])) ≡ true =
+    ap (λ b. not (length (opening_rows o txn.root) == 0) || b) (named_here txn txns) ∙ or-true (not (length (opening_rows o txn.root) == 0)) in
+    λ i. if stood i && at_home i then Some (record { root = txn.root; base = opening_rows o txn.root; log = only_here txn txns i }) else None
 
--- the store after a transaction that committed at its partition
+module _ (o : OpeningValue) (t after : Trace) (part : ℕ) (txn : TxnValue) (given : Reply) (says : SaysRan o t after part txn given) where
+  -- what the history says of a share
+  share_after : (here : ℕ → Bool) (root : ℕ) → share o after here root ≡ share_by o (committed_with given txn (committed t)) here root
+  share_after here root = λ i. share_by o (says.committed i) here root
+
+  -- a part of the table that the transaction's root key isn't in stays
+  share_apart : (here : ℕ → Bool) (root : ℕ) → here txn.root ≡ false → share o after here root ≡ share o t here root
+  share_apart here root away = ⊎_elim
+      (λ (same : root ≡ txn.root).
+      let off : here root ≡ false = ap here same ∙ away in
+      share_none o after here root off ∙ sym (share_none o t here root off))
+      (λ (far : root ≢ txn.root). share_after here root ∙ share_other o (committed t) txn given here root (λ e. far (sym e)))
+      (cases_eq root txn.root)
+
+  -- the share of a partition is by the places that the keys had
+  share_at_after : (p root : ℕ) → share_at o after p root ≡ share o after (λ key. is_at p (place o t key)) root
+  share_at_after p root = λ i. share o after (λ key. is_at p (says.place key i)) root
+
+  -- the partitions at which it didn't run
+  others_keep : (p : ℕ) (core : CoreValue) → place o t txn.root ≡ At part → part ≢ p → CoreHolds o t p core → CoreHolds o after p core
+  others_keep p core placed apart h =
+      core_kept o t after p core h (record {
+        started = ap is_started_phase says.phase;
+        shares = λ root. share_at_after p root ∙ share_apart (λ key. is_at p (place o t key)) root (ap (is_at p) placed ∙ ne_eqb part p apart);
+        waits = says.waits p apart;
+        moves = says.moves p;
+      })
+
+  leader_keeps : (w : WorldValue) → LeaderHolds o t w → LeaderHolds o after w
+  leader_keeps w h = record {
+    phase = h.phase ∙ sym says.phase;
+    prepared = record { count = h.prepared.count; each = λ p below. h.prepared.each p below ∙ sym (says.prepared p) };
+    reported = record { count = h.reported.count; each = λ p below. h.reported.each p below ∙ sym (says.reported p) };
+  }
+
+  segments_keep : (w : WorldValue) → SegmentsHold o t w → SegmentsHold o after w
+  segments_keep w h = record { count = h.count; statuses = λ seg node below. h.statuses seg node below ∙ sym (says.statuses seg node) }
+
+  -- a chunk that doesn't have the root key's family
+  chunk_keeps : (chunk : ChunkValue) → IsAway o t txn.root chunk → ChunkHolds o t chunk → ChunkHolds o after chunk
+  chunk_keeps chunk away h = record { families = λ root. h.families root ∙ sym (share_apart (covers chunk.note) root away); rising = h.rising }
+
+-- the store after a transaction that ran at its partition
 ran_store : (o : OpeningValue) (t : Trace) (w : WorldValue) (part : ℕ) (txn : TxnValue) (given : Reply) (root : ℕ) → PartsHold o t w → part < o.old.parts → place o t txn.root ≡ At part
-    → get (store_after (part_at w part).store txn given) root ≡ share_at o (ran o t part txn given) part root
-ran_store o t w part txn (Aborted at cause) root h there placed = h.partitions.stores part root there
+    → get (store_after (core_at w part).store txn given) root ≡ share_by o (committed_with given txn (committed t)) (λ key. is_at part (place o t key)) root
+ran_store o t w part txn (Aborted at cause) root h there placed = (h.partitions.each part there).store root
 ran_store o t w part txn (Committed answers) root h there placed =
-    let after = ran o t part txn (Committed answers) in
-    let store = (part_at w part).store in
+    let store = (core_at w part).store in
     let new = with_txn (family_at store txn.root) txn in
+    let here : ℕ → Bool = λ key. is_at part (place o t key) in
     get-insert nat_cmp_total store txn.root new root
     ∙ ap (λ b. if b then Some new else get store root) (unsigned_tied root txn.root)
-    ∙ by_place root txn.root (λ b. (if b then Some new else get store root) ≡ share_at o after part root)
+    ∙ by_place root txn.root (λ b. (if b then Some new else get store root) ≡ share_by o (committed t ++ txn ∷ []) here root)
     (λ same.
-    let fam : new ≡ family_of o after txn.root =
-    ap (λ f. with_txn f txn) (family_same o t w part txn.root h there placed) ∙ (λ i. record { root = txn.root; base = opening_rows o txn.root; log = sym (only_here txn (committed t)) i }) in
-    let stood : stands o after txn.root ≡ true =
-    ap (λ b. not (length (opening_rows o txn.root) == 0) || b) (named_here part txn (committed t)) ∙ or-true (not (length (opening_rows o txn.root) == 0)) in
-    let at_home : is_at part (place o t txn.root) ≡ true = ap (is_at part) placed ∙ eq-eqb part part refl in
-    subst (λ r. Some new ≡ share_at o after part r) (sym same)
-    (ap Some fam ∙ sym (λ i. if stood i && at_home i then Some (family_of o after txn.root) else None)))
-    (λ apart. h.partitions.stores part root there ∙ sym (share_other o t txn part (Committed answers) (λ key. is_at part (place o t key)) root (λ e. apart (sym e))))
+    subst (λ r. Some new ≡ share_by o (committed t ++ txn ∷ []) here r) (sym same)
+    (ap (λ f. Some (with_txn f txn)) (family_same o t w part txn.root h there placed)
+    ∙ sym (share_here o (committed t) txn here (ap (is_at part) placed ∙ eq-eqb part part refl))))
+    (λ apart. (h.partitions.each part there).store root ∙ sym (share_other o (committed t) txn (Committed answers) here root (λ e. apart (sym e))))
+
+-- a partition after a transaction ran at it, and these wait
+abbrev pub ran_core : CoreValue → TxnValue → Reply → List TxnValue → CoreValue
+ran_core core txn given waits = record core { store = store_after core.store txn given; waiting = waits }
 
 -- the world after a transaction ran: a chunk under way has no family of its root key, so it stays what it is
-ran_holds : (o : OpeningValue) (t : Trace) (w : WorldValue) (part : ℕ) (txn : TxnValue) (given : Reply) → PartsHold o t w → part < o.old.parts → place o t txn.root ≡ At part
-    → ((l : LinkStateValue) → LinkHolds o t l → (i : ℕ) (chunk : ChunkValue) → slice_get (under_way l) i ≡ Some chunk → IsAway o t txn.root chunk)
-    → PartsHold o (ran o t part txn given) (with_part w part (run_in (part_at w part) txn given))
-ran_holds o t w part txn given h there placed away =
-    let after = ran o t part txn given in
-    links_changed
-    (partitions_changed h (
-    part_set o t after w part (run_in (part_at w part) txn given) h.partitions there
-    (λ root. ran_store o t w part txn given root h there placed)
-    (h.partitions.waiting part there)
-    (λ p root apart. share_apart o t txn part given (λ key. is_at p (place o t key)) root (ap (is_at p) placed ∙ ne_eqb part p apart))
-    (λ p apart. refl)
-    ))
-    (record {
-      each = λ i l at.
-          link_kept o t after l (h.links.each i l at) (record { work = refl; notes = refl; loaded = refl; popped = refl; pushed = refl })
-          (λ j chunk here c. record {
-            families = λ root. c.families root ∙ share_apart o t txn part given (covers chunk.note) root (away l (h.links.each i l at) j chunk here);
-            rising = c.rising;
-          });
-      ends = h.links.ends;
-      one_each = h.links.one_each;
-    })
+pub ran_holds : (o : OpeningValue) (t after : Trace) (w : WorldValue) (part : ℕ) (txn : TxnValue) (given : Reply) (waits : List TxnValue) → SaysRan o t after part txn given → PartsHold o t w → part < o.old.parts → place o t txn.root ≡ At part
+    → ((l : LinkValue) → LinkHolds o t l → (i : ℕ) (chunk : ChunkValue) → slice_get (under_way l) i ≡ Some chunk → IsAway o t txn.root chunk)
+    → waits ≡ waiting o after part
+    → PartsHold o after (with_core w part (ran_core (core_at w part) txn given waits))
+ran_holds o t after w part txn given waits says h there placed away waits_are =
+    let core = ran_core (core_at w part) txn given waits in
+    let was = h.partitions.each part there in
+    let within : part < length w.cores = omega (arith, h.partitions.count, there) in
+    record {
+      plans = h.plans;
+      leader = leader_keeps o t after part txn given says w h.leader;
+      partitions = core_set o t after w part core h.partitions there
+          (record {
+            set = set_kept o t after part core was.set (ap is_started_phase says.phase);
+            store = λ root.
+                ran_store o t w part txn given root h there placed
+                ∙ sym (share_at_after o t after part txn given says part root ∙ share_after o t after part txn given says (λ key. is_at part (place o t key)) root);
+            waiting = waits_are;
+            moves = moves_kept o t after part core was.moves (says.moves part);
+          })
+          (λ p apart _. others_keep o t after part txn given says p (core_at w p) placed apart);
+      segments = segments_keep o t after part txn given says w h.segments;
+      links = links_same o t after w (with_core w part core) h.links (same_ends w (with_core w part core) refl)
+          (λ j _. link_stays w part core j within (λ _. refl) (λ _. refl))
+          says.links
+          (λ j below i chunk at. chunk_keeps o t after part txn given says chunk (away (link_value w j) (h.links.each j below) i chunk at));
+    }
 
 -- what a transaction is answered at its partition is what it is answered on the whole table
-reply_same : (o : OpeningValue) (t : Trace) (w : WorldValue) (part : ℕ) (txn : TxnValue) → PartsHold o t w → part < o.old.parts → place o t txn.root ≡ At part
-    → store_reply (part_at w part).store txn ≡ reply (now o t txn.root) txn
+pub reply_same : (o : OpeningValue) (t : Trace) (w : WorldValue) (part : ℕ) (txn : TxnValue) → PartsHold o t w → part < o.old.parts → place o t txn.root ≡ At part
+    → store_reply (core_at w part).store txn ≡ reply (now o t txn.root) txn
 reply_same o t w part txn h there placed = ap (λ f. reply (rows_of f) txn) (family_same o t w part txn.root h there placed) ∙ ap (λ rows. reply rows txn) (rows_now o t txn.root)
 
-pub run_keeps : (o : OpeningValue) (t : Trace) (w : WorldValue) (part : ℕ) (txn : TxnValue) → PartsHold o t w → part < o.old.parts → place o t txn.root ≡ At part
-    → ((l : LinkStateValue) → LinkHolds o t l → (i : ℕ) (chunk : ChunkValue) → slice_get (under_way l) i ≡ Some chunk → IsAway o t txn.root chunk)
-    → Keeps o t (Submit part txn) (run_result w part txn) (run_answer o t txn)
-run_keeps o t w part txn h there placed away =
-    keeps_if o t (Submit part txn) _ _ _ _ _ _ (ap (λ (f : FamilyValue). nat_le MAX_LOG (length f.log)) (family_same o t w part txn.root h there placed))
-    (λ _. keeps_refused o t w (Submit part txn) LogFull h)
-    (λ _. (
-      ap (Replied txn.id) (reply_same o t w part txn h there placed),
-      ran_holds o t w part txn (store_reply (part_at w part).store txn) h there placed away,
-    ))
+-- the log of its family is as full as the history says
+pub full_same : (o : OpeningValue) (t : Trace) (w : WorldValue) (part : ℕ) (txn : TxnValue) → PartsHold o t w → part < o.old.parts → place o t txn.root ≡ At part
+    → is_log_full (core_at w part).store txn ≡ is_full t txn.root
+full_same o t w part txn h there placed = ap (λ (f : FamilyValue). nat_le MAX_LOG (length f.log)) (family_same o t w part txn.root h there placed)

@@ -1,23 +1,29 @@
 -- What a world is, by its history: each store and each chunk under way is exactly its share of the committed transactions replayed on one unpartitioned table.
 -- Each part of what holds is a type of its fields alone, so that it is the same type after a step that changes nothing that it names.
-use Rattle.std.specs.Prelude.{◌≡◌, ℕ, Bool, true, false, ◌+◌, ◌==◌, ◌&&◌, ◌<◌, ◌≤◌, if◌then◌else◌, List, ◌++◌, map, drop, reverse, length, slice_get, Option, Some, None, is_some}
+use Rattle.std.specs.Prelude.{◌≡◌, ℕ, Bool, true, false, ◌+◌, ◌==◌, ◌&&◌, ◌<◌, ◌≤◌, if◌then◌else◌, List, map, drop, reverse, length, slice_get, Option, Some, None, is_some}
+use Rattle.std.specs.List.{list_any}
 use Rattle.std.specs.FinMap.{get}
 use Rattle.sq_schema.specs.Family.{FamilyValue}
-use Rattle.sq_tree.specs.declared.node.TheConstants.{NODES}
-use Rattle.sq_tree.specs.Node.{is_node}
+use Rattle.sq_tree.specs.declared.node.TheConstants.{LEAVES}
+use Rattle.sq_tree.specs.Node.{is_above}
 use Rattle.sq_chunk.specs.declared.chunk.Note.{Note}
 use Rattle.sq_chunk.specs.ChunkValue.{ChunkValue, covers, are_within}
 use Rattle.sq_store.specs.StoreValue.{family_in}
+use Rattle.sq_ranges.specs.declared.recon.Range.{Range}
 use Rattle.sq_ranges.specs.ReconValue.{is_link}
 use Rattle.sq_ranges.specs.OpeningValue.{OpeningValue}
 use Rattle.sq_model.specs.Trace.{Trace, notes, loads, link, push_count, pop_count, load_count}
-use Rattle.sq_model.specs.Leader.{phase, is_prepared, is_reported}
-use Rattle.sq_model.specs.Nodes.{Item, status_of}
+use Rattle.sq_exec.specs.GivenUp.{is_given_up}
+use Rattle.sq_exec.specs.Runs.{is_loaded, is_whole}
+use Rattle.sq_exec.specs.Work.{WorkValue}
+use Rattle.sq_exec.specs.CoreValue.{CoreValue, given_up_at, loaded_at}
+use Rattle.sq_model.specs.Leader.{phase, is_started, is_prepared, is_reported}
+use Rattle.sq_model.specs.Nodes.{Item, status_of, items}
 use Rattle.sq_model.specs.Tables.{stands, family_of}
 use Rattle.sq_model.specs.Place.{Place, At, Under_way, place, extent_of}
 use Rattle.sq_model.specs.Links.{reached, has_last, open_items}
 use Rattle.sq_model.specs.Waiting.{waiting}
-use Rattle.sq_transition.specs.WorldValue.{WorldValue, LinkStateValue, WorkValue, part_at, segment_state, status_in, progress_in, link_index, option_list}
+use Rattle.sq_transition.specs.WorldValue.{WorldValue, LinkValue, core_at, status_in, link_index, queue_at, link_value, option_list, under_way}
 use Rattle.sq_transition.specs.LeaderResults.{flag_at}
 
 abbrev pub is_at : ℕ → Place → Bool
@@ -40,10 +46,6 @@ ChunkHolds o t chunk =
       rising : are_within chunk.note.lo chunk.note.hi chunk.families ≡ true;
     }
 
--- the chunks of a link that were cut and not loaded, the oldest first
-abbrev pub under_way : LinkStateValue → List ChunkValue
-under_way link = option_list link.inbox ++ (link.queue ++ option_list link.outbox)
-
 -- what these notes leave of a begun node
 abbrev pub work_of : OpeningValue → List Note → Item → WorkValue
 work_of o notes item =
@@ -56,16 +58,15 @@ work_of o notes item =
     }
 
 -- a link has the notes and the open nodes that the history says, and holds the chunks that were cut and aren't loaded
-abbrev pub LinkHolds : OpeningValue → Trace → LinkStateValue → Type 0
+abbrev pub LinkHolds : OpeningValue → Trace → LinkValue → Type 0
 LinkHolds o t link_now =
     record {
-      work : link_now.work ≡ map (work_of o (notes t)) (open_items o t link_now.src link_now.dst);
-      notes : reverse link_now.notes ≡ link link_now.src link_now.dst (notes t);
-      loaded : link_now.loaded ≡ load_count t link_now.src link_now.dst;
-      few_loaded : link_now.loaded ≤ length link_now.notes;
-      popped : pop_count t link_now.src link_now.dst ≡ link_now.loaded + length (option_list link_now.inbox);
+      work : link_now.out.work ≡ map (work_of o (notes t)) (open_items o t link_now.src link_now.dst);
+      notes : reverse link_now.out.notes ≡ link link_now.src link_now.dst (notes t);
+      few_loaded : load_count t link_now.src link_now.dst ≤ length link_now.out.notes;
+      popped : pop_count t link_now.src link_now.dst ≡ load_count t link_now.src link_now.dst + length (option_list link_now.inbox);
       pushed : push_count t link_now.src link_now.dst ≡ pop_count t link_now.src link_now.dst + length link_now.queue;
-      way : map (λ chunk. chunk.note) (under_way link_now) ≡ drop link_now.loaded link_now.notes;
+      way : map (λ chunk. chunk.note) (under_way link_now) ≡ drop (load_count t link_now.src link_now.dst) link_now.out.notes;
       chunks : (i : ℕ) (chunk : ChunkValue) → slice_get (under_way link_now) i ≡ Some chunk → ChunkHolds o t chunk;
     }
 
@@ -96,32 +97,79 @@ LeaderHolds o t w =
       reported : FlagsHold o (is_reported t) w.reported;
     }
 
--- each partition has its share of the table, and those wait at it that the history says
+-- a begun node of the segment covers the leaf
+abbrev pub is_leaf_begun : Trace → ℕ → ℕ → Bool
+is_leaf_begun t seg leaf = list_any (λ item. (item.seg == seg) && is_above item.node leaf) (items t)
+
+-- a chunk of the segment was loaded that covers the root key
+abbrev pub is_key_loaded : Trace → ℕ → ℕ → Bool
+is_key_loaded t seg root = list_any (λ note. (note.seg == seg) && covers note root) (loads t)
+
+-- the segment leaves the partition
+abbrev pub leaves_from : OpeningValue → ℕ → ℕ → Type 0
+leaves_from o part seg = (range : Range) × (slice_get o.recon.segments seg ≡ Some range) × (range.src ≡ part)
+
+-- the segment comes to the partition
+abbrev pub comes_into : OpeningValue → ℕ → ℕ → Type 0
+comes_into o part seg = (range : Range) × (slice_get o.recon.segments seg ≡ Some range) × (range.dst ≡ part)
+
+-- a partition knows who it is, what moves and whether the move was started, and has a place for each partition and each segment
+abbrev pub IsSetFor : OpeningValue → Trace → ℕ → CoreValue → Type 0
+IsSetFor o t part core =
+    record {
+      part : core.part ≡ part;
+      plan : core.plan ≡ o.old;
+      recon : core.recon ≡ o.recon;
+      limit : core.limit ≡ o.config.limit;
+      started : core.started ≡ is_started t;
+      outs : length core.outs ≡ o.old.parts;
+      inboxes : length core.inboxes ≡ o.old.parts;
+      given_up : length core.given_up ≡ length o.recon.segments;
+      loaded : length core.loaded ≡ length o.recon.segments;
+    }
+
+-- a partition gave up the leaves that begun nodes cover, and loaded the root keys that the loaded chunks cover
+abbrev pub MovesHold : OpeningValue → Trace → ℕ → CoreValue → Type 0
+MovesHold o t part core =
+    record {
+      given_up : (seg leaf : ℕ) → leaves_from o part seg → leaf < LEAVES → is_given_up (given_up_at core seg) leaf ≡ is_leaf_begun t seg leaf;
+      loaded : (seg root : ℕ) → comes_into o part seg → is_loaded (loaded_at core seg) root ≡ is_key_loaded t seg root;
+      whole : (seg node : ℕ) → comes_into o part seg → is_whole (loaded_at core seg) node ≡ has_last seg node (loads t);
+    }
+
+-- a partition has its share of the table, those wait at it that the history says, and it gave up and loaded what the history says
+abbrev pub CoreHolds : OpeningValue → Trace → ℕ → CoreValue → Type 0
+CoreHolds o t part core =
+    record {
+      set : IsSetFor o t part core;
+      store : (root : ℕ) → get core.store root ≡ share_at o t part root;
+      waiting : core.waiting ≡ waiting o t part;
+      moves : MovesHold o t part core;
+    }
+
+-- there is each partition, and what the history says of it holds
 abbrev pub PartitionsHold : OpeningValue → Trace → WorldValue → Type 0
 PartitionsHold o t w =
     record {
-      count : length w.parts ≡ o.old.parts;
-      stores : (part root : ℕ) → part < o.old.parts → get (part_at w part).store root ≡ share_at o t part root;
-      waiting : (part : ℕ) → part < o.old.parts → (part_at w part).waiting ≡ waiting t part;
+      count : length w.cores ≡ o.old.parts;
+      each : (part : ℕ) → part < o.old.parts → CoreHolds o t part (core_at w part);
     }
 
--- each node has the status that the history says, and is loaded as far
+-- each node has the status that the history says
 abbrev pub SegmentsHold : OpeningValue → Trace → WorldValue → Type 0
 SegmentsHold o t w =
     record {
-      count : length w.segments ≡ length o.recon.segments;
+      count : length w.trees ≡ length o.recon.segments;
       statuses : (seg node : ℕ) → seg < length o.recon.segments → status_in w seg node ≡ status_of t seg node;
-      nodes : (seg : ℕ) → seg < length o.recon.segments → length (segment_state w seg).progress ≡ NODES;
-      progress : (seg node : ℕ) → seg < length o.recon.segments → is_node node ≡ true → progress_in w seg node ≡ record { upto = reached o seg node (loads t); whole = has_last seg node (loads t) };
     }
 
 -- there is one link from a partition to another where a range moves, and no other
 abbrev pub LinksHold : OpeningValue → Trace → WorldValue → Type 0
 LinksHold o t w =
     record {
-      each : (i : ℕ) (link_now : LinkStateValue) → slice_get w.links i ≡ Some link_now → LinkHolds o t link_now;
+      each : (i : ℕ) → i < length w.queues → LinkHolds o t (link_value w i);
       ends : (src dst : ℕ) → is_some (link_index w src dst) ≡ is_link o.recon.ranges src dst;
-      one_each : (i j : ℕ) (one other : LinkStateValue) → slice_get w.links i ≡ Some one → slice_get w.links j ≡ Some other → one.src ≡ other.src → one.dst ≡ other.dst → i ≡ j;
+      one_each : (i j : ℕ) → i < length w.queues → j < length w.queues → (queue_at w i).src ≡ (queue_at w j).src → (queue_at w i).dst ≡ (queue_at w j).dst → i ≡ j;
     }
 
 -- the world is the one that the trace leads to

@@ -1,7 +1,8 @@
 -- What the leader's steps do to a world: Prepare, Start, Report and Finish.
-use Rattle.std.specs.Prelude.{ℕ, Bool, true, false, ◌||◌, not, nat_le, if◌then◌else◌, List, length, slice_set, slice_index_or}
+use Rattle.std.specs.Prelude.{ℕ, Bool, true, false, ◌||◌, not, nat_le, if◌then◌else◌, List, length, map, slice_set, slice_index_or}
 use Rattle.std.specs.List.{list_any, list_all, range_with_len}
 use Rattle.sq_tree.specs.Status.{reading}
+use Rattle.sq_exec.specs.CoreValue.{CoreValue}
 use Rattle.sq_model.specs.declared.step.Phase.TheVariants.{Preparing, Moving, Ended}
 use Rattle.sq_model.specs.declared.answer.Answer.{Answer}
 use Rattle.sq_model.specs.declared.answer.Answer.TheVariants.{Done, Refused}
@@ -35,11 +36,15 @@ prepare_result w part =
     else (Done, record w { phase = Preparing; prepared = slice_set w.prepared part true })
     )
 
+-- a partition to which the start of the move was told
+abbrev pub started_core : CoreValue → CoreValue
+started_core core = record core { started = true }
+
 abbrev pub start_result : WorldValue → StepResult
 start_result w =
     if is_started_phase w.phase then refuse w AlreadyMoving
     else if not (list_all (flag_at w.prepared) (range_with_len 0 w.old.parts)) then refuse w NotPrepared
-    else (Done, record w { phase = Moving })
+    else (Done, record w { phase = Moving; cores = map started_core w.cores })
 
 -- the segment of this number moves into the partition
 abbrev pub is_segment_into : WorldValue → ℕ → ℕ → Bool

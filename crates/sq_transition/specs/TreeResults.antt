@@ -1,16 +1,19 @@
--- What Claim, Begin and Complete do to a world.
-use Rattle.std.specs.Prelude.{ℕ, not, nat_le, if◌then◌else◌, List, [], ◌∷◌, ◌++◌, length, unwrap_or, option_and_then}
+-- What Split, Claim, Begin, Complete and Status do to a world.
+use Rattle.std.specs.Prelude.{ℕ, Bool, not, nat_le, if◌then◌else◌, length}
 use Rattle.sq_tree.specs.declared.status.Status.{Status}
 use Rattle.sq_tree.specs.declared.status.Status.TheVariants as status
 use Rattle.sq_tree.specs.Node.{is_node}
+use Rattle.sq_tree.specs.Status.{reading}
 use Rattle.sq_tree.specs.Tree.{with_status}
-use Rattle.sq_tree.specs.Answer.{claim_answer, begin_answer, complete_answer}
+use Rattle.sq_tree.specs.Answer.{split_answer, claim_answer, begin_answer, complete_answer}
+use Rattle.sq_exec.specs.Runs.{is_whole}
+use Rattle.sq_exec.specs.CoreValue.{loaded_at}
+use Rattle.sq_exec.specs.Moving.{begun_core}
 use Rattle.sq_model.specs.declared.answer.Answer.{Answer}
-use Rattle.sq_model.specs.declared.answer.Answer.TheVariants.{Done}
+use Rattle.sq_model.specs.declared.answer.Answer.TheVariants.{Done, Reads}
 use Rattle.sq_model.specs.declared.answer.Refusal.TheVariants.{NoSuchSegment, NoSuchNode}
-use Rattle.sq_model.specs.Place.{extent_in}
-use Rattle.sq_model.specs.Answers.{claim_answered, begin_answered, complete_answered}
-use Rattle.sq_transition.specs.WorldValue.{WorldValue, LinkStateValue, WorkValue, segment_state, with_segment, status_in, progress_in, link_index, link_value, with_link, range_of}
+use Rattle.sq_model.specs.Answers.{split_answered, claim_answered, begin_answered, complete_answered}
+use Rattle.sq_transition.specs.WorldValue.{WorldValue, core_at, with_core, tree_at, with_tree, status_in, source_of, destination_of}
 use Rattle.sq_transition.specs.LeaderResults.{StepResult, refuse, if_moving}
 
 abbrev pub if_segment : WorldValue → ℕ → StepResult → StepResult
@@ -21,13 +24,18 @@ if_node w node result = if not (is_node node) then refuse w NoSuchNode else resu
 
 -- the world in which a node has this status
 abbrev pub with_node : WorldValue → ℕ → ℕ → Status → WorldValue
-with_node w seg node new =
-    with_segment w seg (record { statuses = with_status (segment_state w seg).statuses node new; progress = (segment_state w seg).progress })
+with_node w seg node new = with_tree w seg (with_status (tree_at w seg) node new)
 
 -- where the step was done the world changes, else it stays
 abbrev pub if_done : Answer → WorldValue → WorldValue → StepResult
 if_done Done old new = (Done, new)
 if_done answer old new = (answer, old)
+
+abbrev pub split_result : WorldValue → ℕ → ℕ → StepResult
+split_result w seg node =
+    if_moving w (if_segment w seg (if_node w node (
+    if_done (split_answered (split_answer (status_in w seg) node)) w (with_node w seg node status.Split)
+    )))
 
 abbrev pub claim_result : WorldValue → ℕ → ℕ → ℕ → StepResult
 claim_result w seg node pull =
@@ -35,32 +43,27 @@ claim_result w seg node pull =
     if_done (claim_answered (claim_answer (status_in w seg) node pull)) w (with_node w seg node (status.Claimed pull))
     )))
 
--- the work on a whole node
-abbrev pub whole_node : WorldValue → ℕ → ℕ → ℕ → WorkValue
-whole_node w seg node pull =
-    let keys = extent_in w.recon.width (range_of w seg) node in
-    record { seg = seg; node = node; pull = pull; rest = keys.lo; hi = keys.hi }
-
-abbrev pub with_work : LinkStateValue → List WorkValue → LinkStateValue
-with_work link work = record link { work = work }
-
--- where the link of a segment stands among the links; each segment has its link there
-abbrev pub segment_link : WorldValue → ℕ → ℕ
-segment_link w seg = unwrap_or (option_and_then (λ range. link_index w range.src range.dst) (range_of w seg)) 0
-
--- the world in which the source has this work, last on the list of its segment's link
-abbrev pub add_work : WorldValue → WorkValue → WorldValue
-add_work w work =
-    let i = segment_link w work.seg in with_link w i (with_work (link_value w i) ((link_value w i).work ++ work ∷ []))
+-- the world in which a node was begun: its source has all of it to cut
+abbrev pub with_begun : WorldValue → ℕ → ℕ → ℕ → WorldValue
+with_begun w seg node pull =
+    let src = source_of w seg in
+    with_core (with_node w seg node (status.Partial pull)) src (begun_core (core_at w src) seg node pull)
 
 abbrev pub begin_result : WorldValue → ℕ → ℕ → ℕ → StepResult
 begin_result w seg node pull =
     if_moving w (if_segment w seg (if_node w node (
-    if_done (begin_answered (begin_answer (status_in w seg) node pull)) w (add_work (with_node w seg node (status.Partial pull)) (whole_node w seg node pull))
+    if_done (begin_answered (begin_answer (status_in w seg) node pull)) w (with_begun w seg node pull)
     )))
+
+-- the last chunk of the node is loaded at its destination
+abbrev pub is_loaded_whole : WorldValue → ℕ → ℕ → Bool
+is_loaded_whole w seg node = is_whole (loaded_at (core_at w (destination_of w seg)) seg) node
 
 abbrev pub complete_result : WorldValue → ℕ → ℕ → ℕ → StepResult
 complete_result w seg node pull =
     if_moving w (if_segment w seg (if_node w node (
-    if_done (complete_answered (progress_in w seg node).whole (complete_answer (status_in w seg) node pull)) w (with_node w seg node (status.Complete pull))
+    if_done (complete_answered (is_loaded_whole w seg node) (complete_answer (status_in w seg) node pull)) w (with_node w seg node (status.Complete pull))
     )))
+
+abbrev pub status_result : WorldValue → ℕ → ℕ → StepResult
+status_result w seg node = if_segment w seg (if_node w node (Reads (status_in w seg node) (reading (status_in w seg) node), w))

@@ -1,52 +1,25 @@
 -- The state of a world, without where it lies in memory.
-use Rattle.std.specs.Prelude.{ℕ, Bool, false, ◌-◌, ◌==◌, ◌&&◌, List, [], ◌∷◌, slice_get, slice_set, slice_index_or, position, Option, Some, None}
+use Rattle.std.specs.Prelude.{ℕ, Bool, false, ◌==◌, ◌&&◌, List, [], slice_get, slice_set, slice_index_or, position, Option, Some, None, ◌∷◌, ◌++◌}
+use Rattle.std.specs.Option.{option_map_or}
 use Rattle.std.specs.FinMap.{empty}
-use Rattle.sq_schema.specs.TxnValue.{TxnValue}
 use Rattle.sq_plan.specs.PlanValue.{PlanValue}
 use Rattle.sq_tree.specs.declared.status.Status.{Status}
 use Rattle.sq_tree.specs.Tree.{status_at}
 use Rattle.sq_ranges.specs.declared.opening.Config.{Config}
 use Rattle.sq_ranges.specs.declared.recon.Range.{Range}
 use Rattle.sq_ranges.specs.ReconValue.{ReconValue}
-use Rattle.sq_chunk.specs.declared.chunk.Note.{Note}
 use Rattle.sq_chunk.specs.ChunkValue.{ChunkValue}
-use Rattle.sq_store.specs.StoreValue.{StoreValue}
+use Rattle.sq_exec.specs.OutLink.{OutLinkValue}
+use Rattle.sq_exec.specs.CoreValue.{CoreValue, out_at, inbox_at}
 use Rattle.sq_model.specs.declared.step.Phase.{Phase}
 
--- a partition: its families, and the transactions that wait at it in the order in which they came
-pub record PartitionValue : Type 0 where
-  pub store : StoreValue
-  pub waiting : List TxnValue
-
--- how far a node was loaded: up to this key, and whether its last chunk was
-pub record ProgressValue : Type 0 where
-  pub upto : ℕ
-  pub whole : Bool
-
--- a segment: the statuses of its nodes from node 1 on, and how far each was loaded
-pub record SegmentValue : Type 0 where
-  pub statuses : List Status
-  pub progress : List ProgressValue
-
--- a begun node that isn't cut to its end: what is left of it is from rest up to hi
-pub record WorkValue : Type 0 where
-  pub seg : ℕ
-  pub node : ℕ
-  pub pull : ℕ
-  pub rest : ℕ
-  pub hi : ℕ
-
--- a link: the notes of all chunks that were cut for it, the open work, and the chunks that are under way; of the notes, the first `loaded` are of chunks that were loaded
-pub record LinkStateValue : Type 0 where
+-- the queue of a link: the chunks that went onto it and didn't come off, the oldest first
+pub record QueueValue : Type 0 where
   pub src : ℕ
   pub dst : ℕ
-  pub notes : List Note
-  pub work : List WorkValue
-  pub outbox : Option ChunkValue
-  pub queue : List ChunkValue
-  pub inbox : Option ChunkValue
-  pub loaded : ℕ
+  pub chunks : List ChunkValue
 
+-- a world: the plans, what moves between them and the sizes; how far the leader is, who prepared and who reported; the partitions, each by itself; for each segment the statuses of its nodes from node 1 on; and the queues between the partitions
 pub record WorldValue : Type 0 where
   pub tables : ℕ
   pub old : PlanValue
@@ -56,57 +29,93 @@ pub record WorldValue : Type 0 where
   pub phase : Phase
   pub prepared : List Bool
   pub reported : List Bool
-  pub parts : List PartitionValue
-  pub segments : List SegmentValue
-  pub links : List LinkStateValue
+  pub cores : List CoreValue
+  pub trees : List (List Status)
+  pub queues : List QueueValue
 
-abbrev pub no_part : PartitionValue
-no_part = record { store = empty; waiting = [] }
+abbrev pub no_core : CoreValue
+no_core = record {
+  part = 0;
+  plan = record { parts = 0; ranges = [] };
+  recon = record { width = 0; ranges = []; segments = [] };
+  limit = 0;
+  started = false;
+  store = empty;
+  waiting = [];
+  outs = [];
+  inboxes = [];
+  given_up = [];
+  loaded = [];
+}
 
-abbrev pub part_at : WorldValue → ℕ → PartitionValue
-part_at w part = slice_index_or w.parts part no_part
+-- a partition
+abbrev pub core_at : WorldValue → ℕ → CoreValue
+core_at w part = slice_index_or w.cores part no_core
 
-abbrev pub with_part : WorldValue → ℕ → PartitionValue → WorldValue
-with_part w part value = record w { parts = slice_set w.parts part value }
+abbrev pub with_core : WorldValue → ℕ → CoreValue → WorldValue
+with_core w part core = record w { cores = slice_set w.cores part core }
 
-abbrev pub no_segment : SegmentValue
-no_segment = record { statuses = []; progress = [] }
+-- the statuses of the nodes of a segment
+abbrev pub tree_at : WorldValue → ℕ → List Status
+tree_at w seg = slice_index_or w.trees seg []
 
-abbrev pub segment_state : WorldValue → ℕ → SegmentValue
-segment_state w seg = slice_index_or w.segments seg no_segment
-
-abbrev pub with_segment : WorldValue → ℕ → SegmentValue → WorldValue
-with_segment w seg value = record w { segments = slice_set w.segments seg value }
+abbrev pub with_tree : WorldValue → ℕ → List Status → WorldValue
+with_tree w seg tree = record w { trees = slice_set w.trees seg tree }
 
 -- the status of a node of a segment
 abbrev pub status_in : WorldValue → ℕ → ℕ → Status
-status_in w seg node = status_at (segment_state w seg).statuses node
+status_in w seg node = status_at (tree_at w seg) node
 
-abbrev pub no_progress : ProgressValue
-no_progress = record { upto = 0; whole = false }
-
--- how far a node of a segment was loaded
-abbrev pub progress_in : WorldValue → ℕ → ℕ → ProgressValue
-progress_in w seg node = slice_index_or (segment_state w seg).progress (node - 1) no_progress
-
--- where the link from the one partition to the other stands among the links
+-- where the queue from the one partition to the other stands among the queues
 abbrev pub link_index : WorldValue → ℕ → ℕ → Option ℕ
-link_index w src dst = position (λ link. (link.src == src) && (link.dst == dst)) w.links
+link_index w src dst = position (λ queue. (queue.src == src) && (queue.dst == dst)) w.queues
 
-abbrev pub no_link : LinkStateValue
-no_link = record { src = 0; dst = 0; notes = []; work = []; outbox = None; queue = []; inbox = None; loaded = 0 }
+abbrev pub no_queue : QueueValue
+no_queue = record { src = 0; dst = 0; chunks = [] }
 
-abbrev pub link_value : WorldValue → ℕ → LinkStateValue
-link_value w i = slice_index_or w.links i no_link
+abbrev pub queue_at : WorldValue → ℕ → QueueValue
+queue_at w i = slice_index_or w.queues i no_queue
 
-abbrev pub with_link : WorldValue → ℕ → LinkStateValue → WorldValue
-with_link w i value = record w { links = slice_set w.links i value }
+-- the world in which this queue holds these chunks
+abbrev pub with_queue : WorldValue → ℕ → List ChunkValue → WorldValue
+with_queue w i chunks = record w { queues = slice_set w.queues i (record (queue_at w i) { chunks = chunks }) }
 
 -- the range of a segment
 abbrev pub range_of : WorldValue → ℕ → Option Range
 range_of w seg = slice_get w.recon.segments seg
 
+-- the partition that a segment leaves, and the one that it comes to
+abbrev pub source_of : WorldValue → ℕ → ℕ
+source_of w seg = option_map_or (λ range. range.src) (range_of w seg) 0
+
+abbrev pub destination_of : WorldValue → ℕ → ℕ
+destination_of w seg = option_map_or (λ range. range.dst) (range_of w seg) 0
+
+-- a link as a whole: the source's end of it, the queue, and the chunk that came and isn't loaded
+pub record LinkValue : Type 0 where
+  pub src : ℕ
+  pub dst : ℕ
+  pub out : OutLinkValue
+  pub queue : List ChunkValue
+  pub inbox : Option ChunkValue
+
+-- the link whose queue stands at this place, with its ends at the partitions
+abbrev pub link_value : WorldValue → ℕ → LinkValue
+link_value w i =
+    let queue = queue_at w i in
+    record {
+      src = queue.src;
+      dst = queue.dst;
+      out = out_at (core_at w queue.src) queue.dst;
+      queue = queue.chunks;
+      inbox = inbox_at (core_at w queue.dst) queue.src;
+    }
+
 -- a chunk as a list, which is empty where there is none
 abbrev pub option_list : Option ChunkValue → List ChunkValue
 option_list None = []
 option_list (Some chunk) = chunk ∷ []
+
+-- the chunks of a link that were cut and not loaded, the oldest first
+abbrev pub under_way : LinkValue → List ChunkValue
+under_way link = option_list link.inbox ++ (link.queue ++ option_list link.out.outbox)

@@ -3,8 +3,9 @@ use Rattle.std.proofs.Common.{◌≡◌, ℕ, Bool, true, false, not, ◌==◌, 
 use Rattle.std.proofs.lemmas.Bool.{eqb-true}
 use Rattle.sq_tree.specs.declared.status.Status.{Status}
 use Rattle.sq_tree.specs.declared.status.Status.TheVariants.{Free, Claimed, Partial}
+use Rattle.sq_tree.specs.Node.{is_leaf}
 use Rattle.sq_tree.specs.Status.{is_free, is_claimed, is_partial, is_live, pull_of}
-use Rattle.sq_tree.specs.Answer.{claim_answer, begin_answer, complete_answer}
+use Rattle.sq_tree.specs.Answer.{split_answer, claim_answer, begin_answer, complete_answer}
 use Rattle.sq_tree.proofs.Statuses.{free_is, claimed_is, partial_is}
 
 -- done, so this refusal had no cause, and what comes after it is done
@@ -15,6 +16,19 @@ past false fault rest e = (refl, e)
 holds : (b : Bool) → not b ≡ false → b ≡ true
 holds true e = refl
 holds false e = absurd cc
+
+-- a node was split
+pub record SplitWent (status : ℕ → Status) (n : ℕ) : Type 0 where
+  pub inner : is_leaf n ≡ false
+  pub live : is_live status n ≡ true
+  pub free : status n ≡ Free
+
+pub split_went : (status : ℕ → Status) (n : ℕ) → split_answer status n ≡ Ok tt → SplitWent status n
+split_went status n went =
+    let a = past _ _ _ went in
+    let b = past _ _ _ a.1 in
+    let c = past _ _ _ b.1 in
+    record { inner = a.0; live = holds (is_live status n) b.0; free = free_is (status n) (holds (is_free (status n)) c.0) }
 
 -- a node was claimed
 pub record ClaimWent (status : ℕ → Status) (n : ℕ) : Type 0 where

@@ -3,5 +3,6 @@ pub mod Reaches
 pub mod Runs
 pub mod Scripts
 pub mod Sound
+pub mod Stores
 pub mod Taken
 pub mod Ways

@@ -1,39 +1,34 @@
 -- A world that its history tells is sound.
-use Rattle.std.proofs.Common.{subst, ◌≡◌, ℕ, Bool, true, false, refl, sym, ap, ◌∙◌, arith, true≢false, length}
-use Rattle.std.specs.Prelude.{◌<◌, ◌≤◌, ◌==◌, ◌&&◌, ◌++◌, if◌then◌else◌, slice_get, Option, Some, None, is_some, map}
+use Rattle.std.proofs.Common.{subst, ◌≡◌, ℕ, Bool, true, false, refl, sym, ap, ◌∙◌, arith, length}
+use Rattle.std.specs.Prelude.{◌<◌, ◌≤◌, ◌==◌, ◌&&◌, ◌++◌, slice_get, Option, Some}
 use Rattle.std.proofs.lemmas.Bool.{eq-eqb, eqb-true, and_parts, and_from}
 use Rattle.std.proofs.lemmas.List.Elements.{All-contains}
-use Rattle.sq_schema.specs.Family.{FamilyValue}
+use Rattle.std.proofs.lemmas.Option.{slice_get_within, get_or_from_slice_get}
+use Rattle.sq_schema.specs.TxnValue.{TxnValue}
 use Rattle.sq_plan.proofs.Owners.{owner_exists}
 use Rattle.sq_ranges.specs.declared.recon.Range.{Range}
 use Rattle.sq_ranges.specs.Moves.{IsMovingRun}
 use Rattle.sq_ranges.specs.ReconValue.{is_link}
 use Rattle.sq_ranges.specs.declared.opening.TheConstants.{MAX_CAPACITY}
 use Rattle.sq_ranges.specs.OpeningValue.{OpeningValue}
-use Rattle.sq_chunk.specs.ChunkValue.{ChunkValue, covers}
-use Rattle.sq_store.specs.StoreValue.{has_none_of}
 use Rattle.sq_ranges.specs.Opening.{IsOpening}
-use Rattle.sq_model.specs.Trace.{Trace, notes}
-use Rattle.sq_model.specs.Tables.{stands, family_of}
-use Rattle.sq_model.specs.Place.{Under_way, place, moves}
-use Rattle.sq_model.specs.Links.{open_items}
+use Rattle.sq_chunk.specs.ChunkValue.{ChunkValue}
+use Rattle.sq_exec.specs.CoreValue.{inbox_at}
+use Rattle.sq_exec.specs.Location.{location, is_coming, route}
+use Rattle.sq_exec.specs.Moving.{can_load}
+use Rattle.sq_model.specs.Trace.{Trace}
 use Rattle.sq_model.specs.Legal.{IsLegal}
-use Rattle.sq_model.proofs.Lists.{any_in, map_in, Contains-slice_get}
-use Rattle.sq_model.proofs.Keys.{linked}
-use Rattle.sq_model.proofs.Notes.{tiles_notes}
-use Rattle.sq_model.proofs.Tiles.{reached_within}
-use Rattle.sq_model.proofs.Waiters.{is_on, waits-moves}
-use Rattle.sq_transition.specs.WorldValue.{WorldValue, LinkStateValue, WorkValue, part_at, option_list}
-use Rattle.sq_transition.specs.SubmitResults.{LocationValue, location}
-use Rattle.sq_transition.specs.Holds.{Holds, LinkHolds, ChunkHolds, is_at, work_of}
-use Rattle.sq_store.proofs.Given.{has_none_of-from_each}
-use Rattle.sq_transition.proofs.Parts.{share_none}
-use Rattle.sq_transition.proofs.Changed.{parts_hold}
-use Rattle.sq_transition.proofs.Locations.{LocationHolds, location_holds}
+use Rattle.sq_model.proofs.Lists.{any_in, Contains-slice_get, list_any-Contains}
+use Rattle.sq_model.proofs.Keys.{ends_below}
+use Rattle.sq_model.proofs.Waiters.{is_on, waits_for, waits-runner}
+use Rattle.sq_transition.specs.WorldValue.{WorldValue, QueueValue, no_queue, core_at, queue_at, link_value, option_list, range_of}
+use Rattle.sq_transition.specs.Holds.{Holds}
+use Rattle.sq_transition.proofs.Locations.{runs_at, location_holds, comes_same, runs_same}
 use Rattle.sq_transition.proofs.Loads.{next_note_of}
+use Rattle.sq_transition.proofs.Loadable.{loadable}
 use Rattle.sq_transition.proofs.Facts.{step_facts}
 use Rattle.sq_state.proofs.Found.{found_at}
-use Rattle.sq_state.specs.Sound.{CanLoad, IsSoundLink, IsSound}
+use Rattle.sq_state.specs.Sound.{IsSoundCore, IsSoundLink, IsSound}
 
 module _ (o : OpeningValue) (t : Trace) (w : WorldValue) (is : IsOpening o) (legal : IsLegal o t) (h : Holds o t w) where
   link_below : (src dst : ℕ) → is_link o.recon.ranges src dst ≡ true → (src < o.old.parts) × (dst < o.old.parts)
@@ -49,66 +44,67 @@ module _ (o : OpeningValue) (t : Trace) (w : WorldValue) (is : IsOpening o) (leg
       let same = is.parts in
       (omega (arith, owned.0, source, is_src), omega (arith, owned.1, destination, is_dst, same))
 
-  rests_upto : (l : LinkStateValue) → LinkHolds o t l → (i : ℕ) (work : WorkValue) → slice_get l.work i ≡ Some work → work.rest ≤ work.hi
-  rests_upto l lh i work at =
-      let has = Contains-slice_get (map (work_of o (notes t)) (open_items o t l.src l.dst)) i work (ap (λ works. slice_get works i) (sym lh.work) ∙ at) in
-      let item = map_in (work_of o (notes t)) (open_items o t l.src l.dst) work has in
-      let within = (reached_within o (notes t) (tiles_notes o t legal) item.0.seg item.0.node).upto in
-      let rest = ap (λ (work : WorkValue). work.rest) item.2 in
-      let hi = ap (λ (work : WorkValue). work.hi) item.2 in
-      omega (arith, within, rest, hi)
+  -- a transaction that waits runs at its partition once its rows came
+  runs_here : (part : ℕ) → part < o.old.parts → (place : ℕ) (txn : TxnValue) → slice_get (core_at w part).waiting place ≡ Some txn → is_coming (core_at w part) txn.root ≡ false → route (core_at w part) txn.root ≡ part
+  runs_here part below place txn there come =
+      let core = core_at w part in
+      let holds = h.partitions.each part below in
+      let facts = (step_facts o t is legal).runs.routing in
+      let found = location_holds o t part txn.root core facts holds in
+      let waits : is_on txn.root core.waiting ≡ true =
+      list_any-Contains (λ (other : TxnValue). other.root == txn.root) core.waiting txn (Contains-slice_get core.waiting place txn there) (eq-eqb txn.root txn.root refl) in
+      let waits_by = waits_for o t legal part txn.root (ap (is_on txn.root) (sym holds.waiting) ∙ waits) in
+      let runner = waits-runner o t part txn.root waits_by (sym (comes_same o t part txn.root core (location core txn.root) holds found) ∙ come) in
+      let here = runs_same o t part txn.root core (location core txn.root) facts holds found ∙ ap (runs_at part) runner ∙ eq-eqb part part refl in
+      eqb-true (route core txn.root) core.part here ∙ holds.set.part
 
-  -- a root key of a chunk that comes stands nowhere
-  stands_away : (dst : ℕ) (chunk : ChunkValue) → dst < o.old.parts → ChunkHolds o t chunk → ((root : ℕ) → covers chunk.note root ≡ true → place o t root ≡ Under_way chunk.note)
-      → has_none_of (part_at w dst).store chunk.families ≡ true
-  stands_away dst chunk below holds away =
-      has_none_of-from_each (part_at w dst).store chunk.families (λ root there.
-      let covered : covers chunk.note root ≡ true = of_share (stands o t root) (covers chunk.note root) (family_of o t root) (sym (ap is_some (holds.families root)) ∙ there) in
-      h.partitions.stores dst root below ∙ share_none o t (λ key. is_at dst (place o t key)) root (ap (is_at dst) (away root covered)))
-    where
-      of_share : (a b : Bool) (f : FamilyValue) → is_some (if a && b then Some f else None) ≡ true → b ≡ true
-      of_share true true f e = refl
-      of_share true false f e = absurd (true≢false (sym e))
-      of_share false b f e = absurd (true≢false (sym e))
+  sound_core : (part : ℕ) → part < o.old.parts → IsSoundCore w part
+  sound_core part below =
+      let set = (h.partitions.each part below).set in
+      record {
+        number = set.part;
+        plan = set.plan ∙ sym h.plans.old;
+        recon = set.recon ∙ sym h.plans.recon;
+        runs = runs_here part below;
+      }
 
-  can_load : (l : LinkStateValue) (chunk : ChunkValue) → LinkHolds o t l → l.inbox ≡ Some chunk → CanLoad w l.dst chunk
-  can_load l chunk lh full =
+  -- a queue goes from one partition to another
+  queue_below : (i : ℕ) (queue : QueueValue) → slice_get w.queues i ≡ Some queue → (queue.src < o.old.parts) × (queue.dst < o.old.parts)
+  queue_below i queue at =
+      link_below queue.src queue.dst (sym (h.links.ends queue.src queue.dst)
+      ∙ found_at (λ (other : QueueValue). (other.src == queue.src) && (other.dst == queue.dst)) w.queues i queue at (and_from (queue.src == queue.src) (queue.dst == queue.dst) (eq-eqb queue.src queue.src refl) (eq-eqb queue.dst queue.dst refl)))
+
+  loads_at : (i : ℕ) → i < length w.queues → (queue_at w i).dst < o.old.parts → (chunk : ChunkValue) → (link_value w i).inbox ≡ Some chunk → can_load (core_at w (queue_at w i).dst) (queue_at w i).src chunk ≡ true
+  loads_at i within below chunk full =
+      let l = link_value w i in
+      let holds = h.links.each i within in
       let facts = (step_facts o t is legal).loads in
-      let holds = lh.chunks 0 chunk (ap (λ box. slice_get (option_list box ++ (l.queue ++ option_list l.outbox)) 0) full) in
-      let next = facts.next l.src l.dst _ chunk.note (next_note_of o t l chunk lh (facts.prefix l.src l.dst) full) in
-      record {
-        segment = subst (λ r. chunk.note.seg < length r.segments) (sym h.plans.recon) next.segment;
-        rising = holds.rising;
-        apart = stands_away l.dst chunk next.below holds next.away;
-      }
+      loadable o t w is legal h l.src l.dst chunk below
+      (record { front = _; notes_are = next_note_of o t l chunk holds (facts.prefix l.src l.dst) full })
+      (holds.chunks 0 chunk (ap (λ box. slice_get (option_list box ++ (l.queue ++ option_list l.out.outbox)) 0) full))
 
-  sound_link : (i : ℕ) (l : LinkStateValue) → slice_get w.links i ≡ Some l → IsSoundLink w l
-  sound_link i l at =
-      let lh = h.links.each i l at in
-      let below = link_below l.src l.dst (sym (h.links.ends l.src l.dst) ∙ found_at (λ (link : LinkStateValue). (link.src == l.src) && (link.dst == l.dst)) w.links i l at (and_from (l.src == l.src) (l.dst == l.dst) (eq-eqb l.src l.src refl) (eq-eqb l.dst l.dst refl))) in
+  sound_link : (i : ℕ) (queue : QueueValue) → slice_get w.queues i ≡ Some queue → IsSoundLink w queue
+  sound_link i queue at =
+      let below = queue_below i queue at in
+      let here : queue_at w i ≡ queue = get_or_from_slice_get w.queues i queue no_queue at in
       record {
-        source = subst (λ p. l.src < p.parts) (sym h.plans.old) below.0;
-        destination = subst (λ p. l.dst < p.parts) (sym h.plans.old) below.1;
-        rests = rests_upto l lh;
-        loads = λ chunk full. can_load l chunk lh full;
+        source = subst (λ p. queue.src < p.parts) (sym h.plans.old) below.0;
+        destination = subst (λ p. queue.dst < p.parts) (sym h.plans.old) below.1;
+        loads =
+            subst (λ (q : QueueValue). (chunk : ChunkValue) → inbox_at (core_at w q.dst) q.src ≡ Some chunk → can_load (core_at w q.dst) q.src chunk ≡ true) here
+            (loads_at i (slice_get_within w.queues i queue at) (subst (λ (q : QueueValue). q.dst < o.old.parts) (sym here) below.1));
       }
-
-  -- a root key that moves has a location
-  located : (root : ℕ) (found : Option LocationValue) → LocationHolds o t root found → moves o root ≡ true → is_some found ≡ true
-  located root None holds moving = absurd (true≢false (sym moving ∙ holds.moving))
-  located root (Some at) holds moving = refl
 
   pub sound : IsSound w
   sound = record {
     prepared = h.leader.prepared.count ∙ ap (λ p. p.parts) (sym h.plans.old);
     reported = h.leader.reported.count ∙ ap (λ p. p.parts) (sym h.plans.old);
-    parts = h.partitions.count ∙ ap (λ p. p.parts) (sym h.plans.old);
-    segments = h.segments.count ∙ ap (λ r. length r.segments) (sym h.plans.recon);
+    cores = h.partitions.count ∙ ap (λ p. p.parts) (sym h.plans.old);
+    trees = h.segments.count ∙ ap (λ r. length r.segments) (sym h.plans.recon);
     capacity = subst (λ c. c.capacity ≤ MAX_CAPACITY) (sym h.plans.config) is.small_capacity;
+    ends = λ seg range there.
+        let below = ends_below o is seg range ((λ i. slice_get (sym h.plans.recon i).segments seg) ∙ there) in
+        (subst (λ p. range.src < p.parts) (sym h.plans.old) below.0, subst (λ p. range.dst < p.parts) (sym h.plans.old) below.1);
+    parts = λ part below. sound_core part (subst (λ p. part < p.parts) h.plans.old below);
     links = sound_link;
-    linked = λ seg range there. h.links.ends range.src range.dst ∙ linked o is seg range ((λ i. slice_get (sym h.plans.recon i).segments seg) ∙ there);
-    waiting = λ part root below waits.
-        let within : part < o.old.parts = subst (λ p. part < p.parts) h.plans.old below in
-        located root (location w root) (location_holds o t w root (step_facts o t is legal).runs.routing (parts_hold o t w h))
-        (waits-moves o t legal part root (ap (λ txns. is_on root txns) (sym (h.partitions.waiting part within)) ∙ waits));
   }

@@ -5,8 +5,7 @@ use Rattle.std.specs.Option.{option_map}
 use Rattle.std.specs.List.{Contains}
 use Rattle.std.proofs.lemmas.Bool.{eqb-true, and_parts}
 use Rattle.std.proofs.lemmas.List.{reverse-reverse}
-use Rattle.std.proofs.lemmas.List.Quantifiers.{position-Some}
-use Rattle.std.proofs.lemmas.Option.{slice_get-map, slice_get-get_or}
+use Rattle.std.proofs.lemmas.Option.{slice_get-map}
 use Rattle.sq_chunk.specs.declared.chunk.Note.{Note}
 use Rattle.sq_chunk.specs.ChunkValue.{ChunkValue}
 use Rattle.sq_ranges.specs.ReconValue.{is_link}
@@ -17,8 +16,9 @@ use Rattle.sq_model.specs.Legal.{IsLegal}
 use Rattle.sq_model.proofs.Lists.{Contains-slice_get, kept_in}
 use Rattle.sq_model.proofs.Notes.{note_goes}
 use Rattle.sq_model.proofs.Keys.{linked}
-use Rattle.sq_transition.specs.WorldValue.{WorldValue, LinkStateValue, no_link, link_index, link_value}
-use Rattle.sq_transition.specs.Holds.{Holds, LinkHolds, under_way}
+use Rattle.sq_transition.specs.WorldValue.{WorldValue, LinkValue, link_index, link_value, under_way}
+use Rattle.sq_transition.specs.Holds.{Holds, LinkHolds}
+use Rattle.sq_transition.proofs.Links.{index_found}
 use Rattle.sq_state.specs.Readers.{way_of, chunk_at, way_notes, IsChunkAfter}
 
 empty_if : {X : Type 0} (xs : List X) → ((x : X) → Contains xs x → ⊥) → xs ≡ []
@@ -42,7 +42,7 @@ module _ (o : OpeningValue) (t : Trace) (w : WorldValue) (is : IsOpening o) (leg
           let to : goes.segment.dst ≡ dst = goes.destination ∙ eqb-true note.dst dst (and_parts (note.src == src) (note.dst == dst) kept.1).1 in
           true≢false (sym (linked o is note.seg goes.segment goes.there) ∙ (λ k. is_link o.recon.ranges (from k) (to k)) ∙ none)
 
-  chunk_by : (src dst i : ℕ) (l : LinkStateValue) → LinkHolds o t l → map (λ (c : ChunkValue). c.note) (under_way l) ≡ way_notes t src dst
+  chunk_by : (src dst i : ℕ) (l : LinkValue) → LinkHolds o t l → map (λ (c : ChunkValue). c.note) (under_way l) ≡ way_notes t src dst
       → (found : Option ChunkValue) → slice_get (under_way l) i ≡ found → IsChunkAfter o t src dst i found
   chunk_by src dst i l lh way None at =
       sym (ap (λ ns. slice_get ns i) way) ∙ slice_get-map (λ (c : ChunkValue). c.note) (under_way l) i ∙ ap (option_map (λ (c : ChunkValue). c.note)) at
@@ -57,12 +57,10 @@ module _ (o : OpeningValue) (t : Trace) (w : WorldValue) (is : IsOpening o) (leg
       subst (λ ns. slice_get (drop (load_count t src dst) (reverse ns)) i ≡ None) (sym (none_cut src dst none)) (none_left (load_count t src dst) i)
   by_place src dst i (Some at) e =
       let l = link_value w at in
-      let found = position-Some (λ (other : LinkStateValue). (other.src == src) && (other.dst == dst)) w.links at no_link e in
-      let lh = h.links.each at l (slice_get-get_or w.links at no_link found.0) in
-      let from : l.src ≡ src = eqb-true l.src src (and_parts _ _ found.1).0 in
-      let to : l.dst ≡ dst = eqb-true l.dst dst (and_parts _ _ found.1).1 in
-      let cut : l.notes ≡ reverse (link src dst (notes t)) = sym (reverse-reverse l.notes) ∙ ap reverse (lh.notes ∙ (λ k. link (from k) (to k) (notes t))) in
-      let count : l.loaded ≡ load_count t src dst = lh.loaded ∙ (λ k. load_count t (from k) (to k)) in
+      let from = index_found w src dst at e in
+      let lh = h.links.each at from.within in
+      let cut : l.out.notes ≡ reverse (link src dst (notes t)) = sym (reverse-reverse l.out.notes) ∙ ap reverse (lh.notes ∙ (λ k. link (from.starts k) (from.ends k) (notes t))) in
+      let count : load_count t l.src l.dst ≡ load_count t src dst = λ k. load_count t (from.starts k) (from.ends k) in
       let way : map (λ (c : ChunkValue). c.note) (under_way l) ≡ way_notes t src dst = lh.way ∙ (λ k. drop (count k) (cut k)) in
       chunk_by src dst i l lh way (slice_get (under_way l) i) refl
 

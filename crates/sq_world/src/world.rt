@@ -83,7 +83,6 @@ impl World {
         ensures opened { IfOk result (λ world. IsOpening opening × Holds opening [] world) }
         ensures back { IfErr result (λ back. back ≡ opening) }
     {
-        let _ = opening.config();
         Ok(World {
             state: State::open(alloc, opening)?,
         })

@@ -5,13 +5,13 @@ ghost use Rattle.sq_store.specs.StoreValue.{log_length};
 ghost use Rattle.sq_exec.specs.Location.{location, is_coming, is_coming_from, route, route_from, waits_for};
 ghost use Rattle.sq_exec.specs.Serving.{is_stuck, served, must_wait, submit_refusal, submit_takes_memory, is_ready, resume_refusal, resume_takes_memory, IsMadeToWait, IsTaken, IsResumed};
 
-use crate::MAX_WAITING;
 use crate::fault::{ResumeFault, SubmitFault};
 use crate::location::Location;
 use crate::outcome::{Outcome, Resumed};
 use crate::part_core::PartCore;
 use crate::run::is_loaded;
 use sq_plan::PartId;
+use sq_ranges::MAX_WAITING;
 use sq_schema::{ApplyFault, MAX_LOG, Root, Txn};
 use sq_store::FamilyStore;
 

@@ -1,16 +1,20 @@
 // The dump of a world: where each family and each chunk under way is.
 ghost use Rattle.std.specs.Prelude.{OnOk};
 ghost use Rattle.std.specs.List.{flat_map, range_with_len};
+ghost use Rattle.std.specs.Option.{option_copied};
 ghost use Rattle.std.specs.Io.KnownBytes.{Appends};
-ghost use Rattle.sq_text.specs.Texts.{at_line};
-ghost use Rattle.sq_transition.specs.WorldValue.{link_index};
+ghost use Rattle.sq_text.specs.Texts.{at_line, way_lines};
+ghost use Rattle.sq_transition.specs.WorldValue.{link_index, option_list, under_way};
+ghost use Rattle.sq_state.specs.Queue.{link_of};
 ghost use Rattle.sq_state.specs.Sound.{IsSound};
 ghost use Rattle.sq_state.specs.Dump.{part_lines, link_lines, source_lines, dump};
 
+use crate::queue::Queue;
 use crate::state::State;
+use sq_chunk::Chunk;
 use sq_plan::PartId;
 use sq_schema::Family;
-use sq_text::{write_at, write_end};
+use sq_text::{write_at, write_end, write_way};
 use std::io;
 use std::io::Write;
 
@@ -31,7 +35,7 @@ impl State {
         ensures { OnOk result (Appends (W.contents writer.old) (W.contents writer.new) (flat_map (part_lines self.now) (range_with_len 0 self.now.old.parts))) }
     {
         for part in 0..self.old_plan.parts() {
-            let families = self.parts[usize::from(part)].store().families();
+            let families = self.cores[usize::from(part)].store().families();
             write_families(writer, PartId::new(part), families)?;
         }
         Ok(())
@@ -62,9 +66,18 @@ impl State {
         ensures { OnOk result (Appends (W.contents writer.old) (W.contents writer.new) (link_lines self.now (link_index self.now src dst))) }
     {
         match self.link_at(src, dst) {
-            Some(at) => self.links[at].write_under_way(writer),
+            Some(at) => self.write_under_way(writer, &self.queues[at]),
             None => Ok(()),
         }
+    }
+
+    // Writes the chunks of a queue's link that were cut and aren't loaded, the oldest first.
+    fn write_under_way<W: Write>(&self, writer: &mut W, queue: &Queue) -> io::Result<()>
+        ensures { OnOk result (Appends (W.contents writer.old) (W.contents writer.new) (flat_map way_lines (under_way (link_of self.now queue.now)))) }
+    {
+        write_slot(writer, self.inbox(queue))?;
+        write_queue(writer, queue)?;
+        write_slot(writer, self.outbox(queue))
     }
 }
 
@@ -74,6 +87,35 @@ fn write_families<W: Write>(writer: &mut W, part: PartId, families: &[Family]) -
 {
     for family in families {
         write_at(writer, part, family)?;
+    }
+    Ok(())
+}
+
+// Writes a chunk, if there is one.
+fn write_slot<W: Write>(writer: &mut W, slot: Option<&Chunk>) -> io::Result<()>
+    ensures { OnOk result (Appends (W.contents writer.old) (W.contents writer.new) (flat_map way_lines (option_list (option_copied slot.entry)))) }
+{
+    match slot {
+        Some(chunk) => write_way(writer, &chunk.note(), chunk.families()),
+        None => Ok(()),
+    }
+}
+
+// Writes the chunks of a queue, the oldest first.
+fn write_queue<W: Write>(writer: &mut W, queue: &Queue) -> io::Result<()>
+    ensures { OnOk result (Appends (W.contents writer.old) (W.contents writer.new) (flat_map way_lines queue.now.chunks)) }
+{
+    let (front, back) = queue.as_slices();
+    write_chunks(writer, front)?;
+    write_chunks(writer, back)
+}
+
+// Writes chunks, the first one first.
+fn write_chunks<W: Write>(writer: &mut W, chunks: &[Chunk]) -> io::Result<()>
+    ensures { OnOk result (Appends (W.contents writer.old) (W.contents writer.new) (flat_map way_lines chunks.now)) }
+{
+    for chunk in chunks {
+        write_way(writer, &chunk.note(), chunk.families())?;
     }
     Ok(())
 }

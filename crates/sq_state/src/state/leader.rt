@@ -1,12 +1,14 @@
 // The steps of the leader.
-ghost use Rattle.std.specs.Prelude.{◌≡◌, ◌||◌, not, length};
+ghost use Rattle.std.specs.Prelude.{◌≡◌, ◌||◌, not, length, map};
 ghost use Rattle.std.specs.List.{list_all, list_any, range_with_len};
-ghost use Rattle.sq_transition.specs.LeaderResults.{prepare_result, start_result, report_result, finish_result, flag_at, is_segment_into, is_segment_whole, segment_range};
+ghost use Rattle.sq_transition.specs.LeaderResults.{prepare_result, start_result, report_result, finish_result, flag_at, is_segment_into, is_segment_whole, segment_range, started_core};
 ghost use Rattle.sq_state.specs.Results.{answer_of};
 ghost use Rattle.sq_state.specs.Sound.{IsSound};
 
 use crate::state::State;
+use sq_exec::PartCore;
 use sq_model::{Answer, Phase, Refusal};
+use sq_store::VecStore;
 
 impl State {
     /// Records that a partition is ready, which it may say until the move starts.
@@ -21,7 +23,7 @@ impl State {
         Ok(Answer::Done)
     }
 
-    /// Starts the move, once every partition has prepared.
+    /// Starts the move, once every partition has prepared, and tells each partition.
     pub(crate) fn start(&mut self) -> Result<Answer, Refusal>
         requires { IsSound self.old }
         ensures { (answer_of result, self.new) ≡ start_result self.old }
@@ -31,6 +33,7 @@ impl State {
             return Err(Refusal::NotPrepared);
         }
         self.phase = Phase::Moving;
+        start_all(&mut self.cores);
         Ok(Answer::Done)
     }
 
@@ -67,7 +70,7 @@ impl State {
         ensures { result ≡ list_all (λ seg. not (is_segment_into self.now part seg) || is_segment_whole self.now seg) (segment_range self.now) }
     {
         for (seg, range) in self.recon.segments().iter().enumerate() {
-            if u64::from(range.dst.number()) == part && !self.segments[seg].is_whole() {
+            if u64::from(range.dst.number()) == part && !self.trees[seg].all_complete() {
                 return false;
             }
         }
@@ -95,6 +98,15 @@ impl State {
             }
         }
         true
+    }
+}
+
+// Tells each partition that the move has started.
+fn start_all(cores: &mut [PartCore<VecStore>])
+    ensures { map (λ part. part.core) cores.new ≡ map started_core (map (λ part. part.core) cores.old) }
+{
+    for core in cores.iter_mut() {
+        core.start();
     }
 }
 

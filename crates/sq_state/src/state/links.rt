@@ -1,15 +1,17 @@
 // The steps of the links.
 ghost use Rattle.std.specs.Prelude.{◌≡◌};
+ghost use Rattle.std.specs.Option.{option_copied};
 ghost use Rattle.sq_transition.specs.WorldValue.{link_index};
 ghost use Rattle.sq_model.specs.declared.step.Step.{Step};
 ghost use Rattle.sq_transition.specs.LinkResults.{push_result, pop_result, cut_result, load_result};
-ghost use Rattle.sq_state.specs.Results.{answer_of};
+ghost use Rattle.sq_state.specs.Results.{answer_of, cut_refused, load_refused, families_of};
 ghost use Rattle.sq_transition.specs.Transition.{IsResult};
 ghost use Rattle.sq_state.specs.Sound.{IsSound};
 
 use crate::state::State;
+use sq_chunk::Chunk;
+use sq_exec::{CutFault, LoadFault};
 use sq_model::{Answer, Refusal};
-use sq_parts::Progress;
 
 impl State {
     /// The chunk that was cut goes onto its link.
@@ -21,8 +23,18 @@ impl State {
         let Some(at) = self.link_at(src, dst) else {
             return Err(Refusal::NoSuchLink);
         };
-        let capacity = self.config.capacity;
-        self.links[at].push(capacity)?;
+        let queue = &self.queues[at];
+        let (source, dst) = (usize::from(queue.src().number()), queue.dst());
+        if self.cores[source].outbox(dst).is_none() {
+            return Err(Refusal::OutboxEmpty);
+        }
+        if queue.len() as u64 >= self.config.capacity {
+            return Err(Refusal::LinkFull);
+        }
+        let Some(chunk) = self.cores[source].take_outbox(dst) else {
+            unreachable!()
+        };
+        self.queues[at].push(chunk);
         Ok(Answer::Done)
     }
 
@@ -35,7 +47,17 @@ impl State {
         let Some(at) = self.link_at(src, dst) else {
             return Err(Refusal::NoSuchLink);
         };
-        self.links[at].pop()?;
+        let queue = &self.queues[at];
+        let (src, destination) = (queue.src(), usize::from(queue.dst().number()));
+        if self.cores[destination].inbox(src).is_some() {
+            return Err(Refusal::InboxFull);
+        }
+        let Some(chunk) = self.queues[at].pop() else {
+            return Err(Refusal::LinkEmpty);
+        };
+        let Ok(()) = self.cores[destination].put_inbox(src, chunk) else {
+            unreachable!()
+        };
         Ok(Answer::Done)
     }
 
@@ -48,9 +70,16 @@ impl State {
         let Some(at) = self.link_at(src, dst) else {
             return Err(Refusal::NoSuchLink);
         };
-        let link = &mut self.links[at];
-        let part = &mut self.parts[usize::from(link.src().number())];
-        link.cut(part, self.config.limit)
+        let queue = &self.queues[at];
+        let dst = queue.dst();
+        let source = &mut self.cores[usize::from(queue.src().number())];
+        match source.cut(dst) {
+            Ok(note) => Ok(Answer::WasCut {
+                note,
+                families: count(source.outbox(dst)),
+            }),
+            Err(fault) => Err(cut_refusal(fault)),
+        }
     }
 
     /// The chunk that came to a destination is loaded. Where there is no memory nothing changes.
@@ -62,18 +91,51 @@ impl State {
         let Some(at) = self.link_at(src, dst) else {
             return Err(Refusal::NoSuchLink);
         };
-        let link = &mut self.links[at];
-        let part = &mut self.parts[usize::from(link.dst().number())];
-        let (note, families) = link.load(part)?;
-        let progress = Progress::new(note.hi, note.last);
-        self.segments[note.seg.index()].set_progress(note.node, progress);
-        Ok(Answer::WasLoaded { note, families })
+        let queue = &self.queues[at];
+        let src = queue.src();
+        let destination = &mut self.cores[usize::from(queue.dst().number())];
+        let families = count(destination.inbox(src));
+        match destination.load(src) {
+            Ok(note) => Ok(Answer::WasLoaded { note, families }),
+            Err(fault) => Err(load_refusal(fault)),
+        }
     }
 
     // Where the link from one partition to another stands.
     pub(super) fn link_at(&self, src: u64, dst: u64) -> Option<usize>
         ensures { result ≡ link_index self.now src dst }
     {
-        self.links.iter().position(|link| link.joins(src, dst))
+        self.queues.iter().position(|queue| queue.joins(src, dst))
+    }
+}
+
+// How many families a chunk holds; none where there is no chunk.
+fn count(chunk: Option<&Chunk>) -> u64
+    ensures { result ≡ families_of (option_copied chunk.entry) }
+{
+    match chunk {
+        Some(chunk) => chunk.len() as u64,
+        None => 0,
+    }
+}
+
+// Why a cut is refused.
+fn cut_refusal(fault: CutFault) -> Refusal
+    ensures { result ≡ cut_refused fault }
+{
+    match fault {
+        CutFault::OutboxFull => Refusal::OutboxFull,
+        CutFault::NothingToCut => Refusal::NothingToCut,
+        CutFault::Memory => Refusal::Memory,
+    }
+}
+
+// Why a load is refused.
+fn load_refusal(fault: LoadFault) -> Refusal
+    ensures { result ≡ load_refused fault }
+{
+    match fault {
+        LoadFault::InboxEmpty => Refusal::InboxEmpty,
+        LoadFault::Memory => Refusal::Memory,
     }
 }

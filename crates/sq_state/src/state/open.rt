@@ -3,19 +3,20 @@ ghost use Rattle.std.specs.Prelude.{◌≡◌, ℕ, false, [], map, replicate, I
 ghost use Rattle.std.specs.List.{range_with_len};
 ghost use Rattle.std.specs.FinMap.{empty};
 ghost use Rattle.sq_chunk.specs.ChunkValue.{are_within};
-ghost use Rattle.sq_plan.specs.PlanValue.{IsPlan};
 ghost use Rattle.sq_ranges.specs.SetUp.{IsSetUp};
 ghost use Rattle.sq_store.specs.StoreValue.{with_families};
 ghost use Rattle.sq_transition.specs.Holds.{Holds};
-ghost use Rattle.sq_state.specs.Openings.{opened_families, opened_part, AreNewSegments, AreNewLinks};
+ghost use Rattle.sq_state.specs.Openings.{opened_families, opened_part, AreNewTrees, AreNewQueues};
 
+use crate::queue::Queue;
 use crate::state::State;
+use sq_exec::PartCore;
 use sq_model::Phase;
-use sq_parts::{LinkState, Partition, Segment};
 use sq_plan::{PartId, Plan};
-use sq_ranges::{Opening, OpeningParts, Recon, SegId};
+use sq_ranges::{Opening, OpeningParts, Range, Recon};
 use sq_schema::{Family, Table};
 use sq_store::{FamilyStore, VecStore};
+use sq_tree::PlainTree;
 use std::alloc::{AllocError, Global};
 
 // What a state has beside its opening.
@@ -23,9 +24,9 @@ use std::alloc::{AllocError, Global};
 struct Fresh {
     prepared: Vec<bool>,
     reported: Vec<bool>,
-    parts: Vec<Partition>,
-    segments: Vec<Segment>,
-    links: Vec<LinkState>,
+    cores: Vec<PartCore<VecStore>>,
+    trees: Vec<PlainTree>,
+    queues: Vec<Queue>,
 }
 
 impl State {
@@ -50,9 +51,9 @@ impl State {
         let Fresh {
             prepared,
             reported,
-            parts,
-            segments,
-            links,
+            cores,
+            trees,
+            queues,
         } = fresh;
         Ok(State {
             alloc,
@@ -64,9 +65,9 @@ impl State {
             phase: Phase::Idle,
             prepared,
             reported,
-            parts,
-            segments,
-            links,
+            cores,
+            trees,
+            queues,
         })
     }
 }
@@ -74,35 +75,45 @@ impl State {
 // What a state has beside this opening.
 fn fresh_state(alloc: Global, opening: &Opening) -> Result<Fresh, AllocError>
     ensures flags { IfOk result (λ fresh. (fresh.prepared.items ≡ replicate opening.now.old.parts false) × (fresh.reported.items ≡ replicate opening.now.old.parts false)) }
-    ensures parts { IfOk result (λ fresh. fresh.parts.items ≡ map (opened_part opening.now.old opening.now.table) (range_with_len 0 opening.now.old.parts)) }
-    ensures segments { IfOk result (λ fresh. AreNewSegments opening.now.recon fresh.segments.items) }
-    ensures links { IfOk result (λ fresh. AreNewLinks opening.now.recon.ranges fresh.links.items) }
+    ensures cores { IfOk result (λ fresh. map (λ part. part.core) fresh.cores.items ≡ map (opened_part opening.now) (range_with_len 0 opening.now.old.parts)) }
+    ensures trees { IfOk result (λ fresh. AreNewTrees opening.now.recon.segments fresh.trees.items) }
+    ensures queues { IfOk result (λ fresh. AreNewQueues opening.now.recon.ranges fresh.queues.items) }
 {
     let count = usize::from(opening.old_plan().parts());
     Ok(Fresh {
         prepared: vec![in alloc; false; count]?,
         reported: vec![in alloc; false; count]?,
-        parts: parts(alloc, opening)?,
-        segments: segments(alloc, opening.recon())?,
-        links: links(alloc, opening.recon())?,
+        cores: partitions(alloc, opening)?,
+        trees: trees(alloc, opening.recon().segments())?,
+        queues: queues(alloc, opening.recon())?,
     })
 }
 
-// The partitions of the plan before the move, each with the families of the root keys that it owns.
-fn parts(alloc: Global, opening: &Opening) -> Result<Vec<Partition>, AllocError>
-    ensures { IfOk result (λ parts. parts.items ≡ map (opened_part opening.now.old opening.now.table) (range_with_len 0 opening.now.old.parts)) }
+// The partitions of the plan before the move.
+fn partitions(alloc: Global, opening: &Opening) -> Result<Vec<PartCore<VecStore>>, AllocError>
+    ensures { IfOk result (λ cores. map (λ part. part.core) cores.items ≡ map (opened_part opening.now) (range_with_len 0 opening.now.old.parts)) }
 {
-    let mut parts = Vec::new(alloc);
+    let mut cores = Vec::new(alloc);
     for number in 0..opening.old_plan().parts() {
-        let families = families(
-            alloc,
-            opening.old_plan(),
-            PartId::new(number),
-            opening.table(),
-        )?;
-        parts.push(Partition::new(alloc, store(alloc, families)?))?;
+        cores.push(partition(alloc, opening, PartId::new(number))?)?;
     }
-    Ok(parts)
+    Ok(cores)
+}
+
+// A partition with the families of the root keys that it owns.
+fn partition(
+    alloc: Global,
+    opening: &Opening,
+    part: PartId,
+) -> Result<PartCore<VecStore>, AllocError>
+    ensures { IfOk result (λ opened. opened.core ≡ opened_part opening.now part) }
+{
+    let families = families(alloc, opening.old_plan(), part, opening.table())?;
+    let store = store(alloc, families)?;
+    match PartCore::open(alloc, opening, part, store) {
+        Ok(core) => Ok(core),
+        Err(_) => Err(AllocError),
+    }
 }
 
 // The families of the root keys that a partition owns.
@@ -138,28 +149,24 @@ fn store(alloc: Global, families: Vec<Family>) -> Result<VecStore, AllocError>
     }
 }
 
-// The segments of a reconfiguration, of which nothing is loaded.
-fn segments(alloc: Global, recon: &Recon) -> Result<Vec<Segment>, AllocError>
-    ensures { IfOk result (λ segments. AreNewSegments recon.now segments.items) }
+// The trees of segments, of which each node is free.
+fn trees(alloc: Global, segments: &[Range]) -> Result<Vec<PlainTree>, AllocError>
+    ensures { IfOk result (λ trees. AreNewTrees segments.now trees.items) }
 {
-    let count = recon.segments().len() as u64;
-    let mut segments = Vec::new(alloc);
-    for number in 0..count {
-        let Some(seg) = SegId::new(number) else {
-            unreachable!()
-        };
-        segments.push(Segment::new(recon, seg))?;
+    let mut trees = Vec::new(alloc);
+    for _segment in segments {
+        trees.push(PlainTree::new())?;
     }
-    Ok(segments)
+    Ok(trees)
 }
 
-// The links of a reconfiguration, which have carried nothing.
-fn links(alloc: Global, recon: &Recon) -> Result<Vec<LinkState>, AllocError>
-    ensures { IfOk result (λ made. AreNewLinks recon.now.ranges made.items) }
+// The queues of the links of a reconfiguration, which nothing went onto.
+fn queues(alloc: Global, recon: &Recon) -> Result<Vec<Queue>, AllocError>
+    ensures { IfOk result (λ queues. AreNewQueues recon.now.ranges queues.items) }
 {
-    let mut links = Vec::new(alloc);
+    let mut queues = Vec::new(alloc);
     for link in recon.links() {
-        links.push(LinkState::new(alloc, *link)?)?;
+        queues.push(Queue::new(alloc, *link)?)?;
     }
-    Ok(links)
+    Ok(queues)
 }

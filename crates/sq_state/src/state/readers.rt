@@ -1,8 +1,11 @@
 // What is read of a world.
-ghost use Rattle.std.specs.Prelude.{◌≡◌};
+ghost use Rattle.std.specs.Prelude.{◌≡◌, slice_get};
 ghost use Rattle.std.specs.Option.{option_copied};
+ghost use Rattle.sq_transition.specs.WorldValue.{under_way};
+ghost use Rattle.sq_state.specs.Queue.{link_of};
 ghost use Rattle.sq_state.specs.Readers.{store_at, chunk_at, status_there};
 
+use crate::queue::Queue;
 use crate::state::State;
 use sq_chunk::Chunk;
 use sq_model::Phase;
@@ -21,8 +24,8 @@ impl State {
     pub fn store(&self, part: u64) -> Option<&VecStore>
         ensures { option_copied result ≡ store_at self.now part }
     {
-        let part = self.parts.get(part as usize)?;
-        Some(part.store())
+        let core = self.cores.get(part as usize)?;
+        Some(core.store())
     }
 
     /// The chunk of this number, from 0, of those from one partition to another that were cut and aren't loaded, the
@@ -31,7 +34,7 @@ impl State {
         ensures { option_copied result ≡ chunk_at self.now src dst i }
     {
         let at = self.link_at(src, dst)?;
-        self.links[at].under_way(i as usize)
+        self.chunk_on(&self.queues[at], i as usize)
     }
 
     /// The status of a node; `None` where there is no such segment or node.
@@ -39,7 +42,39 @@ impl State {
         ensures { result ≡ status_there self.now seg node }
     {
         let node = NodeId::new(node)?;
-        let segment = self.segments.get(seg as usize)?;
-        Some(segment.status(node))
+        let tree = self.trees.get(seg as usize)?;
+        Some(tree.status(node))
+    }
+
+    // The chunk of this number, from 0, of those of a queue's link that were cut and aren't loaded, the oldest first.
+    fn chunk_on<'a>(&'a self, queue: &'a Queue, i: usize) -> Option<&'a Chunk>
+        ensures { option_copied result ≡ slice_get (under_way (link_of self.now queue.now)) i }
+    {
+        let past_inbox = match self.inbox(queue) {
+            None => i,
+            Some(chunk) if i == 0 => return Some(chunk),
+            Some(_) => i - 1,
+        };
+        if past_inbox == queue.len() {
+            self.outbox(queue)
+        } else {
+            queue.get(past_inbox)
+        }
+    }
+
+    // The chunk that came off a queue and isn't loaded.
+    pub(super) fn inbox(&self, queue: &Queue) -> Option<&Chunk>
+        ensures { option_copied result ≡ (link_of self.now queue.now).inbox }
+    {
+        let core = self.cores.get(usize::from(queue.dst().number()))?;
+        core.inbox(queue.src())
+    }
+
+    // The chunk that was cut for a queue and isn't on it.
+    pub(super) fn outbox(&self, queue: &Queue) -> Option<&Chunk>
+        ensures { option_copied result ≡ (link_of self.now queue.now).out.outbox }
+    {
+        let core = self.cores.get(usize::from(queue.src().number()))?;
+        core.outbox(queue.dst())
     }
 }

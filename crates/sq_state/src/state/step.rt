@@ -15,6 +15,8 @@ impl State {
             Step::Prepare(part) => self.prepare(*part),
             Step::Start => self.start(),
             Step::Submit(part, txn) => self.submit(*part, txn),
+            Step::Resume(part) => self.resume(*part),
+            Step::Split { seg, node } => self.split(*seg, *node),
             Step::Claim { seg, node, pull } => self.claim(*seg, *node, *pull),
             Step::Begin { seg, node, pull } => self.begin(*seg, *node, *pull),
             Step::Cut { src, dst } => self.cut(*src, *dst),
@@ -24,6 +26,7 @@ impl State {
             Step::Complete { seg, node, pull } => self.complete(*seg, *node, *pull),
             Step::Report(part) => self.report(*part),
             Step::Finish => self.finish(),
+            Step::Status { seg, node } => self.status_of(*seg, *node),
         };
         match result {
             Ok(answer) => answer,

@@ -1,19 +1,35 @@
 // The steps of the split trees.
-ghost use Rattle.std.specs.Prelude.{◌≡◌, ◌<◌, length, OnOk, OnErr};
+ghost use Rattle.std.specs.Prelude.{◌≡◌, ◌<◌, length, true, Ok, Err, is_ok, if◌then◌else◌};
+ghost use Rattle.sq_tree.specs.declared.status.Status.{Status};
+ghost use Rattle.sq_tree.specs.Tree.{status_at, with_status};
+ghost use Rattle.sq_tree.specs.Answer.{split_answer, claim_answer, begin_answer, complete_answer};
+ghost use Rattle.sq_model.specs.declared.answer.Answer.{Answer};
 ghost use Rattle.sq_model.specs.declared.step.Step.{Step};
-ghost use Rattle.sq_transition.specs.TreeResults.{claim_result, begin_result, complete_result, whole_node, add_work};
-ghost use Rattle.sq_state.specs.Results.{answer_of};
+ghost use Rattle.sq_model.specs.Answers.{split_answered, claim_answered, begin_answered, complete_answered};
+ghost use Rattle.sq_transition.specs.WorldValue.{source_of, destination_of};
+ghost use Rattle.sq_transition.specs.TreeResults.{split_result, claim_result, begin_result, complete_result, status_result, is_loaded_whole};
 ghost use Rattle.sq_transition.specs.Transition.{IsResult};
+ghost use Rattle.sq_state.specs.Results.{answer_of, done_or};
 ghost use Rattle.sq_state.specs.Sound.{IsSound};
 
 use crate::state::{State, named_node};
 use sq_model::{Answer, Refusal};
-use sq_parts::Work;
 use sq_ranges::SegId;
-use sq_tree::NodeId;
-use std::alloc::AllocError;
+use sq_tree::{ClaimFault, CompleteFault, NodeId, PlainTree, SplitFault, Status};
 
 impl State {
+    /// A node of a segment is split.
+    pub(crate) fn split(&mut self, seg: u64, node: u64) -> Result<Answer, Refusal>
+        requires { IsSound self.old }
+        ensures { (answer_of result, self.new) ≡ split_result self.old seg node }
+    {
+        self.check_moving()?;
+        let seg = self.segment(seg)?;
+        let node = named_node(node)?;
+        split_node(&mut self.trees[seg.index()], node)?;
+        Ok(Answer::Done)
+    }
+
     /// A node of a segment is claimed for a pull.
     pub(crate) fn claim(&mut self, seg: u64, node: u64, pull: u32) -> Result<Answer, Refusal>
         requires { IsSound self.old }
@@ -22,11 +38,12 @@ impl State {
         self.check_moving()?;
         let seg = self.segment(seg)?;
         let node = named_node(node)?;
-        self.segments[seg.index()].claim(node, pull)?;
+        claim_node(&mut self.trees[seg.index()], node, pull)?;
         Ok(Answer::Done)
     }
 
-    /// A node of a segment is given up to the pull that claimed it, and its source has all of it to cut.
+    /// A node of a segment is given up to the pull that claimed it, and its source has all of it to cut. Where there is
+    /// no memory nothing changes.
     pub(crate) fn begin(&mut self, seg: u64, node: u64, pull: u32) -> Result<Answer, Refusal>
         requires { IsSound self.old }
         ensures { IsResult (Step.Begin seg node pull) self.old (begin_result self.old seg node pull) (answer_of result) self.new }
@@ -34,15 +51,18 @@ impl State {
         self.check_moving()?;
         let seg = self.segment(seg)?;
         let node = named_node(node)?;
-        self.segments[seg.index()].check_begin(node, pull)?;
-        let Ok(()) = self.add_work(seg, node, pull) else {
+        check_begin(&self.trees[seg.index()], node, pull)?;
+        let src = self.recon.segments()[seg.index()].src;
+        let source = &mut self.cores[usize::from(src.number())];
+        if source.reserve_begin().is_err() {
             return Err(Refusal::Memory);
-        };
-        self.segments[seg.index()].begin(node, pull);
+        }
+        begin_node(&mut self.trees[seg.index()], node, pull);
+        source.begun(seg, node, pull);
         Ok(Answer::Done)
     }
 
-    /// A node of a segment is completed, all of which is loaded.
+    /// A node of a segment is completed, whose last chunk is loaded.
     pub(crate) fn complete(&mut self, seg: u64, node: u64, pull: u32) -> Result<Answer, Refusal>
         requires { IsSound self.old }
         ensures { (answer_of result, self.new) ≡ complete_result self.old seg node pull }
@@ -50,25 +70,111 @@ impl State {
         self.check_moving()?;
         let seg = self.segment(seg)?;
         let node = named_node(node)?;
-        self.segments[seg.index()].complete(node, pull)?;
+        let loaded = self.is_loaded_whole(seg, node);
+        complete_node(&mut self.trees[seg.index()], node, pull, loaded)?;
         Ok(Answer::Done)
     }
 
-    // Gives the source of a segment all of a node to cut for a pull.
-    fn add_work(&mut self, seg: SegId, node: NodeId, pull: u32) -> Result<(), AllocError>
-        requires sound { IsSound self.old }
-        requires exists { seg < length self.old.recon.segments }
-        ensures ok { OnOk result (self.new ≡ add_work self.old (whole_node self.old seg node pull)) }
-        ensures err { OnErr result (self.new ≡ self.old) }
+    /// The status of a node of a segment, and what the node reads as.
+    pub(crate) fn status_of(&self, seg: u64, node: u64) -> Result<Answer, Refusal>
+        requires { IsSound self.now }
+        ensures { (answer_of result, self.now) ≡ status_result self.now seg node }
     {
-        let Some(keys) = self.recon.extent(seg, node) else {
-            unreachable!()
-        };
-        let range = self.recon.segments()[seg.index()];
-        let (src, dst) = (u64::from(range.src.number()), u64::from(range.dst.number()));
-        let Some(at) = self.link_at(src, dst) else {
-            unreachable!()
-        };
-        self.links[at].add_work(Work::new(seg, node, pull, keys))
+        let seg = self.segment(seg)?;
+        let node = named_node(node)?;
+        let tree = &self.trees[seg.index()];
+        Ok(Answer::Reads {
+            status: tree.status(node),
+            reading: tree.reads(node),
+        })
+    }
+
+    // Whether the last chunk of a node is loaded at its destination.
+    fn is_loaded_whole(&self, seg: SegId, node: NodeId) -> bool
+        requires sound { IsSound self.now }
+        requires exists { seg < length self.now.recon.segments }
+        ensures { result ≡ is_loaded_whole self.now seg node }
+    {
+        let dst = self.recon.segments()[seg.index()].dst;
+        self.cores[usize::from(dst.number())].loaded_last(seg, node)
+    }
+}
+
+// Splits a node.
+fn split_node(tree: &mut PlainTree, node: NodeId) -> Result<(), Refusal>
+    ensures answer { done_or result ≡ split_answered (split_answer (status_at tree.old) node) }
+    ensures after { tree.new ≡ (if is_ok result then with_status tree.old node Status.Split else tree.old) }
+{
+    tree.split(node).map_err(split_refusal)
+}
+
+// Claims a node for a pull.
+fn claim_node(tree: &mut PlainTree, node: NodeId, pull: u32) -> Result<(), Refusal>
+    ensures answer { done_or result ≡ claim_answered (claim_answer (status_at tree.old) node pull) }
+    ensures after { tree.new ≡ (if is_ok result then with_status tree.old node (Status.Claimed pull) else tree.old) }
+{
+    tree.claim(node, pull).map_err(claim_refusal)
+}
+
+// Whether a node may be given up to a pull, and why not.
+fn check_begin(tree: &PlainTree, node: NodeId, pull: u32) -> Result<(), Refusal>
+    ensures { done_or result ≡ begin_answered (begin_answer (status_at tree.now) node pull) }
+{
+    match tree.status(node) {
+        Status::Claimed(by) if by == pull => Ok(()),
+        Status::Claimed(_) => Err(Refusal::WrongPull),
+        _ => Err(Refusal::NotClaimed),
+    }
+}
+
+// Gives a node up to a pull that it may be given up to.
+fn begin_node(tree: &mut PlainTree, node: NodeId, pull: u32)
+    requires { begin_answer (status_at tree.old) node pull ≡ Ok tt }
+    ensures { tree.new ≡ with_status tree.old node (Status.Partial pull) }
+{
+    let Ok(()) = tree.begin(node, pull) else {
+        unreachable!()
+    };
+}
+
+// Completes a node that a pull began, if its last chunk is loaded.
+fn complete_node(tree: &mut PlainTree, node: NodeId, pull: u32, loaded: bool) -> Result<(), Refusal>
+    ensures answer { done_or result ≡ complete_answered loaded (complete_answer (status_at tree.old) node pull) }
+    ensures after { tree.new ≡ (if is_ok result then with_status tree.old node (Status.Complete pull) else tree.old) }
+{
+    match tree.status(node) {
+        Status::Partial(by) if by == pull && !loaded => Err(Refusal::NotLoaded),
+        _ => tree.complete(node, pull).map_err(complete_refusal),
+    }
+}
+
+// Why a split is refused.
+fn split_refusal(fault: SplitFault) -> Refusal
+    ensures { Answer.Refused result ≡ split_answered (Err fault) }
+{
+    match fault {
+        SplitFault::IsLeaf => Refusal::IsLeaf,
+        SplitFault::NotLive => Refusal::NotLive,
+        SplitFault::NotFree(_) => Refusal::NotFree,
+    }
+}
+
+// Why a claim is refused.
+fn claim_refusal(fault: ClaimFault) -> Refusal
+    ensures { Answer.Refused result ≡ claim_answered (Err fault) }
+{
+    match fault {
+        ClaimFault::NotLive => Refusal::NotLive,
+        ClaimFault::NotFree(_) => Refusal::NotFree,
+    }
+}
+
+// Why a completion is refused of a node that is loaded.
+fn complete_refusal(fault: CompleteFault) -> Refusal
+    ensures { Answer.Refused result ≡ complete_answered true (Err fault) }
+{
+    match fault {
+        CompleteFault::NotPartial(_) => Refusal::NotPartial,
+        CompleteFault::WrongPull => Refusal::WrongPull,
     }
 }

@@ -1,9 +1,32 @@
-use Rattle.std.proofs.Common.{◌∙◌}
-use Rattle.sq_state.proofs.Cuts.{cut_returns}
+use Rattle.std.proofs.Common.{map, get_or, set, sym, ap, ◌∙◌, subst, inl}
+use Rattle.sq_model.specs.declared.step.Step.TheVariants.{Cut}
+use Rattle.sq_model.specs.declared.answer.Answer.TheVariants.{WasCut, Refused}
+use Rattle.sq_transition.specs.WorldValue.{WorldValue}
+use Rattle.sq_transition.specs.LinkResults.{cut_result}
+use Rattle.sq_transition.specs.Transition.{IsResult}
+use Rattle.sq_state.specs.Results.{cut_refused, families_of}
+use Rattle.sq_state.proofs.Cores.{core_of}
+use Rattle.sq_state.proofs.LinkSteps.{cut_done, cut_fails}
 use Rattle.sq_state.proofs.state.State.cut.Goals as goal
+use Rattle.sq_state.proofs.state.State.cut.Goals.{in-Ok, in-Err}
 
 pub returns : goal.returns
 returns c =
-    cut_returns _ c.args.self.now c.args.src c.args.dst c.in-Some.at c.from.result _ c.index_mut-link.result.now c.cut.new.self c.index_mut-part.result.now c.cut.new.part c.cut.result
-    c.self.view_is c.requires c.in_ok-check_moving.ensures c.in-Some.ensures c.index_mut-link.ensures.value (c.from.ensures ∙ c.number.ensures ∙ c.src.ensures) c.index_mut-part.ensures.value
-    c.cut.ensures.ok c.cut.ensures.refusal c.cut.ensures.err
+    let w = c.args.self.now in
+    let parts = map core_of (set c.self.inside.cores.items c.from.result c.cut.new.self) in
+    elim c.match-cut.branch [
+      | in-Ok b ↦
+          let families = b.count.result in
+          rw (b.result-is, b.self-inside-is) (inl
+          (ap (λ (v : WorldValue). (WasCut b.in-Ok.note families, record v { cores = parts })) c.self.view_is
+          ∙ cut_done w c.self.inside.cores.items c.args.src c.args.dst c.in-Some.at c.from.result c.dst-dst.result c.index-queue.result.now c.index_mut-source.result.now c.in_ok-check_moving.field-0
+          (ap (λ (v : WorldValue). v.cores) c.self.view_is) c.requires c.in_ok-check_moving.ensures c.in-Some.ensures
+          (c.index-queue.ensures ∙ ap (λ (v : WorldValue). get_or v.queues c.in-Some.at c.index-queue.result.now) c.self.view_is)
+          (c.from.ensures ∙ c.number.ensures ∙ c.src.ensures) c.dst-dst.ensures c.index_mut-source.ensures.value b.in-Ok.note families c.cut.new.self b.in-Ok.ensures.ok (b.count.ensures ∙ ap families_of b.outbox.ensures)))
+      | in-Err b ↦ rw (b.result-is, b.self-inside-is, b.cut_refusal.ensures)
+          (subst (λ (v : WorldValue). IsResult (Cut c.args.src c.args.dst) w (cut_result w c.args.src c.args.dst) (Refused (cut_refused b.in-Err.fault)) (record v { cores = parts })) (sym c.self.view_is)
+          (cut_fails w c.self.inside.cores.items c.args.src c.args.dst c.in-Some.at c.from.result c.dst-dst.result c.index-queue.result.now c.index_mut-source.result.now c.in_ok-check_moving.field-0
+          (ap (λ (v : WorldValue). v.cores) c.self.view_is) c.requires c.in_ok-check_moving.ensures c.in-Some.ensures
+          (c.index-queue.ensures ∙ ap (λ (v : WorldValue). get_or v.queues c.in-Some.at c.index-queue.result.now) c.self.view_is)
+          (c.from.ensures ∙ c.number.ensures ∙ c.src.ensures) c.dst-dst.ensures c.index_mut-source.ensures.value b.in-Err.fault c.cut.new.self b.in-Err.ensures.refusal b.in-Err.ensures.err))
+    ]

@@ -6,7 +6,7 @@ pub returns-clause-opened : goal.returns-clause-opened
 returns-clause-opened c =
     let moved = c.into_parts-schema.ensures in
     let fresh = c.in-Ok.ensures in
-    opened_holds c.args.opening _ moved.set_up
+    opened_holds c.args.opening _
     (record {
       old = moved.old;
       new = moved.new;
@@ -15,7 +15,8 @@ returns-clause-opened c =
       phase = refl;
       prepared = fresh.flags.0;
       reported = fresh.flags.1;
-      parts = fresh.parts;
-      segments = fresh.segments;
-      links = fresh.links;
+      cores = fresh.cores;
+      trees = fresh.trees;
+      queues = fresh.queues;
     })
+    moved.set_up

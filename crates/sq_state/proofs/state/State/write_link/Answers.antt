@@ -6,6 +6,6 @@ use Rattle.sq_state.proofs.state.State.write_link.Goals as goal
 pub returns-in-Some : goal.returns-in-Some
 returns-in-Some g c =
     let w = c.args.self.now in
-    let links : w.links ≡ c.self.inside.links.items = ap (λ (v : WorldValue). v.links) (sym c.self.view_is) in
+    let queues : w.queues ≡ c.self.inside.queues.items = ap (λ (v : WorldValue). v.queues) (sym c.self.view_is) in
     let found : Some c.in-Some.at ≡ link_index w c.args.src c.args.dst = sym c.in-Some.is ∙ c.link_at.ensures in
-    same_text c.write_under_way.result _ _ _ _ (link_said w c.self.inside.links.items c.args.src c.args.dst c.in-Some.at c.index.result.now links found c.index.ensures) c.write_under_way.ensures
+    same_text c.write_under_way.result _ _ _ _ (link_said w c.self.inside.queues.items c.args.src c.args.dst c.in-Some.at c.index.result.now queues found c.index.ensures) c.write_under_way.ensures

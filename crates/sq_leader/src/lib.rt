@@ -1,0 +1,12 @@
+//! The leader of a move as typed states, so that a call in a wrong state can't be written.
+#![tactic(auto)]
+
+mod fault;
+pub mod laws;
+mod leader;
+mod marks;
+mod report;
+
+pub use fault::{FinishFault, PrepareFault, ReportFault, StartFault};
+pub use leader::{Ended, Idle, Moving, Preparing, Refused};
+pub use report::Report;

@@ -1,0 +1,70 @@
+// Which partitions told the leader something.
+ghost use Rattle.std.specs.Prelude.{◌≡◌, ◌≤◌, length};
+ghost use Rattle.sq_plan.specs.declared.plan.TheConstants.{MAX_PARTS};
+ghost use Rattle.sq_leader.specs.Marks.{none_marked, is_marked, with_mark, all_marked};
+
+use std::marker::Model;
+
+/// Which partitions told the leader something. To a contract it is a list that tells it of each partition.
+#[derive(Debug, Drop)]
+pub(crate) struct Marks {
+    parts: u8,
+    flags: [bool; 16],
+}
+
+impl Model for Marks {
+    ghost use Rattle.std.specs.Prelude.{◌≤◌, List, Bool, take};
+    ghost use Rattle.sq_plan.specs.declared.plan.TheConstants.{MAX_PARTS};
+
+    ghost Value = { List Bool };
+
+    ghost view = { λ m. take m.parts m.flags };
+
+    ghost invariant = { λ m. m.parts ≤ MAX_PARTS };
+}
+
+impl Marks {
+    /// None of this many partitions.
+    pub(crate) fn none(parts: u8) -> Marks
+        requires { parts ≤ MAX_PARTS }
+        ensures { result ≡ none_marked parts }
+    {
+        Marks {
+            parts,
+            flags: [false; 16],
+        }
+    }
+
+    /// How many partitions there are.
+    pub(crate) fn parts(&self) -> u8
+        ensures parts { result ≡ length self.now }
+        ensures bound { result ≤ MAX_PARTS }
+    {
+        self.parts
+    }
+
+    /// Whether the partition did.
+    pub(crate) fn has(&self, part: u64) -> bool
+        ensures { result ≡ is_marked self.now part }
+    {
+        part < u64::from(self.parts) && self.flags[part as usize]
+    }
+
+    /// Whether each partition did.
+    pub(crate) fn has_all(&self) -> bool
+        ensures { result ≡ all_marked self.now }
+    {
+        self.flags[..usize::from(self.parts)]
+            .iter()
+            .all(|flag| *flag)
+    }
+
+    /// The partition did too. One that there isn't changes nothing.
+    pub(crate) fn add(&mut self, part: u64)
+        ensures { self.new ≡ with_mark self.old part }
+    {
+        if part < u64::from(self.parts) {
+            self.flags[part as usize] = true;
+        }
+    }
+}

@@ -1,3 +1,0 @@
-pub mod LinkSteps
-pub mod Segments
-pub mod Waiters

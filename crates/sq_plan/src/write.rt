@@ -1,0 +1,35 @@
+// A plan as JSON.
+ghost use Rattle.std.specs.Prelude.{◌≡◌, IfOk};
+ghost use Rattle.serde_json.specs.Data.{array};
+ghost use Rattle.serde_json.specs.View.{view};
+ghost use Rattle.sq_plan.specs.Spelling.{range_data, ranges_data, plan_data};
+
+use crate::plan::{Plan, PlanRange};
+use serde_json::{Value, json};
+use std::alloc::{AllocError, Global};
+
+// A range as JSON.
+fn range_value(alloc: Global, range: PlanRange) -> Result<Value, AllocError>
+    ensures { IfOk result (λ value. view value ≡ range_data range) }
+{
+    json!(in alloc; [range.lo, range.hi, range.owner.number()])
+}
+
+// The ranges as JSON, one for one.
+fn ranges_value(alloc: Global, ranges: &[PlanRange]) -> Result<Value, AllocError>
+    ensures { IfOk result (λ value. view value ≡ array (ranges_data ranges.now)) }
+{
+    let mut values = Vec::with_capacity(alloc, ranges.len())?;
+    for range in ranges {
+        values.push_reserved(range_value(alloc, *range)?);
+    }
+    Ok(Value::Array(values))
+}
+
+// The plan as JSON.
+pub(crate) fn plan_value(alloc: Global, plan: &Plan) -> Result<Value, AllocError>
+    ensures { IfOk result (λ value. view value ≡ plan_data plan.now) }
+{
+    let ranges = ranges_value(alloc, plan.ranges())?;
+    json!(in alloc; {"partitions": plan.parts(), "ranges": ranges, "version": 1})
+}

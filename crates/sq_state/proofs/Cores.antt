@@ -1,0 +1,25 @@
+-- The partitions of a world, each seen by its core.
+use Rattle.std.proofs.Common.{◌≡◌, ℕ, ◌<◌, List, map, length, get_or, set, sym, ap, ◌∙◌, arith}
+use Rattle.std.specs.Prelude.{slice_set}
+use Rattle.std.proofs.lemmas.List.{length-map}
+use Rattle.sq_exec.specs.CoreValue.{CoreValue, PartCoreValue}
+use Rattle.sq_exec.proofs.Seen.{seen_read, seen_set, seen_kept}
+use Rattle.sq_transition.specs.WorldValue.{WorldValue, no_core, core_at}
+
+abbrev pub core_of : PartCoreValue → CoreValue
+core_of part = part.core
+
+module _ (w : WorldValue) (parts : List PartCoreValue) (are : map core_of parts ≡ w.cores) where
+  -- a partition that is read
+  pub core_read : (i : ℕ) (part : PartCoreValue) → i < length w.cores → part ≡ get_or parts i part → part.core ≡ core_at w i
+  core_read i part lt is =
+      let within : i < length parts = omega (arith, length-map parts core_of, ap length are) in
+      seen_read core_of parts i part no_core within is ∙ ap (λ (cores : List CoreValue). get_or cores i no_core) are
+
+  -- one that is changed
+  pub core_written : (i : ℕ) (after : PartCoreValue) (core : CoreValue) → after.core ≡ core → map core_of (set parts i after) ≡ slice_set w.cores i core
+  core_written i after core is = seen_set core_of parts i after core is ∙ ap (λ (cores : List CoreValue). set cores i core) are
+
+  -- one that is as it was
+  pub core_kept : (i : ℕ) (part after : PartCoreValue) → part ≡ get_or parts i part → after.core ≡ part.core → map core_of (set parts i after) ≡ w.cores
+  core_kept i part after is same = seen_kept core_of parts i part after is same ∙ are

@@ -1,0 +1,105 @@
+// The queues of the links.
+ghost use Rattle.std.specs.Prelude.{◌≡◌, ◌<◌, ◌==◌, ◌&&◌, [], ◌∷◌, ◌++◌, length, IfOk, slice_get};
+ghost use Rattle.std.specs.Option.{option_copied};
+ghost use Rattle.sq_ranges.specs.declared.opening.TheConstants.{MAX_CAPACITY};
+ghost use Rattle.sq_state.specs.Queue.{opened_queue, IsPopped};
+
+use sq_chunk::Chunk;
+use sq_plan::PartId;
+use sq_ranges::{Link, MAX_CAPACITY};
+use std::alloc::{AllocError, Global};
+use std::collections::VecDeque;
+use std::marker::Model;
+
+/// The queue of a link: the chunks that went onto it and didn't come off. To a contract it is a `QueueValue`.
+#[derive(Debug, Drop)]
+pub(crate) struct Queue {
+    src: PartId,
+    dst: PartId,
+    chunks: VecDeque<Chunk>,
+}
+
+impl Model for Queue {
+    ghost use Rattle.std.specs.Prelude.{◌≤◌};
+    ghost use Rattle.std.specs.VecDeque.{deque_capacity};
+    ghost use Rattle.sq_ranges.specs.declared.opening.TheConstants.{MAX_CAPACITY};
+    ghost use Rattle.sq_transition.specs.WorldValue.{QueueValue};
+
+    ghost Value = { QueueValue };
+
+    ghost view = { λ q. record { src = q.src; dst = q.dst; chunks = q.chunks.items } };
+
+    ghost invariant = { λ q. MAX_CAPACITY ≤ deque_capacity q.chunks };
+}
+
+impl Queue {
+    /// An empty queue, with room for as many chunks as a link may hold.
+    pub(crate) fn new(alloc: Global, link: Link) -> Result<Queue, AllocError>
+        ensures { IfOk result (λ made. made ≡ opened_queue link) }
+    {
+        Ok(Queue {
+            src: link.src,
+            dst: link.dst,
+            chunks: VecDeque::with_capacity(alloc, MAX_CAPACITY as usize)?,
+        })
+    }
+
+    /// The partition that the chunks leave.
+    pub(crate) fn src(&self) -> PartId
+        ensures { result ≡ self.now.src }
+    {
+        self.src
+    }
+
+    /// The partition that the chunks come to.
+    pub(crate) fn dst(&self) -> PartId
+        ensures { result ≡ self.now.dst }
+    {
+        self.dst
+    }
+
+    /// Whether it goes from the one partition to the other.
+    pub(crate) fn joins(&self, src: u64, dst: u64) -> bool
+        ensures { result ≡ ((self.now.src == src) && (self.now.dst == dst)) }
+    {
+        u64::from(self.src.number()) == src && u64::from(self.dst.number()) == dst
+    }
+
+    /// How many chunks there are.
+    pub(crate) fn len(&self) -> usize
+        ensures { result ≡ length self.now.chunks }
+    {
+        self.chunks.len()
+    }
+
+    /// The chunk at a place, counted from the oldest.
+    pub(crate) fn get(&self, i: usize) -> Option<&Chunk>
+        ensures { option_copied result ≡ slice_get self.now.chunks i }
+    {
+        self.chunks.get(i)
+    }
+
+    /// The chunks, the oldest first, in two pieces.
+    pub(crate) fn as_slices(&self) -> (&[Chunk], &[Chunk])
+        ensures { result.0.now ++ result.1.now ≡ self.now.chunks }
+    {
+        self.chunks.as_slices()
+    }
+
+    /// Puts a chunk behind all others.
+    pub(crate) fn push(&mut self, chunk: Chunk)
+        requires { length self.old.chunks < MAX_CAPACITY }
+        ensures { self.new ≡ record self.old { chunks = self.old.chunks ++ chunk ∷ [] } }
+    {
+        let Ok(()) = self.chunks.push_back(chunk) else {
+            unreachable!()
+        };
+    }
+
+    /// Takes the oldest chunk out.
+    pub(crate) fn pop(&mut self) -> Option<Chunk>
+        ensures { IsPopped self.old result self.new }
+    {
+        self.chunks.pop_front()
+    }
+}

@@ -1,0 +1,285 @@
+// Families in a slab, with an index by root key.
+ghost use Rattle.std.specs.Prelude.{◌≡◌, ◌==◌, ◌+◌, ◌++◌, ◌<◌, ◌≤◌, ℕ, List, [], length, map, vec_len, vec_capacity, None, option_copied, IsTrue, IfOk, IfErr, OnOk, OnErr};
+ghost use Rattle.std.specs.FinMap.{get, insert, remove, len, empty};
+ghost use Rattle.sq_schema.specs.Family.{FamilyValue};
+ghost use Rattle.sq_schema.specs.declared.root.TheConstants.{ROOT_END};
+ghost use Rattle.sq_ranges.specs.CutEnd.{end_within};
+ghost use Rattle.sq_store.specs.StoreValue.{StoreValue, store_reply, store_after, stored_size, take_end, families_between, without_between, roots_differ, has_none_of};
+ghost use Rattle.sq_store.specs.InOrder.{HoldsByRoot};
+ghost use Rattle.sq_store.specs.Merging.{IsPopped};
+ghost use Rattle.sq_store.specs.First.{FirstIs};
+ghost use Rattle.sq_store.specs.PutIn.{IsPutIn};
+
+use crate::store::{Cut, FamilyStore};
+use slab::Slab;
+use sq_ranges::Extent;
+use sq_schema::{ApplyFault, Family, Reply, Root, Txn};
+use std::alloc::{AllocError, Global};
+use std::collections::BTreeMap;
+use std::marker::Model;
+
+/// The families of one partition in a slab, with an index from root keys to keys of the slab. A call looks up each
+/// family that it touches, and moves no other, unless the slab grows. To a contract it is a `StoreValue`, a map from
+/// root keys to families.
+#[derive(Debug, Drop)]
+pub struct SlabStore {
+    alloc: Global,
+    families: Slab<Family>,
+    index: BTreeMap<u64, usize>,
+}
+
+impl Model for SlabStore {
+    ghost use Rattle.std.specs.Coded.{Coded, coded_ℕ, codes};
+    ghost use Rattle.std.specs.Ordering.{nat_cmp};
+    ghost use Rattle.std.specs.FinMap as fin;
+    ghost use Rattle.sq_schema.specs.Family.{FamilyValue};
+    ghost use Rattle.sq_store.specs.StoreValue.{StoreValue};
+    ghost use Rattle.sq_store.specs.Indexed.{indexed, IsIndex};
+
+    ghost Value = { StoreValue };
+
+    ghost coded = { let family : Coded FamilyValue = Prim.hlevel codes in fin.code coded_ℕ family };
+
+    ghost view = { λ s. indexed s.families s.index };
+
+    ghost invariant = { λ s. IsIndex s.families s.index };
+}
+
+impl SlabStore {
+    /// A store without families.
+    pub fn new(alloc: Global) -> SlabStore
+        ensures { result ≡ empty }
+    {
+        SlabStore {
+            alloc,
+            families: Slab::new(alloc),
+            index: BTreeMap::new(alloc),
+        }
+    }
+
+    /// How many families there are.
+    pub fn len(&self) -> usize
+        ensures { result ≡ len self.now }
+    {
+        self.index.len()
+    }
+
+    /// Whether there are none.
+    pub fn is_empty(&self) -> bool
+        ensures { result ≡ (len self.now == 0) }
+    {
+        self.len() == 0
+    }
+
+    // Puts a family in. Where there is no memory it comes back.
+    fn insert(&mut self, family: Family) -> Result<(), Family>
+        requires { get self.old family.root ≡ None }
+        ensures ok { OnOk result (self.new ≡ insert self.old family.root family) }
+        ensures family_returned { IfErr result (λ back. back ≡ family) }
+        ensures err { OnErr result (self.new ≡ self.old) }
+    {
+        if self.families.reserve(1).is_err() {
+            return Err(family);
+        }
+        let root = family.root().number();
+        match self.index.insert(root, self.families.vacant_key()) {
+            Ok(_) => {
+                self.families.insert_reserved(family);
+                Ok(())
+            }
+            Err(_) => Err(family),
+        }
+    }
+
+    // Takes the family of a root key out.
+    fn remove(&mut self, root: Root) -> Option<Family>
+        ensures family { result ≡ get self.old root }
+        ensures store { self.new ≡ remove self.old root }
+    {
+        match self.index.remove(&root.number()) {
+            Some(key) => Some(self.families.remove(key)),
+            None => None,
+        }
+    }
+
+    // Runs a transaction of a root key that has no family. Where it commits its family is put in.
+    fn open(&mut self, txn: &Txn) -> Result<Reply, ApplyFault>
+        requires { get self.old txn.now.root ≡ None }
+        ensures memory { IfErr result (λ fault. fault ≡ ApplyFault.Memory) }
+        ensures reply { IfOk result (λ reply. reply ≡ store_reply self.old txn.now) }
+        ensures store { IfOk result (λ reply. self.new ≡ store_after self.old txn.now reply) }
+        ensures err { OnErr result (self.new ≡ self.old) }
+    {
+        let mut family = Family::empty(self.alloc, txn.root());
+        let reply = family.apply(txn)?;
+        if let Reply::Committed(_) = &reply {
+            if self.insert(family).is_err() {
+                return Err(ApplyFault::Memory);
+            }
+        }
+        Ok(reply)
+    }
+
+    // The first family from one root key on and below another.
+    fn first(&self, lo: u64, hi: u64) -> Option<&Family>
+        ensures first { FirstIs self.now lo hi (option_copied result) }
+        ensures rooted { HoldsByRoot self.now }
+    {
+        let family = self.walk(lo)?;
+        if family.root().number() < hi {
+            Some(family)
+        } else {
+            None
+        }
+    }
+
+    // How many families from one root key on and below another fit into this many bytes, and where they end.
+    fn fit(&self, lo: u64, hi: u64, room: u64) -> (usize, u64)
+        requires { lo ≤ hi }
+        ensures end { result.1 ≡ end_within (stored_size self.now) hi room (map (λ family. family.root) (families_between self.now lo hi)) }
+        ensures count { result.0 ≡ length (families_between self.now lo result.1) }
+        ensures bound { result.0 ≤ ROOT_END }
+        ensures from { lo ≤ result.1 }
+        ensures upto { result.1 ≤ hi }
+    {
+        let mut at = lo;
+        let mut left = room;
+        let mut count = 0;
+        while let Some(family) = self.first(at, hi) {
+            let root = family.root().number();
+            match left.checked_sub(family.size()) {
+                Some(rest) => left = rest,
+                None => return (count, root),
+            }
+            count += 1;
+            at = root + 1;
+        }
+        (count, hi)
+    }
+
+    // How many families of an extent a chunk of this size takes, and where it ends.
+    fn cut(&self, extent: Extent, limit: u64) -> (usize, u64)
+        ensures end { result.1 ≡ take_end self.now extent.lo extent.hi limit }
+        ensures count { result.0 ≡ length (families_between self.now extent.lo result.1) }
+        ensures from { extent.lo ≤ extent.hi → extent.lo ≤ result.1 }
+        ensures upto { result.1 ≤ extent.hi }
+        ensures rooted { HoldsByRoot self.now }
+    {
+        let Some(family) = self.first(extent.lo, extent.hi) else {
+            return (0, extent.hi);
+        };
+        let next = family.root().number() + 1;
+        let room = limit.saturating_sub(family.size());
+        let (count, end) = self.fit(next, extent.hi, room);
+        (count + 1, end)
+    }
+
+    // Takes the first family from one root key on and below another out.
+    fn take_first(&mut self, lo: u64, hi: u64) -> Option<Family>
+        ensures family { IsPopped (families_between self.old lo hi) result (families_between self.new lo hi) }
+        ensures rest { without_between self.new lo hi ≡ without_between self.old lo hi }
+    {
+        let root = self.first(lo, hi)?.root();
+        self.remove(root)
+    }
+
+    // Takes the families from one root key on and below another out, and puts them after those that are there. There
+    // is room for them.
+    fn take_between(&mut self, lo: u64, hi: u64, taken: &mut Vec<Family>)
+        requires { vec_len taken.old + length (families_between self.old lo hi) ≤ vec_capacity taken.old }
+        ensures taken { taken.new.items ≡ taken.old.items ++ families_between self.old lo hi }
+        ensures store { self.new ≡ without_between self.old lo hi }
+    {
+        while let Some(family) = self.take_first(lo, hi) {
+            taken.push_reserved(family);
+        }
+    }
+
+    // Puts families in, from the last on, and lists their root keys, for which there is room. Where there is no memory
+    // for one it stops, and that family and those before it are left.
+    fn put_in(&mut self, families: &mut Vec<Family>, roots: &mut Vec<Root>) -> bool
+        requires differ { IsTrue (roots_differ families.old.items) }
+        requires absent { IsTrue (has_none_of self.old families.old.items) }
+        requires none { roots.old.items ≡ [] }
+        requires room { vec_len families.old ≤ vec_capacity roots.old }
+        ensures put { IsPutIn self.old families.old.items families.new.items roots.new.items self.new }
+        ensures all { IsTrue result → families.new.items ≡ [] }
+        ensures capacity { vec_capacity families.new ≡ vec_capacity families.old }
+        ensures count { vec_len families.new + vec_len roots.new ≡ vec_len families.old }
+    {
+        while let Some(family) = families.pop() {
+            let root = family.root();
+            if let Err(family) = self.insert(family) {
+                families.push_reserved(family);
+                return false;
+            }
+            roots.push_reserved(root);
+        }
+        true
+    }
+
+    // Takes the families of these root keys out again, from the last on, and puts them after those that were left. There
+    // is room for them.
+    fn take_back(&mut self, families: &mut Vec<Family>, mut roots: Vec<Root>)
+        requires { vec_len families.old + vec_len roots ≤ vec_capacity families.old }
+        ensures { (before : StoreValue) (given : List FamilyValue) → IsTrue (roots_differ given) → IsTrue (has_none_of before given)
+            → IsPutIn before given families.old.items roots.items self.old → (self.new ≡ before) × (families.new.items ≡ given) }
+    {
+        while let Some(root) = roots.pop() {
+            if let Some(family) = self.remove(root) {
+                families.push_reserved(family);
+            }
+        }
+    }
+}
+
+impl FamilyStore for SlabStore {
+    ghost contents = { λ store. store };
+
+    fn get(&self, root: Root) -> Option<&Family> {
+        match self.index.get(&root.number()) {
+            Some(key) => self.families.get(*key),
+            None => None,
+        }
+    }
+
+    fn walk(&self, at: u64) -> Option<&Family> {
+        match self.index.range(at..).next() {
+            Some((_, key)) => self.families.get(*key),
+            None => None,
+        }
+    }
+
+    fn apply(&mut self, txn: &Txn) -> Result<Reply, ApplyFault> {
+        match self.index.get(&txn.root().number()) {
+            Some(key) => self.families[*key].apply(txn),
+            None => self.open(txn),
+        }
+    }
+
+    fn take(&mut self, extent: Extent, limit: u64) -> Result<Cut, AllocError> {
+        let (count, end) = self.cut(extent, limit);
+        let mut families = Vec::with_capacity(self.alloc, count)?;
+        self.take_between(extent.lo, end, &mut families);
+        Ok(Cut {
+            families,
+            end,
+            last: end == extent.hi,
+        })
+    }
+
+    fn give(&mut self, mut families: Vec<Family>) -> Result<(), Vec<Family>> {
+        let mut roots = Vec::new(self.alloc);
+        if self.families.reserve(families.len()).is_err()
+            || roots.reserve(families.len()).is_err()
+        {
+            return Err(families);
+        }
+        if self.put_in(&mut families, &mut roots) {
+            Ok(())
+        } else {
+            self.take_back(&mut families, roots);
+            Err(families)
+        }
+    }
+}
