@@ -5,7 +5,6 @@ use Rattle.std.specs.List.{flat_map, range_with_len}
 use Rattle.std.specs.Io.KnownBytes.{Appends}
 use Rattle.std.proofs.lemmas.List.{append-nil, get_or_default}
 use Rattle.std.proofs.lemmas.List.Quantifiers.{position-Some}
-use Rattle.sq_schema.specs.Family.{FamilyValue}
 use Rattle.sq_store.specs.StoreValue.{StoreValue}
 use Rattle.sq_store.specs.InOrder.{families_in}
 use Rattle.sq_exec.specs.CoreValue.{CoreValue, PartCoreValue}
@@ -36,12 +35,12 @@ nothing None = tt
 nothing (Some bytes) = sym (append-nil bytes)
 
 -- what is written of a partition is what is said of it
-pub part_said : (w : WorldValue) (parts : List PartCoreValue) (part at number : ℕ) (here : PartCoreValue) (store : StoreValue) (families : List FamilyValue) → w.cores ≡ map (λ p. p.core) parts → at ≡ part → number ≡ part → part < length parts
-    → here ≡ slice_index_or parts at here → store ≡ here.core.store → families ≡ families_in store → flat_map (at_line number) families ≡ part_lines w part
-part_said w parts part at number here store families same at_is number_is within here_by store_is families_is =
+pub part_said : (w : WorldValue) (parts : List PartCoreValue) (part at number : ℕ) (here : PartCoreValue) (store : StoreValue) → w.cores ≡ map (λ p. p.core) parts → at ≡ part → number ≡ part → part < length parts
+    → here ≡ slice_index_or parts at here → store ≡ here.core.store → flat_map (at_line number) (families_in store) ≡ part_lines w part
+part_said w parts part at number here store same at_is number_is within here_by store_is =
     let here_is : here.core ≡ core_at w part =
     seen_read (λ (p : PartCoreValue). p.core) parts part here no_core within (here_by ∙ ap (λ i. slice_index_or parts i here) at_is) ∙ ap (λ cores. slice_index_or cores part no_core) (sym same) in
-    let all : families ≡ families_in (core_at w part).store = families_is ∙ ap families_in (store_is ∙ ap (λ (core : CoreValue). core.store) here_is) in
+    let all : families_in store ≡ families_in (core_at w part).store = ap families_in (store_is ∙ ap (λ (core : CoreValue). core.store) here_is) in
     λ k. flat_map (at_line (number_is k)) (all k)
 
 -- a queue that is found stands among the queues

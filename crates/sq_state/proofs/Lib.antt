@@ -9,4 +9,5 @@ pub mod Opened
 pub mod Places
 pub mod Serves
 pub mod Steps
+pub mod Said
 pub mod Trees

@@ -10,7 +10,7 @@ use sq_exec::PartCore;
 use sq_model::{Phase, Refusal};
 use sq_plan::Plan;
 use sq_ranges::{Config, Recon, SegId};
-use sq_store::VecStore;
+use sq_store::SlabStore;
 use sq_tree::{NodeId, PlainTree};
 use std::alloc::Global;
 use std::marker::Model;
@@ -37,7 +37,7 @@ pub struct State {
     phase: Phase,
     prepared: Vec<bool>,
     reported: Vec<bool>,
-    cores: Vec<PartCore<VecStore>>,
+    cores: Vec<PartCore<SlabStore>>,
     trees: Vec<PlainTree>,
     queues: Vec<Queue>,
 }

@@ -4,7 +4,7 @@ use crate::fixtures::{note, opening, step};
 use sq_chunk::Note;
 use sq_model::{Answer, Phase, Refusal, Step};
 use sq_ranges::GivenRow;
-use sq_store::VecStore;
+use sq_store::SlabStore;
 use sq_tree::Status;
 use sq_world::{Ending, World, WriteFault, run, run_world};
 use std::alloc::Global;
@@ -65,7 +65,7 @@ fn a_world_before_any_step(rt: HostRuntime) -> Result<(), Fail> {
     assert!(rt; world.phase() == Phase::Idle && world.status(0, 63) == Some(Status::Free));
     for (part, families) in [(0, Some(1)), (1, Some(0)), (2, None)] {
         assert!(rt;
-            world.store(part).map(VecStore::len) == families,
+            world.store(part).map(SlabStore::len) == families,
             "at {part}"
         );
     }

@@ -18,7 +18,7 @@ use sq_plan::Plan;
 use sq_ranges::{Config, GivenRow, Opening, RefusedOpening};
 use sq_schema::Schema;
 use sq_state::State;
-use sq_store::VecStore;
+use sq_store::SlabStore;
 use sq_tree::Status;
 use std::alloc::Global;
 use std::marker::Model;
@@ -124,7 +124,7 @@ impl World {
 
     /// The families of a partition, which are exactly those that are there by the history; `None` where there is no such
     /// partition.
-    pub fn store(&self, part: u64) -> Option<&VecStore>
+    pub fn store(&self, part: u64) -> Option<&SlabStore>
         ensures store { option_copied result ≡ store_at self.now part }
         ensures by_history { (o : OpeningValue) (t : Trace) → Holds o t self.now → IsStoreAfter o t part (option_copied result) }
     {

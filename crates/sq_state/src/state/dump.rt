@@ -3,6 +3,7 @@ ghost use Rattle.std.specs.Prelude.{OnOk};
 ghost use Rattle.std.specs.List.{flat_map, range_with_len};
 ghost use Rattle.std.specs.Option.{option_copied};
 ghost use Rattle.std.specs.Io.KnownBytes.{Appends};
+ghost use Rattle.sq_store.specs.InOrder.{families_in};
 ghost use Rattle.sq_text.specs.Texts.{at_line, way_lines};
 ghost use Rattle.sq_transition.specs.WorldValue.{link_index, option_list, under_way};
 ghost use Rattle.sq_state.specs.Queue.{link_of};
@@ -13,7 +14,7 @@ use crate::queue::Queue;
 use crate::state::State;
 use sq_chunk::Chunk;
 use sq_plan::PartId;
-use sq_schema::Family;
+use sq_store::{FamilyStore, SlabStore};
 use sq_text::{write_at, write_end, write_way};
 use std::io;
 use std::io::Write;
@@ -35,8 +36,8 @@ impl State {
         ensures { OnOk result (Appends (W.contents writer.old) (W.contents writer.new) (flat_map (part_lines self.now) (range_with_len 0 self.now.old.parts))) }
     {
         for part in 0..self.old_plan.parts() {
-            let families = self.cores[usize::from(part)].store().families();
-            write_families(writer, PartId::new(part), families)?;
+            let store = self.cores[usize::from(part)].store();
+            write_families(writer, PartId::new(part), store)?;
         }
         Ok(())
     }
@@ -81,12 +82,14 @@ impl State {
     }
 }
 
-// Writes the families in the store of a partition.
-fn write_families<W: Write>(writer: &mut W, part: PartId, families: &[Family]) -> io::Result<()>
-    ensures { OnOk result (Appends (W.contents writer.old) (W.contents writer.new) (flat_map (at_line part) families.now)) }
+// Writes the families in the store of a partition, by rising root key.
+fn write_families<W: Write>(writer: &mut W, part: PartId, store: &SlabStore) -> io::Result<()>
+    ensures { OnOk result (Appends (W.contents writer.old) (W.contents writer.new) (flat_map (at_line part) (families_in store.now))) }
 {
-    for family in families {
+    let mut at = 0;
+    while let Some(family) = store.walk(at) {
         write_at(writer, part, family)?;
+        at = family.root().number() + 1;
     }
     Ok(())
 }

@@ -8,7 +8,7 @@ ghost use Rattle.sq_state.specs.Sound.{IsSound};
 use crate::state::State;
 use sq_exec::PartCore;
 use sq_model::{Answer, Phase, Refusal};
-use sq_store::VecStore;
+use sq_store::SlabStore;
 
 impl State {
     /// Records that a partition is ready, which it may say until the move starts.
@@ -102,7 +102,7 @@ impl State {
 }
 
 // Tells each partition that the move has started.
-fn start_all(cores: &mut [PartCore<VecStore>])
+fn start_all(cores: &mut [PartCore<SlabStore>])
     ensures { map (λ part. part.core) cores.new ≡ map started_core (map (λ part. part.core) cores.old) }
 {
     for core in cores.iter_mut() {

@@ -15,7 +15,7 @@ use sq_model::Phase;
 use sq_plan::{PartId, Plan};
 use sq_ranges::{Opening, OpeningParts, Range, Recon};
 use sq_schema::{Family, Table};
-use sq_store::{FamilyStore, VecStore};
+use sq_store::{FamilyStore, SlabStore};
 use sq_tree::PlainTree;
 use std::alloc::{AllocError, Global};
 
@@ -24,7 +24,7 @@ use std::alloc::{AllocError, Global};
 struct Fresh {
     prepared: Vec<bool>,
     reported: Vec<bool>,
-    cores: Vec<PartCore<VecStore>>,
+    cores: Vec<PartCore<SlabStore>>,
     trees: Vec<PlainTree>,
     queues: Vec<Queue>,
 }
@@ -90,7 +90,7 @@ fn fresh_state(alloc: Global, opening: &Opening) -> Result<Fresh, AllocError>
 }
 
 // The partitions of the plan before the move.
-fn partitions(alloc: Global, opening: &Opening) -> Result<Vec<PartCore<VecStore>>, AllocError>
+fn partitions(alloc: Global, opening: &Opening) -> Result<Vec<PartCore<SlabStore>>, AllocError>
     ensures { IfOk result (λ cores. map (λ part. part.core) cores.items ≡ map (opened_part opening.now) (range_with_len 0 opening.now.old.parts)) }
 {
     let mut cores = Vec::new(alloc);
@@ -105,7 +105,7 @@ fn partition(
     alloc: Global,
     opening: &Opening,
     part: PartId,
-) -> Result<PartCore<VecStore>, AllocError>
+) -> Result<PartCore<SlabStore>, AllocError>
     ensures { IfOk result (λ opened. opened.core ≡ opened_part opening.now part) }
 {
     let families = families(alloc, opening.old_plan(), part, opening.table())?;
@@ -138,11 +138,11 @@ fn families(
 }
 
 // A store of families whose root keys rise.
-fn store(alloc: Global, families: Vec<Family>) -> Result<VecStore, AllocError>
+fn store(alloc: Global, families: Vec<Family>) -> Result<SlabStore, AllocError>
     requires { (lo : ℕ) × (hi : ℕ) × IsTrue (are_within lo hi families.items) }
     ensures { IfOk result (λ store. store ≡ with_families empty families.items) }
 {
-    let mut store = VecStore::new(alloc);
+    let mut store = SlabStore::new(alloc);
     match store.give(families) {
         Ok(()) => Ok(store),
         Err(_) => Err(AllocError),

@@ -14,4 +14,4 @@ loop-part-preserved g c =
     let count : w.old.parts ≡ c.self.inside.old_plan.parts = ap (λ (v : WorldValue). v.old.parts) (sym c.self.view_is) in
     let within : part < length c.self.inside.cores.items = omega (arith, lengths, count, c.requires.cores, c.loop-part-test.true, c.parts-part-end.ensures.parts) in
     one_more (part_lines w) part (part + 1) _ _ _ _ refl c.loop-part.invariant c.in_ok-write_families.ensures
-    (part_said w c.self.inside.cores.items part c.from.result c.new.result c.index.result.now c.store.result.now c.families-families.result.now cores c.from.ensures c.new.ensures within c.index.ensures c.store.ensures c.families-families.ensures.families)
+    (part_said w c.self.inside.cores.items part c.from.result c.new.result c.index.result.now c.store-store.result.now cores c.from.ensures c.new.ensures within c.index.ensures c.store-store.ensures)
