@@ -1,0 +1,92 @@
+-- The buffer of a reader of lines, as it goes on.
+use Rattle.std.proofs.Common.{◌≡◌, ℕ, ◌+◌, ◌-◌, ◌<◌, ◌≤◌, Bool, true, List, [], ◌∷◌, ◌++◌, length, take, Option, Some, None, refl, sym, ap, ◌∙◌, subst, arith}
+use Rattle.std.specs.Prelude.{slice_range, position, ◌==◌}
+use Rattle.std.specs.Io.KnownBytes.{IsAtEnd}
+use Rattle.sq_lines.specs.declared.reader.Reading.{Reading}
+use Rattle.sq_lines.specs.declared.reader.Reading.TheVariants.{Ended}
+use Rattle.sq_lines.specs.Pieces.{cut_at_ends}
+use Rattle.sq_lines.specs.Buffered.{IsBuffered}
+use Rattle.sq_lines.proofs.Ranges.{empty_range, found_none, split_range, take_range}
+
+nothing_searched : (xs : List ℕ) (at : ℕ) → cut_at_ends (slice_range xs at at) ≡ slice_range xs at at ∷ []
+nothing_searched xs at = rw (empty_range xs at at (omega arith)) refl
+
+-- all that is held was searched
+pub all_searched : (xs : List ℕ) (ps pe start searched end : ℕ) (status : Reading) (known : Option (List ℕ)) → IsBuffered xs ps pe start searched end status known
+    → position (λ b. b == 10) (slice_range xs searched end) ≡ None → IsBuffered xs ps pe start end end status known
+all_searched xs ps pe start searched end status known is none = record {
+  room = is.room;
+  piece = is.piece;
+  piece_within = is.piece_within;
+  searched_after = omega (arith, is.searched_after, is.searched_before);
+  searched_before = omega arith;
+  within = is.within;
+  unended = found_none xs start searched end is.searched_after is.searched_before is.unended none;
+  at_end = is.at_end;
+}
+
+-- the rest was given
+pub given_rest : (xs : List ℕ) (ps pe start searched end : ℕ) (status : Reading) (known : Option (List ℕ)) → IsBuffered xs ps pe start searched end status known → IsBuffered xs start end end end end status known
+given_rest xs ps pe start searched end status known is = record {
+  room = is.room;
+  piece = omega (arith, is.searched_after, is.searched_before);
+  piece_within = is.within;
+  searched_after = omega arith;
+  searched_before = omega arith;
+  within = is.within;
+  unended = nothing_searched xs end;
+  at_end = is.at_end;
+}
+
+-- a line was given
+pub given_line : (xs : List ℕ) (ps pe start searched end at : ℕ) (status : Reading) (known : Option (List ℕ)) → IsBuffered xs ps pe start searched end status known → start ≤ at → at < end → IsBuffered xs start at (at + 1) (at + 1) end status known
+given_line xs ps pe start searched end at reading known is after before = record {
+  room = is.room;
+  piece = after;
+  piece_within = omega (arith, before, is.within);
+  searched_after = omega arith;
+  searched_before = omega (arith, before);
+  within = is.within;
+  unended = nothing_searched xs (at + 1);
+  at_end = is.at_end;
+}
+
+-- ---- a block more
+
+-- what was held is at the front, and what was read behind it
+pub record ReadBehind (old new : List ℕ) (start end now : ℕ) : Type 0 where
+  pub held : slice_range new 0 now ≡ slice_range old start end ++ slice_range new (end - start) now
+  pub front : (at : ℕ) → start ≤ at → at ≤ end → slice_range new 0 (at - start) ≡ slice_range old start at
+
+from_zero : (xs : List ℕ) (n : ℕ) → slice_range xs 0 n ≡ take n xs
+from_zero xs n = ap (λ k. take k xs) (omega arith)
+
+pub read_behind : (old mid new : List ℕ) (start end now : ℕ) → start ≤ end → end - start ≤ now → slice_range mid 0 (end - start) ≡ slice_range old start end → take (end - start) new ≡ take (end - start) mid → ReadBehind old new start end now
+read_behind old mid new start end now order after moved before = record {
+  held = split_range new 0 (end - start) now (omega arith) after ∙ ap (λ (l : List ℕ). l ++ slice_range new (end - start) now) same;
+  front = λ at below above.
+      let sum : start + (at - start) ≡ at = omega (arith, below) in
+      let less : 0 + (at - start) ≡ at - start = omega arith in
+      ap (slice_range new 0) (sym less) ∙ sym (take_range new 0 (end - start) (at - start) (omega (arith, above))) ∙ ap (take (at - start)) same
+      ∙ take_range old start end (at - start) (omega (arith, above, below)) ∙ ap (slice_range old start) sum;
+}
+  where
+    same : slice_range new 0 (end - start) ≡ slice_range old start end
+    same = from_zero new (end - start) ∙ before ∙ sym (from_zero mid (end - start)) ∙ moved
+
+pub read_on : (old mid new : List ℕ) (ps pe start searched end now : ℕ) (before_it status : Reading) (was known : Option (List ℕ)) → IsBuffered old ps pe start searched end before_it was
+    → slice_range mid 0 (end - start) ≡ slice_range old start end → take (end - start) new ≡ take (end - start) mid → length new ≡ length old → end - start ≤ now → now ≤ length new
+    → (status ≡ Ended → IsAtEnd known) → IsBuffered new 0 0 0 (searched - start) now status known
+read_on old mid new ps pe start searched end now before_it status was known is moved before long after within ended =
+    let read = read_behind old mid new start end now (omega (arith, is.searched_after, is.searched_before)) after moved before in
+    let front : slice_range new 0 (searched - start) ≡ slice_range old start searched = read.front searched is.searched_after is.searched_before in
+    record {
+      room = long ∙ is.room;
+      piece = omega arith;
+      piece_within = omega arith;
+      searched_after = omega arith;
+      searched_before = omega (arith, is.searched_before, after);
+      within = omega (arith, within, long, is.room);
+      unended = rw front is.unended;
+      at_end = ended;
+    }

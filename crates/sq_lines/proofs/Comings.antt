@@ -1,0 +1,244 @@
+-- What can come of a reader of lines.
+use Rattle.std.proofs.Common.{◌≡◌, ℕ, ◌+◌, ◌-◌, ◌<◌, ◌≤◌, Bool, true, false, cond, eqb, ltb, List, [], ◌∷◌, ◌++◌, length, Option, Some, None, inl, inr, refl, sym, ap, ◌∙◌, subst, append_assoc, arith}
+use Rattle.std.specs.Prelude.{nat_lt, nat_eq, ◌⊎◌}
+use Rattle.std.specs.Io.KnownBytes.{Keeps, Consumes, IsAtEnd}
+use Rattle.std.proofs.lemmas.Bool.{le-ltb}
+use Rattle.std.proofs.lemmas.Bool.Decides.{nat_tests}
+use Rattle.std.proofs.lemmas.List.{append-nil, length-append}
+use Rattle.sq_lines.specs.declared.buffer.TheConstants.{MAX_UNENDED}
+use Rattle.sq_lines.specs.declared.reader.Next.{Next as NextPiece}
+use Rattle.sq_lines.specs.declared.reader.Next.TheVariants as next
+use Rattle.sq_lines.specs.declared.reader.Reading.{Reading}
+use Rattle.sq_lines.specs.declared.reader.Reading.TheVariants.{Open, Ended}
+use Rattle.sq_lines.specs.declared.reader.Reading.TheVariants as reading
+use Rattle.sq_lines.specs.Pieces.{cut_at_ends, PieceValue, Line, Rest, Failed, Endless, TooMany, InputEnd, Whole, Cut, last_piece, ending_piece, line_then, pieces_of, pieces_in, bytes_of}
+use Rattle.sq_lines.specs.Coming.{LinesValue, Comes, CanCome, CameBefore, IsUndecided, IsLong, Gives, Finds, GoesOn}
+use Rattle.sq_lines.proofs.Ends.{HasFirst, has_first, unended_then, line_then_parts}
+
+-- some bytes can come, and then the reading ends somehow
+pub record SomeMore (status : Reading) (known : Option (List ℕ)) : Type 0 where
+  pub more : List ℕ
+  pub end : InputEnd
+  pub comes : Comes status known end more
+
+pub some_more : (now : Reading) (known : Option (List ℕ)) → SomeMore now known
+some_more Ended known = record { more = []; end = Whole; comes = (refl, refl) }
+some_more reading.Failed known = record { more = []; end = Cut; comes = (refl, refl) }
+some_more Open None = record { more = []; end = Whole; comes = tt }
+some_more Open (Some left) = record { more = left; end = Whole; comes = refl }
+
+-- some pieces can come
+pub record SomePieces (v : LinesValue) : Type 0 where
+  pub pieces : List PieceValue
+  pub can_come : CanCome v pieces
+
+pub some_pieces : (v : LinesValue) → SomePieces v
+some_pieces v = let some = some_more v.reading v.known in
+    record { pieces = pieces_in some.end v.lines (v.held ++ some.more); can_come = record { more = some.more; end = some.end; comes = some.comes; are = refl } }
+
+-- nothing can come after the end
+ended_comes : (now : Reading) (known : Option (List ℕ)) → now ≡ Ended → Comes now known Whole []
+ended_comes now known e = subst (λ r. Comes r known Whole []) (sym e) (refl, refl)
+
+pub at_end : (v : LinesValue) → v.reading ≡ Ended → v.held ≡ [] → CanCome v []
+at_end v ended none = record { more = []; end = Whole; comes = ended_comes v.reading v.known ended; are = rw none refl }
+
+-- where no line may come, no byte may
+nothing_after : (end : InputEnd) (parts : List (List ℕ)) (x : ℕ) (first : List ℕ) (others : List (List ℕ)) → parts ≡ (x ∷ first) ∷ others → pieces_of end 0 parts ≡ TooMany ∷ []
+nothing_after end parts x first [] e = rw e refl
+nothing_after end parts x first (other ∷ others) e = rw e refl
+
+pub none_left : (end : InputEnd) (bytes : List ℕ) → 0 < length bytes → pieces_in end 0 bytes ≡ TooMany ∷ []
+none_left end [] some = absurd (omega arith)
+none_left end (x ∷ xs) some = by_test (eqb x 10) refl (has_first xs)
+  where
+    by_test : (b : Bool) → eqb x 10 ≡ b → HasFirst xs → pieces_in end 0 (x ∷ xs) ≡ TooMany ∷ []
+    by_test true e after = rw (e, after.are) refl
+    by_test false e after = nothing_after end (cut_at_ends (x ∷ xs)) x after.first after.others (rw (e, after.are) refl)
+
+pub too_many : (v : LinesValue) → v.lines ≡ 0 → 0 < length v.held → CanCome v (TooMany ∷ [])
+too_many v none some =
+    let other = some_more v.reading v.known in
+    record { more = other.more; end = other.end; comes = other.comes; are = rw none (sym (none_left other.end (v.held ++ other.more) (omega (arith, length-append v.held other.more)))) }
+
+-- a line and what comes after it
+line_first : (end : InputEnd) (lines : ℕ) (line after : List ℕ) → cut_at_ends line ≡ line ∷ [] → pieces_in end lines (line ++ (10 ∷ after)) ≡ line_then lines line (pieces_in end (lines - 1) after)
+line_first end lines line after e = let next = has_first after in rw (line_then_parts line after e, next.are) refl
+
+some_line : (lines : ℕ) (line : List ℕ) (others : List PieceValue) (b : Bool) → eqb lines 0 ≡ false → nat_lt MAX_UNENDED (length line) ≡ b → line_then lines line others ≡ cond b (Endless line ∷ []) (Line line ∷ others)
+some_line lines line others b some short = rw (some, short) refl
+
+whole_line : (end : InputEnd) (lines : ℕ) (line after : List ℕ) → cut_at_ends line ≡ line ∷ [] → length line ≤ MAX_UNENDED → pieces_in end (lines + 1) (line ++ (10 ∷ after)) ≡ Line line ∷ pieces_in end lines after
+whole_line end lines line after e short =
+    line_first end (lines + 1) line after e ∙ some_line (lines + 1) line (pieces_in end (lines + 1 - 1) after) false (grind (arith, nat_tests)) (le-ltb _ _ short)
+    ∙ ap (λ n. Line line ∷ pieces_in end n after) (omega arith)
+
+pub line_came : (old new : LinesValue) → new.reading ≡ old.reading → new.known ≡ old.known → old.lines ≡ new.lines + 1 → old.held ≡ new.piece ++ (10 ∷ new.held) → cut_at_ends new.piece ≡ new.piece ∷ [] → length new.piece ≤ MAX_UNENDED → CameBefore old (Line new.piece) new
+line_came old new ended known lines held unended short = λ ps can. record {
+  more = can.more;
+  end = can.end;
+  comes = subst (λ b. Comes b old.known can.end can.more) ended (subst (λ k. Comes new.reading k can.end can.more) known can.comes);
+  are = rw (can.are, lines, held, append_assoc new.piece (10 ∷ new.held) can.more) (sym (whole_line can.end new.lines new.piece (new.held ++ can.more) unended short));
+}
+
+-- what is held is all, and no line ends in it
+last_part : (end : InputEnd) (lines : ℕ) (bytes : List ℕ) → cut_at_ends bytes ≡ bytes ∷ [] → pieces_in end lines bytes ≡ last_piece end lines bytes
+last_part end lines bytes e = rw e refl
+
+rest_piece : (lines : ℕ) (bytes : List ℕ) → 0 < lines → 0 < length bytes → length bytes ≤ MAX_UNENDED → last_piece Whole lines bytes ≡ Rest bytes ∷ []
+rest_piece lines [] some nonempty short = absurd (omega arith)
+rest_piece lines (x ∷ xs) some nonempty short =
+    let positive : eqb lines 0 ≡ false = grind (arith, nat_tests) in
+    let is : nat_lt MAX_UNENDED (length (x ∷ xs)) ≡ false = le-ltb _ _ short in
+    rw (positive, is) refl
+
+pub rest_comes : (v : LinesValue) → v.reading ≡ Ended → cut_at_ends v.held ≡ v.held ∷ [] → 0 < v.lines → 0 < length v.held → length v.held ≤ MAX_UNENDED → CanCome v (Rest v.held ∷ [])
+rest_comes v ended unended some nonempty short =
+    record { more = []; end = Whole; comes = ended_comes v.reading v.known ended; are = rw append-nil (sym (last_part Whole v.lines v.held unended ∙ rest_piece v.lines v.held some nonempty short)) }
+
+failed_piece : (lines : ℕ) (bytes : List ℕ) → (bytes ≡ []) ⊎ (0 < lines) → length bytes ≤ MAX_UNENDED → last_piece Cut lines bytes ≡ Failed bytes ∷ []
+failed_piece lines [] some short = refl
+failed_piece lines (x ∷ xs) (inl none) short = absurd cc
+failed_piece lines (x ∷ xs) (inr some) short =
+    let positive : eqb lines 0 ≡ false = grind (arith, nat_tests) in
+    let is : nat_lt MAX_UNENDED (length (x ∷ xs)) ≡ false = le-ltb _ _ short in
+    rw (positive, is) refl
+
+-- what came before a read failed
+pub failed_comes : (v : LinesValue) → v.reading ≡ reading.Failed → cut_at_ends v.held ≡ v.held ∷ [] → (v.held ≡ []) ⊎ (0 < v.lines) → length v.held ≤ MAX_UNENDED → CanCome v (Failed v.held ∷ [])
+failed_comes v failed unended some short =
+    record { more = []; end = Cut; comes = subst (λ r. Comes r v.known Cut []) (sym failed) (refl, refl); are = rw append-nil (sym (last_part Cut v.lines v.held unended ∙ failed_piece v.lines v.held some short)) }
+
+-- a piece that is too long
+pub long_line : (v : LinesValue) (most : ℕ) (line rest : List ℕ) → most ≤ MAX_UNENDED → 0 < v.lines → v.held ≡ line ++ (10 ∷ rest) → cut_at_ends line ≡ line ∷ [] → MAX_UNENDED < length line → IsLong most v
+long_line v most line rest within some held unended long =
+    let other = some_more v.reading v.known in
+    let positive : eqb v.lines 0 ≡ false = grind (arith, nat_tests) in
+    let over : nat_lt MAX_UNENDED (length line) ≡ true = grind (arith, nat_tests) in
+    record {
+      piece = Endless line;
+      others = [];
+      can_come = record {
+        more = other.more;
+        end = other.end;
+        comes = other.comes;
+        are = rw (held, append_assoc line (10 ∷ rest) other.more) (sym (line_first other.end v.lines line (rest ++ other.more) unended ∙ some_line v.lines line (pieces_in other.end (v.lines - 1) (rest ++ other.more)) true positive over));
+      };
+      long = omega (arith, within, long);
+    }
+
+-- the first piece has the bytes of the first part
+record FirstPiece (ps : List PieceValue) (bytes : List ℕ) : Type 0 where
+  piece : PieceValue
+  others : List PieceValue
+  are : ps ≡ piece ∷ others
+  of : bytes_of piece ≡ bytes
+
+either_first : (b : Bool) (bytes : List ℕ) (one : List PieceValue) (first : PieceValue) (others : List PieceValue) → one ≡ first ∷ others → bytes_of first ≡ bytes → FirstPiece (cond b (Endless bytes ∷ []) one) bytes
+either_first true bytes one first others e is = record { piece = Endless bytes; others = []; are = refl; of = refl }
+either_first false bytes one first others e is = record { piece = first; others = others; are = e; of = is }
+
+-- the piece of bytes that aren't ended
+ending_first : (end : InputEnd) (x : ℕ) (xs : List ℕ) → FirstPiece (ending_piece end (x ∷ xs)) (x ∷ xs)
+ending_first Whole x xs = record { piece = Rest (x ∷ xs); others = []; are = refl; of = refl }
+ending_first Cut x xs = record { piece = Failed (x ∷ xs); others = []; are = refl; of = refl }
+
+first_piece : (end : InputEnd) (lines : ℕ) (parts : List (List ℕ)) (x : ℕ) (first : List ℕ) (others : List (List ℕ)) → 0 < lines → parts ≡ (x ∷ first) ∷ others → FirstPiece (pieces_of end lines parts) (x ∷ first)
+first_piece end lines parts x first [] some e =
+    let positive : eqb lines 0 ≡ false = grind (arith, nat_tests) in
+    let last = ending_first end x first in
+    rw (e, positive) (either_first (nat_lt MAX_UNENDED (length (x ∷ first))) (x ∷ first) (ending_piece end (x ∷ first)) last.piece last.others last.are last.of)
+first_piece end lines parts x first (other ∷ others) some e =
+    let positive : eqb lines 0 ≡ false = grind (arith, nat_tests) in
+    let after = pieces_of end (lines - 1) (other ∷ others) in
+    rw (e, positive) (either_first (nat_lt MAX_UNENDED (length (x ∷ first))) (x ∷ first) (Line (x ∷ first) ∷ after) (Line (x ∷ first)) after refl refl)
+
+first_held : (end : InputEnd) (lines : ℕ) (held more : List ℕ) → 0 < lines → 0 < length held → cut_at_ends held ≡ held ∷ [] → (h : HasFirst more) → FirstPiece (pieces_in end lines (held ++ more)) (held ++ h.first)
+first_held end lines [] more some nonempty unended h = absurd (omega arith)
+first_held end lines (x ∷ xs) more some nonempty unended h = first_piece end lines (cut_at_ends ((x ∷ xs) ++ more)) x (xs ++ h.first) h.others some (unended_then (x ∷ xs) more h.first h.others unended h.are)
+
+pub long_unended : (v : LinesValue) (most : ℕ) → 0 < v.lines → cut_at_ends v.held ≡ v.held ∷ [] → most < length v.held → IsLong most v
+long_unended v most some unended long =
+    let other = some_more v.reading v.known in
+    let h = has_first other.more in
+    let first = first_held other.end v.lines v.held other.more some (omega (arith, long)) unended h in
+    record {
+      piece = first.piece;
+      others = first.others;
+      can_come = record { more = other.more; end = other.end; comes = other.comes; are = sym first.are };
+      long = rw first.of (omega (arith, long, length-append v.held h.first));
+    }
+
+-- ---- reading more
+
+comes_before : (now : Reading) (old new : Option (List ℕ)) (bytes : List ℕ) (end : InputEnd) (more : List ℕ) → now ≡ Open → Consumes old new bytes → Comes Open new end more → Comes now old end (bytes ++ more)
+comes_before now old new bytes end more still took comes = subst (λ r. Comes r old end (bytes ++ more)) (sym still) (before old new end took comes)
+  where
+    before : (old new : Option (List ℕ)) (end : InputEnd) → Consumes old new bytes → Comes Open new end more → Comes Open old end (bytes ++ more)
+    before None new end took comes = tt
+    before (Some xs) None end took comes = absurd took
+    before (Some xs) (Some ys) Whole took comes = took ∙ ap (λ (l : List ℕ). bytes ++ l) comes
+    before (Some xs) (Some ys) Cut took comes = (comes.0, took ∙ ap (λ (l : List ℕ). bytes ++ l) comes.1 ∙ sym (append_assoc bytes more comes.0))
+
+pub read_before : (old new : LinesValue) (bytes : List ℕ) (ps : List PieceValue) → old.reading ≡ Open → new.reading ≡ Open → new.lines ≡ old.lines → new.held ≡ old.held ++ bytes → Consumes old.known new.known bytes → CanCome new ps → CanCome old ps
+read_before old new bytes ps was_open still lines held took can = record {
+  more = bytes ++ can.more;
+  end = can.end;
+  comes = comes_before old.reading old.known new.known bytes can.end can.more was_open took (subst (λ b. Comes b new.known can.end can.more) still can.comes);
+  are = can.are ∙ (rw (lines, held) (ap (λ l. pieces_in can.end old.lines l) (append_assoc old.held bytes can.more)));
+}
+
+open_end : (old new : Option (List ℕ)) → Consumes old new [] → IsAtEnd new → Comes Open old Whole []
+open_end None new took ended = tt
+open_end (Some xs) None took ended = absurd took
+open_end (Some xs) (Some ys) took ended = took ∙ ended
+
+open_cut : (known : Option (List ℕ)) → Comes Open known Cut []
+open_cut None = tt
+open_cut (Some left) = (left, refl)
+
+-- what comes after the end of the reading is nothing
+pub nothing_comes : (now : Reading) (known : Option (List ℕ)) (end : InputEnd) (more : List ℕ) → (now ≡ Open → ⊥) → Comes now known end more → more ≡ []
+nothing_comes Open known end more closed comes = absurd (closed refl)
+nothing_comes Ended known end more closed comes = comes.1
+nothing_comes reading.Failed known end more closed comes = comes.1
+
+pub end_before : (old new : LinesValue) (ps : List PieceValue) → old.reading ≡ Open → new.reading ≡ Ended → new.lines ≡ old.lines → new.held ≡ old.held → Consumes old.known new.known [] → IsAtEnd new.known → CanCome new ps → CanCome old ps
+end_before old new ps was_open ended lines held took none can =
+    let is = subst (λ r. Comes r new.known can.end can.more) ended can.comes in
+    record {
+      more = [];
+      end = Whole;
+      comes = subst (λ r. Comes r old.known Whole []) (sym was_open) (open_end old.known new.known took none);
+      are = can.are ∙ rw (lines, held, is.0, is.1) refl;
+    }
+
+pub fail_before : (old new : LinesValue) (ps : List PieceValue) → old.reading ≡ Open → new.reading ≡ reading.Failed → new.lines ≡ old.lines → new.held ≡ old.held → CanCome new ps → CanCome old ps
+fail_before old new ps was_open failed lines held can =
+    let is = subst (λ r. Comes r new.known can.end can.more) failed can.comes in
+    record {
+      more = [];
+      end = Cut;
+      comes = subst (λ r. Comes r old.known Cut []) (sym was_open) (open_cut old.known);
+      are = can.are ∙ rw (lines, held, is.0, is.1) refl;
+    }
+
+-- ---- as much as is needed to tell what comes next
+
+pub goes_nowhere : (v : LinesValue) → GoesOn v v
+goes_nowhere v = ((λ ps can. can), refl)
+
+pub goes_further : (first old new : LinesValue) → GoesOn first old → ((ps : List PieceValue) → CanCome new ps → CanCome old ps) → new.lines ≡ old.lines → GoesOn first new
+goes_further first old new on before lines = ((λ ps can. on.0 ps (before ps can)), lines ∙ on.1)
+
+pub found : (most : ℕ) (first old new : LinesValue) (told_next : NextPiece) → GoesOn first old → Gives most old told_next new → (told_next ≡ next.Unread → ⊥) → Finds most first told_next new
+found most first old new next.Line on gives told = ((λ ps can. on.0 (Line new.piece ∷ ps) (gives.0 ps can)), sym on.1 ∙ gives.1, gives.2)
+found most first old new next.Rest on gives told = (on.0 _ gives.0, gives.2)
+found most first old new next.Failed on gives told = (old.held, on.0 _ gives.0, gives.1)
+found most first old new next.Long on gives told = record { piece = gives.0.piece; others = gives.0.others; can_come = on.0 _ gives.0.can_come; long = gives.0.long }
+found most first old new next.TooMany on gives told = on.0 _ gives.0
+found most first old new next.End on gives told = on.0 _ gives.0
+found most first old new next.Unread on gives told = absurd (told refl)
+
+pub wider : (few most : ℕ) (v : LinesValue) → few ≤ most → IsUndecided few v → IsUndecided most v
+wider few most v less is = record { unended = is.unended; short = omega (arith, is.short, less); goes_on = is.goes_on; some_line = is.some_line }

@@ -1,0 +1,6 @@
+pub mod Ends
+pub mod Ranges
+pub mod Comings
+pub mod Fronts
+pub mod Buffers
+pub mod Lengths

@@ -1,0 +1,58 @@
+use Rattle.std.proofs.Common.{◌≡◌, ◌<◌, ◌≤◌, ◌+◌, ◌-◌, ◌++◌, length, refl, sym, ap, ◌∙◌, subst, arith, true≢false}
+use Rattle.std.specs.Prelude.{slice_range, true, false}
+use Rattle.std.specs.Io.KnownBytes.{Consumes}
+use Rattle.sq_lines.specs.declared.reader.Reading.{Reading}
+use Rattle.sq_lines.specs.declared.reader.Reading.TheVariants.{Open, Ended}
+use Rattle.sq_lines.specs.Coming.{LinesValue}
+use Rattle.sq_lines.proofs.Ranges.{length_range}
+use Rattle.sq_lines.proofs.Comings.{read_before, fail_before}
+use Rattle.sq_lines.proofs.Buffers.{read_on, read_behind}
+use Rattle.sq_lines.proofs.reader.LineReader.read_more.Goals as goal
+
+not_both : {P : Type 0} {r : Reading} → r ≡ Open → r ≡ Ended → P
+not_both o e = absurd cc
+
+pub invariant_of-self : goal.invariant_of-self
+invariant_of-self g c =
+    let s = c.self.inside in
+    let m = c.move_to_front.ensures in
+    let r = c.read_behind.ensures in
+    let long : length c.read_behind.new.buffer.items ≡ length s.buffer.items = sym c.read_behind.new.buffer.ok.0 ∙ r.len ∙ m.len ∙ s.buffer.ok.0 in
+    read_on s.buffer.items c.move_to_front.new.buffer.items c.read_behind.new.buffer.items _ _ s.start s.searched s.end _ _ _ _ _ c.self.invariant m.moved r.before long (omega arith) (omega (arith, long, c.self.invariant.room, c.self.invariant.within))
+    (λ e. c.in-Ok-eq0.ensures.ended c.in-Ok-eq0.field-0-test)
+
+pub invariant_of-self-in-Ok : goal.invariant_of-self-in-Ok
+invariant_of-self-in-Ok g c =
+    let s = c.self.inside in
+    let m = c.move_to_front.ensures in
+    let r = c.read_behind.ensures in
+    let long : length c.read_behind.new.buffer.items ≡ length s.buffer.items = sym c.read_behind.new.buffer.ok.0 ∙ r.len ∙ m.len ∙ s.buffer.ok.0 in
+    let held : length c.args.self.now.held ≡ s.end - s.start = sym (ap (λ (v : LinesValue). length v.held) c.self.view_is) ∙ length_range s.buffer.items s.start s.end (omega (arith, c.self.invariant.within, c.self.invariant.room)) in
+    read_on s.buffer.items c.move_to_front.new.buffer.items c.read_behind.new.buffer.items _ _ s.start s.searched s.end _ _ _ _ _ c.self.invariant m.moved r.before long (omega arith) (omega (arith, long, held, c.requires.short, c.in-Ok.ensures.within, c.self.invariant.room))
+    (λ e. not_both (ap (λ (v : LinesValue). v.reading) c.self.view_is ∙ c.requires.goes_on) e)
+
+pub invariant_of-self-in-Err : goal.invariant_of-self-in-Err
+invariant_of-self-in-Err g c =
+    let s = c.self.inside in
+    let m = c.move_to_front.ensures in
+    let r = c.read_behind.ensures in
+    let long : length c.read_behind.new.buffer.items ≡ length s.buffer.items = sym c.read_behind.new.buffer.ok.0 ∙ r.len ∙ m.len ∙ s.buffer.ok.0 in
+    read_on s.buffer.items c.move_to_front.new.buffer.items c.read_behind.new.buffer.items _ _ s.start s.searched s.end _ _ _ _ _ c.self.invariant m.moved r.before long (omega arith) (omega (arith, long, c.self.invariant.room, c.self.invariant.within))
+    (λ e. absurd cc)
+
+pub returns-in-Ok-clause-comes : goal.returns-in-Ok-clause-comes
+returns-in-Ok-clause-comes g c =
+    let s = c.self.inside in
+    let m = c.move_to_front.ensures in
+    let r = c.read_behind.ensures in
+    let read = read_behind s.buffer.items c.move_to_front.new.buffer.items c.read_behind.new.buffer.items s.start s.end (s.end - s.start + c.in-Ok.count) (omega (arith, c.self.invariant.searched_after, c.self.invariant.searched_before)) (omega arith) m.moved r.before in
+    λ ps can. read_before c.args.self.now _ (slice_range c.read_behind.new.buffer.items (s.end - s.start) (s.end - s.start + c.in-Ok.count)) ps c.requires.goes_on (ap (λ (v : LinesValue). v.reading) c.self.view_is ∙ c.requires.goes_on) (ap (λ (v : LinesValue). v.lines) c.self.view_is)
+    (read.held ∙ ap (λ (v : LinesValue). v.held ++ slice_range c.read_behind.new.buffer.items (s.end - s.start) (s.end - s.start + c.in-Ok.count)) c.self.view_is)
+    (subst (λ (v : LinesValue). Consumes v.known (g.R.Read.remaining c.read_behind.new.reader) (slice_range c.read_behind.new.buffer.items (s.end - s.start) (s.end - s.start + c.in-Ok.count))) c.self.view_is c.in-Ok.ensures.took) can
+
+pub returns-in-Err-clause-comes : goal.returns-in-Err-clause-comes
+returns-in-Err-clause-comes g c =
+    let s = c.self.inside in
+    let read = read_behind s.buffer.items c.move_to_front.new.buffer.items c.read_behind.new.buffer.items s.start s.end (s.end - s.start) (omega (arith, c.self.invariant.searched_after, c.self.invariant.searched_before)) (omega arith) c.move_to_front.ensures.moved c.read_behind.ensures.before in
+    let same : slice_range c.read_behind.new.buffer.items 0 (s.end - s.start) ≡ slice_range s.buffer.items s.start s.end = read.front s.end (omega (arith, c.self.invariant.searched_after, c.self.invariant.searched_before)) (omega arith) in
+    λ ps can. fail_before c.args.self.now _ ps c.requires.goes_on refl (ap (λ (v : LinesValue). v.lines) c.self.view_is) (same ∙ ap (λ (v : LinesValue). v.held) c.self.view_is) can

@@ -1,0 +1,18 @@
+-- The buffer of a reader of lines.
+use Rattle.std.specs.Prelude.{◌≡◌, ◌≤◌, ◌+◌, ℕ, Bool, true, List, [], ◌∷◌, length, slice_range, Option}
+use Rattle.std.specs.Io.KnownBytes.{IsAtEnd}
+use Rattle.sq_lines.specs.declared.buffer.TheConstants.{ROOM}
+use Rattle.sq_lines.specs.declared.reader.Reading.{Reading}
+use Rattle.sq_lines.specs.declared.reader.Reading.TheVariants.{Ended}
+use Rattle.sq_lines.specs.Pieces.{cut_at_ends}
+
+-- the places of a buffer: of the piece given last, and of what wasn't given, which has no line end in its searched part
+pub record IsBuffered (buffer : List ℕ) (piece_start piece_end start searched end : ℕ) (reading : Reading) (known : Option (List ℕ)) : Type 0 where
+  pub room : length buffer ≡ ROOM
+  pub piece : piece_start ≤ piece_end
+  pub piece_within : piece_end ≤ ROOM
+  pub searched_after : start ≤ searched
+  pub searched_before : searched ≤ end
+  pub within : end ≤ ROOM
+  pub unended : cut_at_ends (slice_range buffer start searched) ≡ slice_range buffer start searched ∷ []
+  pub at_end : reading ≡ Ended → IsAtEnd known

@@ -1,0 +1,75 @@
+-- The pieces of an input: its lines, and how the reading of it ends.
+use Rattle.std.specs.Prelude.{ℕ, Bool, false, ◌-◌, ◌==◌, nat_eq, nat_lt, if◌then◌else◌, List, [], ◌∷◌, length}
+use Rattle.std.specs.List.{starts_with, slice_split}
+use Rattle.sq_lines.specs.declared.buffer.TheConstants.{MAX_UNENDED}
+use Rattle.sq_lines.specs.declared.reader.TheConstants.{MAX_LINES}
+
+-- bytes cut at the bytes that end lines
+abbrev pub cut_at_ends : List ℕ → List (List ℕ)
+cut_at_ends bytes = slice_split (λ byte. byte == 10) bytes
+
+-- what comes next of an input
+pub data PieceValue : Type 0 where
+  -- the bytes of a line, without its end
+  Line : (bytes : List ℕ) → PieceValue
+  -- the bytes after the last line end
+  Rest : (bytes : List ℕ) → PieceValue
+  -- the bytes after the last line end, behind which a read failed
+  Failed : (bytes : List ℕ) → PieceValue
+  -- more bytes than may come without a line end
+  Endless : (bytes : List ℕ) → PieceValue
+  -- a byte after the last line that may come
+  TooMany : PieceValue
+
+-- how the bytes of an input end: they are all that there is, or a read failed behind them
+pub data InputEnd : Type 0 where
+  Whole : InputEnd
+  Cut : InputEnd
+
+-- what stands after the last line end, where it isn't too long: a rest, unless it is empty, or what came before a read failed
+abbrev pub ending_piece : InputEnd → List ℕ → List PieceValue
+ending_piece Cut bytes = Failed bytes ∷ []
+ending_piece Whole [] = []
+ending_piece Whole (byte ∷ bytes) = Rest (byte ∷ bytes) ∷ []
+
+-- what stands after the last line end, where at most this many lines may come
+abbrev pub last_piece : InputEnd → ℕ → List ℕ → List PieceValue
+last_piece end lines [] = ending_piece end []
+last_piece end lines (byte ∷ bytes) =
+    if lines == 0 then TooMany ∷ []
+    else if nat_lt MAX_UNENDED (length (byte ∷ bytes)) then Endless (byte ∷ bytes) ∷ []
+    else ending_piece end (byte ∷ bytes)
+
+-- a line with its end, and what comes after it
+abbrev pub line_then : ℕ → List ℕ → List PieceValue → List PieceValue
+line_then lines line others =
+    if lines == 0 then TooMany ∷ []
+    else if nat_lt MAX_UNENDED (length line) then Endless line ∷ []
+    else Line line ∷ others
+
+-- the pieces of an input, given what stands between its line ends, where at most this many lines may come
+abbrev pub pieces_of : InputEnd → ℕ → List (List ℕ) → List PieceValue
+pieces_of end lines [] = []
+pieces_of end lines (rest ∷ []) = last_piece end lines rest
+pieces_of end lines (line ∷ next ∷ others) = line_then lines line (pieces_of end (lines - 1) (next ∷ others))
+
+-- the pieces of bytes, where at most this many lines may come
+abbrev pub pieces_in : InputEnd → ℕ → List ℕ → List PieceValue
+pieces_in end lines bytes = pieces_of end lines (cut_at_ends bytes)
+
+-- the pieces of an input
+abbrev pub pieces : InputEnd → List ℕ → List PieceValue
+pieces end input = pieces_in end MAX_LINES input
+
+-- the bytes of a piece
+abbrev pub bytes_of : PieceValue → List ℕ
+bytes_of (Line bytes) = bytes
+bytes_of (Rest bytes) = bytes
+bytes_of (Failed bytes) = bytes
+bytes_of (Endless bytes) = bytes
+bytes_of TooMany = []
+
+-- the next piece begins so
+abbrev pub next_begins : List ℕ → List PieceValue → Bool
+next_begins front [] = false
+next_begins front (piece ∷ others) = starts_with nat_eq (bytes_of piece) front

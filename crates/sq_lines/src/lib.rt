@@ -1,0 +1,8 @@
+//! The lines of an input, read from any reader as they come.
+#![tactic(auto)]
+
+mod buffer;
+mod reader;
+
+pub use buffer::{BLOCK, MAX_UNENDED};
+pub use reader::{LineReader, MAX_LINES, Next, Reading};

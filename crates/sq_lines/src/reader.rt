@@ -1,0 +1,233 @@
+// Readers of lines.
+ghost use Rattle.std.specs.Prelude.{◌≡◌, ◌≤◌, ◌<◌, [], ◌∷◌, length, ◌==◌, not, true, List, Some, IfOk, IfSome, IfNone};
+ghost use Rattle.sq_lines.specs.Pieces.{next_begins, PieceValue};
+ghost use Rattle.sq_lines.specs.Coming.{CanCome, IsUndecided, Gives, Finds, GoesOn, reads_left};
+ghost use Rattle.std.specs.List.{list_all};
+
+use crate::buffer::{MAX_UNENDED, ROOM, move_to_front, place_of_end, read_behind};
+use std::alloc::{AllocError, Global};
+use std::io::Read;
+use std::marker::Model;
+
+/// The most lines that an input has.
+pub const MAX_LINES: u32 = 1_000_000;
+
+/// What comes next of an input. The bytes of a piece that is given are those of [`LineReader::piece`].
+#[derive(Clone, Copy, Debug, PartialEq, Eq)]
+pub enum Next {
+    /// A line, without the byte 0A that ends it.
+    Line,
+    /// The bytes after the last line end.
+    Rest,
+    /// More bytes than were to be looked at without a line end, or more than [`MAX_UNENDED`]. It isn't given.
+    Long,
+    /// A byte after the [`MAX_LINES`]th line. It isn't given.
+    TooMany,
+    /// What came before a read failed. It isn't given.
+    Failed,
+    /// Nothing.
+    End,
+    /// That can't be told before more is read.
+    Unread,
+}
+
+/// How the reading of an input stands.
+#[derive(Clone, Copy, Debug, PartialEq, Eq)]
+pub enum Reading {
+    /// More may come.
+    Open,
+    /// All was read.
+    Ended,
+    /// A read failed, and no other one is made.
+    Failed,
+}
+
+/// The lines of what a reader gives, as they come. Its buffer has room for the longest line, and is taken once.
+#[derive(Drop)]
+pub struct LineReader<R: Read> {
+    reader: R,
+    buffer: Vec<u8>,
+    // The piece that was given last.
+    piece_start: usize,
+    piece_end: usize,
+    // What was read and not given, up to `end`; there is no line end before `searched`.
+    start: usize,
+    searched: usize,
+    end: usize,
+    reading: Reading,
+    lines: u32,
+}
+
+impl<R: Read> Model for LineReader<R> {
+    ghost use Rattle.std.specs.Prelude.{vec_len, slice_range};
+    ghost use Rattle.sq_lines.specs.Coming.{LinesValue};
+
+    ghost Value = { LinesValue };
+
+    ghost use Rattle.sq_lines.specs.Buffered.{IsBuffered};
+
+    ghost view = { λ r. record { piece = slice_range r.buffer.items r.piece_start r.piece_end; held = slice_range r.buffer.items r.start r.end; reading = r.reading; lines = r.lines; known = R.remaining r.reader } };
+
+    ghost invariant = { λ r. IsBuffered r.buffer.items r.piece_start r.piece_end r.start r.searched r.end r.reading (R.remaining r.reader) };
+}
+
+impl<R: Read> LineReader<R> {
+    /// The lines of what a reader gives.
+    pub fn new(alloc: Global, reader: R) -> Result<LineReader<R>, AllocError>
+    where
+        R: Drop,
+        ensures held { IfOk result (λ lines. lines.held ≡ []) }
+        ensures open { IfOk result (λ lines. lines.reading ≡ Reading.Open) }
+        ensures lines { IfOk result (λ lines. lines.lines ≡ MAX_LINES) }
+        ensures known { IfOk result (λ lines. lines.known ≡ R.remaining reader) }
+    {
+        let mut buffer = Vec::with_capacity(alloc, ROOM)?;
+        buffer.resize(ROOM, 0)?;
+        Ok(LineReader {
+            reader,
+            buffer,
+            piece_start: 0,
+            piece_end: 0,
+            start: 0,
+            searched: 0,
+            end: 0,
+            reading: Reading::Open,
+            lines: MAX_LINES,
+        })
+    }
+
+    /// How many lines may still come.
+    pub fn lines_left(&self) -> u32
+        ensures { result ≡ self.now.lines }
+    {
+        self.lines
+    }
+
+    /// The bytes of the piece that was given last.
+    pub fn piece(&self) -> &[u8]
+        ensures { result.now ≡ self.now.piece }
+    {
+        &self.buffer[self.piece_start..self.piece_end]
+    }
+
+    // What was read and not given.
+    fn held(&self) -> &[u8]
+        ensures { result.now ≡ self.now.held }
+    {
+        &self.buffer[self.start..self.end]
+    }
+
+    /// Whether the next piece begins so; `None` where that can't be told before more is read.
+    pub fn begins(&self, front: &[u8]) -> Option<bool>
+        requires unended { list_all (λ byte. not (byte == 10)) front.now ≡ true }
+        requires some { 0 < length front.now }
+        requires short { length front.now ≤ MAX_UNENDED }
+        ensures begins { IfSome result (λ begins. (ps : List PieceValue) → CanCome self.now ps → next_begins front.now ps ≡ begins) }
+        ensures undecided { IfNone result (IsUndecided (length front.now) self.now) }
+    {
+        if self.lines == 0 {
+            return Some(false);
+        }
+        let held = self.held();
+        if held.len() >= front.len() {
+            return Some(held.starts_with(front));
+        }
+        match self.reading {
+            Reading::Open if front.starts_with(held) => None,
+            Reading::Open => Some(false),
+            _ => Some(held.starts_with(front)),
+        }
+    }
+
+    /// Gives the next piece, if it can be told without a read. The end of a line is looked for in this many bytes.
+    pub fn next(&mut self, most: usize) -> Next
+        requires { most ≤ MAX_UNENDED }
+        ensures { Gives most self.old result self.new }
+    {
+        if self.start == self.end {
+            match self.reading {
+                Reading::Open => return Next::Unread,
+                Reading::Ended => return Next::End,
+                Reading::Failed => return Next::Failed,
+            }
+        }
+        if self.lines == 0 {
+            return Next::TooMany;
+        }
+        let Some(at) = place_of_end(&self.buffer[self.searched..self.end]) else {
+            self.searched = self.end;
+            if self.end - self.start > most {
+                return Next::Long;
+            }
+            match self.reading {
+                Reading::Open => return Next::Unread,
+                Reading::Failed => return Next::Failed,
+                Reading::Ended => {
+                    self.piece_start = self.start;
+                    self.piece_end = self.end;
+                    self.start = self.end;
+                    return Next::Rest;
+                }
+            }
+        };
+        let line_end = self.searched + at;
+        if line_end - self.start > MAX_UNENDED {
+            return Next::Long;
+        }
+        self.piece_start = self.start;
+        self.piece_end = line_end;
+        self.start = line_end + 1;
+        self.searched = line_end + 1;
+        self.lines -= 1;
+        Next::Line
+    }
+
+    /// Asks the reader for more bytes, where it can't be told what comes next.
+    pub fn read_more(&mut self)
+        requires { IsUndecided MAX_UNENDED self.old }
+        ensures comes { (ps : List PieceValue) → CanCome self.new ps → CanCome self.old ps }
+        ensures lines { self.new.lines ≡ self.old.lines }
+        ensures fewer { reads_left self.new < reads_left self.old }
+    {
+        move_to_front(&mut self.buffer, self.start, self.end);
+        self.searched -= self.start;
+        self.end -= self.start;
+        self.start = 0;
+        self.piece_start = 0;
+        self.piece_end = 0;
+        match read_behind(&mut self.reader, &mut self.buffer, self.end) {
+            Ok(0) => self.reading = Reading::Ended,
+            Ok(count) => self.end += count,
+            Err(_) => self.reading = Reading::Failed,
+        }
+    }
+
+    /// Gives the next piece, and reads as much as is needed to tell it.
+    pub fn next_read(&mut self, most: usize) -> Next
+        requires { most ≤ MAX_UNENDED }
+        ensures { Finds most self.old result self.new }
+    {
+        loop {
+            match self.next(most) {
+                Next::Unread => self.read_more(),
+                next => return next,
+            }
+        }
+    }
+
+    /// Whether the next piece begins so. Reads as much as is needed to tell it.
+    pub fn begins_read(&mut self, front: &[u8]) -> bool
+        requires unended { list_all (λ byte. not (byte == 10)) front.now ≡ true }
+        requires some { 0 < length front.now }
+        requires short { length front.now ≤ MAX_UNENDED }
+        ensures goes_on { GoesOn self.old self.new }
+        ensures begins { (ps : List PieceValue) → CanCome self.new ps → next_begins front.now ps ≡ result }
+    {
+        loop {
+            match self.begins(front) {
+                Some(begins) => return begins,
+                None => self.read_more(),
+            }
+        }
+    }
+}

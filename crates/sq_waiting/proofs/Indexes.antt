@@ -1,0 +1,347 @@
+-- Waiting transactions as a map with its indexes, and the list that they are.
+use Rattle.std.proofs.Common.{⊎_elim, ◌≡◌, ◌≢◌, ℕ, ◌+◌, ◌<◌, ◌≤◌, Bool, true, false, ◌||◌, List, [], ◌∷◌, ◌++◌, map, length, refl, sym, ap, subst, ◌∙◌, arith}
+use Rattle.std.specs.Prelude.{cond, ◌==◌, ◌&&◌, nat_le, find, is_some, IsSome, Option, Some, None, option_map}
+use Rattle.std.specs.Option.{option_map_or}
+use Rattle.std.specs.Ordering.{nat_cmp}
+use Rattle.std.specs.Cmp.{unsigned_tied}
+use Rattle.std.specs.List.Sorted.{IsStrictlySortedBy, IsStrictlyIncreasing}
+use Rattle.std.specs.Map.{keys_of, remove_entry}
+use Rattle.std.specs.BTreeMap as tree
+use Rattle.std.specs.BTreeMap.{BTreeMap, is_at, insert_entry}
+use Rattle.std.specs.BTreeSet as set
+use Rattle.std.specs.BTreeSet.{BTreeSet}
+use Rattle.std.proofs.lemmas.Bool.{cases_eq, cases_Bool, and_parts, and_from, eq-eqb, eqb-true, ne_eqb, leb-true, le-leb, false_from_ne_true, true≢false}
+use Rattle.std.proofs.lemmas.List.{map-append, length-map}
+use Rattle.std.proofs.lemmas.Map.Keys.{sorted_tail, IsStrictlyIncreasing-from_sorted}
+use Rattle.sq_schema.specs.TxnValue.{TxnValue}
+use Rattle.sq_waiting.specs.Index.{has_entry, is_between, FirstOf, SetsEntry, HasSameEntries, AddsBetween, HasAllBetween, IsNumberedBetween}
+use Rattle.sq_waiting.specs.Waiting.{Arrival, WaitingValue, numbers_of, is_on, is_numbered, is_due_from, no_number, txn_at, without, numbered_from, with_last, due_if, with_due, IsMoreDue}
+use Rattle.sq_waiting.specs.Indexed.{arrival_of, arrivals_of, IsIndexed}
+use Rattle.sq_waiting.proofs.Entries.{value_at, at_same, at_other, at_head, at_later, absent_later, find_least, find_none, insert_last}
+use Rattle.sq_waiting.proofs.Arrivals.{find-map, numbered_from-append}
+
+abbrev pub Entries : Type 0
+Entries = List (ℕ × TxnValue)
+
+-- the numbers are the keys
+numbers_are : (es : Entries) (due : BTreeSet ℕ) → numbers_of (arrivals_of es due) ≡ keys_of es
+numbers_are [] due = refl
+numbers_are (e ∷ es) due = ap (λ ks. e.0 ∷ ks) (numbers_are es due)
+
+pub numbers_rise : (es : Entries) (due : BTreeSet ℕ) → IsStrictlySortedBy nat_cmp (keys_of es) → IsStrictlyIncreasing (numbers_of (arrivals_of es due))
+numbers_rise es due sorted = subst IsStrictlyIncreasing (sym (numbers_are es due)) (IsStrictlyIncreasing-from_sorted (keys_of es) sorted)
+
+-- the transaction of a number is the value at it
+pub txn_at_key : (es : Entries) (due : BTreeSet ℕ) (number : ℕ) → txn_at (arrivals_of es due) number ≡ value_at es number
+txn_at_key [] due number = refl
+txn_at_key (e ∷ es) due number =
+    elim (number == e.0) as (λ b. option_map (λ (a : Arrival). a.txn) (cond b (Some (arrival_of due e)) (find (is_numbered number) (arrivals_of es due))) ≡ cond b (Some e.1) (value_at es number)) [
+      | true ↦ refl
+      | false ↦ txn_at_key es due number
+    ]
+    ∙ ap (λ b. cond b (Some e.1) (value_at es number)) (sym (unsigned_tied number e.0))
+
+-- one more of those that are numbered anew
+pub numbered_more : (es : Entries) (due : BTreeSet ℕ) (e : ℕ × TxnValue) (n : ℕ) → n ≡ length es
+    → with_last (record { arrivals = numbered_from 0 (arrivals_of es due); next = n }) e.1 (set.contains nat_cmp due e.0) ≡ record { arrivals = numbered_from 0 (arrivals_of (es ++ e ∷ []) due); next = n + 1 }
+numbered_more es due e n same =
+    let place : n ≡ 0 + length (arrivals_of es due) = omega (arith, same, length-map es (arrival_of due)) in
+    ap (λ arrivals. record { arrivals = arrivals; next = n + 1 })
+    (ap (λ k. numbered_from 0 (arrivals_of es due) ++ record { number = k; txn = e.1; is_due = set.contains nat_cmp due e.0 } ∷ []) place
+    ∙ sym (numbered_from-append 0 (arrivals_of es due) (arrival_of due e)) ∙ ap (numbered_from 0) (sym (map-append (arrival_of due) es (e ∷ []))))
+
+-- sets that agree on the keys make them due alike
+pub same_due : (es : Entries) (due now : BTreeSet ℕ) → IsStrictlySortedBy nat_cmp (keys_of es) → ((q : ℕ) (txn : TxnValue) → value_at es q ≡ Some txn → set.contains nat_cmp now q ≡ set.contains nat_cmp due q) → arrivals_of es now ≡ arrivals_of es due
+same_due [] due now sorted same = refl
+same_due (e ∷ es) due now sorted same =
+    λ k. record { number = e.0; txn = e.1; is_due = same e.0 e.1 (at_head e es e.0 refl) k } ∷ same_due es due now (sorted_tail nat_cmp e.0 (keys_of es) sorted) (λ q txn at. same q txn (at_later e es q txn sorted at)) k
+
+-- those that pass are due too
+pub more_due : (es : Entries) (due now : BTreeSet ℕ) (passes : Arrival → Bool) → IsStrictlySortedBy nat_cmp (keys_of es)
+    → ((q : ℕ) (txn : TxnValue) → value_at es q ≡ Some txn → set.contains nat_cmp now q ≡ (set.contains nat_cmp due q || passes (arrival_of due (q, txn))))
+    → arrivals_of es now ≡ map (due_if passes) (arrivals_of es due)
+more_due [] due now passes sorted more = refl
+more_due (e ∷ es) due now passes sorted more =
+    λ k. record { number = e.0; txn = e.1; is_due = more e.0 e.1 (at_head e es e.0 refl) k } ∷ more_due es due now passes (sorted_tail nat_cmp e.0 (keys_of es) sorted) (λ q txn at. more q txn (at_later e es q txn sorted at)) k
+
+-- a number is taken out of the map and of the set
+pub without_key : (es : Entries) (due now : BTreeSet ℕ) (number : ℕ) → IsStrictlySortedBy nat_cmp (keys_of es)
+    → ((q : ℕ) → q ≢ number → set.contains nat_cmp now q ≡ set.contains nat_cmp due q) → arrivals_of (remove_entry (is_at (nat_cmp number)) es) now ≡ without number (arrivals_of es due)
+without_key [] due now number sorted same = refl
+without_key (e ∷ es) due now number sorted same =
+    ⊎_elim
+    (λ (here : number ≡ e.0).
+    ap (λ b. arrivals_of (cond b es (e ∷ remove_entry (is_at (nat_cmp number)) es)) now) (at_same number e.0 here)
+    ∙ same_due es due now (sorted_tail nat_cmp e.0 (keys_of es) sorted) (λ q txn at. same q (apart q txn at here))
+    ∙ sym (ap (λ b. cond b (arrivals_of es due) (arrival_of due e ∷ without number (arrivals_of es due))) (eq-eqb number e.0 here)))
+    (λ (other : number ≢ e.0).
+    ap (λ b. arrivals_of (cond b es (e ∷ remove_entry (is_at (nat_cmp number)) es)) now) (at_other number e.0 other)
+    ∙ (λ k. record { number = e.0; txn = e.1; is_due = same e.0 (λ back. other (sym back)) k } ∷ without_key es due now number (sorted_tail nat_cmp e.0 (keys_of es) sorted) same k)
+    ∙ sym (ap (λ b. cond b (arrivals_of es due) (arrival_of due e ∷ without number (arrivals_of es due))) (ne_eqb number e.0 other)))
+    (cases_eq number e.0)
+  where
+    apart : (q : ℕ) (txn : TxnValue) → value_at es q ≡ Some txn → number ≡ e.0 → q ≢ number
+    apart q txn at here = λ (back : q ≡ number). let both : None ≡ Some txn = sym (absent_later e es q sorted (omega (arith, back, here))) ∙ at in cc
+
+module _ (txns : BTreeMap ℕ TxnValue) (by_root : BTreeSet (ℕ × ℕ)) (due : BTreeSet ℕ) (next : ℕ) (is : IsIndexed txns by_root due next) where
+  abbrev seen : List Arrival
+  seen = arrivals_of txns.entries due
+
+  -- a transaction stands in the index
+  pub indexed : (number : ℕ) (txn : TxnValue) → tree.get nat_cmp txns number ≡ Some txn → (root : ℕ) → has_entry by_root root number ≡ (txn.root == root)
+  indexed number txn at root = is.by_root root number ∙ ap (λ read. option_map_or (λ (t : TxnValue). t.root == root) read false) at
+
+  indexed_some : (root number : ℕ) (read : Option TxnValue) → tree.get nat_cmp txns number ≡ read → has_entry by_root root number ≡ true → (txn : TxnValue) × (tree.get nat_cmp txns number ≡ Some txn) × (txn.root ≡ root)
+  indexed_some root number None at stands = absurd (true≢false (sym stands ∙ is.by_root root number ∙ ap (λ read. option_map_or (λ (t : TxnValue). t.root == root) read false) at))
+  indexed_some root number (Some txn) at stands = (txn, at, eqb-true txn.root root (sym (indexed number txn at root) ∙ stands))
+
+  -- what stands in the index is a transaction
+  pub stands_for : (root number : ℕ) → has_entry by_root root number ≡ true → (txn : TxnValue) × (tree.get nat_cmp txns number ≡ Some txn) × (txn.root ≡ root)
+  stands_for root number stands = indexed_some root number (tree.get nat_cmp txns number) refl stands
+
+  -- the first that waits for a root key has the least number that the index has with it
+  pub first_arrival : (root : ℕ) (found : Option ℕ) → FirstOf by_root root found → found ≡ option_map (λ a. a.number) (find (is_on root) seen)
+  first_arrival root None none =
+      let fails : find (λ e. (e.1).root == root) txns.entries ≡ None =
+      find_none (λ (e : ℕ × TxnValue). (e.1).root == root) txns.entries is.ordered (λ q txn at. sym (indexed q txn at root) ∙ none q) in
+      sym (ap (option_map (λ (a : Arrival). a.number)) (find-map (arrival_of due) (is_on root) txns.entries ∙ ap (option_map (arrival_of due)) fails))
+  first_arrival root (Some number) first =
+      let known = stands_for root number first.stands in
+      let found : find (λ e. (e.1).root == root) txns.entries ≡ Some (number, known.0) =
+      find_least (λ (e : ℕ × TxnValue). (e.1).root == root) txns.entries number known.0 is.ordered known.1 (eq-eqb (known.0).root root known.2)
+      (λ q txn at on. first.least q (indexed q txn at root ∙ on)) in
+      sym (ap (option_map (λ (a : Arrival). a.number)) (find-map (arrival_of due) (is_on root) txns.entries ∙ ap (option_map (arrival_of due)) found))
+
+  module _ (from : ℕ) where
+    abbrev due_from : ℕ × TxnValue → Bool
+    due_from e = nat_le from e.0 && set.contains nat_cmp due e.0
+
+    -- none from a number on is due
+    pub none_due : ((q : ℕ) → from ≤ q → set.contains nat_cmp due q ≡ false) → find (is_due_from from) seen ≡ None
+    none_due none =
+        find-map (arrival_of due) (is_due_from from) txns.entries
+        ∙ ap (option_map (arrival_of due)) (find_none due_from txns.entries is.ordered (λ q txn at. false_from_ne_true (due_from (q, txn)) (λ passes.
+        let parts = and_parts (nat_le from q) (set.contains nat_cmp due q) passes in
+        true≢false (sym parts.1 ∙ none q (leb-true from q parts.0)))))
+
+    -- the least due number from a number on is that of the first
+    pub first_due : (number : ℕ) (txn : TxnValue) → from ≤ number → set.contains nat_cmp due number ≡ true → ((q : ℕ) → from ≤ q → set.contains nat_cmp due q ≡ true → number ≤ q)
+        → tree.get nat_cmp txns number ≡ Some txn → find (is_due_from from) seen ≡ Some (arrival_of due (number, txn))
+    first_due number txn upto here least at =
+        find-map (arrival_of due) (is_due_from from) txns.entries
+        ∙ ap (option_map (arrival_of due)) (find_least due_from txns.entries number txn is.ordered at (and_from (nat_le from number) (set.contains nat_cmp due number) (le-leb from number upto) here) (λ q other found passes.
+        let parts = and_parts (nat_le from q) (set.contains nat_cmp due q) passes in
+        least q (leb-true from q parts.0) parts.1))
+
+  -- all of some root keys are due
+  module _ (lo hi : ℕ) (now : BTreeSet ℕ) (adds : AddsBetween by_root lo hi due now) where
+    pub adds_indexed : IsIndexed txns by_root now next
+    adds_indexed = record {
+      ordered = is.ordered;
+      left = is.left;
+      below = is.below;
+      by_root = is.by_root;
+      due = λ number here.
+          ⊎_elim (λ (old : set.contains nat_cmp due number ≡ true). is.due number old)
+          (λ (between : IsNumberedBetween by_root lo hi number). ap is_some (stands_for between.root number between.stands).1)
+          (adds.only number here);
+    }
+
+    both_kept : (number : ℕ) → set.contains nat_cmp now number ≡ (set.contains nat_cmp due number || set.contains nat_cmp now number)
+    both_kept number =
+        ⊎_elim
+        (λ (old : set.contains nat_cmp due number ≡ true). adds.kept number old ∙ sym (ap (λ b. b || set.contains nat_cmp now number) old))
+        (λ (new : set.contains nat_cmp due number ≡ false). sym (ap (λ b. b || set.contains nat_cmp now number) new))
+        (cases_Bool (set.contains nat_cmp due number))
+
+    pub adds_more : IsMoreDue (record { arrivals = seen; next = next }) (record { arrivals = arrivals_of txns.entries now; next = next })
+    adds_more = record {
+      passes = λ a. set.contains nat_cmp now a.number;
+      more = ap (λ arrivals. record { arrivals = arrivals; next = next }) (more_due txns.entries due now (λ a. set.contains nat_cmp now a.number) is.ordered (λ q txn at. both_kept q));
+    }
+
+    between_due : HasAllBetween by_root lo hi now → (number : ℕ) (txn : TxnValue) → tree.get nat_cmp txns number ≡ Some txn → set.contains nat_cmp now number ≡ (set.contains nat_cmp due number || is_between lo hi txn.root)
+    between_due all number txn at =
+        ⊎_elim
+        (λ (old : set.contains nat_cmp due number ≡ true). adds.kept number old ∙ sym (ap (λ b. b || is_between lo hi txn.root) old))
+        (λ (new : set.contains nat_cmp due number ≡ false).
+        ⊎_elim
+        (λ (between : is_between lo hi txn.root ≡ true).
+        all txn.root number (indexed number txn at txn.root ∙ eq-eqb txn.root txn.root refl) between ∙ sym ((λ k. new k || between k)))
+        (λ (outside : is_between lo hi txn.root ≡ false).
+        false_from_ne_true (set.contains nat_cmp now number) (λ here.
+        ⊎_elim (λ (old : set.contains nat_cmp due number ≡ true). true≢false (sym old ∙ new))
+        (λ (inside : IsNumberedBetween by_root lo hi number).
+        let own : txn.root ≡ inside.root = eqb-true txn.root inside.root (sym (indexed number txn at inside.root) ∙ inside.stands) in
+        true≢false (sym inside.between ∙ ap (is_between lo hi) (sym own) ∙ outside))
+        (adds.only number here))
+        ∙ sym ((λ k. new k || outside k)))
+        (cases_Bool (is_between lo hi txn.root)))
+        (cases_Bool (set.contains nat_cmp due number))
+
+    pub adds_all : HasAllBetween by_root lo hi now → record { arrivals = arrivals_of txns.entries now; next = next } ≡ with_due (λ a. is_between lo hi a.txn.root) (record { arrivals = seen; next = next })
+    adds_all all = ap (λ arrivals. record { arrivals = arrivals; next = next }) (more_due txns.entries due now (λ a. is_between lo hi (a.txn).root) is.ordered (λ q txn at. between_due all q txn at))
+
+  -- a number that isn't below the next is nowhere
+  no_txn : (number : ℕ) → next ≤ number → (read : Option TxnValue) → tree.get nat_cmp txns number ≡ read → read ≡ None
+  no_txn number past None at = refl
+  no_txn number past (Some txn) at = absurd (omega (arith, is.below number (ap is_some at), past))
+
+  pub none_next : tree.get nat_cmp txns next ≡ None
+  none_next = no_txn next (omega arith) (tree.get nat_cmp txns next) refl
+
+  pub not_due_next : set.contains nat_cmp due next ≡ false
+  not_due_next = false_from_ne_true (set.contains nat_cmp due next) (λ here. true≢false (sym (is.due next here) ∙ ap is_some none_next))
+
+  pub none_indexed_next : (root : ℕ) → has_entry by_root root next ≡ false
+  none_indexed_next root = is.by_root root next ∙ ap (λ read. option_map_or (λ (t : TxnValue). t.root == root) read false) none_next
+
+  -- sets that have what these have
+  module _ (again : BTreeSet (ℕ × ℕ)) (now : BTreeSet ℕ) (has : HasSameEntries by_root due again now) (same : BTreeMap ℕ TxnValue) (es : same.entries ≡ txns.entries) where
+    pub index_same : IsIndexed same again now next
+    index_same = record {
+      ordered = subst (λ es. IsStrictlySortedBy nat_cmp (keys_of es)) (sym es) is.ordered;
+      left = is.left;
+      below = λ number there. is.below number (ap (λ es. is_some (value_at es number)) (sym es) ∙ there);
+      by_root = λ root number. has.entries root number ∙ is.by_root root number ∙ ap (λ es. option_map_or (λ (t : TxnValue). t.root == root) (value_at es number) false) (sym es);
+      due = λ number here. ap (λ es. is_some (value_at es number)) es ∙ is.due number (sym (has.due number) ∙ here);
+    }
+
+    pub arrivals_same : arrivals_of same.entries now ≡ seen
+    arrivals_same = ap (λ es. arrivals_of es now) es ∙ same_due txns.entries due now is.ordered (λ q txn at. has.due q)
+
+  -- one more waits
+  module _ (txn : TxnValue) (is_due : Bool) (more : BTreeMap ℕ TxnValue) (indexes : BTreeSet (ℕ × ℕ)) (now : BTreeSet ℕ)
+      (txns_are : (q : ℕ) → tree.get nat_cmp more q ≡ cond (is_at (nat_cmp next) q) (Some txn) (tree.get nat_cmp txns q))
+      (sets : SetsEntry txn.root next true is_due by_root due indexes now) where
+    last_here : (q : ℕ) → next ≡ q → tree.get nat_cmp more q ≡ Some txn
+    last_here q same = txns_are q ∙ ap (λ b. cond b (Some txn) (tree.get nat_cmp txns q)) (at_same next q same)
+
+    last_other : (q : ℕ) → next ≢ q → tree.get nat_cmp more q ≡ tree.get nat_cmp txns q
+    last_other q apart = txns_are q ∙ ap (λ b. cond b (Some txn) (tree.get nat_cmp txns q)) (at_other next q apart)
+
+    due_other : (q : ℕ) → next ≢ q → set.contains nat_cmp now q ≡ set.contains nat_cmp due q
+    due_other q apart = sets.due q ∙ ap (λ b. cond b is_due (set.contains nat_cmp due q)) (ne_eqb next q apart)
+
+    last_indexed : (root number : ℕ) → has_entry indexes root number ≡ option_map_or (λ t. t.root == root) (tree.get nat_cmp more number) false
+    last_indexed root number =
+        ⊎_elim
+        (λ (same : next ≡ number).
+        sets.entries root number ∙ ap (λ b. cond ((txn.root == root) && b) true (has_entry by_root root number)) (eq-eqb next number same)
+        ∙ ap (λ b. cond ((txn.root == root) && true) true b) (ap (has_entry by_root root) (sym same) ∙ none_indexed_next root)
+        ∙ whole (txn.root == root)
+        ∙ sym (ap (λ read. option_map_or (λ (t : TxnValue). t.root == root) read false) (last_here number same)))
+        (λ (apart : next ≢ number).
+        sets.entries root number ∙ ap (λ b. cond ((txn.root == root) && b) true (has_entry by_root root number)) (ne_eqb next number apart)
+        ∙ other (txn.root == root) (has_entry by_root root number)
+        ∙ is.by_root root number ∙ sym (ap (λ read. option_map_or (λ (t : TxnValue). t.root == root) read false) (last_other number apart)))
+        (cases_eq next number)
+      where
+        whole : (b : Bool) → cond (b && true) true false ≡ b
+        whole true = refl
+        whole false = refl
+
+        other : (b c : Bool) → cond (b && false) true c ≡ c
+        other true c = refl
+        other false c = refl
+
+    some_last : (number : ℕ) → IsSome (tree.get nat_cmp txns number) → IsSome (tree.get nat_cmp more number)
+    some_last number there =
+        ⊎_elim (λ (same : next ≡ number). ap is_some (last_here number same)) (λ (apart : next ≢ number). ap is_some (last_other number apart) ∙ there) (cases_eq next number)
+
+    pub index_last : tree.IsOrdered nat_cmp more → next < no_number → IsIndexed more indexes now (next + 1)
+    index_last ordered left = record {
+      ordered = ordered;
+      left = omega (arith, left);
+      below = λ number there.
+          ⊎_elim (λ (same : next ≡ number). omega (arith, same)) (λ (apart : next ≢ number). omega (arith, is.below number (sym (ap is_some (last_other number apart)) ∙ there))) (cases_eq next number);
+      by_root = last_indexed;
+      due = λ number here.
+          ⊎_elim (λ (same : next ≡ number). ap is_some (last_here number same))
+          (λ (apart : next ≢ number). some_last number (is.due number (sym (due_other number apart) ∙ here))) (cases_eq next number);
+    }
+
+    pub arrivals_last : more.entries ≡ insert_entry nat_cmp txns.entries next txn
+        → record { arrivals = arrivals_of more.entries now; next = next + 1 } ≡ with_last (record { arrivals = seen; next = next }) txn is_due
+    arrivals_last es =
+        let here : set.contains nat_cmp now next ≡ is_due = sets.due next ∙ ap (λ b. cond b is_due (set.contains nat_cmp due next)) (eq-eqb next next refl) in
+        let kept : arrivals_of txns.entries now ≡ seen =
+        same_due txns.entries due now is.ordered (λ q other at. due_other q (λ same. absurd (omega (arith, same, is.below q (ap is_some at))))) in
+        let entries : more.entries ≡ txns.entries ++ (next, txn) ∷ [] = es ∙ insert_last txns.entries next txn is.ordered is.below in
+        ap (λ arrivals. record { arrivals = arrivals; next = next + 1 })
+        (ap (λ es. arrivals_of es now) entries ∙ map-append (arrival_of now) txns.entries ((next, txn) ∷ [])
+        ∙ (λ k. kept k ++ record { number = next; txn = txn; is_due = here k } ∷ []))
+
+  -- it is struck out again
+  pub struck_same : (root : ℕ) (is_due : Bool) (indexes again : BTreeSet (ℕ × ℕ)) (now back : BTreeSet ℕ) → SetsEntry root next true is_due by_root due indexes now → SetsEntry root next false false indexes now again back
+      → HasSameEntries by_root due again back
+  struck_same root is_due indexes again now back sets strikes = record {
+    entries = λ r n.
+        ⊎_elim
+        (λ (here : ((root == r) && (next == n)) ≡ true).
+        let parts = and_parts (root == r) (next == n) here in
+        strikes.entries r n ∙ ap (λ b. cond b false (has_entry indexes r n)) here
+        ∙ sym (ap (has_entry by_root r) (sym (eqb-true next n parts.1)) ∙ none_indexed_next r))
+        (λ (other : ((root == r) && (next == n)) ≡ false).
+        strikes.entries r n ∙ ap (λ b. cond b false (has_entry indexes r n)) other ∙ sets.entries r n ∙ ap (λ b. cond b true (has_entry by_root r n)) other)
+        (cases_Bool ((root == r) && (next == n)));
+    due = λ n.
+        ⊎_elim
+        (λ (here : (next == n) ≡ true).
+        strikes.due n ∙ ap (λ b. cond b false (set.contains nat_cmp now n)) here ∙ sym (ap (set.contains nat_cmp due) (sym (eqb-true next n here)) ∙ not_due_next))
+        (λ (other : (next == n) ≡ false).
+        strikes.due n ∙ ap (λ b. cond b false (set.contains nat_cmp now n)) other ∙ sets.due n ∙ ap (λ b. cond b is_due (set.contains nat_cmp due n)) other)
+        (cases_Bool (next == n));
+  }
+
+  -- one is taken out
+  module _ (number : ℕ) (txn : TxnValue) (found : tree.get nat_cmp txns number ≡ Some txn) (left : BTreeMap ℕ TxnValue) (indexes : BTreeSet (ℕ × ℕ)) (now : BTreeSet ℕ)
+      (txns_are : (q : ℕ) → tree.get nat_cmp left q ≡ cond (is_at (nat_cmp number) q) None (tree.get nat_cmp txns q))
+      (strikes : SetsEntry txn.root number false false by_root due indexes now) where
+    gone_here : (q : ℕ) → number ≡ q → tree.get nat_cmp left q ≡ None
+    gone_here q same = txns_are q ∙ ap (λ b. cond b None (tree.get nat_cmp txns q)) (at_same number q same)
+
+    gone_other : (q : ℕ) → number ≢ q → tree.get nat_cmp left q ≡ tree.get nat_cmp txns q
+    gone_other q apart = txns_are q ∙ ap (λ b. cond b None (tree.get nat_cmp txns q)) (at_other number q apart)
+
+    kept_due : (q : ℕ) → number ≢ q → set.contains nat_cmp now q ≡ set.contains nat_cmp due q
+    kept_due q apart = strikes.due q ∙ ap (λ b. cond b false (set.contains nat_cmp due q)) (ne_eqb number q apart)
+
+    gone_indexed : (root q : ℕ) → has_entry indexes root q ≡ option_map_or (λ t. t.root == root) (tree.get nat_cmp left q) false
+    gone_indexed root q =
+        ⊎_elim
+        (λ (same : number ≡ q).
+        strikes.entries root q ∙ ap (λ b. cond ((txn.root == root) && b) false (has_entry by_root root q)) (eq-eqb number q same)
+        ∙ ap (λ b. cond ((txn.root == root) && true) false b) (indexed q txn (ap (tree.get nat_cmp txns) (sym same) ∙ found) root)
+        ∙ nothing (txn.root == root)
+        ∙ sym (ap (λ read. option_map_or (λ (t : TxnValue). t.root == root) read false) (gone_here q same)))
+        (λ (apart : number ≢ q).
+        strikes.entries root q ∙ ap (λ b. cond ((txn.root == root) && b) false (has_entry by_root root q)) (ne_eqb number q apart)
+        ∙ other (txn.root == root) (has_entry by_root root q)
+        ∙ is.by_root root q ∙ sym (ap (λ read. option_map_or (λ (t : TxnValue). t.root == root) read false) (gone_other q apart)))
+        (cases_eq number q)
+      where
+        nothing : (b : Bool) → cond (b && true) false b ≡ false
+        nothing true = refl
+        nothing false = refl
+
+        other : (b c : Bool) → cond (b && false) false c ≡ c
+        other true c = refl
+        other false c = refl
+
+    pub index_gone : tree.IsOrdered nat_cmp left → IsIndexed left indexes now next
+    index_gone ordered = record {
+      ordered = ordered;
+      left = is.left;
+      below = λ q there.
+          ⊎_elim (λ (same : number ≡ q). absurd (true≢false (sym there ∙ ap is_some (gone_here q same)))) (λ (apart : number ≢ q). is.below q (sym (ap is_some (gone_other q apart)) ∙ there)) (cases_eq number q);
+      by_root = gone_indexed;
+      due = λ q here.
+          ⊎_elim (λ (same : number ≡ q). absurd (true≢false (sym here ∙ strikes.due q ∙ ap (λ b. cond b false (set.contains nat_cmp due q)) (eq-eqb number q same))))
+          (λ (apart : number ≢ q). ap is_some (gone_other q apart) ∙ is.due q (sym (kept_due q apart) ∙ here)) (cases_eq number q);
+    }
+
+    pub arrivals_gone : left.entries ≡ remove_entry (is_at (nat_cmp number)) txns.entries → ◌≡◌ {A = WaitingValue} (record { arrivals = arrivals_of left.entries now; next = next }) (record { arrivals = without number seen; next = next })
+    arrivals_gone es =
+        ap (λ arrivals. record { arrivals = arrivals; next = next })
+        (ap (λ es. arrivals_of es now) es ∙ without_key txns.entries due now number is.ordered (λ q apart. kept_due q (λ back. apart (sym back))))

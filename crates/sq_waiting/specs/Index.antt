@@ -1,0 +1,52 @@
+-- The index of waiting transactions by root key.
+use Rattle.std.specs.Prelude.{◌≡◌, ◌≤◌, ℕ, Bool, true, false, ◌==◌, ◌&&◌, ◌⊎◌, if◌then◌else◌, nat_le, nat_lt, Option, Some, None}
+use Rattle.std.specs.Ordering.{nat_cmp, ordering_then}
+use Rattle.std.specs.declared.cmp.Ordering.{Ordering}
+use Rattle.std.specs.BTreeSet.{BTreeSet, contains}
+
+-- entries are in the order of their root keys, and of their arrival numbers where these are the same
+abbrev pub entry_cmp : ℕ × ℕ → ℕ × ℕ → Ordering
+entry_cmp x y = ordering_then (nat_cmp x.0 y.0) (nat_cmp x.1 y.1)
+
+-- the index has the root key with the arrival number
+abbrev pub has_entry : BTreeSet (ℕ × ℕ) → ℕ → ℕ → Bool
+has_entry by_root root number = contains entry_cmp by_root (root, number)
+
+-- the index has the root key with the arrival number or not, and the number is due or not, and else both sets have what they had
+pub record SetsEntry (root number : ℕ) (stands is_due : Bool) (old : BTreeSet (ℕ × ℕ)) (old_due : BTreeSet ℕ) (new : BTreeSet (ℕ × ℕ)) (new_due : BTreeSet ℕ) : Type 0 where
+  pub entries : (r n : ℕ) → has_entry new r n ≡ (if (root == r) && (number == n) then stands else has_entry old r n)
+  pub due : (n : ℕ) → contains nat_cmp new_due n ≡ (if number == n then is_due else contains nat_cmp old_due n)
+
+-- both sets have what they had
+pub record HasSameEntries (old : BTreeSet (ℕ × ℕ)) (old_due : BTreeSet ℕ) (new : BTreeSet (ℕ × ℕ)) (new_due : BTreeSet ℕ) : Type 0 where
+  pub entries : (root number : ℕ) → has_entry new root number ≡ has_entry old root number
+  pub due : (number : ℕ) → contains nat_cmp new_due number ≡ contains nat_cmp old_due number
+
+-- the root key is from lo on and below hi
+abbrev pub is_between : ℕ → ℕ → ℕ → Bool
+is_between lo hi root = nat_le lo root && nat_lt root hi
+
+-- the index has the arrival number with a root key from lo on and below hi
+pub record IsNumberedBetween (by_root : BTreeSet (ℕ × ℕ)) (lo hi number : ℕ) : Type 0 where
+  pub root : ℕ
+  pub stands : has_entry by_root root number ≡ true
+  pub between : is_between lo hi root ≡ true
+
+-- the set has what it had, and else only arrival numbers of root keys from lo on and below hi
+pub record AddsBetween (by_root : BTreeSet (ℕ × ℕ)) (lo hi : ℕ) (old new : BTreeSet ℕ) : Type 0 where
+  pub kept : (number : ℕ) → contains nat_cmp old number ≡ true → contains nat_cmp new number ≡ true
+  pub only : (number : ℕ) → contains nat_cmp new number ≡ true → (contains nat_cmp old number ≡ true) ⊎ IsNumberedBetween by_root lo hi number
+
+-- the set has the arrival numbers of all root keys from lo on and below hi
+abbrev pub HasAllBetween : BTreeSet (ℕ × ℕ) → ℕ → ℕ → BTreeSet ℕ → Type 0
+HasAllBetween by_root lo hi numbers = (root number : ℕ) → has_entry by_root root number ≡ true → is_between lo hi root ≡ true → contains nat_cmp numbers number ≡ true
+
+-- the number is the least that the index has with the root key
+pub record IsFirstOf (by_root : BTreeSet (ℕ × ℕ)) (root number : ℕ) : Type 0 where
+  pub stands : has_entry by_root root number ≡ true
+  pub least : (other : ℕ) → has_entry by_root root other ≡ true → number ≤ other
+
+-- the least number that the index has with the root key, if it has one
+abbrev pub FirstOf : BTreeSet (ℕ × ℕ) → ℕ → Option ℕ → Type 0
+FirstOf by_root root (Some number) = IsFirstOf by_root root number
+FirstOf by_root root None = (number : ℕ) → has_entry by_root root number ≡ false
