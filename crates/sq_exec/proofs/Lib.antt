@@ -9,3 +9,6 @@ pub mod Waits
 pub mod Opens
 pub mod Resumes
 pub mod Loads
+pub mod Due
+pub mod Coming
+pub mod Readies

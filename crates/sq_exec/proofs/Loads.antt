@@ -1,17 +1,24 @@
 -- The chunk that came is loaded.
-use Rattle.std.proofs.Common.{◌≡◌, ℕ, ◌<◌, Bool, true, false, not, List, [], map, length, get_or, set, Option, Some, None, Result, Ok, Err, refl, sym, ap, subst, ◌∙◌}
+use Rattle.std.proofs.Common.{◌≡◌, ℕ, ◌<◌, Bool, true, false, not, ◌||◌, List, [], ◌∷◌, map, length, get_or, set, Option, Some, None, Result, Ok, Err, refl, sym, ap, subst, ◌∙◌}
 use Rattle.std.specs.Prelude.{◌==◌, ◌&&◌, slice_get, IsTrue, OnErr}
 use Rattle.std.proofs.lemmas.List.{get_or_default, set-get_or}
 use Rattle.std.proofs.lemmas.Option.{same_Some, slice_get_within}
 use Rattle.sq_ranges.specs.declared.recon.Range.{Range}
 use Rattle.sq_chunk.specs.ChunkValue.{ChunkValue}
+use Rattle.sq_schema.specs.TxnValue.{TxnValue}
+use Rattle.sq_waiting.specs.Waiting.{Arrival, WaitingValue, txns_of, due_if, with_due, IsMoreDue}
+use Rattle.sq_waiting.specs.Index.{is_between}
+use Rattle.sq_waiting.proofs.Arrivals.{txns-due}
 use Rattle.sq_store.specs.StoreValue.{StoreValue, with_families, has_none_of}
 use Rattle.sq_exec.specs.declared.run.Run.{Run}
 use Rattle.sq_ranges.specs.ReconValue.{extent}
 use Rattle.sq_exec.specs.Runs.{is_met, runs_with}
 use Rattle.sq_exec.specs.CoreValue.{CoreValue, PartCoreValue, inbox_at, loaded_at}
 use Rattle.sq_exec.specs.Moving.{lies_in, can_load, can_load_in, loaded_core, LoadsFrom}
+use Rattle.sq_exec.specs.Kept.{IsCore}
+use Rattle.sq_exec.proofs.Coming.{more_kept, loaded_kept}
 use Rattle.sq_exec.proofs.Seen.{seen_changed, seen_kept}
+use Rattle.sq_chunk.specs.declared.chunk.Note.{Note}
 
 -- what holds anyway holds on an error
 pub on_err : {T E : Type 0} {P : Type 0} → (result : Result T E) → P → OnErr result P
@@ -53,30 +60,66 @@ module _ {seen now : PartCoreValue} (view_is : seen ≡ now) (src from : ℕ) (f
 
   module _ {A : Type 0} (items : A → List Run) (loaded : List A) (loaded_is : map items loaded ≡ seen.core.loaded) where
     -- the parts of the partition are those of the definition
-    pub was_loaded : (inbox gone : Option ChunkValue) (first chunk : ChunkValue) (at : ℕ) (runs more : A) (store : StoreValue) → inbox ≡ get_or seen.core.inboxes from inbox → inbox ≡ Some first → inbox ≡ Some chunk → gone ≡ None
+    pub was_loaded : (inbox gone : Option ChunkValue) (first chunk : ChunkValue) (at : ℕ) (runs more : A) (store : StoreValue) (waiting : List TxnValue) → waiting ≡ seen.core.waiting → inbox ≡ get_or seen.core.inboxes from inbox → inbox ≡ Some first → inbox ≡ Some chunk → gone ≡ None
         → at ≡ first.note.seg → runs ≡ get_or loaded at runs → items more ≡ runs_with (items runs) chunk.note → store ≡ with_families seen.core.store chunk.families
-        → LoadsFrom now.core src chunk.note (record seen.core { inboxes = set seen.core.inboxes from gone; store = store; loaded = map items (set loaded at more) })
-    was_loaded inbox gone first chunk at runs more store read is_first is_chunk gone_is at_is runs_is more_is store_is =
+        → LoadsFrom now.core src chunk.note (record seen.core { inboxes = set seen.core.inboxes from gone; store = store; waiting = waiting; loaded = map items (set loaded at more) })
+    was_loaded inbox gone first chunk at runs more store waiting waiting_is read is_first is_chunk gone_is at_is runs_is more_is store_is =
         let same : first ≡ chunk = same_Some first chunk (sym is_first ∙ is_chunk) in
         let seg_is : at ≡ chunk.note.seg = at_is ∙ ap (λ (c : ChunkValue). c.note.seg) same in
         let runs_are : map items (set loaded at more) ≡ set (map items loaded) chunk.note.seg (runs_with (get_or (map items loaded) chunk.note.seg []) chunk.note) =
         seen_changed items loaded [] (λ rs. runs_with rs chunk.note) at chunk.note.seg runs more seg_is runs_is more_is in
-        let after : record seen.core { inboxes = set seen.core.inboxes from gone; store = store; loaded = map items (set loaded at more) } ≡ loaded_core seen.core src chunk =
+        let after : record seen.core { inboxes = set seen.core.inboxes from gone; store = store; waiting = waiting; loaded = map items (set loaded at more) } ≡ loaded_core seen.core src chunk =
         λ k. record seen.core {
           inboxes = set seen.core.inboxes (from_is k) (gone_is k);
           store = store_is k;
+          waiting = waiting_is k;
           loaded = (runs_are ∙ ap (λ rss. set rss chunk.note.seg (runs_with (get_or rss chunk.note.seg []) chunk.note)) loaded_is) k;
         } in
         record { chunk = chunk; came = came inbox chunk read is_chunk; noted = refl; after = after ∙ ap (λ (v : PartCoreValue). loaded_core v.core src chunk) view_is }
 
     -- where there is no room for a run all stays
-    pub runs_kept : (at : ℕ) (runs more : A) → runs ≡ get_or loaded at runs → items more ≡ items runs → record seen.core { loaded = map items (set loaded at more) } ≡ now.core
-    runs_kept at runs more runs_is more_is =
-        ap (λ rss. record seen.core { loaded = rss }) (seen_kept items loaded at runs more runs_is more_is ∙ loaded_is) ∙ ap (λ (v : PartCoreValue). v.core) view_is
+    pub runs_kept : (at : ℕ) (runs more : A) (waiting : List TxnValue) → waiting ≡ seen.core.waiting → runs ≡ get_or loaded at runs → items more ≡ items runs → record seen.core { waiting = waiting; loaded = map items (set loaded at more) } ≡ now.core
+    runs_kept at runs more waiting waiting_is runs_is more_is =
+        (λ k. record seen.core { waiting = waiting_is k; loaded = (seen_kept items loaded at runs more runs_is more_is ∙ loaded_is) k }) ∙ ap (λ (v : PartCoreValue). v.core) view_is
 
     -- and where there is none for the families
-    pub all_kept : (inbox back : Option ChunkValue) (at : ℕ) (runs more : A) (store : StoreValue) → inbox ≡ get_or seen.core.inboxes from inbox → back ≡ inbox → runs ≡ get_or loaded at runs → items more ≡ items runs → store ≡ seen.core.store
-        → record seen.core { inboxes = set seen.core.inboxes from back; store = store; loaded = map items (set loaded at more) } ≡ now.core
-    all_kept inbox back at runs more store read back_is runs_is more_is store_is =
-        (λ k. record seen.core { inboxes = (ap (set seen.core.inboxes from) (back_is ∙ read) ∙ set-get_or seen.core.inboxes from inbox) k; store = store_is k; loaded = (seen_kept items loaded at runs more runs_is more_is ∙ loaded_is) k })
+    pub all_kept : (inbox back : Option ChunkValue) (at : ℕ) (runs more : A) (store : StoreValue) (waiting : List TxnValue) → waiting ≡ seen.core.waiting → inbox ≡ get_or seen.core.inboxes from inbox → back ≡ inbox → runs ≡ get_or loaded at runs → items more ≡ items runs → store ≡ seen.core.store
+        → record seen.core { inboxes = set seen.core.inboxes from back; store = store; waiting = waiting; loaded = map items (set loaded at more) } ≡ now.core
+    all_kept inbox back at runs more store waiting waiting_is read back_is runs_is more_is store_is =
+        (λ k. record seen.core { inboxes = (ap (set seen.core.inboxes from) (back_is ∙ read) ∙ set-get_or seen.core.inboxes from inbox) k; store = store_is k; waiting = waiting_is k; loaded = (seen_kept items loaded at runs more runs_is more_is ∙ loaded_is) k })
         ∙ ap (λ (v : PartCoreValue). v.core) view_is
+
+-- where more are due the same transactions wait
+pub same_waiting : (old new : WaitingValue) → IsMoreDue old new → txns_of new.arrivals ≡ txns_of old.arrivals
+same_waiting old new more = ap (λ (w : WaitingValue). txns_of w.arrivals) more.more ∙ txns-due more.passes old.arrivals
+
+-- the partition keeps what holds of it when its chunk is loaded, whose root keys' transactions are due
+pub loads_kept : {seen now : PartCoreValue} → seen ≡ now → (src : ℕ) (note : Note) (new : CoreValue) → LoadsFrom now.core src note new → (old more : WaitingValue) (covered : Note) → covered ≡ note
+    → more ≡ with_due (λ a. is_between covered.lo covered.hi (a.txn).root) old → IsCore seen.core old.arrivals → IsCore new more.arrivals
+loads_kept {seen} {now} view_is src note new loads old more covered covered_is more_is is =
+    let same = covered_is ∙ loads.noted in
+    let arrivals_are : more.arrivals ≡ map (due_if (λ a. is_between loads.chunk.note.lo loads.chunk.note.hi (a.txn).root)) old.arrivals =
+    ap (λ (w : WaitingValue). w.arrivals) more_is ∙ ap (λ (n : Note). map (due_if (λ a. is_between n.lo n.hi (a.txn).root)) old.arrivals) same in
+    subst (λ core. IsCore core more.arrivals) (sym loads.after)
+    (subst (λ arrivals. IsCore (loaded_core now.core src loads.chunk) arrivals) (sym arrivals_are) (loaded_kept now.core src loads.chunk old.arrivals (subst (λ (v : PartCoreValue). IsCore v.core old.arrivals) view_is is)))
+
+-- what is as it was keeps what holds of it, where more may be due
+pub as_was : {seen now : PartCoreValue} → seen ≡ now → (new : CoreValue) → new ≡ now.core → (old more : WaitingValue) → IsMoreDue old more → IsCore seen.core old.arrivals → IsCore new more.arrivals
+as_was {seen} {now} view_is new same old more due is =
+    subst (λ core. IsCore core more.arrivals) (sym same) (more_kept now.core old more due (subst (λ (v : PartCoreValue). IsCore v.core old.arrivals) view_is is))
+
+-- those that pass are more
+pub more_by : {old new : WaitingValue} (passes : Arrival → Bool) → new ≡ with_due passes old → IsMoreDue old new
+more_by passes is = record { passes = passes; more = is }
+
+-- where none is due that wasn't, no more are
+pub none_more : (w : WaitingValue) → IsMoreDue w w
+none_more w = record { passes = λ a. false; more = ap (λ arrivals. record w { arrivals = arrivals }) (same w.arrivals) }
+  where
+    or_none : (b : Bool) → b ≡ (b || false)
+    or_none true = refl
+    or_none false = refl
+
+    same : (arrivals : List Arrival) → arrivals ≡ map (due_if (λ a. false)) arrivals
+    same [] = refl
+    same (a ∷ arrivals) = λ k. record a { is_due = or_none a.is_due k } ∷ same arrivals k

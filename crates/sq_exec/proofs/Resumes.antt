@@ -1,21 +1,24 @@
 -- The first waiting transaction that is ready.
-use Rattle.std.proofs.Common.{◌≡◌, ℕ, ◌<◌, Bool, true, false, not, List, [], ◌∷◌, length, get_or, zero, suc, Option, Some, None, refl, sym, ap, subst, ◌∙◌}
-use Rattle.std.specs.Prelude.{◌==◌, ◌&&◌, slice_get, position, remove, option_and_then, if◌then◌else◌, is_none, IsTrue}
+use Rattle.std.proofs.Common.{◌≡◌, ℕ, Bool, true, false, not, List, [], ◌∷◌, get_or, zero, suc, Option, Some, None, refl, sym, ap, subst, ◌∙◌}
+use Rattle.std.specs.Prelude.{◌==◌, ◌&&◌, map, slice_get, position, remove, option_map, option_and_then, if◌then◌else◌, is_none, IsTrue, IsSome}
+use Rattle.std.specs.List.Sorted.{IsStrictlyIncreasing}
 use Rattle.std.specs.Option.{option_map_or}
 use Rattle.std.specs.List.{list_all}
 use Rattle.std.proofs.lemmas.Bool.{eq-eqb}
-use Rattle.std.proofs.lemmas.List.{get_or_default}
 use Rattle.std.proofs.lemmas.List.Folds.{list_all_at}
 use Rattle.std.proofs.lemmas.List.Quantifiers.{position-Some}
-use Rattle.std.proofs.lemmas.Option.{slice_get_read}
 use Rattle.sq_schema.specs.TxnValue.{TxnValue}
 use Rattle.sq_store.specs.StoreValue.{StoreValue}
+use Rattle.sq_waiting.specs.Waiting.{Arrival, txns_of, numbers_of, txn_at, without}
+use Rattle.sq_waiting.proofs.Arrivals.{IsAt, at_number, is_there}
 use Rattle.sq_exec.specs.declared.fault.ResumeFault.TheVariants.{NoneReady, LogFull}
 use Rattle.sq_exec.specs.declared.location.Location.{Location}
 use Rattle.sq_exec.specs.declared.outcome.Outcome.{Outcome}
-use Rattle.sq_exec.specs.CoreValue.{CoreValue, PartCoreValue}
+use Rattle.sq_exec.specs.CoreValue.{CoreValue, Numbering, PartCoreValue}
 use Rattle.sq_exec.specs.Location.{location, is_coming, route, route_from}
 use Rattle.sq_exec.specs.Serving.{is_stuck, served, is_ready, first_ready, resume_refusal, resume_takes_memory, IsResumed}
+use Rattle.sq_exec.specs.Kept.{is_due_here}
+use Rattle.sq_exec.specs.Numbering.{IsFirstReady, TakesNumber}
 
 and_left : (a b : Bool) → (a && b) ≡ true → a ≡ true
 and_left true b h = refl
@@ -51,11 +54,9 @@ module _ (core : CoreValue) (place : ℕ) (first : position (is_ready core) core
       was_false false h = refl
 
   -- it takes memory to run it
-  pub runs_here : (txn : TxnValue) → txn ≡ get_or core.waiting place txn → route core txn.root ≡ core.part → IsTrue (resume_takes_memory core)
-  runs_here txn is same =
-      let within : place < length core.waiting = (position-Some (is_ready core) core.waiting place txn first).0 in
-      let chosen : first_ready core ≡ Some txn =
-      ap (option_and_then (slice_get core.waiting)) first ∙ slice_get_read core.waiting (length core.waiting) place txn refl within is in
+  pub runs_here : (txn : TxnValue) → slice_get core.waiting place ≡ Some txn → route core txn.root ≡ core.part → IsTrue (resume_takes_memory core)
+  runs_here txn there same =
+      let chosen : first_ready core ≡ Some txn = ap (option_and_then (slice_get core.waiting)) first ∙ there in
       ap (λ t. option_map_or (λ txn. route core txn.root == core.part) t false) chosen ∙ eq-eqb (route core txn.root) core.part same
 
 -- the partition that the transaction goes to, which was looked up for its root key
@@ -64,32 +65,82 @@ pub routed : {seen now : PartCoreValue} → seen ≡ now → (read txn : TxnValu
 routed {seen} {now} view_is read txn root who found same root_is found_is who_is =
     who_is ∙ ap (route_from now.core root) found_is ∙ ap (route now.core) (root_is ∙ ap (λ (t : TxnValue). t.root) same) ∙ ap (λ (v : PartCoreValue). route v.core txn.root) (sym view_is)
 
--- the parts of the partition are those of the definition
-pub was_resumed : {seen now : PartCoreValue} → seen ≡ now → (place : ℕ) (read again txn : TxnValue) (root who : ℕ) (found : Option Location) (outcome : Outcome) (store : StoreValue) (waiting : List TxnValue)
-    → Some place ≡ position (is_ready now.core) now.core.waiting → read ≡ get_or seen.core.waiting place read → again ≡ get_or seen.core.waiting place again → txn ≡ get_or seen.core.waiting place txn
-    → root ≡ read.root → found ≡ location now.core root → who ≡ route_from now.core root found
-    → outcome ≡ (served seen.core.part who seen.core.store again).0 → store ≡ (served seen.core.part who seen.core.store again).1 → waiting ≡ remove seen.core.waiting place
-    → IsResumed now.core (record { txn = txn; outcome = outcome }) (record seen.core { store = store; waiting = waiting })
-was_resumed {seen} {now} view_is place read again txn root who found outcome store waiting first read_is again_is txn_is root_is found_is who_is outcome_is store_is waiting_is =
-    let core = seen.core in
-    let ready : position (is_ready core) core.waiting ≡ Some place = ap (λ (v : PartCoreValue). position (is_ready v.core) v.core.waiting) view_is ∙ sym first in
-    let within : place < length core.waiting = (position-Some (is_ready core) core.waiting place txn ready).0 in
-    let same : read ≡ txn = read_is ∙ get_or_default core.waiting place read txn within ∙ sym txn_is in
-    let served_is : again ≡ txn = again_is ∙ get_or_default core.waiting place again txn within ∙ sym txn_is in
-    let who_of : who ≡ route core txn.root = routed view_is read txn root who found same root_is found_is who_is in
-    subst (λ (v : PartCoreValue). IsResumed v.core (record { txn = txn; outcome = outcome }) (record core { store = store; waiting = waiting })) view_is (record {
-      place = place;
-      first = ready;
-      found = slice_get_read core.waiting (length core.waiting) place txn refl within txn_is;
-      told = outcome_is ∙ (λ k. (served core.part (who_of k) core.store (served_is k)).0);
-      after = λ k. record core { store = (store_is ∙ (λ j. (served core.part (who_of j) core.store (served_is j)).1)) k; waiting = waiting_is k };
-    })
+map-remove : {X Y : Type 0} (f : X → Y) (xs : List X) (i : ℕ) → map f (remove xs i) ≡ remove (map f xs) i
+map-remove f [] zero = refl
+map-remove f [] (suc i) = refl
+map-remove f (x ∷ xs) zero = refl
+map-remove f (x ∷ xs) (suc i) = ap (λ rest. f x ∷ rest) (map-remove f xs i)
 
--- the one that didn't find memory runs here
-pub memory_here : {seen now : PartCoreValue} → seen ≡ now → (place : ℕ) (read : TxnValue) (root who here : ℕ) (found : Option Location)
-    → Some place ≡ position (is_ready now.core) now.core.waiting → read ≡ get_or seen.core.waiting place read → root ≡ read.root → found ≡ location now.core root → who ≡ route_from now.core root found
-    → here ≡ seen.core.part → who ≡ here → IsTrue (resume_takes_memory now.core)
-memory_here {seen} {now} view_is place read root who here found first read_is root_is found_is who_is here_is same =
-    let ready : position (is_ready seen.core) seen.core.waiting ≡ Some place = ap (λ (v : PartCoreValue). position (is_ready v.core) v.core.waiting) view_is ∙ sym first in
-    subst (λ (v : PartCoreValue). IsTrue (resume_takes_memory v.core)) view_is
-    (runs_here seen.core place ready read read_is (sym (routed view_is read read root who found refl root_is found_is who_is) ∙ same ∙ here_is))
+-- the transaction of a number is the one at its place
+txn_by_place : (arrivals : List Arrival) (place number : ℕ) → IsAt arrivals number place → (txn : TxnValue) → Some txn ≡ txn_at arrivals number → slice_get (txns_of arrivals) place ≡ Some txn
+txn_by_place arrivals place number at txn txn_is = get-map arrivals place ∙ sym (txn_is ∙ ap (option_map (λ (a : Arrival). a.txn)) at.found)
+  where
+    get-map : (xs : List Arrival) (i : ℕ) → slice_get (txns_of xs) i ≡ option_map (λ (a : Arrival). a.txn) (slice_get xs i)
+    get-map [] i = refl
+    get-map (x ∷ xs) zero = refl
+    get-map (x ∷ xs) (suc i) = get-map xs i
+
+module _ {seen now : PartCoreValue} (view_is : seen ≡ now) (number : ℕ) (ready : IsFirstReady now number) (arrivals : List Arrival) (waiting_is : txns_of arrivals ≡ seen.core.waiting) (numbers_are : numbers_of arrivals ≡ seen.numbering.numbers) where
+  has_number : slice_get (numbers_of arrivals) ready.place ≡ Some number
+  has_number = ap (λ numbers. slice_get numbers ready.place) (numbers_are ∙ ap (λ (v : PartCoreValue). v.numbering.numbers) view_is) ∙ ready.found
+
+  -- the number has a transaction
+  pub stands : IsSome (txn_at arrivals number)
+  stands = is_there arrivals ready.place number has_number
+
+  module _ (rises : IsStrictlyIncreasing (numbers_of arrivals)) where
+    at : IsAt arrivals number ready.place
+    at = at_number arrivals ready.place number rises has_number
+
+    -- what passed of all passes of the rest
+    pub rest_due : (left : List Arrival) → left ≡ without number arrivals → list_all (is_due_here seen.core) arrivals ≡ true → list_all (is_due_here seen.core) left ≡ true
+    rest_due left left_is all = ap (list_all (is_due_here seen.core)) (left_is ∙ at.rest) ∙ list_all-remove (is_due_here seen.core) arrivals ready.place all
+
+    pub rest_moves : (p : TxnValue → Bool) → list_all p (txns_of arrivals) ≡ true → list_all p (txns_of (without number arrivals)) ≡ true
+    rest_moves p all = ap (λ xs. list_all p (txns_of xs)) at.rest ∙ ap (list_all p) (map-remove (λ (a : Arrival). a.txn) arrivals ready.place) ∙ list_all-remove p (txns_of arrivals) ready.place all
+
+    -- the parts of the partition are those of the definition
+    pub was_resumed : (left : List Arrival) → left ≡ without number arrivals → (read again txn : TxnValue) (root who : ℕ) (found : Option Location) (outcome : Outcome) (store : StoreValue)
+        → Some read ≡ txn_at arrivals number → Some again ≡ txn_at arrivals number → Some txn ≡ txn_at arrivals number
+        → root ≡ read.root → found ≡ location now.core root → who ≡ route_from now.core root found
+        → outcome ≡ (served seen.core.part who seen.core.store again).0 → store ≡ (served seen.core.part who seen.core.store again).1
+        → IsResumed now.core (record { txn = txn; outcome = outcome }) (record seen.core { store = store; waiting = txns_of left })
+    was_resumed left left_is read again txn root who found outcome store read_is again_is txn_is root_is found_is who_is outcome_is store_is =
+        let core = seen.core in
+        let place = ready.place in
+        let first : position (is_ready core) core.waiting ≡ Some place = ap (λ (v : PartCoreValue). position (is_ready v.core) v.core.waiting) view_is ∙ ready.first in
+        let both : Some read ≡ Some txn = read_is ∙ sym txn_is in
+        let same : read ≡ txn = cc in
+        let alike : Some again ≡ Some txn = again_is ∙ sym txn_is in
+        let served_is : again ≡ txn = cc in
+        let who_of : who ≡ route core txn.root = routed view_is read txn root who found same root_is found_is who_is in
+        let rest : txns_of left ≡ remove core.waiting place =
+        ap txns_of (left_is ∙ at.rest) ∙ map-remove (λ (a : Arrival). a.txn) arrivals place ∙ ap (λ txns. remove txns place) waiting_is in
+        subst (λ (v : PartCoreValue). IsResumed v.core (record { txn = txn; outcome = outcome }) (record core { store = store; waiting = txns_of left })) view_is (record {
+          place = place;
+          first = first;
+          found = ap (λ txns. slice_get txns place) (sym waiting_is) ∙ txn_by_place arrivals place number at txn txn_is;
+          told = outcome_is ∙ (λ k. (served core.part (who_of k) core.store (served_is k)).0);
+          after = λ k. record core { store = (store_is ∙ (λ j. (served core.part (who_of j) core.store (served_is j)).1)) k; waiting = rest k };
+        })
+
+    -- the number is taken out with it
+    pub number_taken : (left : List Arrival) → left ≡ without number arrivals → (new : PartCoreValue) (next : ℕ) → next ≡ seen.numbering.next → ◌≡◌ {A = Numbering} new.numbering (record { numbers = numbers_of left; next = next }) → TakesNumber now new
+    number_taken left left_is new next next_is new_is = record {
+      place = ready.place;
+      first = ready.first;
+      rest =
+          new_is
+          ∙ (λ k. record { numbers = (ap numbers_of (left_is ∙ at.rest) ∙ map-remove (λ (a : Arrival). a.number) arrivals ready.place ∙ ap (λ numbers. remove numbers ready.place) numbers_are) k; next = next_is k })
+          ∙ ap (λ (v : PartCoreValue). record { numbers = remove v.numbering.numbers ready.place; next = v.numbering.next }) view_is;
+    }
+
+    -- the one that didn't find memory runs here
+    pub memory_here : (read : TxnValue) (root who here : ℕ) (found : Option Location) → Some read ≡ txn_at arrivals number → root ≡ read.root → found ≡ location now.core root → who ≡ route_from now.core root found
+        → here ≡ seen.core.part → who ≡ here → IsTrue (resume_takes_memory now.core)
+    memory_here read root who here found read_is root_is found_is who_is here_is same =
+        let core = seen.core in
+        let first : position (is_ready core) core.waiting ≡ Some ready.place = ap (λ (v : PartCoreValue). position (is_ready v.core) v.core.waiting) view_is ∙ ready.first in
+        let there : slice_get core.waiting ready.place ≡ Some read = ap (λ txns. slice_get txns ready.place) (sym waiting_is) ∙ txn_by_place arrivals ready.place number at read read_is in
+        subst (λ (v : PartCoreValue). IsTrue (resume_takes_memory v.core)) view_is
+        (runs_here core ready.place first read there (sym (routed view_is read read root who found refl root_is found_is who_is) ∙ same ∙ here_is))

@@ -1,11 +1,10 @@
 -- A partition by itself.
-use Rattle.std.specs.Prelude.{◌≡◌, ℕ, Bool, true, false, ◌&&◌, nat_lt, List, [], replicate, length, slice_set, slice_index_or, Option, None, is_some}
-use Rattle.std.specs.List.{list_all}
+use Rattle.std.specs.Prelude.{ℕ, Bool, false, ◌&&◌, nat_lt, List, [], replicate, length, slice_set, slice_index_or, Option, None}
 use Rattle.sq_schema.specs.TxnValue.{TxnValue}
 use Rattle.sq_plan.specs.PlanValue.{PlanValue}
 use Rattle.sq_ranges.specs.declared.recon.Link.{Link}
 use Rattle.sq_ranges.specs.declared.recon.Range.{Range}
-use Rattle.sq_ranges.specs.ReconValue.{ReconValue, leaf_at}
+use Rattle.sq_ranges.specs.ReconValue.{ReconValue}
 use Rattle.sq_ranges.specs.OpeningValue.{OpeningValue}
 use Rattle.sq_store.specs.StoreValue.{StoreValue}
 use Rattle.sq_chunk.specs.ChunkValue.{ChunkValue}
@@ -27,10 +26,16 @@ pub record CoreValue : Type 0 where
   pub given_up : List (List Bool)
   pub loaded : List (List Run)
 
--- a partition, with whether there is room for what the next Begin adds
+-- the arrival numbers of the waiting transactions in their order, and the one that the next gets
+pub record Numbering : Type 0 where
+  pub numbers : List ℕ
+  pub next : ℕ
+
+-- a partition, with whether there is room for what the next Begin adds, and the arrival numbers of what waits
 pub record PartCoreValue : Type 0 where
   pub core : CoreValue
   pub has_room : Bool
+  pub numbering : Numbering
 
 -- a partition with these families, before the move
 abbrev pub opened_core : OpeningValue → ℕ → StoreValue → CoreValue
@@ -78,12 +83,3 @@ link_to core dst = record { src = core.part; dst = dst }
 -- a segment goes from one of this many partitions to another
 abbrev pub has_ends : ℕ → Range → Bool
 has_ends parts segment = nat_lt segment.src parts && nat_lt segment.dst parts
-
--- each partition and each segment has its place, each segment goes from one partition to another, and what waits moves
-pub record IsCore (core : CoreValue) : Type 0 where
-  pub outs : length core.outs ≡ core.plan.parts
-  pub inboxes : length core.inboxes ≡ core.plan.parts
-  pub given_up : length core.given_up ≡ length core.recon.segments
-  pub loaded : length core.loaded ≡ length core.recon.segments
-  pub ends : list_all (has_ends core.plan.parts) core.recon.segments ≡ true
-  pub moving : list_all (λ txn. is_some (leaf_at core.recon txn.root)) core.waiting ≡ true

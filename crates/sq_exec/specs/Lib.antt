@@ -5,5 +5,7 @@ pub mod Work
 pub mod OutLink
 pub mod CoreValue
 pub mod Location
+pub mod Kept
+pub mod Numbering
 pub mod Serving
 pub mod Moving

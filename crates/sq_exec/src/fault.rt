@@ -94,3 +94,13 @@ impl From<AllocError> for CutFault {
         CutFault::Memory
     }
 }
+
+impl From<AllocError> for LoadFault {
+    ghost use Rattle.sq_exec.specs.declared.fault.LoadFault.TheVariants.{Memory};
+
+    ghost from_gives = { λ _ fault. fault ≡ Memory };
+
+    fn from(_error: AllocError) -> LoadFault {
+        LoadFault::Memory
+    }
+}

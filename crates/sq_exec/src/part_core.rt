@@ -1,6 +1,7 @@
 // One partition by itself.
 ghost use Rattle.std.specs.Prelude.{◌≡◌, true, length, map};
 ghost use Rattle.std.specs.Option.{option_copied};
+ghost use Rattle.sq_waiting.specs.Waiting.{txns_of};
 ghost use Rattle.sq_exec.specs.CoreValue.{out_at, inbox_at};
 
 use crate::given_up::GivenUp;
@@ -9,8 +10,8 @@ use crate::run::Run;
 use sq_chunk::Chunk;
 use sq_plan::{PartId, Plan};
 use sq_ranges::Recon;
-use sq_schema::{Root, Txn};
 use sq_store::FamilyStore;
+use sq_waiting::Waiting;
 use std::marker::Model;
 
 mod moving;
@@ -18,7 +19,7 @@ mod open;
 mod serving;
 
 /// One partition by itself: its families, the transactions that wait at it, and its ends of the links. To a contract it
-/// is a `CoreValue`, and whether there is room for what the next Begin adds.
+/// is a `CoreValue`, whether there is room for what the next Begin adds, and the arrival numbers of what waits.
 #[derive(Drop)]
 pub struct PartCore<S: FamilyStore> {
     part: PartId,
@@ -27,7 +28,7 @@ pub struct PartCore<S: FamilyStore> {
     limit: u64,
     started: bool,
     store: S,
-    waiting: Vec<Txn>,
+    waiting: Waiting,
     outs: Vec<OutLink>,
     inboxes: Vec<Option<Chunk>>,
     given_up: Vec<GivenUp>,
@@ -41,7 +42,9 @@ impl<S: FamilyStore> Model for PartCore<S> {
     ghost use Rattle.std.specs.Ordering.{nat_cmp};
     ghost use Rattle.std.specs.FinMap as fin;
     ghost use Rattle.sq_schema.specs.Family.{FamilyValue};
-    ghost use Rattle.sq_exec.specs.CoreValue.{CoreValue, PartCoreValue, IsCore};
+    ghost use Rattle.sq_waiting.specs.Waiting.{txns_of, numbers_of};
+    ghost use Rattle.sq_exec.specs.CoreValue.{CoreValue, PartCoreValue};
+    ghost use Rattle.sq_exec.specs.Kept.{IsCore};
 
     ghost Value = { PartCoreValue };
 
@@ -55,13 +58,14 @@ impl<S: FamilyStore> Model for PartCore<S> {
         limit = p.limit;
         started = p.started;
         store = S.contents p.store;
-        waiting = p.waiting.items;
+        waiting = txns_of p.waiting.arrivals;
         outs = map (λ out. out.link) p.outs.items;
         inboxes = p.inboxes.items;
         given_up = p.given_up.items;
         loaded = map (λ runs. runs.items) p.loaded.items;
       };
       has_room = list_all (λ out. out.has_room) p.outs.items;
+      numbering = record { numbers = numbers_of p.waiting.arrivals; next = p.waiting.next };
     } };
 
     ghost invariant = { λ p. IsCore (record {
@@ -71,12 +75,12 @@ impl<S: FamilyStore> Model for PartCore<S> {
       limit = p.limit;
       started = p.started;
       store = S.contents p.store;
-      waiting = p.waiting.items;
+      waiting = txns_of p.waiting.arrivals;
       outs = map (λ out. out.link) p.outs.items;
       inboxes = p.inboxes.items;
       given_up = p.given_up.items;
       loaded = map (λ runs. runs.items) p.loaded.items;
-    }) };
+    }) p.waiting.arrivals };
 }
 
 /// What a partition that is closed hands out.
@@ -85,7 +89,7 @@ pub struct CoreParts<S> {
     /// The families.
     pub store: S,
     /// The transactions that wait, in the order in which they came.
-    pub waiting: Vec<Txn>,
+    pub waiting: Waiting,
     /// For each partition the chunk that came from it and isn't loaded.
     pub inboxes: Vec<Option<Chunk>>,
     /// For each partition the end of the link to it: the notes of all chunks that were cut, and the one that isn't sent.
@@ -125,7 +129,7 @@ impl<S: FamilyStore> PartCore<S> {
     /// What it holds, without a copy.
     pub fn close(self) -> CoreParts<S>
         ensures store { S.contents result.store ≡ self.core.store }
-        ensures waiting { result.waiting.items ≡ self.core.waiting }
+        ensures waiting { txns_of result.waiting.arrivals ≡ self.core.waiting }
         ensures inboxes { result.inboxes.items ≡ self.core.inboxes }
         ensures outs { map (λ out. out.link) result.outs.items ≡ self.core.outs }
     {

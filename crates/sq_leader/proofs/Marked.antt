@@ -19,7 +19,7 @@ is_marked-past : (marks : List Bool) (part : ℕ) → length marks ≤ part → 
 is_marked-past marks part past = get_or-eq_default marks false past
 
 -- nobody is marked at first
-is_marked-none_marked : (parts part : ℕ) → is_marked (none_marked parts) part ≡ false
+pub is_marked-none_marked : (parts part : ℕ) → is_marked (none_marked parts) part ≡ false
 is_marked-none_marked parts part = elim (cases_lt part parts) [
   | inl lt ↦ get_or-replicate parts part false false lt
   | inr past ↦ is_marked-past (none_marked parts) part (omega (arith, length-replicate parts false))
@@ -49,7 +49,7 @@ is_marked-marks_after parts (one ∷ told) part = elim (cases_eq one part) [
 ]
 
 -- tests of each number of a range that agree
-same_within : (p q : ℕ → Bool) (a n : ℕ) → ((k : ℕ) → a ≤ k → k < a + n → p k ≡ q k) → list_all p (range_with_len a n) ≡ list_all q (range_with_len a n)
+pub same_within : (p q : ℕ → Bool) (a n : ℕ) → ((k : ℕ) → a ≤ k → k < a + n → p k ≡ q k) → list_all p (range_with_len a n) ≡ list_all q (range_with_len a n)
 same_within p q a zero each = refl
 same_within p q a (suc n) each =
     let here : p a ≡ q a = each a (omega arith) (omega arith) in

@@ -37,6 +37,15 @@ pub struct Ended {
     reported: Marks,
 }
 
+/// The leader, in whichever state it is.
+#[derive(Debug, Drop)]
+pub enum Leader {
+    Idle(Idle),
+    Preparing(Preparing),
+    Moving(Moving),
+    Ended(Ended),
+}
+
 /// A call that was refused: the leader as it was, and why.
 #[derive(Debug, Drop)]
 pub struct Refused<L, F> {

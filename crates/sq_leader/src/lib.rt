@@ -8,5 +8,5 @@ mod marks;
 mod report;
 
 pub use fault::{FinishFault, PrepareFault, ReportFault, StartFault};
-pub use leader::{Ended, Idle, Moving, Preparing, Refused};
+pub use leader::{Ended, Idle, Leader, Moving, Preparing, Refused};
 pub use report::Report;

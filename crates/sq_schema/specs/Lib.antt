@@ -1,6 +1,7 @@
 pub mod Values
 pub mod Keys
 pub mod TxnValue
+pub mod OpList
 pub mod Effect
 pub mod Family
 pub mod Refusals

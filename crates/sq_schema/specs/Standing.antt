@@ -6,6 +6,11 @@ use Rattle.sq_schema.specs.Rows.{is_rooted}
 use Rattle.sq_schema.specs.declared.family.TheConstants.{MAX_LOG}
 use Rattle.sq_schema.specs.Family.{FamilyValue, rows_of}
 
+-- the rows that a log starts from, and the rows now
+pub record LoggedValue : Type 0 where
+  pub base : RowList
+  pub rows : RowList
+
 -- the rows that are kept are those of the family; the log isn't too long, and its transactions are of the root
 pub record IsKept (family : FamilyValue) (now : RowList) : Type 0 where
   pub rows : now ≡ rows_of family

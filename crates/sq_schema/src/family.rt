@@ -6,6 +6,7 @@ ghost use Rattle.sq_schema.specs.Family.{rows_of, rows_size, family_stands, answ
 ghost use Rattle.sq_schema.specs.Rows.{is_rooted};
 
 use crate::fault::ApplyFault;
+use crate::logged_rows::LoggedRows;
 use crate::pending::{RunOutcome, run};
 use crate::root::Root;
 use crate::rows::Rows;
@@ -21,8 +22,7 @@ pub const MAX_LOG: usize = 4096;
 #[derive(Debug, Drop)]
 pub struct Family {
     root: Root,
-    base: Rows,
-    rows: Rows,
+    rows: LoggedRows,
     log: Vec<Txn>,
 }
 
@@ -32,9 +32,9 @@ impl Model for Family {
 
     ghost Value = { FamilyValue };
 
-    ghost view = { λ f. record { root = f.root; base = f.base; log = f.log.items } };
+    ghost view = { λ f. record { root = f.root; base = f.rows.base; log = f.log.items } };
 
-    ghost invariant = { λ f. IsKept (record { root = f.root; base = f.base; log = f.log.items }) f.rows };
+    ghost invariant = { λ f. IsKept (record { root = f.root; base = f.rows.base; log = f.log.items }) f.rows.rows };
 }
 
 impl Family {
@@ -44,26 +44,21 @@ impl Family {
     {
         Family {
             root,
-            base: Rows::new(alloc),
-            rows: Rows::new(alloc),
+            rows: LoggedRows::new(Rows::new(alloc)),
             log: Vec::new(alloc),
         }
     }
 
     /// A family of this root key that starts from these rows, of which those of other tables stand only under the
-    /// root row. Where there is no memory for their copy they come back.
+    /// root row. Where there is no memory for it they come back.
     pub fn opened(alloc: Global, root: Root, rows: Rows) -> Result<Family, Rows>
         requires { IsTrue (is_rooted rows) }
         ensures ok { IfOk result (λ family. family ≡ record { root = root; base = rows; log = [] }) }
         ensures err { IfErr result (λ back. back ≡ rows) }
     {
-        let Ok(base) = rows.clone() else {
-            return Err(rows);
-        };
         Ok(Family {
             root,
-            base,
-            rows,
+            rows: LoggedRows::new(rows),
             log: Vec::new(alloc),
         })
     }
@@ -81,7 +76,7 @@ impl Family {
             return Err(ApplyFault::LogFull);
         }
         let alloc = *self.log.allocator();
-        match run(alloc, &self.rows, txn.ops())? {
+        match run(alloc, self.rows.rows(), txn.ops())? {
             RunOutcome::Aborted { at, cause } => Ok(Reply::Aborted { at, cause }),
             RunOutcome::Committed {
                 answers,
@@ -108,7 +103,7 @@ impl Family {
         ensures rows { result.now ≡ rows_of self.now }
         ensures rooted { IsTrue (is_rooted result.now) }
     {
-        &self.rows
+        self.rows.rows()
     }
 
     /// The rows that the log starts from.
@@ -116,7 +111,7 @@ impl Family {
         ensures rows { result.now ≡ self.now.base }
         ensures rooted { IsTrue (is_rooted result.now) }
     {
-        &self.base
+        self.rows.base()
     }
 
     /// The transactions that committed, in their order: at most [`MAX_LOG`].
@@ -132,13 +127,13 @@ impl Family {
     pub fn size(&self) -> u64
         ensures { result ≡ rows_size (rows_of self.now) }
     {
-        self.rows.size()
+        self.rows().size()
     }
 
     /// Whether it has rows to start from, or a log.
     pub fn stands(&self) -> bool
         ensures { result ≡ family_stands self.now }
     {
-        !self.base.is_empty() || !self.log.is_empty()
+        !self.base().is_empty() || !self.log.is_empty()
     }
 }

@@ -4,6 +4,8 @@
 mod family;
 mod fault;
 pub mod laws;
+mod logged_rows;
+mod op_list;
 mod pending;
 mod root;
 mod row;

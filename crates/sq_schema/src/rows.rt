@@ -96,7 +96,7 @@ impl Rows {
         ensures err { OnErr result (self.new ≡ self.old) }
         ensures row_returned { IfErr result (λ failed. failed.value ≡ row) }
     {
-        if self.rows.reserve(1).is_err() {
+        if reserve(&mut self.rows, 1).is_err() {
             return Err(AllocFailed { value: row });
         }
         let (_, old_size) = weight(self.get(key));
@@ -136,7 +136,7 @@ impl Rows {
         ensures ok { OnOk result (self.new ≡ with_writes self.old writes.items) }
         ensures err { OnErr result (self.new ≡ self.old) }
     {
-        self.rows.reserve(writes.len())?;
+        reserve(&mut self.rows, writes.len())?;
         for (key, row) in writes {
             write(&mut self.rows, key, row);
         }
@@ -162,6 +162,19 @@ fn place(rows: &[(RowKey, Row)], key: RowKey) -> Result<usize, usize>
     ensures { IsRowPlace rows.now key result }
 {
     rows.binary_search_by_key(&key, |(key, _)| *key)
+}
+
+// Takes room for this many rows more. The first are given no room to grow, since most root keys have few.
+fn reserve(rows: &mut Vec<(RowKey, Row)>, more: usize) -> Result<(), AllocError>
+    ensures items { rows.new.items ≡ rows.old.items }
+    ensures len { vec_len rows.new ≡ vec_len rows.old }
+    ensures room { OnOk result (vec_len rows.new + more ≤ vec_capacity rows.new) }
+{
+    if rows.is_empty() {
+        rows.reserve_exact(more)
+    } else {
+        rows.reserve(more)
+    }
 }
 
 // Makes a write, for which there is room.

@@ -4,6 +4,7 @@ ghost use Rattle.std.specs.Option.{option_map};
 ghost use Rattle.std.specs.Result.{result_err};
 
 use crate::fault::TxnFault;
+use crate::op_list::OpList;
 use crate::root::Root;
 use crate::row::{Row, RowKey};
 use crate::schema::{Schema, check_key, check_row};
@@ -134,20 +135,21 @@ pub enum Reply {
 pub struct Txn {
     id: u64,
     root: Root,
-    ops: Vec<Op>,
+    ops: OpList,
 }
 
 impl Model for Txn {
     ghost use Rattle.std.specs.Prelude.{◌≡◌, None};
     ghost use Rattle.sq_schema.specs.declared.schema.TheConstants.{MAX_TABLES};
     ghost use Rattle.sq_schema.specs.TxnValue.{TxnValue};
+    ghost use Rattle.sq_schema.specs.OpList.{ops_of};
     ghost use Rattle.sq_schema.specs.Refusals.{txn_fault};
 
     ghost Value = { TxnValue };
 
-    ghost view = { λ t. record { id = t.id; root = t.root; ops = t.ops.items } };
+    ghost view = { λ t. record { id = t.id; root = t.root; ops = ops_of t.ops } };
 
-    ghost invariant = { λ t. txn_fault MAX_TABLES t.root t.ops.items ≡ None };
+    ghost invariant = { λ t. txn_fault MAX_TABLES t.root (ops_of t.ops) ≡ None };
 }
 
 impl Txn {
@@ -178,7 +180,11 @@ impl Txn {
                 return Err((fault, ops));
             }
         }
-        Ok(Txn { id, root, ops })
+        Ok(Txn {
+            id,
+            root,
+            ops: OpList::new(ops),
+        })
     }
 
     pub fn id(&self) -> u64
@@ -200,7 +206,7 @@ impl Txn {
         ensures few { length result.now ≤ MAX_OPS }
         ensures sound { ops_fault MAX_TABLES result.now ≡ None }
     {
-        &self.ops
+        self.ops.as_slice()
     }
 }
 

@@ -138,10 +138,10 @@ impl<S: FamilyStore> PartCore<S> {
         let Some(chunk) = &self.inboxes[from] else {
             return Err(LoadFault::InboxEmpty);
         };
-        let runs = &mut self.loaded[chunk.note().seg.number() as usize];
-        if runs.reserve(1).is_err() {
-            return Err(LoadFault::Memory);
-        }
+        let covered = chunk.note();
+        let runs = &mut self.loaded[covered.seg.number() as usize];
+        runs.reserve(1)?;
+        self.waiting.make_due(covered.lo, covered.hi)?;
         let note = give(&mut self.store, &mut self.inboxes[from])?;
         add(runs, &note);
         Ok(note)

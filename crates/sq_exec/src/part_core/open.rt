@@ -13,6 +13,7 @@ use sq_chunk::Chunk;
 use sq_plan::{PartId, Plan};
 use sq_ranges::{Opening, Recon};
 use sq_store::FamilyStore;
+use sq_waiting::Waiting;
 use std::alloc::{AllocError, Global};
 
 // What a partition has besides its families.
@@ -30,6 +31,23 @@ impl<S: FamilyStore> PartCore<S> {
     /// A partition before the move, with these families. Where there is no memory they come back.
     pub fn open(alloc: Global, opening: &Opening, part: PartId, store: S) -> Result<PartCore<S>, S>
         ensures ok { IfOk result (λ opened. opened.core ≡ opened_core opening.now part (S.contents store)) }
+        ensures numbering { IfOk result (λ opened. opened.numbering ≡ record { numbers = []; next = 0 }) }
+        ensures store_returned { IfErr result (λ back. S.contents back ≡ S.contents store) }
+    {
+        PartCore::open_at(alloc, opening, part, store, 0)
+    }
+
+    /// A partition before the move, with these families, at which the first transaction that waits gets this arrival
+    /// number. Where there is no memory the families come back.
+    pub fn open_at(
+        alloc: Global,
+        opening: &Opening,
+        part: PartId,
+        store: S,
+        next: u64,
+    ) -> Result<PartCore<S>, S>
+        ensures ok { IfOk result (λ opened. opened.core ≡ opened_core opening.now part (S.contents store)) }
+        ensures numbering { IfOk result (λ opened. opened.numbering ≡ record { numbers = []; next = next }) }
         ensures store_returned { IfErr result (λ back. S.contents back ≡ S.contents store) }
     {
         let Ok(places) = Places::new(alloc, opening) else {
@@ -42,7 +60,7 @@ impl<S: FamilyStore> PartCore<S> {
             limit: opening.config().limit,
             started: false,
             store,
-            waiting: Vec::new(alloc),
+            waiting: Waiting::new(alloc, next),
             outs: places.outs,
             inboxes: places.inboxes,
             given_up: places.given_up,

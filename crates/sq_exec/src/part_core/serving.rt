@@ -1,9 +1,10 @@
 // Transactions at a partition.
-ghost use Rattle.std.specs.Prelude.{◌≡◌, ◌==◌, ◌∷◌, ◌++◌, [], true, false, length, position, unwrap_or, IfOk, IfErr, OnOk, OnErr, IsErrOf, ◌↔◌, MatchResult, IsTrue};
-ghost use Rattle.std.specs.List.{list_all};
+ghost use Rattle.std.specs.Prelude.{◌≡◌, true, length, unwrap_or, IfOk, IfErr, OnOk, OnErr, IsErrOf, ◌↔◌, MatchResult, IsTrue};
+ghost use Rattle.std.specs.List.Sorted.{IsStrictlyIncreasing};
 ghost use Rattle.sq_store.specs.StoreValue.{log_length};
-ghost use Rattle.sq_exec.specs.Location.{location, is_coming, is_coming_from, route, route_from, waits_for};
+ghost use Rattle.sq_exec.specs.Location.{location, is_coming_from, route_from, waits_for};
 ghost use Rattle.sq_exec.specs.Serving.{is_stuck, served, must_wait, submit_refusal, submit_takes_memory, is_ready, resume_refusal, resume_takes_memory, IsMadeToWait, IsTaken, IsResumed};
+ghost use Rattle.sq_exec.specs.Numbering.{numbered, arrival_of, IsFirstReady, TakesNumber};
 
 use crate::fault::{ResumeFault, SubmitFault};
 use crate::location::Location;
@@ -27,6 +28,8 @@ impl<S: FamilyStore> PartCore<S> {
         ensures memory { result ≡ Err SubmitFault.Memory → IsTrue (submit_takes_memory self.old.core txn.now) }
         ensures ok { IfOk result (λ outcome. IsTaken (must_wait self.old.core txn.now.root) self.old.core txn.now outcome self.new.core) }
         ensures err { OnErr result (self.new.core ≡ self.old.core) }
+        ensures numbered { IfOk result (λ outcome. self.new.numbering ≡ numbered outcome self.old.numbering) }
+        ensures same_numbers { OnErr result (self.new.numbering ≡ self.old.numbering) }
     {
         let root = txn.root();
         let found = self.location(root);
@@ -51,17 +54,27 @@ impl<S: FamilyStore> PartCore<S> {
         ensures memory { result ≡ Err ResumeFault.Memory → IsTrue (resume_takes_memory self.old.core) }
         ensures ok { IfOk result (λ resumed. IsResumed self.old.core resumed self.new.core) }
         ensures err { OnErr result (self.new.core ≡ self.old.core) }
+        ensures number { OnOk result (TakesNumber self.old self.new) }
+        ensures same_numbers { OnErr result (self.new.numbering ≡ self.old.numbering) }
     {
-        let Some(at) = self.first_ready() else {
-            return Err(self.none_ready());
-        };
-        let root = self.waiting[at].root();
+        let number = self.first_ready()?;
+        let root = self.waiting.txn(number).root();
         let who = self.route(root, &self.location(root));
-        let Ok(outcome) = serve(&mut self.store, self.part, who, &self.waiting[at]) else {
+        let Ok(outcome) = serve(&mut self.store, self.part, who, self.waiting.txn(number)) else {
             return Err(ResumeFault::Memory);
         };
-        let txn = self.waiting.remove(at);
+        let txn = self.waiting.remove(number);
         Ok(Resumed { txn, outcome })
+    }
+
+    /// The least arrival number of the transactions that wait for a root key. These numbers rise in the order in which
+    /// the transactions came.
+    pub fn arrival(&self, root: Root) -> Option<u64>
+        ensures number { result ≡ arrival_of self.now root }
+        ensures rises { IsStrictlyIncreasing self.now.numbering.numbers }
+        ensures each { length self.now.numbering.numbers ≡ length self.now.core.waiting }
+    {
+        self.waiting.arrival(root)
     }
 
     /// How many transactions on a root key committed here, and where it came from.
@@ -117,7 +130,7 @@ impl<S: FamilyStore> PartCore<S> {
     fn waits_for(&self, root: Root) -> bool
         ensures { result ≡ waits_for self.now.core root }
     {
-        self.waiting.iter().any(|txn| txn.root() == root)
+        self.waiting.waits_for(root)
     }
 
     // Lets a transaction wait, behind all that do.
@@ -129,6 +142,8 @@ impl<S: FamilyStore> PartCore<S> {
             (λ fault. fault ≡ unwrap_or (submit_refusal self.old.core txn.now) SubmitFault.Memory) }
         ensures ok { IfOk result (λ outcome. IsMadeToWait self.old.core txn.now outcome self.new.core) }
         ensures err { OnErr result (self.new.core ≡ self.old.core) }
+        ensures numbered { IfOk result (λ outcome. self.new.numbering ≡ numbered outcome self.old.numbering) }
+        ensures same_numbers { OnErr result (self.new.numbering ≡ self.old.numbering) }
     {
         if self.waiting.len() >= MAX_WAITING {
             return Err(SubmitFault::WaitFull);
@@ -137,9 +152,10 @@ impl<S: FamilyStore> PartCore<S> {
         let Ok(entry) = txn.clone() else {
             return Err(SubmitFault::Memory);
         };
-        if self.waiting.push(entry).is_err() {
+        let is_due = !self.is_coming(found);
+        let Ok(()) = self.waiting.push(entry, is_due) else {
             return Err(SubmitFault::Memory);
-        }
+        };
         Ok(Outcome::Waits(at.seg, at.leaf))
     }
 
@@ -153,32 +169,23 @@ impl<S: FamilyStore> PartCore<S> {
             && !(self.route(root, &found) == self.part && self.position(root) >= MAX_LOG)
     }
 
-    // Where the first waiting transaction stands that can go.
-    fn first_ready(&self) -> Option<usize>
-        ensures { result ≡ position (is_ready self.now.core) self.now.core.waiting }
+    // The arrival number of the first waiting transaction that can go; or why none can.
+    fn first_ready(&self) -> Result<u64, ResumeFault>
+        ensures ok { IfOk result (IsFirstReady self.now) }
+        ensures err { IfErr result (λ fault. Some fault ≡ resume_refusal self.now.core) }
     {
-        self.waiting.iter().position(|txn| self.is_ready(txn))
-    }
-
-    // Why no waiting transaction can go.
-    fn none_ready(&self) -> ResumeFault
-        requires { position (is_ready self.now.core) self.now.core.waiting ≡ None }
-        ensures { Some result ≡ resume_refusal self.now.core }
-    {
-        if self.all_are_coming() {
-            ResumeFault::NoneReady
-        } else {
-            ResumeFault::LogFull
+        let mut fault = ResumeFault::NoneReady;
+        let mut from = 0;
+        while let Some((number, txn)) = self.waiting.next_due(from) {
+            if self.is_ready(txn) {
+                return Ok(number);
+            }
+            if !self.is_coming(&self.location(txn.root())) {
+                fault = ResumeFault::LogFull;
+            }
+            from = number + 1;
         }
-    }
-
-    // Whether the rows of all waiting transactions come here and aren't loaded.
-    fn all_are_coming(&self) -> bool
-        ensures { result ≡ list_all (λ txn. is_coming self.now.core txn.root) self.now.core.waiting }
-    {
-        self.waiting
-            .iter()
-            .all(|txn| self.is_coming(&self.location(txn.root())))
+        Err(fault)
     }
 }
 

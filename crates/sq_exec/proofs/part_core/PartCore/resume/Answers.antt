@@ -2,31 +2,54 @@ use Rattle.std.proofs.Common.{◌≡◌, true, refl, sym, ap, subst}
 use Rattle.std.specs.Prelude.{unwrap_or, is_some}
 use Rattle.std.specs.List.{list_all}
 use Rattle.sq_ranges.specs.ReconValue.{leaf_at}
+use Rattle.sq_waiting.specs.Waiting.{WaitingValue, txns_of}
 use Rattle.sq_exec.specs.declared.fault.ResumeFault.TheVariants.{Memory}
-use Rattle.sq_exec.proofs.Resumes.{list_all-remove, nothing_refuses, memory_here, was_resumed}
+use Rattle.sq_exec.proofs.Resumes.{nothing_refuses, stands, rest_due, rest_moves, was_resumed, number_taken, memory_here}
 use Rattle.sq_exec.proofs.part_core.PartCore.resume.Goals as goal
 
-pub returns-in_default-serve-clause-refused : goal.returns-in_default-serve-clause-refused
-returns-in_default-serve-clause-refused g c = sym (ap (λ r. unwrap_or r Memory) (nothing_refuses c.args.self.now.core c.in-Some.at (sym c.in-Some.ensures)))
+pub txn-requires : goal.txn-requires
+txn-requires g c = stands c.self.view_is c.in_ok-number.number c.in_ok-number.ensures.ok c.self.inside.waiting.arrivals refl refl
 
-pub returns-in_default-serve-clause-memory : goal.returns-in_default-serve-clause-memory
-returns-in_default-serve-clause-memory g c = λ same.
-    memory_here c.self.view_is c.in-Some.at c.index.result.now c.root-root.result c.route-who.result c.self.inside.part c.location.result c.in-Some.ensures c.index.ensures c.root-root.ensures c.location.ensures c.route-who.ensures refl c.in_default-serve.ensures.runs
+pub txn-requires-2 : goal.txn-requires-2
+txn-requires-2 g c = stands c.self.view_is c.in_ok-number.number c.in_ok-number.ensures.ok c.self.inside.waiting.arrivals refl refl
+
+pub remove-txn-requires : goal.remove-txn-requires
+remove-txn-requires g c = stands c.self.view_is c.in_ok-number.number c.in_ok-number.ensures.ok c.self.inside.waiting.arrivals refl refl
+
+pub returns-in_default-clause-refused : goal.returns-in_default-clause-refused
+returns-in_default-clause-refused g c = sym (ap (λ r. unwrap_or r Memory) (nothing_refuses c.args.self.now.core c.in_ok-number.ensures.ok.place c.in_ok-number.ensures.ok.first))
+
+pub returns-in_default-clause-memory : goal.returns-in_default-clause-memory
+returns-in_default-clause-memory g c = λ same.
+    memory_here c.self.view_is c.in_ok-number.number c.in_ok-number.ensures.ok c.self.inside.waiting.arrivals refl refl c.txn.ensures.rises c.txn.result.now c.root-root.result c.route-who.result c.self.inside.part c.location.result
+    c.txn.ensures.txn c.root-root.ensures c.location.ensures c.route-who.ensures refl c.in_default.ensures.runs
 
 pub invariant_of-self-2 : goal.invariant_of-self-2
-invariant_of-self-2 g c = record {
-  outs = c.self.invariant.outs;
-  inboxes = c.self.invariant.inboxes;
-  given_up = c.self.invariant.given_up;
-  loaded = c.self.invariant.loaded;
-  ends = c.self.invariant.ends;
-  moving = subst (λ txns. list_all (λ txn. is_some (leaf_at c.self.inside.recon txn.root)) txns ≡ true) (sym c.remove-txn.ensures.items) (list_all-remove (λ txn. is_some (leaf_at c.self.inside.recon txn.root)) c.self.inside.waiting.items c.in-Some.at c.self.invariant.moving);
-}
+invariant_of-self-2 g c =
+    let arrivals = c.self.inside.waiting.arrivals in
+    let left = ap (λ (w : WaitingValue). w.arrivals) (sym c.remove-txn.ensures.rest) in
+    record {
+      outs = c.self.invariant.outs;
+      inboxes = c.self.invariant.inboxes;
+      given_up = c.self.invariant.given_up;
+      loaded = c.self.invariant.loaded;
+      ends = c.self.invariant.ends;
+      moving =
+          subst (λ xs. list_all (λ txn. is_some (leaf_at c.self.inside.recon txn.root)) (txns_of xs) ≡ true) left
+          (rest_moves c.self.view_is c.in_ok-number.number c.in_ok-number.ensures.ok arrivals refl refl c.txn.ensures.rises (λ txn. is_some (leaf_at c.self.inside.recon txn.root)) c.self.invariant.moving);
+      due = rest_due c.self.view_is c.in_ok-number.number c.in_ok-number.ensures.ok arrivals refl refl c.txn.ensures.rises c.remove-txn.new.self.arrivals (sym left) c.self.invariant.due;
+    }
 
 pub returns-clause-refused : goal.returns-clause-refused
-returns-clause-refused g c = nothing_refuses c.args.self.now.core c.in-Some.at (sym c.in-Some.ensures)
+returns-clause-refused g c = nothing_refuses c.args.self.now.core c.in_ok-number.ensures.ok.place c.in_ok-number.ensures.ok.first
 
 pub returns-clause-ok : goal.returns-clause-ok
 returns-clause-ok g c =
-    was_resumed c.self.view_is c.in-Some.at c.index.result.now c.index-2.result.now c.remove-txn.result c.root-root.result c.route-who.result c.location.result c.in-Ok.outcome (g.S.FamilyStore.contents c.serve.new.store) c.remove-txn.new.self.items
-    c.in-Some.ensures c.index.ensures c.index-2.ensures c.remove-txn.ensures.value c.root-root.ensures c.location.ensures c.route-who.ensures c.in-Ok.ensures.outcome c.in-Ok.ensures.store c.remove-txn.ensures.items
+    let arrivals = c.self.inside.waiting.arrivals in
+    let store = g.S.FamilyStore.contents c.serve.new.store in
+    was_resumed c.self.view_is c.in_ok-number.number c.in_ok-number.ensures.ok arrivals refl refl c.txn.ensures.rises c.remove-txn.new.self.arrivals (ap (λ (w : WaitingValue). w.arrivals) c.remove-txn.ensures.rest) c.txn.result.now c.txn-2.result.now c.remove-txn.result c.root-root.result c.route-who.result c.location.result c.in-Ok.outcome store
+    c.txn.ensures.txn c.txn-2.ensures.txn c.remove-txn.ensures.txn c.root-root.ensures c.location.ensures c.route-who.ensures c.in-Ok.ensures.outcome c.in-Ok.ensures.store
+
+pub returns-clause-number : goal.returns-clause-number
+returns-clause-number g c =
+    number_taken c.self.view_is c.in_ok-number.number c.in_ok-number.ensures.ok c.self.inside.waiting.arrivals refl refl c.txn.ensures.rises c.remove-txn.new.self.arrivals (ap (λ (w : WaitingValue). w.arrivals) c.remove-txn.ensures.rest) _ c.remove-txn.new.self.next (ap (λ (w : WaitingValue). w.next) c.remove-txn.ensures.rest) refl

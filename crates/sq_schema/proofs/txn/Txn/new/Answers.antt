@@ -12,4 +12,4 @@ invariant_of-result c =
     let items = c.deref-op-items.result.now in
     let rest = c.loop-op.invariant ∙ at_drop_all (ops_fault tables) items c.loop-op.op-index (omega arith) in
     let sound : ops_fault tables c.args.ops.items ≡ None = rw (c.deref-op-items.ensures.value) at rest in
-    txn_fault-wider tables MAX_TABLES (omega arith) c.in-Some.root c.args.ops.items (grind (arith, nat_tests))
+    rw c.new-2.ensures (txn_fault-wider tables MAX_TABLES (omega arith) c.in-Some.root c.args.ops.items (grind (arith, nat_tests)))

@@ -1,0 +1,74 @@
+// Rows, with those that a log starts from.
+ghost use Rattle.std.specs.Prelude.{◌≡◌, OnOk, OnErr};
+ghost use Rattle.std.specs.List.{AllPass};
+ghost use Rattle.sq_schema.specs.Family.{rows_size};
+ghost use Rattle.sq_schema.specs.Writes.{is_write, with_writes};
+
+use crate::row::{Row, RowKey};
+use crate::rows::Rows;
+use std::alloc::AllocError;
+use std::marker::Model;
+
+/// The rows that a log starts from, and the rows now. Up to the first write they are the same and are kept once. To a
+/// contract it is a `LoggedValue`.
+#[derive(Debug, Drop)]
+pub(crate) struct LoggedRows {
+    base: Option<Rows>,
+    rows: Rows,
+}
+
+impl Model for LoggedRows {
+    ghost use Rattle.std.specs.Prelude.{unwrap_or};
+    ghost use Rattle.sq_schema.specs.Standing.{LoggedValue};
+
+    ghost Value = { LoggedValue };
+
+    ghost view = { λ r. record { base = unwrap_or r.base r.rows; rows = r.rows } };
+}
+
+impl LoggedRows {
+    /// Rows that a log starts from.
+    pub(crate) fn new(rows: Rows) -> LoggedRows
+        ensures { result ≡ record { base = rows; rows = rows } }
+    {
+        LoggedRows { base: None, rows }
+    }
+
+    /// The rows that the log starts from.
+    pub(crate) fn base(&self) -> &Rows
+        ensures { result.now ≡ self.now.base }
+    {
+        match &self.base {
+            Some(base) => base,
+            None => &self.rows,
+        }
+    }
+
+    /// The rows now.
+    pub(crate) fn rows(&self) -> &Rows
+        ensures { result.now ≡ self.now.rows }
+    {
+        &self.rows
+    }
+
+    /// Makes these writes in their order, or none where there is no memory. The size is that of the rows afterwards.
+    pub(crate) fn write_all(
+        &mut self,
+        writes: Vec<(RowKey, Option<Row>)>,
+        size: u64,
+    ) -> Result<(), AllocError>
+        requires writes { AllPass is_write writes.items }
+        requires size { size ≡ rows_size (with_writes self.old.rows writes.items) }
+        ensures base { self.new.base ≡ self.old.base }
+        ensures ok { OnOk result (self.new.rows ≡ with_writes self.old.rows writes.items) }
+        ensures err { OnErr result (self.new.rows ≡ self.old.rows) }
+    {
+        if writes.is_empty() {
+            return Ok(());
+        }
+        if self.base.is_none() {
+            self.base = Some(self.rows.clone()?);
+        }
+        self.rows.write_all(writes, size)
+    }
+}

@@ -1,0 +1,44 @@
+// The operations of a transaction in memory.
+ghost use Rattle.std.specs.Prelude.{◌≡◌};
+ghost use Rattle.sq_schema.specs.OpList.{ops_of};
+
+use crate::txn::Op;
+use std::fmt::{self, Debug, Formatter, Write};
+use std::slice;
+
+/// Operations, of which one alone takes no memory of its own: most transactions have one, and logs hold many.
+#[derive(Clone, Drop)]
+pub(crate) enum OpList {
+    One(Op),
+    Many(Vec<Op>),
+}
+
+impl OpList {
+    /// These operations.
+    pub(crate) fn new(mut ops: Vec<Op>) -> OpList
+        ensures { ops_of result ≡ ops.items }
+    {
+        if ops.len() == 1 {
+            if let Some(op) = ops.pop() {
+                return OpList::One(op);
+            }
+        }
+        OpList::Many(ops)
+    }
+
+    /// The operations in their order.
+    pub(crate) fn as_slice(&self) -> &[Op]
+        ensures { result.now ≡ ops_of self.now }
+    {
+        match self {
+            OpList::One(op) => slice::from_ref(op),
+            OpList::Many(ops) => ops,
+        }
+    }
+}
+
+impl Debug for OpList {
+    fn fmt<W: Write>(&self, f: &mut Formatter<W>) -> fmt::Result {
+        f.debug_list().entries(self.as_slice()).finish()
+    }
+}
