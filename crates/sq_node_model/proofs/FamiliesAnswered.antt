@@ -1,0 +1,299 @@
+-- The families of a partition once a transaction was answered at it.
+use Rattle.std.proofs.Common.{◌≡◌, ◌⊎◌, inl, inr, ⊎_elim, ℕ, suc, ◌+◌, ◌≤◌, true, false, ◌==◌, ◌&&◌, nat_le, nat_lt, if◌then◌else◌, List, [], ◌∷◌, ◌++◌, length, Option, Some, None, refl, sym, ap, ◌∙◌, subst, true≢false, append_assoc, length-append, arith}
+use Rattle.std.specs.Prelude.{◌≢◌, not, unwrap_or}
+use Rattle.std.specs.Cmp.{unsigned_tied, nat_cmp_total}
+use Rattle.std.specs.FinMap.{get, insert, get-insert}
+use Rattle.std.proofs.lemmas.Bool.{cases_Bool, ne_eqb, eq-eqb}
+use Rattle.std.proofs.lemmas.Bool.Decides.{eqb_tells}
+use Rattle.std.proofs.lemmas.List.Elements.{All-nil, All-push, Contains-push_cases}
+use Rattle.sq_schema.specs.TxnValue.{TxnValue}
+use Rattle.sq_schema.specs.declared.txn.Reply.{Reply}
+use Rattle.sq_schema.specs.Effect.{RowList}
+use Rattle.sq_schema.specs.Family.{FamilyValue}
+use Rattle.sq_store.specs.StoreValue.{StoreValue, absent, family_at, family_in, with_txn, store_reply}
+use Rattle.sq_store.proofs.Applies.{found_family, absent_family}
+use Rattle.sq_chunk.specs.ChunkValue.{ChunkValue, covers}
+use Rattle.sq_ranges.specs.OpeningValue.{OpeningValue}
+use Rattle.sq_model.specs.Tables.{opening_rows}
+use Rattle.sq_model.specs.Place.{source}
+use Rattle.sq_status.specs.View.{one_if}
+use Rattle.sq_node_model.specs.NodeValue.{ReceiptValue}
+use Rattle.sq_node_model.specs.Steps.{receipt_of}
+use Rattle.sq_node_model.specs.Chunks.{IsCovered}
+use Rattle.sq_node_model.specs.OutHolds.{is_opened}
+use Rattle.sq_node_model.specs.Receipts.{is_commit, names, times_named, IsToldBy}
+use Rattle.sq_node_model.specs.FamiliesHold.{IsHome, IsStored, IsCarried, IsKept, IsOf, GrowsFrom, brought, StoreHolds, FamiliesHold, ReceiptsHold}
+use Rattle.sq_node_model.proofs.Named.{unnamed, named_more}
+use Rattle.sq_node_model.proofs.Told.{told_more, told_new, one_more_position, from_zero, none_before}
+
+-- a root key without opening rows
+not_opened : (o : OpeningValue) (root : ℕ) → is_opened o root ≡ false → opening_rows o root ≡ []
+not_opened o root none = here (opening_rows o root) none
+  where
+    here : (rows : RowList) → not (length rows == 0) ≡ false → rows ≡ []
+    here [] e = refl
+    here (row ∷ rows) e = absurd (true≢false (sym (ap not (ne_eqb (suc (length rows)) 0 (λ z. omega (arith, z)))) ∙ e))
+
+-- a transaction that aborted leaves a receipt and nothing else
+pub receipts_aborted : (o : OpeningValue) (part : ℕ) (cut loaded : ChunkValue → Type 0) (store : StoreValue) (receipts : List ReceiptValue) (receipt : ReceiptValue) → is_commit receipt.reply ≡ false
+    → ReceiptsHold o part cut loaded store receipts → ReceiptsHold o part cut loaded store (receipts ++ receipt ∷ [])
+receipts_aborted o part cut loaded store receipts receipt aborted r = record {
+  named_home = λ root family kept owned position. same root position ∙ r.named_home root family kept owned position;
+  named_came = λ root chunk family has covered stored position. same root position ∙ r.named_came root chunk family has covered stored position;
+  told = λ other has commit.
+      ⊎_elim
+      (λ old. r.told other old commit)
+      (λ new. absurd (true≢false (sym commit ∙ ap (λ (one : ReceiptValue). is_commit one.reply) (sym new) ∙ aborted)))
+      (Contains-push_cases receipts receipt other has);
+}
+  where
+    same : (root position : ℕ) → times_named root position (receipts ++ receipt ∷ []) ≡ times_named root position receipts
+    same root position =
+        let none : one_if (names root position receipt) ≡ 0 = ap (λ b. one_if (b && ((receipt.root == root) && (receipt.position == position)))) aborted in
+        named_more root position receipts receipt
+        ∙ (let e : times_named root position receipts + one_if (names root position receipt) ≡ times_named root position receipts = omega (arith, none) in e)
+
+module _ (o : OpeningValue) (part : ℕ) (cut loaded : ChunkValue → Type 0) (store : StoreValue) (txn : TxnValue)
+    (here : IsHome o part cut txn.root ⊎ IsCovered loaded txn.root) (away : (root : ℕ) → IsCovered loaded root → source o root ≢ part)
+    (carried_cut : (other : ChunkValue) (root : ℕ) (family : FamilyValue) → cut other → IsCarried other root family → (source o root ≡ part) × (covers other.note root ≡ true))
+    (s : StoreHolds o part cut loaded store) (f : FamiliesHold o part cut loaded store) where
+  abbrev was : FamilyValue
+  was = family_at store txn.root
+
+  abbrev new : FamilyValue
+  new = with_txn was txn
+
+  abbrev more : StoreValue
+  more = insert store txn.root new
+
+  is_more : (root : ℕ) → get more root ≡ (if root == txn.root then Some new else get store root)
+  is_more root = get-insert nat_cmp_total store txn.root new root ∙ ap (λ b. if b then Some new else get store root) (unsigned_tied root txn.root)
+
+  stored_now : (root : ℕ) (family : FamilyValue) → IsStored more root family → ((root ≡ txn.root) × (new ≡ family)) ⊎ ((root ≢ txn.root) × IsStored store root family)
+  stored_now root family has =
+      ⊎_elim
+      (λ e. inl (e.1, let found = sym (is_more root ∙ ap (λ b. if b then Some new else get store root) e.0) ∙ has in cc))
+      (λ e. inr (e.1, sym (is_more root ∙ ap (λ b. if b then Some new else get store root) e.0) ∙ has))
+      (eqb_tells root txn.root)
+
+  stored_new : (root : ℕ) → root ≡ txn.root → IsStored more root new
+  stored_new root same = is_more root ∙ ap (λ b. if b then Some new else get store root) (eq-eqb root txn.root same)
+
+  stored_other : (root : ℕ) (family : FamilyValue) → root ≢ txn.root → IsStored store root family → IsStored more root family
+  stored_other root family apart has = is_more root ∙ ap (λ b. if b then Some new else get store root) (ne_eqb root txn.root apart) ∙ has
+
+  stored_some : (root : ℕ) (family : FamilyValue) → IsStored store root family → (now : FamilyValue) × IsStored more root now
+  stored_some root family has =
+      ⊎_elim (λ e. (new, stored_new root e.1)) (λ e. (family, stored_other root family e.1 has)) (eqb_tells root txn.root)
+
+  -- the family stood before, or is an empty one
+  stood : IsStored store txn.root was ⊎ ((get store txn.root ≡ None) × (was ≡ absent txn.root))
+  stood = by (get store txn.root) refl
+    where
+      by : (found : Option FamilyValue) → get store txn.root ≡ found → IsStored store txn.root was ⊎ ((get store txn.root ≡ None) × (was ≡ absent txn.root))
+      by (Some family) e = inl (e ∙ ap Some (sym (found_family store txn.root family e)))
+      by None e = inr (e, absent_family store txn.root e)
+
+  not_stored : (family : FamilyValue) → get store txn.root ≡ None → IsStored store txn.root family → ⊥
+  not_stored family none has = let e = sym none ∙ has in cc
+
+  -- no chunk that was cut has the root key
+  not_carried : (other : ChunkValue) (family : FamilyValue) → cut other → IsCarried other txn.root family → ⊥
+  not_carried other family has carried =
+      let c = carried_cut other txn.root family has carried in
+      ⊎_elim
+      (λ at_home. true≢false (sym c.1 ∙ at_home.uncut other has))
+      (λ covered. away txn.root covered c.0)
+      here
+
+  was_of : IsOf txn.root was
+  was_of =
+      ⊎_elim
+      (λ has. f.keyed txn.root was (inl has))
+      (λ none. subst (IsOf txn.root) (sym none.1) (record { same_root = refl; own_log = All-nil (λ (other : TxnValue). other.root ≡ txn.root) }))
+      stood
+
+  pub store_answered : StoreHolds o part cut loaded more
+  store_answered = record {
+    stored = λ root family has.
+        ⊎_elim
+        (λ same. subst (λ k. IsHome o part cut k ⊎ IsCovered loaded k) (sym same.0) here)
+        (λ old. s.stored root family old.1)
+        (stored_now root family has);
+    home = λ root at_home opened. let found = s.home root at_home opened in stored_some root found.0 found.1;
+    came = λ root other family has carried. let found = s.came root other family has carried in stored_some root found.0 found.1;
+  }
+
+  base_home : IsHome o part cut txn.root → was.base ≡ opening_rows o txn.root
+  base_home at_home =
+      ⊎_elim
+      (λ has. f.home_base txn.root was at_home has)
+      (λ none.
+      ap (λ (family : FamilyValue). family.base) none.1
+      ∙ sym (not_opened o txn.root (elim (cases_Bool (is_opened o txn.root)) [
+        | inl opened ↦ let found = s.home txn.root at_home opened in absurd (not_stored found.0 none.0 found.1)
+        | inr e ↦ e
+      ])))
+      stood
+
+  -- the family goes on from what was brought, also where that is nothing
+  was_grown : (other : ChunkValue) → loaded other → covers other.note txn.root ≡ true → GrowsFrom (brought other txn.root) was
+  was_grown other has covered =
+      ⊎_elim
+      (λ stored. f.grown txn.root other was has covered stored)
+      (λ none. subst (GrowsFrom (brought other txn.root)) (sym none.1) (nothing none.0 (family_in other.families txn.root) refl))
+      stood
+    where
+      nothing : get store txn.root ≡ None → (found : Option FamilyValue) → family_in other.families txn.root ≡ found → GrowsFrom (brought other txn.root) (absent txn.root)
+      nothing none (Some family) e = let found = s.came txn.root other family has e in absurd (not_stored found.0 none found.1)
+      nothing none None e =
+          subst (λ first. GrowsFrom first (absent txn.root)) (sym (ap (λ found. unwrap_or found (absent txn.root)) e))
+          (record { base = refl; log = ([], refl) })
+
+  new_grown : (first : FamilyValue) → GrowsFrom first was → GrowsFrom first new
+  new_grown first g = record {
+    base = g.base;
+    log = (g.log.0 ++ txn ∷ [], ap (λ log. log ++ txn ∷ []) g.log.1 ∙ append_assoc first.log g.log.0 (txn ∷ []));
+  }
+
+  pub families_answered : FamiliesHold o part cut loaded more
+  families_answered = record {
+    keyed = λ root family kept.
+        ⊎_elim
+        (λ stored.
+        ⊎_elim
+        (λ same.
+        subst (IsOf root) same.1
+        (subst (λ k. IsOf k new) (sym same.0)
+        (record { same_root = was_of.same_root; own_log = All-push (λ (other : TxnValue). other.root ≡ txn.root) was.log txn was_of.own_log refl })))
+        (λ old. f.keyed root family (inl old.1))
+        (stored_now root family stored))
+        (λ went. f.keyed root family (inr went))
+        kept;
+    home_base = λ root family at_home has.
+        ⊎_elim
+        (λ same. ap (λ (now : FamilyValue). now.base) (sym same.1) ∙ base_home (subst (IsHome o part cut) same.0 at_home) ∙ ap (opening_rows o) (sym same.0))
+        (λ old. f.home_base root family at_home old.1)
+        (stored_now root family has);
+    cut_base = f.cut_base;
+    grown = λ root other family has covered stored.
+        ⊎_elim
+        (λ same.
+        subst (λ now. GrowsFrom (brought other root) now) same.1
+        (subst (λ k. GrowsFrom (brought other k) new) (sym same.0)
+        (new_grown (brought other txn.root) (was_grown other has (subst (λ k. covers other.note k ≡ true) same.0 covered)))))
+        (λ old. f.grown root other family has covered old.1)
+        (stored_now root family stored);
+  }
+
+  module _ (receipts : List ReceiptValue) (r : ReceiptsHold o part cut loaded store receipts) (given : Reply) (commits : is_commit given ≡ true) (is : given ≡ store_reply store txn) where
+    abbrev receipt : ReceiptValue
+    receipt = receipt_of store txn given
+
+    -- the new receipt names the next position of the root key's log, and no other
+    times_here : (position : ℕ) → times_named txn.root position (receipts ++ receipt ∷ []) ≡ times_named txn.root position receipts + one_if (length was.log == position)
+    times_here position =
+        named_more txn.root position receipts receipt
+        ∙ ap (λ b. times_named txn.root position receipts + one_if b)
+        ((λ i. commits i && (eq-eqb txn.root txn.root refl i && (length was.log == position))))
+
+    times_other : (root position : ℕ) → root ≢ txn.root → times_named root position (receipts ++ receipt ∷ []) ≡ times_named root position receipts
+    times_other root position apart =
+        let none : one_if (names root position receipt) ≡ 0 =
+        (λ i. one_if (commits i && (ne_eqb txn.root root (λ e. apart (sym e)) i && (length was.log == position)))) in
+        named_more root position receipts receipt
+        ∙ (let e : times_named root position receipts + one_if (names root position receipt) ≡ times_named root position receipts = omega (arith, none) in e)
+
+    -- where it had no family no position was named
+    none_named : get store txn.root ≡ None → (position : ℕ) → times_named txn.root position receipts ≡ 0
+    none_named none position =
+        unnamed txn.root position receipts (λ other has commit of_root.
+        let t = r.told other has commit in
+        ⊎_elim
+        (λ stored. not_stored t.0 none (subst (λ k. IsStored store k t.0) of_root stored))
+        (λ went. not_carried went.0 t.0 went.1 (subst (λ k. IsCarried went.0 k t.0) of_root went.2))
+        t.1)
+
+    empty_log : was ≡ absent txn.root → length was.log ≡ 0
+    empty_log none = ap (λ (family : FamilyValue). length family.log) none
+
+    length_new : length new.log ≡ length was.log + 1
+    length_new = length-append was.log (txn ∷ [])
+
+    named_here : (first position : ℕ) → first ≤ length was.log → times_named txn.root position receipts ≡ one_if (nat_le first position && nat_lt position (length was.log))
+        → times_named txn.root position (receipts ++ receipt ∷ []) ≡ one_if (nat_le first position && nat_lt position (length new.log))
+    named_here first position low before =
+        times_here position
+        ∙ ap (λ n. n + one_if (length was.log == position)) before
+        ∙ one_more_position first (length was.log) position low
+        ∙ ap (λ n. one_if (nat_le first position && nat_lt position n)) (sym length_new)
+
+    home_before : source o txn.root ≡ part → (position : ℕ) → times_named txn.root position receipts ≡ one_if (nat_le 0 position && nat_lt position (length was.log))
+    home_before owned position =
+        ⊎_elim
+        (λ has. r.named_home txn.root was (inl has) owned position ∙ sym (ap one_if (from_zero position (length was.log))))
+        (λ none. none_named none.0 position ∙ sym (ap (λ n. one_if (nat_le 0 position && nat_lt position n)) (empty_log none.1) ∙ none_before 0 position))
+        stood
+
+    came_before : (other : ChunkValue) → loaded other → covers other.note txn.root ≡ true → (position : ℕ)
+        → times_named txn.root position receipts ≡ one_if (nat_le (length (brought other txn.root).log) position && nat_lt position (length was.log))
+    came_before other has covered position =
+        ⊎_elim
+        (λ stored. r.named_came txn.root other was has covered stored position)
+        (λ none.
+        none_named none.0 position
+        ∙ sym (ap (λ n. one_if (nat_le (length (brought other txn.root).log) position && nat_lt position n)) (empty_log none.1)
+        ∙ none_before (length (brought other txn.root).log) position))
+        stood
+
+    first_below : (first : FamilyValue) → GrowsFrom first was → length first.log ≤ length was.log
+    first_below first g = let sum = ap length g.log.1 ∙ length-append first.log g.log.0 in omega (arith, sum)
+
+    told_now : (other : ReceiptValue) → (family : FamilyValue) → IsKept cut store other.root family → IsToldBy family other → (now : FamilyValue) × IsKept cut more other.root now × IsToldBy now other
+    told_now other family kept t =
+        ⊎_elim
+        (λ stored.
+        ⊎_elim
+        (λ e.
+        let is_was : family ≡ was = sym (found_family store txn.root family (subst (λ k. IsStored store k family) e.1 stored)) in
+        (new, inl (stored_new other.root e.1), told_more was txn other (subst (λ one. IsToldBy one other) is_was t)))
+        (λ e. (family, inl (stored_other other.root family e.1 stored), t))
+        (eqb_tells other.root txn.root))
+        (λ went. (family, inr went, t))
+        kept
+
+    pub receipts_answered : ReceiptsHold o part cut loaded more (receipts ++ receipt ∷ [])
+    receipts_answered = record {
+      named_home = λ root family kept owned position.
+          ⊎_elim
+          (λ stored.
+          ⊎_elim
+          (λ same.
+          ap (λ k. times_named k position (receipts ++ receipt ∷ [])) same.0
+          ∙ named_here 0 position (omega arith) (home_before (ap (source o) (sym same.0) ∙ owned) position)
+          ∙ ap one_if (from_zero position (length new.log))
+          ∙ ap (λ (now : FamilyValue). one_if (nat_lt position (length now.log))) same.1)
+          (λ old. times_other root position old.0 ∙ r.named_home root family (inl old.1) owned position)
+          (stored_now root family stored))
+          (λ went.
+          times_other root position (λ same. not_carried went.0 family went.1 (subst (λ k. IsCarried went.0 k family) same went.2))
+          ∙ r.named_home root family (inr went) owned position)
+          kept;
+      named_came = λ root other family has covered stored position.
+          ⊎_elim
+          (λ same.
+          let at = subst (λ k. covers other.note k ≡ true) same.0 covered in
+          ap (λ k. times_named k position (receipts ++ receipt ∷ [])) same.0
+          ∙ named_here (length (brought other txn.root).log) position (first_below (brought other txn.root) (was_grown other has at)) (came_before other has at position)
+          ∙ ap (λ k. one_if (nat_le (length (brought other k).log) position && nat_lt position (length new.log))) (sym same.0)
+          ∙ ap (λ (now : FamilyValue). one_if (nat_le (length (brought other root).log) position && nat_lt position (length now.log))) same.1)
+          (λ old. times_other root position old.0 ∙ r.named_came root other family has covered old.1 position)
+          (stored_now root family stored);
+      told = λ other has commit.
+          ⊎_elim
+          (λ old. let t = r.told other old commit in told_now other t.0 t.1 t.2)
+          (λ one.
+          subst (λ any. (now : FamilyValue) × IsKept cut more any.root now × IsToldBy now any) one
+          (new, inl (stored_new txn.root refl), told_new was txn receipt refl refl is))
+          (Contains-push_cases receipts receipt other has);
+    }

@@ -1,0 +1,55 @@
+-- What receipts tell of a family whose log grows.
+use Rattle.std.proofs.Common.{◌≡◌, ℕ, zero, suc, ◌+◌, ◌≤◌, ◌==◌, ◌&&◌, nat_le, nat_lt, List, [], ◌∷◌, ◌++◌, length, take, slice_get, Some, refl, sym, ap, ◌∙◌, arith}
+use Rattle.std.proofs.lemmas.Bool.Decides.{nat_tests}
+use Rattle.std.proofs.lemmas.List.{take-append-le}
+use Rattle.std.proofs.lemmas.Option.{slice_get_within}
+use Rattle.std.proofs.Math.Seq.{take-append_seam}
+use Rattle.sq_schema.specs.TxnValue.{TxnValue}
+use Rattle.sq_schema.specs.Effect.{replay_rows, reply}
+use Rattle.sq_schema.specs.Family.{FamilyValue, rows_of}
+use Rattle.sq_store.specs.StoreValue.{with_txn}
+use Rattle.sq_status.specs.View.{one_if}
+use Rattle.sq_node_model.specs.NodeValue.{ReceiptValue}
+use Rattle.sq_node_model.specs.Receipts.{IsToldBy}
+
+pub slice_get-front : {X : Type 0} (xs ys : List X) (i : ℕ) (x : X) → slice_get xs i ≡ Some x → slice_get (xs ++ ys) i ≡ Some x
+slice_get-front [] ys i x at = absurd cc
+slice_get-front (y ∷ xs) ys zero x at = at
+slice_get-front (y ∷ xs) ys (suc i) x at = slice_get-front xs ys i x at
+
+slice_get-pushed : {X : Type 0} (xs : List X) (x : X) → slice_get (xs ++ x ∷ []) (length xs) ≡ Some x
+slice_get-pushed [] x = refl
+slice_get-pushed (y ∷ xs) x = slice_get-pushed xs x
+
+-- a receipt of an earlier position stays right
+pub told_more : (family : FamilyValue) (txn : TxnValue) (receipt : ReceiptValue) → IsToldBy family receipt → IsToldBy (with_txn family txn) receipt
+told_more family txn receipt t =
+    let within = slice_get_within family.log receipt.position t.txn t.there in
+    record {
+      txn = t.txn;
+      there = slice_get-front family.log (txn ∷ []) receipt.position t.txn t.there;
+      id = t.id;
+      told = t.told ∙ ap (λ log. reply (replay_rows family.base log) t.txn) (sym (take-append-le receipt.position family.log (txn ∷ []) (omega arith)));
+    }
+
+-- and so is that of the transaction that made the log grow
+pub told_new : (family : FamilyValue) (txn : TxnValue) (receipt : ReceiptValue) → receipt.id ≡ txn.id → receipt.position ≡ length family.log → receipt.reply ≡ reply (rows_of family) txn → IsToldBy (with_txn family txn) receipt
+told_new family txn receipt same at is = record {
+  txn = txn;
+  there = ap (slice_get (family.log ++ txn ∷ [])) at ∙ slice_get-pushed family.log txn;
+  id = same;
+  told =
+      is ∙ ap (λ log. reply (replay_rows family.base log) txn)
+      (sym (ap (λ n. take n (family.log ++ txn ∷ [])) at ∙ take-append_seam family.log (txn ∷ [])));
+}
+
+-- one position more is named
+pub one_more_position : (first count position : ℕ) → first ≤ count → one_if (nat_le first position && nat_lt position count) + one_if (count == position) ≡ one_if (nat_le first position && nat_lt position (count + 1))
+one_more_position first count position low = grind (arith, nat_tests)
+
+pub from_zero : (position count : ℕ) → (nat_le 0 position && nat_lt position count) ≡ nat_lt position count
+from_zero position count = grind (arith, nat_tests)
+
+-- no position is before 0
+pub none_before : (first position : ℕ) → one_if (nat_le first position && nat_lt position 0) ≡ 0
+none_before first position = grind (arith, nat_tests)

@@ -1,0 +1,5 @@
+use Rattle.sq_node_model.proofs.Trees.{begun_stands, not_begun}
+use Rattle.sq_node_model.proofs.laws.a_seat_begins_once.Goals as goal
+
+pub returns : goal.returns
+returns c = record { begun = begun_stands; once = not_begun }

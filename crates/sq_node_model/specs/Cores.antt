@@ -1,0 +1,49 @@
+-- A partition by itself, as the part of a node that moves what an opening says.
+use Rattle.std.specs.Prelude.{◌≡◌, ℕ, true, ◌==◌, ◌&&◌, if◌then◌else◌, List, [], All, Some, None}
+use Rattle.std.specs.FinMap.{get}
+use Rattle.sq_schema.specs.Family.{FamilyValue}
+use Rattle.sq_tree.specs.Node.{is_node}
+use Rattle.sq_store.specs.StoreValue.{StoreValue}
+use Rattle.sq_chunk.specs.ChunkValue.{ChunkValue, are_within}
+use Rattle.sq_ranges.specs.OpeningValue.{OpeningValue}
+use Rattle.sq_waiting.specs.Waiting.{Arrival}
+use Rattle.sq_exec.specs.CoreValue.{CoreValue}
+use Rattle.sq_exec.specs.Kept.{IsCore}
+use Rattle.sq_exec.specs.Moving.{can_load}
+use Rattle.sq_model.specs.Tables.{opening_rows}
+use Rattle.sq_model.specs.Place.{source}
+use Rattle.sq_status.specs.declared.view.View.{View}
+use Rattle.sq_node_model.specs.OutHolds.{is_opened}
+
+-- the partition knows the plan and the moves of the opening
+pub record IsCoreOf (o : OpeningValue) (core : CoreValue) : Type 0 where
+  pub plan : core.plan ≡ o.old
+  pub recon : core.recon ≡ o.recon
+  pub shape : (arrivals : List Arrival) × IsCore core arrivals
+
+-- the family of a root key before the move
+abbrev pub opening_family : OpeningValue → ℕ → FamilyValue
+opening_family o root = record { root = root; base = opening_rows o root; log = [] }
+
+-- the store has the families of the opening roots that the partition owns, and no others
+abbrev pub OpensWith : OpeningValue → ℕ → StoreValue → Type 0
+OpensWith o part store =
+    (root : ℕ) → get store root ≡ (if is_opened o root && (source o root == part) then Some (opening_family o root) else None)
+
+-- the logs are those of the families' own root keys
+abbrev pub AreKeyed : List FamilyValue → Type 0
+AreKeyed families = All (λ family. All (λ txn. txn.root ≡ family.root) family.log) families
+
+-- the chunk that came from a partition can be loaded, and is one that a partition can have made
+pub record IsLoadable (core : CoreValue) (src : ℕ) (chunk : ChunkValue) : Type 0 where
+  pub can : can_load core src chunk ≡ true
+  pub node : is_node chunk.note.node ≡ true
+  pub rising : are_within chunk.note.lo chunk.note.hi chunk.families ≡ true
+  pub keyed : AreKeyed chunk.families
+
+-- the seats, by segment, began and completed nothing, and nothing was sent and received
+pub record IsUnused (views : ℕ → View) (sent received : ℕ → List ChunkValue) : Type 0 where
+  pub begun : (seg : ℕ) → (views seg).begun ≡ []
+  pub completed : (seg : ℕ) → (views seg).completed ≡ []
+  pub none_sent : (dst : ℕ) → sent dst ≡ []
+  pub none_received : (src : ℕ) → received src ≡ []

@@ -1,0 +1,21 @@
+-- What holds of the link to a partition from another: of the chunks that were received, and of those that were loaded.
+use Rattle.std.specs.Prelude.{◌≡◌, ℕ, ◌≤◌, true, List, ◌++◌, Option, Contains, option_to_list}
+use Rattle.sq_tree.specs.Node.{is_node}
+use Rattle.sq_chunk.specs.declared.chunk.Note.{Note}
+use Rattle.sq_chunk.specs.ChunkValue.{ChunkValue, are_within}
+use Rattle.sq_ranges.specs.OpeningValue.{OpeningValue}
+use Rattle.sq_model.specs.Place.{extent_of}
+use Rattle.sq_model.specs.Links.{is_on_link}
+
+-- the note is about keys of a node of a segment that goes from the one partition to the other
+pub record HasArrived (o : OpeningValue) (src dst : ℕ) (note : Note) : Type 0 where
+  pub node : is_node note.node ≡ true
+  pub segment : is_on_link o src dst note.seg ≡ true
+  pub from : (extent_of o note.seg note.node).lo ≤ note.lo
+  pub upto : note.hi ≤ (extent_of o note.seg note.node).hi
+
+-- what was received is what was loaded, and then what is in the inbox; and what was loaded belongs here, with families whose roots rise
+pub record InHolds (o : OpeningValue) (part src : ℕ) (received loaded : List ChunkValue) (inbox : Option ChunkValue) : Type 0 where
+  pub order : received ≡ loaded ++ option_to_list inbox
+  pub arrived : (chunk : ChunkValue) → Contains loaded chunk → HasArrived o src part chunk.note
+  pub rising : (chunk : ChunkValue) → Contains loaded chunk → are_within chunk.note.lo chunk.note.hi chunk.families ≡ true

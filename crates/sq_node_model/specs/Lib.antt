@@ -1,0 +1,14 @@
+pub mod NodeValue
+pub mod Steps
+pub mod Chunks
+pub mod BegunHolds
+pub mod OutHolds
+pub mod InHolds
+pub mod LoadedHolds
+pub mod Receipts
+pub mod FamiliesHold
+pub mod NodeHolds
+pub mod Cores
+pub mod Gathered
+pub mod Spots
+pub mod Placed

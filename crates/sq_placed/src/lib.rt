@@ -1,0 +1,4 @@
+//! The law that what is gathered of all nodes is placed.
+#![tactic(auto)]
+
+pub mod laws;

@@ -1,0 +1,3 @@
+pub mod Stepped
+pub mod Claimed
+pub mod Rounds

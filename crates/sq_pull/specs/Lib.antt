@@ -1,0 +1,5 @@
+pub mod Numbers
+pub mod Puller
+pub mod Pump
+pub mod Seats
+pub mod Wins

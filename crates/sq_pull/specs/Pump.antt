@@ -1,0 +1,76 @@
+-- A pump, which claims what is free, segment by segment, and what becomes of a turn of it.
+use Rattle.std.specs.Prelude.{◌≡◌, ℕ, ◌<◌, ◌≤◌, ◌⊎◌, true, nat_lt, List, [], ◌∷◌, ◌++◌, length, Some, None}
+use Rattle.std.specs.List.{list_all, range_with_len}
+use Rattle.sq_ranges.specs.declared.segment.TheConstants.{SEGMENT_LIMIT}
+use Rattle.sq_ranges.specs.ReconValue.{ReconValue}
+use Rattle.sq_status.specs.Seat.{SeatValue}
+use Rattle.sq_pull.specs.declared.numbers.TheConstants.{MAX_OWNERS, MAX_CLAIMS}
+use Rattle.sq_pull.specs.declared.pump.PumpTurn.{PumpTurn}
+use Rattle.sq_pull.specs.declared.pump.PumpTurn.TheVariants.{Won, Nothing, Spent}
+use Rattle.sq_pull.specs.Numbers.{pump_pull}
+use Rattle.sq_pull.specs.Wins.{WinsValue, no_wins, AddsWin, Sends, AreWonClaims}
+use Rattle.sq_pull.specs.Seats.{StepsAt, ClaimsAny}
+
+-- a pump with its seats, one for each segment, what it won, and its round: the segments that it goes on looking at, the next one first
+pub record PumpValue : Type 0 where
+  pub number : ℕ
+  pub wins : WinsValue
+  pub seats : List SeatValue
+  pub round : List ℕ
+
+-- a pump that has won nothing. Its round has all segments
+abbrev pub new_pump : ℕ → List SeatValue → PumpValue
+new_pump number seats = record { number = number; wins = no_wins; seats = seats; round = range_with_len 0 (length seats) }
+
+-- the pull that it claims with next
+abbrev pub next_asynchronous : PumpValue → ℕ
+next_asynchronous pump = pump_pull pump.number pump.wins.count
+
+-- the next segment of the round had a free node, which was claimed. The round goes on behind the segment, and comes to it again
+pub record WinsNext (recon : ReconValue) (seg n : ℕ) (old new : PumpValue) : Type 0 where
+  pub few : old.wins.count < MAX_CLAIMS
+  pub rest : List ℕ
+  pub next : old.round ≡ seg ∷ rest
+  pub round : new.round ≡ rest ++ seg ∷ []
+  pub seats : StepsAt seg (ClaimsAny (next_asynchronous old) (Some n)) old.seats new.seats
+  pub wins : AddsWin recon seg n (next_asynchronous old) old.wins new.wins
+  pub number : new.number ≡ old.number
+
+-- in the next segment of the round each leaf has a pull. The round goes on without the segment
+pub record SkipsNext (old new : PumpValue) : Type 0 where
+  pub few : old.wins.count < MAX_CLAIMS
+  pub seg : ℕ
+  pub next : old.round ≡ seg ∷ new.round
+  pub seats : StepsAt seg (ClaimsAny (next_asynchronous old) None) old.seats new.seats
+  pub wins : new.wins ≡ old.wins
+  pub number : new.number ≡ old.number
+
+-- no segment is left in the round
+pub record HasNoRound (old new : PumpValue) : Type 0 where
+  pub few : old.wins.count < MAX_CLAIMS
+  pub empty : old.round ≡ []
+  pub same : new ≡ old
+
+-- what a pump claims in a turn
+abbrev pub ClaimsNext : ReconValue → PumpValue → PumpValue → PumpTurn → Type 0
+ClaimsNext recon old new (Won seg n) = WinsNext recon seg n old new
+ClaimsNext recon old new Nothing = SkipsNext old new ⊎ HasNoRound old new
+ClaimsNext recon old new Spent = (old.wins.count ≡ MAX_CLAIMS) × (new ≡ old)
+
+-- the pump sent requests, or none, and did nothing else
+pub record OnlySends (old new : PumpValue) : Type 0 where
+  pub number : new.number ≡ old.number
+  pub round : new.round ≡ old.round
+  pub seats : new.seats ≡ old.seats
+  pub wins : Sends old.wins new.wins
+
+-- what became of a turn: what was claimed, and then requests were sent
+abbrev pub HasTurned : ReconValue → PumpValue → PumpValue → PumpTurn → Type 0
+HasTurned recon old new turn = (claimed : PumpValue) × ClaimsNext recon old claimed turn × OnlySends claimed new
+
+-- what holds of each pump: its segments are those of its seats, and the requests that aren't sent are for claims that it won
+pub record IsPump (pump : PumpValue) : Type 0 where
+  pub number : pump.number < MAX_OWNERS
+  pub segments : list_all (λ seg. nat_lt seg (length pump.seats)) pump.round ≡ true
+  pub few : length pump.seats ≤ SEGMENT_LIMIT
+  pub claims : AreWonClaims pump.seats pump.wins

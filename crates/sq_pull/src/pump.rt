@@ -1,0 +1,167 @@
+// Pumps.
+ghost use Rattle.std.specs.Prelude.{◌≡◌, ◌≢◌, ◌↔◌, ◌<◌, ◌≤◌, [], true, length, map, IsTrue, IfOk, IfErr, OnErr};
+ghost use Rattle.std.specs.List.{range_with_len};
+ghost use Rattle.sq_ranges.specs.declared.segment.TheConstants.{SEGMENT_LIMIT};
+ghost use Rattle.sq_pull.specs.Seats.{AreSeatsOf, OnlyClaimed};
+
+use crate::numbers::{MAX_CLAIMS, MAX_OWNERS, pump_pull};
+use crate::request::{PendingRequest, Request};
+use crate::seats::claim_any;
+use crate::shared::Shared;
+use crate::wins::Wins;
+use crossbeam_queue::ArrayQueue;
+use sq_ranges::SegId;
+use sq_status::TreeSeat;
+use sq_tree::NodeId;
+use std::alloc::{AllocError, Global};
+use std::collections::VecDeque;
+use std::marker::Model;
+use std::sync::Wait;
+
+/// What became of a pump's turn.
+#[derive(Clone, Copy, Debug, PartialEq, Eq)]
+pub enum PumpTurn {
+    /// A node of a segment was claimed, and is asked for.
+    Won(SegId, NodeId),
+    /// There was nothing to claim where the pump looked.
+    Nothing,
+    /// The pump has won [`MAX_CLAIMS`] claims, and wins no more.
+    Spent,
+}
+
+/// A pump: it claims nodes for asynchronous pulls, in one segment after another, until each leaf has a pull. To a
+/// contract it is a `PumpValue`.
+#[derive(Drop)]
+pub struct Pump {
+    number: u32,
+    wins: Wins,
+    seats: Vec<TreeSeat>,
+    round: VecDeque<SegId>,
+}
+
+impl Model for Pump {
+    ghost use Rattle.sq_pull.specs.Pump.{PumpValue, IsPump};
+
+    ghost Value = { PumpValue };
+
+    ghost view = { λ p. record { number = p.number; wins = p.wins.wins; seats = p.seats.items; round = p.round.items } };
+
+    ghost invariant = { λ p. IsPump (record { number = p.number; wins = p.wins.wins; seats = p.seats.items; round = p.round.items }) };
+}
+
+impl Pump {
+    ghost use Rattle.sq_pull.specs.Pump.{new_pump, IsPump, ClaimsNext, HasTurned, OnlySends};
+
+    /// The pump of this number, which has won no claim. Its seats are of the segments in their order, and its round
+    /// begins with the first. Where there is no memory for the round, the seats come back.
+    pub fn new(alloc: Global, number: u32, seats: Vec<TreeSeat>) -> Result<Pump, Vec<TreeSeat>>
+        requires number { number < MAX_OWNERS }
+        requires seats { length seats.items ≤ SEGMENT_LIMIT }
+        ensures new { IfOk result (λ pump. pump ≡ new_pump number seats.items) }
+        ensures refused { IfErr result (λ back. back.items ≡ seats.items) }
+    {
+        let Ok(round) = whole_round(alloc, seats.len()) else {
+            return Err(seats);
+        };
+        Ok(Pump {
+            number,
+            wins: Wins::new(alloc),
+            seats,
+            round,
+        })
+    }
+
+    /// The requests that aren't sent, the oldest first.
+    pub fn pending(&self) -> &[PendingRequest]
+        ensures { result.now ≡ self.now.wins.pending }
+    {
+        self.wins.pending()
+    }
+
+    /// Whether there is nothing left to do: each leaf of each segment had a pull when the pump looked there last, and
+    /// each request is sent.
+    pub fn is_done(&self) -> bool
+        ensures { IsTrue result ↔ (self.now.round ≡ []) × (self.now.wins.pending ≡ []) }
+    {
+        self.round.is_empty() && self.wins.pending().is_empty()
+    }
+
+    /// Claims a node of the next segment of the round, and then sends what is pending. A segment in which each leaf has
+    /// a pull already leaves the round for good.
+    ///
+    /// Where there is no room for a request, nothing is claimed or sent.
+    pub fn turn<R: Wait>(&mut self, rt: &R, shared: &Shared<'_>) -> Result<PumpTurn, AllocError>
+        requires seats { AreSeatsOf shared.now.trees.now self.old.seats }
+        requires trees { length shared.now.trees.now ≡ length shared.now.recon.now.segments }
+        ensures seats { AreSeatsOf shared.now.trees.now self.new.seats }
+        ensures turned { IfOk result (HasTurned shared.now.recon.now self.old self.new) }
+        ensures memory { OnErr result ((self.old.wins.count < MAX_CLAIMS) × (self.old.round ≢ [])) }
+        ensures err { OnErr result (self.new ≡ self.old) }
+        ensures work { OnlyClaimed self.old.seats self.new.seats }
+        ensures pump { IsPump self.new }
+    {
+        let turn = self.claim_next(shared)?;
+        self.send_pending(rt, shared.requests);
+        Ok(turn)
+    }
+
+    /// Sends each pending request whose queue has room for it. The others stay, in their order.
+    pub fn send_pending<R: Wait>(&mut self, rt: &R, requests: &[ArrayQueue<Request>])
+        ensures sent { OnlySends self.old self.new }
+        ensures pump { IsPump self.new }
+    {
+        self.wins.send(rt, requests);
+    }
+
+    /// Its seats, by segment, and the requests that aren't sent.
+    pub fn into_parts(self) -> (Vec<TreeSeat>, Vec<PendingRequest>)
+        ensures seats { result.0.items ≡ self.seats }
+        ensures pending { result.1.items ≡ self.wins.pending }
+    {
+        (self.seats, self.wins.into_pending())
+    }
+
+    // Claims a node of the next segment of the round.
+    fn claim_next(&mut self, shared: &Shared<'_>) -> Result<PumpTurn, AllocError>
+        requires seats { AreSeatsOf shared.now.trees.now self.old.seats }
+        requires trees { length shared.now.trees.now ≡ length shared.now.recon.now.segments }
+        ensures seats { AreSeatsOf shared.now.trees.now self.new.seats }
+        ensures claimed { IfOk result (ClaimsNext shared.now.recon.now self.old self.new) }
+        ensures memory { OnErr result ((self.old.wins.count < MAX_CLAIMS) × (self.old.round ≢ [])) }
+        ensures err { OnErr result (self.new ≡ self.old) }
+        ensures work { OnlyClaimed self.old.seats self.new.seats }
+        ensures pump { IsPump self.new }
+    {
+        if self.wins.is_spent() {
+            return Ok(PumpTurn::Spent);
+        }
+        let Some(seg) = self.round.front().copied() else {
+            return Ok(PumpTurn::Nothing);
+        };
+        self.wins.reserve()?;
+        let pull = pump_pull(self.number, self.wins.count());
+        let Some(node) = claim_any(shared.trees, &mut self.seats, seg, pull) else {
+            self.round.pop_front();
+            return Ok(PumpTurn::Nothing);
+        };
+        self.round.rotate_left(1);
+        self.wins
+            .add(PendingRequest::new(shared.recon, seg, node, pull));
+        Ok(PumpTurn::Won(seg, node))
+    }
+}
+
+// The first segments, in their order.
+fn whole_round(alloc: Global, count: usize) -> Result<VecDeque<SegId>, AllocError>
+    requires { count ≤ SEGMENT_LIMIT }
+    ensures { IfOk result (λ round. round.items ≡ range_with_len 0 count) }
+{
+    let mut round = VecDeque::new(alloc);
+    for number in 0..count as u64 {
+        let Some(seg) = SegId::new(number) else {
+            unreachable!()
+        };
+        round.push_back(seg)?;
+    }
+    Ok(round)
+}

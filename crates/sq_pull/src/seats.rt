@@ -1,0 +1,42 @@
+// Claims by the seat of a segment, among those of an owner.
+ghost use Rattle.std.specs.Prelude.{◌<◌, length};
+ghost use Rattle.sq_pull.specs.Seats.{AreSeatsOf, StepsAt, ClaimsLeaf, ClaimsAny, OnlyClaimed};
+
+use sq_ranges::SegId;
+use sq_status::{LeafClaim, StatusTree, TreeSeat};
+use sq_tree::{Leaf, NodeId};
+
+/// Claims the node of a leaf of a segment.
+pub(crate) fn claim_leaf(
+    trees: &[StatusTree],
+    seats: &mut Vec<TreeSeat>,
+    seg: SegId,
+    leaf: Leaf,
+    pull: u32,
+) -> LeafClaim
+    requires seats { AreSeatsOf trees.now seats.old.items }
+    requires segment { seg < length trees.now }
+    ensures steps { StepsAt seg (ClaimsLeaf leaf pull result) seats.old.items seats.new.items }
+    ensures seats { AreSeatsOf trees.now seats.new.items }
+    ensures work { OnlyClaimed seats.old.items seats.new.items }
+{
+    let at = seg.index();
+    trees[at].claim_leaf(&mut seats[at], leaf, pull)
+}
+
+/// Claims any node of a segment that is free.
+pub(crate) fn claim_any(
+    trees: &[StatusTree],
+    seats: &mut Vec<TreeSeat>,
+    seg: SegId,
+    pull: u32,
+) -> Option<NodeId>
+    requires seats { AreSeatsOf trees.now seats.old.items }
+    requires segment { seg < length trees.now }
+    ensures steps { StepsAt seg (ClaimsAny pull result) seats.old.items seats.new.items }
+    ensures seats { AreSeatsOf trees.now seats.new.items }
+    ensures work { OnlyClaimed seats.old.items seats.new.items }
+{
+    let at = seg.index();
+    trees[at].claim_any(&mut seats[at], pull)
+}
