@@ -1,12 +1,11 @@
 -- Checks that come first in a step.
-use Rattle.std.proofs.Common.{◌≡◌, ℕ, ◌<◌, Bool, true, false, length, Ok, Err, refl, ap, ◌∙◌, subst, arith}
+use Rattle.std.proofs.Common.{◌≡◌, ℕ, ◌<◌, Bool, true, false, length, Ok, refl, ◌∙◌, arith}
 use Rattle.std.specs.Prelude.{if◌then◌else◌, not, nat_le}
 use Rattle.sq_tree.specs.Node.{is_node}
 use Rattle.sq_model.specs.declared.answer.Refusal.{Refusal}
-use Rattle.sq_model.specs.declared.answer.Refusal.TheVariants.{NotMoving, NoSuchSegment, NoSuchNode, NoSuchPartition}
-use Rattle.sq_model.specs.Leader.{is_moving_phase}
+use Rattle.sq_model.specs.declared.answer.Refusal.TheVariants.{NoSuchSegment, NoSuchNode}
 use Rattle.sq_transition.specs.WorldValue.{WorldValue}
-use Rattle.sq_transition.specs.LeaderResults.{StepResult, refuse, if_moving, if_partition}
+use Rattle.sq_transition.specs.LeaderResults.{StepResult, refuse}
 use Rattle.sq_transition.specs.TreeResults.{if_segment, if_node}
 use Rattle.sq_state.specs.Results.{unless, refuse_if}
 

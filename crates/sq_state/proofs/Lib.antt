@@ -4,10 +4,10 @@ pub mod Each
 pub mod Families
 pub mod Found
 pub mod Guards
+pub mod Leading
 pub mod LinkSteps
 pub mod Opened
-pub mod Places
+pub mod Said
 pub mod Serves
 pub mod Steps
-pub mod Said
 pub mod Trees

@@ -19,11 +19,11 @@ use Rattle.sq_exec.specs.OutLink.{OutLinkValue, new_out_link, cut_fault}
 use Rattle.sq_exec.specs.CoreValue.{CoreValue, PartCoreValue, out_at, with_out, inbox_at, with_inbox}
 use Rattle.sq_exec.specs.Moving.{CutsFor, LoadsFrom, can_load, load_fault, loaded_core}
 use Rattle.sq_model.specs.declared.step.Step.TheVariants.{Cut, Load}
-use Rattle.sq_model.specs.declared.answer.Answer.{Answer}
 use Rattle.sq_model.specs.declared.answer.Answer.TheVariants.{Done, WasCut, WasLoaded, Refused}
-use Rattle.sq_model.specs.declared.answer.Refusal.TheVariants.{NotMoving, OutboxEmpty, OutboxFull, LinkFull, LinkEmpty, InboxFull, Memory}
+use Rattle.sq_model.specs.declared.answer.Refusal.TheVariants.{NotMoving, OutboxEmpty, OutboxFull, LinkFull, LinkEmpty, InboxFull}
 use Rattle.sq_model.specs.Leader.{is_moving_phase}
 use Rattle.sq_transition.specs.WorldValue.{WorldValue, QueueValue, no_queue, core_at, with_core, link_index, queue_at, with_queue}
+use Rattle.sq_transition.specs.Leading.{phase_of}
 use Rattle.sq_transition.specs.LeaderResults.{StepResult, refuse}
 use Rattle.sq_transition.specs.LinkResults.{result_at_link, if_link, sent_core, push_chunk, push_result, pop_chunk, pop_result, cut_work, cut_at, cut_result, load_chunk, load_result}
 use Rattle.sq_transition.specs.Transition.{IsResult}
@@ -55,9 +55,9 @@ link_here w src dst at queue sound found is =
     }
 
 -- where there is the link the step goes on
-at_link : (w : WorldValue) (src dst at : ℕ) (done : Unit {0}) (result : ℕ → StepResult) → Ok done ≡ refuse_if (not (is_moving_phase w.phase)) NotMoving → Some at ≡ link_index w src dst → result at ≡ if_link w src dst result
+at_link : (w : WorldValue) (src dst at : ℕ) (done : Unit {0}) (result : ℕ → StepResult) → Ok done ≡ refuse_if (not (is_moving_phase (phase_of w.leader))) NotMoving → Some at ≡ link_index w src dst → result at ≡ if_link w src dst result
 at_link w src dst at done result moving found =
-    ap (result_at_link w result) found ∙ passed (not (is_moving_phase w.phase)) NotMoving w (result_at_link w result (link_index w src dst)) done moving
+    ap (result_at_link w result) found ∙ passed (not (is_moving_phase (phase_of w.leader))) NotMoving w (result_at_link w result (link_index w src dst)) done moving
 
 -- what a reference tells of what it was read from
 copied_some : (r : Option (Bor ChunkValue)) (o : Option ChunkValue) (b : Bool) → option_copied r ≡ o → is_some r ≡ b → is_some o ≡ b
@@ -124,7 +124,7 @@ load_refused_by w src dst (Some chunk) fault is = inr (ap (λ (f : LoadFault). R
 
 -- a link, and the partition at its source
 module _ (w : WorldValue) (parts : List PartCoreValue) (src dst at from to : ℕ) (queue : QueueValue) (part : PartCoreValue) (done : Unit {0}) (are : map core_of parts ≡ w.cores) (sound : IsSound w)
-    (moving : Ok done ≡ refuse_if (not (is_moving_phase w.phase)) NotMoving) (found : Some at ≡ link_index w src dst) (queue_is : queue ≡ get_or w.queues at queue)
+    (moving : Ok done ≡ refuse_if (not (is_moving_phase (phase_of w.leader))) NotMoving) (found : Some at ≡ link_index w src dst) (queue_is : queue ≡ get_or w.queues at queue)
     (from_is : from ≡ queue.src) (to_is : to ≡ queue.dst) (part_is : part ≡ get_or parts from part) where
   source_there : IsLinkHere w src dst at queue
   source_there = link_here w src dst at queue sound found queue_is
@@ -209,7 +209,7 @@ module _ (w : WorldValue) (parts : List PartCoreValue) (src dst at from to : ℕ
 
 -- a link, and the partition at its destination
 module _ (w : WorldValue) (parts : List PartCoreValue) (src dst at from to : ℕ) (queue : QueueValue) (part : PartCoreValue) (done : Unit {0}) (are : map core_of parts ≡ w.cores) (sound : IsSound w)
-    (moving : Ok done ≡ refuse_if (not (is_moving_phase w.phase)) NotMoving) (found : Some at ≡ link_index w src dst) (queue_is : queue ≡ get_or w.queues at queue)
+    (moving : Ok done ≡ refuse_if (not (is_moving_phase (phase_of w.leader))) NotMoving) (found : Some at ≡ link_index w src dst) (queue_is : queue ≡ get_or w.queues at queue)
     (from_is : from ≡ queue.dst) (to_is : to ≡ queue.src) (part_is : part ≡ get_or parts from part) where
   link_there : IsLinkHere w src dst at queue
   link_there = link_here w src dst at queue sound found queue_is

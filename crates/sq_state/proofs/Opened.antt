@@ -25,7 +25,7 @@ use Rattle.sq_ranges.specs.declared.recon.Range.{Range}
 use Rattle.sq_ranges.specs.ReconValue.{is_link, link_cmp, AreLinks}
 use Rattle.sq_ranges.specs.OpeningValue.{OpeningValue}
 use Rattle.sq_ranges.specs.SetUp.{IsSetUp}
-use Rattle.sq_model.specs.declared.step.Phase.TheVariants.{Idle}
+use Rattle.sq_leader.specs.declared.leader.Leader.TheVariants.{Idle}
 use Rattle.sq_chunk.specs.ChunkValue.{ChunkValue}
 use Rattle.sq_exec.specs.declared.run.Run.{Run}
 use Rattle.sq_exec.specs.GivenUp.{is_given_up, none_given_up}
@@ -35,8 +35,8 @@ use Rattle.sq_exec.specs.CoreValue.{out_at, inbox_at}
 use Rattle.sq_model.specs.Tables.{opening_rows, family_of}
 use Rattle.sq_model.specs.Place.{source}
 use Rattle.sq_transition.specs.WorldValue.{WorldValue, QueueValue, LinkValue, no_core, no_queue, core_at, queue_at, link_value}
-use Rattle.sq_transition.specs.LeaderResults.{flag_at}
-use Rattle.sq_transition.specs.Holds.{share_at, FlagsHold, LinkHolds, MovesHold, IsSetFor, CoreHolds, Holds}
+use Rattle.sq_transition.specs.Leading.{phase_of, parts_of, has_prepared, has_reported}
+use Rattle.sq_transition.specs.Holds.{share_at, LinkHolds, MovesHold, IsSetFor, CoreHolds, Holds}
 use Rattle.sq_state.specs.Queue.{opened_queue, link_of}
 use Rattle.sq_state.specs.Openings.{opened_part, AreNewTrees, AreNewQueues}
 use Rattle.sq_state.proofs.Families.{get_opened}
@@ -65,13 +65,6 @@ new_link_holds o link =
 -- the family of a key with opening rows
 stood : (o : OpeningValue) (part root : ℕ) → (if not (length (opening_rows o root) == 0) && (source o root == part) then Some (record { root = root; base = opening_rows o root; log = [] }) else None) ≡ share_at o [] part root
 stood o part root = ap (λ b. if b && (source o root == part) then Some (family_of o [] root) else None) (sym (or-false (not (length (opening_rows o root) == 0))))
-
--- flags none of which is set
-new_flags : (o : OpeningValue) (flags : List Bool) → flags ≡ replicate o.old.parts false → FlagsHold o (λ part. false) flags
-new_flags o flags same = record {
-  count = ap length same ∙ length-replicate o.old.parts false;
-  each = λ part there. ap (λ set. flag_at set part) same ∙ get_or-replicate o.old.parts part false false there;
-}
 
 bools_same : (a b : Bool) → (a ≡ true → b ≡ true) → (b ≡ true → a ≡ true) → a ≡ b
 bools_same true true to from = refl
@@ -183,9 +176,7 @@ pub record IsBuilt (o : OpeningValue) (w : WorldValue) : Type 0 where
   pub new : w.new ≡ o.new
   pub recon : w.recon ≡ o.recon
   pub config : w.config ≡ o.config
-  pub phase : w.phase ≡ Idle
-  pub prepared : w.prepared ≡ replicate o.old.parts false
-  pub reported : w.reported ≡ replicate o.old.parts false
+  pub leader : w.leader ≡ Idle o.old.parts
   pub cores : w.cores ≡ map (opened_part o) (range_with_len 0 o.old.parts)
   pub trees : AreNewTrees o.recon.segments w.trees
   pub queues : AreNewQueues o.recon.ranges w.queues
@@ -236,7 +227,12 @@ module _ (o : OpeningValue) (w : WorldValue) (built : IsBuilt o w) where
       let are = built.queues.all in
       record {
         plans = record { old = built.old; new = built.new; recon = built.recon; config = built.config };
-        leader = record { phase = built.phase; prepared = new_flags o w.prepared built.prepared; reported = new_flags o w.reported built.reported };
+        leader = record {
+          parts = ap parts_of built.leader;
+          phase = ap phase_of built.leader;
+          prepared = λ part low. ap (λ leader. has_prepared leader part) built.leader;
+          reported = λ part low. ap (λ leader. has_reported leader part) built.leader;
+        };
         partitions = record {
           count = ap length built.cores ∙ length-map-range_with_len (opened_part o) 0 o.old.parts;
           each = λ part there. subst (CoreHolds o [] part) (sym (core_is part there)) (new_core o part set_up);

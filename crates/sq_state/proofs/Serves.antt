@@ -1,6 +1,6 @@
 -- What transactions come to that are submitted at a partition, and those that waited at it.
-use Rattle.std.proofs.Common.{◌≡◌, ℕ, ◌<◌, ◌||◌, Bool, true, false, List, [], ◌∷◌, ◌++◌, map, length, get_or, set, Option, Some, None, Ok, Err, Result, refl, sym, ap, ◌∙◌, subst, inl, inr, arith}
-use Rattle.std.specs.Prelude.{IsTrue, ◌==◌, ◌&&◌, not, nat_le, is_none, if◌then◌else◌, slice_get, slice_set, slice_index_or, position, remove, unwrap_or, option_map, option_and_then}
+use Rattle.std.proofs.Common.{◌≡◌, ℕ, ◌<◌, ◌||◌, Bool, true, false, List, [], ◌∷◌, ◌++◌, map, get_or, set, Option, Some, None, Ok, Err, Result, refl, sym, ap, ◌∙◌, subst, inl, inr, arith}
+use Rattle.std.specs.Prelude.{IsTrue, ◌==◌, not, nat_le, is_none, if◌then◌else◌, slice_get, position, remove, unwrap_or, option_map, option_and_then}
 use Rattle.std.specs.List.{list_all}
 use Rattle.std.proofs.lemmas.Bool.{and_parts, eq-eqb, eqb-true}
 use Rattle.std.proofs.lemmas.List.Quantifiers.{position-Some}
@@ -25,8 +25,7 @@ use Rattle.sq_exec.proofs.Resumes.{nothing_refuses}
 use Rattle.sq_model.specs.declared.step.Step.TheVariants.{Submit, Resume}
 use Rattle.sq_model.specs.declared.answer.Answer.{Answer}
 use Rattle.sq_model.specs.declared.answer.Answer.TheVariants as answer
-use Rattle.sq_model.specs.declared.answer.Refusal.{Refusal}
-use Rattle.sq_model.specs.declared.answer.Refusal.TheVariants.{NoSuchPartition, Memory}
+use Rattle.sq_model.specs.declared.answer.Refusal.TheVariants.{NoSuchPartition}
 use Rattle.sq_model.specs.Answers.{waits_at}
 use Rattle.sq_model.specs.Legal.{takes_memory}
 use Rattle.sq_transition.specs.WorldValue.{WorldValue, core_at, with_core}

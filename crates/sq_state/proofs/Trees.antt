@@ -1,5 +1,5 @@
 -- What the steps of the split trees come to.
-use Rattle.std.proofs.Common.{◌≡◌, ℕ, ◌<◌, ◌⊎◌, Bool, true, false, List, [], map, length, get_or, set, Option, Some, None, Ok, refl, sym, ap, ◌∙◌, subst, inl, inr, arith}
+use Rattle.std.proofs.Common.{◌≡◌, ℕ, ◌<◌, ◌⊎◌, true, false, List, [], map, length, get_or, set, Option, Some, None, Ok, refl, sym, ap, ◌∙◌, subst, inl, inr, arith}
 use Rattle.std.specs.Prelude.{IsTrue, not, option_map, option_and_then, slice_get, slice_set, unwrap_or}
 use Rattle.std.specs.Option.{option_map_or}
 use Rattle.std.proofs.lemmas.List.{get_or_default}
@@ -20,9 +20,10 @@ use Rattle.sq_model.specs.declared.answer.Answer.TheVariants.{Done, Reads, Refus
 use Rattle.sq_model.specs.declared.answer.Refusal.TheVariants.{NotMoving, Memory}
 use Rattle.sq_model.specs.Answers.{begin_answered}
 use Rattle.sq_model.specs.Leader.{is_moving_phase}
-use Rattle.sq_transition.specs.WorldValue.{WorldValue, tree_at, with_tree, with_core, core_at, status_in, range_of, source_of}
-use Rattle.sq_transition.specs.LeaderResults.{StepResult, if_moving}
-use Rattle.sq_transition.specs.TreeResults.{status_result, begin_result, with_node, with_begun, if_done, if_segment, if_node}
+use Rattle.sq_transition.specs.WorldValue.{WorldValue, tree_at, core_at, status_in, source_of}
+use Rattle.sq_transition.specs.Leading.{phase_of}
+use Rattle.sq_transition.specs.LeaderResults.{StepResult}
+use Rattle.sq_transition.specs.TreeResults.{status_result, begin_result, with_begun, if_done, if_segment, if_node}
 use Rattle.sq_transition.specs.SubmitResults.{is_given_up}
 use Rattle.sq_transition.specs.Transition.{IsResult}
 use Rattle.sq_model.specs.Legal.{takes_memory}
@@ -99,7 +100,7 @@ source_exists w seg from range sound lt is from_is =
     omega (arith, ends.0, from_is, sound.cores)
 
 -- where a step may be done on a node it goes on to that
-begins : (w : WorldValue) (number named seg node pull : ℕ) (tree : List Status) (done : Unit {0}) → IsSound w → Ok done ≡ refuse_if (not (is_moving_phase w.phase)) NotMoving
+begins : (w : WorldValue) (number named seg node pull : ℕ) (tree : List Status) (done : Unit {0}) → IsSound w → Ok done ≡ refuse_if (not (is_moving_phase (phase_of w.leader))) NotMoving
     → IsNamed w number named seg node → tree ≡ get_or w.trees seg tree → Done ≡ begin_answered (begin_answer (status_at tree) node pull)
     → (Done, with_begun w seg node pull) ≡ begin_result w number named pull
 begins w number named seg node pull tree done sound moving here is may =
@@ -109,11 +110,11 @@ begins w number named seg node pull tree done sound moving here is may =
     ap (λ (a : Answer). if_done a w (with_begun w seg node pull)) answered
     ∙ ap (λ (s : ℕ). whole s node) here.segment ∙ ap (whole number) here.which
     ∙ here.goes (whole number named)
-    ∙ passed (not (is_moving_phase w.phase)) NotMoving w (if_segment w number (if_node w named (whole number named))) done moving
+    ∙ passed (not (is_moving_phase (phase_of w.leader))) NotMoving w (if_segment w number (if_node w named (whole number named))) done moving
 
 -- a Begin that is done
 begin_done : (w : WorldValue) (parts : List PartCoreValue) (number named seg node pull from : ℕ) (at : ℕ) (range : Range) (part after : PartCoreValue) (tree other written : List Status) (done : Unit {0}) → map core_of parts ≡ w.cores
-    → IsSound w → Ok done ≡ refuse_if (not (is_moving_phase w.phase)) NotMoving → IsNamed w number named seg node
+    → IsSound w → Ok done ≡ refuse_if (not (is_moving_phase (phase_of w.leader))) NotMoving → IsNamed w number named seg node
     → tree ≡ get_or w.trees seg tree → Done ≡ begin_answered (begin_answer (status_at tree) node pull)
     → range ≡ get_or w.recon.segments seg range → from ≡ range.src → part ≡ get_or parts from part → after.core ≡ begun_core part.core seg node pull
     → at ≡ seg → other ≡ get_or w.trees at other → written ≡ with_status other node (Partial pull)
@@ -133,7 +134,7 @@ begin_done w parts number named seg node pull from at range part after tree othe
 
 -- the same, where the world was this
 pub begin_returns : (w old : WorldValue) (parts : List PartCoreValue) (number named seg node pull from : ℕ) (at : ℕ) (range : Range) (part after : PartCoreValue) (tree other written : List Status) (done : Unit {0}) → w ≡ old → map core_of parts ≡ w.cores
-    → IsSound old → Ok done ≡ refuse_if (not (is_moving_phase old.phase)) NotMoving → IsNamed old number named seg node
+    → IsSound old → Ok done ≡ refuse_if (not (is_moving_phase (phase_of old.leader))) NotMoving → IsNamed old number named seg node
     → tree ≡ get_or w.trees seg tree → Done ≡ begin_answered (begin_answer (status_at tree) node pull)
     → range ≡ get_or w.recon.segments seg range → from ≡ range.src → part ≡ get_or parts from part → after.core ≡ begun_core part.core seg node pull
     → at ≡ seg → other ≡ get_or w.trees at other → written ≡ with_status other node (Partial pull)
@@ -141,7 +142,7 @@ pub begin_returns : (w old : WorldValue) (parts : List PartCoreValue) (number na
 begin_returns w old parts number named seg node pull from at range part after tree other written done same are sound moving here is may range_is from_is part_is after_is at_is other_is written_is =
     subst
     (λ (v : WorldValue).
-    IsSound v → Ok done ≡ refuse_if (not (is_moving_phase v.phase)) NotMoving → IsNamed v number named seg node
+    IsSound v → Ok done ≡ refuse_if (not (is_moving_phase (phase_of v.leader))) NotMoving → IsNamed v number named seg node
     → IsResult (Begin number named pull) v (begin_result v number named pull) Done (record w { cores = map core_of (set parts from after); trees = set w.trees at written }))
     same
     (λ sound_w moving_w here_w. inl (begin_done w parts number named seg node pull from at range part after tree other written done are sound_w moving_w here_w is may range_is from_is part_is after_is at_is other_is written_is))
@@ -149,7 +150,7 @@ begin_returns w old parts number named seg node pull from at range part after tr
 
 -- a Begin for which there is no memory
 pub begin_lacks_memory : (w old : WorldValue) (parts : List PartCoreValue) (number named seg node pull from : ℕ) (part after : PartCoreValue) (tree : List Status) (done : Unit {0}) → w ≡ old → map core_of parts ≡ w.cores
-    → IsSound old → Ok done ≡ refuse_if (not (is_moving_phase old.phase)) NotMoving → IsNamed old number named seg node
+    → IsSound old → Ok done ≡ refuse_if (not (is_moving_phase (phase_of old.leader))) NotMoving → IsNamed old number named seg node
     → tree ≡ get_or w.trees seg tree → Done ≡ begin_answered (begin_answer (status_at tree) node pull) → part ≡ get_or parts from part → after.core ≡ part.core
     → IsResult (Begin number named pull) old (begin_result old number named pull) (Refused Memory) (record w { cores = map core_of (set parts from after) })
 begin_lacks_memory w old parts number named seg node pull from part after tree done same are sound moving here is may part_is after_is =

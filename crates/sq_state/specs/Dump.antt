@@ -4,6 +4,7 @@ use Rattle.std.specs.List.{flat_map, range_with_len}
 use Rattle.sq_store.specs.InOrder.{families_in}
 use Rattle.sq_text.specs.Texts.{end_line, at_line, way_lines}
 use Rattle.sq_transition.specs.WorldValue.{WorldValue, core_at, link_index, link_value, under_way}
+use Rattle.sq_transition.specs.Leading.{phase_of}
 
 -- the families in the store of a partition, by rising root key
 abbrev pub part_lines : WorldValue → ℕ → List ℕ
@@ -21,5 +22,5 @@ source_lines w src = flat_map (λ dst. link_lines w (link_index w src dst)) (ran
 -- the phase, each partition with its families, and each link with what is under way on it
 abbrev pub dump : WorldValue → List ℕ
 dump w =
-    end_line w.phase
+    end_line (phase_of w.leader)
     ++ (flat_map (part_lines w) (range_with_len 0 w.old.parts) ++ flat_map (source_lines w) (range_with_len 0 w.old.parts))

@@ -4,7 +4,9 @@ use Rattle.sq_chunk.specs.ChunkValue.{ChunkValue}
 use Rattle.sq_model.specs.declared.answer.Answer.{Answer}
 use Rattle.sq_model.specs.declared.answer.Answer.TheVariants.{Done, Refused}
 use Rattle.sq_model.specs.declared.answer.Refusal.{Refusal}
-use Rattle.sq_model.specs.declared.answer.Refusal.TheVariants.{OutboxFull, NothingToCut, InboxEmpty, Memory}
+use Rattle.sq_model.specs.declared.answer.Refusal.TheVariants.{OutboxFull, NothingToCut, InboxEmpty, NotFinished, NoSuchPartition, Memory}
+use Rattle.sq_leader.specs.declared.fault.ReportFault.{ReportFault}
+use Rattle.sq_leader.specs.declared.fault.ReportFault.TheVariants as report
 use Rattle.sq_exec.specs.declared.fault.CutFault.{CutFault}
 use Rattle.sq_exec.specs.declared.fault.CutFault.TheVariants as cut
 use Rattle.sq_exec.specs.declared.fault.LoadFault.{LoadFault}
@@ -27,6 +29,10 @@ refuse_if wrong refusal = unless wrong refusal tt
 abbrev pub done_or : Result (Unit {0}) Refusal → Answer
 done_or (Ok done) = Done
 done_or (Err refusal) = Refused refusal
+
+abbrev pub report_refused : ReportFault → Refusal
+report_refused report.NoSuchPartition = NoSuchPartition
+report_refused report.NotFinished = NotFinished
 
 abbrev pub cut_refused : CutFault → Refusal
 cut_refused cut.OutboxFull = OutboxFull

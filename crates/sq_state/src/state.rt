@@ -1,13 +1,15 @@
 // The state of a world.
 ghost use Rattle.std.specs.Prelude.{◌≡◌, nat_le, not, length};
 ghost use Rattle.sq_model.specs.declared.answer.Refusal.{Refusal};
-ghost use Rattle.sq_model.specs.Leader.{is_moving_phase, is_started_phase};
+ghost use Rattle.sq_model.specs.Leader.{is_moving_phase};
 ghost use Rattle.sq_tree.specs.Node.{is_node};
+ghost use Rattle.sq_transition.specs.Leading.{phase_of};
 ghost use Rattle.sq_state.specs.Results.{refuse_if, unless};
 
 use crate::queue::Queue;
 use sq_exec::PartCore;
-use sq_model::{Phase, Refusal};
+use sq_leader::Leader;
+use sq_model::Refusal;
 use sq_plan::Plan;
 use sq_ranges::{Config, Recon, SegId};
 use sq_store::SlabStore;
@@ -24,7 +26,7 @@ mod step;
 mod submit;
 mod trees;
 
-/// A world: the plans, what moves between them and how far the leader is; the partitions, each by itself; for each
+/// A world: the plans, what moves between them and the leader; the partitions, each by itself; for each
 /// segment its split tree; and the queues between the partitions. To a contract it is a `WorldValue`.
 #[derive(Drop)]
 pub struct State {
@@ -34,9 +36,7 @@ pub struct State {
     new_plan: Plan,
     recon: Recon,
     config: Config,
-    phase: Phase,
-    prepared: Vec<bool>,
-    reported: Vec<bool>,
+    leader: Leader,
     cores: Vec<PartCore<SlabStore>>,
     trees: Vec<PlainTree>,
     queues: Vec<Queue>,
@@ -60,9 +60,7 @@ impl Model for State {
       new = s.new_plan;
       recon = s.recon;
       config = s.config;
-      phase = s.phase;
-      prepared = s.prepared.items;
-      reported = s.reported.items;
+      leader = s.leader;
       cores = map (λ part. part.core) s.cores.items;
       trees = s.trees.items;
       queues = s.queues.items;
@@ -72,21 +70,11 @@ impl Model for State {
 impl State {
     // Refuses where the move isn't under way.
     fn check_moving(&self) -> Result<(), Refusal>
-        ensures { result ≡ refuse_if (not (is_moving_phase self.now.phase)) Refusal.NotMoving }
+        ensures { result ≡ refuse_if (not (is_moving_phase (phase_of self.now.leader))) Refusal.NotMoving }
     {
-        match self.phase {
-            Phase::Moving => Ok(()),
-            Phase::Idle | Phase::Preparing | Phase::Ended => Err(Refusal::NotMoving),
-        }
-    }
-
-    // Refuses where the move was started.
-    fn check_not_started(&self) -> Result<(), Refusal>
-        ensures { result ≡ refuse_if (is_started_phase self.now.phase) Refusal.AlreadyMoving }
-    {
-        match self.phase {
-            Phase::Idle | Phase::Preparing => Ok(()),
-            Phase::Moving | Phase::Ended => Err(Refusal::AlreadyMoving),
+        match &self.leader {
+            Leader::Moving(_) => Ok(()),
+            Leader::Idle(_) | Leader::Preparing(_) | Leader::Ended(_) => Err(Refusal::NotMoving),
         }
     }
 

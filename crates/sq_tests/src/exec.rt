@@ -218,3 +218,34 @@ fn as_many_wait_as_may(rt: HostRuntime) -> Result<(), Fail> {
     assert_eq!(rt; part.close().waiting.len(), MAX_WAITING);
     Ok(())
 }
+
+// The arrival number of the first transaction that waits for this root key.
+fn arrival(part: &PartCore<VecStore>, root: u64) -> Result<Option<u64>, Fail> {
+    Ok(part.arrival(Root::new(root).ok_or("a root key")?))
+}
+
+#[test]
+fn numbers_begin_anew_where_none_is_left(rt: HostRuntime) -> Result<(), Fail> {
+    let last = 18_446_744_073_709_551_614;
+    let opening = opening(rt.alloc())?;
+    let store = VecStore::new(rt.alloc());
+    let mut part = PartCore::open_at(rt.alloc(), &opening, PartId::new(1), store, last)?;
+    part.start();
+    assert_eq!(rt; arrival(&part, 5)?, None);
+    assert_eq!(rt;
+        answer(rt.alloc(), &mut part, Call::Submit(5))?,
+        Told::Waits(1)
+    );
+    assert_eq!(rt; arrival(&part, 5)?, Some(last));
+    assert_eq!(rt;
+        answer(rt.alloc(), &mut part, Call::Submit(6))?,
+        Told::Waits(2)
+    );
+    assert_eq!(rt; arrival(&part, 5)?, Some(0));
+    assert_eq!(rt; arrival(&part, 6)?, Some(1));
+    assert_eq!(rt;
+        answer(rt.alloc(), &mut part, Call::Resume)?,
+        Told::Refused(223)
+    );
+    Ok(())
+}

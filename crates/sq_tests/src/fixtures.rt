@@ -1,10 +1,11 @@
 // What the tests of several crates start from, read from the texts of a run.
 use sq_chunk::Note;
+use sq_lines::LineReader;
 use sq_model::{Answer, Step};
 use sq_plan::PartId;
 use sq_ranges::{Opening, SegId};
 use sq_schema::{Reply, Root, RowKey, Schema, Table, Txn};
-use sq_text::{Pieces, read_header, read_step, write_answer};
+use sq_text::{read_header, read_step, write_answer};
 use sq_tree::NodeId;
 use std::alloc::Global;
 use std::test::Fail;
@@ -35,7 +36,8 @@ pub fn transaction(alloc: Global, line: &str) -> Result<Txn, Fail> {
 /// The opening of a header: the lines of [`PLANS`], and then these.
 pub fn opening(alloc: Global, lines: &str) -> Result<Opening, Fail> {
     let header = format!(in alloc; "{PLANS}{lines}")?;
-    Ok(read_header(alloc, schema()?, &mut Pieces::of(header.as_bytes()))?)
+    let mut lines = LineReader::new(alloc, header.as_bytes())?;
+    Ok(read_header(alloc, schema()?, &mut lines)?)
 }
 
 /// The line of a reply to transaction 1.

@@ -1,5 +1,5 @@
 // The leader: a whole move, its refusals, and that a refused call changes nothing.
-use sq_leader::{Ended, Idle, Moving, Preparing, Report};
+use sq_leader::{Idle, Leader, Report};
 use sq_plan::Plan;
 use sq_ranges::Recon;
 use std::alloc::Global;
@@ -10,14 +10,6 @@ const ALL: &str = r#"{"version":1,"partitions":3,"ranges":[[0,4294967296,0]]}"#;
 // The root keys 4 to 7 (segment 0) and 20 to 23 (segment 2) to partition 1, and 12 to 15 (segment 1) to partition 2.
 const SHARED: &str =
     r#"{"version":1,"partitions":3,"ranges":[[0,4,0],[4,8,1],[8,12,0],[12,16,2],[16,20,0],[20,24,1],[24,4294967296,0]]}"#;
-
-#[derive(Debug, Drop)]
-enum Leader {
-    Idle(Idle),
-    Preparing(Preparing),
-    Moving(Moving),
-    Ended(Ended),
-}
 
 #[derive(Clone, Copy, Debug, PartialEq, Eq)]
 enum Phase {

@@ -4,15 +4,21 @@
 #[cfg(test)]
 mod chunk;
 #[cfg(test)]
+mod example;
+#[cfg(test)]
 mod exec;
 #[cfg(test)]
 mod fixtures;
 #[cfg(test)]
 mod leader;
 #[cfg(test)]
+mod lines;
+#[cfg(test)]
 mod link;
 #[cfg(test)]
 mod plan;
+#[cfg(test)]
+mod pull;
 #[cfg(test)]
 mod ranges;
 #[cfg(test)]

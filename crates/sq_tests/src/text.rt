@@ -1,8 +1,9 @@
 // Lines, headers and inputs, and the lines of answers.
 use crate::fixtures::{PLANS, has, schema, step, transaction};
+use sq_lines::{LineReader, MAX_UNENDED, Next};
 use sq_model::{Answer, Refusal};
 use sq_schema::{Cause, OpAnswer, OpAnswers, Reply, RowKey, Schema};
-use sq_text::{Piece, Pieces, read_header, read_step, write_answer};
+use sq_text::{read_header, read_step, write_answer};
 use sq_tree::{Reading, Status};
 use std::alloc::Global;
 use std::test::Fail;
@@ -175,7 +176,8 @@ fn resumed_transactions(rt: HostRuntime) -> Result<(), Fail> {
 
 // The number of the fault of an input's header, or 0 where it has an opening.
 fn fault_of(alloc: Global, input: &str) -> Result<u16, Fail> {
-    let fault = read_header(alloc, schema()?, &mut Pieces::of(input.as_bytes())).err();
+    let mut lines = LineReader::new(alloc, input.as_bytes())?;
+    let fault = read_header(alloc, schema()?, &mut lines).err();
     Ok(fault.map_or(0, |fault| fault.number()))
 }
 
@@ -272,8 +274,8 @@ fn faults_of_sizes_and_rows(rt: HostRuntime) -> Result<(), Fail> {
 fn a_header_and_the_script_after_it(rt: HostRuntime) -> Result<(), Fail> {
     let lines = "config 1 64 2\nrow 5 0 0 10 -\nrow 5 1 7 3 6869\nprepare 0\n";
     let input = format!(in rt.alloc(); "{PLANS}{lines}")?;
-    let mut pieces = Pieces::of(input.as_bytes());
-    let opening = read_header(rt.alloc(), schema()?, &mut pieces)?;
+    let mut rest = LineReader::new(rt.alloc(), input.as_bytes())?;
+    let opening = read_header(rt.alloc(), schema()?, &mut rest)?;
     let config = opening.config();
     assert!(rt; config.width == 1 && config.limit == 64 && config.capacity == 2);
     assert!(rt;
@@ -284,20 +286,8 @@ fn a_header_and_the_script_after_it(rt: HostRuntime) -> Result<(), Fail> {
             Some((3, b"hi"))
         )
     );
-    assert!(rt; pieces.next() == Some(Piece::Line(b"prepare 0")));
+    assert!(rt;
+        rest.next_read(MAX_UNENDED) == Next::Line && rest.piece() == b"prepare 0".as_slice()
+    );
     Ok(())
-}
-
-#[test]
-fn lines_of_an_input(rt: HostRuntime) {
-    let mut pieces = Pieces::of(b"start\n\npush 0");
-    for piece in [
-        Some(Piece::Line(b"start")),
-        Some(Piece::Line(b"")),
-        Some(Piece::Rest(b"push 0")),
-        None,
-    ] {
-        assert!(rt; pieces.next() == piece);
-    }
-    assert!(rt; Pieces::of(b"").next() == None);
 }

@@ -1,6 +1,7 @@
 // Worlds, and whole runs through readers and writers that give or take little at a time, or fail. The other whole runs
 // are stored in `tests/runs`.
 use crate::fixtures::{note, opening, step};
+use crate::lines::{Drip, SIZES};
 use sq_chunk::Note;
 use sq_model::{Answer, Phase, Refusal, Step};
 use sq_ranges::GivenRow;
@@ -155,106 +156,154 @@ way 0 1 1 0 1 5 8 last 1
 in 5 1 0.0=11/-
 ";
 
-// A reader that gives one byte a call, and after the last one ends or fails.
-#[derive(Drop)]
-struct Drip<'a> {
-    rest: &'a [u8],
-    fails: bool,
-}
-
-impl Read for Drip<'_> {
-    fn read(&mut self, buf: &mut [u8]) -> io::Result<usize> {
-        if self.rest.is_empty() && self.fails {
-            return Err(io::Error::from(ErrorKind::BrokenPipe));
-        }
-        let most = buf.len().min(1);
-        self.rest.read(&mut buf[..most])
-    }
-}
-
-// A writer that takes three bytes a call, and fails when it holds as many as it may, or when it is flushed.
+// A writer that takes three bytes a call, and fails after this many calls.
 #[derive(Drop)]
 struct Narrow {
     got: Vec<u8>,
-    most: usize,
-    flushes: bool,
+    calls: usize,
+}
+
+impl Narrow {
+    // Counts a call.
+    fn call(&mut self) -> io::Result<()> {
+        if self.calls == 0 {
+            return Err(io::Error::from(ErrorKind::BrokenPipe));
+        }
+        self.calls -= 1;
+        Ok(())
+    }
 }
 
 impl Write for Narrow {
     fn write(&mut self, buf: &[u8]) -> io::Result<usize> {
-        let room = self.most.saturating_sub(self.got.len());
-        if room == 0 {
-            return Err(io::Error::from(ErrorKind::BrokenPipe));
-        }
-        let taken = buf.len().min(room).min(3);
+        self.call()?;
+        let taken = buf.len().min(3);
         self.got.extend_from_slice(&buf[..taken])?;
         Ok(taken)
     }
 
     fn flush(&mut self) -> io::Result<()> {
-        if self.flushes {
-            Ok(())
-        } else {
-            Err(io::Error::from(ErrorKind::BrokenPipe))
-        }
+        self.call()
     }
 }
 
 #[test]
 fn short_reads_and_writes(rt: HostRuntime) -> Result<(), Fail> {
-    let mut reader = Drip {
-        rest: INPUT,
-        fails: false,
-    };
-    let mut writer = Narrow {
-        got: Vec::new(rt.alloc()),
-        most: OUTPUT.len(),
-        flushes: true,
-    };
-    let ending = run(rt.alloc(), &mut reader, &mut writer)?;
-    assert!(rt; ending == Ending::Done && ending.status() == 0);
-    assert!(rt; writer.got.as_slice() == OUTPUT);
+    for most in SIZES {
+        let mut reader = Drip {
+            rest: INPUT,
+            most,
+            fails: false,
+        };
+        let mut writer = Narrow {
+            got: Vec::new(rt.alloc()),
+            calls: OUTPUT.len() * 2,
+        };
+        let ending = run(rt.alloc(), &mut reader, &mut writer)?;
+        assert!(rt; ending == Ending::Done && ending.status() == 0);
+        assert!(rt; writer.got.as_slice() == OUTPUT, "by {most}");
+    }
     Ok(())
 }
 
+// How many lines of the input are its header.
+const HEADER_LINES: usize = 6;
+
+// The answers to the first lines of the script, and then the fault of a failed read.
+fn answers_and_fault(alloc: Global, count: usize) -> Result<Vec<u8>, Fail> {
+    let mut wanted = Vec::new(alloc);
+    let mut left = count;
+    for byte in OUTPUT {
+        if left == 0 {
+            break;
+        }
+        wanted.push(*byte)?;
+        if *byte == b'\n' {
+            left -= 1;
+        }
+    }
+    wanted.extend_from_slice(b"fault 123\n")?;
+    Ok(wanted)
+}
+
+// The lines that ended before a read failed are answered, unless the header isn't complete.
 #[test]
 fn readers_that_fail(rt: HostRuntime) -> Result<(), Fail> {
-    for most in 0..=INPUT.len() {
-        let mut reader = Drip {
-            rest: &INPUT[..most],
-            fails: true,
-        };
-        let mut output = Vec::new(rt.alloc());
-        let ending = run(rt.alloc(), &mut reader, &mut output)?;
-        assert!(rt; ending.status() == 2 && output.as_slice() == b"fault 123\n".as_slice());
+    for length in (0..=INPUT.len()).step_by(29) {
+        let given = &INPUT[..length];
+        let ended = given.iter().filter(|byte| **byte == b'\n').count();
+        let wanted = answers_and_fault(rt.alloc(), ended.saturating_sub(HEADER_LINES))?;
+        for most in [1, 4096] {
+            let mut reader = Drip {
+                rest: given,
+                most,
+                fails: true,
+            };
+            let mut output = Vec::new(rt.alloc());
+            let ending = run(rt.alloc(), &mut reader, &mut output)?;
+            assert!(rt; ending.status() == 2 && output == wanted, "after {length}");
+        }
     }
     Ok(())
 }
 
-// Whether a run through a writer that fails after this many bytes fails, after the first of what it writes otherwise.
-fn fails_to_write(alloc: Global, mut input: &[u8], output: &[u8], most: usize) -> bool {
-    let mut writer = Narrow {
-        got: Vec::new(alloc),
-        most,
-        flushes: false,
-    };
-    let ending = run(alloc, &mut input, &mut writer);
-    ending == Err(WriteFault) && output.starts_with(&writer.got) && writer.got.len() == most
+// A reader that never ends.
+#[derive(Drop)]
+struct Endless;
+
+impl Read for Endless {
+    fn read(&mut self, buf: &mut [u8]) -> io::Result<usize> {
+        buf.fill(b'a');
+        Ok(buf.len())
+    }
 }
 
 #[test]
+fn readers_without_end(rt: HostRuntime) -> Result<(), Fail> {
+    let header =
+        "old {\"version\":1,\"partitions\":1,\"ranges\":[[0,4294967296,0]]}\nnew {\"version\":1,\"partitions\":1,\"ranges\":[[0,4294967296,0]]}\nconfig 1 64 1\nprepare 0\n";
+    let mut output = Vec::new(rt.alloc());
+    let ending = run(rt.alloc(), &mut Endless, &mut output)?;
+    assert!(rt; ending.status() == 2 && output.as_slice() == b"fault 231\n".as_slice());
+    let mut output = Vec::new(rt.alloc());
+    let mut reader = header.as_bytes().chain(Endless);
+    let ending = run(rt.alloc(), &mut reader, &mut output)?;
+    assert!(rt; ending.status() == 2 && output.as_slice() == b"ok\nfault 122\n".as_slice());
+    Ok(())
+}
+
+// How a run through a writer ends that fails after this many calls, and what the writer got.
+fn run_narrowly(
+    alloc: Global,
+    mut input: &[u8],
+    calls: usize,
+) -> (Result<Ending, WriteFault>, Vec<u8>) {
+    let mut writer = Narrow {
+        got: Vec::new(alloc),
+        calls,
+    };
+    let ending = run(alloc, &mut input, &mut writer);
+    (ending, writer.got)
+}
+
+// Each call that fails ends the run, after the first of what it writes otherwise.
+#[test]
 fn writers_that_fail(rt: HostRuntime) {
-    let fault = b"fault 101\n";
-    for most in 0..=OUTPUT.len() {
+    let fault = b"fault 101\n".as_slice();
+    for calls in 0..5 {
+        let (ending, got) = run_narrowly(rt.alloc(), b"old {\n", calls);
         assert!(rt;
-            fails_to_write(rt.alloc(), INPUT, OUTPUT, most),
-            "after {most}"
+            ending == Err(WriteFault) && fault.starts_with(&got),
+            "after {calls}"
         );
     }
-    for most in 0..=fault.len() {
+    let (ending, got) = run_narrowly(rt.alloc(), b"old {\n", 5);
+    assert!(rt; ending.is_ok() && got.as_slice() == fault);
+    for calls in (0..100).step_by(9) {
+        let (ending, got) = run_narrowly(rt.alloc(), INPUT, calls);
         assert!(rt;
-            fails_to_write(rt.alloc(), b"old {\n", fault, most),
-            "after {most}"
+            ending == Err(WriteFault) && OUTPUT.starts_with(&got),
+            "after {calls}"
         );
     }
     assert!(rt; WriteFault.number() == 124);

@@ -13,7 +13,8 @@ use Rattle.sq_schema.specs.declared.txn.Reply.TheVariants.{Committed}
 use Rattle.sq_schema.specs.Values.{RowValue}
 use Rattle.sq_schema.specs.Family.{FamilyValue, rows_of}
 use Rattle.sq_chunk.specs.ChunkValue.{ChunkValue}
-use Rattle.sq_text.specs.Texts.{line, op_answer_text, reply_words, note_words, entry_text, family_words, in_line, way_lines}
+use Rattle.sq_chunk.specs.declared.chunk.Note.{Note}
+use Rattle.sq_text.specs.Texts.{line, op_answer_text, reply_words, mark_text, note_words, entry_text, family_words, in_line, way_lines}
 
 -- bytes, and then more
 pub both : (a b c : Option (List ℕ)) (xs ys zs : List ℕ) → Appends a b xs → Appends b c ys → xs ++ ys ≡ zs → Appends a c zs
@@ -65,6 +66,18 @@ commit_line id reply answers text is e = rw (is, e) (line_from (codes "commit") 
 -- what a line says of a family
 pub family_line : (family : FamilyValue) (root size : ℕ) (entries : List (RowKey × RowValue)) (text : List ℕ) → root ≡ family.root → size ≡ length family.log → entries ≡ rows_of family → text ≡ decimal root ++ (32 ∷ decimal size) → text ++ (flat_map (λ entry. 32 ∷ entry_text entry) entries ++ (10 ∷ [])) ≡ line (family_words family)
 family_line family root size entries text at long all e = rw (e, at, long, all) (line_from (decimal family.root) (decimal (length family.log)) entry_text (rows_of family))
+
+-- what a line says of a note and of how many families its chunk holds
+pub note_line : (note : Note) (seg node families : ℕ) (mark : List ℕ) → seg ≡ note.seg → node ≡ note.node → mark ≡ 32 ∷ mark_text note.last ++ 32 ∷ []
+    → (((((decimal note.number ++ (32 ∷ decimal seg)) ++ (32 ∷ decimal node)) ++ (32 ∷ decimal note.lo)) ++ (32 ∷ decimal note.hi)) ++ mark) ++ (decimal families ++ (10 ∷ [])) ≡ line (note_words note families)
+note_line note seg node families mark of under is =
+    rw (of, under, is) (spaces (decimal note.number) (decimal note.seg) (decimal note.node) (decimal note.lo) (decimal note.hi) (mark_text note.last) (decimal families))
+  where
+    flat : (a b c d e f g : List ℕ) → (((((a ++ b) ++ c) ++ d) ++ e) ++ f) ++ g ≡ a ++ (b ++ (c ++ (d ++ (e ++ (f ++ g)))))
+    flat a b c d e f g = simp append_assoc
+
+    spaces : (number seg node lo hi mark families : List ℕ) → (((((number ++ (32 ∷ seg)) ++ (32 ∷ node)) ++ (32 ∷ lo)) ++ (32 ∷ hi)) ++ (32 ∷ mark ++ 32 ∷ [])) ++ (families ++ (10 ∷ [])) ≡ line (number ∷ seg ∷ node ∷ lo ∷ hi ∷ mark ∷ families ∷ [])
+    spaces number seg node lo hi mark families = flat number (32 ∷ seg) (32 ∷ node) (32 ∷ lo) (32 ∷ hi) (32 ∷ mark ++ 32 ∷ []) (families ++ (10 ∷ [])) ∙ simp append_assoc
 
 -- what the lines of a chunk under way say of its note and of its families
 pub lines_of_way : (chunk : ChunkValue) (src dst : ℕ) (text : List ℕ) → src ≡ chunk.note.src → dst ≡ chunk.note.dst → text ≡ codes "way " ++ (decimal src ++ (32 ∷ (decimal dst ++ (32 ∷ [])))) → text ++ (line (note_words chunk.note (length chunk.families)) ++ flat_map in_line chunk.families) ≡ way_lines chunk

@@ -1,8 +1,216 @@
--- The rows of a header, read one after another.
-use Rattle.std.proofs.Common.{List, ◌++◌}
-use Rattle.sq_text.specs.HeaderFields.{GivenValue}
-use Rattle.sq_text.specs.Header.{RowsValue}
+-- The lines of a header, read one after another.
+use Rattle.std.proofs.Common.{◌≡◌, ℕ, ◌<◌, ◌≤◌, Bool, true, false, cond, List, [], ◌∷◌, ◌++◌, length, map, refl, sym, ap, ◌∙◌, subst, append_assoc, arith, ◌≢◌, Vec, Global}
+use Rattle.std.specs.Prelude.{Result, Ok, Err, IfOk, codes, nat_lt, nat_eq}
+use Rattle.std.specs.List.{starts_with}
+use Rattle.std.proofs.lemmas.Bool.{le-ltb}
+use Rattle.std.proofs.lemmas.Bool.Decides.{nat_tests}
+use Rattle.std.proofs.lemmas.List.{append-nil, map-append}
+use Rattle.sq_ranges.specs.declared.opening.Config.{Config}
+use Rattle.sq_ranges.specs.declared.opening.GivenRow.{GivenRow}
+use Rattle.sq_ranges.specs.OpeningValue.{OpeningValue}
+use Rattle.sq_plan.specs.PlanValue.{PlanValue}
+use Rattle.sq_lines.specs.Pieces.{PieceValue, Line, Rest, Failed, Endless, TooMany, bytes_of, next_begins}
+use Rattle.sq_lines.specs.Coming.{LinesValue, CanCome, CameBefore, IsLong, GoesOn, Leaves}
+use Rattle.sq_lines.proofs.Comings.{some_pieces}
+use Rattle.sq_text.specs.declared.step.TheConstants.{MAX_LINE}
+use Rattle.sq_text.specs.declared.header.RowLines.{RowLines}
+use Rattle.sq_text.specs.declared.input_fault.InputFault.{InputFault}
+use Rattle.sq_text.specs.declared.input_fault.InputFault.TheVariants as fault
+use Rattle.sq_text.specs.InputFaults.{◌>>=◌, IsRead, IsReadGivenMemory}
+use Rattle.sq_text.specs.HeaderFields.{GivenValue, value_of}
+use Rattle.sq_text.specs.Header.{line_in, next_line, line_as, plan_of, config_of, row_of, RowsValue, row_then, row_lines, AreRows, HeaderValue, no_rows, header_with, Opens}
+
+-- a line that isn't too long
+pub short_line : (line : List ℕ) (others : List PieceValue) → length line ≤ MAX_LINE → next_line (Line line ∷ others) ≡ Ok (line, others)
+short_line line others short = let is : nat_lt MAX_LINE (length line) ≡ false = le-ltb _ _ short in rw is refl
+
+long_in : (piece : PieceValue) → MAX_LINE < length (bytes_of piece) → line_in piece ≡ Err fault.LineTooLong
+long_in (Line bytes) long = let is : nat_lt MAX_LINE (length bytes) ≡ true = grind (arith, nat_tests) in rw is refl
+long_in (Rest bytes) long = let is : nat_lt MAX_LINE (length bytes) ≡ true = grind (arith, nat_tests) in rw is refl
+long_in (Failed bytes) long = let is : nat_lt MAX_LINE (length bytes) ≡ true = grind (arith, nat_tests) in rw is refl
+long_in (Endless bytes) long = refl
+long_in TooMany long = absurd (omega arith)
+
+pub long_piece : (piece : PieceValue) (others : List PieceValue) → MAX_LINE < length (bytes_of piece) → next_line (piece ∷ others) ≡ Err fault.LineTooLong
+long_piece piece others long = rw (long_in piece long) refl
+
+-- what is read of a line that came
+came : {X Y : Type 0} (view : X → Y) (read : List ℕ → Result Y InputFault) (r : Result X InputFault) (first : Result (List ℕ × List PieceValue) InputFault) (line : List ℕ) (left : List PieceValue) → first ≡ Ok (line, left) → IsReadGivenMemory view r (read line)
+    → IsReadGivenMemory {Y = Y × List PieceValue} (λ x. (view x, left)) r (first >>= λ next. read next.0 >>= λ value. Ok (value, next.1))
+came view read (Ok x) first line left e is = rw (e, is) refl
+came view read (Err fault.Memory) first line left e is = tt
+came view read (Err (fault.Plan f)) first line left e is = rw (e, is) refl
+came view read (Err (fault.Opening f)) first line left e is = rw (e, is) refl
+came view read (Err fault.BadHeader) first line left e is = rw (e, is) refl
+came view read (Err fault.TooLong) first line left e is = rw (e, is) refl
+came view read (Err fault.ReadFailed) first line left e is = rw (e, is) refl
+came view read (Err fault.LineTooLong) first line left e is = rw (e, is) refl
+
+-- a fault of what is read, unless it is want of memory
+told : {X Y : Type 0} (view : X → Y) (f : InputFault) (wanted : Result Y InputFault) → wanted ≡ Err f → IsReadGivenMemory view (Err f) wanted
+told view fault.Memory wanted e = tt
+told view (fault.Plan f) wanted e = e
+told view (fault.Opening f) wanted e = e
+told view fault.BadHeader wanted e = e
+told view fault.TooLong wanted e = e
+told view fault.ReadFailed wanted e = e
+told view fault.LineTooLong wanted e = e
+
+-- a fault that isn't want of memory is told
+is_told : {X Y : Type 0} (f : InputFault) (view : X → Y) (wanted : Result Y InputFault) → f ≢ fault.Memory → IsReadGivenMemory view (Err f) wanted → wanted ≡ Err f
+is_told fault.Memory view wanted apart e = absurd (apart refl)
+is_told (fault.Plan f) view wanted apart e = e
+is_told (fault.Opening f) view wanted apart e = e
+is_told fault.BadHeader view wanted apart e = e
+is_told fault.TooLong view wanted apart e = e
+is_told fault.ReadFailed view wanted apart e = e
+is_told fault.LineTooLong view wanted apart e = e
+
+pub of_read : {X Y : Type 0} (view : X → Y) (r : Result X InputFault) (wanted : Result Y InputFault) → IsRead view r wanted → IsReadGivenMemory view r wanted
+of_read view (Ok x) wanted e = e
+of_read view (Err f) wanted e = told view f wanted e
+
+-- the same, whatever it is seen by
+told_again : {X Y : Type 0} (f : InputFault) (view : X → Y) (wanted : Result Y InputFault) → IsReadGivenMemory view (Err f) wanted → IsReadGivenMemory {X = Y} {Y = Y} (λ y. y) (Err f) wanted
+told_again fault.Memory view wanted e = tt
+told_again (fault.Plan f) view wanted e = e
+told_again (fault.Opening f) view wanted e = e
+told_again fault.BadHeader view wanted e = e
+told_again fault.TooLong view wanted e = e
+told_again fault.ReadFailed view wanted e = e
+told_again fault.LineTooLong view wanted e = e
+
+pub line_read : {X Y : Type 0} (view : X → Y) (read : List ℕ → Result Y InputFault) (r : Result X InputFault) (line : List ℕ) (old new : LinesValue) → Leaves old new (λ all left. next_line all ≡ Ok (line, left)) → IsReadGivenMemory view r (read line)
+    → Leaves old new (λ all left. IsReadGivenMemory (λ x. (view x, left)) r (line_as read all))
+line_read view read r line old new reads is = λ left can. let n = reads left can in (n.0, n.1, came view read r (next_line n.0) line left n.2 is)
+
+pub none_read : {X Y : Type 0} (view : X → Y) (read : List ℕ → Result Y InputFault) (f : InputFault) (old new : LinesValue) → Leaves old new (λ all left. next_line all ≡ Err f) → Leaves old new (λ all left. IsReadGivenMemory (λ x. (view x, left)) (Err f) (line_as read all))
+none_read view read f old new reads = λ left can. let n = reads left can in (n.0, n.1, told (λ x. (view x, left)) f (line_as read n.0) (rw n.2 refl))
+
+-- ---- opening rows
 
 -- rows before those of these lines
 abbrev pub put_before : List GivenValue → RowsValue → RowsValue
 put_before rows lines = record { rows = rows ++ lines.rows; ending = lines.ending }
+
+-- no row's line comes next
+no_row : (left : List PieceValue) → next_begins (codes "row ") left ≡ false → row_lines left ≡ record { rows = []; ending = Ok left }
+no_row [] e = refl
+no_row (piece ∷ pieces) e = rw e refl
+
+abbrev behind_it : {A : Type 0} → List PieceValue → Result (A × List PieceValue) InputFault → List PieceValue
+behind_it none (Ok x) = x.1
+behind_it none (Err f) = none
+
+abbrev after_line : {A : Type 0} → Result (List ℕ) InputFault → (List ℕ → Result A InputFault) → List PieceValue → Result (A × List PieceValue) InputFault
+after_line {A} line read pieces = ◌>>=◌ {A = List ℕ × List PieceValue} {B = A × List PieceValue} (◌>>=◌ {A = List ℕ} {B = List ℕ × List PieceValue} line (λ bytes. Ok (bytes, pieces))) (λ next. ◌>>=◌ {A = A} {B = A × List PieceValue} (read next.0) (λ x. Ok (x, next.1)))
+
+same_left : {A : Type 0} (line : Result (List ℕ) InputFault) (read : List ℕ → Result A InputFault) (pieces left : List PieceValue) (value : A) → after_line line read pieces ≡ Ok (value, left) → pieces ≡ left
+same_left {A} (Err f) read pieces left value e = absurd cc
+same_left {A} (Ok bytes) read pieces left value e = by_value (read bytes) e
+  where
+    by_value : (r : Result A InputFault) → ◌>>=◌ {A = A} {B = A × List PieceValue} r (λ x. Ok (x, pieces)) ≡ Ok (value, left) → pieces ≡ left
+    by_value (Err f) e = absurd cc
+    by_value (Ok x) e = ap (behind_it []) e
+
+row_next : (mid left : List PieceValue) (value : GivenValue) → next_begins (codes "row ") mid ≡ true → line_as row_of mid ≡ Ok (value, left) → row_lines mid ≡ put_before (value ∷ []) (row_lines left)
+row_next [] left value begins e = absurd cc
+row_next (piece ∷ pieces) left value begins e =
+    let same : pieces ≡ left = same_left (line_in piece) row_of pieces left value e in
+    rw (begins, e, same) refl
+
+row_fails : (mid : List PieceValue) (f : InputFault) → next_begins (codes "row ") mid ≡ true → line_as row_of mid ≡ Err f → row_lines mid ≡ record { rows = []; ending = Err f }
+row_fails [] f begins e = absurd cc
+row_fails (piece ∷ pieces) f begins e = rw (begins, e) refl
+
+-- the rows so far, before those that come
+abbrev pub RowsSoFar : LinesValue → LinesValue → List GivenRow → Type 0
+RowsSoFar first now rows = Leaves first now (λ all left. put_before (map value_of rows) (row_lines left) ≡ row_lines all)
+
+module _ (first now mid new : LinesValue) (rows : List GivenRow) (so_far : RowsSoFar first now rows) (on : GoesOn now mid) where
+  pub one_more : (row : GivenRow) (more : List GivenRow) → ((ps : List PieceValue) → CanCome mid ps → next_begins (codes "row ") ps ≡ true) → Leaves mid new (λ all left. line_as row_of all ≡ Ok (value_of row, left)) → more ≡ rows ++ row ∷ [] → RowsSoFar first new more
+  one_more row more begins reads grown = λ left can.
+      let m = reads left can in
+      let a = so_far m.0 (on.0 m.0 m.1) in
+      let values : map value_of more ≡ map value_of rows ++ value_of row ∷ [] = ap (map value_of) grown ∙ map-append value_of rows (row ∷ []) in
+      let lists : map value_of more ++ (row_lines left).rows ≡ map value_of rows ++ (value_of row ∷ (row_lines left).rows) = ap (λ (l : List GivenValue). l ++ (row_lines left).rows) values ∙ append_assoc (map value_of rows) (value_of row ∷ []) (row_lines left).rows in
+      (a.0, a.1, ap (λ (l : List GivenValue). record { rows = l; ending = (row_lines left).ending }) lists ∙ ap (put_before (map value_of rows)) (sym (row_next m.0 left (value_of row) (begins m.0 m.1) m.2)) ∙ a.2)
+
+  pub no_more : ((ps : List PieceValue) → CanCome mid ps → next_begins (codes "row ") ps ≡ false) → (lines : RowLines) → lines.rows.items ≡ rows → lines.ending ≡ Ok tt → Leaves first mid (λ all left. AreRows lines left (row_lines all))
+  no_more none lines same well = λ left can.
+      let a = so_far left (on.0 left can) in
+      let whole : put_before (map value_of rows) (record { rows = []; ending = Ok left }) ≡ row_lines a.0 = ap (put_before (map value_of rows)) (sym (no_row left (none left can))) ∙ a.2 in
+      (a.0, a.1, record { rows_are = ap (map value_of) same ∙ sym (append-nil (map value_of rows)) ∙ ap (λ (r : RowsValue). r.rows) whole; ending_is = subst (λ e. IsRead (λ x. left) e (row_lines a.0).ending) (sym well) (sym (ap (λ (r : RowsValue). r.ending) whole)) })
+
+  bad_row : (f : InputFault) → ((ps : List PieceValue) → CanCome mid ps → next_begins (codes "row ") ps ≡ true) → Leaves mid new (λ all left. line_as row_of all ≡ Err f) → (lines : RowLines) → lines ≡ record { rows = lines.rows; ending = Err f } → lines.rows.items ≡ rows → Leaves first new (λ all left. AreRows lines left (row_lines all))
+  bad_row f begins reads lines is same = λ left can.
+      let m = reads left can in
+      let a = so_far m.0 (on.0 m.0 m.1) in
+      let whole : put_before (map value_of rows) (record { rows = []; ending = Err f }) ≡ row_lines a.0 = ap (put_before (map value_of rows)) (sym (row_fails m.0 f (begins m.0 m.1) m.2)) ∙ a.2 in
+      (a.0, a.1, record { rows_are = ap (map value_of) same ∙ sym (append-nil (map value_of rows)) ∙ ap (λ (r : RowsValue). r.rows) whole; ending_is = subst (λ e. IsRead (λ x. left) e (row_lines a.0).ending) (sym (ap (λ (l : RowLines). l.ending) is)) (sym (ap (λ (r : RowsValue). r.ending) whole)) })
+
+  pub rows_end : {E : Type 0} (r : Result RowLines E) (f : InputFault) (kept : Vec GivenRow Global) → kept.items ≡ rows → ((ps : List PieceValue) → CanCome mid ps → next_begins (codes "row ") ps ≡ true)
+      → Leaves mid new (λ all left. IsReadGivenMemory {X = GivenRow} {Y = GivenValue × List PieceValue} (λ row. (value_of row, left)) (Err f) (line_as row_of all))
+      → IfOk r (λ lines. lines ≡ record { rows = kept; ending = Err f }) → IfOk r (λ _. f ≢ fault.Memory) → IfOk r (λ lines. Leaves first new (λ all left. AreRows lines left (row_lines all)))
+  rows_end (Err e) f kept same begins reads is told = tt
+  rows_end (Ok lines) f kept same begins reads is apart =
+      bad_row f begins (λ left can. let m = reads left can in (m.0, m.1, is_told f (λ row. (value_of row, left)) (line_as row_of m.0) apart m.2)) lines (is ∙ ap (λ (l : RowLines). record { rows = l.rows; ending = Err f }) (sym is)) (ap (λ (l : RowLines). l.rows.items) is ∙ same)
+
+-- ---- whole headers
+
+-- a header whose fault this is, or of which nothing is told
+pub refused : {Y : Type 0} (tables : ℕ) (f : InputFault) (left : List PieceValue) (header : Result HeaderValue InputFault) (view : Y → Y) (read : Result Y InputFault) → IsReadGivenMemory view (Err f) read → (read ≡ Err f → header ≡ Err f) → Opens tables (Err f) left header
+refused tables fault.Memory left header view read is follows = tt
+refused tables (fault.Plan f) left header view read is follows = rw (follows is) refl
+refused tables (fault.Opening f) left header view read is follows = rw (follows is) refl
+refused tables fault.BadHeader left header view read is follows = rw (follows is) refl
+refused tables fault.TooLong left header view read is follows = rw (follows is) refl
+refused tables fault.ReadFailed left header view read is follows = rw (follows is) refl
+refused tables fault.LineTooLong left header view read is follows = rw (follows is) refl
+
+-- the next line is read so
+abbrev pub Reads : {Y : Type 0} → (List ℕ → Result Y InputFault) → Y → LinesValue → LinesValue → Type 0
+Reads read y old new = Leaves old new (λ all left. line_as read all ≡ Ok (y, left))
+
+-- or not, for this fault
+abbrev pub Fails : {Y : Type 0} → (List ℕ → Result Y InputFault) → InputFault → LinesValue → LinesValue → Type 0
+Fails {Y} read f old new = Leaves old new (λ all left. IsReadGivenMemory {X = Y} {Y = Y × List PieceValue} (λ y. (y, left)) (Err f) (line_as read all))
+
+-- the header, whose rows are these of what comes after the sizes, is read so
+abbrev pub HeaderRead : (List PieceValue → RowsValue) → ℕ → Result OpeningValue InputFault → LinesValue → LinesValue → Type 0
+HeaderRead rows_of tables r old new = Leaves old new (λ all left. Opens tables r left (header_with rows_of all))
+
+pub no_memory : (rows_of : List PieceValue → RowsValue) (tables : ℕ) (old new : LinesValue) → HeaderRead rows_of tables (Err fault.Memory) old new
+no_memory rows_of tables old new = λ left can. let some = some_pieces old in (some.pieces, some.can_come, tt)
+
+pub no_old : (rows_of : List PieceValue → RowsValue) (tables : ℕ) (f : InputFault) (v0 v1 : LinesValue) → Fails (plan_of (codes "old ")) f v0 v1 → HeaderRead rows_of tables (Err f) v0 v1
+no_old rows_of tables f v0 v1 fails = λ left can. let a = fails left can in
+    (a.0, a.1, refused tables f left (header_with rows_of a.0) (λ y. y) (line_as (plan_of (codes "old ")) a.0) (told_again {X = PlanValue} f (λ y. (y, left)) _ a.2) (λ e. rw e refl))
+
+pub no_new : (rows_of : List PieceValue → RowsValue) (tables : ℕ) (f : InputFault) (old : PlanValue) (v0 v1 v2 : LinesValue) → Reads (plan_of (codes "old ")) old v0 v1 → Fails (plan_of (codes "new ")) f v1 v2 → HeaderRead rows_of tables (Err f) v0 v2
+no_new rows_of tables f old v0 v1 v2 first fails = λ left can.
+    let b = fails left can in
+    let a = first b.0 b.1 in
+    (a.0, a.1, refused tables f left (header_with rows_of a.0) (λ y. y) (line_as (plan_of (codes "new ")) b.0) (told_again {X = PlanValue} f (λ y. (y, left)) _ b.2) (λ e. rw (a.2, e) refl))
+
+pub no_config : (rows_of : List PieceValue → RowsValue) (tables : ℕ) (f : InputFault) (old new : PlanValue) (v0 v1 v2 v3 : LinesValue) → Reads (plan_of (codes "old ")) old v0 v1 → Reads (plan_of (codes "new ")) new v1 v2 → Fails config_of f v2 v3 → HeaderRead rows_of tables (Err f) v0 v3
+no_config rows_of tables f old new v0 v1 v2 v3 first second fails = λ left can.
+    let d = fails left can in
+    let b = second d.0 d.1 in
+    let a = first b.0 b.1 in
+    (a.0, a.1, refused tables f left (header_with rows_of a.0) (λ y. y) (line_as config_of d.0) (told_again {X = Config} f (λ y. (y, left)) _ d.2) (λ e. rw (a.2, b.2, e) refl))
+
+pub whole_header : (rows_of : List PieceValue → RowsValue) (tables : ℕ) (r : Result OpeningValue InputFault) (old new : PlanValue) (config : Config) (lines : RowLines) (v0 v1 v2 v3 v4 : LinesValue) → Reads (plan_of (codes "old ")) old v0 v1 → Reads (plan_of (codes "new ")) new v1 v2 → Reads config_of config v2 v3
+    → Leaves v3 v4 (λ all left. AreRows lines left (rows_of all))
+    → ((left : List PieceValue) (rows : RowsValue) → AreRows lines left rows → Opens tables r left (Ok (record { old = old; new = new; config = config; lines = rows }))) → HeaderRead rows_of tables r v0 v4
+whole_header rows_of tables r old new config lines v0 v1 v2 v3 v4 first second third rows opens = λ left can.
+    let e = rows left can in
+    let d = third e.0 e.1 in
+    let b = second d.0 d.1 in
+    let a = first b.0 b.1 in
+    let whole : header_with rows_of a.0 ≡ Ok (record { old = old; new = new; config = config; lines = rows_of e.0 }) = rw (a.2, b.2, d.2) refl in
+    (a.0, a.1, subst (Opens tables r left) (sym whole) (opens left (rows_of e.0) e.2))
+
+-- no rows, of which nothing is read
+pub none_of_rows : (lines : RowLines) (v : LinesValue) → lines.rows.items ≡ [] → lines.ending ≡ Ok tt → Leaves v v (λ all left. AreRows lines left (no_rows all))
+none_of_rows lines v none ends = λ left can. (left, can, record { rows_are = ap (map value_of) none; ending_is = subst (λ e. IsRead (λ x. left) e (no_rows left).ending) (sym ends) refl })

@@ -2,8 +2,9 @@ pub mod Splits
 pub mod DigitRun
 pub mod Onto
 pub mod HexRun
+pub mod HexText
 pub mod Shrinks
 pub mod OpRun
-pub mod PieceRun
 pub mod Appending
 pub mod HeaderRun
+pub mod Moves

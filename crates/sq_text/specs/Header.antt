@@ -13,56 +13,60 @@ use Rattle.sq_ranges.specs.Refused.{opening_fault}
 use Rattle.sq_text.specs.declared.header.RowLines.{RowLines}
 use Rattle.sq_text.specs.declared.step.TheConstants.{MAX_LINE}
 use Rattle.sq_text.specs.declared.input_fault.InputFault.{InputFault}
-use Rattle.sq_text.specs.declared.input_fault.InputFault.TheVariants.{Plan, Opening, BadHeader, TooLong, LineTooLong, Memory}
+use Rattle.sq_text.specs.declared.input_fault.InputFault.TheVariants.{Plan, Opening, BadHeader, TooLong, ReadFailed, LineTooLong, Memory}
 use Rattle.sq_text.specs.Words.{words_of}
-use Rattle.sq_text.specs.Pieces.{PieceValue, Line, Rest, Endless, TooMany, piece_begins}
+use Rattle.sq_lines.specs.Pieces.{PieceValue, Line, Rest, Failed, Endless, TooMany, bytes_of}
 use Rattle.sq_text.specs.InputFaults.{◌>>=◌, IsRead}
 use Rattle.sq_text.specs.HeaderFields.{GivenValue, value_of, config_in, given_in}
 
--- the bytes of a line of the header, or why it is none: it has too many bytes, or no end
+-- the bytes of a line of the header, or why it is none: it has too many bytes, or no end, or a read failed
 abbrev pub line_in : PieceValue → Result (List ℕ) InputFault
 line_in (Line bytes) = if nat_lt MAX_LINE (length bytes) then Err LineTooLong else Ok bytes
 line_in (Rest bytes) = if nat_lt MAX_LINE (length bytes) then Err LineTooLong else Err BadHeader
-line_in (Endless bytes) = Err TooLong
+line_in (Failed bytes) = if nat_lt MAX_LINE (length bytes) then Err LineTooLong else Err ReadFailed
+line_in (Endless bytes) = Err LineTooLong
 line_in TooMany = Err TooLong
+
+-- the next line, and what comes after it
+abbrev pub next_line : List PieceValue → Result (List ℕ × List PieceValue) InputFault
+next_line [] = Err BadHeader
+next_line (piece ∷ pieces) = do
+  line ← line_in piece
+  Ok (line, pieces)
+
+-- the next line, as this reads it, and what comes after it
+abbrev pub line_as : {A : Type 0} → (List ℕ → Result A InputFault) → List PieceValue → Result (A × List PieceValue) InputFault
+line_as read pieces = do
+  line ← next_line pieces
+  value ← read line.0
+  Ok (value, line.1)
 
 -- what stands behind this front, with which the bytes begin
 abbrev pub behind : List ℕ → List ℕ → Result (List ℕ) InputFault
 behind front bytes = if starts_with nat_eq bytes front then Ok (drop (length front) bytes) else Err BadHeader
-
--- what stands behind this front in the next line, and what comes after the line
-abbrev pub line_behind : List ℕ → List PieceValue → Result (List ℕ × List PieceValue) InputFault
-line_behind front [] = Err BadHeader
-line_behind front (piece ∷ pieces) = do
-  line ← line_in piece
-  text ← behind front line
-  Ok (text, pieces)
 
 -- a plan, or why there is none
 abbrev pub plan_told : Result PlanValue PlanFault → Result PlanValue InputFault
 plan_told (Ok plan) = Ok plan
 plan_told (Err fault) = Err (Plan fault)
 
--- the line of a plan
-abbrev pub plan_line : List ℕ → List PieceValue → Result (PlanValue × List PieceValue) InputFault
-plan_line front pieces = do
-  line ← line_behind front pieces
-  plan ← plan_told (plan_in line.0)
-  Ok (plan, line.1)
+-- the plan of a line that begins so
+abbrev pub plan_of : List ℕ → List ℕ → Result PlanValue InputFault
+plan_of front line = do
+  text ← behind front line
+  plan_told (plan_in text)
 
--- the line of the sizes: config W L C
-abbrev pub config_line : List PieceValue → Result (Config × List PieceValue) InputFault
-config_line pieces = do
-  line ← line_behind (codes "config ") pieces
-  config ← ok_or (config_in (words_of line.0)) BadHeader
-  Ok (config, line.1)
+-- the sizes of a line: config W L C
+abbrev pub config_of : List ℕ → Result Config InputFault
+config_of line = do
+  text ← behind (codes "config ") line
+  ok_or (config_in (words_of text)) BadHeader
 
--- the line of an opening row: row ROOT T S N NOTE
-abbrev pub row_line : List PieceValue → Result (GivenValue × List PieceValue) InputFault
-row_line pieces = do
-  line ← line_behind (codes "row ") pieces
-  row ← ok_or (given_in (words_of line.0)) BadHeader
-  Ok (row, line.1)
+-- the opening row of a line: row ROOT T S N NOTE
+abbrev pub row_of : List ℕ → Result GivenValue InputFault
+row_of line = do
+  text ← behind (codes "row ") line
+  ok_or (given_in (words_of text)) BadHeader
 
 -- opening rows, and then what comes after them, or the fault of the line that ends them
 pub record RowsValue : Type 0 where
@@ -78,8 +82,8 @@ row_then (Err fault) others = record { rows = []; ending = Err fault }
 abbrev pub row_lines : List PieceValue → RowsValue
 row_lines [] = record { rows = []; ending = Ok [] }
 row_lines (piece ∷ pieces) =
-    if piece_begins (codes "row ") piece
-    then row_then (row_line (piece ∷ pieces)) (row_lines pieces)
+    if starts_with nat_eq (bytes_of piece) (codes "row ")
+    then row_then (line_as row_of (piece ∷ pieces)) (row_lines pieces)
     else record { rows = []; ending = Ok (piece ∷ pieces) }
 
 -- rows were read as these lines spell them, and they end so
@@ -94,13 +98,25 @@ pub record HeaderValue : Type 0 where
   pub config : Config
   pub lines : RowsValue
 
+-- no rows, before whatever comes
+abbrev pub no_rows : List PieceValue → RowsValue
+no_rows pieces = record { rows = []; ending = Ok pieces }
+
+-- the lines of the plans and of the sizes that pieces begin with, and then the rows that are read so
+abbrev pub header_with : (List PieceValue → RowsValue) → List PieceValue → Result HeaderValue InputFault
+header_with rows pieces = do
+  old ← line_as (plan_of (codes "old ")) pieces
+  new ← line_as (plan_of (codes "new ")) old.1
+  config ← line_as config_of new.1
+  Ok (record { old = old.0; new = new.0; config = config.0; lines = rows config.1 })
+
 -- the header that pieces begin with: the lines of the plans and of the sizes, and the rows
 abbrev pub header_of : List PieceValue → Result HeaderValue InputFault
-header_of pieces = do
-  old ← plan_line (codes "old ") pieces
-  new ← plan_line (codes "new ") old.1
-  config ← config_line new.1
-  Ok (record { old = old.0; new = new.0; config = config.0; lines = row_lines config.1 })
+header_of pieces = header_with row_lines pieces
+
+-- the plans and the sizes that pieces begin with: their first three lines
+abbrev pub plans_of : List PieceValue → Result HeaderValue InputFault
+plans_of pieces = header_with no_rows pieces
 
 -- what comes after the rows, unless they make no opening
 abbrev pub ending_unless : Option OpeningFault → Result (List PieceValue) InputFault → Result (List PieceValue) InputFault

@@ -6,7 +6,6 @@ pub mod Faults
 pub mod Verbs
 pub mod Ops
 pub mod Steps
-pub mod Pieces
 pub mod Texts
 pub mod InputFaults
 pub mod HeaderFields

@@ -1,5 +1,5 @@
 -- The lines that are written.
-use Rattle.std.specs.Prelude.{ℕ, Bool, true, false, ◌/◌, ◌%◌, List, [], ◌∷◌, ◌++◌, length, map, Some, None, decimal, codes}
+use Rattle.std.specs.Prelude.{ℕ, Bool, true, false, ◌+◌, ◌/◌, ◌%◌, List, [], ◌∷◌, ◌++◌, length, map, Some, None, decimal, codes}
 use Rattle.std.specs.List.{flat_map, join_with_byte}
 use Rattle.std.specs.Fmt.{signed_decimal, digit_glyph}
 use Rattle.sq_schema.specs.declared.row.RowKey.{RowKey}
@@ -15,6 +15,8 @@ use Rattle.sq_tree.specs.declared.status.Status.{Status}
 use Rattle.sq_tree.specs.declared.status.Status.TheVariants as status
 use Rattle.sq_tree.specs.declared.status.Reading.{Reading}
 use Rattle.sq_tree.specs.declared.status.Reading.TheVariants as reading
+use Rattle.sq_ranges.specs.declared.recon.Range.{Range as MovingRange}
+use Rattle.sq_ranges.specs.ReconValue.{ReconValue}
 use Rattle.sq_chunk.specs.declared.chunk.Note.{Note}
 use Rattle.sq_chunk.specs.ChunkValue.{ChunkValue}
 use Rattle.sq_model.specs.declared.answer.Answer.{Answer}
@@ -145,3 +147,24 @@ abbrev pub way_lines : ChunkValue → List ℕ
 way_lines chunk =
     line (codes "way" ∷ decimal chunk.note.src ∷ decimal chunk.note.dst ∷ note_words chunk.note (length chunk.families))
     ++ flat_map in_line chunk.families
+
+-- where keys lie, and where they move
+abbrev pub move_words : MovingRange → List Word
+move_words range = decimal range.lo ∷ decimal range.hi ∷ decimal range.src ∷ decimal range.dst ∷ []
+
+-- a reconfiguration range
+abbrev pub range_line : MovingRange → List ℕ
+range_line range = line (codes "range" ∷ move_words range)
+
+-- a segment of this number
+abbrev pub segment_line : ℕ → MovingRange → List ℕ
+segment_line seg segment = line (codes "segment" ∷ decimal seg ∷ move_words segment)
+
+-- segments that are numbered from here on
+abbrev pub segment_lines : ℕ → List MovingRange → List ℕ
+segment_lines first [] = []
+segment_lines first (segment ∷ segments) = segment_line first segment ++ segment_lines (first + 1) segments
+
+-- what moves: the reconfiguration ranges in key order, and then the segments
+abbrev pub moves_text : ReconValue → List ℕ
+moves_text recon = flat_map range_line recon.ranges ++ segment_lines 0 recon.segments

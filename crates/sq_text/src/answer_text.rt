@@ -4,6 +4,7 @@ ghost use Rattle.std.specs.List.{flat_map, join_with_byte};
 ghost use Rattle.std.specs.Io.KnownBytes.{Appends};
 ghost use Rattle.sq_text.specs.Texts.{line, op_answer_text, cause_text, mark_text, reply_words, note_words, status_text, reading_text, node_words, answer_line, refused_line, fault_line};
 
+use crate::number_text::{write_next_number, write_number};
 use crate::row_text::write_op_answer;
 use sq_chunk::Note;
 use sq_model::Answer;
@@ -29,7 +30,7 @@ fn write_op_answers<W: Write>(writer: &mut W, answers: &[OpAnswer]) -> io::Resul
     ensures { OnOk result (Appends (W.contents writer.old) (W.contents writer.new) (flat_map (λ answer. 32 ∷ op_answer_text answer) answers.now)) }
 {
     for answer in answers {
-        write!(writer, " ")?;
+        writer.write_all(b" ")?;
         write_op_answer(writer, answer)?;
     }
     Ok(())
@@ -41,7 +42,8 @@ fn write_reply<W: Write>(writer: &mut W, id: u64, reply: &Reply) -> io::Result<(
 {
     match reply {
         Reply::Committed(answers) => {
-            write!(writer, "commit {id}")?;
+            writer.write_all(b"commit")?;
+            write_next_number(writer, id)?;
             write_op_answers(writer, answers.as_slice())?;
             writer.write_all(b"\n")
         }
@@ -52,21 +54,25 @@ fn write_reply<W: Write>(writer: &mut W, id: u64, reply: &Reply) -> io::Result<(
     }
 }
 
-fn mark_text(last: bool) -> &'static str
-    ensures { result.now ≡ mark_text last }
+// Whether a chunk is its node's last, between two spaces.
+fn mark_text(last: bool) -> &'static [u8]
+    ensures { result.now ≡ 32 ∷ mark_text last ++ 32 ∷ [] }
 {
-    if last { "last" } else { "more" }
+    if last { b" last " } else { b" more " }
 }
 
 // Writes what a note says behind its link, with how many families its chunk holds, up to the end of the line.
 pub(crate) fn write_note<W: Write>(writer: &mut W, note: &Note, families: u64) -> io::Result<()>
     ensures { OnOk result (Appends (W.contents writer.old) (W.contents writer.new) (line (note_words note.now families))) }
 {
-    let Note { number, lo, hi, .. } = *note;
-    let (seg, node) = (note.seg.number(), note.node.number());
-    let mark = mark_text(note.last);
-    write!(writer, "{number} {seg} {node} ")?;
-    writeln!(writer, "{lo} {hi} {mark} {families}")
+    write_number(writer, note.number)?;
+    write_next_number(writer, note.seg.number())?;
+    write_next_number(writer, note.node.number())?;
+    write_next_number(writer, note.lo)?;
+    write_next_number(writer, note.hi)?;
+    writer.write_all(mark_text(note.last))?;
+    write_number(writer, families)?;
+    writer.write_all(b"\n")
 }
 
 // Writes the status of a node.
@@ -107,7 +113,7 @@ pub fn write_answer<W: Write>(writer: &mut W, answer: &Answer) -> io::Result<()>
     ensures { OnOk result (Appends (W.contents writer.old) (W.contents writer.new) (answer_line answer.now)) }
 {
     match answer {
-        Answer::Done => writeln!(writer, "ok"),
+        Answer::Done => writer.write_all(b"ok\n"),
         Answer::Replied { id, reply } => write_reply(writer, *id, reply),
         Answer::Moved { id, to } => {
             let to = to.number();
@@ -119,11 +125,11 @@ pub fn write_answer<W: Write>(writer: &mut W, answer: &Answer) -> io::Result<()>
         }
         Answer::Resumed { txn, reply } => write_reply(writer, txn.id(), reply),
         Answer::WasCut { note, families } => {
-            write!(writer, "cut ")?;
+            writer.write_all(b"cut ")?;
             write_note(writer, note, *families)
         }
         Answer::WasLoaded { note, families } => {
-            write!(writer, "load ")?;
+            writer.write_all(b"load ")?;
             write_note(writer, note, *families)
         }
         Answer::Reads { status, reading } => write_node(writer, *status, *reading),
@@ -135,7 +141,9 @@ pub fn write_answer<W: Write>(writer: &mut W, answer: &Answer) -> io::Result<()>
 pub fn write_refused<W: Write>(writer: &mut W, number: u16) -> io::Result<()>
     ensures { OnOk result (Appends (W.contents writer.old) (W.contents writer.new) (refused_line number)) }
 {
-    writeln!(writer, "refused {number}")
+    writer.write_all(b"refused ")?;
+    write_number(writer, number)?;
+    writer.write_all(b"\n")
 }
 
 /// Writes the line of a fault with this number. An error is the writer's.

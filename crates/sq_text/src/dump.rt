@@ -5,6 +5,7 @@ ghost use Rattle.std.specs.Io.KnownBytes.{Appends};
 ghost use Rattle.sq_text.specs.Texts.{line, entry_text, phase_text, family_words, end_line, at_line, in_line, way_lines};
 
 use crate::answer_text::write_note;
+use crate::number_text::{write_next_number, write_number};
 use crate::row_text::write_entry;
 use sq_chunk::Note;
 use sq_model::Phase;
@@ -37,7 +38,7 @@ fn write_entries<W: Write>(writer: &mut W, entries: &[(RowKey, Row)]) -> io::Res
     ensures { OnOk result (Appends (W.contents writer.old) (W.contents writer.new) (flat_map (λ entry. 32 ∷ entry_text entry) entries.now)) }
 {
     for (key, row) in entries {
-        write!(writer, " ")?;
+        writer.write_all(b" ")?;
         write_entry(writer, *key, row)?;
     }
     Ok(())
@@ -47,9 +48,8 @@ fn write_entries<W: Write>(writer: &mut W, entries: &[(RowKey, Row)]) -> io::Res
 fn write_family<W: Write>(writer: &mut W, family: &Family) -> io::Result<()>
     ensures { OnOk result (Appends (W.contents writer.old) (W.contents writer.new) (line (family_words family.now))) }
 {
-    let root = family.root().number();
-    let log = family.log().len();
-    write!(writer, "{root} {log}")?;
+    write_number(writer, family.root().number())?;
+    write_next_number(writer, family.log().len())?;
     write_entries(writer, family.rows().as_slice())?;
     writer.write_all(b"\n")
 }
@@ -58,8 +58,9 @@ fn write_family<W: Write>(writer: &mut W, family: &Family) -> io::Result<()>
 pub fn write_at<W: Write>(writer: &mut W, part: PartId, family: &Family) -> io::Result<()>
     ensures { OnOk result (Appends (W.contents writer.old) (W.contents writer.new) (at_line part family.now)) }
 {
-    let part = part.number();
-    write!(writer, "at {part} ")?;
+    writer.write_all(b"at ")?;
+    write_number(writer, part.number())?;
+    writer.write_all(b" ")?;
     write_family(writer, family)
 }
 
@@ -67,7 +68,7 @@ pub fn write_at<W: Write>(writer: &mut W, part: PartId, family: &Family) -> io::
 fn write_in<W: Write>(writer: &mut W, family: &Family) -> io::Result<()>
     ensures { OnOk result (Appends (W.contents writer.old) (W.contents writer.new) (in_line family.now)) }
 {
-    write!(writer, "in ")?;
+    writer.write_all(b"in ")?;
     write_family(writer, family)
 }
 

@@ -1,32 +1,37 @@
 // The header of an input.
-ghost use Rattle.std.specs.Prelude.{◌≡◌, codes, Err, IfOk};
+ghost use Rattle.std.specs.Prelude.{◌≡◌, ◌≢◌, ◌<◌, codes, List, Ok, Err, IfOk, OnOk};
 ghost use Rattle.sq_text.specs.Words.{words_of};
-ghost use Rattle.sq_text.specs.Pieces.{view_of};
+ghost use Rattle.sq_lines.specs.Pieces.{PieceValue};
+ghost use Rattle.sq_lines.specs.Coming.{Leaves};
 ghost use Rattle.sq_text.specs.Faults.{IsParsed, IsParsedGivenMemory};
 ghost use Rattle.sq_text.specs.InputFaults.{IsRead, IsReadGivenMemory};
 ghost use Rattle.sq_text.specs.HeaderFields.{value_of, config_in, given_in};
-ghost use Rattle.sq_text.specs.Header.{line_in, behind, line_behind, plan_line, config_line, row_line, row_lines, AreRows, header_of, Opens};
+ghost use Rattle.sq_text.specs.Header.{next_line, line_as, behind, plan_of, config_of, row_of, RowsValue, row_lines, AreRows, header_of, plans_of, Opens};
 
 use crate::fault::{Malformed, ReadFault};
 use crate::input_fault::InputFault;
 use crate::note::note;
-use crate::piece::{Piece, Pieces};
 use crate::step::MAX_LINE;
 use crate::words::Words;
+use sq_lines::{LineReader, Next};
 use sq_plan::Plan;
 use sq_ranges::{Config, GivenRow, Opening};
 use sq_schema::{RowKey, Schema};
 use std::alloc::{AllocError, Global};
+use std::io::Read;
 
-// The bytes of a line of the header.
-fn line_in(piece: Piece<'_>) -> Result<&[u8], InputFault>
-    ensures { IsRead (λ line. line.now) result (line_in (view_of piece.entry)) }
+// Reads the next line, whose bytes the reader then has.
+fn next_line<R: Read>(lines: &mut LineReader<R>) -> Result<(), InputFault>
+    ensures line { Leaves lines.old lines.new (λ all left. IsRead (λ _. (lines.new.piece, left)) result (next_line all)) }
+    ensures fewer { OnOk result (lines.new.lines < lines.old.lines) }
 {
-    match piece {
-        Piece::Line(line) if line.len() <= MAX_LINE => Ok(line),
-        Piece::Rest(rest) if rest.len() <= MAX_LINE => Err(InputFault::BadHeader),
-        Piece::Line(_) | Piece::Rest(_) => Err(InputFault::LineTooLong),
-        Piece::Endless(_) | Piece::TooMany => Err(InputFault::TooLong),
+    match lines.next_read(MAX_LINE) {
+        Next::Line if lines.piece().len() <= MAX_LINE => Ok(()),
+        Next::Line | Next::Long => Err(InputFault::LineTooLong),
+        Next::Rest | Next::End => Err(InputFault::BadHeader),
+        Next::Failed => Err(InputFault::ReadFailed),
+        Next::TooMany => Err(InputFault::TooLong),
+        Next::Unread => unreachable!(),
     }
 }
 
@@ -41,20 +46,24 @@ fn behind<'a>(front: &[u8], bytes: &'a [u8]) -> Result<&'a [u8], InputFault>
     }
 }
 
-// What stands behind a front in the next line.
-fn line_behind<'a>(front: &[u8], pieces: &mut Pieces<'a>) -> Result<&'a [u8], InputFault>
-    ensures { IsRead (λ text. (text.now, pieces.new)) result (line_behind front.now pieces.old) }
+// The plan of a line that begins so.
+fn plan(alloc: Global, front: &[u8], line: &[u8]) -> Result<Plan, InputFault>
+    ensures { IsReadGivenMemory (λ plan. plan) result (plan_of front.now line.now) }
 {
-    let piece = pieces.next().ok_or(InputFault::BadHeader)?;
-    behind(front, line_in(piece)?)
+    let text = behind(front, line)?;
+    Ok(Plan::read(alloc, text)?)
 }
 
-// The plan of a line.
-fn plan_line(alloc: Global, front: &[u8], pieces: &mut Pieces<'_>) -> Result<Plan, InputFault>
-    ensures { IsReadGivenMemory (λ plan. (plan, pieces.new)) result (plan_line front.now pieces.old) }
+// The plan of the next line, which begins so.
+fn plan_line<R: Read>(
+    alloc: Global,
+    front: &[u8],
+    lines: &mut LineReader<R>,
+) -> Result<Plan, InputFault>
+    ensures { Leaves lines.old lines.new (λ all left. IsReadGivenMemory (λ plan. (plan, left)) result (line_as (plan_of front.now) all)) }
 {
-    let text = line_behind(front, pieces)?;
-    Ok(Plan::read(alloc, text)?)
+    next_line(lines)?;
+    plan(alloc, front, lines.piece())
 }
 
 // The sizes that words spell.
@@ -76,11 +85,19 @@ fn config(mut words: Words<'_>) -> Result<Config, Malformed>
 }
 
 // The sizes of a line.
-fn config_line(pieces: &mut Pieces<'_>) -> Result<Config, InputFault>
-    ensures { IsRead (λ config. (config, pieces.new)) result (config_line pieces.old) }
+fn sizes(line: &[u8]) -> Result<Config, InputFault>
+    ensures { IsRead (λ config. config) result (config_of line.now) }
 {
-    let text = line_behind(b"config ", pieces)?;
+    let text = behind(b"config ", line)?;
     Ok(config(Words::of(text))?)
+}
+
+// The sizes of the next line.
+fn config_line<R: Read>(lines: &mut LineReader<R>) -> Result<Config, InputFault>
+    ensures { Leaves lines.old lines.new (λ all left. IsReadGivenMemory (λ config. (config, left)) result (line_as config_of all)) }
+{
+    next_line(lines)?;
+    sizes(lines.piece())
 }
 
 // The opening row that words spell.
@@ -106,11 +123,20 @@ fn given(alloc: Global, mut words: Words<'_>) -> Result<GivenRow, ReadFault>
 }
 
 // The opening row of a line.
-fn row_line(alloc: Global, pieces: &mut Pieces<'_>) -> Result<GivenRow, InputFault>
-    ensures { IsReadGivenMemory (λ row. (value_of row, pieces.new)) result (row_line pieces.old) }
+fn row(alloc: Global, line: &[u8]) -> Result<GivenRow, InputFault>
+    ensures { IsReadGivenMemory value_of result (row_of line.now) }
 {
-    let text = line_behind(b"row ", pieces)?;
+    let text = behind(b"row ", line)?;
     Ok(given(alloc, Words::of(text))?)
+}
+
+// The opening row of the next line.
+fn row_line<R: Read>(alloc: Global, lines: &mut LineReader<R>) -> Result<GivenRow, InputFault>
+    ensures row { Leaves lines.old lines.new (λ all left. IsReadGivenMemory (λ row. (value_of row, left)) result (line_as row_of all)) }
+    ensures fewer { OnOk result (lines.new.lines < lines.old.lines) }
+{
+    next_line(lines)?;
+    row(alloc, lines.piece())
 }
 
 /// The opening rows of a header, and how their lines end.
@@ -121,27 +147,30 @@ struct RowLines {
 }
 
 impl RowLines {
-    // Rows, and a line after them that spells none.
-    fn ending_by(rows: Vec<GivenRow>, fault: InputFault) -> RowLines
-        ensures { result ≡ record { rows = rows; ending = Err fault } }
+    // Rows, and a line after them that spells none, unless memory ran out there.
+    fn ending_by(rows: Vec<GivenRow>, fault: InputFault) -> Result<RowLines, AllocError>
+        ensures lines { IfOk result (λ lines. lines ≡ record { rows = rows; ending = Err fault }) }
+        ensures told { IfOk result (λ _. fault ≢ InputFault.Memory) }
     {
-        RowLines {
-            rows,
-            ending: Err(fault),
+        match fault {
+            InputFault::Memory => Err(AllocError),
+            fault => Ok(RowLines {
+                rows,
+                ending: Err(fault),
+            }),
         }
     }
 }
 
 // The opening rows, up to the first line that spells none.
-fn row_lines(alloc: Global, pieces: &mut Pieces<'_>) -> Result<RowLines, AllocError>
-    ensures { IfOk result (λ lines. AreRows lines pieces.new (row_lines pieces.old)) }
+fn row_lines<R: Read>(alloc: Global, lines: &mut LineReader<R>) -> Result<RowLines, AllocError>
+    ensures { IfOk result (λ rows. Leaves lines.old lines.new (λ all left. AreRows rows left (row_lines all))) }
 {
     let mut rows = Vec::new(alloc);
-    while pieces.begins_row() {
-        match row_line(alloc, pieces) {
+    while lines.begins_read(b"row ") {
+        match row_line(alloc, lines) {
             Ok(row) => rows.push(row)?,
-            Err(InputFault::Memory) => return Err(AllocError),
-            Err(fault) => return Ok(RowLines::ending_by(rows, fault)),
+            Err(fault) => return RowLines::ending_by(rows, fault),
         }
     }
     Ok(RowLines {
@@ -150,26 +179,61 @@ fn row_lines(alloc: Global, pieces: &mut Pieces<'_>) -> Result<RowLines, AllocEr
     })
 }
 
-/// The opening that the header of an input spells; the pieces that are left are those of the script.
+// The opening of two plans, sizes and rows, whose lines end so.
+fn opening(
+    alloc: Global,
+    schema: Schema,
+    old: Plan,
+    new: Plan,
+    config: Config,
+    lines: RowLines,
+) -> Result<Opening, InputFault>
+    ensures { (left : List PieceValue) (rows : RowsValue) → AreRows lines left rows → Opens schema result left (Ok (record { old = old; new = new; config = config; lines = rows })) }
+{
+    let RowLines { rows, ending } = lines;
+    let opening = Opening::new(alloc, schema, old, new, config, rows)?;
+    ending?;
+    Ok(opening)
+}
+
+/// The opening that the header of an input spells; the lines that are left are those of the script.
 ///
 /// Its lines are `old JSON` and `new JSON`, each with a plan; `config W L C`, the width of a leaf, the bytes of a
 /// chunk and the chunks of a link's queue; and then, as long as lines begin with `row `, opening rows:
 /// `row ROOT T S N NOTE`. A refusal is the first fault in the order of the lines: that of a plan; a line that is
-/// missing, has no end, or isn't of its form; one with over [`MAX_LINE`] bytes; an input that is too long; and for
-/// the plans, the sizes and each row the fault that [`Opening::new`] finds. [`InputFault::Memory`] may come in
-/// place of any answer.
-pub fn read_header(
+/// missing or isn't of its form; one with over [`MAX_LINE`] bytes, as soon as they came; a read that fails; an input
+/// with too many lines; and for the plans, the sizes and each row the fault that [`Opening::new`] finds.
+/// [`InputFault::Memory`] may come in place of any answer.
+pub fn read_header<R: Read>(
     alloc: Global,
     schema: Schema,
-    pieces: &mut Pieces<'_>,
+    lines: &mut LineReader<R>,
 ) -> Result<Opening, InputFault>
-    ensures { Opens schema result pieces.new (header_of pieces.old) }
+    ensures { Leaves lines.old lines.new (λ all left. Opens schema result left (header_of all)) }
 {
-    let old = plan_line(alloc, b"old ", pieces)?;
-    let new = plan_line(alloc, b"new ", pieces)?;
-    let config = config_line(pieces)?;
-    let RowLines { rows, ending } = row_lines(alloc, pieces)?;
-    let opening = Opening::new(alloc, schema, old, new, config, rows)?;
-    ending?;
-    Ok(opening)
+    let old = plan_line(alloc, b"old ", lines)?;
+    let new = plan_line(alloc, b"new ", lines)?;
+    let config = config_line(lines)?;
+    let rows = row_lines(alloc, lines)?;
+    opening(alloc, schema, old, new, config, rows)
+}
+
+/// What the first three lines of an input spell, as an opening without rows: those of a header, with the plans and the
+/// sizes. A refusal is the first fault in the order of the lines, as [`read_header`] has them. What follows isn't looked
+/// at. [`InputFault::Memory`] may come in place of any answer.
+pub fn read_plans<R: Read>(
+    alloc: Global,
+    schema: Schema,
+    lines: &mut LineReader<R>,
+) -> Result<Opening, InputFault>
+    ensures { Leaves lines.old lines.new (λ all left. Opens schema result left (plans_of all)) }
+{
+    let old = plan_line(alloc, b"old ", lines)?;
+    let new = plan_line(alloc, b"new ", lines)?;
+    let config = config_line(lines)?;
+    let rows = RowLines {
+        rows: Vec::new(alloc),
+        ending: Ok(()),
+    };
+    opening(alloc, schema, old, new, config, rows)
 }

@@ -6,13 +6,15 @@ ghost use Rattle.sq_text.specs.Faults.{IsParsedGivenMemory};
 use crate::fault::ReadFault;
 use std::alloc::Global;
 
+// The number that a digit stands for: the low half of its byte, and for a letter 9 more. So there is one branch, on
+// whether it is a digit, and none on which kind.
 fn hex_digit(digit: u8) -> Option<u8>
     ensures { result ≡ hex_digit_in digit }
 {
-    match digit {
-        b'0'..=b'9' => Some(digit - b'0'),
-        b'a'..=b'f' => Some(digit - b'a' + 10),
-        _ => None,
+    if matches!(digit, b'0'..=b'9' | b'a'..=b'f') {
+        Some(digit % 16 + 9 * (digit / 64))
+    } else {
+        None
     }
 }
 

@@ -1,10 +1,11 @@
 // The texts of rows and of what operations are answered.
-ghost use Rattle.std.specs.Prelude.{◌≡◌, ◌<◌, false, OnOk};
+ghost use Rattle.std.specs.Prelude.{◌≡◌, ◌*◌, ◌<◌, ◌≤◌, false, length, take, OnOk};
 ghost use Rattle.std.specs.Fmt.{digit_glyph};
 ghost use Rattle.std.specs.List.{flat_map};
 ghost use Rattle.std.specs.Io.KnownBytes.{Appends};
 ghost use Rattle.sq_text.specs.Texts.{hex_byte_text, note_text, row_text, op_answer_text, entry_text};
 
+use crate::number_text::write_number;
 use sq_schema::{OpAnswer, Row, RowKey};
 use std::io;
 use std::io::Write;
@@ -21,12 +22,31 @@ fn hex_digit(value: u8) -> u8
     }
 }
 
+// How many bytes are written at once.
+const PART: usize = 32;
+
+// Puts the digits of bytes, two a byte, at the front of a text.
+fn put_hex(bytes: &[u8], text: &mut [u8; 2 * PART])
+    requires { length bytes.now ≤ PART }
+    ensures { take (2 * length bytes.now) text.new ≡ flat_map hex_byte_text bytes.now }
+{
+    for (at, byte) in bytes.iter().enumerate() {
+        text[2 * at] = hex_digit(*byte / 16);
+        text[2 * at + 1] = hex_digit(*byte % 16);
+    }
+}
+
 // Writes the digits of bytes, two a byte.
 fn write_hex<W: Write>(writer: &mut W, bytes: &[u8]) -> io::Result<()>
     ensures { OnOk result (Appends (W.contents writer.old) (W.contents writer.new) (flat_map hex_byte_text bytes.now)) }
 {
-    for byte in bytes {
-        writer.write_all(&[hex_digit(*byte / 16), hex_digit(*byte % 16)])?;
+    let mut text = [0; 2 * PART];
+    let mut rest = bytes;
+    while !rest.is_empty() {
+        let (part, after) = rest.split_at(rest.len().min(PART));
+        put_hex(part, &mut text);
+        writer.write_all(&text[..2 * part.len()])?;
+        rest = after;
     }
     Ok(())
 }
@@ -36,7 +56,7 @@ fn write_note<W: Write>(writer: &mut W, note: &[u8]) -> io::Result<()>
     ensures { OnOk result (Appends (W.contents writer.old) (W.contents writer.new) (note_text note.now)) }
 {
     if note.is_empty() {
-        write!(writer, "-")
+        writer.write_all(b"-")
     } else {
         write_hex(writer, note)
     }
@@ -46,8 +66,8 @@ fn write_note<W: Write>(writer: &mut W, note: &[u8]) -> io::Result<()>
 fn write_row<W: Write>(writer: &mut W, row: &Row) -> io::Result<()>
     ensures { OnOk result (Appends (W.contents writer.old) (W.contents writer.new) (row_text row.now)) }
 {
-    let number = row.number();
-    write!(writer, "{number}/")?;
+    write_number(writer, row.number())?;
+    writer.write_all(b"/")?;
     write_note(writer, row.note())
 }
 
@@ -56,10 +76,10 @@ pub(crate) fn write_op_answer<W: Write>(writer: &mut W, answer: &OpAnswer) -> io
     ensures { OnOk result (Appends (W.contents writer.old) (W.contents writer.new) (op_answer_text answer.now)) }
 {
     match answer {
-        OpAnswer::Found(None) => write!(writer, "none"),
+        OpAnswer::Found(None) => writer.write_all(b"none"),
         OpAnswer::Found(Some(row)) => write_row(writer, row),
-        OpAnswer::Number(number) => write!(writer, "{number}"),
-        OpAnswer::Done => write!(writer, "ok"),
+        OpAnswer::Number(number) => write_number(writer, *number),
+        OpAnswer::Done => writer.write_all(b"ok"),
     }
 }
 
@@ -67,8 +87,9 @@ pub(crate) fn write_op_answer<W: Write>(writer: &mut W, answer: &OpAnswer) -> io
 pub(crate) fn write_entry<W: Write>(writer: &mut W, key: RowKey, row: &Row) -> io::Result<()>
     ensures { OnOk result (Appends (W.contents writer.old) (W.contents writer.new) (entry_text (key, row.now))) }
 {
-    let table = key.table;
-    let sub = key.sub;
-    write!(writer, "{table}.{sub}=")?;
+    write_number(writer, key.table)?;
+    writer.write_all(b".")?;
+    write_number(writer, key.sub)?;
+    writer.write_all(b"=")?;
     write_row(writer, row)
 }

@@ -41,11 +41,10 @@ use Rattle.sq_transition.specs.Holds.{LinkHolds, LinksHold, CoreHolds, Partition
 use Rattle.sq_transition.proofs.Sets.{by_place, get_or-set}
 use Rattle.sq_transition.proofs.Changed.{PartsHold, segments_changed, partitions_changed, links_changed}
 use Rattle.sq_transition.proofs.Cores.{core_set, core_kept}
-use Rattle.sq_transition.proofs.Keeps.{Keeps, keeps_refused}
-use Rattle.sq_transition.proofs.Leader.{keeps_moving}
+use Rattle.sq_transition.proofs.Keeps.{Keeps, keeps_refused, keeps_moving}
 use Rattle.sq_transition.proofs.Links.{IsFrom, index_found, same_ends, link_set}
-use Rattle.sq_transition.proofs.LinkEnds.{EndsBelow, out_of, out_set, out_stays}
-use Rattle.sq_transition.proofs.Nodes.{AllEndsBelow, keeps_segment, keeps_node, node_set, statuses_same, range_there, range_same}
+use Rattle.sq_transition.proofs.LinkEnds.{EndsBelow, AllEndsBelow, out_of, out_set, out_stays}
+use Rattle.sq_transition.proofs.Nodes.{keeps_segment, keeps_node, node_set, statuses_same, range_there, range_same}
 
 some_none : {X : Type 0} (x : X) → Some x ≡ None → ⊥
 some_none x e = cc

@@ -47,7 +47,7 @@ result_keeps o t w (Pop src dst) facts h = pop_keeps o t w src dst h
 result_keeps o t w (Load src dst) facts h = load_keeps o t w src dst facts.loads h
 result_keeps o t w (Complete seg node pull) facts h = complete_keeps o t w seg node pull facts.begins.ends h
 result_keeps o t w (Report part) facts h = report_keeps o t w part h
-result_keeps o t w Finish facts h = finish_keeps o t w h
+result_keeps o t w Finish facts h = finish_keeps o t w facts.begins.ends h
 result_keeps o t w (Status seg node) facts h = status_keeps o t w seg node h
 
 -- a step is answered as the history says, and leads to the world that the longer history leads to

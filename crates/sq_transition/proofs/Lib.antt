@@ -3,6 +3,7 @@ pub mod Changed
 pub mod Kept
 pub mod Keeps
 pub mod Cores
+pub mod Leading
 pub mod Leader
 pub mod Links
 pub mod LinkEnds

@@ -1,8 +1,9 @@
 -- A world in which one end of a link changed: the source's, the destination's, or the queue between them.
 use Rattle.std.proofs.Common.{inl, inr, ◌≡◌, ℕ, List, refl, sym, ap, ◌∙◌, arith, length, eq-eqb}
-use Rattle.std.specs.Prelude.{◌<◌, ◌≢◌, if◌then◌else◌, slice_set, slice_index_or, Option, None}
+use Rattle.std.specs.Prelude.{◌<◌, ◌≢◌, if◌then◌else◌, slice_get, slice_set, slice_index_or, Option, Some, None}
 use Rattle.std.proofs.lemmas.List.{length-set, length-map, length-drop, get_or_past}
 use Rattle.std.proofs.lemmas.Bool.{cases_lt, ne_eqb}
+use Rattle.sq_ranges.specs.declared.recon.Range.{Range}
 use Rattle.sq_ranges.specs.OpeningValue.{OpeningValue}
 use Rattle.sq_chunk.specs.ChunkValue.{ChunkValue}
 use Rattle.sq_exec.specs.declared.run.Run.{Run}
@@ -143,6 +144,10 @@ within_by size xs i none zero some =
 pub record EndsBelow (o : OpeningValue) (src dst : ℕ) : Type 0 where
   pub source : src < o.old.parts
   pub destination : dst < o.old.parts
+
+-- each segment goes from one partition to another
+abbrev pub AllEndsBelow : OpeningValue → Type 0
+AllEndsBelow o = (seg : ℕ) (range : Range) → slice_get o.recon.segments seg ≡ Some range → EndsBelow o range.src range.dst
 
 -- so they are where chunks are under way
 pub way_below : (o : OpeningValue) (t : Trace) (w : WorldValue) (i src dst : ℕ) → PartsHold o t w → IsFrom w i src dst → 0 < length (under_way (link_value w i)) → EndsBelow o src dst

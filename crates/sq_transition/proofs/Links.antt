@@ -21,8 +21,7 @@ use Rattle.sq_transition.specs.LinkResults.{if_link, result_at_link}
 use Rattle.sq_transition.specs.Holds.{LinkHolds, LinksHold, ChunkHolds, work_of}
 use Rattle.sq_transition.proofs.Changed.{PartsHold}
 use Rattle.sq_transition.proofs.Sets.{by_place, get_or-set}
-use Rattle.sq_transition.proofs.Keeps.{Keeps, keeps_refused}
-use Rattle.sq_transition.proofs.Leader.{keeps_moving}
+use Rattle.sq_transition.proofs.Keeps.{Keeps, keeps_refused, keeps_moving}
 
 -- the queue of this number goes from the one partition to the other
 pub record IsFrom (w : WorldValue) (i src dst : ℕ) : Type 0 where

@@ -39,9 +39,8 @@ use Rattle.sq_transition.specs.Transition.{step_result}
 use Rattle.sq_transition.specs.Holds.{SegmentsHold}
 use Rattle.sq_transition.proofs.Sets.{by_place, get_or-set}
 use Rattle.sq_transition.proofs.Changed.{PartsHold, segments_changed}
-use Rattle.sq_transition.proofs.Keeps.{Keeps, keeps_if, keeps_refused}
-use Rattle.sq_transition.proofs.Leader.{keeps_moving}
-use Rattle.sq_transition.proofs.LinkEnds.{EndsBelow}
+use Rattle.sq_transition.proofs.Keeps.{Keeps, keeps_if, keeps_refused, keeps_moving}
+use Rattle.sq_transition.proofs.LinkEnds.{AllEndsBelow}
 
 IsTrue-from : {b : Bool} → b ≡ true → IsTrue b
 IsTrue-from e = e
@@ -140,10 +139,6 @@ complete_kept : (o : OpeningValue) (t : Trace) (w new : WorldValue) (step : Step
 complete_kept o t w new step b c (Ok tt) h same went = loaded_kept o t w new step b c h (same refl) (went refl)
 complete_kept o t w new step b c (Err (complete.NotPartial found)) h same went = keeps_refused o t w step NotPartial h
 complete_kept o t w new step b c (Err complete.WrongPull) h same went = keeps_refused o t w step WrongPull h
-
--- each segment goes from one partition to another
-abbrev pub AllEndsBelow : OpeningValue → Type 0
-AllEndsBelow o = (seg : ℕ) (range : Range) → slice_get o.recon.segments seg ≡ Some range → EndsBelow o range.src range.dst
 
 -- there is a range for the number of each segment
 pub range_there : (o : OpeningValue) (seg : ℕ) → seg < length o.recon.segments → (range : Range) × (slice_get o.recon.segments seg ≡ Some range)

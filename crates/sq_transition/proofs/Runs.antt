@@ -127,9 +127,10 @@ module _ (o : OpeningValue) (t after : Trace) (part : ℕ) (txn : TxnValue) (giv
 
   leader_keeps : (w : WorldValue) → LeaderHolds o t w → LeaderHolds o after w
   leader_keeps w h = record {
+    parts = h.parts;
     phase = h.phase ∙ sym says.phase;
-    prepared = record { count = h.prepared.count; each = λ p below. h.prepared.each p below ∙ sym (says.prepared p) };
-    reported = record { count = h.reported.count; each = λ p below. h.reported.each p below ∙ sym (says.reported p) };
+    prepared = λ p below. h.prepared p below ∙ sym (says.prepared p);
+    reported = λ p below. h.reported p below ∙ sym (says.reported p);
   }
 
   segments_keep : (w : WorldValue) → SegmentsHold o t w → SegmentsHold o after w

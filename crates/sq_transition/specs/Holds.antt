@@ -24,7 +24,7 @@ use Rattle.sq_model.specs.Place.{Place, At, Under_way, place, extent_of}
 use Rattle.sq_model.specs.Links.{reached, has_last, open_items}
 use Rattle.sq_model.specs.Waiting.{waiting}
 use Rattle.sq_transition.specs.WorldValue.{WorldValue, LinkValue, core_at, status_in, link_index, queue_at, link_value, option_list, under_way}
-use Rattle.sq_transition.specs.LeaderResults.{flag_at}
+use Rattle.sq_transition.specs.Leading.{phase_of, parts_of, has_prepared, has_reported}
 
 abbrev pub is_at : ℕ → Place → Bool
 is_at part (At other) = other == part
@@ -80,21 +80,14 @@ PlansHold o w =
       config : w.config ≡ o.config;
     }
 
--- there is a flag for each partition, set just where the history says
-abbrev pub FlagsHold : OpeningValue → (ℕ → Bool) → List Bool → Type 0
-FlagsHold o is_set flags =
-    record {
-      count : length flags ≡ o.old.parts;
-      each : (part : ℕ) → part < o.old.parts → flag_at flags part ≡ is_set part;
-    }
-
--- the phase is the history's, and so is who prepared and who reported
+-- the leader leads the partitions of the opening; its phase is the history's, and so is who prepared and who reported
 abbrev pub LeaderHolds : OpeningValue → Trace → WorldValue → Type 0
 LeaderHolds o t w =
     record {
-      phase : w.phase ≡ phase t;
-      prepared : FlagsHold o (is_prepared t) w.prepared;
-      reported : FlagsHold o (is_reported t) w.reported;
+      parts : parts_of w.leader ≡ o.old.parts;
+      phase : phase_of w.leader ≡ phase t;
+      prepared : (part : ℕ) → part < o.old.parts → has_prepared w.leader part ≡ is_prepared t part;
+      reported : (part : ℕ) → part < o.old.parts → has_reported w.leader part ≡ is_reported t part;
     }
 
 -- a begun node of the segment covers the leaf

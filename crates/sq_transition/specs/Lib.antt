@@ -1,4 +1,5 @@
 pub mod WorldValue
+pub mod Leading
 pub mod LeaderResults
 pub mod TreeResults
 pub mod LinkResults

@@ -1,5 +1,5 @@
 -- The state of a world, without where it lies in memory.
-use Rattle.std.specs.Prelude.{ℕ, Bool, false, ◌==◌, ◌&&◌, List, [], slice_get, slice_set, slice_index_or, position, Option, Some, None, ◌∷◌, ◌++◌}
+use Rattle.std.specs.Prelude.{ℕ, false, ◌==◌, ◌&&◌, List, [], slice_get, slice_set, slice_index_or, position, Option, Some, None, ◌∷◌, ◌++◌}
 use Rattle.std.specs.Option.{option_map_or}
 use Rattle.std.specs.FinMap.{empty}
 use Rattle.sq_plan.specs.PlanValue.{PlanValue}
@@ -8,10 +8,10 @@ use Rattle.sq_tree.specs.Tree.{status_at}
 use Rattle.sq_ranges.specs.declared.opening.Config.{Config}
 use Rattle.sq_ranges.specs.declared.recon.Range.{Range}
 use Rattle.sq_ranges.specs.ReconValue.{ReconValue}
+use Rattle.sq_leader.specs.declared.leader.Leader.{Leader}
 use Rattle.sq_chunk.specs.ChunkValue.{ChunkValue}
 use Rattle.sq_exec.specs.OutLink.{OutLinkValue}
 use Rattle.sq_exec.specs.CoreValue.{CoreValue, out_at, inbox_at}
-use Rattle.sq_model.specs.declared.step.Phase.{Phase}
 
 -- the queue of a link: the chunks that went onto it and didn't come off, the oldest first
 pub record QueueValue : Type 0 where
@@ -19,16 +19,14 @@ pub record QueueValue : Type 0 where
   pub dst : ℕ
   pub chunks : List ChunkValue
 
--- a world: the plans, what moves between them and the sizes; how far the leader is, who prepared and who reported; the partitions, each by itself; for each segment the statuses of its nodes from node 1 on; and the queues between the partitions
+-- a world: the plans, what moves between them and the sizes; the leader; the partitions, each by itself; for each segment the statuses of its nodes from node 1 on; and the queues between the partitions
 pub record WorldValue : Type 0 where
   pub tables : ℕ
   pub old : PlanValue
   pub new : PlanValue
   pub recon : ReconValue
   pub config : Config
-  pub phase : Phase
-  pub prepared : List Bool
-  pub reported : List Bool
+  pub leader : Leader
   pub cores : List CoreValue
   pub trees : List (List Status)
   pub queues : List QueueValue

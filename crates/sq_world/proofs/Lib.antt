@@ -1,8 +1,9 @@
+pub mod Kept
 pub mod Histories
 pub mod Reaches
 pub mod Runs
 pub mod Scripts
 pub mod Sound
 pub mod Stores
-pub mod Taken
 pub mod Ways
+pub mod Listings

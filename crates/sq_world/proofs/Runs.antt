@@ -1,70 +1,86 @@
 -- Runs of whole inputs.
-use Rattle.std.proofs.Common.{◌≡◌, ℕ, List, [], length, Option, Some, None, inl, inr, refl, sym, subst, ◌∙◌}
-use Rattle.std.specs.Prelude.{◌≤◌, ◌⊎◌, Result, Ok, Err, IfOk}
+use Rattle.std.proofs.Common.{◌≡◌, ℕ, List, [], ◌++◌, Option, inl, inr, refl, sym, subst, ap, ◌∙◌}
+use Rattle.std.specs.Prelude.{◌⊎◌, Result, Ok, Err, IfOk}
 use Rattle.std.specs.Io.KnownBytes.{Appends, Keeps}
 use Rattle.sq_schema.specs.declared.schema.TheConstants.{MAX_TABLES}
 use Rattle.sq_ranges.specs.OpeningValue.{OpeningValue}
 use Rattle.sq_model.specs.Trace.{Trace}
 use Rattle.sq_transition.specs.WorldValue.{WorldValue}
+use Rattle.sq_lines.specs.declared.reader.TheConstants.{MAX_LINES}
+use Rattle.sq_lines.specs.declared.reader.Reading.TheVariants.{Open}
+use Rattle.sq_lines.specs.Pieces.{PieceValue, pieces, pieces_in}
+use Rattle.sq_lines.specs.Coming.{LinesValue, Comes, CanCome, Leaves}
+use Rattle.sq_lines.proofs.Comings.{some_more, some_pieces}
 use Rattle.sq_text.specs.declared.input_fault.InputFault.{InputFault}
-use Rattle.sq_text.specs.declared.input_fault.InputFault.TheVariants as faults
-use Rattle.sq_text.specs.Pieces.{PieceValue, pieces}
+use Rattle.sq_text.specs.declared.input_fault.InputFault.TheVariants.{Memory}
 use Rattle.sq_text.specs.Header.{HeaderValue, header_of, Opens}
 use Rattle.sq_world.specs.declared.ending.Ending.{Ending}
-use Rattle.sq_world.specs.declared.input.TheConstants.{MAX_INPUT}
-use Rattle.sq_world.specs.Input.{IsInput, IsNotTaken}
-use Rattle.sq_world.specs.Run.{IsFault, IsRunFrom, IsRefused, Runs}
+use Rattle.sq_world.specs.Input.{IsGiven}
+use Rattle.sq_world.specs.Run.{IsFault, IsRun}
 use Rattle.sq_world.specs.Script.{LeadsTo, IsWritten}
+use Rattle.sq_world.proofs.Kept.{kept}
 
 -- an opening that is read has the tables of the schema
 tables_of : (tables : ℕ) (o : OpeningValue) (left : List PieceValue) (header : Result HeaderValue InputFault) → Opens tables (Ok o) left header → o.tables ≡ tables
 tables_of tables o left (Err first) opens = absurd opens
 tables_of tables o left (Ok header) opens = opens.2.tables_are
 
+abbrev RunsLines : LinesValue → Option (List ℕ) → Option (List ℕ) → Ending → Type 0
+RunsLines lines before now ending = (given : List PieceValue) × CanCome lines given × (out : List ℕ) × Appends before now out × IsRun MAX_TABLES given out ending
+
 -- a script that is run from a header's opening
-pub run_from : {E : Type 0} (r : Result Ending E) (tables : ℕ) (input : List ℕ) (all left : List PieceValue) (before now : Option (List ℕ)) (w : WorldValue) → tables ≡ MAX_TABLES → all ≡ pieces input
-    → (o : OpeningValue) × LeadsTo o [] w × Opens tables (Ok o) left (header_of all)
-    → IfOk r (λ ending. (o : OpeningValue) (t : Trace) → LeadsTo o t w → o.tables ≡ tables → IsWritten o t left before now ending)
-    → IfOk r (λ ending. (out : List ℕ) × Appends before now out × (IsRunFrom MAX_TABLES input out ending ⊎ IsRefused MAX_TABLES input out ending))
-run_from (Err e) tables input all left before now w eight whole opens writes = tt
-run_from (Ok ending) tables input all left before now w eight whole opens writes =
+pub run_from : {E : Type 0} (r : Result Ending E) (tables : ℕ) (begin lines : LinesValue) (before now : Option (List ℕ)) (w : WorldValue) → tables ≡ MAX_TABLES
+    → (o : OpeningValue) × LeadsTo o [] w × Leaves begin lines (λ all left. Opens tables (Ok o) left (header_of all))
+    → IfOk r (λ ending. (o : OpeningValue) (t : Trace) → LeadsTo o t w → o.tables ≡ tables → IsWritten o t lines before now ending)
+    → IfOk r (RunsLines begin before now)
+run_from (Err e) tables begin lines before now w eight opens writes = tt
+run_from (Ok ending) tables begin lines before now w eight opens writes =
     let o = opens.0 in
-    let written = writes o [] opens.1 (tables_of tables o left (header_of all) opens.2) in
-    let header : Opens MAX_TABLES (Ok o) left (header_of (pieces input)) =
-    subst (λ n. Opens n (Ok o) left (header_of (pieces input))) eight (subst (λ ps. Opens tables (Ok o) left (header_of ps)) whole opens.2) in
-    (written.out, written.written, inl (record { opening = o; script = left; header = header; is_opening = opens.1.is_opening; writes = written.writes }))
+    let some = some_pieces lines in
+    let there = opens.2 some.pieces some.can_come in
+    let written = writes o [] opens.1 (tables_of tables o some.pieces (header_of there.0) there.2) in
+    let all = opens.2 written.pieces written.can_come in
+    (all.0, all.1, written.out, written.written, inl (record { opening = o; script = written.pieces; header = subst (λ n. Opens n (Ok o) written.pieces (header_of all.0)) eight all.2; is_opening = opens.1.is_opening; writes = written.writes }))
 
--- an input that was read and run
-pub run_read : {E : Type 0} (r : Result Ending E) (known : Option (List ℕ)) (read input : List ℕ) (before now : Option (List ℕ)) → input ≡ read → IsInput known read → length read ≤ MAX_INPUT
-    → IfOk r (λ ending. (out : List ℕ) × Appends before now out × (IsRunFrom MAX_TABLES input out ending ⊎ IsRefused MAX_TABLES input out ending)) → IfOk r (Runs MAX_TABLES known before now)
-run_read (Err e) known read input before now same is short ran = tt
-run_read (Ok ending) known read input before now same is short ran =
-    (input, subst (IsInput known) (sym same) is, ran.0, ran.1, inr (inr (inr (subst (λ xs. length xs ≤ MAX_INPUT) (sym same) short, ran.2))))
+-- a header that is refused
+pub run_refused : {E : Type 0} (r : Result Ending E) (tables : ℕ) (fault : InputFault) (begin lines : LinesValue) (before now : Option (List ℕ)) → tables ≡ MAX_TABLES
+    → Leaves begin lines (λ all left. Opens tables (Err fault) left (header_of all))
+    → IfOk r (λ ending. (out : List ℕ) × Appends before now out × IsFault fault out ending) → IfOk r (RunsLines begin before now)
+run_refused (Err e) tables fault begin lines before now eight opens wrote = tt
+run_refused (Ok ending) tables fault begin lines before now eight opens wrote =
+    let some = some_pieces lines in
+    let all = opens some.pieces some.can_come in
+    (all.0, all.1, wrote.0, wrote.1, inr (record { fault = fault; left = some.pieces; header = subst (λ n. Opens n (Err fault) some.pieces (header_of all.0)) eight all.2; wrote = wrote.2 }))
 
--- some input is what the reader gives
-some_input : (known : Option (List ℕ)) → (input : List ℕ) × IsInput known input
-some_input None = ([], tt)
-some_input (Some bytes) = (bytes, refl)
+-- what is written for the lines of a reader, and how that ends, are as this says
+abbrev pub OfLines : (List PieceValue → List ℕ → Ending → Type 0) → LinesValue → Option (List ℕ) → Option (List ℕ) → Ending → Type 0
+OfLines says lines before now ending = (given : List PieceValue) × CanCome lines given × (out : List ℕ) × Appends before now out × says given out ending
 
--- an input that wasn't taken
-pub run_not_taken : {E : Type 0} (r : Result Ending E) (known : Option (List ℕ)) (fault : InputFault) (before now : Option (List ℕ)) → IsNotTaken known fault
-    → IfOk r (λ ending. (out : List ℕ) × Appends before now out × IsFault fault out ending) → IfOk r (Runs MAX_TABLES known before now)
-run_not_taken (Err e) known fault before now taken wrote = tt
-run_not_taken (Ok ending) known faults.TooLong before now taken wrote = (taken.0, taken.1, wrote.0, wrote.1, inr (inr (inl (taken.2, wrote.2))))
-run_not_taken (Ok ending) known faults.ReadFailed before now taken wrote = let some = some_input known in (some.0, some.1, wrote.0, wrote.1, inl wrote.2)
-run_not_taken (Ok ending) known faults.Memory before now taken wrote = let some = some_input known in (some.0, some.1, wrote.0, wrote.1, inr (inl wrote.2))
-run_not_taken (Ok ending) known (faults.Plan fault) before now taken wrote = absurd taken
-run_not_taken (Ok ending) known (faults.Opening fault) before now taken wrote = absurd taken
-run_not_taken (Ok ending) known faults.BadHeader before now taken wrote = absurd taken
-run_not_taken (Ok ending) known faults.LineTooLong before now taken wrote = absurd taken
+-- what is written for what a reader gives, and how that ends, are as this says
+abbrev pub OfReader : (List PieceValue → List ℕ → Ending → Type 0) → Option (List ℕ) → Option (List ℕ) → Option (List ℕ) → Ending → Type 0
+OfReader says known before now ending = (given : List PieceValue) × IsGiven known given × (out : List ℕ) × Appends before now out × says given out ending
 
--- bytes that are kept were written
-kept : (a b c : Option (List ℕ)) (text : List ℕ) → Appends a b text → Keeps b c → Appends a c text
-kept None b c text written keeps = tt
-kept (Some xs) None c text written keeps = absurd written
-kept (Some xs) (Some ys) None text written keeps = absurd keeps
-kept (Some xs) (Some ys) (Some zs) text written keeps = keeps ∙ written
+-- what can come of a reader of lines at its start is given by its reader
+given_first : (v : LinesValue) (known : Option (List ℕ)) (given : List PieceValue) → v.held ≡ [] → v.reading ≡ Open → v.lines ≡ MAX_LINES → v.known ≡ known → CanCome v given → IsGiven known given
+given_first v known given none still most same can = record {
+  input = can.more;
+  end = can.end;
+  comes = subst (λ k. Comes Open k can.end can.more) same (subst (λ r. Comes r v.known can.end can.more) still can.comes);
+  are = can.are ∙ rw (most, none) refl;
+}
 
--- a run whose output was flushed
-pub run_flushed : (known before mid now : Option (List ℕ)) (ending : Ending) → Runs MAX_TABLES known before mid ending → Keeps mid now → Runs MAX_TABLES known before now ending
-run_flushed known before mid now ending ran keeps = (ran.0, ran.1, ran.2, kept before mid now ran.2 ran.3 keeps, ran.4)
+pub run_given : {E : Type 0} (says : List PieceValue → List ℕ → Ending → Type 0) (r : Result Ending E) (v : LinesValue) (known before now : Option (List ℕ)) → v.held ≡ [] → v.reading ≡ Open → v.lines ≡ MAX_LINES → v.known ≡ known → IfOk r (OfLines says v before now) → IfOk r (OfReader says known before now)
+run_given says (Err e) v known before now none still most same ran = tt
+run_given says (Ok ending) v known before now none still most same ran = (ran.0, given_first v known ran.0 none still most same ran.1, ran.2, ran.3, ran.4)
+
+-- there was no memory for a line
+pub run_nothing : {E : Type 0} (says : List PieceValue → List ℕ → Ending → Type 0) (r : Result Ending E) (known before now : Option (List ℕ)) → ((given : List PieceValue) (out : List ℕ) (ending : Ending) → IsFault Memory out ending → says given out ending)
+    → IfOk r (λ ending. (out : List ℕ) × Appends before now out × IsFault Memory out ending) → IfOk r (OfReader says known before now)
+run_nothing says (Err e) known before now nothing wrote = tt
+run_nothing says (Ok ending) known before now nothing wrote =
+    let some = some_more Open known in
+    (pieces some.end some.more, record { input = some.more; end = some.end; comes = some.comes; are = refl }, wrote.0, wrote.1, nothing (pieces some.end some.more) wrote.0 ending wrote.2)
+
+-- what was written is flushed
+pub run_flushed : (says : List PieceValue → List ℕ → Ending → Type 0) (known before mid now : Option (List ℕ)) (ending : Ending) → OfReader says known before mid ending → Keeps mid now → OfReader says known before now ending
+run_flushed says known before mid now ending ran keeps = (ran.0, ran.1, ran.2, kept before mid now ran.2 ran.3 keeps, ran.4)

@@ -1,7 +1,7 @@
 -- A script, line by line.
 use Rattle.std.proofs.Common.{◌≡◌, ℕ, List, [], ◌∷◌, ◌++◌, Option, inl, refl, sym, ap, ◌∙◌, subst, append_assoc}
 use Rattle.std.specs.Prelude.{Result, Ok, Err, IfOk, OnOk}
-use Rattle.std.specs.Io.KnownBytes.{Appends}
+use Rattle.std.specs.Io.KnownBytes.{Appends, Keeps}
 use Rattle.sq_ranges.specs.OpeningValue.{OpeningValue}
 use Rattle.sq_model.specs.declared.step.Step.{Step}
 use Rattle.sq_model.specs.declared.answer.Answer.{Answer}
@@ -11,12 +11,16 @@ use Rattle.sq_model.specs.Legal.{IsLegal}
 use Rattle.sq_transition.specs.WorldValue.{WorldValue}
 use Rattle.sq_transition.specs.Holds.{Holds}
 use Rattle.sq_transition.specs.Headline.{KeepsHeadline}
-use Rattle.sq_text.specs.declared.input_fault.InputFault.TheVariants.{TooLong}
+use Rattle.sq_text.specs.declared.input_fault.InputFault.{InputFault}
+use Rattle.sq_text.specs.declared.input_fault.InputFault.TheVariants.{TooLong, ReadFailed}
 use Rattle.sq_text.specs.declared.fault.LineFault.TheVariants as faults
 use Rattle.sq_text.specs.Steps.{step_of}
 use Rattle.sq_text.specs.Faults.{line_fault_number}
 use Rattle.sq_text.specs.Texts.{answer_line, refused_line}
-use Rattle.sq_text.specs.Pieces.{PieceValue, Line, Rest, Endless, TooMany}
+use Rattle.sq_lines.specs.declared.buffer.TheConstants.{MAX_UNENDED}
+use Rattle.sq_lines.specs.Pieces.{PieceValue, Line, Rest, Failed, Endless, TooMany}
+use Rattle.sq_lines.specs.Coming.{LinesValue, CanCome, CameBefore, IsLong}
+use Rattle.sq_lines.proofs.Lengths.{is_endless}
 use Rattle.sq_text.proofs.Appending.{both}
 use Rattle.sq_world.specs.declared.ending.Ending.{Ending}
 use Rattle.sq_world.specs.declared.ending.Ending.TheVariants.{Done}
@@ -24,6 +28,7 @@ use Rattle.sq_state.specs.Dump.{dump}
 use Rattle.sq_world.specs.Run.{Writes, IsFault}
 use Rattle.sq_world.specs.Script.{LeadsTo, IsAnswered, IsWritten}
 use Rattle.sq_state.proofs.Dumps.{nothing}
+use Rattle.sq_world.proofs.Kept.{kept}
 
 -- the line spells a step, which is answered
 pub stepped : (o : OpeningValue) (t : Trace) (tables : ℕ) (line : List ℕ) (step : Step) (given : Answer) (before now : Option (List ℕ)) (w new : WorldValue) → LeadsTo o t w → o.tables ≡ tables → Ok step ≡ step_of tables line
@@ -37,90 +42,87 @@ stepped o t tables line step given before now w new leads same spelled goes writ
       written = written;
     }
 
--- what was written so far of a script, of which these pieces are left
-pub record Before (o : OpeningValue) (t : Trace) (all left : List PieceValue) (first now : Option (List ℕ)) (w : WorldValue) : Type 0 where
+-- what was written so far of a script whose lines began so, where these are its lines now
+pub record Before (o : OpeningValue) (t : Trace) (begin lines : LinesValue) (first now : Option (List ℕ)) (w : WorldValue) : Type 0 where
   pub so_far : List ℕ
   pub here : Trace
   pub leads : LeadsTo o here w
   pub written : Appends first now so_far
-  pub goes_on : (later : List ℕ) (ending : Ending) → Writes o here left later ending → Writes o t all (so_far ++ later) ending
+  pub goes_on : (left : List PieceValue) (later : List ℕ) (ending : Ending) → CanCome lines left → Writes o here left later ending → (all : List PieceValue) × CanCome begin all × Writes o t all (so_far ++ later) ending
 
-pub begun : (o : OpeningValue) (t : Trace) (all : List PieceValue) (first : Option (List ℕ)) (w : WorldValue) → LeadsTo o t w → Before o t all all first first w
-begun o t all first w leads = record { so_far = []; here = t; leads = leads; written = nothing first; goes_on = λ later ending writes. writes }
+pub begun : (o : OpeningValue) (t : Trace) (begin : LinesValue) (first : Option (List ℕ)) (w : WorldValue) → LeadsTo o t w → Before o t begin begin first first w
+begun o t begin first w leads = record { so_far = []; here = t; leads = leads; written = nothing first; goes_on = λ left later ending can writes. (left, can, writes) }
 
 -- a line more
-pub on_line : (o : OpeningValue) (t : Trace) (all was left : List PieceValue) (line : List ℕ) (first mid now : Option (List ℕ)) (w new : WorldValue) (b : Before o t all was first mid w) → was ≡ Line line ∷ left
-    → IsAnswered o b.here line mid now new → Before o t all left first now new
-on_line o t all was left line first mid now w new b is answered =
+pub on_line : (o : OpeningValue) (t : Trace) (begin was lines : LinesValue) (first mid now : Option (List ℕ)) (w new : WorldValue) (b : Before o t begin was first mid w) → CameBefore was (Line lines.piece) lines
+    → IsAnswered o b.here lines.piece mid now new → Before o t begin lines first now new
+on_line o t begin was lines first mid now w new b came answered =
     record {
       so_far = b.so_far ++ answered.text;
       here = answered.after;
       leads = answered.leads;
       written = both first mid now b.so_far answered.text _ b.written answered.written refl;
-      goes_on = λ later ending writes. subst (λ out. Writes o t all out ending) (sym (append_assoc b.so_far answered.text later))
-          (b.goes_on (answered.text ++ later) ending (subst (λ ps. Writes o b.here ps (answered.text ++ later) ending) (sym is) (answered.after, answered.text, later, answered.answers_line, refl, writes)));
+      goes_on = λ left later ending can writes.
+          let all = b.goes_on (Line lines.piece ∷ left) (answered.text ++ later) ending (came left can) (answered.after, answered.text, later, answered.answers_line, refl, writes) in
+          (all.0, all.1, subst (λ out. Writes o t all.0 out ending) (sym (append_assoc b.so_far answered.text later)) all.2);
     }
 
--- a rest
-pub on_rest : (o : OpeningValue) (t : Trace) (all was left : List PieceValue) (bytes : List ℕ) (number : ℕ) (first mid now : Option (List ℕ)) (w : WorldValue) (b : Before o t all was first mid w) → was ≡ Rest bytes ∷ left
-    → number ≡ line_fault_number faults.NotAStep → Appends mid now (refused_line number) → Before o t all left first now w
-on_rest o t all was left bytes number first mid now w b is says written =
-    record {
-      so_far = b.so_far ++ refused_line (line_fault_number faults.NotAStep);
-      here = b.here;
-      leads = b.leads;
-      written = both first mid now b.so_far (refused_line (line_fault_number faults.NotAStep)) _ b.written (subst (λ n. Appends mid now (refused_line n)) says written) refl;
-      goes_on = λ later ending writes. subst (λ out. Writes o t all out ending) (sym (append_assoc b.so_far (refused_line (line_fault_number faults.NotAStep)) later))
-          (b.goes_on (refused_line (line_fault_number faults.NotAStep) ++ later) ending (subst (λ ps. Writes o b.here ps (refused_line (line_fault_number faults.NotAStep) ++ later) ending) (sym is) (later, refl, writes)));
-    }
+-- more was read, and what was written went out
+pub on_read : (o : OpeningValue) (t : Trace) (begin was lines : LinesValue) (first mid now : Option (List ℕ)) (w : WorldValue) → Before o t begin was first mid w → Keeps mid now → ((ps : List PieceValue) → CanCome lines ps → CanCome was ps) → Before o t begin lines first now w
+on_read o t begin was lines first mid now w b keeps before =
+    record { so_far = b.so_far; here = b.here; leads = b.leads; written = kept first mid now b.so_far b.written keeps; goes_on = λ left later ending can writes. b.goes_on left later ending (before left can) writes }
+
+-- the end of the run, where this comes last
+ended_by : (o : OpeningValue) (t : Trace) (begin was : LinesValue) (left : List PieceValue) (out : List ℕ) (ending : Ending) (first mid now : Option (List ℕ)) (w : WorldValue) (b : Before o t begin was first mid w) → CanCome was left → Writes o b.here left out ending → Appends mid now out → IsWritten o t begin first now ending
+ended_by o t begin was left out ending first mid now w b can writes written =
+    let all = b.goes_on left out ending can writes in
+    record { pieces = all.0; can_come = all.1; out = b.so_far ++ out; writes = all.2; written = both first mid now b.so_far out _ b.written written refl }
+
+abbrev AllBefore : ℕ → LinesValue → LinesValue → Option (List ℕ) → Option (List ℕ) → WorldValue → WorldValue → Type 0
+AllBefore tables begin was first mid start w = (o : OpeningValue) (t : Trace) → LeadsTo o t start → o.tables ≡ tables → Before o t begin was first mid w
+
+abbrev AllWritten : ℕ → LinesValue → Option (List ℕ) → Option (List ℕ) → WorldValue → Ending → Type 0
+AllWritten tables begin first now start ending = (o : OpeningValue) (t : Trace) → LeadsTo o t start → o.tables ≡ tables → IsWritten o t begin first now ending
 
 -- the end of the script
-pub at_end : (o : OpeningValue) (t : Trace) (all was : List PieceValue) (first mid now : Option (List ℕ)) (w : WorldValue) (b : Before o t all was first mid w) → was ≡ []
-    → Appends mid now (dump w) → IsWritten o t all first now Done
-at_end o t all was first mid now w b is written =
-    record {
-      out = b.so_far ++ dump w;
-      writes = b.goes_on (dump w) Done (subst (λ ps. Writes o b.here ps (dump w) Done) (sym is) (record { world = w; holds = b.leads.holds; says = refl }, refl));
-      written = both first mid now b.so_far (dump w) _ b.written written refl;
-    }
+pub at_end : {E : Type 0} (r : Result Ending E) (tables : ℕ) (begin was : LinesValue) (first mid now : Option (List ℕ)) (start w : WorldValue) → AllBefore tables begin was first mid start w → CanCome was []
+    → IfOk r (λ ending. ending ≡ Done) → OnOk r (Appends mid now (dump w)) → IfOk r (AllWritten tables begin first now start)
+at_end (Err e) tables begin was first mid now start w before none is written = tt
+at_end (Ok ending) tables begin was first mid now start w before none is written =
+    λ o t leads same. let b = before o t leads same in ended_by o t begin was [] (dump w) ending first mid now w b none (record { world = w; holds = b.leads.holds; says = refl }, is) written
 
--- a line without end
-pub at_endless : (o : OpeningValue) (t : Trace) (all was left : List PieceValue) (bytes out : List ℕ) (ending : Ending) (first mid now : Option (List ℕ)) (w : WorldValue) (b : Before o t all was first mid w) → was ≡ Endless bytes ∷ left
-    → IsFault TooLong out ending → Appends mid now out → IsWritten o t all first now ending
-at_endless o t all was left bytes out ending first mid now w b is fault written =
-    record {
-      out = b.so_far ++ out;
-      writes = b.goes_on out ending (subst (λ ps. Writes o b.here ps out ending) (sym is) fault);
-      written = both first mid now b.so_far out _ b.written written refl;
-    }
+-- a rest, and then the end of the script
+pub at_rest : {E : Type 0} (r : Result Ending E) (tables : ℕ) (begin was : LinesValue) (bytes : List ℕ) (number : ℕ) (first mid said now : Option (List ℕ)) (start w : WorldValue) → AllBefore tables begin was first mid start w → CanCome was (Rest bytes ∷ [])
+    → number ≡ line_fault_number faults.NotAStep → Appends mid said (refused_line number) → IfOk r (λ ending. ending ≡ Done) → OnOk r (Appends said now (dump w)) → IfOk r (AllWritten tables begin first now start)
+at_rest (Err e) tables begin was bytes number first mid said now start w before rest says told is written = tt
+at_rest (Ok ending) tables begin was bytes number first mid said now start w before rest says told is written =
+    λ o t leads same.
+    let b = before o t leads same in
+    let refused : Appends mid said (refused_line (line_fault_number faults.NotAStep)) = subst (λ n. Appends mid said (refused_line n)) says told in
+    ended_by o t begin was (Rest bytes ∷ []) (refused_line (line_fault_number faults.NotAStep) ++ dump w) ending first mid now w b rest (dump w, refl, (record { world = w; holds = b.leads.holds; says = refl }, is))
+    (both mid said now (refused_line (line_fault_number faults.NotAStep)) (dump w) _ refused written refl)
 
--- too many lines
-pub at_too_many : (o : OpeningValue) (t : Trace) (all was left : List PieceValue) (out : List ℕ) (ending : Ending) (first mid now : Option (List ℕ)) (w : WorldValue) (b : Before o t all was first mid w) → was ≡ TooMany ∷ left
-    → IsFault TooLong out ending → Appends mid now out → IsWritten o t all first now ending
-at_too_many o t all was left out ending first mid now w b is fault written =
-    record {
-      out = b.so_far ++ out;
-      writes = b.goes_on out ending (subst (λ ps. Writes o b.here ps out ending) (sym is) fault);
-      written = both first mid now b.so_far out _ b.written written refl;
-    }
+-- a fault, which ends the run
+at_fault : {E : Type 0} (r : Result Ending E) (tables : ℕ) (begin was : LinesValue) (left : List PieceValue) (fault : InputFault) (first mid now : Option (List ℕ)) (start w : WorldValue) → AllBefore tables begin was first mid start w → CanCome was left
+    → ((o : OpeningValue) (t : Trace) (out : List ℕ) (ending : Ending) → IsFault fault out ending → Writes o t left out ending)
+    → IfOk r (λ ending. (out : List ℕ) × Appends mid now out × IsFault fault out ending) → IfOk r (AllWritten tables begin first now start)
+at_fault (Err e) tables begin was left fault first mid now start w before can writes over = tt
+at_fault (Ok ending) tables begin was left fault first mid now start w before can writes over =
+    λ o t leads same. let b = before o t leads same in ended_by o t begin was left over.0 ending first mid now w b can (writes o b.here over.0 ending over.2) over.1
 
--- the run ends at a line without end
-pub over_endless : {E : Type 0} (r : Result Ending E) (all was left : List PieceValue) (bytes : List ℕ) (tables : ℕ) (first mid now : Option (List ℕ)) (begin w : WorldValue)
-    → ((o : OpeningValue) (t : Trace) → LeadsTo o t begin → o.tables ≡ tables → Before o t all was first mid w) → was ≡ Endless bytes ∷ left
-    → IfOk r (λ ending. (out : List ℕ) × Appends mid now out × IsFault TooLong out ending)
-    → IfOk r (λ ending. (o : OpeningValue) (t : Trace) → LeadsTo o t begin → o.tables ≡ tables → IsWritten o t all first now ending)
-over_endless (Err e) all was left bytes tables first mid now begin w before is over = tt
-over_endless (Ok ending) all was left bytes tables first mid now begin w before is over =
-    λ o t leads same. at_endless o t all was left bytes over.0 ending first mid now w (before o t leads same) is over.2 over.1
+pub at_failed : {E : Type 0} (r : Result Ending E) (tables : ℕ) (begin was : LinesValue) (bytes : List ℕ) (first mid now : Option (List ℕ)) (start w : WorldValue) → AllBefore tables begin was first mid start w → CanCome was (Failed bytes ∷ [])
+    → IfOk r (λ ending. (out : List ℕ) × Appends mid now out × IsFault ReadFailed out ending) → IfOk r (AllWritten tables begin first now start)
+at_failed r tables begin was bytes first mid now start w before can over = at_fault r tables begin was (Failed bytes ∷ []) ReadFailed first mid now start w before can (λ o t out ending is. is) over
 
--- the run ends after too many lines
-pub over_many : {E : Type 0} (r : Result Ending E) (all was left : List PieceValue) (tables : ℕ) (first mid now : Option (List ℕ)) (begin w : WorldValue)
-    → ((o : OpeningValue) (t : Trace) → LeadsTo o t begin → o.tables ≡ tables → Before o t all was first mid w) → was ≡ TooMany ∷ left
-    → IfOk r (λ ending. (out : List ℕ) × Appends mid now out × IsFault TooLong out ending)
-    → IfOk r (λ ending. (o : OpeningValue) (t : Trace) → LeadsTo o t begin → o.tables ≡ tables → IsWritten o t all first now ending)
-over_many (Err e) all was left tables first mid now begin w before is over = tt
-over_many (Ok ending) all was left tables first mid now begin w before is over =
-    λ o t leads same. at_too_many o t all was left over.0 ending first mid now w (before o t leads same) is over.2 over.1
+pub at_too_many : {E : Type 0} (r : Result Ending E) (tables : ℕ) (begin was : LinesValue) (first mid now : Option (List ℕ)) (start w : WorldValue) → AllBefore tables begin was first mid start w → CanCome was (TooMany ∷ [])
+    → IfOk r (λ ending. (out : List ℕ) × Appends mid now out × IsFault TooLong out ending) → IfOk r (AllWritten tables begin first now start)
+at_too_many r tables begin was first mid now start w before can over = at_fault r tables begin was (TooMany ∷ []) TooLong first mid now start w before can (λ o t out ending is. is) over
+
+pub at_long : {E : Type 0} (r : Result Ending E) (tables : ℕ) (begin was : LinesValue) (first mid now : Option (List ℕ)) (start w : WorldValue) → AllBefore tables begin was first mid start w → IsLong MAX_UNENDED was
+    → IfOk r (λ ending. (out : List ℕ) × Appends mid now out × IsFault TooLong out ending) → IfOk r (AllWritten tables begin first now start)
+at_long r tables begin was first mid now start w before long over =
+    let endless = is_endless was long in
+    at_fault r tables begin was (Endless endless.bytes ∷ endless.others) TooLong first mid now start w before endless.can_come (λ o t out ending is. is) over
 
 -- a step was answered
 pub on_step : {T E : Type 0} (r : Result T E) (tables : ℕ) (line : List ℕ) (step : Step) (given : Answer) (before now : Option (List ℕ)) (w new : WorldValue) → Ok step ≡ step_of tables line

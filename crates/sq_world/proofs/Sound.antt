@@ -1,11 +1,12 @@
 -- A world that its history tells is sound.
-use Rattle.std.proofs.Common.{subst, ◌≡◌, ℕ, Bool, true, false, refl, sym, ap, ◌∙◌, arith, length}
-use Rattle.std.specs.Prelude.{◌<◌, ◌≤◌, ◌==◌, ◌&&◌, ◌++◌, slice_get, Option, Some}
+use Rattle.std.proofs.Common.{subst, ◌≡◌, ℕ, true, false, refl, sym, ap, ◌∙◌, arith, length}
+use Rattle.std.specs.Prelude.{◌<◌, ◌≤◌, ◌==◌, ◌&&◌, ◌++◌, slice_get, Some}
 use Rattle.std.proofs.lemmas.Bool.{eq-eqb, eqb-true, and_parts, and_from}
 use Rattle.std.proofs.lemmas.List.Elements.{All-contains}
 use Rattle.std.proofs.lemmas.Option.{slice_get_within, get_or_from_slice_get}
 use Rattle.sq_schema.specs.TxnValue.{TxnValue}
 use Rattle.sq_plan.proofs.Owners.{owner_exists}
+use Rattle.sq_ranges.specs.declared.segment.TheConstants.{SEGMENT_LIMIT}
 use Rattle.sq_ranges.specs.declared.recon.Range.{Range}
 use Rattle.sq_ranges.specs.Moves.{IsMovingRun}
 use Rattle.sq_ranges.specs.ReconValue.{is_link}
@@ -21,7 +22,7 @@ use Rattle.sq_model.specs.Legal.{IsLegal}
 use Rattle.sq_model.proofs.Lists.{any_in, Contains-slice_get, list_any-Contains}
 use Rattle.sq_model.proofs.Keys.{ends_below}
 use Rattle.sq_model.proofs.Waiters.{is_on, waits_for, waits-runner}
-use Rattle.sq_transition.specs.WorldValue.{WorldValue, QueueValue, no_queue, core_at, queue_at, link_value, option_list, range_of}
+use Rattle.sq_transition.specs.WorldValue.{WorldValue, QueueValue, no_queue, core_at, queue_at, link_value, option_list}
 use Rattle.sq_transition.specs.Holds.{Holds}
 use Rattle.sq_transition.proofs.Locations.{runs_at, location_holds, comes_same, runs_same}
 use Rattle.sq_transition.proofs.Loads.{next_note_of}
@@ -97,8 +98,9 @@ module _ (o : OpeningValue) (t : Trace) (w : WorldValue) (is : IsOpening o) (leg
 
   pub sound : IsSound w
   sound = record {
-    prepared = h.leader.prepared.count ∙ ap (λ p. p.parts) (sym h.plans.old);
-    reported = h.leader.reported.count ∙ ap (λ p. p.parts) (sym h.plans.old);
+    some_part = subst (λ p. 1 ≤ p.parts) (sym h.plans.old) is.old_plan.some_part;
+    few_segments = subst (λ r. length r.segments ≤ SEGMENT_LIMIT) (sym h.plans.recon) is.few_segments;
+    leader = h.leader.parts ∙ ap (λ p. p.parts) (sym h.plans.old);
     cores = h.partitions.count ∙ ap (λ p. p.parts) (sym h.plans.old);
     trees = h.segments.count ∙ ap (λ r. length r.segments) (sym h.plans.recon);
     capacity = subst (λ c. c.capacity ≤ MAX_CAPACITY) (sym h.plans.config) is.small_capacity;

@@ -1,6 +1,6 @@
 -- The store of a partition is what its history tells.
-use Rattle.std.proofs.Common.{◌≡◌, ℕ, inl, inr, sym, ap, ◌∙◌, arith, subst, length}
-use Rattle.std.specs.Prelude.{◌<◌, ◌≤◌, ◌⊎◌, slice_get, Option, Some, None}
+use Rattle.std.proofs.Common.{◌≡◌, ℕ, inl, inr, sym, arith, subst}
+use Rattle.std.specs.Prelude.{◌<◌}
 use Rattle.std.specs.Option.{option_map}
 use Rattle.std.specs.FinMap.{get}
 use Rattle.std.proofs.lemmas.Option.{slice_get_cases, get_or_from_slice_get}

@@ -3,3 +3,4 @@ pub mod Reached
 pub mod Input
 pub mod Run
 pub mod Script
+pub mod Listing

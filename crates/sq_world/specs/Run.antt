@@ -1,5 +1,5 @@
 -- A run: what is written for an input.
-use Rattle.std.specs.Prelude.{◌≡◌, ◌⊎◌, ℕ, ◌<◌, ◌≤◌, true, List, [], ◌∷◌, ◌++◌, length, Option, Ok, Err}
+use Rattle.std.specs.Prelude.{◌≡◌, ◌⊎◌, ℕ, true, List, [], ◌∷◌, ◌++◌, Option, Ok, Err}
 use Rattle.std.specs.Io.KnownBytes.{Appends}
 use Rattle.sq_ranges.specs.OpeningValue.{OpeningValue}
 use Rattle.sq_model.specs.declared.step.Step.{Step}
@@ -12,19 +12,18 @@ use Rattle.sq_transition.specs.Holds.{Holds}
 use Rattle.sq_text.specs.declared.fault.LineFault.{LineFault}
 use Rattle.sq_text.specs.declared.fault.LineFault.TheVariants as line_fault
 use Rattle.sq_text.specs.declared.input_fault.InputFault.{InputFault}
-use Rattle.sq_text.specs.declared.input_fault.InputFault.TheVariants.{TooLong, ReadFailed, Memory}
+use Rattle.sq_text.specs.declared.input_fault.InputFault.TheVariants.{TooLong, ReadFailed}
 use Rattle.sq_text.specs.Words.{words_of}
 use Rattle.sq_text.specs.Steps.{step_of, begins_txn}
 use Rattle.sq_text.specs.Faults.{line_fault_number}
 use Rattle.sq_text.specs.InputFaults.{input_fault_number}
 use Rattle.sq_text.specs.Texts.{answer_line, refused_line, fault_line}
-use Rattle.sq_text.specs.Pieces.{PieceValue, Line, Rest, Endless, TooMany, pieces}
+use Rattle.sq_lines.specs.Pieces.{PieceValue, Line, Rest, Failed, Endless, TooMany}
 use Rattle.sq_text.specs.Header.{header_of, Opens}
 use Rattle.sq_world.specs.declared.ending.Ending.{Ending}
 use Rattle.sq_world.specs.declared.ending.Ending.TheVariants.{Done, Fault}
 use Rattle.sq_state.specs.Dump.{dump}
-use Rattle.sq_world.specs.declared.input.TheConstants.{MAX_INPUT}
-use Rattle.sq_world.specs.Input.{IsInput}
+use Rattle.sq_world.specs.Input.{IsGiven}
 
 -- the line spells a step, which is answered by the history
 pub record IsStepLine (o : OpeningValue) (t : Trace) (line : List ℕ) (after : Trace) (text : List ℕ) : Type 0 where
@@ -69,35 +68,32 @@ Writes o t [] out ending = IsDumped o t out × (ending ≡ Done)
 Writes o t (Line line ∷ others) out ending =
     (after : Trace) × (text : List ℕ) × (later : List ℕ) × AnswersLine o t line after text × (out ≡ text ++ later) × Writes o after others later ending
 Writes o t (Rest bytes ∷ others) out ending = (later : List ℕ) × (out ≡ refused_line (line_fault_number line_fault.NotAStep) ++ later) × Writes o t others later ending
+Writes o t (Failed bytes ∷ others) out ending = IsFault ReadFailed out ending
 Writes o t (Endless bytes ∷ others) out ending = IsFault TooLong out ending
 Writes o t (TooMany ∷ others) out ending = IsFault TooLong out ending
 
 -- the header is read to this opening, and then the script is run from it
-pub record IsRunFrom (tables : ℕ) (input : List ℕ) (out : List ℕ) (ending : Ending) : Type 0 where
+pub record IsRunFrom (tables : ℕ) (given : List PieceValue) (out : List ℕ) (ending : Ending) : Type 0 where
   pub opening : OpeningValue
   pub script : List PieceValue
-  pub header : Opens tables (Ok opening) script (header_of (pieces input))
+  pub header : Opens tables (Ok opening) script (header_of given)
   pub is_opening : IsOpening opening
   pub writes : Writes opening [] script out ending
 
 -- the header has a fault, which is its first, or memory ran out
-pub record IsRefused (tables : ℕ) (input : List ℕ) (out : List ℕ) (ending : Ending) : Type 0 where
+pub record IsRefused (tables : ℕ) (given : List PieceValue) (out : List ℕ) (ending : Ending) : Type 0 where
   pub fault : InputFault
   pub left : List PieceValue
-  pub header : Opens tables (Err fault) left (header_of (pieces input))
+  pub header : Opens tables (Err fault) left (header_of given)
   pub wrote : IsFault fault out ending
 
--- what is written for an input, and how the run ends
-abbrev pub IsRun : ℕ → List ℕ → List ℕ → Ending → Type 0
-IsRun tables input out ending =
-    IsFault ReadFailed out ending
-    ⊎ (IsFault Memory out ending
-    ⊎ (((MAX_INPUT < length input) × IsFault TooLong out ending)
-    ⊎ ((length input ≤ MAX_INPUT) × (IsRunFrom tables input out ending ⊎ IsRefused tables input out ending))))
+-- what is written for the pieces of an input, and how the run ends
+abbrev pub IsRun : ℕ → List PieceValue → List ℕ → Ending → Type 0
+IsRun tables given out ending = IsRunFrom tables given out ending ⊎ IsRefused tables given out ending
 
--- the input, which is what a reader gives where that is known, is run, and what is written for it goes to the end of what a writer holds
+-- what a reader gives is run, and what is written for it goes to the end of what a writer holds
 abbrev pub Runs : ℕ → Option (List ℕ) → Option (List ℕ) → Option (List ℕ) → Ending → Type 0
-Runs tables known before now ending = (input : List ℕ) × IsInput known input × (out : List ℕ) × Appends before now out × IsRun tables input out ending
+Runs tables known before now ending = (given : List PieceValue) × IsGiven known given × (out : List ℕ) × Appends before now out × IsRun tables given out ending
 
 -- the exit status of an ending
 abbrev pub exit_status_of : Ending → ℕ

@@ -7,7 +7,8 @@ use Rattle.sq_ranges.specs.Opening.{IsOpening}
 use Rattle.sq_model.specs.Legal.{IsLegal}
 use Rattle.sq_transition.specs.WorldValue.{WorldValue}
 use Rattle.sq_transition.specs.Holds.{Holds}
-use Rattle.sq_text.specs.Pieces.{PieceValue}
+use Rattle.sq_lines.specs.Pieces.{PieceValue}
+use Rattle.sq_lines.specs.Coming.{LinesValue, CanCome}
 use Rattle.sq_world.specs.declared.ending.Ending.{Ending}
 use Rattle.sq_world.specs.Run.{AnswersLine, Writes}
 
@@ -25,8 +26,10 @@ pub record IsAnswered (o : OpeningValue) (t : Trace) (line : List ℕ) (before n
   pub leads : LeadsTo o after w
   pub written : Appends before now text
 
--- what the pieces of a script are answered after this history was written, and so the run ends
-pub record IsWritten (o : OpeningValue) (t : Trace) (pieces : List PieceValue) (before now : Option (List ℕ)) (ending : Ending) : Type 0 where
+-- what the lines of a script are answered after this history was written, and so the run ends
+pub record IsWritten (o : OpeningValue) (t : Trace) (lines : LinesValue) (before now : Option (List ℕ)) (ending : Ending) : Type 0 where
+  pub pieces : List PieceValue
+  pub can_come : CanCome lines pieces
   pub out : List ℕ
   pub writes : Writes o t pieces out ending
   pub written : Appends before now out

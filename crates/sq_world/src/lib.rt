@@ -1,13 +1,26 @@
-//! Worlds, whole runs, and runs of an input from bytes to bytes.
+//! Worlds, whole runs, runs of an input from bytes to bytes, and what moves between two plans.
+//!
+//! What the calls of a [`World`] take and give is named here too, so that a caller needs no other crate.
 #![tactic(auto)]
 
 mod ending;
 mod input;
+mod listing;
 mod script;
 mod whole_run;
 mod world;
 
 pub use ending::{Ending, WriteFault};
-pub use input::{MAX_INPUT, run};
+pub use input::run;
+pub use listing::ranges;
+pub use sq_chunk::{Chunk, Note};
+pub use sq_model::{Answer, Phase, Refusal, Step};
+pub use sq_plan::{PartId, Plan, PlanFault, PlanRange};
+pub use sq_ranges::{Config, GivenRow, Opening, OpeningFault, OpeningParts, RefusedOpening, SegId};
+pub use sq_schema::{
+    Cause, Family, Op, OpAnswer, OpAnswers, Reply, Root, Row, RowKey, Rows, Schema, Txn, TxnFault,
+};
+pub use sq_store::{FamilyStore, SlabStore};
+pub use sq_tree::{Leaf, NodeId, Reading, Status};
 pub use whole_run::run_world;
 pub use world::{NotOpened, World};

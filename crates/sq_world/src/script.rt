@@ -3,37 +3,53 @@ ghost use Rattle.std.specs.Prelude.{◌≡◌, List, ℕ, OnOk, IfOk};
 ghost use Rattle.std.specs.Io.KnownBytes.{Appends};
 ghost use Rattle.sq_ranges.specs.OpeningValue.{OpeningValue};
 ghost use Rattle.sq_model.specs.Trace.{Trace};
+ghost use Rattle.sq_state.specs.Dump.{dump};
 ghost use Rattle.sq_world.specs.Run.{IsFault};
 ghost use Rattle.sq_world.specs.Script.{LeadsTo, IsAnswered, IsWritten};
 
 use crate::ending::Ending;
 use crate::world::World;
+use sq_lines::{LineReader, MAX_UNENDED, Next};
 use sq_schema::Schema;
-use sq_text::{
-    InputFault, LineFault, Piece, Pieces, read_step, write_answer, write_fault, write_refused,
-};
+use sq_text::{InputFault, LineFault, read_step, write_answer, write_fault, write_refused};
 use std::alloc::Global;
 use std::io;
-use std::io::Write;
+use std::io::{Read, Write};
 
-// Writes what the pieces of a script are answered, and then the dump.
-pub(crate) fn run_script<W: Write>(
+// Writes what the lines of a script are answered, and then the dump. What is written goes out before more is read.
+pub(crate) fn run_script<R: Read, W: Write>(
     alloc: Global,
     schema: &Schema,
     world: &mut World,
-    pieces: &mut Pieces<'_>,
+    lines: &mut LineReader<R>,
     writer: &mut W,
 ) -> io::Result<Ending>
-    ensures { IfOk result (λ ending. (o : OpeningValue) (t : Trace) → LeadsTo o t world.old → o.tables ≡ schema.now → IsWritten o t pieces.old (W.contents writer.old) (W.contents writer.new) ending) }
+    ensures { IfOk result (λ ending. (o : OpeningValue) (t : Trace) → LeadsTo o t world.old → o.tables ≡ schema.now → IsWritten o t lines.old (W.contents writer.old) (W.contents writer.new) ending) }
 {
-    while let Some(piece) = pieces.next() {
-        match piece {
-            Piece::Line(line) => write_line(alloc, schema, world, line, writer)?,
-            Piece::Rest(_) => write_refused(writer, LineFault::NotAStep.number())?,
-            Piece::Endless(_) => return end_by(writer, InputFault::TooLong),
-            Piece::TooMany => return end_by(writer, InputFault::TooLong),
+    loop {
+        match lines.next(MAX_UNENDED) {
+            Next::Line => write_line(alloc, schema, world, lines.piece(), writer)?,
+            Next::Unread => {
+                writer.flush()?;
+                lines.read_more();
+            }
+            Next::Rest => {
+                write_refused(writer, LineFault::NotAStep.number())?;
+                return end(world, writer);
+            }
+            Next::End => return end(world, writer),
+            Next::Failed => return end_by(writer, InputFault::ReadFailed),
+            Next::Long => return end_by(writer, InputFault::TooLong),
+            Next::TooMany => return end_by(writer, InputFault::TooLong),
         }
     }
+}
+
+// Writes the dump, which ends the run.
+fn end<W: Write>(world: &World, writer: &mut W) -> io::Result<Ending>
+    ensures done { IfOk result (λ ending. ending ≡ Ending.Done) }
+    ensures dumped { OnOk result (Appends (W.contents writer.old) (W.contents writer.new) (dump world.now)) }
+{
     world.state().write_dump(writer)?;
     Ok(Ending::Done)
 }

@@ -1,6 +1,8 @@
 // Whole runs of a world.
 ghost use Rattle.std.specs.Prelude.{◌≡◌, length, IfOk, IfErr};
-ghost use Rattle.sq_transition.specs.Headline.{KeepsHeadline};
+ghost use Rattle.sq_model.specs.declared.step.Phase.{Phase};
+ghost use Rattle.sq_transition.specs.Leading.{phase_of};
+ghost use Rattle.sq_transition.specs.Headline.{KeepsHeadline, IsAsPlanned};
 ghost use Rattle.sq_world.specs.History.{history_of};
 
 use crate::world::World;
@@ -12,7 +14,7 @@ use std::alloc::Global;
 /// memory for the world or for the room of the answers no step is made, and the opening comes back as it was.
 ///
 /// The steps with their answers are a history whose answers are those that it determines, its moves are in order, and
-/// the world is the one that it leads to.
+/// the world is the one that it leads to. Where the move has ended at last, each root key is at its owner by the new plan.
 pub fn run_world(
     alloc: Global,
     opening: Opening,
@@ -20,6 +22,7 @@ pub fn run_world(
 ) -> Result<(World, Vec<Answer>), Opening>
     ensures each { IfOk result (λ ran. length ran.1.items ≡ length steps.now) }
     ensures ran { IfOk result (λ ran. KeepsHeadline opening (history_of steps.now ran.1.items) ran.0) }
+    ensures finished { IfOk result (λ ran. phase_of ran.0.leader ≡ Phase.Ended → IsAsPlanned opening (history_of steps.now ran.1.items)) }
     ensures back { IfErr result (λ back. back ≡ opening) }
 {
     let Ok(mut answers) = Vec::with_capacity(alloc, steps.len()) else {

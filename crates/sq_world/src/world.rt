@@ -8,7 +8,7 @@ ghost use Rattle.sq_model.specs.Trace.{Trace};
 ghost use Rattle.sq_model.specs.Legal.{IsLegal};
 ghost use Rattle.sq_transition.specs.Transition.{IsTransition};
 ghost use Rattle.sq_transition.specs.Holds.{Holds};
-ghost use Rattle.sq_transition.specs.Headline.{KeepsHeadline};
+ghost use Rattle.sq_transition.specs.Headline.{KeepsHeadline, IsAsPlanned};
 ghost use Rattle.sq_world.specs.History.{IsNotOpened};
 ghost use Rattle.sq_state.specs.Sound.{IsSound};
 
@@ -91,10 +91,12 @@ impl World {
     /// Makes one step, and answers it: by the rules of the move, or that there is no memory, and then nothing changed.
     ///
     /// Whatever the steps before were: if their answers were those that the history determines, and this world is the
-    /// one that they lead to, then so it is with this step. No row is lost, doubled or read stale.
+    /// one that they lead to, then so it is with this step. No row is lost, doubled or read stale. And where this step
+    /// ends the move, each root key is at its owner by the new plan.
     pub fn step(&mut self, step: &Step) -> Answer
         ensures step_result { IsTransition self.old step.now result self.new }
         ensures headline { (o : OpeningValue) (t : Trace) → IsOpening o → IsLegal o t → Holds o t self.old → KeepsHeadline o ((step.now, result) ∷ t) self.new }
+        ensures finished { (o : OpeningValue) (t : Trace) → IsOpening o → IsLegal o t → Holds o t self.old → step.now ≡ Step.Finish → result ≡ Answer.Done → IsAsPlanned o ((step.now, result) ∷ t) }
     {
         self.state.step(step)
     }
@@ -111,13 +113,14 @@ impl World {
 // What is read of it.
 impl World {
     ghost use Rattle.std.specs.Option.{option_copied};
-    ghost use Rattle.sq_model.specs.Leader.{phase as phase_of};
+    ghost use Rattle.sq_model.specs.Leader.{phase as phase_after};
+    ghost use Rattle.sq_transition.specs.Leading.{phase_of};
     ghost use Rattle.sq_state.specs.Readers.{store_at, chunk_at, status_there, IsStoreAfter, IsChunkAfter, status_after};
 
     /// How far the leader is, which is as the history tells.
     pub fn phase(&self) -> Phase
-        ensures phase { result ≡ self.now.phase }
-        ensures by_history { (o : OpeningValue) (t : Trace) → Holds o t self.now → result ≡ phase_of t }
+        ensures phase { result ≡ phase_of self.now.leader }
+        ensures by_history { (o : OpeningValue) (t : Trace) → Holds o t self.now → result ≡ phase_after t }
     {
         self.state.phase()
     }

@@ -1,5 +1,5 @@
 -- What the words of a command line name where `clap` finds no fault in them.
-use Rattle.std.proofs.Common.{◌≡◌, ◌∙◌, ℕ, Bool, true, false, not, ◌&&◌, ◌||◌, if◌then◌else◌, cond, List, [], ◌∷◌, Option, Some, None, refl, sym, ap, subst, codes, bytes_eq, drop, fold, option_map, is_some, true≢false}
+use Rattle.std.proofs.Common.{◌≡◌, ◌⊎◌, inl, inr, ◌∙◌, ℕ, Bool, true, false, not, ◌&&◌, ◌||◌, if◌then◌else◌, cond, List, [], ◌∷◌, Option, Some, None, refl, sym, ap, subst, codes, bytes_eq, drop, fold, option_map, is_some, true≢false}
 use Rattle.std.proofs.lemmas.Slice.Eq.{bytes_eq-Decides}
 use Rattle.std.specs.Bool.{one_answer}
 use Rattle.clap.specs.Walk.{Held, Names, Outcome, Row, Rule, Step, Text, Waiting, Walk, idle, option, positional, next, trailing, subcommand, value, done, waits, plain, refused, after_flag, after_step, finished, settled, arg_by_index, arg_by_long, bundle, long_met, long_or_other, nothing_held, plain_word, short_or_plain, stop_after, subcommand_met, subcommand_or_other, to_positional, walk_from, walk, walked, walked_from, word_met}
@@ -114,32 +114,46 @@ module _ (s : Shape) (names : Names) (enabled : s.disable_help_subcommand ≡ fa
       (step_result w.stopped w word (step_fault s w.position met.0 met.1) refl own (none_before (turn_fault s names w word) after fault))
       (none_after (turn_fault s names w word) after fault)
 
--- ---- the command's own subcommand
+-- ---- the command's own subcommands
 
-found : (own help : Bool) (words : List Text) (x y : Shape) → not help ≡ true
-    → is_some (option_map (λ s. rows_at s words) (cond (own || false) (Some x) (cond (help || false) (Some y) None))) ≡ true
-    → option_map (λ sub. sub.0) (option_map (λ s. rows_at s words) (cond (own || false) (Some x) (cond (help || false) (Some y) None))) ≡ Some x.name
-found true help words x y is_own is_met = refl
-found false true words x y is_own is_met = absurd (true≢false (sym is_own))
-found false false words x y is_own is_met = absurd (true≢false (sym is_met))
+abbrev name_met : Option (Text × List Row) → Option Text
+name_met = option_map (λ sub. sub.0)
+
+-- the name of one of the two
+abbrev IsEither : Text → Text → Option Text → Type 0
+IsEither x y name = (name ≡ Some x) ⊎ (name ≡ Some y)
+
+found : (run ranges help : Bool) (words : List Text) (x y z : Shape) → not help ≡ true
+    → is_some (option_map (λ s. rows_at s words) (cond (run || false) (Some x) (cond (ranges || false) (Some y) (cond (help || false) (Some z) None)))) ≡ true
+    → IsEither x.name y.name (name_met (option_map (λ s. rows_at s words) (cond (run || false) (Some x) (cond (ranges || false) (Some y) (cond (help || false) (Some z) None)))))
+found true ranges help words x y z is_own is_met = inl refl
+found false true help words x y z is_own is_met = inr refl
+found false false true words x y z is_own is_met = absurd (true≢false (sym is_own))
+found false false false words x y z is_own is_met = absurd (true≢false (sym is_met))
 
 abbrev first : List Shape → Shape
 first [] = new_shape []
 first (x ∷ xs) = x
 
+-- the name is that of a subcommand of the command
+abbrev pub IsOwn : Option Text → Type 0
+IsOwn = IsEither (codes "run") (codes "ranges")
+
 names_own : (stop : Option (Text × List Text)) → is_own stop ≡ true → is_some (entered (built squall) stop) ≡ true
-    → option_map (λ sub. sub.0) (entered (built squall) stop) ≡ Some (codes "run")
+    → IsOwn (name_met (entered (built squall) stop))
 names_own None own met = absurd (true≢false (sym met))
 names_own (Some p) own met =
-    found (bytes_eq (codes "run") p.0) (bytes_eq (codes "help") p.0) p.1 (first (built squall).subs) (first (drop 1 (built squall).subs)) own met
+    let subs = (built squall).subs in
+    found (bytes_eq (codes "run") p.0) (bytes_eq (codes "ranges") p.0) (bytes_eq (codes "help") p.0) p.1
+    (first subs) (first (drop 1 subs)) (first (drop 2 subs)) own met
 
 is_required : (has : Bool) (rows : List Row) → check_fault (built squall).top rows has ≡ [] → has ≡ true
 is_required true rows e = refl
 is_required false rows e = cc
 
--- where the words have no fault they name the subcommand `run`
-pub names_run : (words : List Text) → fault_of squall words ≡ [] → option_map (λ sub. sub.0) (subcommand_of squall words) ≡ Some (codes "run")
-names_run words fault =
+-- where the words have no fault they name a subcommand of the command
+names_one : (words : List Text) → fault_of squall words ≡ [] → IsOwn (name_met (subcommand_of squall words))
+names_one words fault =
     let a = built squall in
     let args = drop 1 words in
     let end = (walk a.top.rules (names_of a) nothing_held args).held in
@@ -160,9 +174,6 @@ names_run words fault =
 
 -- ---- what the caller of `clap` reads
 
-abbrev name_met : Option (Text × List Row) → Option Text
-name_met = option_map (λ sub. sub.0)
-
 module _ {Z : Type 0} where
   name_in_rows : (o : Option (Box SubCommand Z)) → option_map (λ b. (out-SubCommand (box_value b)).name.now) o ≡ name_met (subcommand_rows o)
   name_in_rows None = refl
@@ -173,11 +184,11 @@ pub without_fault : (command : Command) (words : List Text) → app_of command �
     → (is_simple_and_free (app_of command) ≡ true → fault_of (app_of command) words ≡ []) → fault_of squall words ≡ []
 without_fault command words is_squall kinds = subst (λ (a : App). fault_of a words ≡ []) is_squall (kinds (ap is_simple_and_free is_squall))
 
--- and has met the subcommand `run`
-pub met_run : (command : Command) (words : List Text) (m : ArgMatches) → app_of command ≡ squall
+-- and has met a subcommand of the command
+pub met_own : (command : Command) (words : List Text) (m : ArgMatches) → app_of command ≡ squall
     → (is_simple_and_free (app_of command) ≡ true → fault_of (app_of command) words ≡ []) → HasMatchesOf (app_of command) words m
-    → subcommand_name_of m ≡ Some (codes "run")
-met_run command words m is_squall kinds matches =
+    → IsOwn (subcommand_name_of m)
+met_own command words m is_squall kinds matches =
     let rows : subcommand_rows_of m ≡ subcommand_of squall words = (matches (ap is_simple is_squall)).1 ∙ ap (λ (a : App). subcommand_of a words) is_squall in
-    let named : name_met (subcommand_of squall words) ≡ Some (codes "run") = names_run words (without_fault command words is_squall kinds) in
-    name_in_rows (out-ArgMatches m).subcommand ∙ (ap name_met rows ∙ named)
+    let same : subcommand_name_of m ≡ name_met (subcommand_of squall words) = name_in_rows (out-ArgMatches m).subcommand ∙ ap name_met rows in
+    subst IsOwn (sym same) (names_one words (without_fault command words is_squall kinds))

@@ -3,14 +3,15 @@
 
 ghost use Rattle.std.specs.Prelude.{◌≡◌, ◌⊎◌, map};
 ghost use Rattle.clap.specs.Words.{fault_of};
-ghost use Rattle.squall.specs.Line.{squall};
+ghost use Rattle.squall.specs.Line.{squall, asked_by};
 ghost use Rattle.squall.specs.Session.{EndsWell};
 
+mod help;
 mod line;
 mod session;
 
 use line::{Line, line_of};
-use session::{print_usage, refuse_for_memory, refuse_words, script};
+use session::{listing, print_usage, refuse_for_memory, refuse_words, script};
 use std::convert::AsStr;
 use std::io::{BufWriter, Read, Write};
 use std::process::ExitCode;
@@ -31,10 +32,11 @@ fn obey<S: AsStr, R: Read, W: Write>(
     writer: &mut W,
 ) -> u8
     ensures status { (result ≡ 0) ⊎ (result ≡ 2) }
-    ensures well { result ≡ 0 → EndsWell (fault_of squall (map S.text words.now)) (R.remaining reader.old) (W.contents writer.old) (W.contents writer.new) }
+    ensures well { result ≡ 0 → EndsWell (asked_by squall (map S.text words.now)) (fault_of squall (map S.text words.now)) (R.remaining reader.old) (W.contents writer.old) (W.contents writer.new) }
 {
     match line_of(rt.alloc(), words) {
         Ok(Line::Run) => script(rt, reader, writer),
+        Ok(Line::Ranges) => listing(rt, reader, writer),
         Err(error) => print_usage(rt, &error),
     }
 }

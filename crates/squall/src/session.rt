@@ -3,12 +3,13 @@ ghost use Rattle.std.specs.Prelude.{◌≡◌, ◌⊎◌};
 ghost use Rattle.clap.specs.Values.{kind_of};
 ghost use Rattle.sq_schema.specs.declared.schema.TheConstants.{MAX_TABLES};
 ghost use Rattle.sq_world.specs.Run.{Runs};
+ghost use Rattle.sq_world.specs.Listing.{Lists};
 ghost use Rattle.squall.specs.Session.{exit_status};
 
 use clap::Error;
 use clap::error::ErrorKind;
 use sq_text::InputFault;
-use sq_world::{Ending, WriteFault, run};
+use sq_world::{Ending, WriteFault, ranges, run};
 use std::fmt::Display;
 use std::io;
 use std::io::{Read, Write};
@@ -27,15 +28,35 @@ pub fn script<R: Read, W: Write>(
     ensures dumped { result ≡ 0 → Runs MAX_TABLES (R.remaining reader.old) (W.contents writer.old) (W.contents writer.new) Ending.Done }
 {
     let ran = run(rt.alloc(), reader, writer);
+    explain_end(rt, ran);
+    exit_status(ran)
+}
+
+/// Writes what moves between the plans in `reader`, and says on standard error what their fault means. Gives the exit
+/// status.
+pub fn listing<R: Read, W: Write>(
+    rt: &(impl Eprint + AllocGlobal),
+    reader: &mut R,
+    writer: &mut W,
+) -> u8
+    ensures status { (result ≡ 0) ⊎ (result ≡ 2) }
+    ensures listed { result ≡ 0 → Lists MAX_TABLES (R.remaining reader.old) (W.contents writer.old) (W.contents writer.new) Ending.Done }
+{
+    let listed = ranges(rt.alloc(), reader, writer);
+    explain_end(rt, listed);
+    exit_status(listed)
+}
+
+// Says on standard error what the fault of a run means, if it has one.
+fn explain_end(rt: &impl Eprint, ran: Result<Ending, WriteFault>) {
     match ran {
         Ok(Ending::Done) => {}
         Ok(Ending::Fault(fault)) => explain(rt, fault.number(), &fault),
         Err(fault) => explain(rt, fault.number(), &fault),
     }
-    exit_status(ran)
 }
 
-/// The exit status after a run: 0 where its world was dumped, and 2 after a fault.
+/// The exit status after a run: 0 where it was done, and 2 after a fault.
 pub fn exit_status(ran: Result<Ending, WriteFault>) -> u8
     ensures { result ≡ exit_status ran }
 {

@@ -25,7 +25,7 @@ impl State {
         requires { IsSound self.now }
         ensures { OnOk result (Appends (W.contents writer.old) (W.contents writer.new) (dump self.now)) }
     {
-        write_end(writer, self.phase)?;
+        write_end(writer, self.phase())?;
         self.write_parts(writer)?;
         self.write_links(writer)
     }

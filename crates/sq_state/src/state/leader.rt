@@ -1,14 +1,22 @@
 // The steps of the leader.
-ghost use Rattle.std.specs.Prelude.{◌≡◌, ◌||◌, not, length, map};
-ghost use Rattle.std.specs.List.{list_all, list_any, range_with_len};
-ghost use Rattle.sq_transition.specs.LeaderResults.{prepare_result, start_result, report_result, finish_result, flag_at, is_segment_into, is_segment_whole, segment_range, started_core};
-ghost use Rattle.sq_state.specs.Results.{answer_of};
+ghost use Rattle.std.specs.Prelude.{◌≡◌, ℕ, ◌<◌, ◌≤◌, [], length, map, slice_index_or};
+ghost use Rattle.sq_leader.specs.Segments.{is_whole};
+ghost use Rattle.sq_leader.specs.declared.leader.Leader.{Leader};
+ghost use Rattle.sq_ranges.specs.declared.segment.TheConstants.{SEGMENT_LIMIT};
+ghost use Rattle.sq_tree.specs.Status.{reading};
+ghost use Rattle.sq_tree.specs.Tree.{status_at};
+ghost use Rattle.sq_model.specs.Answers.{is_complete_reading};
+ghost use Rattle.sq_transition.specs.LeaderResults.{prepare_result, start_result, report_result, finish_result, started_core};
+ghost use Rattle.sq_state.specs.Results.{answer_of, report_refused};
 ghost use Rattle.sq_state.specs.Sound.{IsSound};
 
 use crate::state::State;
 use sq_exec::PartCore;
-use sq_model::{Answer, Phase, Refusal};
+use sq_leader::{Idle, Leader, Report, ReportFault};
+use sq_model::{Answer, Refusal};
 use sq_store::SlabStore;
+use sq_tree::PlainTree;
+use std::mem;
 
 impl State {
     /// Records that a partition is ready, which it may say until the move starts.
@@ -16,11 +24,26 @@ impl State {
         requires { IsSound self.old }
         ensures { (answer_of result, self.new) ≡ prepare_result self.old part }
     {
-        self.check_part(part)?;
-        self.check_not_started()?;
-        self.phase = Phase::Preparing;
-        self.prepared[part as usize] = true;
-        Ok(Answer::Done)
+        match self.take_leader() {
+            Leader::Idle(idle) => match idle.prepare(part) {
+                Ok(preparing) => self.go_on(Leader::Preparing(preparing)),
+                Err(refused) => self.stay(Leader::Idle(refused.leader), Refusal::NoSuchPartition),
+            },
+            Leader::Preparing(preparing) => match preparing.prepare(part) {
+                Ok(preparing) => self.go_on(Leader::Preparing(preparing)),
+                Err(refused) => self.stay(
+                    Leader::Preparing(refused.leader),
+                    Refusal::NoSuchPartition,
+                ),
+            },
+            started => {
+                let refusal = self
+                    .check_part(part)
+                    .err()
+                    .unwrap_or(Refusal::AlreadyMoving);
+                self.stay(started, refusal)
+            }
+        }
     }
 
     /// Starts the move, once every partition has prepared, and tells each partition.
@@ -28,13 +51,17 @@ impl State {
         requires { IsSound self.old }
         ensures { (answer_of result, self.new) ≡ start_result self.old }
     {
-        self.check_not_started()?;
-        if !all_set(&self.prepared) {
-            return Err(Refusal::NotPrepared);
+        match self.take_leader() {
+            Leader::Idle(idle) => self.stay(Leader::Idle(idle), Refusal::NotPrepared),
+            Leader::Preparing(preparing) => match preparing.start() {
+                Ok(moving) => {
+                    start_all(&mut self.cores);
+                    self.go_on(Leader::Moving(moving))
+                }
+                Err(refused) => self.stay(Leader::Preparing(refused.leader), Refusal::NotPrepared),
+            },
+            started => self.stay(started, Refusal::AlreadyMoving),
         }
-        self.phase = Phase::Moving;
-        start_all(&mut self.cores);
-        Ok(Answer::Done)
     }
 
     /// Records that a partition has all of the segments that move into it, once each of them is whole.
@@ -42,13 +69,16 @@ impl State {
         requires { IsSound self.old }
         ensures { (answer_of result, self.new) ≡ report_result self.old part }
     {
-        self.check_moving()?;
-        self.check_part(part)?;
-        if !self.has_all(part) {
-            return Err(Refusal::NotFinished);
+        match self.take_leader() {
+            Leader::Moving(moving) => {
+                let whole = whole_segments(&self.trees);
+                match Report::made(part, &self.old_plan, &self.recon, &whole) {
+                    Ok(report) => self.go_on(Leader::Moving(moving.report(report))),
+                    Err(fault) => self.stay(Leader::Moving(moving), report_refusal(fault)),
+                }
+            }
+            other => self.stay(other, Refusal::NotMoving),
         }
-        self.reported[part as usize] = true;
-        Ok(Answer::Done)
     }
 
     /// Ends the move, once every partition into which a segment moves has reported.
@@ -56,48 +86,40 @@ impl State {
         requires { IsSound self.old }
         ensures { (answer_of result, self.new) ≡ finish_result self.old }
     {
-        self.check_moving()?;
-        if !self.is_reported() {
-            return Err(Refusal::NotFinished);
+        match self.take_leader() {
+            Leader::Moving(moving) => match moving.finish(&self.recon) {
+                Ok(ended) => self.go_on(Leader::Ended(ended)),
+                Err(refused) => self.stay(Leader::Moving(refused.leader), Refusal::NotFinished),
+            },
+            other => self.stay(other, Refusal::NotMoving),
         }
-        self.phase = Phase::Ended;
+    }
+
+    // Takes the leader out for a call; an idle one stands there meanwhile.
+    fn take_leader(&mut self) -> Leader
+        ensures leader { result ≡ self.old.leader }
+        ensures after { self.new ≡ record self.old { leader = Leader.Idle self.old.old.parts } }
+    {
+        let meanwhile = Leader::Idle(Idle::new(&self.old_plan));
+        mem::replace(&mut self.leader, meanwhile)
+    }
+
+    // The leader after a call that went.
+    fn go_on(&mut self, leader: Leader) -> Result<Answer, Refusal>
+        ensures answer { result ≡ Ok Answer.Done }
+        ensures after { self.new ≡ record self.old { leader = leader } }
+    {
+        self.leader = leader;
         Ok(Answer::Done)
     }
 
-    // Whether every segment that moves into a partition is whole.
-    fn has_all(&self, part: u64) -> bool
-        requires { IsSound self.now }
-        ensures { result ≡ list_all (λ seg. not (is_segment_into self.now part seg) || is_segment_whole self.now seg) (segment_range self.now) }
+    // The leader as it was, after a call that was refused.
+    fn stay(&mut self, leader: Leader, refusal: Refusal) -> Result<Answer, Refusal>
+        ensures answer { result ≡ Err refusal }
+        ensures after { self.new ≡ record self.old { leader = leader } }
     {
-        for (seg, range) in self.recon.segments().iter().enumerate() {
-            if u64::from(range.dst.number()) == part && !self.trees[seg].all_complete() {
-                return false;
-            }
-        }
-        true
-    }
-
-    // Whether a segment moves into a partition.
-    fn has_any(&self, part: u64) -> bool
-        ensures { result ≡ list_any (is_segment_into self.now part) (segment_range self.now) }
-    {
-        self.recon
-            .segments()
-            .iter()
-            .any(|range| u64::from(range.dst.number()) == part)
-    }
-
-    // Whether every partition into which a segment moves has reported.
-    fn is_reported(&self) -> bool
-        requires { IsSound self.now }
-        ensures { result ≡ list_all (λ part. flag_at self.now.reported part || not (list_any (is_segment_into self.now part) (segment_range self.now))) (range_with_len 0 self.now.old.parts) }
-    {
-        for part in 0..self.old_plan.parts() {
-            if !self.reported[usize::from(part)] && self.has_any(u64::from(part)) {
-                return false;
-            }
-        }
-        true
+        self.leader = leader;
+        Err(refusal)
     }
 }
 
@@ -110,9 +132,24 @@ fn start_all(cores: &mut [PartCore<SlabStore>])
     }
 }
 
-// Whether all of these are set.
-fn all_set(flags: &[bool]) -> bool
-    ensures { result ≡ list_all (flag_at flags.now) (range_with_len 0 (length flags.now)) }
+// Which segments are whole, by their trees.
+fn whole_segments(trees: &[PlainTree]) -> [bool; 256]
+    requires { length trees.now ≤ SEGMENT_LIMIT }
+    ensures { (seg : ℕ) → seg < length trees.now → is_whole result seg ≡ is_complete_reading (reading (status_at (slice_index_or trees.now seg [])) 1) }
 {
-    flags.iter().all(|flag| *flag)
+    let mut whole = [false; 256];
+    for (seg, tree) in trees.iter().enumerate() {
+        whole[seg] = tree.all_complete();
+    }
+    whole
+}
+
+// Why a report is refused.
+fn report_refusal(fault: ReportFault) -> Refusal
+    ensures { result ≡ report_refused fault }
+{
+    match fault {
+        ReportFault::NoSuchPartition => Refusal::NoSuchPartition,
+        ReportFault::NotFinished => Refusal::NotFinished,
+    }
 }

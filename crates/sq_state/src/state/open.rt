@@ -1,5 +1,5 @@
 // The state that a world opens in.
-ghost use Rattle.std.specs.Prelude.{◌≡◌, ℕ, false, [], map, replicate, IfOk, IfErr, IsTrue};
+ghost use Rattle.std.specs.Prelude.{◌≡◌, ℕ, [], map, IfOk, IfErr, IsTrue};
 ghost use Rattle.std.specs.List.{range_with_len};
 ghost use Rattle.std.specs.FinMap.{empty};
 ghost use Rattle.sq_chunk.specs.ChunkValue.{are_within};
@@ -11,7 +11,7 @@ ghost use Rattle.sq_state.specs.Openings.{opened_families, opened_part, AreNewTr
 use crate::queue::Queue;
 use crate::state::State;
 use sq_exec::PartCore;
-use sq_model::Phase;
+use sq_leader::{Idle, Leader};
 use sq_plan::{PartId, Plan};
 use sq_ranges::{Opening, OpeningParts, Range, Recon};
 use sq_schema::{Family, Table};
@@ -22,8 +22,6 @@ use std::alloc::{AllocError, Global};
 // What a state has beside its opening.
 #[derive(Drop)]
 struct Fresh {
-    prepared: Vec<bool>,
-    reported: Vec<bool>,
     cores: Vec<PartCore<SlabStore>>,
     trees: Vec<PlainTree>,
     queues: Vec<Queue>,
@@ -49,12 +47,11 @@ impl State {
         } = opening.into_parts();
         drop(table);
         let Fresh {
-            prepared,
-            reported,
             cores,
             trees,
             queues,
         } = fresh;
+        let leader = Leader::Idle(Idle::new(&old));
         Ok(State {
             alloc,
             tables: schema.tables(),
@@ -62,9 +59,7 @@ impl State {
             new_plan: new,
             recon,
             config,
-            phase: Phase::Idle,
-            prepared,
-            reported,
+            leader,
             cores,
             trees,
             queues,
@@ -74,15 +69,11 @@ impl State {
 
 // What a state has beside this opening.
 fn fresh_state(alloc: Global, opening: &Opening) -> Result<Fresh, AllocError>
-    ensures flags { IfOk result (λ fresh. (fresh.prepared.items ≡ replicate opening.now.old.parts false) × (fresh.reported.items ≡ replicate opening.now.old.parts false)) }
     ensures cores { IfOk result (λ fresh. map (λ part. part.core) fresh.cores.items ≡ map (opened_part opening.now) (range_with_len 0 opening.now.old.parts)) }
     ensures trees { IfOk result (λ fresh. AreNewTrees opening.now.recon.segments fresh.trees.items) }
     ensures queues { IfOk result (λ fresh. AreNewQueues opening.now.recon.ranges fresh.queues.items) }
 {
-    let count = usize::from(opening.old_plan().parts());
     Ok(Fresh {
-        prepared: vec![in alloc; false; count]?,
-        reported: vec![in alloc; false; count]?,
         cores: partitions(alloc, opening)?,
         trees: trees(alloc, opening.recon().segments())?,
         queues: queues(alloc, opening.recon())?,

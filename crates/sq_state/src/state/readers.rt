@@ -2,12 +2,14 @@
 ghost use Rattle.std.specs.Prelude.{◌≡◌, slice_get};
 ghost use Rattle.std.specs.Option.{option_copied};
 ghost use Rattle.sq_transition.specs.WorldValue.{under_way};
+ghost use Rattle.sq_transition.specs.Leading.{phase_of};
 ghost use Rattle.sq_state.specs.Queue.{link_of};
 ghost use Rattle.sq_state.specs.Readers.{store_at, chunk_at, status_there};
 
 use crate::queue::Queue;
 use crate::state::State;
 use sq_chunk::Chunk;
+use sq_leader::Leader;
 use sq_model::Phase;
 use sq_store::SlabStore;
 use sq_tree::{NodeId, Status};
@@ -15,9 +17,14 @@ use sq_tree::{NodeId, Status};
 impl State {
     /// How far the leader is.
     pub fn phase(&self) -> Phase
-        ensures { result ≡ self.now.phase }
+        ensures { result ≡ phase_of self.now.leader }
     {
-        self.phase
+        match &self.leader {
+            Leader::Idle(_) => Phase::Idle,
+            Leader::Preparing(_) => Phase::Preparing,
+            Leader::Moving(_) => Phase::Moving,
+            Leader::Ended(_) => Phase::Ended,
+        }
     }
 
     /// The families of a partition; `None` where there is no such partition.

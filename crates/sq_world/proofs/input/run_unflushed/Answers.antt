@@ -1,8 +1,12 @@
-use Rattle.sq_world.proofs.Runs.{run_read, run_not_taken}
+use Rattle.std.proofs.Common.{inr, []}
+use Rattle.sq_schema.specs.declared.schema.TheConstants.{MAX_TABLES}
+use Rattle.sq_text.specs.declared.input_fault.InputFault.TheVariants.{Memory}
+use Rattle.sq_world.specs.Run.{IsRun}
+use Rattle.sq_world.proofs.Runs.{run_given, run_nothing}
 use Rattle.sq_world.proofs.input.run_unflushed.Goals as goal
 
 pub returns-in-Ok : goal.returns-in-Ok
-returns-in-Ok g c = run_read c.run_input.result _ c.in-Ok.input.items c.deref.result.now _ _ c.deref.ensures.value c.in-Ok.ensures.input c.in-Ok.ensures.short c.run_input.ensures
+returns-in-Ok g c = run_given (IsRun MAX_TABLES) c.run_lines.result _ _ _ _ c.in-Ok.ensures.held c.in-Ok.ensures.open c.in-Ok.ensures.lines c.in-Ok.ensures.known c.run_lines.ensures
 
 pub returns-in-Err : goal.returns-in-Err
-returns-in-Err g c = run_not_taken c.end_by.result _ _ _ _ c.in-Err.ensures.fault c.end_by.ensures
+returns-in-Err g c = run_nothing (IsRun MAX_TABLES) c.end_by.result _ _ _ (λ given out ending wrote. inr (record { fault = Memory; left = []; header = tt; wrote = wrote })) c.end_by.ensures

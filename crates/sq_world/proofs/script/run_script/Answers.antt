@@ -1,37 +1,44 @@
-use Rattle.std.proofs.Common.{◌≡◌, ◌∷◌, ap, ◌∙◌, subst}
-use Rattle.std.specs.Io.KnownBytes.{Appends}
-use Rattle.sq_text.specs.declared.piece.Piece.{Piece}
-use Rattle.sq_text.specs.Pieces.{Line, Rest, Endless, TooMany, view_of}
-use Rattle.sq_state.specs.Dump.{dump}
-use Rattle.sq_world.proofs.Scripts.{begun, on_line, on_rest, at_end, over_endless, over_many}
+use Rattle.std.proofs.Common.{subst}
+use Rattle.sq_lines.specs.Coming.{CanCome}
+use Rattle.sq_world.specs.Script.{IsAnswered}
+use Rattle.sq_world.proofs.Scripts.{begun, on_line, on_read, at_end, at_rest, at_failed, at_long, at_too_many}
 use Rattle.sq_world.proofs.script.run_script.Goals as goal
 
-pub loop-piece-init : goal.loop-piece-init
-loop-piece-init g c = λ o t leads same. begun o t _ _ _ leads
+pub loop-world-init : goal.loop-world-init
+loop-world-init g c = λ o t leads same. begun o t _ _ _ leads
 
-pub loop-piece-preserved-in-Continue-1 : goal.loop-piece-preserved-in-Continue-1
-loop-piece-preserved-in-Continue-1 g c = λ o t leads same.
-    let before = c.loop-piece.invariant o t leads same in
-    let next : c.loop-piece.pieces ≡ Line c.in-Line.line.now ∷ c.next.new.self = c.in-Some.ensures ∙ ap (λ (p : Piece). view_of p ∷ c.next.new.self) c.in-Line.is in
-    on_line o t _ _ _ c.in-Line.line.now _ _ _ _ _ before next (c.in_ok-write_line-in-Line.ensures o before.here before.leads same)
+pub loop-world-preserved-in-Continue-1 : goal.loop-world-preserved-in-Continue-1
+loop-world-preserved-in-Continue-1 g c = λ o t leads same.
+    let before = c.loop-world.invariant o t leads same in
+    on_line o t c.args.lines.now c.loop-world.lines c.next.new.self (g.W.Write.contents c.args.writer.now) (g.W.Write.contents c.loop-world.writer) (g.W.Write.contents c.write_line.new.writer) c.loop-world.world c.write_line.new.world before c.in-Line.ensures.0
+    (subst (λ line. IsAnswered o before.here line (g.W.Write.contents c.loop-world.writer) (g.W.Write.contents c.write_line.new.writer) c.write_line.new.world) c.piece.ensures (c.in_ok-write_line-in-Line.ensures o before.here before.leads same))
 
-pub loop-piece-preserved : goal.loop-piece-preserved
-loop-piece-preserved g c = λ o t leads same.
-    let before = c.loop-piece.invariant o t leads same in
-    let next : c.loop-piece.pieces ≡ Rest c.in-Rest.field-0.now ∷ c.next.new.self = c.in-Some.ensures ∙ ap (λ (p : Piece). view_of p ∷ c.next.new.self) c.in-Rest.is in
-    on_rest o t _ _ _ c.in-Rest.field-0.now c.number.result _ _ _ _ before next c.number.ensures c.in_ok-write_refused-in-Rest.ensures
+pub loop-world-preserved : goal.loop-world-preserved
+loop-world-preserved g c = λ o t leads same.
+    on_read o t c.args.lines.now c.loop-world.lines c.read_more.new.self (g.W.Write.contents c.args.writer.now) (g.W.Write.contents c.loop-world.writer) (g.W.Write.contents c.flush.new.self) c.loop-world.world (c.loop-world.invariant o t leads same) c.flush.ensures.bytes
+    (λ ps can. subst (λ v. CanCome v ps) c.in-Unread.ensures.1 (c.read_more.ensures.comes ps can))
 
-pub returns-in-Endless : goal.returns-in-Endless
-returns-in-Endless g c =
-    let next : c.loop-piece.pieces ≡ Endless c.in-Endless.field-0.now ∷ c.next.new.self = c.in-Some.ensures ∙ ap (λ (p : Piece). view_of p ∷ c.next.new.self) c.in-Endless.is in
-    over_endless c.end_by.result _ _ _ c.in-Endless.field-0.now _ _ _ _ _ _ c.loop-piece.invariant next c.end_by.ensures
+pub returns-in-Rest : goal.returns-in-Rest
+returns-in-Rest g c =
+    at_rest c.end.result c.args.schema.now c.args.lines.now c.loop-world.lines c.next.new.self.piece c.number.result (g.W.Write.contents c.args.writer.now) (g.W.Write.contents c.loop-world.writer) (g.W.Write.contents c.write_refused.new.writer) (g.W.Write.contents c.end.new.writer) c.args.world.now c.loop-world.world
+    c.loop-world.invariant c.in-Rest.ensures.0 c.number.ensures c.in_ok-write_refused-in-Rest.ensures c.end.ensures.done c.end.ensures.dumped
+
+pub returns-in-End : goal.returns-in-End
+returns-in-End g c =
+    at_end c.end-in-End.result c.args.schema.now c.args.lines.now c.loop-world.lines (g.W.Write.contents c.args.writer.now) (g.W.Write.contents c.loop-world.writer) (g.W.Write.contents c.end-in-End.new.writer) c.args.world.now c.loop-world.world
+    c.loop-world.invariant c.in-End.ensures.0 c.end-in-End.ensures.done c.end-in-End.ensures.dumped
+
+pub returns-in-Failed : goal.returns-in-Failed
+returns-in-Failed g c =
+    at_failed c.end_by.result c.args.schema.now c.args.lines.now c.loop-world.lines c.loop-world.lines.held (g.W.Write.contents c.args.writer.now) (g.W.Write.contents c.loop-world.writer) (g.W.Write.contents c.end_by.new.writer) c.args.world.now c.loop-world.world
+    c.loop-world.invariant c.in-Failed.ensures.0 c.end_by.ensures
+
+pub returns-in-Long : goal.returns-in-Long
+returns-in-Long g c =
+    at_long c.end_by-in-Long.result c.args.schema.now c.args.lines.now c.loop-world.lines (g.W.Write.contents c.args.writer.now) (g.W.Write.contents c.loop-world.writer) (g.W.Write.contents c.end_by-in-Long.new.writer) c.args.world.now c.loop-world.world
+    c.loop-world.invariant c.in-Long.ensures.0 c.end_by-in-Long.ensures
 
 pub returns-in-TooMany : goal.returns-in-TooMany
 returns-in-TooMany g c =
-    let next : c.loop-piece.pieces ≡ TooMany ∷ c.next.new.self = c.in-Some.ensures ∙ ap (λ (p : Piece). view_of p ∷ c.next.new.self) c.in-TooMany.is in
-    over_many c.end_by-in-TooMany.result _ _ _ _ _ _ _ _ _ c.loop-piece.invariant next c.end_by-in-TooMany.ensures
-
-pub returns : goal.returns
-returns g c = λ o t leads same.
-    at_end o t _ _ _ _ _ _ (c.loop-piece.invariant o t leads same) c.in_default.ensures.0
-    (subst (λ w. Appends (g.W.Write.contents c.loop-piece.writer) (g.W.Write.contents c.write_dump.new.writer) (dump w)) c.state.ensures.state c.in_ok-write_dump.ensures)
+    at_too_many c.end_by-in-TooMany.result c.args.schema.now c.args.lines.now c.loop-world.lines (g.W.Write.contents c.args.writer.now) (g.W.Write.contents c.loop-world.writer) (g.W.Write.contents c.end_by-in-TooMany.new.writer) c.args.world.now c.loop-world.world
+    c.loop-world.invariant c.in-TooMany.ensures.0 c.end_by-in-TooMany.ensures

@@ -1,14 +1,17 @@
-use Rattle.std.proofs.Common.{◌≡◌, length}
+use Rattle.std.proofs.Common.{◌≡◌, ◌+◌, ◌*◌}
 use Rattle.sq_ranges.specs.OpeningValue.{OpeningValue}
 use Rattle.sq_model.specs.Trace.{Trace}
+use Rattle.sq_lines.specs.declared.buffer.TheConstants.{MAX_UNENDED}
+use Rattle.sq_lines.specs.Coming.{reads_left}
 use Rattle.sq_world.specs.Script.{LeadsTo}
 use Rattle.sq_world.proofs.Scripts.{Before}
 use Rattle.sq_world.proofs.script.run_script.Given as goal
 
 -- whatever history led to the world, it goes on in what was written so far
-abbrev pub invariant-loop-piece : goal.invariant-loop-piece
-invariant-loop-piece g l =
-    (o : OpeningValue) (t : Trace) → LeadsTo o t l.initial.world → o.tables ≡ l.schema → Before o t l.initial.pieces l.pieces (g.W.Write.contents l.initial.writer) (g.W.Write.contents l.writer) l.world
+abbrev pub invariant-loop-world : goal.invariant-loop-world
+invariant-loop-world g l =
+    (o : OpeningValue) (t : Trace) → LeadsTo o t l.initial.world → o.tables ≡ l.schema → Before o t l.initial.lines l.lines (g.W.Write.contents l.initial.writer) (g.W.Write.contents l.writer) l.world
 
-abbrev pub decreases-loop-piece : goal.decreases-loop-piece
-decreases-loop-piece g l = length l.pieces
+-- a line goes, or a read
+abbrev pub decreases-loop-world : goal.decreases-loop-world
+decreases-loop-world g l = l.lines.lines * (MAX_UNENDED + 2) + reads_left l.lines

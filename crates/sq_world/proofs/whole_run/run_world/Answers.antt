@@ -1,4 +1,6 @@
-use Rattle.std.proofs.Common.{subst, sym, ap, ◌∙◌, arith, ◌+◌, take}
+use Rattle.std.proofs.Common.{◌≡◌, subst, sym, ap, ◌∙◌, arith, ◌+◌, length, take}
+use Rattle.std.proofs.Math.Seq.{take-length}
+use Rattle.sq_model.proofs.Ended.{ended_place}
 use Rattle.sq_transition.specs.Headline.{KeepsHeadline}
 use Rattle.sq_world.specs.History.{history_of}
 use Rattle.sq_world.proofs.Histories.{history_grows}
@@ -20,3 +22,13 @@ loop-step-preserved c =
       room = omega (arith, so_far.room, c.push_reserved.ensures.capacity);
       goes = subst (λ t. KeepsHeadline c.args.opening t c.step.new.self) (sym (ap (history_of (take (at + 1) steps)) c.push_reserved.ensures.items ∙ grown)) went;
     }
+
+pub returns-clause-finished : goal.returns-clause-finished
+returns-clause-finished c = λ ended.
+    let steps = c.args.steps.now in
+    let answers = c.loop-step.answers.items in
+    let at = c.loop-step.step-index in
+    let end : at ≡ length steps = omega (arith, c.loop-step-test.false, c.loop-step.auto.step-index-end) in
+    let all : take at steps ≡ steps = ap (λ n. take n steps) end ∙ take-length steps in
+    let goes = subst (λ made. KeepsHeadline c.args.opening (history_of made answers) c.loop-step.world) all c.loop-step.invariant.goes in
+    ended_place c.args.opening c.in_ok-world.ensures.opened.0 (history_of steps answers) goes.legal (sym goes.holds.leader.phase ∙ ended)

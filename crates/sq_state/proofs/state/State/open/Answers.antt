@@ -1,4 +1,6 @@
-use Rattle.std.proofs.Common.{refl}
+use Rattle.std.proofs.Common.{ap, ◌∙◌}
+use Rattle.sq_plan.specs.PlanValue.{PlanValue}
+use Rattle.sq_leader.specs.declared.leader.Leader.TheVariants.{Idle}
 use Rattle.sq_state.proofs.Opened.{opened_holds}
 use Rattle.sq_state.proofs.state.State.open.Goals as goal
 
@@ -12,9 +14,7 @@ returns-clause-opened c =
       new = moved.new;
       recon = moved.recon;
       config = moved.config;
-      phase = refl;
-      prepared = fresh.flags.0;
-      reported = fresh.flags.1;
+      leader = ap Idle (c.new.ensures ∙ ap (λ (plan : PlanValue). plan.parts) moved.old);
       cores = fresh.cores;
       trees = fresh.trees;
       queues = fresh.queues;

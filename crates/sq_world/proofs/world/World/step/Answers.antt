@@ -1,4 +1,6 @@
 use Rattle.std.proofs.Common.{subst, sym, ◌∷◌}
+use Rattle.sq_model.specs.Leader.{phase}
+use Rattle.sq_model.proofs.Ended.{ended_place}
 use Rattle.sq_transition.specs.Holds.{Holds}
 use Rattle.sq_transition.proofs.Facts.{headline}
 use Rattle.sq_world.proofs.Sound.{sound}
@@ -19,3 +21,8 @@ invariant_of-self c =
 pub returns-clause-headline : goal.returns-clause-headline
 returns-clause-headline c = λ o t is legal holds.
     headline o t c.self.inside.state c.step.new.self c.args.step.now c.step.result is legal (subst (Holds o t) (sym c.self.view_is) holds) c.step.ensures
+
+pub returns-clause-finished : goal.returns-clause-finished
+returns-clause-finished c = λ o t is legal holds asked went.
+    let goes = headline o t c.self.inside.state c.step.new.self c.args.step.now c.step.result is legal (subst (Holds o t) (sym c.self.view_is) holds) c.step.ensures in
+    ended_place o is ((c.args.step.now, c.step.result) ∷ t) goes.legal (λ i. phase ((asked i, went i) ∷ t))

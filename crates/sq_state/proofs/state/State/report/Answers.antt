@@ -1,0 +1,44 @@
+use Rattle.std.proofs.Common.{◌≡◌, ℕ, ◌<◌, Bool, List, [], length, subst, sym, ap, ◌∙◌}
+use Rattle.std.specs.Prelude.{slice_index_or}
+use Rattle.sq_leader.specs.Segments.{is_whole}
+use Rattle.sq_leader.specs.Leader.{made_answer}
+use Rattle.sq_leader.specs.declared.leader.Leader.TheVariants.{Moving}
+use Rattle.sq_tree.specs.declared.status.Status.{Status}
+use Rattle.sq_tree.specs.Status.{reading}
+use Rattle.sq_tree.specs.Tree.{status_at}
+use Rattle.sq_model.specs.Answers.{is_complete_reading}
+use Rattle.sq_model.specs.declared.answer.Answer.TheVariants.{Done, Refused}
+use Rattle.sq_transition.specs.WorldValue.{WorldValue}
+use Rattle.sq_transition.specs.LeaderResults.{is_segment_whole}
+use Rattle.sq_state.specs.Results.{answer_of}
+use Rattle.sq_state.proofs.Leading.{report_went, report_fails}
+use Rattle.sq_state.proofs.state.State.report.Goals as goal
+
+-- what is told of each tree is told of each segment of the world whose trees they are
+told_of : (w : WorldValue) (trees : List (List Status)) (whole : List Bool) → trees ≡ w.trees
+    → ((seg : ℕ) → seg < length trees → is_whole whole seg ≡ is_complete_reading (reading (status_at (slice_index_or trees seg [])) 1))
+    → (seg : ℕ) → seg < length w.trees → is_whole whole seg ≡ is_segment_whole w seg
+told_of w trees whole same told =
+    subst (λ (seen : List (List Status)). (seg : ℕ) → seg < length seen → is_whole whole seg ≡ is_complete_reading (reading (status_at (slice_index_or seen seg [])) 1)) same told
+
+pub returns-in-Ok : goal.returns-in-Ok
+returns-in-Ok c =
+    let w = c.args.self.now in
+    let opened = c.self.view_is ∙ c.take_leader.ensures.after in
+    let told = told_of w c.deref.result.now c.whole_segments-whole.result (c.deref.ensures.value ∙ ap (λ (v : WorldValue). v.trees) opened) c.whole_segments-whole.ensures in
+    (λ i. (answer_of (c.go_on.ensures.answer i), c.go_on.ensures.after i))
+    ∙ ap (λ (v : WorldValue). (Done, record v { leader = Moving c.report.result })) c.take_leader.ensures.after
+    ∙ ap (λ (reported : List Bool). (Done, record w { leader = Moving reported })) c.report.ensures
+    ∙ report_went w c.requires c.whole_segments-whole.result told c.in-Moving.moving c.args.part c.in-Ok.report (sym c.in-Moving.ensures.leader)
+    (sym c.in-Ok.is ∙ c.made.ensures.answer ∙ ap (λ (v : WorldValue). made_answer v.old v.recon c.whole_segments-whole.result c.args.part) opened)
+
+pub returns-in-Err : goal.returns-in-Err
+returns-in-Err c =
+    let w = c.args.self.now in
+    let opened = c.self.view_is ∙ c.take_leader.ensures.after in
+    let told = told_of w c.deref.result.now c.whole_segments-whole.result (c.deref.ensures.value ∙ ap (λ (v : WorldValue). v.trees) opened) c.whole_segments-whole.ensures in
+    (λ i. (answer_of (c.stay.ensures.answer i), c.stay.ensures.after i))
+    ∙ ap (λ (v : WorldValue). (Refused c.report_refusal.result, record v { leader = Moving c.in-Moving.moving })) c.take_leader.ensures.after
+    ∙ ap (λ refusal. (Refused refusal, record w { leader = Moving c.in-Moving.moving })) c.report_refusal.ensures
+    ∙ report_fails w c.requires c.whole_segments-whole.result told c.in-Moving.moving c.args.part c.in-Err.fault (sym c.in-Moving.ensures.leader)
+    (sym c.in-Err.is ∙ c.made.ensures.answer ∙ ap (λ (v : WorldValue). made_answer v.old v.recon c.whole_segments-whole.result c.args.part) opened)

@@ -1,0 +1,133 @@
+// The lines of inputs, from readers that give little at a time, or fail.
+use sq_lines::{LineReader, Next};
+use std::alloc::Global;
+use std::io;
+use std::io::{ErrorKind, Read};
+use std::test::Fail;
+
+// A reader that gives a few bytes a call, and after the last one ends or fails.
+#[derive(Drop)]
+pub struct Drip<'a> {
+    pub rest: &'a [u8],
+    pub most: usize,
+    pub fails: bool,
+}
+
+impl Read for Drip<'_> {
+    fn read(&mut self, buf: &mut [u8]) -> io::Result<usize> {
+        if self.rest.is_empty() && self.fails {
+            return Err(io::Error::from(ErrorKind::BrokenPipe));
+        }
+        let most = buf.len().min(self.most);
+        self.rest.read(&mut buf[..most])
+    }
+}
+
+// How many bytes a reader gives a call.
+pub const SIZES: [usize; 4] = [1, 2, 7, 4096];
+
+// How many bytes of a line are looked at.
+const MOST: usize = 6;
+
+// Inputs, whether a read fails after them, and what comes next of them, with its bytes.
+const INPUTS: [(&[u8], bool, &[(Next, &[u8])]); 8] = [
+    (b"", false, &[(Next::End, b"")]),
+    (b"", true, &[(Next::Failed, b"")]),
+    (
+        b"start\n\npush",
+        false,
+        &[
+            (Next::Line, b"start"),
+            (Next::Line, b""),
+            (Next::Rest, b"push"),
+            (Next::End, b"push"),
+        ],
+    ),
+    (
+        b"start\n\npush",
+        true,
+        &[
+            (Next::Line, b"start"),
+            (Next::Line, b""),
+            (Next::Failed, b""),
+            (Next::Failed, b""),
+        ],
+    ),
+    (
+        b"\r\n\n",
+        false,
+        &[(Next::Line, b"\r"), (Next::Line, b""), (Next::End, b"")],
+    ),
+    (b"finish", false, &[(Next::Rest, b"finish")]),
+    (b"resumed", false, &[(Next::Long, b"")]),
+    (b"resumed", true, &[(Next::Long, b"")]),
+];
+
+// Whether these come of an input, whose reader gives this many bytes a call.
+fn come(
+    alloc: Global,
+    input: &[u8],
+    most: usize,
+    fails: bool,
+    wanted: &[(Next, &[u8])],
+) -> Result<bool, Fail> {
+    let mut lines = LineReader::new(
+        alloc,
+        Drip {
+            rest: input,
+            most,
+            fails,
+        },
+    )?;
+    for (next, piece) in wanted {
+        if lines.next_read(MOST) != *next {
+            return Ok(false);
+        }
+        if (*next == Next::Line || *next == Next::Rest) && lines.piece() != *piece {
+            return Ok(false);
+        }
+    }
+    Ok(true)
+}
+
+#[test]
+fn lines_in_pieces(rt: HostRuntime) -> Result<(), Fail> {
+    for (input, fails, wanted) in INPUTS {
+        for most in SIZES {
+            // A longer line may be given whole where its end came with it.
+            assert!(rt;
+                come(rt.alloc(), input, most, fails, wanted)?,
+                "{input:?} by {most}"
+            );
+        }
+    }
+    Ok(())
+}
+
+// Fronts of the next piece, and whether it begins so.
+const FRONTS: [(&[u8], bool); 6] = [
+    (b"row 5 0 0 10 -\n", true),
+    (b"row ", true),
+    (b"row", false),
+    (b"rows\n", false),
+    (b"\nrow 5", false),
+    (b"", false),
+];
+
+#[test]
+fn fronts_in_pieces(rt: HostRuntime) -> Result<(), Fail> {
+    for (input, begins) in FRONTS {
+        for most in SIZES {
+            for fails in [false, true] {
+                let reader = Drip {
+                    rest: input,
+                    most,
+                    fails,
+                };
+                let mut lines = LineReader::new(rt.alloc(), reader)?;
+                assert!(rt; lines.begins_read(b"row ") == begins, "{input:?} by {most}");
+            }
+        }
+    }
+    Ok(())
+}

@@ -1,0 +1,68 @@
+// What moves between two plans: bytes in, bytes out.
+ghost use Rattle.std.specs.Prelude.{◌≡◌, List, ℕ, IfOk};
+ghost use Rattle.std.specs.Io.KnownBytes.{Appends};
+ghost use Rattle.sq_lines.specs.Pieces.{PieceValue};
+ghost use Rattle.sq_lines.specs.Coming.{CanCome};
+ghost use Rattle.sq_world.specs.Listing.{IsListing, Lists};
+
+use crate::ending::{Ending, WriteFault};
+use crate::script::end_by;
+use sq_lines::LineReader;
+use sq_schema::{MAX_TABLES, Schema};
+use sq_text::{InputFault, read_plans, write_moves};
+use std::alloc::Global;
+use std::io;
+use std::io::{Read, Write};
+
+/// Reads the first three lines of an input, two plans and the sizes, and writes what moves between the plans.
+///
+/// For each reconfiguration range, in key order, it writes a line `range LO HI SRC DST`, and then for each segment a
+/// line `segment SEG LO HI SRC DST`: the root keys from LO up to HI, which are not HI itself, the partition that they
+/// leave and the one that they come to. Where the lines have a fault, as [`read_plans`] has them, or there is no memory,
+/// the fault is all that is written. What follows these lines isn't looked at. An error is a write or a flush that
+/// failed.
+pub fn ranges<R: Read, W: Write>(
+    alloc: Global,
+    reader: &mut R,
+    writer: &mut W,
+) -> Result<Ending, WriteFault>
+    ensures { IfOk result (Lists MAX_TABLES (R.remaining reader.old) (W.contents writer.old) (W.contents writer.new)) }
+{
+    let ending = list_unflushed(alloc, reader, writer)?;
+    writer.flush()?;
+    Ok(ending)
+}
+
+// Tells what moves, and leaves what is written to be flushed.
+fn list_unflushed<R: Read, W: Write>(
+    alloc: Global,
+    reader: &mut R,
+    writer: &mut W,
+) -> io::Result<Ending>
+    ensures { IfOk result (Lists MAX_TABLES (R.remaining reader.old) (W.contents writer.old) (W.contents writer.new)) }
+{
+    match LineReader::new(alloc, reader) {
+        Ok(mut lines) => list_moves(alloc, &mut lines, writer),
+        Err(_) => end_by(writer, InputFault::Memory),
+    }
+}
+
+// Tells what moves between the plans of the next lines.
+fn list_moves<R: Read, W: Write>(
+    alloc: Global,
+    lines: &mut LineReader<R>,
+    writer: &mut W,
+) -> io::Result<Ending>
+    ensures { IfOk result (λ ending. (given : List PieceValue) × CanCome lines.old given × (out : List ℕ) × Appends (W.contents writer.old) (W.contents writer.new) out × IsListing MAX_TABLES given out ending) }
+{
+    let Some(schema) = Schema::new(MAX_TABLES) else {
+        unreachable!()
+    };
+    match read_plans(alloc, schema, lines) {
+        Ok(opening) => {
+            write_moves(writer, opening.recon())?;
+            Ok(Ending::Done)
+        }
+        Err(fault) => end_by(writer, fault),
+    }
+}

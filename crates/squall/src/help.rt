@@ -1,0 +1,82 @@
+// What the help texts say behind usage and options.
+
+/// Behind those of the whole program.
+pub const PROGRAM: &str = "\
+Both commands read standard input and write to standard output. Their own help
+says what, with an example: squall run --help, squall ranges --help.
+
+Exit status:
+  0  done
+  2  a fault, or a command line that is refused
+
+After a fault the last line of standard output is its number, as in 'fault 105',
+and standard error says what it means.";
+
+/// Behind those of `run`.
+pub const RUN: &str =
+    r#"Standard input holds a header and then a script. The header is the plan before
+the move, the plan after it, the sizes (root keys in a leaf, bytes in a chunk,
+chunks on a link), and the rows that there are. A line of the script is a step:
+of a client, a partition, a pull or the leader of the move.
+
+Standard output gets one line for each step, and at the end where all rows are.
+
+Example:
+
+squall run <<'END'
+old {"version":1,"partitions":2,"ranges":[[0,4294967296,0]]}
+new {"version":1,"partitions":2,"ranges":[[0,4,0],[4,8,1],[8,4294967296,0]]}
+config 1 64 1
+row 5 0 0 10 -
+txn 0 1 5 add 0 0 1
+prepare 0
+prepare 1
+start
+claim 0 1 2
+begin 0 1 2
+txn 0 2 5 get 0 0
+END
+
+writes
+
+commit 1 11
+ok
+ok
+ok
+ok
+ok
+moved 2 1
+end moving
+at 0 5 1 0.0=11/-
+
+Exit status:
+  0  done
+  2  a fault, or a command line that is refused"#;
+
+/// Behind those of `ranges`.
+pub const RANGES: &str =
+    r#"Standard input holds three lines: the plan before the move, the plan after it,
+and the sizes, of which the first, the root keys in a leaf, says how ranges are
+cut into segments of 32 leaves. What follows isn't looked at.
+
+Standard output gets a line for each range of root keys that moves, and then one
+for each segment: from which key on, below which key, from which partition, and
+to which.
+
+Example:
+
+squall ranges <<'END'
+old {"version":1,"partitions":2,"ranges":[[0,4294967296,0]]}
+new {"version":1,"partitions":2,"ranges":[[0,40,1],[40,4294967296,0]]}
+config 1 64 1
+END
+
+writes
+
+range 0 40 0 1
+segment 0 0 32 0 1
+segment 1 32 40 0 1
+
+Exit status:
+  0  done
+  2  a fault, or a command line that is refused"#;
