@@ -1,15 +1,21 @@
 #!/usr/bin/env bash
-# Times four scripts: transactions on a database at rest, a whole move, transactions that wait for their rows and are
-# resumed, and a move leaf by leaf. Prints the seconds and the steps a second of each, and fails where an output isn't
-# the wanted one.
+# Times five scripts: transactions on a database at rest, a move in chunks, a move one by one, transactions that wait for
+# their rows and are resumed, and empty lines. Fails where an output isn't the wanted one.
 #
 #   bash bench/run.sh [SEED]      (a seed from 1 to 2147483646; 1 if left out)
+#
+# Prints for each script the seconds, the lines a second, the most memory that the program took, and the multiple of the
+# time that `LC_ALL=C wc -lw` takes on the same input, which is a measure that stands on every machine. Then it prints
+# how the time of a transaction and of a chunk grows with the database: the ratio of the time at 400,000 families to that
+# at 1,000. The time of a script is the difference of an input with it and one without it. Each time is processor time,
+# and the best of several (RUNS=COUNT, 5 if left out).
 #
 # The program is crates/squall/out/squall, which `rt run` leaves in crates/squall; SQUALL=PATH takes another.
 set -eu
 export LC_ALL=C
 top=$(cd "$(dirname "$0")/.." && pwd)
 squall=${SQUALL:-$top/crates/squall/out/squall}
+runs=${RUNS:-5}
 seed=${1:-1}
 if [ ! -x "$squall" ]; then
     echo "bench: no program at $squall: run 'rt run -- run < stdin' in crates/squall first" >&2
@@ -19,23 +25,22 @@ room=$(mktemp -d)
 trap 'rm -r "$room"' EXIT
 
 # What the inputs share. The numbers are those of Park and Miller: the next one is 16807 times the one before, modulo
-# 2^31 - 1. The root keys below `roots` go from partition 0 to partition 1. A transaction has one operation; the
-# function writes its line and gives its answer.
+# 2^31 - 1. The root keys below `moved` go from partition 0 to partition 1.
 shared='
 function random(below) { state = (state * 16807) % 2147483647; return state % below }
 function step(line, answer) {
     print line > input
     print answer > wanted
 }
-function header(roots, sizes,   end) {
+function header(moved, sizes,   end) {
     end = "4294967296"
     print "old {\"version\":1,\"partitions\":2,\"ranges\":[[0," end ",0]]}" > input
-    print "new {\"version\":1,\"partitions\":2,\"ranges\":[[0," roots ",1],[" roots "," end ",0]]}" > input
+    print "new {\"version\":1,\"partitions\":2,\"ranges\":[[0," moved ",1],[" moved "," end ",0]]}" > input
     print "config " sizes > input
 }
 function rows(roots,   root) {
     for (root = 0; root < roots; root++) {
-        number[root] = random(1000000)
+        number[root] = random(most_number)
         print "row " root " 0 0 " number[root] " -" > input
     }
 }
@@ -44,22 +49,32 @@ function start() {
     step("prepare 1", "ok")
     step("start", "ok")
 }
-function transaction(part, id, root,   kind, more) {
+# Adds an operation to `asked`, and its answer to `answers`.
+function operate(root,   kind, more) {
     kind = random(3)
-    logged[root]++
     if (kind == 0) {
-        print "txn " part " " id " " root " get 0 0" > input
-        return "commit " id " " number[root] "/-"
-    }
-    if (kind == 1) {
+        asked = asked " get 0 0"
+        answers = answers " " number[root] "/-"
+    } else if (kind == 1) {
         more = random(1000)
         number[root] += more
-        print "txn " part " " id " " root " add 0 0 " more > input
-        return "commit " id " " number[root]
+        asked = asked " add 0 0 " more
+        answers = answers " " number[root]
+    } else {
+        number[root] = random(1000000)
+        asked = asked " put 0 0 " number[root] " -"
+        answers = answers " ok"
     }
-    number[root] = random(1000000)
-    print "txn " part " " id " " root " put 0 0 " number[root] " -" > input
-    return "commit " id " ok"
+}
+# Writes the line of a transaction and gives its answer. It has one operation, and one in fifty has from 2 to 9.
+function transaction(part, id, root,   count) {
+    logged[root]++
+    asked = ""
+    answers = ""
+    count = random(50) == 0 ? 2 + random(8) : 1
+    while (count-- > 0) operate(root)
+    print "txn " part " " id " " root asked > input
+    return "commit " id answers
 }
 function take(chunk) {
     step("cut 0 1", "cut " chunk)
@@ -72,28 +87,32 @@ function finish() {
     step("finish", "ok")
     print "end ended" > wanted
 }
-function dump(part, roots,   root) {
-    for (root = 0; root < roots; root++)
+function dump(part, from, to,   root) {
+    for (root = from; root < to; root++)
         print "at " part " " root " " (logged[root] + 0) " 0.0=" number[root] "/-" > wanted
 }'
 
-# 100,000 transactions over 10,000 root keys. What they are to answer goes to the second file.
-transactions() {
-    awk -v state="$seed" -v input="$1" -v wanted="$2" "$shared"'
-BEGIN {
-    roots = 10000
-    header(roots, "1024 1048576 8")
-    rows(roots)
-    for (id = 0; id < 100000; id++) print transaction(0, id, random(roots)) > wanted
-    print "end idle" > wanted
-    dump(0, roots)
-}'
+# generate PROGRAM NAME=VALUE..: runs an awk program over these, which writes the files `input` and `wanted`.
+generate() {
+    local program=$1 setting settings=()
+    shift
+    for setting in "$@"; do settings+=(-v "$setting"); done
+    awk -v state="$seed" -v input="$room/input" -v wanted="$room/wanted" -v most_number=1000000 ${settings[@]+"${settings[@]}"} "$shared $program"
 }
 
-# A move of 50,000 root keys, each with a note of 100 bytes, in segments of 8,192 keys. A family has 156 bytes, so a
-# chunk of 1,048,576 holds 6,721 of them.
-move() {
-    awk -v state="$seed" -v input="$1" -v wanted="$2" "$shared"'
+# Transactions over root keys, as many as are named.
+transactions='
+BEGIN {
+    header(roots, "65536 1048576 8")
+    rows(roots)
+    for (id = 0; id < count; id++) print transaction(0, id, random(roots)) > wanted
+    print "end idle" > wanted
+    dump(0, 0, roots)
+}'
+
+# A move of root keys, each with a note of 100 bytes, in segments of 8,192 keys and in chunks of 65,536 bytes. A family
+# has 156 bytes, so a chunk holds 420 of them.
+chunks='
 function hexadecimal(words,   text) {
     text = ""
     while (words-- > 0) text = text sprintf("%08x", random(2147483647))
@@ -102,8 +121,8 @@ function hexadecimal(words,   text) {
 BEGIN {
     roots = 50000
     width = 256
-    most = 6721
-    header(roots, width " 1048576 8")
+    most = 420
+    header(roots, width " 65536 8")
     for (root = 0; root < roots; root++) {
         row[root] = random(1000000)
         note = hexadecimal(25)
@@ -129,12 +148,38 @@ BEGIN {
     finish()
     for (root = 0; root < roots; root++) print "at 1 " root " 0 0.0=" row[root] > wanted
 }'
-}
+
+# A move one by one: each of 224 segments of 224 keys is split into its 32 leaves, these are moved one after another, and
+# a chunk has room for one family.
+one_by_one='
+BEGIN {
+    segments = 224
+    width = 7
+    roots = segments * 32 * width
+    header(roots, width " 64 8")
+    rows(roots)
+    start()
+    chunk = 0
+    low = 0
+    for (segment = 0; segment < segments; segment++) {
+        for (node = 1; node < 32; node++) step("split " segment " " node, "ok")
+        for (node = 32; node < 64; node++) {
+            pull = 2 * chunk
+            step("claim " segment " " node " " pull, "ok")
+            step("begin " segment " " node " " pull, "ok")
+            for (high = low + width; low < high; low++)
+                take(chunk++ " " segment " " node " " low " " (low + 1) " " (low + 1 == high ? "last" : "more") " 1")
+            step("complete " segment " " node " " pull, "ok")
+            step("status " segment " " node, "is complete " pull " complete")
+        }
+    }
+    finish()
+    dump(1, 0, roots)
+}'
 
 # As many transactions as can wait, 1,024 on the 1,024 root keys of a segment, then the move of the segment, and then
 # they are resumed. So it is with each of 32 segments.
-resumes() {
-    awk -v state="$seed" -v input="$1" -v wanted="$2" "$shared"'
+resumes='
 BEGIN {
     segments = 32
     width = 32
@@ -161,61 +206,119 @@ BEGIN {
         step("resume 1", "refused 223")
     }
     finish()
-    dump(1, roots)
+    dump(1, 0, roots)
 }'
-}
 
-# A move in the smallest parts: each of 128 segments of 256 keys is split into its 32 leaves, and these are moved one by
-# one.
-leaves() {
-    awk -v state="$seed" -v input="$1" -v wanted="$2" "$shared"'
+# Empty lines, up to the most lines that an input has.
+empty_lines='
 BEGIN {
-    segments = 128
-    width = 8
-    roots = segments * 32 * width
-    header(roots, width " 1048576 8")
-    rows(roots)
-    start()
-    chunk = 0
-    for (segment = 0; segment < segments; segment++) {
-        for (node = 1; node < 32; node++) step("split " segment " " node, "ok")
-        for (node = 32; node < 64; node++) {
-            claimed = segment " " node " " (2 * chunk)
-            low = chunk * width
-            step("claim " claimed, "ok")
-            step("begin " claimed, "ok")
-            take(chunk++ " " segment " " node " " low " " (low + width) " last " width)
-            step("complete " claimed, "ok")
-            step("status " segment " 1", "is split " (node == 63 ? "complete" : "partial"))
-        }
-    }
-    finish()
-    dump(1, roots)
+    header(8, "1 64 1")
+    for (i = 3; i < 1000000; i++) step("", "refused 230")
+    print "end idle" > wanted
 }'
-}
 
-# Runs one script, compares what it writes with what is wanted, and prints its times.
-measure() {
-    local name=$1 first last status=0
-    "$name" "$room/input" "$room/wanted"
-    first=$(date +%s%N)
+# A database of `roots` families, half of them at each end of the move, of which the `moved` in the middle move in chunks
+# of one family each.
+growing_chunks='
+BEGIN {
+    end = "4294967296"
+    low = (roots - moved) / 2
+    high = low + moved
+    print "old {\"version\":1,\"partitions\":2,\"ranges\":[[0," low ",1],[" low "," end ",0]]}" > input
+    print "new {\"version\":1,\"partitions\":2,\"ranges\":[[0," high ",1],[" high "," end ",0]]}" > input
+    print "config 4096 64 8" > input
+    rows(roots)
+    if (count > 0) {
+        start()
+        step("claim 0 1 0", "ok")
+        step("begin 0 1 0", "ok")
+    }
+    for (at = low; at < low + count; at++)
+        take((at - low) " 0 1 " at " " (at + 1) " " (at + 1 == high ? "last" : "more") " 1")
+    print (count > 0 ? "end moving" : "end idle") > wanted
+    if (count > 0) {
+        dump(0, high, roots)
+        dump(1, 0, high)
+    } else {
+        dump(0, low, roots)
+        dump(1, 0, low)
+    }
+}'
+
+# Runs the program on the input, and compares what it writes with what is wanted.
+check() {
+    local status=0
     "$squall" run < "$room/input" > "$room/output" || status=$?
-    last=$(date +%s%N)
-    if [ "$status" != 0 ] || [ "$(cksum < "$room/output")" != "$(cksum < "$room/wanted")" ]; then
-        echo "bench: $name: status $status, and the output isn't the wanted one; its last lines:" >&2
+    if [ "$status" != 0 ] || ! cmp -s "$room/output" "$room/wanted"; then
+        echo "bench: $1: status $status, and the output isn't the wanted one; its last lines:" >&2
         tail -n 3 "$room/output" | cut -c 1-200 >&2
         exit 1
     fi
-    awk -v name="$name" -v nanoseconds=$((last - first)) '
-$1 == "row" { rows++ }
+}
+
+# best COUNT WORD..: the least processor time in microseconds that a command takes on the input, of COUNT in sequence.
+best() {
+    local count=$1 least= taken run i
+    local TIMEFORMAT='%3U %3S'
+    shift
+    for ((run = 0; run < runs; run++)); do
+        taken=$({ time for ((i = 0; i < count; i++)); do "$@" < "$room/input" > "$room/output"; done; } 2>&1)
+        taken=$(awk -v count="$count" '{ printf "%.0f", ($1 + $2) * 1000000 / count }' <<< "$taken")
+        if [ -z "$least" ] || [ "$taken" -lt "$least" ]; then least=$taken; fi
+    done
+    echo "$least"
+}
+
+# The most memory that the program takes on the input, in kilobytes.
+memory() {
+    /usr/bin/time -f %M -o "$room/memory" "$squall" run < "$room/input" > "$room/output"
+    cat "$room/memory"
+}
+
+# measure NAME PROGRAM NAME=VALUE..: times one script.
+measure() {
+    local name=$1 ours yardstick
+    shift
+    generate "$@"
+    check "$name"
+    ours=$(best 1 "$squall" run)
+    yardstick=$(best 10 wc -lw)
+    awk -v name="$name" -v ours="$ours" -v yardstick="$yardstick" -v memory="$(memory)" '
 END {
-    seconds = nanoseconds / 1000000000
-    steps = NR - 3 - rows
-    printf "%s: %d rows, %d steps, %.3f seconds, %.0f steps a second, %.0f lines a second\n", name, rows, steps, seconds, steps / seconds, NR / seconds
+    seconds = ours / 1000000
+    printf "%s: %d lines, %.3f seconds, %.0f lines a second, %.1f MB, %.2f times wc -lw\n", name, NR, seconds, NR / seconds, memory / 1024, ours / yardstick
 }' "$room/input"
 }
 
-measure transactions
-measure move
-measure resumes
-measure leaves
+# script_time COUNT NAME PROGRAM PARTS NAME=VALUE..: the time in nanoseconds of one part of a script, which is COUNT times
+# run in sequence.
+script_time() {
+    local count=$1 name=$2 program=$3 parts=$4 without with
+    shift 4
+    generate "$program" "$@" count=0
+    check "$name"
+    without=$(best "$count" "$squall" run)
+    generate "$program" "$@" count="$parts"
+    check "$name"
+    with=$(best "$count" "$squall" run)
+    echo $(((with - without) * 1000 / parts))
+}
+
+# grows NAME PROGRAM FEW MANY: how the time of a part of a script grows with the database, where the scripts have so many
+# parts.
+grows() {
+    local name=$1 program=$2 few many
+    few=$(script_time 40 "$name" "$program" "$3" roots=1000 moved=500 most_number=10)
+    many=$(script_time 1 "$name" "$program" "$4" roots=400000 moved=100000 most_number=10)
+    awk -v name="$name" -v few="$few" -v many="$many" 'BEGIN {
+    printf "%s: %d nanoseconds at 1,000 families, %d at 400,000, which is %.2f times\n", name, few, many, many / few
+}'
+}
+
+measure transactions "$transactions" roots=10000 count=100000
+measure "move in chunks" "$chunks"
+measure "move one by one" "$one_by_one"
+measure "resumed transactions" "$resumes"
+measure "empty lines" "$empty_lines"
+grows "a transaction" "$transactions" 2000 250000
+grows "a chunk" "$growing_chunks" 500 100000

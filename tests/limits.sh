@@ -28,11 +28,9 @@ fault() {
     echo 2 > "$1.status"
 }
 
-# An input has at most 16,777,216 bytes: these are the header, 255 long lines and a rest.
-{ header; repeat 256 "$(letters 65535)"; } | head -c 16777216 > longest_input.in
-{ repeat 256 'refused 230'; dump idle; } > longest_input.out
-{ cat longest_input.in; echo; } > input_over_16777216_bytes.in
-fault input_over_16777216_bytes 122
+# An input may have any number of bytes: these are the header, 300 long lines and a rest.
+{ header; repeat 300 "$(letters 65535)"; printf x; } > input_of_20_megabytes.in
+{ repeat 301 'refused 230'; dump idle; } > input_of_20_megabytes.out
 
 # An input has at most 1,000,000 lines, of which these are four for the header.
 { header; repeat 999996 ''; } > most_lines.in
@@ -59,7 +57,9 @@ fault row_of_65536_bytes 121
 { header; printf 'row '; letters 65533; echo; } > row_over_65536_bytes.in
 fault row_over_65536_bytes 231
 { header; printf 'row '; letters 1048573; echo; } > row_without_end.in
-fault row_without_end 122
+fault row_without_end 231
+{ printf 'old '; letters 1048577; } > plan_line_without_end.in
+fault plan_line_without_end 231
 { header; printf rows; letters 65533; echo; } > long_line_like_a_row.in
 { echo 'refused 231'; dump idle; } > long_line_like_a_row.out
 

@@ -1,20 +1,23 @@
 #!/usr/bin/env bash
-# Stored runs: whole inputs of `squall run`, command lines, and all that is written for them.
+# Stored runs: whole inputs of `squall run` and `squall ranges`, command lines, and all that is written for them.
 #
 #   tests/run.sh
 #
-# The program gets each tests/runs/NAME.in, and then the inputs at the limits that tests/limits.sh makes. Its standard
+# `squall run` gets each tests/runs/NAME.in, and then the inputs at the limits that tests/limits.sh makes; `squall ranges`
+# gets each tests/listings/NAME.in. Its standard
 # output must be NAME.out, byte for byte, and its exit status the number in NAME.status, or 0 where there is no such
 # file. A fault must be said on standard error by its text in tests/texts, which has a line for each number; without one
-# standard error is empty. Then come streams that fail, memory that runs out, and command lines, whose texts are in
-# tests/usage.
+# standard error is empty. Then come the examples of examples/ and those of the help texts, streams that fail, memory that
+# runs out, and command lines, whose texts are in tests/usage.
 #
 # The programs are those that `rt ci` leaves in crates/squall/out: squall, as LLVM builds it, and squall.by-rattle, as
 # Rattle's own compiler does. SQUALL=PATH takes another one.
 set -eu
 export LC_ALL=C
 tests=$(cd "$(dirname "$0")" && pwd)
-built=$(dirname "$tests")/crates/squall/out/squall
+top=$(dirname "$tests")
+built=$top/crates/squall/out/squall
+examples=$top/examples
 room=$(mktemp -d)
 trap 'rm -r "$room"' EXIT
 passed=0
@@ -64,10 +67,11 @@ give() {
     timeout 120 "$squall" "$@" < "$input" > "$room/output" 2> "$room/errors" || ended=$?
 }
 
-# compare NAME INPUT WANTED STATUS: runs an input, and compares what is written with a file.
+# compare NAME INPUT WANTED STATUS [WORD]: gives an input to a subcommand, `run` if none is named, and compares what is
+# written with a file.
 compare() {
     local last
-    give "$2" run
+    give "$2" "${5:-run}"
     last=$(tail -n 1 "$3")
     case $last in
         fault*) said "${last#fault }" > "$room/said" ;;
@@ -76,7 +80,7 @@ compare() {
     judge "$1" "$4" "$3" "$room/said"
 }
 
-# compare_all FOLDER: runs each input of a folder.
+# compare_all FOLDER WORD: gives each input of a folder to a subcommand.
 compare_all() {
     local input name status
     for input in "$1"/*.in; do
@@ -84,11 +88,36 @@ compare_all() {
         status=0
         if [ -e "$name.status" ]; then status=$(cat "$name.status"); fi
         if [ -e "$name.out" ]; then
-            compare "$(basename "$name")" "$input" "$name.out" "$status"
+            compare "$2 $(basename "$name")" "$input" "$name.out" "$status" "$2"
         else
             count "$(basename "$name")" "no $name.out"
         fi
     done
+}
+
+# example WORD NAME: the example of this name in examples/, given to this subcommand.
+example() {
+    give "$examples/$2.txt" "$1"
+    judge "examples/$2" 0 "$examples/$2.out" /dev/null
+}
+
+# help_example WORD: the example in a subcommand's help text, pasted: the lines up to END are given, and those behind
+# 'writes' are wanted.
+help_example() {
+    local text=$tests/usage/help_of_$1.out
+    sed -n "/<<'END'\$/,/^END\$/p" "$text" | sed '1d;$d' > "$room/pasted"
+    sed -n '/^writes$/,/^Exit status:$/p' "$text" | sed '1,2d;$d' | sed '$d' > "$room/writes"
+    give "$room/pasted" "$1"
+    judge "example of squall $1 --help" 0 "$room/writes" /dev/null
+}
+
+try_examples() {
+    example run first-move
+    example run reactive-move
+    example run split-node
+    help_example run
+    example ranges ranges
+    help_example ranges
 }
 
 # An input without end ends the run, a directory can't be read, and a full device can't be written.
@@ -97,24 +126,45 @@ try_streams() {
     compare endless_input <(head -n 4 "$tests/runs/moves_four_keys.in"; tr '\0' a < /dev/zero) "$room/wanted" 2
     echo "fault 123" > "$room/wanted"
     compare input_that_is_not_read "$room" "$room/wanted" 2
+    compare plans_that_are_not_read "$room" "$room/wanted" 2 ranges
     ended=0
     timeout 120 "$squall" run < "$tests/runs/moves_four_keys.in" > /dev/full 2> "$room/errors" || ended=$?
     : > "$room/output"
     said 124 > "$room/said"
     judge output_that_is_not_written 2 /dev/null "$room/said"
+    ended=0
+    timeout 120 "$squall" ranges < "$tests/listings/the_last_key.in" > /dev/full 2> "$room/errors" || ended=$?
+    judge listing_that_is_not_written 2 /dev/null "$room/said"
 }
 
-# An input of 16 MiB doesn't fit into a program that has no more than that.
+# An input of 40 MB is run in a program that has no more than 16 MiB: what it takes doesn't grow with the input.
 try_memory() {
-    echo "fault 222" > "$room/wanted"
+    local line='txn 0 1 9 check 0 0 1 get 0 0 get 0 0 get 0 0'
+    { head -n 4 "$tests/runs/moves_four_keys.in"; yes "$line" | head -n 900000; } > "$room/large.in"
+    { yes 'abort 1 0 absent' | head -n 900000; printf '%s\n' 'end idle' 'at 0 5 0 0.0=10/-'; } > "$room/wanted"
     (
         ulimit -v 16384
-        give "$room/limits/longest_input.in" run
+        give "$room/large.in" run
         echo "$ended" > "$room/ended"
     )
     ended=$(cat "$room/ended")
-    said 222 > "$room/said"
-    judge memory_that_runs_out 2 "$room/wanted" "$room/said"
+    judge memory_that_does_not_grow 0 "$room/wanted" /dev/null
+}
+
+# One who types at the program sees each answer before the next line.
+try_session() {
+    local answer why=
+    coproc session { timeout 120 "$squall" run 2> /dev/null; }
+    head -n 4 "$tests/runs/moves_four_keys.in" >&"${session[1]}"
+    for line in 'prepare 0=ok' 'x=refused 230' 'prepare 1=ok' 'start=ok' 'status 0 1=is free not-started'; do
+        echo "${line%%=*}" >&"${session[1]}"
+        answer=
+        read -r -t 60 answer <&"${session[0]}" || true
+        if [ "$answer" != "${line#*=}" ]; then why="$line, and not $answer"; fi
+    done
+    kill "$session_PID" 2> /dev/null || true
+    wait "$session_PID" 2> /dev/null || true
+    count session "$why"
 }
 
 # answer NAME STATUS WORD..: a command line is answered by this status, and by the text of this name in tests/usage: of
@@ -135,20 +185,37 @@ try_command_lines() {
     answer help 0 -h
     answer help 0 help
     answer help_of_run 0 run --help
+    answer help_of_run 0 run -h
+    answer help_of_run 0 help run
+    answer help_of_ranges 0 ranges --help
+    answer help_of_ranges 0 ranges -h
+    answer help_of_ranges 0 help ranges
+    answer version 0 --version
+    answer version 0 -V
     answer no_subcommand 2
     answer unknown_subcommand 2 walk
+    answer similar_subcommand 2 rum
     answer unknown_option 2 --all
     answer word_too_many 2 run fast
+    answer word_too_many_for_ranges 2 ranges fast
+    answer version_of_run 2 run --version
 }
 
 # The tour in the docs is a stored run: the lines of its blocks that begin with '> ' are the input, and the others the
 # output.
 try_tour() {
     local page
-    page=$(dirname "$tests")/docs/tour.md
+    page=$top/docs/tour.md
     sed -n 's/^    > //p' "$page" > "$room/input"
     sed -n '/^    > /d; s/^    //p' "$page" > "$room/output"
     count tour_as_it_is_told "$(difference "$tests/runs/tour.in" "$room/input"; difference "$tests/runs/tour.out" "$room/output")"
+}
+
+# The code in the README is that of the caller of the library: its first block stands there, line by line.
+try_readme() {
+    sed -n '/^```rust$/,/^```$/p' "$top/README.md" | sed '1d;$d' > "$room/told"
+    sed -n "/^use sq_world/,/^}\$/p" "$top/crates/sq_example/src/lib.rt" > "$room/code"
+    count code_as_it_is_told "$(difference "$room/code" "$room/told")"
 }
 
 programs=("${SQUALL:-$built}")
@@ -158,6 +225,7 @@ squall=$room/squall
 mkdir "$room/limits"
 bash "$tests/limits.sh" "$room/limits"
 try_tour
+try_readme
 for program in "${programs[@]}"; do
     if [ ! -x "$program" ]; then
         echo "tests: no program at $program: run 'rt ci' at the top first" >&2
@@ -165,10 +233,13 @@ for program in "${programs[@]}"; do
     fi
     echo "$program"
     cp "$program" "$squall"
-    compare_all "$tests/runs"
-    compare_all "$room/limits"
+    compare_all "$tests/runs" run
+    compare_all "$tests/listings" ranges
+    compare_all "$room/limits" run
+    try_examples
     try_streams
     try_memory
+    try_session
     try_command_lines
 done
 echo "$passed stored runs passed, $failed failed"
