@@ -1,12 +1,19 @@
 -- A chunk without where it lies in memory.
-use Rattle.std.specs.Prelude.{ℕ, Bool, ◌&&◌, nat_lt, nat_le, List}
+use Rattle.std.specs.Prelude.{◌≡◌, ℕ, Bool, true, ◌&&◌, nat_lt, nat_le, List}
 use Rattle.sq_schema.specs.Family.{FamilyValue}
+use Rattle.sq_tree.specs.Node.{is_node}
 use Rattle.sq_chunk.specs.declared.chunk.Note.{Note}
-pub use Rattle.sq_store.specs.InOrder.{are_within}
+pub use Rattle.sq_store.specs.InOrder.{are_within, AreKeyed}
 
 pub record ChunkValue : Type 0 where
   pub note : Note
   pub families : List FamilyValue
+
+-- what holds of every chunk: it is about a node of a tree, and has families of its keys by rising root key, each with a log of its own root key
+pub record IsChunk (chunk : ChunkValue) : Type 0 where
+  pub node : is_node chunk.note.node ≡ true
+  pub rising : are_within chunk.note.lo chunk.note.hi chunk.families ≡ true
+  pub keyed : AreKeyed chunk.families
 
 -- the note covers the key
 abbrev pub covers : Note → ℕ → Bool

@@ -1,6 +1,6 @@
 // Chunks and their notes.
 ghost use Rattle.std.specs.Prelude.{◌≡◌, ◌↔◌, [], length, IsTrue};
-ghost use Rattle.sq_chunk.specs.ChunkValue.{are_within};
+ghost use Rattle.sq_chunk.specs.ChunkValue.{are_within, AreKeyed};
 
 use sq_plan::PartId;
 use sq_ranges::SegId;
@@ -29,8 +29,8 @@ pub struct Note {
     pub last: bool,
 }
 
-/// A note, and the families of the keys that it covers, by root in rising order. To a contract it is a
-/// `ChunkValue`.
+/// A note, and the families of the keys that it covers, by root in rising order, each with a log of its own root key.
+/// To a contract it is a `ChunkValue`.
 #[derive(Debug, Drop)]
 pub struct Chunk {
     note: Note,
@@ -39,19 +39,21 @@ pub struct Chunk {
 
 impl Model for Chunk {
     ghost use Rattle.std.specs.Prelude.{IsTrue};
-    ghost use Rattle.sq_chunk.specs.ChunkValue.{ChunkValue, are_within};
+    ghost use Rattle.sq_chunk.specs.ChunkValue.{ChunkValue, are_within, AreKeyed};
 
     ghost Value = { ChunkValue };
 
     ghost view = { λ c. record { note = c.note; families = c.families.items } };
 
-    ghost invariant = { λ c. IsTrue (are_within c.note.lo c.note.hi c.families.items) };
+    ghost invariant = { λ c. IsTrue (are_within c.note.lo c.note.hi c.families.items) × AreKeyed c.families.items };
 }
 
 impl Chunk {
-    /// A chunk of these families, whose roots rise strictly from the note's `lo` on and stay below its `hi`.
+    /// A chunk of these families, whose roots rise strictly from the note's `lo` on and stay below its `hi`, and whose
+    /// logs are of their own root keys, as those of all families are.
     pub fn new(note: Note, families: Vec<Family>) -> Chunk
-        requires { IsTrue (are_within note.lo note.hi families.items) }
+        requires within { IsTrue (are_within note.lo note.hi families.items) }
+        requires keyed { AreKeyed families.items }
         ensures { result ≡ record { note = note; families = families.items } }
     {
         Chunk { note, families }
@@ -68,6 +70,7 @@ impl Chunk {
     pub fn families(&self) -> &[Family]
         ensures families { result.now ≡ self.now.families }
         ensures within { IsTrue (are_within self.now.note.lo self.now.note.hi self.now.families) }
+        ensures keyed { AreKeyed self.now.families }
     {
         self.families.as_slice()
     }
@@ -91,6 +94,7 @@ impl Chunk {
         ensures note { result.0 ≡ self.note }
         ensures families { result.1.items ≡ self.families }
         ensures within { IsTrue (are_within self.note.lo self.note.hi self.families) }
+        ensures keyed { AreKeyed self.families }
     {
         let Chunk { note, families } = self;
         (note, families)

@@ -84,7 +84,7 @@ module _ (o : OpeningValue) (old new : CoreValue) (views : ℕ → View) (sent r
       let lies : lies_in chunk.note keys ≡ true = ap (lies_in chunk.note) (sym keys_are) ∙ fit.lies in
       let parts = and_parts (nat_le keys.lo chunk.note.lo) (nat_le chunk.note.hi keys.hi) lies in
       record {
-        node = loadable.node;
+        node = loadable.sound.node;
         segment =
             ap (λ found. goes found src old.part) there
             ∙ and_from (fit.segment.src == src) (fit.segment.dst == old.part) (eq-eqb fit.segment.src src fit.starts) (eq-eqb fit.segment.dst old.part fit.ends);
@@ -115,7 +115,7 @@ module _ (o : OpeningValue) (old new : CoreValue) (views : ℕ → View) (sent r
       let found = found_in (λ (other : FamilyValue). other.root == root) chunk.families family carried in
       let same = eqb-true family.root root found.1 in
       let logged : All (λ (txn : TxnValue). txn.root ≡ family.root) family.log =
-      All-contains (λ (other : FamilyValue). All (λ (txn : TxnValue). txn.root ≡ other.root) other.log) chunk.families family loadable.keyed found.0 in
+      All-contains (λ (other : FamilyValue). All (λ (txn : TxnValue). txn.root ≡ other.root) other.log) chunk.families family loadable.sound.keyed found.0 in
       record { same_root = same; own_log = subst (λ k. All (λ (txn : TxnValue). txn.root ≡ k) family.log) same logged }
 
   below : src < length old.inboxes
@@ -140,4 +140,4 @@ module _ (o : OpeningValue) (old new : CoreValue) (views : ℕ → View) (sent r
   pub core_loaded : IsOpening o → NodeHolds o (node_of old views sent received receipts) → NodeHolds o (node_of new views sent received receipts)
   core_loaded is h =
       subst (NodeHolds o) (sym loaded_is)
-      (keeps_loaded o is (node_of old views sent received receipts) h src chunk l.came arrived loadable.rising own (fresh is h))
+      (keeps_loaded o is (node_of old views sent received receipts) h src chunk l.came arrived loadable.sound.rising own (fresh is h))

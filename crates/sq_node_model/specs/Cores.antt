@@ -1,10 +1,9 @@
 -- A partition by itself, as the part of a node that moves what an opening says.
-use Rattle.std.specs.Prelude.{◌≡◌, ℕ, true, ◌==◌, ◌&&◌, if◌then◌else◌, List, [], All, Some, None}
+use Rattle.std.specs.Prelude.{◌≡◌, ℕ, true, ◌==◌, ◌&&◌, if◌then◌else◌, List, [], Some, None}
 use Rattle.std.specs.FinMap.{get}
 use Rattle.sq_schema.specs.Family.{FamilyValue}
-use Rattle.sq_tree.specs.Node.{is_node}
 use Rattle.sq_store.specs.StoreValue.{StoreValue}
-use Rattle.sq_chunk.specs.ChunkValue.{ChunkValue, are_within}
+use Rattle.sq_chunk.specs.ChunkValue.{ChunkValue, IsChunk}
 use Rattle.sq_ranges.specs.OpeningValue.{OpeningValue}
 use Rattle.sq_waiting.specs.Waiting.{Arrival}
 use Rattle.sq_exec.specs.CoreValue.{CoreValue}
@@ -30,16 +29,10 @@ abbrev pub OpensWith : OpeningValue → ℕ → StoreValue → Type 0
 OpensWith o part store =
     (root : ℕ) → get store root ≡ (if is_opened o root && (source o root == part) then Some (opening_family o root) else None)
 
--- the logs are those of the families' own root keys
-abbrev pub AreKeyed : List FamilyValue → Type 0
-AreKeyed families = All (λ family. All (λ txn. txn.root ≡ family.root) family.log) families
-
--- the chunk that came from a partition can be loaded, and is one that a partition can have made
+-- the chunk that came from a partition can be loaded
 pub record IsLoadable (core : CoreValue) (src : ℕ) (chunk : ChunkValue) : Type 0 where
   pub can : can_load core src chunk ≡ true
-  pub node : is_node chunk.note.node ≡ true
-  pub rising : are_within chunk.note.lo chunk.note.hi chunk.families ≡ true
-  pub keyed : AreKeyed chunk.families
+  pub sound : IsChunk chunk
 
 -- the seats, by segment, began and completed nothing, and nothing was sent and received
 pub record IsUnused (views : ℕ → View) (sent received : ℕ → List ChunkValue) : Type 0 where

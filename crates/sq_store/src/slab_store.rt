@@ -5,11 +5,12 @@ ghost use Rattle.sq_schema.specs.Family.{FamilyValue};
 ghost use Rattle.sq_schema.specs.declared.root.TheConstants.{ROOT_END};
 ghost use Rattle.sq_ranges.specs.CutEnd.{end_within};
 ghost use Rattle.sq_store.specs.StoreValue.{StoreValue, store_reply, store_after, stored_size, take_end, families_between, without_between, roots_differ, has_none_of};
-ghost use Rattle.sq_store.specs.InOrder.{HoldsByRoot};
+ghost use Rattle.sq_store.specs.InOrder.{AreKeyed, HoldsByRoot};
 ghost use Rattle.sq_store.specs.Merging.{IsPopped};
 ghost use Rattle.sq_store.specs.First.{FirstIs};
 ghost use Rattle.sq_store.specs.PutIn.{IsPutIn};
 
+use crate::sorted::put_last;
 use crate::store::{Cut, FamilyStore};
 use slab::Slab;
 use sq_ranges::Extent;
@@ -189,9 +190,10 @@ impl SlabStore {
         requires { vec_len taken.old + length (families_between self.old lo hi) ≤ vec_capacity taken.old }
         ensures taken { taken.new.items ≡ taken.old.items ++ families_between self.old lo hi }
         ensures store { self.new ≡ without_between self.old lo hi }
+        ensures keyed { AreKeyed taken.old.items → AreKeyed taken.new.items }
     {
         while let Some(family) = self.take_first(lo, hi) {
-            taken.push_reserved(family);
+            put_last(taken, family);
         }
     }
 

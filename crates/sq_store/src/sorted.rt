@@ -1,6 +1,7 @@
 // Families in a slice, by rising root key.
-ghost use Rattle.std.specs.Prelude.{◌≡◌, ◌+◌, ◌++◌, ◌≤◌, nat_lt, vec_len, slice_range, take, drop, IsTrue, IfOk, OnOk, OnErr, All};
+ghost use Rattle.std.specs.Prelude.{◌≡◌, ◌+◌, ◌++◌, ◌∷◌, ◌<◌, ◌≤◌, [], nat_lt, vec_len, vec_capacity, slice_range, take, drop, IsTrue, IfOk, OnOk, OnErr, All};
 ghost use Rattle.std.specs.List.Sorted.{IsPermutation, IsNonDecreasingBy};
+ghost use Rattle.sq_store.specs.InOrder.{AreKeyed};
 ghost use Rattle.sq_store.specs.Listed.{roots_rise, IsRootPlace, IsStart};
 ghost use Rattle.sq_store.specs.Counting.{chunk_count as count_of, root_after};
 
@@ -64,12 +65,24 @@ pub(crate) fn take_out(
     ensures taken { IfOk result (λ taken. taken.items ≡ slice_range families.old.items first (first + count)) }
     ensures left { OnOk result (families.new.items ≡ take first families.old.items ++ drop (first + count) families.old.items) }
     ensures err { OnErr result (families.new.items ≡ families.old.items) }
+    ensures keyed { IfOk result (λ taken. AreKeyed taken.items) }
 {
     let mut taken = Vec::with_capacity(*families.allocator(), count)?;
     for family in families.drain(first..first + count) {
-        taken.push_reserved(family);
+        put_last(&mut taken, family);
     }
     Ok(taken)
+}
+
+// Puts a family, whose log is of its own root key, after those that are there. There is room for it.
+pub(crate) fn put_last(families: &mut Vec<Family>, family: Family)
+    requires { vec_len families.old < vec_capacity families.old }
+    ensures items { families.new.items ≡ families.old.items ++ family ∷ [] }
+    ensures capacity { vec_capacity families.new ≡ vec_capacity families.old }
+    ensures keyed { AreKeyed families.old.items → AreKeyed families.new.items }
+{
+    let _ = family.log();
+    families.push_reserved(family);
 }
 
 // The least root key of families; where there are none, one that is past all.

@@ -4,7 +4,7 @@ ghost use Rattle.std.specs.Option.{option_copied};
 ghost use Rattle.std.specs.FinMap.{get};
 ghost use Rattle.sq_schema.specs.declared.family.TheConstants.{MAX_LOG};
 ghost use Rattle.sq_store.specs.StoreValue.{StoreValue, log_length, store_reply, store_after, without_between, with_families, roots_differ, has_none_of};
-ghost use Rattle.sq_store.specs.InOrder.{family_from, are_within, HoldsByRoot};
+ghost use Rattle.sq_store.specs.InOrder.{family_from, are_within, AreKeyed, HoldsByRoot};
 
 use sq_ranges::Extent;
 use sq_schema::{ApplyFault, Family, Reply, Root, Txn};
@@ -57,7 +57,8 @@ pub trait FamilyStore {
 
         ensures from { extent.lo ≤ extent.hi → IfOk result (λ cut. extent.lo ≤ cut.end) }
         ensures upto { IfOk result (λ cut. cut.end ≤ extent.hi) }
-        ensures within { IfOk result (λ cut. IsTrue (are_within extent.lo cut.end cut.families.items)) };
+        ensures within { IfOk result (λ cut. IsTrue (are_within extent.lo cut.end cut.families.items)) }
+        ensures keyed { IfOk result (λ cut. AreKeyed cut.families.items) };
 
     /// Puts families in, in any order, whose root keys differ and none of which stands. Where there is no memory for
     /// them all they come back, and the store stays as it was.

@@ -1,5 +1,5 @@
 // Links in one thread and between two.
-ghost use Rattle.std.specs.Prelude.{◌≡◌, IfOk};
+ghost use Rattle.std.specs.Prelude.{◌≡◌, [], IfOk};
 
 use crate::fixtures::note;
 use sq_chunk::{Chunk, Note};
@@ -18,7 +18,8 @@ const TRIES: u64 = 50_000_000;
 
 // The family of this root key, whose root row has seven times the key.
 fn family(alloc: Global, key: u32) -> Result<Family, Fail>
-    ensures { IfOk result (λ family. family.root ≡ key) }
+    ensures root { IfOk result (λ family. family.root ≡ key) }
+    ensures log { IfOk result (λ family. family.log ≡ []) }
 {
     let root = Root::new(u64::from(key)).ok_or("not a root key")?;
     let mut rows = Rows::new(alloc);

@@ -1,9 +1,9 @@
 // The steps of a move at a partition.
-ghost use Rattle.std.specs.Prelude.{◌≡◌, ◌<◌, true, List, if◌then◌else◌, length, map, Some, None, is_some, IfOk, IfErr, IsErr, ◌↔◌, OnOk, OnErr, IsTrue};
+ghost use Rattle.std.specs.Prelude.{◌≡◌, ◌<◌, true, List, if◌then◌else◌, length, map, Some, None, is_some, IfSome, IfOk, IfErr, IsErr, ◌↔◌, OnOk, OnErr, IsTrue};
 ghost use Rattle.std.specs.List.{list_all};
 ghost use Rattle.sq_schema.specs.Family.{FamilyValue};
 ghost use Rattle.sq_store.specs.StoreValue.{has_none_of, with_families};
-ghost use Rattle.sq_chunk.specs.ChunkValue.{ChunkValue};
+ghost use Rattle.sq_chunk.specs.ChunkValue.{ChunkValue, IsChunk};
 ghost use Rattle.sq_exec.specs.Runs.{is_whole};
 ghost use Rattle.sq_exec.specs.OutLink.{cut_fault, may_cut};
 ghost use Rattle.sq_exec.specs.CoreValue.{out_at, with_out, inbox_at, with_inbox, loaded_at};
@@ -115,7 +115,8 @@ impl<S: FamilyStore> PartCore<S> {
 
     /// Whether a chunk came from a partition that can be loaded, but for memory.
     pub fn may_load(&self, src: PartId) -> bool
-        ensures { result ≡ may_load self.now.core src }
+        ensures can { result ≡ may_load self.now.core src }
+        ensures chunk { IsTrue result → IfSome (inbox_at self.now.core src) IsChunk }
     {
         match self.inbox(src) {
             Some(chunk) => self.can_load(src, chunk),
@@ -159,9 +160,11 @@ impl<S: FamilyStore> PartCore<S> {
 
     // Whether a chunk that came from a partition can be loaded.
     fn can_load(&self, src: PartId, chunk: &Chunk) -> bool
-        ensures { result ≡ can_load self.now.core src chunk.now }
+        ensures can { result ≡ can_load self.now.core src chunk.now }
+        ensures chunk { IsTrue result → IsChunk chunk.now }
     {
         let note = chunk.note();
+        let _ = note.node.number();
         let at = note.seg.number() as usize;
         let Some(segment) = self.recon.segments().get(at) else {
             return false;

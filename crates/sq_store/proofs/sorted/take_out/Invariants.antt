@@ -1,5 +1,6 @@
 use Rattle.std.proofs.Common.{◌≡◌, ◌+◌, ◌++◌, ◌≤◌, vec_len, vec_capacity}
 use Rattle.std.specs.Vec.Iter.{drain_items, drain_len, DrainKeeps}
+use Rattle.sq_store.specs.InOrder.{AreKeyed}
 use Rattle.sq_store.proofs.sorted.take_out.Given as goal
 
 -- what was taken goes before what is still to come, for which there is room
@@ -9,3 +10,4 @@ invariant-loop-family l = (goal.iterator-loop-family).can_next l.family-iterator
     × DrainKeeps l.initial.family-iterator l.family-iterator
     × (l.taken.items ++ drain_items l.family-iterator ≡ drain_items l.initial.family-iterator)
     × (vec_len l.taken + drain_len l.family-iterator ≤ vec_capacity l.taken)
+    × AreKeyed l.taken.items
