@@ -12,3 +12,4 @@ pub mod Tables
 pub mod Applied
 pub mod Rooted
 pub mod Replay
+pub mod Equal

@@ -12,3 +12,4 @@ pub mod Runs
 pub mod Standing
 pub mod Table
 pub mod Examples
+pub mod Equal

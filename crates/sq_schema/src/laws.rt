@@ -1,10 +1,14 @@
 //! What the definitions come to. The functions do nothing: each states a law, which the checker proves.
-ghost use Rattle.std.specs.Prelude.{◌≡◌, ℕ, List, [], ◌∷◌, ◌++◌, pos, Some, None};
+ghost use Rattle.std.specs.Prelude.{◌≡◌, ◌↔◌, ℕ, List, IsTrue, [], ◌∷◌, ◌++◌, pos, Some, None};
 ghost use Rattle.sq_schema.specs.declared.txn.OpAnswer.TheVariants.{Found, Number, Done};
 ghost use Rattle.sq_schema.specs.declared.txn.Cause.TheVariants.{Absent, Small, Range, NoRoot, Children};
 ghost use Rattle.sq_schema.specs.declared.txn.Reply.TheVariants.{Committed, Aborted};
+ghost use Rattle.sq_schema.specs.declared.txn.Reply.{Reply};
+ghost use Rattle.sq_schema.specs.Equal.{rows_eq};
+ghost use Rattle.sq_schema.specs.Equal.Txns.{txn_eq};
+ghost use Rattle.sq_schema.specs.Equal.Replies.{reply_eq};
 ghost use Rattle.sq_schema.specs.TxnValue.{TxnValue};
-ghost use Rattle.sq_schema.specs.Effect.{RowTable, root_key, reply, effect, replay, replay_rows, only};
+ghost use Rattle.sq_schema.specs.Effect.{RowList, RowTable, root_key, reply, effect, replay, replay_rows, only};
 ghost use Rattle.sq_schema.specs.Examples.{ten, plain, hi, key, adds_largest, deletes_parent, puts_child, checks, deletes_absent, puts_and_adds, adds_one, gets_and_deletes, gets};
 
 /// Replies of transactions on a root row of 10 and on no rows, each worked out by hand.
@@ -26,4 +30,11 @@ pub fn worked_replies()
 /// What a table has of one root key after transactions is the replay of that root key's own on its rows.
 pub fn replays_by_root()
     ensures { (table : RowTable) (txns : List TxnValue) (root : ℕ) → replay table txns root ≡ replay_rows (table root) (only root txns) }
+{}
+
+/// Rows, transactions and replies are equal exactly if they are one value.
+pub fn equal_values_are_one()
+    ensures rows { (rows others : RowList) → IsTrue (rows_eq rows others) ↔ (rows ≡ others) }
+    ensures txns { (txn other : TxnValue) → IsTrue (txn_eq txn other) ↔ (txn ≡ other) }
+    ensures replies { (reply other : Reply) → IsTrue (reply_eq reply other) ↔ (reply ≡ other) }
 {}

@@ -75,6 +75,27 @@ impl Row {
     }
 }
 
+impl PartialEq for Row {
+    ghost use Rattle.std.specs.Cmp.Rules.{comparing};
+    ghost use Rattle.std.proofs.Common.{rules};
+    ghost use Rattle.sq_schema.specs.Equal.{row_eq};
+
+    ghost eq = { row_eq };
+
+    ghost laws = { Prim.search (comparing, rules) };
+
+    fn eq(&self, other: &Row) -> bool {
+        self.number == other.number && self.note == other.note
+    }
+}
+
+impl Eq for Row {
+    ghost use Rattle.std.specs.Cmp.Rules.{comparing};
+    ghost use Rattle.std.proofs.Common.{rules};
+
+    ghost laws = { Prim.search (comparing, rules) };
+}
+
 impl Clone for Row {
     ghost is_clone = { λ row copy. copy ≡ row };
 

@@ -1,19 +1,19 @@
 // The rows of one root key.
-ghost use Rattle.std.specs.Prelude.{◌≡◌, ◌+◌, ◌*◌, ◌^◌, ◌<◌, ◌≤◌, ◌==◌, true, [], ◌∷◌, length, vec_len, vec_capacity, OnOk, OnErr, IfErr, IfSome};
+ghost use Rattle.std.specs.Prelude.{◌≡◌, ◌+◌, ◌*◌, ◌^◌, ◌<◌, ◌≤◌, ◌==◌, true, [], ◌∷◌, length, vec_len, vec_capacity, OnOk, OnErr, IfOk, IfErr, IfSome};
 ghost use Rattle.std.specs.Option.{option_copied, option_map_or};
 ghost use Rattle.std.specs.List.{AllPass};
 ghost use Rattle.std.specs.FinMap.Entries.{is_sorted};
 ghost use Rattle.sq_schema.specs.declared.row.RowKey.{RowKey};
 ghost use Rattle.sq_schema.specs.declared.schema.TheConstants.{MAX_NOTE};
 ghost use Rattle.sq_schema.specs.Keys.{key_cmp};
-ghost use Rattle.sq_schema.specs.Effect.{RowList, row_at, with_row, effect};
+ghost use Rattle.sq_schema.specs.Effect.{RowList, row_at, with_row, effect, reply};
 ghost use Rattle.sq_schema.specs.Family.{row_size, rows_size};
 ghost use Rattle.sq_schema.specs.Rows.{IsRowList, IsRowPlace};
 ghost use Rattle.sq_schema.specs.Writes.{is_write, with_write, with_writes};
 
 use crate::pending::{RunOutcome, run};
 use crate::row::{Row, RowKey};
-use crate::txn::Txn;
+use crate::txn::{Reply, Txn};
 use std::alloc::{AllocError, AllocFailed, Global};
 use std::marker::Model;
 
@@ -114,15 +114,32 @@ impl Rows {
         rows.remove(0).1
     }
 
+    /// Runs a transaction on the rows, and answers it. Where it aborts, and where there is no memory, they stay.
+    pub fn apply(&mut self, alloc: Global, txn: &Txn) -> Result<Reply, AllocError>
+        ensures reply { IfOk result (λ r. r ≡ reply self.old txn.now) }
+        ensures rows { OnOk result (self.new ≡ effect self.old txn.now) }
+        ensures err { OnErr result (self.new ≡ self.old) }
+    {
+        match run(alloc, self, txn.ops())? {
+            RunOutcome::Aborted { at, cause } => Ok(Reply::Aborted { at, cause }),
+            RunOutcome::Committed {
+                answers,
+                writes,
+                size,
+            } => {
+                self.write_all(writes, size)?;
+                Ok(Reply::Committed(answers))
+            }
+        }
+    }
+
     // Runs a transaction on the rows. Where there is no memory they stay.
     pub(crate) fn run(&mut self, alloc: Global, txn: &Txn) -> Result<(), AllocError>
         ensures ok { OnOk result (self.new ≡ effect self.old txn.now) }
         ensures err { OnErr result (self.new ≡ self.old) }
     {
-        match run(alloc, self, txn.ops())? {
-            RunOutcome::Aborted { .. } => Ok(()),
-            RunOutcome::Committed { writes, size, .. } => self.write_all(writes, size),
-        }
+        self.apply(alloc, txn)?;
+        Ok(())
     }
 
     // Makes these writes in their order, or none where there is no memory. The size is that of the rows afterwards.
@@ -143,6 +160,31 @@ impl Rows {
         self.size = size;
         Ok(())
     }
+}
+
+impl PartialEq for Rows {
+    ghost use Rattle.std.specs.Cmp.{and_per, on_per};
+    ghost use Rattle.std.specs.Cmp.Lexicographic.{lists_per};
+    ghost use Rattle.sq_schema.specs.contracts.row.RowKeyPartialEq.TheImpl.Laws as key;
+    ghost use Rattle.sq_schema.specs.contracts.row.RowPartialEq.TheImpl.Laws as row;
+    ghost use Rattle.sq_schema.specs.Equal.{rows_eq};
+
+    ghost eq = { rows_eq };
+
+    ghost laws = { lists_per (and_per (on_per (λ entry. entry.0) key.laws-law) (on_per (λ entry. entry.1) row.laws-law)) };
+
+    fn eq(&self, other: &Rows) -> bool {
+        self.rows == other.rows
+    }
+}
+
+impl Eq for Rows {
+    ghost use Rattle.std.specs.Cmp.{and_equiv, on_equiv};
+    ghost use Rattle.std.specs.Cmp.Lexicographic.{lists_equiv};
+    ghost use Rattle.sq_schema.specs.contracts.row.RowKeyEq.TheImpl.Laws as key;
+    ghost use Rattle.sq_schema.specs.contracts.row.RowEq.TheImpl.Laws as row;
+
+    ghost laws = { lists_equiv (and_equiv (on_equiv (λ entry. entry.0) key.laws-law) (on_equiv (λ entry. entry.1) row.laws-law)) };
 }
 
 impl Clone for Rows {

@@ -15,7 +15,7 @@ use std::marker::Model;
 pub const MAX_OPS: usize = 64;
 
 /// One operation of a transaction, on a row of its root key.
-#[derive(Clone, Debug, Drop)]
+#[derive(Clone, Debug, PartialEq, Eq, Drop)]
 pub enum Op {
     /// Answers the row, or that there is none.
     Get(RowKey),
@@ -47,7 +47,7 @@ impl Op {
 }
 
 /// What an operation answers.
-#[derive(Clone, Debug, Drop)]
+#[derive(Clone, Debug, PartialEq, Eq, Drop)]
 pub enum OpAnswer {
     /// The row that was asked for, or none.
     Found(Option<Row>),
@@ -107,6 +107,27 @@ impl OpAnswers {
     }
 }
 
+impl PartialEq for OpAnswers {
+    ghost use Rattle.std.specs.Cmp.Lexicographic.{lists_per};
+    ghost use Rattle.sq_schema.specs.contracts.txn.OpAnswerPartialEq.TheImpl.Laws as answer;
+    ghost use Rattle.sq_schema.specs.Equal.Txns.{answers_eq};
+
+    ghost eq = { answers_eq };
+
+    ghost laws = { lists_per answer.laws-law };
+
+    fn eq(&self, other: &OpAnswers) -> bool {
+        self.answers == other.answers
+    }
+}
+
+impl Eq for OpAnswers {
+    ghost use Rattle.std.specs.Cmp.Lexicographic.{lists_equiv};
+    ghost use Rattle.sq_schema.specs.contracts.txn.OpAnswerEq.TheImpl.Laws as answer;
+
+    ghost laws = { lists_equiv answer.laws-law };
+}
+
 impl Clone for OpAnswers {
     ghost is_clone = { λ answers copy. copy ≡ answers };
 
@@ -118,7 +139,7 @@ impl Clone for OpAnswers {
 }
 
 /// What a transaction is answered.
-#[derive(Clone, Debug, Drop)]
+#[derive(Clone, Debug, PartialEq, Eq, Drop)]
 pub enum Reply {
     /// It committed, with these answers.
     Committed(OpAnswers),
@@ -208,6 +229,29 @@ impl Txn {
     {
         self.ops.as_slice()
     }
+}
+
+impl PartialEq for Txn {
+    ghost use Rattle.std.specs.Cmp.{and_per, on_per, partial_equiv_from_equiv, nat_eq_equiv};
+    ghost use Rattle.std.specs.Cmp.Lexicographic.{lists_per};
+    ghost use Rattle.sq_schema.specs.contracts.txn.OpPartialEq.TheImpl.Laws as op;
+    ghost use Rattle.sq_schema.specs.Equal.Txns.{txn_eq};
+
+    ghost eq = { txn_eq };
+
+    ghost laws = { and_per (on_per (λ t. t.id) (partial_equiv_from_equiv nat_eq_equiv)) (and_per (on_per (λ t. t.root) (partial_equiv_from_equiv nat_eq_equiv)) (on_per (λ t. t.ops) (lists_per op.laws-law))) };
+
+    fn eq(&self, other: &Txn) -> bool {
+        self.id == other.id && self.root == other.root && self.ops() == other.ops()
+    }
+}
+
+impl Eq for Txn {
+    ghost use Rattle.std.specs.Cmp.{and_equiv, on_equiv, nat_eq_equiv};
+    ghost use Rattle.std.specs.Cmp.Lexicographic.{lists_equiv};
+    ghost use Rattle.sq_schema.specs.contracts.txn.OpEq.TheImpl.Laws as op;
+
+    ghost laws = { and_equiv (on_equiv (λ t. t.id) nat_eq_equiv) (and_equiv (on_equiv (λ t. t.root) nat_eq_equiv) (on_equiv (λ t. t.ops) (lists_equiv op.laws-law))) };
 }
 
 impl Clone for Txn {
