@@ -81,6 +81,7 @@ pub(crate) fn put_last(families: &mut Vec<Family>, family: Family)
     ensures capacity { vec_capacity families.new ≡ vec_capacity families.old }
     ensures keyed { AreKeyed families.old.items → AreKeyed families.new.items }
 {
+    // For the proof alone: the log is of the family's root key.
     let _ = family.log();
     families.push_reserved(family);
 }

@@ -164,6 +164,7 @@ impl<S: FamilyStore> PartCore<S> {
         ensures chunk { IsTrue result → IsChunk chunk.now }
     {
         let note = chunk.note();
+        // For the proof alone: a chunk is about a node from 1 to 63.
         let _ = note.node.number();
         let at = note.seg.number() as usize;
         let Some(segment) = self.recon.segments().get(at) else {
