@@ -1,8 +1,9 @@
 // One partition by itself.
-ghost use Rattle.std.specs.Prelude.{◌≡◌, true, length, map};
+ghost use Rattle.std.specs.Prelude.{◌≡◌, ◌↔◌, ◌<◌, true, List, IsTrue, length, map};
 ghost use Rattle.std.specs.Option.{option_copied};
-ghost use Rattle.sq_waiting.specs.Waiting.{txns_of};
+ghost use Rattle.sq_waiting.specs.Waiting.{Arrival, txns_of};
 ghost use Rattle.sq_exec.specs.CoreValue.{out_at, inbox_at};
+ghost use Rattle.sq_exec.specs.Kept.{IsCore};
 
 use crate::given_up::GivenUp;
 use crate::out_link::OutLink;
@@ -102,6 +103,28 @@ impl<S: FamilyStore> PartCore<S> {
         ensures { self.new.core ≡ record self.old.core { started = true } }
     {
         self.started = true;
+    }
+
+    /// Which partition it is.
+    pub fn part(&self) -> PartId
+        ensures { result ≡ self.now.core.part }
+    {
+        self.part
+    }
+
+    /// How many partitions there are.
+    pub fn parts(&self) -> u8
+        ensures parts { result ≡ self.now.core.plan.parts }
+        ensures kept { (arrivals : List Arrival) × IsCore self.now.core arrivals }
+    {
+        self.plan.parts()
+    }
+
+    /// Whether a transaction waits.
+    pub fn has_waiting(&self) -> bool
+        ensures { IsTrue result ↔ (0 < length self.now.core.waiting) }
+    {
+        !self.waiting.is_empty()
     }
 
     /// The chunk that came from a partition and isn't loaded. There is a place for one from each partition.

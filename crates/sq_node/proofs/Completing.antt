@@ -1,0 +1,81 @@
+-- The nodes of trees that are to be completed, once one of them was, or none.
+use Rattle.std.proofs.Common.{◌≡◌, ℕ, ◌<◌, Bool, true, false, List, length, get_or, set, Some, refl, sym, ap, ◌∙◌, subst, inl, inr, ⊎_elim, arith}
+use Rattle.std.specs.Prelude.{◌⊎◌, ◌≢◌, ◌==◌, Contains, remove, slice_get}
+use Rattle.std.proofs.lemmas.Bool.Decides.{eqb_tells}
+use Rattle.std.proofs.lemmas.Option.{same_Some, slice_get_read}
+use Rattle.sq_model.proofs.Lists.{Contains-slice_get}
+use Rattle.sq_status.specs.declared.view.View.{View}
+use Rattle.sq_status.specs.Seat.{SeatValue}
+use Rattle.sq_exec.specs.Runs.{is_whole}
+use Rattle.sq_exec.specs.CoreValue.{CoreValue, loaded_at}
+use Rattle.sq_pull.specs.Seats.{StepsAt}
+use Rattle.sq_node_model.proofs.Members.{set_new, removed_stood, removed_kept}
+use Rattle.sq_node.specs.Settled.{IsSettled, HasSettled, IsNode}
+use Rattle.sq_node.specs.Looks.{SeatsLooked, HasNoneToComplete, LooksAndCompletes, CompletesOne, CompletesNone}
+use Rattle.sq_node.proofs.Looked.{settled_at, settled_seats, settled_completed, settled_none, completes_settles}
+
+-- the entry that a list has, where it stands
+stands_at : {X : Type 0} (xs : List X) (x : X) (there : Contains xs x) → slice_get xs there.0 ≡ Some x
+stands_at xs x there = slice_get_read xs (length xs) there.0 x refl there.1 (sym there.2)
+
+pub after_none : (core : CoreValue) (old new : List SeatValue) (nodes left : List (ℕ × ℕ)) (complete : List Bool) → CompletesNone old nodes new left → IsNode core old nodes complete → IsNode core new left complete
+after_none core old new nodes left complete none is =
+    record {
+      flags = is.flags;
+      exists = λ seg n there. is.exists seg n (subst (λ (xs : List (ℕ × ℕ)). Contains xs (seg, n)) none.rest there);
+      whole = λ seg n there. is.whole seg n (subst (λ (xs : List (ℕ × ℕ)). Contains xs (seg, n)) none.rest there);
+      each = λ seg n whole. ⊎_elim (λ (there : Contains nodes (seg, n)). inl (subst (λ (xs : List (ℕ × ℕ)). Contains xs (seg, n)) (sym none.rest) there))
+          (λ (settled : HasSettled old seg n). inr (settled_seats old new none.looked seg n settled)) (is.each seg n whole);
+    }
+
+-- no node with its last chunk loaded is to be completed
+pub none_of_all : (core : CoreValue) (old new : List SeatValue) (nodes left : List (ℕ × ℕ)) (complete : List Bool) → CompletesNone old nodes new left → IsNode core old nodes complete
+    → (seg n : ℕ) → is_whole (loaded_at core seg) n ≡ true → HasNoneToComplete old new seg n
+none_of_all core old new nodes left complete none is seg n whole =
+    ⊎_elim (λ (there : Contains nodes (seg, n)). none.none there.0 seg n (stands_at nodes (seg, n) there)) (λ (settled : HasSettled old seg n). settled_none old new none.looked seg n settled) (is.each seg n whole)
+
+module _ (core : CoreValue) (old new : List SeatValue) (nodes left : List (ℕ × ℕ)) (complete : List Bool) (one : CompletesOne old nodes new left) (is : IsNode core old nodes complete) where
+  -- what is left stood there
+  was_there : (seg n : ℕ) → Contains left (seg, n) → Contains nodes (seg, n)
+  was_there seg n there =
+      let among : Contains (remove nodes one.place) (seg, n) = subst (λ (xs : List (ℕ × ℕ)). Contains xs (seg, n)) one.rest there in
+      let stood = removed_stood nodes one.place among.0 (seg, n) (stands_at (remove nodes one.place) (seg, n) among) in
+      Contains-slice_get nodes stood.place (seg, n) stood.there
+
+  settles : (v w : View) → LooksAndCompletes v one.node w → (n : ℕ) → IsSettled v n → IsSettled w n
+  settles v w told n settled = settled_completed v w n one.node told settled
+
+  still : (seg n : ℕ) → HasSettled old seg n → HasSettled new seg n
+  still seg n settled = settled_at one.seg (λ v w. LooksAndCompletes v one.node w) one.between new settles one.completed seg n (settled_seats old one.between one.looked seg n settled)
+
+  -- the node that was completed is settled
+  now_settled : HasSettled new one.seg one.node
+  now_settled =
+      let step = one.completed in (
+        step.after,
+        ap (λ (seats : List SeatValue). slice_get seats one.seg) step.others ∙ set_new one.between one.seg step.after step.before step.there,
+        completes_settles step.before.view step.after.view one.node step.told,
+      )
+
+  left_or_settled : (seg n : ℕ) → Contains nodes (seg, n) → Contains left (seg, n) ⊎ HasSettled new seg n
+  left_or_settled seg n there =
+      let stands = stands_at nodes (seg, n) there in
+      ⊎_elim
+      (λ (same : ((there.0 == one.place) ≡ true) × (there.0 ≡ one.place)).
+      let pair : (one.seg, one.node) ≡ (seg, n) = same_Some (one.seg, one.node) (seg, n) (sym one.there ∙ ap (slice_get nodes) (sym same.1) ∙ stands) in
+      inr (subst (λ (p : ℕ × ℕ). HasSettled new p.0 p.1) pair now_settled))
+      (λ (apart : ((there.0 == one.place) ≡ false) × (there.0 ≢ one.place)).
+      inl (subst (λ (xs : List (ℕ × ℕ)). Contains xs (seg, n)) (sym one.rest) (removed_kept nodes one.place there.0 (seg, n) stands apart.1)))
+      (eqb_tells there.0 one.place)
+
+  pub after_one : IsNode core new left complete
+  after_one =
+      record {
+        flags = is.flags;
+        exists = λ seg n there. is.exists seg n (was_there seg n there);
+        whole = λ seg n there. is.whole seg n (was_there seg n there);
+        each = λ seg n whole. ⊎_elim (λ (there : Contains nodes (seg, n)). left_or_settled seg n there) (λ (settled : HasSettled old seg n). inr (still seg n settled)) (is.each seg n whole);
+      }
+
+  pub one_is_whole : is_whole (loaded_at core one.seg) one.node ≡ true
+  one_is_whole = is.whole one.seg one.node (Contains-slice_get nodes one.place (one.seg, one.node) one.there)

@@ -1,0 +1,10 @@
+pub mod Settles
+pub mod Sending
+pub mod Looked
+pub mod Completing
+pub mod Served
+pub mod Stays
+pub mod Taken
+pub mod Shares
+pub mod NewLinks
+pub mod NewNodes

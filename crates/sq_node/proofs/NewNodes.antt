@@ -1,0 +1,158 @@
+-- Nodes that are opened one after another.
+use Rattle.std.proofs.Common.{◌≡◌, ℕ, ◌+◌, ◌<◌, ◌≤◌, true, false, List, [], ◌∷◌, ◌++◌, length, get_or, replicate, Option, Some, None, refl, sym, ap, ◌∙◌, subst, ⊎_elim, length-append, arith}
+use Rattle.std.specs.Prelude.{◌⊎◌, ◌≢◌, slice_get}
+use Rattle.std.specs.Option.{option_map_or}
+use Rattle.std.proofs.lemmas.Bool.{cases_lt}
+use Rattle.std.proofs.lemmas.List.{get_or-replicate, get_or_past, length-replicate}
+use Rattle.std.proofs.lemmas.Option.{same_Some, slice_get_within, slice_get-get_or}
+use Rattle.atomic_table.specs.Seated.{TableId}
+use Rattle.sq_ranges.specs.OpeningValue.{OpeningValue}
+use Rattle.sq_link.specs.Values.{LinkValue}
+use Rattle.sq_chunk.specs.ChunkValue.{ChunkValue}
+use Rattle.sq_status.specs.declared.view.View.{View}
+use Rattle.sq_status.specs.View.{fresh, gave}
+use Rattle.sq_status.specs.Seat.{SeatValue}
+use Rattle.sq_exec.specs.declared.run.Run.{Run}
+use Rattle.sq_exec.specs.Runs.{is_whole}
+use Rattle.sq_exec.specs.CoreValue.{CoreValue, loaded_at}
+use Rattle.sq_opened.specs.Opened.{opened_part, HasOwned}
+use Rattle.sq_pull.specs.Seats.{AreSeatsOf}
+use Rattle.sq_node_model.specs.Cores.{IsUnused}
+use Rattle.sq_node_model.proofs.CoreNew.{core_new}
+use Rattle.sq_node_model.proofs.Members.{push_stood}
+use Rattle.sq_node.specs.declared.ends.SendEnd.{SendEnd}
+use Rattle.sq_node.specs.declared.ends.RecvEnd.{RecvEnd}
+use Rattle.sq_node.specs.Ends.{link_at, send_end, recv_end, AreSendEnds, AreRecvEnds}
+use Rattle.sq_node.specs.FabricValue.{FabricValue}
+use Rattle.sq_node.specs.NodeState.{NodeState, views_of, sent_by, received_by}
+use Rattle.sq_node.specs.Opened.{AreFirstSeats, AreNewSeats, GaveEach, HasSendEnds, HasRecvEnds, LeavesSendEnds, LeavesRecvEnds, HaveSentNothing, HaveReceivedNothing, IsFabricOf, IsNewNode, AreNewNodes, first_view, started_part}
+
+all_same : {X : Type 0} (n i : ℕ) (x : X) → get_or (replicate n x) i x ≡ x
+all_same n i x =
+    ⊎_elim (λ (within : i < n). get_or-replicate n i x x within)
+    (λ (past : n ≤ i). get_or_past (replicate n x) i x (omega (arith, length-replicate n x)))
+    (cases_lt i n)
+
+-- nothing is loaded at a partition that opens
+pub not_whole : (o : OpeningValue) (part : ℕ) (core : CoreValue) → core ≡ opened_part o part → (seg n : ℕ) → is_whole (loaded_at core seg) n ≡ false
+not_whole o part core is seg n =
+    ap (λ (opened : CoreValue). is_whole (loaded_at opened seg) n) is ∙ ap (λ (runs : List Run). is_whole runs n) (all_same (length o.recon.segments) seg [])
+
+unused : (trees : List TableId) (seats : List SeatValue) (sends : List (Option SendEnd)) (recvs : List (Option RecvEnd)) → AreNewSeats trees seats → HaveSentNothing sends → HaveReceivedNothing recvs
+    → IsUnused (views_of seats) (sent_by sends) (received_by recvs)
+unused trees seats sends recvs new unsent unreceived =
+    record {
+      begun = λ seg. begun_at seg (slice_get seats seg) refl;
+      completed = λ seg. completed_at seg (slice_get seats seg) refl;
+      none_sent = λ dst. sent_at dst (send_end sends dst) refl;
+      none_received = λ src. received_at src (recv_end recvs src) refl;
+    }
+  where
+    begun_at : (seg : ℕ) (found : Option SeatValue) → slice_get seats seg ≡ found → (option_map_or (λ (seat : SeatValue). seat.view) found (fresh false false)).begun ≡ []
+    begun_at seg None is = refl
+    begun_at seg (Some seat) is = ap (λ (v : View). v.begun) (new.each seg seat is)
+
+    completed_at : (seg : ℕ) (found : Option SeatValue) → slice_get seats seg ≡ found → (option_map_or (λ (seat : SeatValue). seat.view) found (fresh false false)).completed ≡ []
+    completed_at seg None is = refl
+    completed_at seg (Some seat) is = ap (λ (v : View). v.completed) (new.each seg seat is)
+
+    sent_at : (dst : ℕ) (found : Option SendEnd) → send_end sends dst ≡ found → option_map_or (λ (end : SendEnd). end.pass.sent) found [] ≡ []
+    sent_at dst None is = refl
+    sent_at dst (Some end) is = unsent dst end is
+
+    received_at : (src : ℕ) (found : Option RecvEnd) → recv_end recvs src ≡ found → option_map_or (λ (end : RecvEnd). end.pass.received) found [] ≡ []
+    received_at src None is = refl
+    received_at src (Some end) is = unreceived src end is
+
+-- a node is new that is made of a partition that opens, of new seats and of ends that nothing was sent and received by
+pub new_node : (o : OpeningValue) (fabric : FabricValue) (part : ℕ) (core : CoreValue) (seats : List SeatValue) (sends : List (Option SendEnd)) (recvs : List (Option RecvEnd)) (node : NodeState)
+    → IsFabricOf o fabric → part < o.old.parts → core ≡ opened_part o part → HasOwned o part core.store → AreNewSeats fabric.trees seats
+    → AreSendEnds fabric.links part sends × HaveSentNothing sends × (length sends ≡ fabric.parts) → AreRecvEnds fabric.links part recvs × HaveReceivedNothing recvs × (length recvs ≡ fabric.parts)
+    → node ≡ record { core = record core { started = true }; seats = seats; sends = sends; recvs = recvs; receipts = [] } → IsNewNode o fabric part node
+new_node o fabric part core seats sends recvs node shared below opened owned new out into is =
+    subst (IsNewNode o fabric part) (sym (is ∙ ap (λ (c : CoreValue). record { core = record c { started = true }; seats = seats; sends = sends; recvs = recvs; receipts = [] }) opened))
+    (record {
+      of = record {
+        recon = sym shared.recon;
+        parts = sym shared.parts;
+        below = subst (λ (parts : ℕ). part < parts) (sym shared.parts) below;
+        seats = new.of;
+        sends = out.0;
+        recvs = into.0;
+        all_sends = out.2;
+        all_recvs = into.2;
+      };
+      core = refl;
+      seats = new;
+      sends = out.1;
+      recvs = into.1;
+      receipts = refl;
+      holds = core_new o part (opened_part o part).store below (subst (λ (c : CoreValue). HasOwned o part c.store) opened owned) (views_of seats) (sent_by sends) (received_by recvs) (unused fabric.trees seats sends recvs new out.1 into.1);
+    })
+
+-- it is new whatever seats the fabric keeps
+same_node : (o : OpeningValue) (fabric : FabricValue) (seats : List SeatValue) (part : ℕ) (node : NodeState) → IsNewNode o fabric part node → IsNewNode o (record fabric { seats = seats }) part node
+same_node o fabric seats part node new =
+    record {
+      of = record {
+        recon = new.of.recon;
+        parts = new.of.parts;
+        below = new.of.below;
+        seats = new.of.seats;
+        sends = new.of.sends;
+        recvs = new.of.recvs;
+        all_sends = new.of.all_sends;
+        all_recvs = new.of.all_recvs;
+      };
+      core = new.core;
+      seats = new.seats;
+      sends = new.sends;
+      recvs = new.recvs;
+      receipts = new.receipts;
+      holds = new.holds;
+    }
+
+pub same_nodes : (o : OpeningValue) (old new : FabricValue) (count : ℕ) (nodes : List NodeState) → new ≡ record old { seats = new.seats } → AreNewNodes o old count nodes → AreNewNodes o new count nodes
+same_nodes o old new count nodes same are =
+    subst (λ (fabric : FabricValue). AreNewNodes o fabric count nodes) (sym same)
+    (record { all = are.all; each = λ part node there. same_node o old new.seats part node (are.each part node there) })
+
+-- one more node
+pub more_nodes : (o : OpeningValue) (old new : FabricValue) (count : ℕ) (nodes : List NodeState) (node : NodeState) → new ≡ record old { seats = new.seats } → AreNewNodes o old count nodes → IsNewNode o old count node
+    → AreNewNodes o new (count + 1) (nodes ++ node ∷ [])
+more_nodes o old new count nodes node same are made =
+    same_nodes o old new (count + 1) (nodes ++ node ∷ []) same
+    (record {
+      all = length-append nodes (node ∷ []) ∙ ap (λ (n : ℕ). n + 1) are.all;
+      each = λ part one there. ⊎_elim (λ (before : slice_get nodes part ≡ Some one). are.each part one before)
+          (λ (last : (part ≡ length nodes) × (node ≡ one)). subst (λ (k : ℕ). IsNewNode o old k one) (sym are.all ∙ sym last.0) (subst (IsNewNode o old count) last.1 made))
+          (push_stood nodes node part one there);
+    })
+
+-- each first seat gave out one more
+pub gave_one_more : (given : ℕ) (trees : List TableId) (old new : List SeatValue) → AreFirstSeats given trees old → GaveEach old new → AreSeatsOf trees new → AreFirstSeats (given + 1) trees new
+gave_one_more given trees old new are gives of =
+    record {
+      of = of;
+      each = λ seg seat there.
+          let within : seg < length old = let lt = slice_get_within new seg seat there in omega (arith, gives.count) in
+          let before = get_or old seg seat in
+          let stood : slice_get old seg ≡ Some before = slice_get-get_or old seg seat within in
+          let is : record { tree = before.tree; view = gave before.view } ≡ seat = same_Some _ seat (sym (gives.each seg before stood) ∙ there) in
+          ap (λ (s : SeatValue). s.view) (sym is) ∙ ap gave (are.each seg before stood);
+    }
+
+-- the ends for another partition are left
+pub left_sends : (links : List LinkValue) (old new : List (Option SendEnd)) (part other : ℕ) → LeavesSendEnds links old part new → part ≢ other → HasSendEnds links old other → HasSendEnds links new other
+left_sends links old new part other leaves apart has =
+    record {
+      count = leaves.count ∙ has.count;
+      each = λ i lt src. leaves.each i (λ same. apart (sym same ∙ src)) ∙ has.each i lt src;
+    }
+
+pub left_recvs : (links : List LinkValue) (old new : List (Option RecvEnd)) (part other : ℕ) → LeavesRecvEnds links old part new → part ≢ other → HasRecvEnds links old other → HasRecvEnds links new other
+left_recvs links old new part other leaves apart has =
+    record {
+      count = leaves.count ∙ has.count;
+      each = λ i lt dst. leaves.each i (λ same. apart (sym same ∙ dst)) ∙ has.each i lt dst;
+    }

@@ -1,0 +1,131 @@
+-- Transactions that a partition took, and their receipts.
+use Rattle.std.proofs.Common.{◌≡◌, ℕ, ◌+◌, ◌-◌, ◌<◌, ◌≤◌, Bool, true, false, List, [], ◌∷◌, ◌++◌, length, get_or, Option, Some, None, Result, Ok, Err, refl, sym, ap, ◌∙◌, subst, inl, inr, arith}
+use Rattle.std.specs.Prelude.{◌⊎◌, ◌==◌, if◌then◌else◌, unwrap_or, remove, slice_get, IfOk, OnErr}
+use Rattle.std.specs.FinMap.{get, insert}
+use Rattle.sq_schema.specs.TxnValue.{TxnValue}
+use Rattle.sq_schema.specs.declared.txn.Reply.{Reply}
+use Rattle.sq_schema.specs.declared.txn.Reply.TheVariants.{Committed, Aborted}
+use Rattle.sq_schema.specs.Family.{FamilyValue}
+use Rattle.sq_store.specs.StoreValue.{StoreValue, family_at, log_length, absent, with_txn, store_reply, store_after}
+use Rattle.sq_store.proofs.Keys.{get-insert_same}
+use Rattle.sq_exec.specs.declared.outcome.Outcome.{Outcome}
+use Rattle.sq_exec.specs.declared.outcome.Outcome.TheVariants.{Done, Moved, Waits}
+use Rattle.sq_exec.specs.declared.outcome.Resumed.{Resumed}
+use Rattle.sq_exec.specs.CoreValue.{CoreValue}
+use Rattle.sq_exec.specs.Location.{route}
+use Rattle.sq_exec.specs.Serving.{served, IsTaken, IsMadeToWait, IsServed, IsResumed}
+use Rattle.std.proofs.lemmas.List.Elements.{Contains-append_right}
+use Rattle.sq_tree.specs.declared.status.Status.TheVariants.{Split, Complete}
+use Rattle.sq_ranges.specs.ReconValue.{ReconValue}
+use Rattle.sq_status.specs.declared.view.View.{View}
+use Rattle.sq_status.specs.declared.tree.walks.LeafClaim.{LeafClaim}
+use Rattle.sq_status.specs.declared.tree.walks.LeafClaim.TheVariants as at
+use Rattle.sq_status.specs.Walks.{WalkedTo}
+use Rattle.sq_status.specs.Seat.{SeatValue}
+use Rattle.sq_pull.specs.Seats.{ClaimsLeaf}
+use Rattle.sq_pull.specs.Puller.{PullerValue, HasPulled, next_reactive}
+use Rattle.sq_pull.specs.declared.puller.ReactivePull.{ReactivePull}
+use Rattle.sq_pull.specs.declared.puller.ReactivePull.TheVariants as pull
+use Rattle.sq_node_model.specs.NodeValue.{ReceiptValue}
+use Rattle.sq_node_model.specs.Steps.{receipt_of}
+use Rattle.sq_node.specs.NodeState.{position_before}
+use Rattle.sq_node.specs.Settled.{IsSettled, HasSettled, IsNode}
+use Rattle.sq_node.specs.Steps.{ClaimsAt}
+use Rattle.sq_node.proofs.Settles.{same_loads}
+use Rattle.sq_node.proofs.Looked.{found_looks, settled_looked, settled_at}
+
+less_one : (n : ℕ) → n + 1 - 1 ≡ n
+less_one n = omega arith
+
+length-push : (log : List TxnValue) (txn : TxnValue) → length (log ++ txn ∷ []) ≡ length log + 1
+length-push [] txn = refl
+length-push (first ∷ log) txn = let more = length-push log txn in omega arith
+
+-- the log of a root key is longer by one after a commit, and as long after an abort
+pub position_is : (store : StoreValue) (txn : TxnValue) (reply : Reply) → position_before (log_length (store_after store txn reply) txn.root) reply ≡ log_length store txn.root
+position_is store txn (Committed answers) =
+    let family = family_at store txn.root in
+    let after : log_length (store_after store txn (Committed answers)) txn.root ≡ length family.log + 1 =
+    ap (λ (found : Option FamilyValue). length (unwrap_or found (absent txn.root)).log) (get-insert_same store txn.root (with_txn family txn) txn.root refl) ∙ length-push family.log txn in
+    ap (λ (n : ℕ). n - 1) after ∙ less_one (length family.log)
+position_is store txn (Aborted at cause) = refl
+
+-- a transaction with a reply ran here
+pub record Ran (here who : ℕ) (store : StoreValue) (txn : TxnValue) (reply : Reply) (after : StoreValue) : Type 0 where
+  pub reply_is : reply ≡ store_reply store txn
+  pub after_is : after ≡ store_after store txn reply
+
+abbrev outcome_at : Bool → ℕ → StoreValue → TxnValue → Outcome × StoreValue
+outcome_at here who store txn = if here then (Done (store_reply store txn), store_after store txn (store_reply store txn)) else (Moved who, store)
+
+ran_at : (b : Bool) (here who : ℕ) (store : StoreValue) (txn : TxnValue) (reply : Reply) (after : StoreValue) → Done reply ≡ (outcome_at b who store txn).0 → after ≡ (outcome_at b who store txn).1
+    → Ran here who store txn reply after
+ran_at true here who store txn reply after told left =
+    let same : reply ≡ store_reply store txn = cc in
+    record { reply_is = same; after_is = left ∙ ap (store_after store txn) (sym same) }
+ran_at false here who store txn reply after told left = cc
+
+pub ran : (here who : ℕ) (store : StoreValue) (txn : TxnValue) (reply : Reply) (after : StoreValue) → Done reply ≡ (served here who store txn).0 → after ≡ (served here who store txn).1 → Ran here who store txn reply after
+ran here who store txn reply after told left = ran_at (who == here) here who store txn reply after told left
+
+-- the receipt of one that was submitted is that of the log before it
+pub submitted_position : (waits : Bool) (old new : CoreValue) (txn : TxnValue) (reply : Reply) → IsTaken waits old txn (Done reply) new
+    → position_before (log_length new.store txn.root) reply ≡ log_length old.store txn.root
+submitted_position true old new txn reply taken = let told : Done reply ≡ Waits taken.at.seg taken.at.leaf = taken.told in cc
+submitted_position false old new txn reply taken =
+    let is = ran old.part (route old txn.root) old.store txn reply new.store taken.told (ap (λ (core : CoreValue). core.store) taken.after) in
+    ap (λ (store : StoreValue). position_before (log_length store txn.root) reply) is.after_is ∙ position_is old.store txn reply
+
+pub resumed_position : (old new : CoreValue) (resumed : Resumed) (reply : Reply) → IsResumed old resumed new → resumed.outcome ≡ Done reply
+    → position_before (log_length new.store resumed.txn.root) reply ≡ log_length old.store resumed.txn.root
+resumed_position old new resumed reply taken done =
+    let txn = resumed.txn in
+    let is = ran old.part (route old txn.root) old.store txn reply new.store (sym done ∙ taken.told) (ap (λ (core : CoreValue). core.store) taken.after) in
+    ap (λ (store : StoreValue). position_before (log_length store txn.root) reply) is.after_is ∙ position_is old.store txn reply
+
+-- nothing was loaded
+pub after_taken : (waits : Bool) (old new : CoreValue) (txn : TxnValue) (outcome : Outcome) (seats : List SeatValue) (pending : List (ℕ × ℕ)) (complete : List Bool) → IsTaken waits old txn outcome new
+    → IsNode old seats pending complete → IsNode new seats pending complete
+after_taken true old new txn outcome seats pending complete taken =
+    same_loads old new seats pending complete (ap (λ (core : CoreValue). core.recon) taken.last) (ap (λ (core : CoreValue). core.loaded) taken.last)
+after_taken false old new txn outcome seats pending complete taken =
+    same_loads old new seats pending complete (ap (λ (core : CoreValue). core.recon) taken.after) (ap (λ (core : CoreValue). core.loaded) taken.after)
+
+pub after_resumed : (old new : CoreValue) (resumed : Resumed) (seats : List SeatValue) (pending : List (ℕ × ℕ)) (complete : List Bool) → IsResumed old resumed new
+    → IsNode old seats pending complete → IsNode new seats pending complete
+after_resumed old new resumed seats pending complete taken =
+    same_loads old new seats pending complete (ap (λ (core : CoreValue). core.recon) taken.after) (ap (λ (core : CoreValue). core.loaded) taken.after)
+
+pub receipt_same : (old : StoreValue) (txn : TxnValue) (reply : Reply) (after : ℕ) (receipt : ReceiptValue) → receipt ≡ record { id = txn.id; root = txn.root; position = position_before after reply; reply = reply }
+    → position_before after reply ≡ log_length old txn.root → receipt ≡ receipt_of old txn reply
+receipt_same old txn reply after receipt is position = is ∙ (λ k. record { id = txn.id; root = txn.root; position = position k; reply = reply })
+
+-- a claim leaves what is settled
+walked : (leaf levels : ℕ) (v u : View) (n : ℕ) → WalkedTo leaf levels v u → IsSettled v n → IsSettled u n
+walked leaf levels v u n walk settled = subst (λ (w : View). IsSettled w n) (sym walk.3.after) (by_kind settled)
+  where
+    by_kind : IsSettled v n → IsSettled (record v { split = walk.0 ++ v.split; looked = walk.1 ++ v.looked }) n
+    by_kind (inl completed) = inl completed
+    by_kind (inr (inl split)) = inr (inl (Contains-append_right walk.1 v.looked (n, Split) split))
+    by_kind (inr (inr done)) = inr (inr (done.0, Contains-append_right walk.1 v.looked (n, Complete done.0) done.1))
+
+claims_settle : (leaf pull : ℕ) (claim : LeafClaim) (v w : View) → ClaimsLeaf leaf pull claim v w → (n : ℕ) → IsSettled v n → IsSettled w n
+claims_settle leaf pull (at.Claimed m) v w told n settled =
+    let walk = told.walk.1 in
+    subst (λ (u : View). IsSettled u n) (sym walk.2.after) (walked leaf 0 v walk.0 n walk.1 settled)
+claims_settle leaf pull (at.Held m st) v w told n settled =
+    let walk = told.walk.2 in
+    settled_looked walk.1 w n (found_looks walk.1 m st w walk.4) (walked leaf walk.0 v walk.1 n walk.3 settled)
+
+pub settled_claims : (seg leaf : ℕ) (old new : List SeatValue) → ClaimsAt seg leaf old new → (s n : ℕ) → HasSettled old s n → HasSettled new s n
+settled_claims seg leaf old new (inl claims) s n settled =
+    settled_at seg (ClaimsLeaf leaf claims.0 claims.1) old new (λ v w told m is. claims_settle leaf claims.0 claims.1 v w told m is) claims.2 s n settled
+settled_claims seg leaf old new (inr same) s n settled = subst (λ (seats : List SeatValue). HasSettled seats s n) (sym same) settled
+
+-- what a reactive pull did to the seats
+pub pulled_claims : {E : Type 0} (recon : ReconValue) (seg leaf : ℕ) (old new : PullerValue) (seats after : List SeatValue) (result : Result ReactivePull E) (P Q : Type 0)
+    → IfOk result (HasPulled recon seg leaf old seats new after) → OnErr result (P × Q × (after ≡ seats)) → ClaimsAt seg leaf seats after
+pulled_claims recon seg leaf old new seats after (Ok (pull.Won n)) P Q told err = inl (next_reactive old, at.Claimed n, told.1)
+pulled_claims recon seg leaf old new seats after (Ok (pull.Held n st)) P Q told err = inl (next_reactive old, at.Held n st, told.1)
+pulled_claims recon seg leaf old new seats after (Ok pull.Spent) P Q told err = inr told.2
+pulled_claims recon seg leaf old new seats after (Err fault) P Q told err = inr err.2

@@ -1,0 +1,220 @@
+-- A node stays one of its fabric.
+use Rattle.std.proofs.Common.{◌≡◌, ℕ, suc, ◌<◌, ◌≤◌, Bool, true, false, List, ◌++◌, ◌∷◌, [], length, get_or, set, map, Option, Some, None, refl, sym, ap, ◌∙◌, subst, inl, inr, ⊎_elim, arith}
+use Rattle.std.specs.Prelude.{◌⊎◌, ◌≢◌, ◌==◌, slice_get, option_map}
+use Rattle.std.proofs.lemmas.Bool.{cases_lt}
+use Rattle.std.proofs.lemmas.Bool.Decides.{eqb_tells}
+use Rattle.std.proofs.lemmas.List.{get_or-set_same, get_or-set_other, get_or_past, length-set, length-map}
+use Rattle.std.proofs.lemmas.Option.{same_Some, slice_get_within, slice_get-get_or, get_or_from_slice_get}
+use Rattle.sq_schema.specs.TxnValue.{TxnValue}
+use Rattle.atomic_table.specs.Seated.{TableId}
+use Rattle.sq_link.specs.Values.{LinkValue}
+use Rattle.sq_ranges.specs.declared.recon.Range.{Range}
+use Rattle.sq_ranges.specs.ReconValue.{ReconValue}
+use Rattle.sq_plan.specs.PlanValue.{PlanValue}
+use Rattle.sq_status.specs.Seat.{SeatValue}
+use Rattle.sq_exec.specs.declared.outcome.Outcome.{Outcome}
+use Rattle.sq_exec.specs.declared.outcome.Outcome.TheVariants.{Done, Moved, Waits}
+use Rattle.sq_exec.specs.CoreValue.{CoreValue}
+use Rattle.sq_exec.specs.Moving.{begun_core, begun_in}
+use Rattle.sq_exec.specs.Serving.{IsTaken}
+use Rattle.sq_pull.specs.Seats.{AreSeatsOf, StepsAt}
+use Rattle.sq_pull.proofs.Stepped.{seats_stay}
+use Rattle.sq_node.specs.declared.ends.SendEnd.{SendEnd}
+use Rattle.sq_node.specs.declared.ends.RecvEnd.{RecvEnd}
+use Rattle.sq_node.specs.declared.stepped.Stepped.{Stepped}
+use Rattle.sq_node.specs.declared.stepped.Stepped.TheVariants.{Did, Nothing, Memory}
+use Rattle.sq_node.specs.FabricValue.{FabricValue}
+use Rattle.sq_node.specs.Ends.{link_at, send_end, recv_end, IsSendEnd, IsRecvEnd, AreSendEnds, AreRecvEnds}
+use Rattle.sq_node.specs.NodeState.{NodeState, IsNodeOf}
+use Rattle.sq_node.specs.Looks.{SeatsLooked}
+use Rattle.sq_node.specs.Steps.{ClaimsAt, ClaimsFor, JobStep, RequestStep, CutStep, SendStep, RecvStep, LoadStep, CompleteStep, ResumeStep}
+
+-- the partition is the same, with the same plan and the same moves
+pub record SamePart (old new : CoreValue) : Type 0 where
+  pub part : new.part ≡ old.part
+  pub plan : new.plan ≡ old.plan
+  pub recon : new.recon ≡ old.recon
+
+stood : {X : Type 0} (ends : List (Option X)) (at : ℕ) (end : X) → get_or ends at None ≡ Some end → at < length ends
+stood ends at end there = ⊎_elim (λ (lt : at < length ends). lt) (λ (past : length ends ≤ at). let clash : None ≡ Some end = sym (get_or_past ends at None past) ∙ there in cc) (cases_lt at (length ends))
+
+stays : (fabric : FabricValue) (old new : NodeState) → SamePart old.core new.core → AreSeatsOf fabric.trees new.seats
+    → AreSendEnds fabric.links old.core.part new.sends → AreRecvEnds fabric.links old.core.part new.recvs
+    → length new.sends ≡ length old.sends → length new.recvs ≡ length old.recvs → IsNodeOf fabric old → IsNodeOf fabric new
+stays fabric old new same seats sends recvs all_sends all_recvs is =
+    record {
+      recon = same.recon ∙ is.recon;
+      parts = ap (λ (p : PlanValue). p.parts) same.plan ∙ is.parts;
+      below = omega (arith, same.part, is.below);
+      seats = seats;
+      sends = subst (λ (p : ℕ). AreSendEnds fabric.links p new.sends) (sym same.part) sends;
+      recvs = subst (λ (p : ℕ). AreRecvEnds fabric.links p new.recvs) (sym same.part) recvs;
+      all_sends = all_sends ∙ is.all_sends;
+      all_recvs = all_recvs ∙ is.all_recvs;
+    }
+
+-- where the ends are as they were
+core_stays : (fabric : FabricValue) (old new now : NodeState) → new ≡ now → now.sends ≡ old.sends → now.recvs ≡ old.recvs → SamePart old.core now.core → AreSeatsOf fabric.trees now.seats
+    → IsNodeOf fabric old → IsNodeOf fabric new
+core_stays fabric old new now is sends recvs same seats of =
+    subst (IsNodeOf fabric) (sym is)
+    (stays fabric old now same seats (subst (AreSendEnds fabric.links old.core.part) (sym sends) of.sends) (subst (AreRecvEnds fabric.links old.core.part) (sym recvs) of.recvs) (ap length sends) (ap length recvs) of)
+
+same_node : (fabric : FabricValue) (old new : NodeState) → new ≡ old → IsNodeOf fabric old → IsNodeOf fabric new
+same_node fabric old new is of = subst (IsNodeOf fabric) (sym is) of
+
+same_part : (core : CoreValue) → SamePart core core
+same_part core = record { part = refl; plan = refl; recon = refl }
+
+pub cut_stays : (fabric : FabricValue) (old : NodeState) (answer : Stepped) (new : NodeState) → CutStep old answer new → IsNodeOf fabric old → IsNodeOf fabric new
+cut_stays fabric old Did new step of =
+    let cut = step.1.cut in
+    core_stays fabric old new (record old { core = new.core }) step.1.after refl refl
+    (record { part = ap (λ (c : CoreValue). c.part) cut.after; plan = ap (λ (c : CoreValue). c.plan) cut.after; recon = ap (λ (c : CoreValue). c.recon) cut.after }) of.seats of
+cut_stays fabric old Nothing new step of = same_node fabric old new step.0 of
+cut_stays fabric old Memory new step of = same_node fabric old new step of
+
+pub load_stays : (fabric : FabricValue) (old : NodeState) (answer : Stepped) (new : NodeState) → LoadStep old answer new → IsNodeOf fabric old → IsNodeOf fabric new
+load_stays fabric old Did new step of =
+    let load = step.1.load in
+    core_stays fabric old new (record old { core = new.core }) step.1.after refl refl
+    (record { part = ap (λ (c : CoreValue). c.part) load.after; plan = ap (λ (c : CoreValue). c.plan) load.after; recon = ap (λ (c : CoreValue). c.recon) load.after }) of.seats of
+load_stays fabric old Nothing new step of = same_node fabric old new step.0 of
+load_stays fabric old Memory new step of = same_node fabric old new step of
+
+-- an end with the same link and queue in its place
+send_ends : (links : List LinkValue) (part : ℕ) (sends : List (Option SendEnd)) (at : ℕ) (end now : SendEnd) → send_end sends at ≡ Some end → now.link ≡ end.link → now.pass.queue ≡ end.pass.queue
+    → AreSendEnds links part sends → AreSendEnds links part (set sends at (Some now))
+send_ends links part sends at end now there link queue are =
+    record {
+      which = λ dst lt.
+          let within : dst < length sends = omega (arith, lt, length-set sends at (Some now)) in
+          ⊎_elim
+          (λ (same : ((dst == at) ≡ true) × (dst ≡ at)).
+          ap (λ (k : ℕ). option_map (λ (e : SendEnd). e.link) (get_or (set sends at (Some now)) k None)) same.1
+          ∙ ap (option_map (λ (e : SendEnd). e.link)) (get_or-set_same sends at (Some now) None (subst (λ (k : ℕ). k < length sends) same.1 within))
+          ∙ ap (λ (n : ℕ). Some n) link
+          ∙ sym (ap (option_map (λ (e : SendEnd). e.link)) (ap (λ (k : ℕ). get_or sends k None) same.1 ∙ there))
+          ∙ are.which dst within)
+          (λ (apart : ((dst == at) ≡ false) × (dst ≢ at)).
+          ap (option_map (λ (e : SendEnd). e.link)) (get_or-set_other sends at dst (Some now) None apart.1) ∙ are.which dst within)
+          (eqb_tells dst at);
+      ends = λ dst e stands.
+          ⊎_elim
+          (λ (same : ((dst == at) ≡ true) × (dst ≡ at)).
+          let within : at < length sends = stood sends at end there in
+          let is : now ≡ e = same_Some now e (sym (get_or-set_same sends at (Some now) None within) ∙ ap (λ (k : ℕ). get_or (set sends at (Some now)) k None) (sym same.1) ∙ stands) in
+          let first = are.ends at end there in
+          subst (IsSendEnd links) is
+          (record { exists = omega (arith, first.exists, link); queue = queue ∙ first.queue ∙ ap (λ (i : ℕ). (link_at links i).queue) (sym link) }))
+          (λ (apart : ((dst == at) ≡ false) × (dst ≢ at)). are.ends dst e (sym (get_or-set_other sends at dst (Some now) None apart.1) ∙ stands))
+          (eqb_tells dst at);
+    }
+
+recv_ends : (links : List LinkValue) (part : ℕ) (recvs : List (Option RecvEnd)) (at : ℕ) (end now : RecvEnd) → recv_end recvs at ≡ Some end → now.link ≡ end.link → now.pass.queue ≡ end.pass.queue
+    → AreRecvEnds links part recvs → AreRecvEnds links part (set recvs at (Some now))
+recv_ends links part recvs at end now there link queue are =
+    record {
+      which = λ src lt.
+          let within : src < length recvs = omega (arith, lt, length-set recvs at (Some now)) in
+          ⊎_elim
+          (λ (same : ((src == at) ≡ true) × (src ≡ at)).
+          ap (λ (k : ℕ). option_map (λ (e : RecvEnd). e.link) (get_or (set recvs at (Some now)) k None)) same.1
+          ∙ ap (option_map (λ (e : RecvEnd). e.link)) (get_or-set_same recvs at (Some now) None (subst (λ (k : ℕ). k < length recvs) same.1 within))
+          ∙ ap (λ (n : ℕ). Some n) link
+          ∙ sym (ap (option_map (λ (e : RecvEnd). e.link)) (ap (λ (k : ℕ). get_or recvs k None) same.1 ∙ there))
+          ∙ are.which src within)
+          (λ (apart : ((src == at) ≡ false) × (src ≢ at)).
+          ap (option_map (λ (e : RecvEnd). e.link)) (get_or-set_other recvs at src (Some now) None apart.1) ∙ are.which src within)
+          (eqb_tells src at);
+      ends = λ src e stands.
+          ⊎_elim
+          (λ (same : ((src == at) ≡ true) × (src ≡ at)).
+          let within : at < length recvs = stood recvs at end there in
+          let is : now ≡ e = same_Some now e (sym (get_or-set_same recvs at (Some now) None within) ∙ ap (λ (k : ℕ). get_or (set recvs at (Some now)) k None) (sym same.1) ∙ stands) in
+          let first = are.ends at end there in
+          subst (IsRecvEnd links) is
+          (record { exists = omega (arith, first.exists, link); queue = queue ∙ first.queue ∙ ap (λ (i : ℕ). (link_at links i).queue) (sym link) }))
+          (λ (apart : ((src == at) ≡ false) × (src ≢ at)). are.ends src e (sym (get_or-set_other recvs at src (Some now) None apart.1) ∙ stands))
+          (eqb_tells src at);
+    }
+
+pub send_stays : (fabric : FabricValue) (old : NodeState) (answer : Stepped) (new : NodeState) → SendStep fabric old answer new → IsNodeOf fabric old → IsNodeOf fabric new
+send_stays fabric old Did new step of =
+    let sends = step.1 in
+    let dst = step.0 in
+    subst (IsNodeOf fabric) (sym sends.after)
+    (stays fabric old _ (record { part = refl; plan = refl; recon = refl }) of.seats
+    (send_ends fabric.links old.core.part old.sends dst sends.end _ sends.there refl refl of.sends) of.recvs (length-set old.sends dst _) refl of)
+send_stays fabric old Nothing new step of = same_node fabric old new step.0 of
+send_stays fabric old Memory new step of = absurd step
+
+pub recv_stays : (fabric : FabricValue) (old : NodeState) (answer : Stepped) (new : NodeState) → RecvStep old answer new → IsNodeOf fabric old → IsNodeOf fabric new
+recv_stays fabric old Did new step of =
+    let receives = step.1 in
+    let src = step.0 in
+    subst (IsNodeOf fabric) (sym receives.after)
+    (stays fabric old _ (record { part = refl; plan = refl; recon = refl }) of.seats of.sends
+    (recv_ends fabric.links old.core.part old.recvs src receives.end _ receives.there refl refl of.recvs) refl (length-set old.recvs src _) of)
+recv_stays fabric old Nothing new step of = same_node fabric old new step.0 of
+recv_stays fabric old Memory new step of = absurd step
+
+-- seats that only looked stay at their trees
+looked_seats : (trees : List TableId) (old new : List SeatValue) → SeatsLooked old new → AreSeatsOf trees old → AreSeatsOf trees new
+looked_seats trees old new looked of =
+    same_map new old looked.count
+    (λ i first second there then. (looked.each i second first then there).0)
+    ∙ of
+  where
+    same_map : (xs ys : List SeatValue) → length xs ≡ length ys → ((i : ℕ) (x y : SeatValue) → slice_get xs i ≡ Some x → slice_get ys i ≡ Some y → x.tree ≡ y.tree) → map (λ (s : SeatValue). s.tree) xs ≡ map (λ (s : SeatValue). s.tree) ys
+    same_map [] [] count each = refl
+    same_map [] (y ∷ ys) count each = cc
+    same_map (x ∷ xs) [] count each = cc
+    same_map (x ∷ xs) (y ∷ ys) count each =
+        (λ k. each 0 x y refl refl k ∷ same_map xs ys (omega (arith, count)) (λ i a b there then. each (suc i) a b there then) k)
+
+pub request_stays : (fabric : FabricValue) (old : NodeState) (answer : Stepped) (new : NodeState) → RequestStep old answer new → IsNodeOf fabric old → IsNodeOf fabric new
+request_stays fabric old Did new step of =
+    core_stays fabric old new _ step.after refl refl (begun_part (slice_get old.core.recon.segments step.seg)) (seats_stay fabric.trees step.seg _ old.seats new.seats step.won of.seats) of
+  where
+    begun_part : (segment : Option Range) → SamePart old.core (begun_in old.core step.seg step.node step.pull segment)
+    begun_part None = record { part = refl; plan = refl; recon = refl }
+    begun_part (Some segment) = record { part = refl; plan = refl; recon = refl }
+request_stays fabric old Nothing new step of =
+    core_stays fabric old new _ step.after refl refl (same_part old.core) (looked_seats fabric.trees old.seats new.seats step.seats of.seats) of
+request_stays fabric old Memory new step of = same_node fabric old new step of
+
+pub complete_stays : (fabric : FabricValue) (old : NodeState) (answer : Stepped) (new : NodeState) → CompleteStep old answer new → IsNodeOf fabric old → IsNodeOf fabric new
+complete_stays fabric old Did new step of =
+    core_stays fabric old new _ step.after refl refl (same_part old.core)
+    (seats_stay fabric.trees step.seg _ step.between new.seats step.completed (looked_seats fabric.trees old.seats step.between step.looked of.seats)) of
+complete_stays fabric old Nothing new step of =
+    core_stays fabric old new _ step.0.after refl refl (same_part old.core) (looked_seats fabric.trees old.seats new.seats step.0.seats of.seats) of
+complete_stays fabric old Memory new step of = absurd step
+
+taken_part : (waits : Bool) (old new : CoreValue) (txn : TxnValue) (outcome : Outcome) → IsTaken waits old txn outcome new → SamePart old new
+taken_part true old new txn outcome taken =
+    record { part = ap (λ (c : CoreValue). c.part) taken.last; plan = ap (λ (c : CoreValue). c.plan) taken.last; recon = ap (λ (c : CoreValue). c.recon) taken.last }
+taken_part false old new txn outcome taken =
+    record { part = ap (λ (c : CoreValue). c.part) taken.after; plan = ap (λ (c : CoreValue). c.plan) taken.after; recon = ap (λ (c : CoreValue). c.recon) taken.after }
+
+claimed_seats : (trees : List TableId) (outcome : Outcome) (old new : List SeatValue) → ClaimsFor outcome old new → AreSeatsOf trees old → AreSeatsOf trees new
+claimed_seats trees (Done reply) old new same of = subst (AreSeatsOf trees) (sym same) of
+claimed_seats trees (Moved to) old new same of = subst (AreSeatsOf trees) (sym same) of
+claimed_seats trees (Waits seg leaf) old new (inl claims) of = seats_stay trees seg _ old new claims.2 of
+claimed_seats trees (Waits seg leaf) old new (inr same) of = subst (AreSeatsOf trees) (sym same) of
+
+pub job_stays : (fabric : FabricValue) (old : NodeState) (answer : Stepped) (new : NodeState) → JobStep old answer new → IsNodeOf fabric old → IsNodeOf fabric new
+job_stays fabric old Did new step of =
+    core_stays fabric old new _ step.after refl refl (taken_part _ old.core new.core step.txn step.outcome step.taken)
+    (claimed_seats fabric.trees step.outcome old.seats new.seats step.claims of.seats) of
+job_stays fabric old Nothing new step of = same_node fabric old new step of
+job_stays fabric old Memory new step of = same_node fabric old new step of
+
+pub resume_stays : (fabric : FabricValue) (old : NodeState) (answer : Stepped) (new : NodeState) → ResumeStep old answer new → IsNodeOf fabric old → IsNodeOf fabric new
+resume_stays fabric old Did new step of =
+    let taken = step.taken in
+    core_stays fabric old new _ step.after refl refl
+    (record { part = ap (λ (c : CoreValue). c.part) taken.after; plan = ap (λ (c : CoreValue). c.plan) taken.after; recon = ap (λ (c : CoreValue). c.recon) taken.after }) of.seats of
+resume_stays fabric old Nothing new step of = same_node fabric old new step.0 of
+resume_stays fabric old Memory new step of = same_node fabric old new step of

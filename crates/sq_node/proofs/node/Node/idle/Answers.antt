@@ -1,0 +1,14 @@
+use Rattle.std.proofs.Common.{◌∙◌}
+use Rattle.sq_node.proofs.Settles.{other_seats}
+use Rattle.sq_node.proofs.Looked.{settled_seats}
+use Rattle.sq_node.specs.Settled.{IsNode}
+use Rattle.sq_node.proofs.node.Node.idle.Goals as goal
+
+pub invariant_of-self : goal.invariant_of-self
+invariant_of-self c =
+    let inside = c.self.inside in
+    let old = inside.seats.items in
+    let new = c.see_all_complete.new.seats.items in
+    let is : IsNode inside.core.core new inside.to_complete.items inside.complete.items =
+    other_seats inside.core.core old new inside.to_complete.items inside.complete.items (settled_seats old new c.see_all_complete.ensures.looked) c.self.invariant in
+    record { flags = c.see_all_complete.ensures.flags ∙ is.flags; exists = is.exists; whole = is.whole; each = is.each }

@@ -1,0 +1,82 @@
+use Rattle.std.proofs.Common.{◌≡◌, ℕ, List, [], ◌∷◌, ◌++◌, length, sym, ap, ◌∙◌, subst}
+use Rattle.sq_ranges.specs.ReconValue.{ReconValue}
+use Rattle.sq_status.specs.Seat.{SeatValue}
+use Rattle.sq_exec.specs.declared.outcome.Outcome.{Outcome}
+use Rattle.sq_exec.specs.declared.outcome.Outcome.TheVariants.{Done, Moved, Waits}
+use Rattle.sq_exec.specs.declared.outcome.Resumed.{Resumed}
+use Rattle.sq_exec.specs.CoreValue.{CoreValue}
+use Rattle.sq_exec.specs.Serving.{must_wait, IsTaken, IsResumed}
+use Rattle.sq_store.specs.StoreValue.{log_length}
+use Rattle.sq_node_model.specs.NodeValue.{ReceiptValue}
+use Rattle.sq_node_model.specs.Steps.{receipt_of, receipts_after}
+use Rattle.sq_node.specs.NodeState.{NodeState}
+use Rattle.sq_node.specs.Steps.{ClaimsAt}
+use Rattle.sq_node.proofs.Settles.{other_seats}
+use Rattle.sq_node.proofs.Served.{after_taken, submitted_position, receipt_same, settled_claims, pulled_claims}
+use Rattle.sq_node.proofs.node.Node.step_job.Goals as goal
+
+pub reactive-requires-clause-trees : goal.reactive-requires-clause-trees
+reactive-requires-clause-trees g c =
+    ap length c.shared-shared.ensures.trees ∙ c.shared-shared.ensures.fabric.trees ∙ ap (λ (recon : ReconValue). length recon.segments) (sym c.shared-shared.ensures.recon)
+
+pub invariant_of-self-in-Done : goal.invariant_of-self-in-Done
+invariant_of-self-in-Done g c =
+    let inside = c.self.inside in
+    after_taken (must_wait inside.core.core c.in-Some.job.root) inside.core.core c.submit.new.self.core c.in-Some.job c.in-Ok.outcome inside.seats.items inside.to_complete.items inside.complete.items c.in-Ok.ensures.ok c.self.invariant
+
+pub invariant_of-self-in-Moved : goal.invariant_of-self-in-Moved
+invariant_of-self-in-Moved g c =
+    let inside = c.self.inside in
+    after_taken (must_wait inside.core.core c.in-Some.job.root) inside.core.core c.submit.new.self.core c.in-Some.job c.in-Ok.outcome inside.seats.items inside.to_complete.items inside.complete.items c.in-Ok.ensures.ok c.self.invariant
+
+pub invariant_of-self-in-Waits : goal.invariant_of-self-in-Waits
+invariant_of-self-in-Waits g c =
+    let inside = c.self.inside in
+    let new = c.submit.new.self.core in
+    let after = c.reactive.new.seats.items in
+    let claims : ClaimsAt c.in-Waits.seg c.in-Waits.leaf inside.seats.items after = pulled_claims _ c.in-Waits.seg c.in-Waits.leaf _ _ inside.seats.items after c.reactive.result _ _ c.reactive.ensures.pulled c.reactive.ensures.err in
+    other_seats new inside.seats.items after inside.to_complete.items inside.complete.items (settled_claims c.in-Waits.seg c.in-Waits.leaf inside.seats.items after claims)
+    (after_taken (must_wait inside.core.core c.in-Some.job.root) inside.core.core new c.in-Some.job c.in-Ok.outcome inside.seats.items inside.to_complete.items inside.complete.items c.in-Ok.ensures.ok c.self.invariant)
+
+pub returns-in-Done : goal.returns-in-Done
+returns-in-Done g c =
+    let inside = c.self.inside in
+    let job = c.in-Some.job in
+    let reply = c.in-Done.reply in
+    let old = inside.core.core in
+    let new = c.submit.new.self.core in
+    let waits = must_wait old job.root in
+    let taken : IsTaken waits old job (Done reply) new = subst (λ (o : Outcome). IsTaken waits old job o new) c.in-Done.is c.in-Ok.ensures.ok in
+    let receipt : c.receipt.result ≡ receipt_of old.store job reply =
+    receipt_same old.store job reply (log_length new.store job.root) c.receipt.result c.receipt.ensures (submitted_position waits old new job reply taken) in
+    let receipts : c.add.new.self.receipts ≡ inside.desk.receipts ++ receipt_of old.store job reply ∷ [] = c.add.ensures.receipts ∙ (λ k. c.reserve.ensures.receipts k ++ receipt k ∷ []) in
+    let seats = inside.seats.items in
+    record {
+      txn = job;
+      outcome = Done reply;
+      taken = subst (λ (node : NodeState). IsTaken (must_wait node.core job.root) node.core job (Done reply) new) c.self.view_is taken;
+      claims = ap (λ (node : NodeState). node.seats) c.self.view_is;
+      after = (λ k. record { core = new; seats = seats; sends = inside.sends.items; recvs = inside.recvs.items; receipts = receipts k })
+          ∙ ap (λ (node : NodeState). record node { core = new; seats = seats; receipts = receipts_after node.core.store job (Done reply) node.receipts }) c.self.view_is;
+    }
+
+pub returns-in-Waits : goal.returns-in-Waits
+returns-in-Waits g c =
+    let inside = c.self.inside in
+    let job = c.in-Some.job in
+    let seg = c.in-Waits.seg in
+    let leaf = c.in-Waits.leaf in
+    let old = inside.core.core in
+    let new = c.submit.new.self.core in
+    let waits = must_wait old job.root in
+    let taken : IsTaken waits old job (Waits seg leaf) new = subst (λ (o : Outcome). IsTaken waits old job o new) c.in-Waits.is c.in-Ok.ensures.ok in
+    let after = c.reactive.new.seats.items in
+    let claims : ClaimsAt seg leaf inside.seats.items after = pulled_claims _ seg leaf _ _ inside.seats.items after c.reactive.result _ _ c.reactive.ensures.pulled c.reactive.ensures.err in
+    record {
+      txn = job;
+      outcome = Waits seg leaf;
+      taken = subst (λ (node : NodeState). IsTaken (must_wait node.core job.root) node.core job (Waits seg leaf) new) c.self.view_is taken;
+      claims = subst (λ (node : NodeState). ClaimsAt seg leaf node.seats after) c.self.view_is claims;
+      after = (λ k. record { core = new; seats = after; sends = inside.sends.items; recvs = inside.recvs.items; receipts = c.reserve.ensures.receipts k })
+          ∙ ap (λ (node : NodeState). record node { core = new; seats = after }) c.self.view_is;
+    }

@@ -1,0 +1,31 @@
+use Rattle.std.proofs.Common.{◌≡◌, true, ℕ, List, ◌++◌, ◌∷◌, [], length, sym, ap, ◌∙◌, subst}
+use Rattle.std.specs.Prelude.{Bool, if◌then◌else◌}
+use Rattle.sq_exec.specs.CoreValue.{CoreValue}
+use Rattle.sq_exec.specs.Moving.{may_load}
+use Rattle.sq_node.specs.NodeState.{NodeState}
+use Rattle.sq_node.proofs.Settles.{after_load}
+use Rattle.sq_node.proofs.node.Node.step_load.Goals as goal
+
+pub invariant_of-self-then-note : goal.invariant_of-self-then-note
+invariant_of-self-then-note c =
+    let inside = c.self.inside in
+    let core_is = ap (λ (node : NodeState). node.core) c.self.view_is in
+    let note = c.in-Ok.note in
+    let pending = inside.to_complete.items in
+    after_load inside.core.core c.load.new.self.core c.in-Some.src note c.in-Ok.ensures.ok
+    (subst (λ (core : CoreValue). length core.loaded ≡ length core.recon.segments) (sym core_is) c.in-Some.ensures.each) (subst (λ (core : CoreValue). may_load core c.in-Some.src ≡ true) (sym core_is) c.in-Some.ensures.some)
+    inside.seats.items pending c.push_reserved.new.self.items inside.complete.items
+    (c.push_reserved.ensures.items ∙ (λ k. c.reserve.ensures.items k ++ (note.seg, note.node) ∷ []) ∙ ap (λ (b : Bool). if b then pending ++ (note.seg, note.node) ∷ [] else pending) (sym c.if-note.true))
+    c.self.invariant
+
+pub invariant_of-self-else-note : goal.invariant_of-self-else-note
+invariant_of-self-else-note c =
+    let inside = c.self.inside in
+    let core_is = ap (λ (node : NodeState). node.core) c.self.view_is in
+    let note = c.in-Ok.note in
+    let pending = inside.to_complete.items in
+    after_load inside.core.core c.load.new.self.core c.in-Some.src note c.in-Ok.ensures.ok
+    (subst (λ (core : CoreValue). length core.loaded ≡ length core.recon.segments) (sym core_is) c.in-Some.ensures.each) (subst (λ (core : CoreValue). may_load core c.in-Some.src ≡ true) (sym core_is) c.in-Some.ensures.some)
+    inside.seats.items pending c.reserve.new.self.items inside.complete.items
+    (c.reserve.ensures.items ∙ ap (λ (b : Bool). if b then pending ++ (note.seg, note.node) ∷ [] else pending) (sym c.if-note.false))
+    c.self.invariant

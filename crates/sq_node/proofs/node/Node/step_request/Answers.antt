@@ -1,0 +1,49 @@
+use Rattle.std.proofs.Common.{◌≡◌, ℕ, List, sym, ap, ◌∙◌, subst}
+use Rattle.sq_tree.specs.declared.status.Status.TheVariants.{Partial}
+use Rattle.sq_status.specs.declared.view.View.{View}
+use Rattle.sq_status.specs.Plays.{Won}
+use Rattle.sq_exec.specs.CoreValue.{CoreValue}
+use Rattle.sq_exec.specs.Moving.{begun_core}
+use Rattle.sq_node.specs.NodeState.{NodeState}
+use Rattle.sq_node.specs.Looks.{OnlyLooked, SeatsLooked}
+use Rattle.sq_node.proofs.Settles.{after_begun, same_loads, other_seats}
+use Rattle.sq_node.proofs.Looked.{settled_at, settled_begun, settled_looked, seats_looked_at, no_looks}
+use Rattle.sq_node.proofs.node.Node.step_request.Goals as goal
+
+pub invariant_of-self-then-begin : goal.invariant_of-self-then-begin
+invariant_of-self-then-begin g c =
+    let inside = c.self.inside in
+    let named = c.in-Some-named.named in
+    let pull = c.in-Some.request.pull in
+    let old = inside.seats.items in
+    let new = c.begin.new.seats.items in
+    let steps = λ (v w : View). Won v named.node (Partial pull) w in
+    after_begun inside.core.core c.begin.new.core.core named.seg named.node pull old new inside.to_complete.items inside.complete.items
+    (c.if-begin.ensures.1 ∙ ap (λ (core : CoreValue). begun_core core named.seg named.node pull) c.reserve_begin.ensures.same)
+    (settled_at named.seg steps old new (λ v w won n settled. settled_begun v w n named.node pull won settled) c.if-begin.ensures.0)
+    c.self.invariant
+
+pub invariant_of-self-3 : goal.invariant_of-self-3
+invariant_of-self-3 g c =
+    let inside = c.self.inside in
+    let named = c.in-Some-named.named in
+    let old = inside.seats.items in
+    let new = c.begin.new.seats.items in
+    let same : c.begin.new.core.core ≡ inside.core.core = c.if-begin.ensures.1 ∙ c.reserve_begin.ensures.same in
+    other_seats c.begin.new.core.core old new inside.to_complete.items inside.complete.items
+    (settled_at named.seg OnlyLooked old new (λ v w looked n settled. settled_looked v w n looked settled) c.if-begin.ensures.0)
+    (same_loads inside.core.core c.begin.new.core.core old inside.to_complete.items inside.complete.items (ap (λ (core : CoreValue). core.recon) same) (ap (λ (core : CoreValue). core.loaded) same) c.self.invariant)
+
+pub returns : goal.returns
+returns g c =
+    let inside = c.self.inside in
+    let named = c.in-Some-named.named in
+    let old = inside.seats.items in
+    let new = c.begin.new.seats.items in
+    let same : c.begin.new.core.core ≡ inside.core.core = c.if-begin.ensures.1 ∙ c.reserve_begin.ensures.same in
+    let looked : SeatsLooked old new = seats_looked_at named.seg OnlyLooked old old new (λ v w looks. looks) (no_looks old) c.if-begin.ensures.0 in
+    record {
+      seats = subst (λ (node : NodeState). SeatsLooked node.seats new) c.self.view_is looked;
+      after = (λ k. record { core = same k; seats = new; sends = inside.sends.items; recvs = inside.recvs.items; receipts = inside.desk.receipts })
+          ∙ ap (λ (node : NodeState). record node { seats = new }) c.self.view_is;
+    }

@@ -1,0 +1,46 @@
+use Rattle.std.proofs.Common.{◌≡◌, ℕ, List, [], ◌∷◌, ◌++◌, length, sym, ap, ◌∙◌, subst}
+use Rattle.sq_ranges.specs.ReconValue.{ReconValue}
+use Rattle.sq_status.specs.Seat.{SeatValue}
+use Rattle.sq_exec.specs.declared.outcome.Outcome.{Outcome}
+use Rattle.sq_exec.specs.declared.outcome.Outcome.TheVariants.{Done, Moved, Waits}
+use Rattle.sq_exec.specs.declared.outcome.Resumed.{Resumed}
+use Rattle.sq_exec.specs.CoreValue.{CoreValue}
+use Rattle.sq_exec.specs.Serving.{must_wait, IsTaken, IsResumed}
+use Rattle.sq_store.specs.StoreValue.{log_length}
+use Rattle.sq_node_model.specs.NodeValue.{ReceiptValue}
+use Rattle.sq_node_model.specs.Steps.{receipt_of, receipts_after}
+use Rattle.sq_node.specs.NodeState.{NodeState}
+use Rattle.sq_node.specs.Steps.{ClaimsAt}
+use Rattle.sq_node.proofs.Settles.{other_seats}
+use Rattle.sq_node.proofs.Served.{after_resumed, resumed_position, receipt_same}
+use Rattle.sq_node.proofs.node.Node.step_resume.Goals as goal
+
+pub invariant_of-self-in-Done : goal.invariant_of-self-in-Done
+invariant_of-self-in-Done g c =
+    let inside = c.self.inside in
+    after_resumed inside.core.core c.resume.new.self.core c.in-Ok.resumed inside.seats.items inside.to_complete.items inside.complete.items c.in-Ok.ensures.ok c.self.invariant
+
+pub invariant_of-self-in-Moved : goal.invariant_of-self-in-Moved
+invariant_of-self-in-Moved g c =
+    let inside = c.self.inside in
+    after_resumed inside.core.core c.resume.new.self.core c.in-Ok.resumed inside.seats.items inside.to_complete.items inside.complete.items c.in-Ok.ensures.ok c.self.invariant
+
+pub returns-in-Done : goal.returns-in-Done
+returns-in-Done g c =
+    let inside = c.self.inside in
+    let resumed = c.in-Ok.resumed in
+    let txn = resumed.txn in
+    let reply = c.in-Done.reply in
+    let old = inside.core.core in
+    let new = c.resume.new.self.core in
+    let done : resumed.outcome ≡ Done reply = c.in-Done.is in
+    let receipt : c.receipt.result ≡ receipt_of old.store txn reply =
+    receipt_same old.store txn reply (log_length new.store txn.root) c.receipt.result c.receipt.ensures (resumed_position old new resumed reply c.in-Ok.ensures.ok done) in
+    let receipts : c.add.new.self.receipts ≡ receipts_after old.store txn resumed.outcome inside.desk.receipts =
+    c.add.ensures.receipts ∙ (λ k. c.reserve.ensures.receipts k ++ receipt k ∷ []) ∙ ap (λ (o : Outcome). receipts_after old.store txn o inside.desk.receipts) (sym done) in
+    record {
+      resumed = resumed;
+      taken = subst (λ (node : NodeState). IsResumed node.core resumed new) c.self.view_is c.in-Ok.ensures.ok;
+      after = (λ k. record { core = new; seats = inside.seats.items; sends = inside.sends.items; recvs = inside.recvs.items; receipts = receipts k })
+          ∙ ap (λ (node : NodeState). record node { core = new; receipts = receipts_after node.core.store txn resumed.outcome node.receipts }) c.self.view_is;
+    }

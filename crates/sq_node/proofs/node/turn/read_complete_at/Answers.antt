@@ -1,0 +1,15 @@
+use Rattle.std.proofs.Common.{refl}
+use Rattle.sq_node.specs.Looks.{OnlyLooked}
+use Rattle.sq_node.proofs.Looked.{seats_kept}
+use Rattle.sq_pull.proofs.Stepped.{steps_at}
+use Rattle.sq_node.proofs.node.turn.read_complete_at.Goals as goal
+
+pub returns-clause-seats : goal.returns-clause-seats
+returns-clause-seats c =
+    seats_kept c.args.trees.now c.args.seats.now.items c.args.at c.args.at c.index_mut.result.now c.reads_complete.new.seat
+    c.requires.seats c.requires.segment refl c.index_mut.ensures.value c.reads_complete.ensures.seat
+
+pub returns-clause-looked : goal.returns-clause-looked
+returns-clause-looked c =
+    steps_at c.args.trees.now c.args.seats.now.items c.args.at c.args.at OnlyLooked c.index_mut.result.now c.reads_complete.new.seat
+    c.requires.seats c.requires.segment refl c.index_mut.ensures.value c.reads_complete.ensures.seat c.reads_complete.ensures.looked

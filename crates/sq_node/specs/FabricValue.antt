@@ -1,0 +1,32 @@
+-- What the nodes of a run share.
+use Rattle.std.specs.Prelude.{◌≡◌, ℕ, ◌≤◌, true, List, length, map, slice_get, Some}
+use Rattle.atomic_table.specs.Seated.{TableId}
+use Rattle.sq_ranges.specs.declared.recon.Link.{Link}
+use Rattle.sq_ranges.specs.declared.segment.TheConstants.{SEGMENT_LIMIT}
+use Rattle.sq_ranges.specs.ReconValue.{ReconValue, AreLinks}
+use Rattle.sq_link.specs.Values.{LinkValue}
+use Rattle.sq_status.specs.Seat.{SeatValue}
+use Rattle.sq_pull.specs.Seats.{AreSeatsOf}
+
+-- what moves, how many partitions there are, for each segment its tree and the seat that the tree was opened with, and the links
+pub record FabricValue : Type 0 where
+  pub recon : ReconValue
+  pub parts : ℕ
+  pub trees : List TableId
+  pub seats : List SeatValue
+  pub links : List LinkValue
+
+abbrev pub ends_of : LinkValue → Link
+ends_of link = record { src = link.src; dst = link.dst }
+
+-- the seats are those that their trees were opened with
+abbrev pub AreFirst : List SeatValue → Type 0
+AreFirst seats = (seg : ℕ) (seat : SeatValue) → slice_get seats seg ≡ Some seat → seat.view.first ≡ true
+
+-- there are no more segments than there may be, each has a tree, and each of the ranges' links is there
+pub record IsFabric (fabric : FabricValue) : Type 0 where
+  pub few : length fabric.recon.segments ≤ SEGMENT_LIMIT
+  pub trees : length fabric.trees ≡ length fabric.recon.segments
+  pub seats : AreSeatsOf fabric.trees fabric.seats
+  pub first : AreFirst fabric.seats
+  pub links : AreLinks fabric.recon.ranges (map ends_of fabric.links)

@@ -1,0 +1,56 @@
+-- A node in memory.
+use Rattle.std.specs.Prelude.{◌≡◌, ℕ, ◌-◌, ◌<◌, false, List, [], length, slice_get, Option}
+use Rattle.std.specs.Option.{option_map_or}
+use Rattle.sq_schema.specs.declared.txn.Reply.{Reply}
+use Rattle.sq_schema.specs.declared.txn.Reply.TheVariants.{Committed, Aborted}
+use Rattle.sq_chunk.specs.ChunkValue.{ChunkValue}
+use Rattle.sq_exec.specs.CoreValue.{CoreValue}
+use Rattle.sq_status.specs.declared.view.View.{View}
+use Rattle.sq_status.specs.View.{fresh}
+use Rattle.sq_status.specs.Seat.{SeatValue}
+use Rattle.sq_pull.specs.Seats.{AreSeatsOf}
+use Rattle.sq_node.specs.declared.ends.SendEnd.{SendEnd}
+use Rattle.sq_node.specs.declared.ends.RecvEnd.{RecvEnd}
+use Rattle.sq_node_model.specs.NodeValue.{ReceiptValue, NodeValue, node_of}
+use Rattle.sq_node.specs.FabricValue.{FabricValue}
+use Rattle.sq_node.specs.Ends.{send_end, recv_end, AreSendEnds, AreRecvEnds}
+
+-- a partition, for each segment its seat at the segment's tree, for each partition its ends of the links to it and from it, and its receipts
+pub record NodeState : Type 0 where
+  pub core : CoreValue
+  pub seats : List SeatValue
+  pub sends : List (Option SendEnd)
+  pub recvs : List (Option RecvEnd)
+  pub receipts : List ReceiptValue
+
+-- the node is one of those that the fabric was opened with
+pub record IsNodeOf (fabric : FabricValue) (node : NodeState) : Type 0 where
+  pub recon : node.core.recon ≡ fabric.recon
+  pub parts : node.core.plan.parts ≡ fabric.parts
+  pub below : node.core.part < fabric.parts
+  pub seats : AreSeatsOf fabric.trees node.seats
+  pub sends : AreSendEnds fabric.links node.core.part node.sends
+  pub recvs : AreRecvEnds fabric.links node.core.part node.recvs
+  pub all_sends : length node.sends ≡ fabric.parts
+  pub all_recvs : length node.recvs ≡ fabric.parts
+
+-- what each seat has done and seen, by segment
+abbrev pub views_of : List SeatValue → ℕ → View
+views_of seats seg = option_map_or (λ seat. seat.view) (slice_get seats seg) (fresh false false)
+
+-- what was sent by each end, by the partition that it sends to
+abbrev pub sent_by : List (Option SendEnd) → ℕ → List ChunkValue
+sent_by sends dst = option_map_or (λ end. end.pass.sent) (send_end sends dst) []
+
+-- what was received by each end, by the partition that it receives from
+abbrev pub received_by : List (Option RecvEnd) → ℕ → List ChunkValue
+received_by recvs src = option_map_or (λ end. end.pass.received) (recv_end recvs src) []
+
+-- the node by keys
+abbrev pub node_value : NodeState → NodeValue
+node_value node = node_of node.core (views_of node.seats) (sent_by node.sends) (received_by node.recvs) node.receipts
+
+-- how many transactions a log held before one with this reply, where it holds this many after it
+abbrev pub position_before : ℕ → Reply → ℕ
+position_before after (Committed answers) = after - 1
+position_before after (Aborted at cause) = after

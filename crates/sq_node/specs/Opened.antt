@@ -1,0 +1,129 @@
+-- What a run opens with.
+use Rattle.std.specs.Prelude.{◌≡◌, ◌≢◌, ℕ, ◌+◌, ◌<◌, true, false, List, [], length, map, slice_get, slice_index_or, Option, Some}
+use Rattle.atomic_table.specs.Seated.{TableId}
+use Rattle.sq_ranges.specs.declared.recon.Range.{Range}
+use Rattle.sq_ranges.specs.ReconValue.{AreLinks}
+use Rattle.sq_ranges.specs.OpeningValue.{OpeningValue}
+use Rattle.sq_link.specs.Values.{LinkValue}
+use Rattle.sq_status.specs.declared.view.View.{View}
+use Rattle.sq_status.specs.View.{fresh, gave}
+use Rattle.sq_status.specs.Seat.{SeatValue}
+use Rattle.sq_exec.specs.CoreValue.{CoreValue}
+use Rattle.sq_opened.specs.Opened.{opened_part}
+use Rattle.sq_pull.specs.Seats.{AreSeatsOf}
+use Rattle.sq_pull.specs.Wins.{no_wins}
+use Rattle.sq_pull.specs.Pump.{PumpValue}
+use Rattle.sq_node.specs.declared.ends.SendEnd.{SendEnd}
+use Rattle.sq_node.specs.declared.ends.RecvEnd.{RecvEnd}
+use Rattle.sq_node.specs.Ends.{link_at, send_end, recv_end}
+use Rattle.sq_node.specs.FabricValue.{FabricValue, ends_of}
+use Rattle.sq_node_model.specs.NodeHolds.{NodeHolds}
+use Rattle.sq_node.specs.NodeState.{NodeState, IsNodeOf, node_value}
+
+-- a partition whose move has started
+abbrev pub started_part : OpeningValue → ℕ → CoreValue
+started_part o part = record (opened_part o part) { started = true }
+
+-- the view of a tree's first seat, which has given out this many seats
+abbrev pub first_view : ℕ → View
+first_view given = record (fresh true false) { given = given }
+
+-- the first seats of these trees, each of which has given out this many seats
+pub record AreFirstSeats (given : ℕ) (trees : List TableId) (seats : List SeatValue) : Type 0 where
+  pub of : AreSeatsOf trees seats
+  pub each : (seg : ℕ) (seat : SeatValue) → slice_get seats seg ≡ Some seat → seat.view ≡ first_view given
+
+-- seats at these trees that have done and seen nothing
+pub record AreNewSeats (trees : List TableId) (seats : List SeatValue) : Type 0 where
+  pub of : AreSeatsOf trees seats
+  pub each : (seg : ℕ) (seat : SeatValue) → slice_get seats seg ≡ Some seat → seat.view ≡ fresh false false
+
+-- the ends of a link that nothing was sent on
+abbrev pub new_send_end : List LinkValue → ℕ → SendEnd
+new_send_end links i = record { link = i; pass = record { queue = (link_at links i).queue; sent = [] } }
+
+abbrev pub new_recv_end : List LinkValue → ℕ → RecvEnd
+new_recv_end links i = record { link = i; pass = record { queue = (link_at links i).queue; received = [] } }
+
+-- each seat gave out one more
+pub record GaveEach (old new : List SeatValue) : Type 0 where
+  pub count : length new ≡ length old
+  pub each : (seg : ℕ) (before : SeatValue) → slice_get old seg ≡ Some before → slice_get new seg ≡ Some (record { tree = before.tree; view = gave before.view })
+
+-- new links for these ranges, each of which holds this many chunks
+pub record AreNewLinks (ranges : List Range) (capacity : ℕ) (links : List LinkValue) : Type 0 where
+  pub ends : AreLinks ranges (map ends_of links)
+  pub holds : (i : ℕ) (link : LinkValue) → slice_get links i ≡ Some link → link.capacity ≡ capacity
+
+-- the ends of all links, each where its link stands
+pub record HasAllEnds (links : List LinkValue) (sends : List (Option SendEnd)) (recvs : List (Option RecvEnd)) : Type 0 where
+  pub count_sends : length sends ≡ length links
+  pub count_recvs : length recvs ≡ length links
+  pub each_send : (i : ℕ) → i < length links → send_end sends i ≡ Some (new_send_end links i)
+  pub each_recv : (i : ℕ) → i < length links → recv_end recvs i ≡ Some (new_recv_end links i)
+
+-- the ends that a partition is to send by stand here, each where its link stands
+pub record HasSendEnds (links : List LinkValue) (ends : List (Option SendEnd)) (part : ℕ) : Type 0 where
+  pub count : length ends ≡ length links
+  pub each : (i : ℕ) → i < length links → (link_at links i).src ≡ part → send_end ends i ≡ Some (new_send_end links i)
+
+pub record HasRecvEnds (links : List LinkValue) (ends : List (Option RecvEnd)) (part : ℕ) : Type 0 where
+  pub count : length ends ≡ length links
+  pub each : (i : ℕ) → i < length links → (link_at links i).dst ≡ part → recv_end ends i ≡ Some (new_recv_end links i)
+
+-- the ends of links from other partitions stay
+pub record LeavesSendEnds (links : List LinkValue) (old : List (Option SendEnd)) (part : ℕ) (new : List (Option SendEnd)) : Type 0 where
+  pub count : length new ≡ length old
+  pub each : (i : ℕ) → (link_at links i).src ≢ part → send_end new i ≡ send_end old i
+
+-- the ends of links to other partitions stay
+pub record LeavesRecvEnds (links : List LinkValue) (old : List (Option RecvEnd)) (part : ℕ) (new : List (Option RecvEnd)) : Type 0 where
+  pub count : length new ≡ length old
+  pub each : (i : ℕ) → (link_at links i).dst ≢ part → recv_end new i ≡ recv_end old i
+
+-- nothing was sent by these ends
+abbrev pub HaveSentNothing : List (Option SendEnd) → Type 0
+HaveSentNothing sends = (dst : ℕ) (end : SendEnd) → send_end sends dst ≡ Some end → end.pass.sent ≡ []
+
+-- nothing was received by these ends
+abbrev pub HaveReceivedNothing : List (Option RecvEnd) → Type 0
+HaveReceivedNothing recvs = (src : ℕ) (end : RecvEnd) → recv_end recvs src ≡ Some end → end.pass.received ≡ []
+
+-- a node of an opening, to which nothing has happened: what a node keeps holds of it
+pub record IsNewNode (o : OpeningValue) (fabric : FabricValue) (part : ℕ) (node : NodeState) : Type 0 where
+  pub of : IsNodeOf fabric node
+  pub core : node.core ≡ started_part o part
+  pub seats : AreNewSeats fabric.trees node.seats
+  pub sends : HaveSentNothing node.sends
+  pub recvs : HaveReceivedNothing node.recvs
+  pub receipts : node.receipts ≡ []
+  pub holds : NodeHolds o (node_value node)
+
+-- what a run shares fits an opening: what moves, how many partitions there are, and how many chunks a link holds
+pub record IsFabricOf (o : OpeningValue) (fabric : FabricValue) : Type 0 where
+  pub recon : fabric.recon ≡ o.recon
+  pub parts : fabric.parts ≡ o.old.parts
+  pub capacity : (i : ℕ) (link : LinkValue) → slice_get fabric.links i ≡ Some link → link.capacity ≡ o.config.capacity
+
+-- the nodes of the first partitions of an opening, to which nothing has happened
+pub record AreNewNodes (o : OpeningValue) (fabric : FabricValue) (count : ℕ) (nodes : List NodeState) : Type 0 where
+  pub all : length nodes ≡ count
+  pub each : (part : ℕ) (node : NodeState) → slice_get nodes part ≡ Some node → IsNewNode o fabric part node
+
+-- the pump of a number, to which nothing has happened
+pub record IsNewPump (fabric : FabricValue) (number : ℕ) (pump : PumpValue) : Type 0 where
+  pub numbered : pump.number ≡ number
+  pub wins : pump.wins ≡ no_wins
+  pub seats : AreNewSeats fabric.trees pump.seats
+
+-- this many pumps, to which nothing has happened
+pub record AreNewPumps (fabric : FabricValue) (count : ℕ) (pumps : List PumpValue) : Type 0 where
+  pub all : length pumps ≡ count
+  pub each : (number : ℕ) (pump : PumpValue) → slice_get pumps number ≡ Some pump → IsNewPump fabric number pump
+
+-- a run opens with a node for each partition and with this many pumps, and all seats are handed out
+pub record IsOpened (o : OpeningValue) (count : ℕ) (fabric : FabricValue) (nodes : List NodeState) (pumps : List PumpValue) : Type 0 where
+  pub shared : IsFabricOf o fabric
+  pub seats : AreFirstSeats (o.old.parts + count) fabric.trees fabric.seats
+  pub each_node : AreNewNodes o fabric o.old.parts nodes
+  pub each_pump : AreNewPumps fabric count pumps

@@ -1,0 +1,192 @@
+-- What each step of a node does to it.
+use Rattle.std.specs.Prelude.{◌≡◌, ℕ, ◌<◌, ◌⊎◌, true, false, List, [], ◌∷◌, ◌++◌, length, slice_get, slice_set, slice_index_or, Option, Some, None, IsSome, is_some, Contains}
+use Rattle.crossbeam_queue.specs.Fifo.{Held}
+use Rattle.sq_schema.specs.TxnValue.{TxnValue}
+use Rattle.sq_schema.specs.declared.txn.Reply.{Reply}
+use Rattle.sq_tree.specs.declared.status.Status.{Status}
+use Rattle.sq_tree.specs.declared.status.Status.TheVariants.{Partial}
+use Rattle.sq_tree.specs.Node.{is_node}
+use Rattle.sq_tree.specs.Status.{is_partial}
+use Rattle.sq_ranges.specs.declared.recon.Range.{Range}
+use Rattle.sq_status.specs.declared.view.View.{View}
+use Rattle.sq_status.specs.Plays.{Found, Won}
+use Rattle.sq_status.specs.Seat.{SeatValue}
+use Rattle.sq_chunk.specs.declared.chunk.Note.{Note}
+use Rattle.sq_chunk.specs.ChunkValue.{ChunkValue}
+use Rattle.sq_link.specs.Order.{IsEndOf, ComesAfter}
+use Rattle.sq_exec.specs.CoreValue.{CoreValue, out_at, with_out, inbox_at, with_inbox, loaded_at}
+use Rattle.sq_exec.specs.OutLink.{may_cut}
+use Rattle.sq_exec.specs.Runs.{is_whole}
+use Rattle.sq_exec.specs.Moving.{begun_core, may_load, CutsFor, LoadsFrom}
+use Rattle.sq_exec.specs.Serving.{must_wait, resume_refusal, IsTaken, IsResumed}
+use Rattle.sq_exec.specs.declared.outcome.Outcome.{Outcome}
+use Rattle.sq_exec.specs.declared.outcome.Outcome.TheVariants.{Done, Moved, Waits}
+use Rattle.sq_exec.specs.declared.outcome.Resumed.{Resumed}
+use Rattle.sq_status.specs.declared.tree.walks.LeafClaim.{LeafClaim}
+use Rattle.sq_pull.specs.Seats.{StepsAt, ClaimsLeaf}
+use Rattle.sq_node.specs.declared.ends.SendEnd.{SendEnd}
+use Rattle.sq_node.specs.declared.ends.RecvEnd.{RecvEnd}
+use Rattle.sq_node.specs.declared.stepped.Stepped.{Stepped}
+use Rattle.sq_node.specs.declared.stepped.Stepped.TheVariants.{Did, Nothing, Memory}
+use Rattle.sq_node.specs.FabricValue.{FabricValue}
+use Rattle.sq_node.specs.Ends.{link_at, send_end, recv_end, sent_on, received_on}
+use Rattle.sq_node.specs.Looks.{SeatsLooked, HasNoneToComplete, LooksAndCompletes}
+use Rattle.sq_node.specs.NodeState.{NodeState}
+use Rattle.sq_node_model.specs.Steps.{receipts_after}
+
+-- a chunk for this partition was cut
+pub record Cuts (old : NodeState) (dst : ℕ) (new : NodeState) : Type 0 where
+  pub note : Note
+  pub cut : CutsFor old.core dst note new.core
+  pub after : new ≡ record old { core = new.core }
+
+abbrev pub CutStep : NodeState → Stepped → NodeState → Type 0
+CutStep old Did new = (dst : ℕ) × Cuts old dst new
+CutStep old Nothing new = (new ≡ old) × ((dst : ℕ) → may_cut (out_at old.core dst) ≡ false)
+CutStep old Memory new = new ≡ old
+
+-- the chunk for this partition was sent
+pub record Sends (old : NodeState) (dst : ℕ) (new : NodeState) : Type 0 where
+  pub chunk : ChunkValue
+  pub end : SendEnd
+  pub cut : (out_at old.core dst).outbox ≡ Some chunk
+  pub there : send_end old.sends dst ≡ Some end
+  pub after : new ≡ record old { core = with_out old.core dst (record (out_at old.core dst) { outbox = None }); sends = slice_set old.sends dst (Some (sent_on end chunk)) }
+
+-- there is no chunk for this partition; or no link to it; or the link was full at one moment
+abbrev pub HasNoneToSend : FabricValue → NodeState → ℕ → Type 0
+HasNoneToSend fabric node dst =
+    ((out_at node.core dst).outbox ≡ None)
+    ⊎ ((send_end node.sends dst ≡ None)
+    ⊎ ((end : SendEnd) × (send_end node.sends dst ≡ Some end) × Held (link_at fabric.links end.link).capacity (IsEndOf end.pass.sent)))
+
+abbrev pub SendStep : FabricValue → NodeState → Stepped → NodeState → Type 0
+SendStep fabric old Did new = (dst : ℕ) × Sends old dst new
+SendStep fabric old Nothing new = (new ≡ old) × ((dst : ℕ) → HasNoneToSend fabric old dst)
+SendStep fabric old Memory new = ⊥
+
+-- a chunk came from this partition
+pub record Receives (old : NodeState) (src : ℕ) (new : NodeState) : Type 0 where
+  pub chunk : ChunkValue
+  pub end : RecvEnd
+  pub empty : inbox_at old.core src ≡ None
+  pub there : recv_end old.recvs src ≡ Some end
+  pub after : new ≡ record old { core = with_inbox old.core src (Some chunk); recvs = slice_set old.recvs src (Some (received_on end chunk)) }
+
+-- the chunk that came from this partition isn't loaded; or there is no link from it; or the link was empty at one moment
+abbrev pub HasNoneToReceive : NodeState → ℕ → Type 0
+HasNoneToReceive node src =
+    (is_some (inbox_at node.core src) ≡ true)
+    ⊎ ((recv_end node.recvs src ≡ None)
+    ⊎ ((end : RecvEnd) × (recv_end node.recvs src ≡ Some end) × Held 0 (ComesAfter end.pass.received)))
+
+abbrev pub RecvStep : NodeState → Stepped → NodeState → Type 0
+RecvStep old Did new = (src : ℕ) × Receives old src new
+RecvStep old Nothing new = (new ≡ old) × ((src : ℕ) → HasNoneToReceive old src)
+RecvStep old Memory new = ⊥
+
+-- the chunk that came from this partition was loaded
+pub record Loads (old : NodeState) (src : ℕ) (new : NodeState) : Type 0 where
+  pub note : Note
+  pub can : may_load old.core src ≡ true
+  pub load : LoadsFrom old.core src note new.core
+  pub after : new ≡ record old { core = new.core }
+
+abbrev pub LoadStep : NodeState → Stepped → NodeState → Type 0
+LoadStep old Did new = (src : ℕ) × Loads old src new
+LoadStep old Nothing new = (new ≡ old) × ((src : ℕ) → may_load old.core src ≡ false)
+LoadStep old Memory new = new ≡ old
+
+-- nothing happened at a node but looks
+pub record Looks (old new : NodeState) : Type 0 where
+  pub seats : SeatsLooked old.seats new.seats
+  pub after : new ≡ record old { seats = new.seats }
+
+-- it is a node of a segment that leaves this partition
+pub record IsOutward (core : CoreValue) (seg n : ℕ) : Type 0 where
+  pub segment : Range
+  pub there : slice_get core.recon.segments seg ≡ Some segment
+  pub leaves : segment.src ≡ core.part
+  pub node : is_node n ≡ true
+
+-- a node of a segment that leaves here was begun
+pub record Begins (old new : NodeState) : Type 0 where
+  pub seg : ℕ
+  pub node : ℕ
+  pub pull : ℕ
+  pub outward : IsOutward old.core seg node
+  pub won : StepsAt seg (λ v w. Won v node (Partial pull) w) old.seats new.seats
+  pub after : new ≡ record old { core = begun_core old.core seg node pull; seats = new.seats }
+
+abbrev pub RequestStep : NodeState → Stepped → NodeState → Type 0
+RequestStep old Did new = Begins old new
+RequestStep old Nothing new = Looks old new
+RequestStep old Memory new = new ≡ old
+
+-- a node whose last chunk was loaded was completed, after looks
+pub record Completes (old new : NodeState) : Type 0 where
+  pub seg : ℕ
+  pub node : ℕ
+  pub whole : is_whole (loaded_at old.core seg) node ≡ true
+  pub between : List SeatValue
+  pub looked : SeatsLooked old.seats between
+  pub completed : StepsAt seg (λ v w. LooksAndCompletes v node w) between new.seats
+  pub after : new ≡ record old { seats = new.seats }
+
+abbrev pub CompleteStep : NodeState → Stepped → NodeState → Type 0
+CompleteStep old Did new = Completes old new
+CompleteStep old Nothing new = Looks old new × ((seg n : ℕ) → is_whole (loaded_at old.core seg) n ≡ true → HasNoneToComplete old.seats new.seats seg n)
+CompleteStep old Memory new = ⊥
+
+-- the leaf of a segment was claimed for some pull, or found to have one; or the node has won all claims that it may
+abbrev pub ClaimsAt : ℕ → ℕ → List SeatValue → List SeatValue → Type 0
+ClaimsAt seg leaf old new =
+    ((pull : ℕ) × (claim : LeafClaim) × StepsAt seg (ClaimsLeaf leaf pull claim) old new) ⊎ (new ≡ old)
+
+-- what becomes of the seats with a transaction that a partition took: the leaf is claimed where it waits, and else nothing
+abbrev pub ClaimsFor : Outcome → List SeatValue → List SeatValue → Type 0
+ClaimsFor (Done reply) old new = new ≡ old
+ClaimsFor (Moved to) old new = new ≡ old
+ClaimsFor (Waits seg leaf) old new = ClaimsAt seg leaf old new
+
+-- a job was submitted, and has its receipt if it ran
+pub record Submits (old new : NodeState) : Type 0 where
+  pub txn : TxnValue
+  pub outcome : Outcome
+  pub taken : IsTaken (must_wait old.core txn.root) old.core txn outcome new.core
+  pub claims : ClaimsFor outcome old.seats new.seats
+  pub after : new ≡ record old { core = new.core; seats = new.seats; receipts = receipts_after old.core.store txn outcome old.receipts }
+
+abbrev pub JobStep : NodeState → Stepped → NodeState → Type 0
+JobStep old Did new = Submits old new
+JobStep old Nothing new = new ≡ old
+JobStep old Memory new = new ≡ old
+
+-- a waiting transaction was resumed, and has its receipt if it ran
+pub record Resumes (old new : NodeState) : Type 0 where
+  pub resumed : Resumed
+  pub taken : IsResumed old.core resumed new.core
+  pub after : new ≡ record old { core = new.core; receipts = receipts_after old.core.store resumed.txn resumed.outcome old.receipts }
+
+abbrev pub ResumeStep : NodeState → Stepped → NodeState → Type 0
+ResumeStep old Did new = Resumes old new
+ResumeStep old Nothing new = (new ≡ old) × IsSome (resume_refusal old.core)
+ResumeStep old Memory new = new ≡ old
+
+-- a turn: each step in turn, whatever it comes to
+pub record Turns (fabric : FabricValue) (old new : NodeState) : Type 0 where
+  pub jobbed : NodeState
+  pub asked : NodeState
+  pub cut : NodeState
+  pub sent : NodeState
+  pub received : NodeState
+  pub loaded : NodeState
+  pub completed : NodeState
+  pub job : (answer : Stepped) × JobStep old answer jobbed
+  pub request : (answer : Stepped) × RequestStep jobbed answer asked
+  pub cutting : (answer : Stepped) × CutStep asked answer cut
+  pub sending : (answer : Stepped) × SendStep fabric cut answer sent
+  pub receiving : (answer : Stepped) × RecvStep sent answer received
+  pub loading : (answer : Stepped) × LoadStep received answer loaded
+  pub completing : (answer : Stepped) × CompleteStep loaded answer completed
+  pub resuming : (answer : Stepped) × ResumeStep completed answer new

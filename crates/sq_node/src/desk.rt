@@ -1,0 +1,108 @@
+// The jobs that a node answered, and those that it has to post on.
+ghost use Rattle.std.specs.Prelude.{◌≡◌, ◌↔◌, ◌++◌, ◌∷◌, [], true, IsTrue, OnOk};
+
+use crate::fabric::Fabric;
+use crate::receipt::Receipt;
+use sq_plan::PartId;
+use sq_schema::Txn;
+use std::alloc::{AllocError, Global};
+use std::collections::VecDeque;
+use std::marker::Model;
+use std::sync::Wait;
+
+/// A job on its way to a partition.
+#[derive(Debug, Drop)]
+pub struct Post {
+    /// The partition.
+    pub to: PartId,
+    /// The job.
+    pub job: Txn,
+}
+
+/// The receipts of a node, and the jobs that it has to post on. To a contract it is a `DeskValue`.
+#[derive(Debug, Drop)]
+pub(crate) struct Desk {
+    receipts: Vec<Receipt>,
+    posts: VecDeque<Post>,
+}
+
+impl Model for Desk {
+    ghost use Rattle.std.specs.Prelude.{nat_lt, ◌&&◌, vec_len, vec_capacity};
+    ghost use Rattle.std.specs.VecDeque.{deque_len, deque_capacity};
+    ghost use Rattle.sq_node.specs.DeskValue.{DeskValue};
+
+    ghost Value = { DeskValue };
+
+    ghost view = { λ d. record { receipts = d.receipts.items; posts = d.posts.items; has_room = nat_lt (vec_len d.receipts) (vec_capacity d.receipts) && nat_lt (deque_len d.posts) (deque_capacity d.posts) } };
+}
+
+impl Desk {
+    /// Nothing.
+    pub(crate) fn new(alloc: Global) -> Desk
+        ensures receipts { result.receipts ≡ [] }
+        ensures posts { result.posts ≡ [] }
+    {
+        Desk {
+            receipts: Vec::new(alloc),
+            posts: VecDeque::new(alloc),
+        }
+    }
+
+    /// Takes room for one more receipt and for one more job.
+    pub(crate) fn reserve(&mut self) -> Result<(), AllocError>
+        ensures receipts { self.new.receipts ≡ self.old.receipts }
+        ensures posts { self.new.posts ≡ self.old.posts }
+        ensures ok { OnOk result (self.new.has_room ≡ true) }
+    {
+        self.receipts.reserve(1)?;
+        self.posts.reserve(1)
+    }
+
+    /// Adds a receipt.
+    pub(crate) fn add(&mut self, receipt: Receipt)
+        requires { self.old.has_room ≡ true }
+        ensures receipts { self.new.receipts ≡ self.old.receipts ++ receipt ∷ [] }
+        ensures posts { self.new.posts ≡ self.old.posts }
+    {
+        self.receipts.push_reserved(receipt);
+    }
+
+    /// Posts a job on. Where the queue of that partition is full the job stays here.
+    pub(crate) fn post<R: Wait>(&mut self, rt: &R, fabric: &Fabric, to: PartId, job: Txn)
+        requires { self.old.has_room ≡ true }
+        ensures { self.new.receipts ≡ self.old.receipts }
+    {
+        if let Err(job) = fabric.put_job(rt, to, job) {
+            self.posts.push_back_reserved(Post { to, job });
+        }
+    }
+
+    /// Posts each job whose queue has room for it. The others stay, in their order.
+    pub(crate) fn send_pending<R: Wait>(&mut self, rt: &R, fabric: &Fabric)
+        ensures { self.new.receipts ≡ self.old.receipts }
+    {
+        for _post in 0..self.posts.len() {
+            let Some(Post { to, job }) = self.posts.pop_front() else {
+                return;
+            };
+            if let Err(job) = fabric.put_job(rt, to, job) {
+                self.posts.push_back_reserved(Post { to, job });
+            }
+        }
+    }
+
+    /// Whether no job is left to post on.
+    pub(crate) fn is_sent(&self) -> bool
+        ensures { IsTrue result ↔ (self.now.posts ≡ []) }
+    {
+        self.posts.is_empty()
+    }
+
+    /// The receipts, and the jobs that are to be posted on.
+    pub(crate) fn into_parts(self) -> (Vec<Receipt>, VecDeque<Post>)
+        ensures receipts { result.0.items ≡ self.receipts }
+        ensures posts { result.1.items ≡ self.posts }
+    {
+        (self.receipts, self.posts)
+    }
+}

@@ -1,0 +1,186 @@
+// What the nodes of a run share.
+ghost use Rattle.std.specs.Prelude.{◌≡◌, ◌<◌, IfErr};
+ghost use Rattle.sq_node.specs.FabricValue.{IsFabric};
+
+use crossbeam_queue::ArrayQueue;
+use sq_link::Link;
+use sq_plan::PartId;
+use sq_pull::{Request, Shared};
+use sq_ranges::Recon;
+use sq_schema::Txn;
+use sq_status::{StatusTree, TreeSeat};
+use std::marker::Model;
+use std::sync::Wait;
+use std::sync::atomic::{AtomicU64, Ordering};
+
+/// How many requests the queue of a partition holds.
+pub const REQUEST_PLACES: usize = 256;
+
+/// How many jobs the queue of a partition holds.
+pub const JOB_PLACES: usize = 4096;
+
+/// What the nodes of a run share by `&`: the split trees, the links, and for each partition a queue of requests to begin
+/// nodes and a queue of jobs. To a contract it is a `FabricValue`.
+#[derive(Drop)]
+pub struct Fabric {
+    recon: Recon,
+    parts: u8,
+    trees: Vec<StatusTree>,
+    seats: Vec<TreeSeat>,
+    links: Vec<Link>,
+    requests: Vec<ArrayQueue<Request>>,
+    jobs: Vec<ArrayQueue<Txn>>,
+    posted: AtomicU64,
+    answered: AtomicU64,
+}
+
+impl Model for Fabric {
+    ghost use Rattle.sq_node.specs.FabricValue.{FabricValue, IsFabric};
+
+    ghost Value = { FabricValue };
+
+    ghost view = { λ f. record { recon = f.recon; parts = f.parts; trees = f.trees.items; seats = f.seats.items; links = f.links.items } };
+
+    ghost invariant = { λ f. IsFabric (record { recon = f.recon; parts = f.parts; trees = f.trees.items; seats = f.seats.items; links = f.links.items }) };
+}
+
+/// What a run shared, once its threads are joined.
+#[derive(Drop)]
+pub struct FabricParts {
+    /// What moved.
+    pub recon: Recon,
+    /// For each segment its split tree.
+    pub trees: Vec<StatusTree>,
+    /// For each segment the seat that its tree was opened with.
+    pub seats: Vec<TreeSeat>,
+    /// The links.
+    pub links: Vec<Link>,
+    /// For each partition the requests that weren't taken.
+    pub requests: Vec<ArrayQueue<Request>>,
+    /// For each partition the jobs that weren't taken.
+    pub jobs: Vec<ArrayQueue<Txn>>,
+}
+
+impl Fabric {
+    /// What moves.
+    pub fn recon(&self) -> &Recon
+        ensures { result.now ≡ self.now.recon }
+    {
+        &self.recon
+    }
+
+    /// How many partitions there are.
+    pub fn parts(&self) -> u8
+        ensures { result ≡ self.now.parts }
+    {
+        self.parts
+    }
+
+    /// For each segment its split tree.
+    pub fn trees(&self) -> &[StatusTree]
+        ensures trees { result.now ≡ self.now.trees }
+        ensures fabric { IsFabric self.now }
+    {
+        &self.trees
+    }
+
+    /// The links.
+    pub fn links(&self) -> &[Link]
+        ensures links { result.now ≡ self.now.links }
+        ensures fabric { IsFabric self.now }
+    {
+        &self.links
+    }
+
+    /// What a pull needs of it.
+    pub fn shared(&self) -> Shared<'_>
+        ensures recon { result.recon.now ≡ self.now.recon }
+        ensures trees { result.trees.now ≡ self.now.trees }
+        ensures fabric { IsFabric self.now }
+    {
+        Shared {
+            recon: &self.recon,
+            trees: &self.trees,
+            requests: &self.requests,
+        }
+    }
+
+    /// Posts a job to a partition. It comes back where that queue was full at one moment of the call.
+    pub fn post<R: Wait>(&self, rt: &R, part: PartId, job: Txn) -> Result<(), Txn>
+        requires { part < self.now.parts }
+        ensures { IfErr result (λ back. back ≡ job) }
+    {
+        self.put_job(rt, part, job)?;
+        self.posted.fetch_add(1, Ordering::SeqCst);
+        Ok(())
+    }
+
+    /// Asks a partition to begin a node. The request comes back where that queue was full at one moment of the call.
+    pub fn request<R: Wait>(&self, rt: &R, part: PartId, request: Request) -> Result<(), Request>
+        requires { part < self.now.parts }
+        ensures { IfErr result (λ back. back ≡ request) }
+    {
+        match self.requests.get(usize::from(part.number())) {
+            Some(queue) => queue.push(rt, request),
+            None => Err(request),
+        }
+    }
+
+    /// Whether as many jobs were answered as were posted. This is a hint: it is told of no moment.
+    pub fn is_answered(&self) -> bool {
+        let answered = self.answered.load(Ordering::SeqCst);
+        answered == self.posted.load(Ordering::SeqCst)
+    }
+
+    /// What was shared.
+    pub fn into_parts(self) -> FabricParts
+        ensures recon { result.recon ≡ self.recon }
+        ensures trees { result.trees.items ≡ self.trees }
+        ensures seats { result.seats.items ≡ self.seats }
+        ensures links { result.links.items ≡ self.links }
+        ensures fabric { IsFabric self }
+    {
+        let Fabric {
+            recon,
+            trees,
+            seats,
+            links,
+            requests,
+            jobs,
+            ..
+        } = self;
+        FabricParts {
+            recon,
+            trees,
+            seats,
+            links,
+            requests,
+            jobs,
+        }
+    }
+
+    /// Puts a job into the queue of a partition.
+    pub(crate) fn put_job<R: Wait>(&self, rt: &R, part: PartId, job: Txn) -> Result<(), Txn>
+        ensures { IfErr result (λ back. back ≡ job) }
+    {
+        match self.jobs.get(usize::from(part.number())) {
+            Some(queue) => queue.push(rt, job),
+            None => Err(job),
+        }
+    }
+
+    /// The next job of a partition.
+    pub(crate) fn take_job<R: Wait>(&self, rt: &R, part: PartId) -> Option<Txn> {
+        self.jobs.get(usize::from(part.number()))?.pop(rt)
+    }
+
+    /// The next request to a partition.
+    pub(crate) fn take_request<R: Wait>(&self, rt: &R, part: PartId) -> Option<Request> {
+        self.requests.get(usize::from(part.number()))?.pop(rt)
+    }
+
+    /// Counts an answer.
+    pub(crate) fn count_answer(&self) {
+        self.answered.fetch_add(1, Ordering::SeqCst);
+    }
+}

@@ -1,0 +1,17 @@
+//! Partitions in threads: the nodes of a run, and what they share. Each step of a node is one step of its partition, of
+//! one tree or of one link. There is no lock: only what touches a queue may wait.
+#![tactic(auto)]
+
+mod desk;
+mod ends;
+mod fabric;
+mod node;
+mod receipt;
+mod stepped;
+
+pub use desk::Post;
+pub use ends::{Receiver, RecvEnd, SendEnd, Sender};
+pub use fabric::{Fabric, FabricParts};
+pub use node::{Node, NodeParts};
+pub use receipt::Receipt;
+pub use stepped::Stepped;

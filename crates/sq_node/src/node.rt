@@ -1,0 +1,118 @@
+// Nodes.
+ghost use Rattle.std.specs.Prelude.{◌≡◌, ◌<◌, ℕ, true, false, [], length, IfOk};
+ghost use Rattle.sq_exec.specs.CoreValue.{loaded_at};
+ghost use Rattle.sq_exec.specs.Runs.{is_whole};
+ghost use Rattle.sq_pull.specs.declared.numbers.TheConstants.{MAX_OWNERS};
+
+use crate::desk::{Desk, Post};
+use crate::ends::{Receiver, Sender};
+use crate::receipt::Receipt;
+use sq_exec::{CoreParts, PartCore};
+use sq_plan::PartId;
+use sq_pull::Puller;
+use sq_ranges::SegId;
+use sq_status::TreeSeat;
+use sq_store::SlabStore;
+use sq_tree::NodeId;
+use std::alloc::{AllocError, Global};
+use std::collections::VecDeque;
+use std::marker::Model;
+
+mod jobs;
+mod links;
+mod trees;
+mod turn;
+
+/// A partition in a thread of its own: the partition by itself, its seat at each tree, its ends of the links, and the
+/// receipts of the jobs that it answered. To a contract it is a `NodeState`.
+#[derive(Drop)]
+pub struct Node {
+    core: PartCore<SlabStore>,
+    seats: Vec<TreeSeat>,
+    sends: Vec<Sender>,
+    recvs: Vec<Receiver>,
+    desk: Desk,
+    puller: Puller,
+    // The nodes of trees whose last chunk was loaded, and that aren't known to be complete.
+    to_complete: Vec<(SegId, NodeId)>,
+    // For each segment whether node 1 was seen to read complete.
+    complete: Vec<bool>,
+}
+
+impl Model for Node {
+    ghost use Rattle.std.specs.Coded.{Coded, coded_ℕ, codes};
+    ghost use Rattle.std.specs.Ordering.{nat_cmp};
+    ghost use Rattle.std.specs.FinMap as fin;
+    ghost use Rattle.sq_schema.specs.Family.{FamilyValue};
+    ghost use Rattle.sq_node.specs.NodeState.{NodeState};
+    ghost use Rattle.sq_node.specs.Settled.{IsNode};
+
+    ghost Value = { NodeState };
+
+    ghost coded = { let family : Coded FamilyValue = Prim.hlevel codes in let store : Coded (fin.FinMap nat_cmp FamilyValue) = fin.code coded_ℕ family in Prim.hlevel (codes, store) };
+
+    ghost view = { λ n. record {
+      core = n.core.core;
+      seats = n.seats.items;
+      sends = n.sends.items;
+      recvs = n.recvs.items;
+      receipts = n.desk.receipts;
+    } };
+
+    ghost invariant = { λ n. IsNode n.core.core n.seats.items n.to_complete.items n.complete.items };
+}
+
+impl Node {
+    /// A node of a partition, with a seat at each tree and its ends of the links. Its move has started.
+    pub(crate) fn open(
+        alloc: Global,
+        mut core: PartCore<SlabStore>,
+        seats: Vec<TreeSeat>,
+        sends: Vec<Sender>,
+        recvs: Vec<Receiver>,
+    ) -> Result<Node, AllocError>
+        requires part { core.core.part < MAX_OWNERS }
+        requires fresh { (seg n : ℕ) → is_whole (loaded_at core.core seg) n ≡ false }
+        requires seats { length seats.items ≡ length core.core.recon.segments }
+        ensures core { IfOk result (λ node. node.core ≡ record core.core { started = true }) }
+        ensures seats { IfOk result (λ node. node.seats ≡ seats.items) }
+        ensures sends { IfOk result (λ node. node.sends ≡ sends.items) }
+        ensures recvs { IfOk result (λ node. node.recvs ≡ recvs.items) }
+        ensures receipts { IfOk result (λ node. node.receipts ≡ []) }
+    {
+        let complete = vec![in alloc; false; seats.len()]?;
+        let puller = Puller::new(alloc, core.part());
+        core.start();
+        Ok(Node {
+            core,
+            seats,
+            sends,
+            recvs,
+            desk: Desk::new(alloc),
+            puller,
+            to_complete: Vec::new(alloc),
+            complete,
+        })
+    }
+}
+
+/// What a node had, once its thread is joined.
+#[derive(Drop)]
+pub struct NodeParts {
+    /// The partition.
+    pub part: PartId,
+    /// What the partition held.
+    pub core: CoreParts<SlabStore>,
+    /// For each segment the seat at its tree.
+    pub seats: Vec<TreeSeat>,
+    /// For each partition the end of the link to it.
+    pub sends: Vec<Sender>,
+    /// For each partition the end of the link from it.
+    pub recvs: Vec<Receiver>,
+    /// The receipts, in the order in which they were written.
+    pub receipts: Vec<Receipt>,
+    /// The jobs that were to be posted on.
+    pub posts: VecDeque<Post>,
+    /// The claims that it won, with the requests that weren't sent.
+    pub puller: Puller,
+}

@@ -1,0 +1,104 @@
+// The steps of a node on jobs.
+ghost use Rattle.std.specs.Prelude.{◌≡◌, ◌⊎◌};
+ghost use Rattle.sq_store.specs.StoreValue.{log_length};
+ghost use Rattle.sq_node.specs.NodeState.{IsNodeOf, position_before};
+ghost use Rattle.sq_node.specs.Steps.{JobStep, ResumeStep};
+
+use super::Node;
+use crate::fabric::Fabric;
+use crate::receipt::Receipt;
+use crate::stepped::Stepped;
+use sq_exec::{Outcome, PartCore, ResumeFault, Resumed, SubmitFault};
+use sq_schema::{Reply, Txn};
+use sq_store::SlabStore;
+use std::sync::Wait;
+
+impl Node {
+    /// Takes a job, and submits it. Its receipt is kept where it is answered. It is posted on where it belongs to another
+    /// partition, and posted again where it is refused. Where it waits, the leaf that it waits for is claimed.
+    pub fn step_job<R: Wait>(&mut self, rt: &R, fabric: &Fabric) -> Stepped
+        requires { IsNodeOf fabric.now self.old }
+        ensures { JobStep self.old result self.new }
+    {
+        if self.desk.reserve().is_err() || self.puller.reserve().is_err() {
+            return Stepped::Memory;
+        }
+        let Some(job) = fabric.take_job(rt, self.core.part()) else {
+            return Stepped::Nothing;
+        };
+        let outcome = match self.core.submit(&job) {
+            Ok(outcome) => outcome,
+            Err(fault) => {
+                self.desk.post(rt, fabric, self.core.part(), job);
+                return refusal(fault);
+            }
+        };
+        match outcome {
+            Outcome::Done(reply) => {
+                self.desk.add(receipt(&self.core, job, reply));
+                fabric.count_answer();
+            }
+            Outcome::Moved(to) => self.desk.post(rt, fabric, to, job),
+            Outcome::Waits(seg, leaf) => {
+                drop(job);
+                let shared = fabric.shared();
+                let _ = self
+                    .puller
+                    .reactive(rt, &shared, &mut self.seats, seg, leaf);
+            }
+        }
+        Stepped::Did
+    }
+
+    /// Takes up a transaction that waits, if one can go.
+    pub fn step_resume<R: Wait>(&mut self, rt: &R, fabric: &Fabric) -> Stepped
+        requires { IsNodeOf fabric.now self.old }
+        ensures { ResumeStep self.old result self.new }
+    {
+        if self.desk.reserve().is_err() {
+            return Stepped::Memory;
+        }
+        let Resumed { txn, outcome } = match self.core.resume() {
+            Ok(resumed) => resumed,
+            Err(ResumeFault::Memory) => return Stepped::Memory,
+            Err(ResumeFault::NoneReady | ResumeFault::LogFull) => return Stepped::Nothing,
+        };
+        match outcome {
+            Outcome::Done(reply) => {
+                self.desk.add(receipt(&self.core, txn, reply));
+                fabric.count_answer();
+            }
+            Outcome::Moved(to) => self.desk.post(rt, fabric, to, txn),
+            Outcome::Waits(_, _) => drop(txn),
+        }
+        Stepped::Did
+    }
+}
+
+// What a step comes to whose transaction wasn't taken.
+fn refusal(fault: SubmitFault) -> Stepped
+    ensures { (result ≡ Stepped.Nothing) ⊎ (result ≡ Stepped.Memory) }
+{
+    match fault {
+        SubmitFault::Memory => Stepped::Memory,
+        SubmitFault::WaitFull | SubmitFault::LogFull => Stepped::Nothing,
+    }
+}
+
+// The receipt of a transaction that a partition has just answered so.
+fn receipt(core: &PartCore<SlabStore>, txn: Txn, reply: Reply) -> Receipt
+    ensures { result ≡ record { id = txn.id; root = txn.root; position = position_before (log_length core.now.core.store txn.root) reply; reply = reply } }
+{
+    let root = txn.root();
+    let after = core.position(root) as u64;
+    let position = match &reply {
+        Reply::Committed(_) => after.saturating_sub(1),
+        Reply::Aborted { .. } => after,
+    };
+    Receipt {
+        id: txn.id(),
+        root,
+        position,
+        reply,
+    }
+}

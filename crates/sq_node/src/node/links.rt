@@ -1,0 +1,135 @@
+// The steps of a node on its links.
+ghost use Rattle.std.specs.Prelude.{◌≡◌, ℕ, ◌<◌, true, false, length, MatchBool, IfSome, IfNone};
+ghost use Rattle.sq_exec.specs.CoreValue.{out_at};
+ghost use Rattle.sq_exec.specs.OutLink.{may_cut};
+ghost use Rattle.sq_exec.specs.Moving.{may_load};
+ghost use Rattle.sq_node.specs.NodeState.{IsNodeOf};
+ghost use Rattle.sq_node.specs.Steps.{Sends, Receives, HasNoneToSend, HasNoneToReceive, CutStep, SendStep, RecvStep, LoadStep};
+
+use super::Node;
+use crate::fabric::Fabric;
+use crate::stepped::Stepped;
+use sq_plan::PartId;
+use std::sync::Wait;
+
+impl Node {
+    /// Cuts a chunk for the first partition for which there is one to cut.
+    pub fn step_cut(&mut self) -> Stepped
+        ensures { CutStep self.old result self.new }
+    {
+        let Some(dst) = self.next_cut() else {
+            return Stepped::Nothing;
+        };
+        match self.core.cut(dst) {
+            Ok(_) => Stepped::Did,
+            Err(_) => Stepped::Memory,
+        }
+    }
+
+    // The first partition for which a chunk can be cut.
+    fn next_cut(&self) -> Option<PartId>
+        ensures some { IfSome result (λ dst. may_cut (out_at self.now.core dst) ≡ true) }
+        ensures none { IfNone result ((dst : ℕ) → may_cut (out_at self.now.core dst) ≡ false) }
+    {
+        for number in 0..self.core.parts() {
+            let dst = PartId::new(number);
+            if self.core.may_cut(dst) {
+                return Some(dst);
+            }
+        }
+        None
+    }
+
+    /// Sends the chunk for the first partition whose link has room for it.
+    pub fn step_send<R: Wait>(&mut self, rt: &R, fabric: &Fabric) -> Stepped
+        requires { IsNodeOf fabric.now self.old }
+        ensures { SendStep fabric.now self.old result self.new }
+    {
+        for number in 0..fabric.parts() {
+            if self.send_to(rt, fabric, PartId::new(number)) {
+                return Stepped::Did;
+            }
+        }
+        Stepped::Nothing
+    }
+
+    // Sends the chunk for a partition, if there is one and its link has room for it.
+    fn send_to<R: Wait>(&mut self, rt: &R, fabric: &Fabric, dst: PartId) -> bool
+        requires node { IsNodeOf fabric.now self.old }
+        requires part { dst < fabric.now.parts }
+        ensures { MatchBool result (Sends self.old dst self.new) ((self.new ≡ self.old) × HasNoneToSend fabric.now self.old dst) }
+    {
+        let Some(chunk) = self.core.take_outbox(dst) else {
+            return false;
+        };
+        match self.sends[usize::from(dst.number())].send(rt, fabric.links(), chunk) {
+            Ok(()) => true,
+            Err(back) => {
+                self.core.put_outbox(dst, back);
+                false
+            }
+        }
+    }
+
+    /// Receives a chunk from the first partition whose link has one and whose inbox is empty.
+    pub fn step_recv<R: Wait>(&mut self, rt: &R, fabric: &Fabric) -> Stepped
+        requires { IsNodeOf fabric.now self.old }
+        ensures { RecvStep self.old result self.new }
+    {
+        for number in 0..fabric.parts() {
+            if self.recv_from(rt, fabric, PartId::new(number)) {
+                return Stepped::Did;
+            }
+        }
+        Stepped::Nothing
+    }
+
+    // Receives a chunk from a partition, if its link has one and the inbox is empty.
+    fn recv_from<R: Wait>(&mut self, rt: &R, fabric: &Fabric, src: PartId) -> bool
+        requires node { IsNodeOf fabric.now self.old }
+        requires part { src < fabric.now.parts }
+        ensures { MatchBool result (Receives self.old src self.new) ((self.new ≡ self.old) × HasNoneToReceive self.old src) }
+    {
+        if self.core.inbox(src).is_some() {
+            return false;
+        }
+        let Some(chunk) = self.recvs[usize::from(src.number())].recv(rt, fabric.links()) else {
+            return false;
+        };
+        self.core.put_inbox(src, chunk).is_ok()
+    }
+
+    /// Loads the chunk of the first partition from which one came that can be loaded.
+    pub fn step_load(&mut self) -> Stepped
+        ensures { LoadStep self.old result self.new }
+    {
+        let Some(src) = self.next_load() else {
+            return Stepped::Nothing;
+        };
+        if self.to_complete.reserve(1).is_err() {
+            return Stepped::Memory;
+        }
+        let Ok(note) = self.core.load(src) else {
+            return Stepped::Memory;
+        };
+        if note.last {
+            self.to_complete.push_reserved((note.seg, note.node));
+        }
+        Stepped::Did
+    }
+
+    // The first partition from which a chunk came that can be loaded.
+    fn next_load(&self) -> Option<PartId>
+        ensures some { IfSome result (λ src. may_load self.now.core src ≡ true) }
+        ensures each { length self.now.core.loaded ≡ length self.now.core.recon.segments }
+        ensures none { IfNone result ((src : ℕ) → may_load self.now.core src ≡ false) }
+    {
+        for number in 0..self.core.parts() {
+            let src = PartId::new(number);
+            if self.core.may_load(src) {
+                return Some(src);
+            }
+        }
+        None
+    }
+}

@@ -1,0 +1,171 @@
+// The steps of a node on trees.
+ghost use Rattle.std.specs.Prelude.{◌≡◌, ℕ, ◌<◌, true, length, Contains, MatchBool, IfSome};
+ghost use Rattle.sq_tree.specs.declared.status.Status.TheVariants.{Partial};
+ghost use Rattle.sq_status.specs.Plays.{Won};
+ghost use Rattle.sq_status.specs.Seat.{IsSameSeat};
+ghost use Rattle.sq_exec.specs.Moving.{begun_core};
+ghost use Rattle.sq_pull.specs.Seats.{AreSeatsOf, StepsAt};
+ghost use Rattle.sq_node.specs.NodeState.{IsNodeOf};
+ghost use Rattle.sq_node.specs.Looks.{OnlyLooked, LooksOnly, LooksAndCompletes, CompletesOne, CompletesNone};
+ghost use Rattle.sq_node.specs.Steps.{IsOutward, RequestStep, CompleteStep};
+
+use super::Node;
+use crate::fabric::Fabric;
+use crate::stepped::Stepped;
+use sq_exec::PartCore;
+use sq_pull::Request;
+use sq_ranges::SegId;
+use sq_status::{StatusTree, TreeSeat};
+use sq_store::SlabStore;
+use sq_tree::{NodeId, Status};
+use std::sync::Wait;
+
+impl Node {
+    /// Takes a request, and begins the node that it names. One that names a segment which doesn't leave here, a bad node,
+    /// or a node that isn't claimed for its pull is dropped.
+    pub fn step_request<R: Wait>(&mut self, rt: &R, fabric: &Fabric) -> Stepped
+        requires { IsNodeOf fabric.now self.old }
+        ensures { RequestStep self.old result self.new }
+    {
+        if self.core.reserve_begin().is_err() {
+            return Stepped::Memory;
+        }
+        let Some(request) = fabric.take_request(rt, self.core.part()) else {
+            return Stepped::Nothing;
+        };
+        let Some(named) = self.named(fabric, request) else {
+            return Stepped::Nothing;
+        };
+        if begin(
+            &mut self.core,
+            fabric.trees(),
+            &mut self.seats,
+            named,
+            request.pull,
+        ) {
+            return Stepped::Did;
+        }
+        Stepped::Nothing
+    }
+
+    // The node that a request names, unless its segment doesn't leave here or is complete.
+    fn named(&self, fabric: &Fabric, request: Request) -> Option<TreeNode>
+        requires { IsNodeOf fabric.now self.now }
+        ensures { IfSome result (λ named. IsOutward self.now.core named.seg named.node) }
+    {
+        let seg = SegId::new(request.seg)?;
+        let node = NodeId::new(request.node)?;
+        let segment = fabric.recon().segments().get(seg.index())?;
+        if segment.src == self.core.part() && !self.is_complete(seg) {
+            Some(TreeNode { seg, node })
+        } else {
+            None
+        }
+    }
+
+    // Whether node 1 of a segment was seen to read complete.
+    fn is_complete(&self, seg: SegId) -> bool {
+        self.complete.get(seg.index()).copied().unwrap_or(false)
+    }
+
+    /// Completes a node whose last chunk was loaded.
+    pub fn step_complete(&mut self, fabric: &Fabric) -> Stepped
+        requires { IsNodeOf fabric.now self.old }
+        ensures { CompleteStep self.old result self.new }
+    {
+        if complete_first(fabric.trees(), &mut self.seats, &mut self.to_complete) {
+            return Stepped::Did;
+        }
+        Stepped::Nothing
+    }
+}
+
+// A node of the tree of a segment.
+#[derive(Clone, Copy, Debug)]
+struct TreeNode {
+    seg: SegId,
+    node: NodeId,
+}
+
+// Begins a node that is claimed for the pull, and gives its keys up.
+fn begin(
+    core: &mut PartCore<SlabStore>,
+    trees: &[StatusTree],
+    seats: &mut Vec<TreeSeat>,
+    at: TreeNode,
+    pull: u32,
+) -> bool
+    requires room { core.old.has_room ≡ true }
+    requires exists { at.seg < length core.old.core.recon.segments }
+    requires seats { AreSeatsOf trees.now seats.old.items }
+    requires segment { at.seg < length trees.now }
+    ensures { MatchBool result
+        (StepsAt at.seg (λ v w. Won v at.node (Partial pull) w) seats.old.items seats.new.items × (core.new.core ≡ begun_core core.old.core at.seg at.node pull))
+        (StepsAt at.seg OnlyLooked seats.old.items seats.new.items × (core.new.core ≡ core.old.core)) }
+{
+    if !begin_at(trees, seats, &at, pull) {
+        return false;
+    }
+    core.begun(at.seg, at.node, pull);
+    true
+}
+
+// The same in the node's tree.
+fn begin_at(trees: &[StatusTree], seats: &mut Vec<TreeSeat>, at: &TreeNode, pull: u32) -> bool
+    requires seats { AreSeatsOf trees.now seats.old.items }
+    requires segment { at.now.seg < length trees.now }
+    ensures seats { AreSeatsOf trees.now seats.new.items }
+    ensures step { MatchBool result
+        (StepsAt at.now.seg (λ v w. Won v at.now.node (Partial pull) w) seats.old.items seats.new.items)
+        (StepsAt at.now.seg OnlyLooked seats.old.items seats.new.items) }
+{
+    let index = at.seg.index();
+    trees[index].begin(&mut seats[index], at.node, pull).is_ok()
+}
+
+// Completes the first of these nodes of segments that is partial, and takes it off the list.
+fn complete_first(
+    trees: &[StatusTree],
+    seats: &mut Vec<TreeSeat>,
+    nodes: &mut Vec<(SegId, NodeId)>,
+) -> bool
+    requires seats { AreSeatsOf trees.now seats.old.items }
+    requires nodes { (seg n : ℕ) → Contains nodes.old.items (seg, n) → seg < length trees.now }
+    ensures { MatchBool result
+        (CompletesOne seats.old.items nodes.old.items seats.new.items nodes.new.items)
+        (CompletesNone seats.old.items nodes.old.items seats.new.items nodes.new.items) }
+{
+    for at in 0..nodes.len() {
+        let (seg, node) = nodes[at];
+        if complete_at(trees, seats, TreeNode { seg, node }) {
+            nodes.remove(at);
+            return true;
+        }
+    }
+    false
+}
+
+// Completes a node, if it is partial.
+fn complete_at(trees: &[StatusTree], seats: &mut Vec<TreeSeat>, at: TreeNode) -> bool
+    requires seats { AreSeatsOf trees.now seats.old.items }
+    requires segment { at.seg < length trees.now }
+    ensures seats { AreSeatsOf trees.now seats.new.items }
+    ensures step { MatchBool result
+        (StepsAt at.seg (λ v w. LooksAndCompletes v at.node w) seats.old.items seats.new.items)
+        (StepsAt at.seg (λ v w. LooksOnly v at.node w) seats.old.items seats.new.items) }
+{
+    let index = at.seg.index();
+    complete(&trees[index], &mut seats[index], at.node)
+}
+
+// The same in the node's tree.
+fn complete(tree: &StatusTree, seat: &mut TreeSeat, node: NodeId) -> bool
+    requires { seat.old.tree ≡ tree.now }
+    ensures seat { IsSameSeat seat.old seat.new }
+    ensures step { MatchBool result (LooksAndCompletes seat.old.view node seat.new.view) (LooksOnly seat.old.view node seat.new.view) }
+{
+    let Status::Partial(pull) = tree.look(seat, node) else {
+        return false;
+    };
+    tree.complete(seat, node, pull).is_ok()
+}

@@ -1,0 +1,167 @@
+// Turns of a node.
+ghost use Rattle.std.specs.Prelude.{◌≡◌, ◌<◌, length, map};
+ghost use Rattle.sq_status.specs.Seat.{IsSameSeat};
+ghost use Rattle.sq_waiting.specs.Waiting.{txns_of};
+ghost use Rattle.sq_pull.specs.Seats.{AreSeatsOf, StepsAt};
+ghost use Rattle.sq_node.specs.NodeState.{IsNodeOf};
+ghost use Rattle.sq_node.specs.Looks.{OnlyLooked, SeatsLooked};
+ghost use Rattle.sq_node.specs.Steps.{Turns, Looks};
+
+use super::{Node, NodeParts};
+use crate::fabric::Fabric;
+use sq_plan::PartId;
+use sq_ranges::Range;
+use sq_status::{StatusTree, TreeSeat};
+use sq_tree::{NodeId, Status};
+use std::sync::Wait;
+
+impl Node {
+    /// Sends what is pending, and then makes each step once.
+    pub fn turn<R: Wait>(&mut self, rt: &R, fabric: &Fabric)
+        requires { IsNodeOf fabric.now self.old }
+        ensures { Turns fabric.now self.old self.new }
+    {
+        self.send_pending(rt, fabric);
+        self.step_job(rt, fabric);
+        self.step_request(rt, fabric);
+        self.step_cut();
+        self.step_send(rt, fabric);
+        self.step_recv(rt, fabric);
+        self.step_load();
+        self.step_complete(fabric);
+        self.step_resume(rt, fabric);
+    }
+
+    /// Sends the jobs and the requests that are pending, as far as their queues have room.
+    pub fn send_pending<R: Wait>(&mut self, rt: &R, fabric: &Fabric)
+        ensures { self.new ≡ self.old }
+    {
+        self.desk.send_pending(rt, fabric);
+        self.puller.send_pending(rt, fabric.shared().requests);
+    }
+
+    /// Whether nothing is pending or under way here and no transaction waits, each segment that leaves or comes here
+    /// is complete, and each job that was posted is answered. It looks at the words of a segment until node 1 reads
+    /// complete, and never again.
+    pub fn idle(&mut self, fabric: &Fabric) -> bool
+        requires { IsNodeOf fabric.now self.old }
+        ensures { Looks self.old self.new }
+    {
+        if !fabric.is_answered() || !self.is_at_rest(fabric) {
+            return false;
+        }
+        let part = self.core.part();
+        let segments = fabric.recon().segments();
+        see_all_complete(
+            fabric.trees(),
+            &mut self.seats,
+            &mut self.complete,
+            segments,
+            part,
+        )
+    }
+
+    /// What it had.
+    pub fn into_parts(self) -> NodeParts
+        ensures part { result.part ≡ self.core.part }
+        ensures store { result.core.store ≡ self.core.store }
+        ensures waiting { txns_of result.core.waiting.arrivals ≡ self.core.waiting }
+        ensures inboxes { result.core.inboxes.items ≡ self.core.inboxes }
+        ensures outs { map (λ out. out.link) result.core.outs.items ≡ self.core.outs }
+        ensures seats { result.seats.items ≡ self.seats }
+        ensures sends { result.sends.items ≡ self.sends }
+        ensures recvs { result.recvs.items ≡ self.recvs }
+        ensures receipts { result.receipts.items ≡ self.receipts }
+    {
+        let Node {
+            core,
+            seats,
+            sends,
+            recvs,
+            desk,
+            puller,
+            ..
+        } = self;
+        let part = core.part();
+        let (receipts, posts) = desk.into_parts();
+        NodeParts {
+            part,
+            core: core.close(),
+            seats,
+            sends,
+            recvs,
+            receipts,
+            posts,
+            puller,
+        }
+    }
+
+    // Whether nothing is pending or under way here, and no transaction waits.
+    fn is_at_rest(&self, fabric: &Fabric) -> bool {
+        self.desk.is_sent()
+            && self.puller.pending().is_empty()
+            && self.to_complete.is_empty()
+            && !self.core.has_waiting()
+            && (0..fabric.parts()).all(|number| self.is_quiet(PartId::new(number)))
+    }
+
+    // Whether nothing is under way here between this partition and another.
+    fn is_quiet(&self, part: PartId) -> bool {
+        self.core.inbox(part).is_none()
+            && self.core.outbox(part).is_none()
+            && !self.core.may_cut(part)
+    }
+}
+
+// Whether each segment that leaves or comes to a partition is complete. One that was seen to be so isn't looked at again.
+fn see_all_complete(
+    trees: &[StatusTree],
+    seats: &mut Vec<TreeSeat>,
+    complete: &mut Vec<bool>,
+    segments: &[Range],
+    part: PartId,
+) -> bool
+    requires seats { AreSeatsOf trees.now seats.old.items }
+    requires trees { length trees.now ≡ length segments.now }
+    requires flags { length complete.old.items ≡ length segments.now }
+    ensures looked { SeatsLooked seats.old.items seats.new.items }
+    ensures flags { length complete.new.items ≡ length complete.old.items }
+{
+    for at in 0..segments.len() {
+        let segment = &segments[at];
+        if complete[at] || (segment.src != part && segment.dst != part) {
+            continue;
+        }
+        if !read_complete_at(trees, seats, at) {
+            return false;
+        }
+        complete[at] = true;
+    }
+    true
+}
+
+// Whether the whole of a segment reads complete.
+fn read_complete_at(trees: &[StatusTree], seats: &mut Vec<TreeSeat>, at: usize) -> bool
+    requires seats { AreSeatsOf trees.now seats.old.items }
+    requires segment { at < length trees.now }
+    ensures seats { AreSeatsOf trees.now seats.new.items }
+    ensures looked { StepsAt at OnlyLooked seats.old.items seats.new.items }
+{
+    reads_complete(&trees[at], &mut seats[at], NodeId::WHOLE)
+}
+
+// Whether a live node reads complete: it is, or it is split and both halves do.
+fn reads_complete(tree: &StatusTree, seat: &mut TreeSeat, node: NodeId) -> bool
+    requires { seat.old.tree ≡ tree.now }
+    ensures seat { IsSameSeat seat.old seat.new }
+    ensures looked { OnlyLooked seat.old.view seat.new.view }
+{
+    match tree.look(seat, node) {
+        Status::Complete(_) => true,
+        Status::Split => {
+            reads_complete(tree, seat, node.low_half())
+                && reads_complete(tree, seat, node.high_half())
+        }
+        Status::Free | Status::Claimed(_) | Status::Partial(_) => false,
+    }
+}

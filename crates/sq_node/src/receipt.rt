@@ -1,0 +1,24 @@
+// Receipts of transactions.
+use sq_schema::{Reply, Root};
+use std::marker::Model;
+
+/// That a transaction was answered. To a contract it is a `ReceiptValue`.
+#[derive(Debug, Drop)]
+pub struct Receipt {
+    /// The transaction's id.
+    pub id: u64,
+    /// Its root key.
+    pub root: Root,
+    /// How many transactions the log of the root key held before it.
+    pub position: u64,
+    /// What it was answered.
+    pub reply: Reply,
+}
+
+impl Model for Receipt {
+    ghost use Rattle.sq_node_model.specs.NodeValue.{ReceiptValue};
+
+    ghost Value = { ReceiptValue };
+
+    ghost view = { λ r. record { id = r.id; root = r.root; position = r.position; reply = r.reply } };
+}
