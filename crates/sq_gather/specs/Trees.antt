@@ -1,0 +1,49 @@
+-- Trees whose seats are joined into the ones that they were opened with, and which are then closed.
+use Rattle.std.specs.Prelude.{◌≡◌, ℕ, ◌+◌, true, false, List, [], ◌∷◌, length, map, fold, slice_get, slice_index_or, Some}
+use Rattle.std.specs.Option.{option_map_or}
+use Rattle.atomic_table.specs.Seated.{TableId}
+use Rattle.sq_tree.specs.declared.status.Status.{Status}
+use Rattle.sq_status.specs.declared.view.View.{View}
+use Rattle.sq_status.specs.View.{fresh, took}
+use Rattle.sq_status.specs.Seat.{SeatValue}
+use Rattle.sq_status.specs.Rule.{IsTreeOf}
+use Rattle.sq_pull.specs.Seats.{AreSeatsOf}
+
+-- the seats are those that their trees were opened with
+abbrev pub AreFirst : List SeatValue → Type 0
+AreFirst seats = (seg : ℕ) (seat : SeatValue) → slice_get seats seg ≡ Some seat → seat.view.first ≡ true
+
+-- what the seat of a segment has done and seen
+abbrev pub view_of : List SeatValue → ℕ → View
+view_of seats seg = option_map_or (λ seat. seat.view) (slice_get seats seg) (fresh false false)
+
+-- each owner has a seat of each of these trees
+abbrev pub AllAreSeatsOf : List TableId → List (List SeatValue) → Type 0
+AllAreSeatsOf trees owners = (i : ℕ) (seats : List SeatValue) → slice_get owners i ≡ Some seats → AreSeatsOf trees seats
+
+-- the first seats have given out just the seats that were taken back, and those of this many owners
+abbrev pub AwaitOwners : ℕ → List SeatValue → Type 0
+AwaitOwners count seats = (seg : ℕ) (seat : SeatValue) → slice_get seats seg ≡ Some seat → seat.view.given ≡ seat.view.taken + count
+
+-- the view of a first seat once the seats of a segment of these owners were joined into it, in their order
+abbrev pub view_with : View → List (List SeatValue) → ℕ → View
+view_with view owners seg = fold took view (map (λ seats. view_of seats seg) owners)
+
+-- the seats of these owners were joined into the first seats
+pub record AreJoined (old : List SeatValue) (owners : List (List SeatValue)) (new : List SeatValue) : Type 0 where
+  pub count : length new ≡ length old
+  pub each : (seg : ℕ) (seat : SeatValue) → slice_get old seg ≡ Some seat → slice_get new seg ≡ Some (record { tree = seat.tree; view = view_with seat.view owners seg })
+
+-- each seat that was given out was taken back
+abbrev pub AreWhole : List SeatValue → Type 0
+AreWhole seats = AwaitOwners 0 seats
+
+-- for each seat there are the statuses of a tree that this seat alone is left of
+pub record AreTreesOf (seats : List SeatValue) (words : List (List Status)) : Type 0 where
+  pub count : length words ≡ length seats
+  pub each : (seg : ℕ) (seat : SeatValue) → slice_get seats seg ≡ Some seat → IsTreeOf (slice_index_or words seg []) (seat.view ∷ [])
+
+-- for each first seat there are the statuses of a tree that this seat alone is left of, with all that the owners' seats did
+pub record AreClosed (first : List SeatValue) (owners : List (List SeatValue)) (words : List (List Status)) : Type 0 where
+  pub count : length words ≡ length first
+  pub each : (seg : ℕ) (seat : SeatValue) → slice_get first seg ≡ Some seat → IsTreeOf (slice_index_or words seg []) (view_with seat.view owners seg ∷ [])
