@@ -1,0 +1,75 @@
+-- The six clauses together, and the one verdict.
+use Rattle.std.proofs.Common.{◌≡◌, ⊎_elim, ℕ, zero, suc, List, [], slice_get, Some, refl, ap, arith}
+use Rattle.std.proofs.lemmas.Bool.{cases_lt}
+use Rattle.sq_ranges.specs.OpeningValue.{OpeningValue}
+use Rattle.sq_schema.specs.Family.{FamilyValue}
+use Rattle.sq_node_model.specs.Gathered.{GatheredValue}
+use Rattle.sq_node_model.specs.Placed.{AreTold}
+use Rattle.sq_audit.specs.declared.job.Job.{Job}
+use Rattle.sq_audit.specs.declared.verdict.Defect.{Defect}
+use Rattle.sq_audit.specs.declared.verdict.Defect.TheVariants.{RootMissing, RootDoubled, BaseChanged, WrongPlace, ReceiptUnknown, Unanswered}
+use Rattle.sq_audit.specs.declared.verdict.Verdict.{Verdict}
+use Rattle.sq_audit.specs.declared.verdict.Verdict.TheVariants.{Sound, Unsound}
+use Rattle.sq_audit.specs.Answers.{AreKnown}
+use Rattle.sq_audit.specs.Sound.{IsSound}
+use Rattle.sq_audit.specs.Defects.{defect_number, Clears, IsFirst, IsVerdict}
+
+none_at : {X : Type 0} (n : ℕ) (x : X) → slice_get [] n ≡ Some x → ⊥
+none_at zero x at = cc
+none_at (suc n) x at = cc
+
+module _ (o : OpeningValue) (g : GatheredValue) (jobs : List Job) where
+  -- known receipts of commits tell what the logs have
+  pub told_known : AreKnown g jobs → AreTold g
+  told_known known receipt there commits =
+      let answer = known receipt there in
+      let told = answer.4 in
+      ⊎_elim
+      (λ stands. (stands.0, answer.1, stands.1, record { txn = answer.0.txn; there = told.there commits; id = told.id; told = told.told }))
+      (λ none. absurd (let at = told.there commits in let log = ap (λ (family : FamilyValue). family.log) none.1 in none_at receipt.position answer.0.txn (rw log at at)))
+      answer.3
+
+  pub each_clear : IsSound o g jobs → (defect : Defect) → Clears o g jobs defect
+  each_clear sound RootMissing = sound.placed.opening
+  each_clear sound RootDoubled = sound.placed.once
+  each_clear sound BaseChanged = sound.placed.base
+  each_clear sound WrongPlace = sound.placed.fit
+  each_clear sound ReceiptUnknown = (sound.known, sound.placed.named)
+  each_clear sound Unanswered = sound.answered
+
+  pub sound_from : ((defect : Defect) → Clears o g jobs defect) → IsSound o g jobs
+  sound_from clear =
+      record {
+        placed = record {
+          fit = clear WrongPlace;
+          once = clear RootDoubled;
+          opening = clear RootMissing;
+          base = clear BaseChanged;
+          named = (clear ReceiptUnknown).1;
+          told = told_known (clear ReceiptUnknown).0;
+        };
+        known = (clear ReceiptUnknown).0;
+        answered = clear Unanswered;
+      }
+
+  pub number_one : (one other : Defect) → defect_number one ≡ defect_number other → one ≡ other
+  number_one RootMissing RootMissing same = refl
+  number_one RootDoubled RootDoubled same = refl
+  number_one BaseChanged BaseChanged same = refl
+  number_one WrongPlace WrongPlace same = refl
+  number_one ReceiptUnknown ReceiptUnknown same = refl
+  number_one Unanswered Unanswered same = refl
+  number_one _ _ same = absurd (omega (arith, same))
+
+  one_first : (one other : Defect) → IsFirst o g jobs one → IsFirst o g jobs other → one ≡ other
+  one_first one other found again =
+      ⊎_elim
+      (λ below. absurd (found.found (again.first one below)))
+      (λ upto. ⊎_elim (λ above. absurd (again.found (found.first other above))) (λ from. number_one one other (omega arith)) (cases_lt (defect_number other) (defect_number one)))
+      (cases_lt (defect_number one) (defect_number other))
+
+  pub one_verdict : (one other : Verdict) → IsVerdict o g jobs one → IsVerdict o g jobs other → one ≡ other
+  one_verdict Sound Sound sound again = refl
+  one_verdict Sound (Unsound defect) sound first = absurd (first.found (each_clear sound defect))
+  one_verdict (Unsound defect) Sound first sound = absurd (first.found (each_clear sound defect))
+  one_verdict (Unsound one) (Unsound other) first again = ap Unsound (one_first one other first again)

@@ -1,0 +1,45 @@
+-- What receipts have to say of jobs, and of the logs of families.
+use Rattle.std.specs.Prelude.{◌≡◌, ◌≤◌, ◌⊎◌, ℕ, Bool, true, ◌==◌, ◌&&◌, List, length, take, slice_get, Some, count_by, Contains}
+use Rattle.sq_schema.specs.TxnValue.{TxnValue}
+use Rattle.sq_schema.specs.Effect.{replay_rows, reply}
+use Rattle.sq_schema.specs.Family.{FamilyValue}
+use Rattle.sq_store.specs.StoreValue.{absent}
+use Rattle.sq_node_model.specs.NodeValue.{ReceiptValue}
+use Rattle.sq_node_model.specs.Receipts.{is_commit}
+use Rattle.sq_node_model.specs.declared.spot.Spot.{Spot}
+use Rattle.sq_node_model.specs.Gathered.{GatheredValue}
+use Rattle.sq_node_model.specs.Spots.{StandsAt}
+use Rattle.sq_audit.specs.declared.job.Job.{Job}
+
+-- the receipt is what the transaction had to be answered at its position of the family's log, and a commit is there
+pub record IsAnswerTo (family : FamilyValue) (txn : TxnValue) (receipt : ReceiptValue) : Type 0 where
+  pub id : receipt.id ≡ txn.id
+  pub root : receipt.root ≡ txn.root
+  pub within : receipt.position ≤ length family.log
+  pub told : receipt.reply ≡ reply (replay_rows family.base (take receipt.position family.log)) txn
+  pub there : is_commit receipt.reply ≡ true → slice_get family.log receipt.position ≡ Some txn
+
+-- the root key has this family somewhere, or it has none, which is as an empty one
+abbrev pub IsFamilyOf : GatheredValue → ℕ → FamilyValue → Type 0
+IsFamilyOf g root family =
+    ((spot : Spot) × StandsAt g spot root family)
+    ⊎ (((spot : Spot) (other : FamilyValue) → StandsAt g spot root other → ⊥) × (family ≡ absent root))
+
+-- each receipt is the answer to a job
+abbrev pub AreKnown : GatheredValue → List Job → Type 0
+AreKnown g jobs =
+    (receipt : ReceiptValue) → Contains g.receipts receipt
+    → (job : Job) × (family : FamilyValue) × Contains jobs job × IsFamilyOf g receipt.root family × IsAnswerTo family job.txn receipt
+
+-- the receipt has the id and the root key of the transaction
+abbrev pub is_of : TxnValue → ReceiptValue → Bool
+is_of txn receipt = (receipt.id == txn.id) && (receipt.root == txn.root)
+
+-- each job has one receipt
+abbrev pub AreAnswered : GatheredValue → List Job → Type 0
+AreAnswered g jobs = (job : Job) → Contains jobs job → count_by (is_of job.txn) g.receipts ≡ 1
+
+-- no two jobs have the same id
+abbrev pub IdsDiffer : List Job → Type 0
+IdsDiffer jobs =
+    (i j : ℕ) (one other : Job) → slice_get jobs i ≡ Some one → slice_get jobs j ≡ Some other → one.txn.id ≡ other.txn.id → i ≡ j

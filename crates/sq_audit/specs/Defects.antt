@@ -1,0 +1,39 @@
+-- The defects, each the failure of its clause, and the verdict: the first of them, or that there is none.
+use Rattle.std.specs.Prelude.{ℕ, ◌<◌, List}
+use Rattle.sq_ranges.specs.OpeningValue.{OpeningValue}
+use Rattle.sq_node_model.specs.Gathered.{GatheredValue}
+use Rattle.sq_node_model.specs.Placed.{FitTogether, StandOnce, AllStand, KeepBases, NameEach}
+use Rattle.sq_audit.specs.declared.job.Job.{Job}
+use Rattle.sq_audit.specs.declared.verdict.Defect.{Defect}
+use Rattle.sq_audit.specs.declared.verdict.Defect.TheVariants.{RootMissing, RootDoubled, BaseChanged, WrongPlace, ReceiptUnknown, Unanswered}
+use Rattle.sq_audit.specs.declared.verdict.Verdict.{Verdict}
+use Rattle.sq_audit.specs.declared.verdict.Verdict.TheVariants.{Sound, Unsound}
+use Rattle.sq_audit.specs.Answers.{AreKnown, AreAnswered}
+use Rattle.sq_audit.specs.Sound.{IsSound}
+
+-- its number, by which the defects are in order
+abbrev pub defect_number : Defect → ℕ
+defect_number RootMissing = 301
+defect_number RootDoubled = 302
+defect_number BaseChanged = 303
+defect_number WrongPlace = 304
+defect_number ReceiptUnknown = 305
+defect_number Unanswered = 306
+
+-- what was gathered hasn't this defect
+abbrev pub Clears : OpeningValue → GatheredValue → List Job → Defect → Type 0
+Clears o g jobs RootMissing = AllStand o g
+Clears o g jobs RootDoubled = StandOnce g
+Clears o g jobs BaseChanged = KeepBases o g
+Clears o g jobs WrongPlace = FitTogether o g
+Clears o g jobs ReceiptUnknown = AreKnown g jobs × NameEach g
+Clears o g jobs Unanswered = AreAnswered g jobs
+
+-- it has this defect, and none with a lower number
+pub record IsFirst (o : OpeningValue) (g : GatheredValue) (jobs : List Job) (defect : Defect) : Type 0 where
+  pub found : Clears o g jobs defect → ⊥
+  pub first : (other : Defect) → defect_number other < defect_number defect → Clears o g jobs other
+
+abbrev pub IsVerdict : OpeningValue → GatheredValue → List Job → Verdict → Type 0
+IsVerdict o g jobs Sound = IsSound o g jobs
+IsVerdict o g jobs (Unsound defect) = IsFirst o g jobs defect

@@ -1,0 +1,12 @@
+// Jobs.
+use sq_plan::PartId;
+use sq_schema::Txn;
+
+/// A job: a transaction, and where it was posted.
+#[derive(Debug, Drop)]
+pub struct Job {
+    /// The partition that it was posted to.
+    pub part: PartId,
+    /// The transaction.
+    pub txn: Txn,
+}

@@ -1,0 +1,19 @@
+//! What the definitions come to. The functions do nothing: each states a law, which the checker proves.
+ghost use Rattle.std.specs.Prelude.{◌≡◌, ◌↔◌, List};
+ghost use Rattle.sq_ranges.specs.OpeningValue.{OpeningValue};
+ghost use Rattle.sq_node_model.specs.Gathered.{GatheredValue};
+ghost use Rattle.sq_audit.specs.declared.job.Job.{Job};
+ghost use Rattle.sq_audit.specs.declared.verdict.Defect.{Defect};
+ghost use Rattle.sq_audit.specs.declared.verdict.Verdict.{Verdict};
+ghost use Rattle.sq_audit.specs.Sound.{IsSound};
+ghost use Rattle.sq_audit.specs.Defects.{Clears, IsVerdict};
+
+/// What was gathered is sound exactly if it is clear of each defect.
+pub fn sound_is_clear_of_each_defect()
+    ensures { (o : OpeningValue) (g : GatheredValue) (jobs : List Job) → IsSound o g jobs ↔ ((defect : Defect) → Clears o g jobs defect) }
+{}
+
+/// There is one verdict at most.
+pub fn one_verdict()
+    ensures { (o : OpeningValue) (g : GatheredValue) (jobs : List Job) (one other : Verdict) → IsVerdict o g jobs one → IsVerdict o g jobs other → one ≡ other }
+{}

@@ -1,0 +1,11 @@
+//! The audit of what a run left: where its families are, and whether they and the receipts are what the run was to give.
+#![tactic(auto)]
+
+mod gathered;
+mod job;
+pub mod laws;
+mod verdict;
+
+pub use gathered::{Gathered, GatheredLink, Receipt};
+pub use job::Job;
+pub use verdict::{Defect, Verdict};
