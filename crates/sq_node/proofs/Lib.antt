@@ -8,3 +8,5 @@ pub mod Taken
 pub mod Shares
 pub mod NewLinks
 pub mod NewNodes
+pub mod Bridges
+pub mod Keeps

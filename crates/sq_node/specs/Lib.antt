@@ -6,3 +6,4 @@ pub mod NodeState
 pub mod Looks
 pub mod Steps
 pub mod Opened
+pub mod Holds

@@ -12,7 +12,7 @@ use Rattle.sq_status.specs.declared.view.View.{View}
 use Rattle.sq_status.specs.Plays.{Found, Won}
 use Rattle.sq_status.specs.Seat.{SeatValue}
 use Rattle.sq_chunk.specs.declared.chunk.Note.{Note}
-use Rattle.sq_chunk.specs.ChunkValue.{ChunkValue}
+use Rattle.sq_chunk.specs.ChunkValue.{ChunkValue, IsChunk}
 use Rattle.sq_link.specs.Order.{IsEndOf, ComesAfter}
 use Rattle.sq_exec.specs.CoreValue.{CoreValue, out_at, with_out, inbox_at, with_inbox, loaded_at}
 use Rattle.sq_exec.specs.OutLink.{may_cut}
@@ -69,6 +69,7 @@ SendStep fabric old Memory new = ⊥
 pub record Receives (old : NodeState) (src : ℕ) (new : NodeState) : Type 0 where
   pub chunk : ChunkValue
   pub end : RecvEnd
+  pub exists : src < length old.core.inboxes
   pub empty : inbox_at old.core src ≡ None
   pub there : recv_end old.recvs src ≡ Some end
   pub after : new ≡ record old { core = with_inbox old.core src (Some chunk); recvs = slice_set old.recvs src (Some (received_on end chunk)) }
@@ -90,6 +91,7 @@ pub record Loads (old : NodeState) (src : ℕ) (new : NodeState) : Type 0 where
   pub note : Note
   pub can : may_load old.core src ≡ true
   pub load : LoadsFrom old.core src note new.core
+  pub sound : IsChunk load.chunk
   pub after : new ≡ record old { core = new.core }
 
 abbrev pub LoadStep : NodeState → Stepped → NodeState → Type 0

@@ -29,21 +29,10 @@ use Rattle.sq_node_model.specs.Steps.{node_begun, node_completed}
 use Rattle.sq_node_model.specs.BegunHolds.{IsNamed}
 use Rattle.sq_node_model.specs.NodeHolds.{NodeHolds}
 use Rattle.sq_node_model.specs.Cores.{IsCoreOf}
-use Rattle.sq_node_model.proofs.Puts.{put_each, put_set, put_same, put_other}
+use Rattle.sq_node_model.proofs.Puts.{put_set, put_field, put_still}
 use Rattle.sq_node_model.proofs.Trees.{grown_tree, begun_stands, not_begun, begun_apart}
 use Rattle.sq_node_model.proofs.NodeBegun.{keeps_begun}
 use Rattle.sq_node_model.proofs.NodeSent.{keeps_completed}
-
--- a field of functions one of whose values was put
-put_field : {X Y : Type 0} (field : X → Y) (key : ℕ) (value : X) (f : ℕ → X) (k : ℕ) → field (put key value f k) ≡ put key (field value) (λ j. field (f j)) k
-put_field field key value f =
-    put_each (λ k x. field x ≡ put key (field value) (λ j. field (f j)) k) key value f
-    (sym (put_same key (field value) (λ j. field (f j))))
-    (λ k apart. sym (put_other key (field value) (λ j. field (f j)) k apart))
-
--- a value that stays at the key
-put_still : {X Y : Type 0} (field : X → Y) (key : ℕ) (value : X) (f : ℕ → X) (k : ℕ) → field value ≡ field (f key) → field (put key value f k) ≡ field (f k)
-put_still field key value f k same = put_each (λ k x. field x ≡ field (f k)) key value f same (λ k apart. refl) k
 
 -- looks, splits and claims change nothing that a node keeps
 pub core_looked : (o : OpeningValue) (core : CoreValue) (views now : ℕ → View) (sent received : ℕ → List ChunkValue) (receipts : List ReceiptValue)
@@ -109,12 +98,11 @@ module _ (o : OpeningValue) (is : IsOpening o) (core : CoreValue) (views now : �
   dst_below : segment.dst < length core.outs
   dst_below =
       let low = (ends_below o is seg segment there).1 in
-      let count = known.shape.1.outs in
-      let parts = ap (λ plan. plan.parts) known.plan in
-      omega (arith, low, count, parts)
+      let count = known.outs in
+      omega (arith, low, count)
 
   seg_below : seg < length core.given_up
-  seg_below = let exists = slice_get_within core.recon.segments seg segment found in let count = known.shape.1.given_up in omega (arith, exists, count)
+  seg_below = let exists = slice_get_within o.recon.segments seg segment there in let count = known.given_up in omega (arith, exists, count)
 
   begun_is : (k : ℕ) → (now k).begun ≡ put seg ((n, pull) ∷ (views seg).begun) (λ j. (views j).begun) k
   begun_is k =

@@ -126,7 +126,7 @@ module _ (o : OpeningValue) (old new : CoreValue) (views : ℕ → View) (sent r
       (cases_lt src (length old.inboxes))
 
   seg_below : chunk.note.seg < length old.loaded
-  seg_below = let exists = slice_get_within old.recon.segments chunk.note.seg fit.segment fit.there in let count = known.shape.1.loaded in omega (arith, exists, count)
+  seg_below = let exists = slice_get_within o.recon.segments chunk.note.seg fit.segment there in let count = known.loaded in omega (arith, exists, count)
 
   -- what the load does to the node
   pub loaded_is : node_of new views sent received receipts ≡ node_loaded (node_of old views sent received receipts) src chunk

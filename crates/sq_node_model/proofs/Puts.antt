@@ -34,3 +34,14 @@ put_both P key value other f g mine others k =
     (λ e. subst (λ b. P k (if b then value else f k) (if b then other else g k)) (sym e.0) (subst (λ j. P j value other) (sym e.1) mine))
     (λ e. subst (λ b. P k (if b then value else f k) (if b then other else g k)) (sym e.0) (others k e.1))
     (eqb_tells k key)
+
+-- a field of functions one of whose values was put
+pub put_field : {X Y : Type 0} (field : X → Y) (key : ℕ) (value : X) (f : ℕ → X) (k : ℕ) → field (put key value f k) ≡ put key (field value) (λ j. field (f j)) k
+put_field field key value f =
+    put_each (λ k x. field x ≡ put key (field value) (λ j. field (f j)) k) key value f
+    (sym (put_same key (field value) (λ j. field (f j))))
+    (λ k apart. sym (put_other key (field value) (λ j. field (f j)) k apart))
+
+-- a value that stays at the key
+pub put_still : {X Y : Type 0} (field : X → Y) (key : ℕ) (value : X) (f : ℕ → X) (k : ℕ) → field value ≡ field (f key) → field (put key value f k) ≡ field (f k)
+put_still field key value f k same = put_each (λ k x. field x ≡ field (f k)) key value f same (λ k apart. refl) k

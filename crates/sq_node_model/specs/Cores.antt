@@ -1,24 +1,24 @@
 -- A partition by itself, as the part of a node that moves what an opening says.
-use Rattle.std.specs.Prelude.{◌≡◌, ℕ, true, ◌==◌, ◌&&◌, if◌then◌else◌, List, [], Some, None}
+use Rattle.std.specs.Prelude.{◌≡◌, ℕ, true, ◌==◌, ◌&&◌, if◌then◌else◌, List, [], length, Some, None}
 use Rattle.std.specs.FinMap.{get}
 use Rattle.sq_schema.specs.Family.{FamilyValue}
 use Rattle.sq_store.specs.StoreValue.{StoreValue}
 use Rattle.sq_chunk.specs.ChunkValue.{ChunkValue, IsChunk}
 use Rattle.sq_ranges.specs.OpeningValue.{OpeningValue}
-use Rattle.sq_waiting.specs.Waiting.{Arrival}
 use Rattle.sq_exec.specs.CoreValue.{CoreValue}
-use Rattle.sq_exec.specs.Kept.{IsCore}
 use Rattle.sq_exec.specs.Moving.{can_load}
 use Rattle.sq_model.specs.Tables.{opening_rows}
 use Rattle.sq_model.specs.Place.{source}
 use Rattle.sq_status.specs.declared.view.View.{View}
 use Rattle.sq_node_model.specs.OutHolds.{is_opened}
 
--- the partition knows the plan and the moves of the opening
+-- the partition knows the plan and the moves of the opening, and has a place for each partition and for each segment
 pub record IsCoreOf (o : OpeningValue) (core : CoreValue) : Type 0 where
   pub plan : core.plan ≡ o.old
   pub recon : core.recon ≡ o.recon
-  pub shape : (arrivals : List Arrival) × IsCore core arrivals
+  pub outs : length core.outs ≡ o.old.parts
+  pub given_up : length core.given_up ≡ length o.recon.segments
+  pub loaded : length core.loaded ≡ length o.recon.segments
 
 -- the family of a root key before the move
 abbrev pub opening_family : OpeningValue → ℕ → FamilyValue

@@ -1,9 +1,11 @@
 // The steps of a node on its links.
 ghost use Rattle.std.specs.Prelude.{◌≡◌, ℕ, ◌<◌, true, false, length, MatchBool, IfSome, IfNone};
-ghost use Rattle.sq_exec.specs.CoreValue.{out_at};
+ghost use Rattle.sq_chunk.specs.ChunkValue.{IsChunk};
+ghost use Rattle.sq_exec.specs.CoreValue.{out_at, inbox_at};
 ghost use Rattle.sq_exec.specs.OutLink.{may_cut};
 ghost use Rattle.sq_exec.specs.Moving.{may_load};
 ghost use Rattle.sq_node.specs.NodeState.{IsNodeOf};
+ghost use Rattle.sq_node.specs.Holds.{KeepsAll};
 ghost use Rattle.sq_node.specs.Steps.{Sends, Receives, HasNoneToSend, HasNoneToReceive, CutStep, SendStep, RecvStep, LoadStep};
 
 use super::Node;
@@ -15,7 +17,8 @@ use std::sync::Wait;
 impl Node {
     /// Cuts a chunk for the first partition for which there is one to cut.
     pub fn step_cut(&mut self) -> Stepped
-        ensures { CutStep self.old result self.new }
+        ensures step { CutStep self.old result self.new }
+        ensures holds { KeepsAll self.old self.new }
     {
         let Some(dst) = self.next_cut() else {
             return Stepped::Nothing;
@@ -43,7 +46,8 @@ impl Node {
     /// Sends the chunk for the first partition whose link has room for it.
     pub fn step_send<R: Wait>(&mut self, rt: &R, fabric: &Fabric) -> Stepped
         requires { IsNodeOf fabric.now self.old }
-        ensures { SendStep fabric.now self.old result self.new }
+        ensures step { SendStep fabric.now self.old result self.new }
+        ensures holds { KeepsAll self.old self.new }
     {
         for number in 0..fabric.parts() {
             if self.send_to(rt, fabric, PartId::new(number)) {
@@ -74,7 +78,8 @@ impl Node {
     /// Receives a chunk from the first partition whose link has one and whose inbox is empty.
     pub fn step_recv<R: Wait>(&mut self, rt: &R, fabric: &Fabric) -> Stepped
         requires { IsNodeOf fabric.now self.old }
-        ensures { RecvStep self.old result self.new }
+        ensures step { RecvStep self.old result self.new }
+        ensures holds { KeepsAll self.old self.new }
     {
         for number in 0..fabric.parts() {
             if self.recv_from(rt, fabric, PartId::new(number)) {
@@ -101,7 +106,8 @@ impl Node {
 
     /// Loads the chunk of the first partition from which one came that can be loaded.
     pub fn step_load(&mut self) -> Stepped
-        ensures { LoadStep self.old result self.new }
+        ensures step { LoadStep self.old result self.new }
+        ensures holds { KeepsAll self.old self.new }
     {
         let Some(src) = self.next_load() else {
             return Stepped::Nothing;
@@ -121,6 +127,7 @@ impl Node {
     // The first partition from which a chunk came that can be loaded.
     fn next_load(&self) -> Option<PartId>
         ensures some { IfSome result (λ src. may_load self.now.core src ≡ true) }
+        ensures chunk { IfSome result (λ src. IfSome (inbox_at self.now.core src) IsChunk) }
         ensures each { length self.now.core.loaded ≡ length self.now.core.recon.segments }
         ensures none { IfNone result ((src : ℕ) → may_load self.now.core src ≡ false) }
     {

@@ -6,6 +6,7 @@ ghost use Rattle.sq_status.specs.Seat.{IsSameSeat};
 ghost use Rattle.sq_exec.specs.Moving.{begun_core};
 ghost use Rattle.sq_pull.specs.Seats.{AreSeatsOf, StepsAt};
 ghost use Rattle.sq_node.specs.NodeState.{IsNodeOf};
+ghost use Rattle.sq_node.specs.Holds.{KeepsAll};
 ghost use Rattle.sq_node.specs.Looks.{OnlyLooked, LooksOnly, LooksAndCompletes, CompletesOne, CompletesNone};
 ghost use Rattle.sq_node.specs.Steps.{IsOutward, RequestStep, CompleteStep};
 
@@ -25,7 +26,8 @@ impl Node {
     /// or a node that isn't claimed for its pull is dropped.
     pub fn step_request<R: Wait>(&mut self, rt: &R, fabric: &Fabric) -> Stepped
         requires { IsNodeOf fabric.now self.old }
-        ensures { RequestStep self.old result self.new }
+        ensures step { RequestStep self.old result self.new }
+        ensures holds { KeepsAll self.old self.new }
     {
         if self.core.reserve_begin().is_err() {
             return Stepped::Memory;
@@ -71,7 +73,8 @@ impl Node {
     /// Completes a node whose last chunk was loaded.
     pub fn step_complete(&mut self, fabric: &Fabric) -> Stepped
         requires { IsNodeOf fabric.now self.old }
-        ensures { CompleteStep self.old result self.new }
+        ensures step { CompleteStep self.old result self.new }
+        ensures holds { KeepsAll self.old self.new }
     {
         if complete_first(fabric.trees(), &mut self.seats, &mut self.to_complete) {
             return Stepped::Did;

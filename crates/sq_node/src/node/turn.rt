@@ -4,6 +4,7 @@ ghost use Rattle.sq_status.specs.Seat.{IsSameSeat};
 ghost use Rattle.sq_waiting.specs.Waiting.{txns_of};
 ghost use Rattle.sq_pull.specs.Seats.{AreSeatsOf, StepsAt};
 ghost use Rattle.sq_node.specs.NodeState.{IsNodeOf};
+ghost use Rattle.sq_node.specs.Holds.{KeepsAll};
 ghost use Rattle.sq_node.specs.Looks.{OnlyLooked, SeatsLooked};
 ghost use Rattle.sq_node.specs.Steps.{Turns, Looks};
 
@@ -19,7 +20,8 @@ impl Node {
     /// Sends what is pending, and then makes each step once.
     pub fn turn<R: Wait>(&mut self, rt: &R, fabric: &Fabric)
         requires { IsNodeOf fabric.now self.old }
-        ensures { Turns fabric.now self.old self.new }
+        ensures steps { Turns fabric.now self.old self.new }
+        ensures holds { KeepsAll self.old self.new }
     {
         self.send_pending(rt, fabric);
         self.step_job(rt, fabric);
@@ -45,7 +47,8 @@ impl Node {
     /// complete, and never again.
     pub fn idle(&mut self, fabric: &Fabric) -> bool
         requires { IsNodeOf fabric.now self.old }
-        ensures { Looks self.old self.new }
+        ensures looks { Looks self.old self.new }
+        ensures holds { KeepsAll self.old self.new }
     {
         if !fabric.is_answered() || !self.is_at_rest(fabric) {
             return false;

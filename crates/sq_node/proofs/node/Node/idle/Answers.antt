@@ -1,4 +1,5 @@
-use Rattle.std.proofs.Common.{◌∙◌}
+use Rattle.std.proofs.Common.{rules, ◌∙◌}
+use Rattle.sq_node.proofs.Keeps.{looks_keep}
 use Rattle.sq_node.proofs.Settles.{other_seats}
 use Rattle.sq_node.proofs.Looked.{settled_seats}
 use Rattle.sq_node.specs.Settled.{IsNode}
@@ -12,3 +13,9 @@ invariant_of-self c =
     let is : IsNode inside.core.core new inside.to_complete.items inside.complete.items =
     other_seats inside.core.core old new inside.to_complete.items inside.complete.items (settled_seats old new c.see_all_complete.ensures.looked) c.self.invariant in
     record { flags = c.see_all_complete.ensures.flags ∙ is.flags; exists = is.exists; whole = is.whole; each = is.each }
+
+pub returns-clause-looks : goal.returns-clause-looks
+returns-clause-looks c = search rules
+
+pub returns-clause-holds : goal.returns-clause-holds
+returns-clause-holds c = looks_keep c.args.self.now _ (returns-clause-looks c)

@@ -1,10 +1,11 @@
-use Rattle.std.proofs.Common.{◌≡◌, ℕ, ◌<◌, true, List, length, sym, ap, ◌∙◌, subst, arith}
+use Rattle.std.proofs.Common.{◌≡◌, true, length, sym, ap, ◌∙◌, subst, arith}
 use Rattle.sq_ranges.specs.ReconValue.{ReconValue}
-use Rattle.sq_status.specs.Seat.{SeatValue}
 use Rattle.sq_exec.specs.Runs.{is_whole}
-use Rattle.sq_exec.specs.CoreValue.{CoreValue, loaded_at}
+use Rattle.sq_exec.specs.CoreValue.{loaded_at}
 use Rattle.sq_node.specs.NodeState.{NodeState}
 use Rattle.sq_node.specs.Looks.{SeatsLooked, HasNoneToComplete}
+use Rattle.sq_node.specs.declared.stepped.Stepped.TheVariants.{Did, Nothing}
+use Rattle.sq_node.proofs.Keeps.{complete_keeps}
 use Rattle.sq_node.proofs.Completing.{after_one, after_none, one_is_whole, none_of_all}
 use Rattle.sq_node.proofs.node.Node.step_complete.Goals as goal
 
@@ -25,8 +26,8 @@ invariant_of-self-2 c =
     let inside = c.self.inside in
     after_none inside.core.core inside.seats.items c.complete_first.new.seats.items inside.to_complete.items c.complete_first.new.nodes.items inside.complete.items c.if-complete_first.ensures c.self.invariant
 
-pub returns-then-complete_first : goal.returns-then-complete_first
-returns-then-complete_first c =
+pub returns-then-complete_first-clause-step : goal.returns-then-complete_first-clause-step
+returns-then-complete_first-clause-step c =
     let inside = c.self.inside in
     let one = c.if-complete_first.ensures in
     let new = c.complete_first.new.seats.items in
@@ -41,8 +42,8 @@ returns-then-complete_first c =
       after = ap (λ (node : NodeState). record node { seats = new }) c.self.view_is;
     }
 
-pub returns : goal.returns
-returns c =
+pub returns-clause-step : goal.returns-clause-step
+returns-clause-step c =
     let inside = c.self.inside in
     let none = c.if-complete_first.ensures in
     let new = c.complete_first.new.seats.items in (
@@ -55,3 +56,9 @@ returns c =
           (none_of_all inside.core.core inside.seats.items new inside.to_complete.items c.complete_first.new.nodes.items inside.complete.items none c.self.invariant seg n
           (subst (λ (node : NodeState). is_whole (loaded_at node.core seg) n ≡ true) (sym c.self.view_is) whole)),
     )
+
+pub returns-then-complete_first-clause-holds : goal.returns-then-complete_first-clause-holds
+returns-then-complete_first-clause-holds c = complete_keeps c.args.self.now Did _ (returns-then-complete_first-clause-step c)
+
+pub returns-clause-holds : goal.returns-clause-holds
+returns-clause-holds c = complete_keeps c.args.self.now Nothing _ (returns-clause-step c)

@@ -1,6 +1,7 @@
 use Rattle.sq_node.proofs.Settles.{after_cut, same_loads}
 use Rattle.sq_exec.specs.CoreValue.{CoreValue}
-use Rattle.std.proofs.Common.{ap}
+use Rattle.std.proofs.Common.{ap, rules}
+use Rattle.sq_node.proofs.Keeps.{cut_keeps}
 use Rattle.sq_node.proofs.node.Node.step_cut.Goals as goal
 use Rattle.sq_node.proofs.node.Node.step_cut.Goals.{in-Ok, in-Err}
 
@@ -12,3 +13,9 @@ invariant_of-self c =
       | in-Err w ↦ same_loads inside.core.core c.cut.new.self.core inside.seats.items inside.to_complete.items inside.complete.items
           (ap (λ (core : CoreValue). core.recon) w.in-Err.ensures.err) (ap (λ (core : CoreValue). core.loaded) w.in-Err.ensures.err) c.self.invariant
     ]
+
+pub returns-clause-step : goal.returns-clause-step
+returns-clause-step c = search rules
+
+pub returns-clause-holds : goal.returns-clause-holds
+returns-clause-holds c = cut_keeps c.args.self.now _ _ (returns-clause-step c)

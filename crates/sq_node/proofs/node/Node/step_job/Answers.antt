@@ -1,16 +1,14 @@
-use Rattle.std.proofs.Common.{◌≡◌, ℕ, List, [], ◌∷◌, ◌++◌, length, sym, ap, ◌∙◌, subst}
+use Rattle.std.proofs.Common.{rules, ◌≡◌, [], ◌∷◌, ◌++◌, length, sym, ap, ◌∙◌, subst}
 use Rattle.sq_ranges.specs.ReconValue.{ReconValue}
-use Rattle.sq_status.specs.Seat.{SeatValue}
 use Rattle.sq_exec.specs.declared.outcome.Outcome.{Outcome}
-use Rattle.sq_exec.specs.declared.outcome.Outcome.TheVariants.{Done, Moved, Waits}
-use Rattle.sq_exec.specs.declared.outcome.Resumed.{Resumed}
-use Rattle.sq_exec.specs.CoreValue.{CoreValue}
-use Rattle.sq_exec.specs.Serving.{must_wait, IsTaken, IsResumed}
+use Rattle.sq_exec.specs.declared.outcome.Outcome.TheVariants.{Done, Waits}
+use Rattle.sq_exec.specs.Serving.{must_wait, IsTaken}
 use Rattle.sq_store.specs.StoreValue.{log_length}
-use Rattle.sq_node_model.specs.NodeValue.{ReceiptValue}
 use Rattle.sq_node_model.specs.Steps.{receipt_of, receipts_after}
 use Rattle.sq_node.specs.NodeState.{NodeState}
 use Rattle.sq_node.specs.Steps.{ClaimsAt}
+use Rattle.sq_node.specs.declared.stepped.Stepped.TheVariants.{Did}
+use Rattle.sq_node.proofs.Keeps.{job_keeps}
 use Rattle.sq_node.proofs.Settles.{other_seats}
 use Rattle.sq_node.proofs.Served.{after_taken, submitted_position, receipt_same, settled_claims, pulled_claims}
 use Rattle.sq_node.proofs.node.Node.step_job.Goals as goal
@@ -38,8 +36,8 @@ invariant_of-self-in-Waits g c =
     other_seats new inside.seats.items after inside.to_complete.items inside.complete.items (settled_claims c.in-Waits.seg c.in-Waits.leaf inside.seats.items after claims)
     (after_taken (must_wait inside.core.core c.in-Some.job.root) inside.core.core new c.in-Some.job c.in-Ok.outcome inside.seats.items inside.to_complete.items inside.complete.items c.in-Ok.ensures.ok c.self.invariant)
 
-pub returns-in-Done : goal.returns-in-Done
-returns-in-Done g c =
+pub returns-in-Done-clause-step : goal.returns-in-Done-clause-step
+returns-in-Done-clause-step g c =
     let inside = c.self.inside in
     let job = c.in-Some.job in
     let reply = c.in-Done.reply in
@@ -60,8 +58,8 @@ returns-in-Done g c =
           ∙ ap (λ (node : NodeState). record node { core = new; seats = seats; receipts = receipts_after node.core.store job (Done reply) node.receipts }) c.self.view_is;
     }
 
-pub returns-in-Waits : goal.returns-in-Waits
-returns-in-Waits g c =
+pub returns-in-Waits-clause-step : goal.returns-in-Waits-clause-step
+returns-in-Waits-clause-step g c =
     let inside = c.self.inside in
     let job = c.in-Some.job in
     let seg = c.in-Waits.seg in
@@ -80,3 +78,15 @@ returns-in-Waits g c =
       after = (λ k. record { core = new; seats = after; sends = inside.sends.items; recvs = inside.recvs.items; receipts = c.reserve.ensures.receipts k })
           ∙ ap (λ (node : NodeState). record node { core = new; seats = after }) c.self.view_is;
     }
+
+pub returns-in-Done-clause-holds : goal.returns-in-Done-clause-holds
+returns-in-Done-clause-holds g c = job_keeps c.args.self.now Did _ (returns-in-Done-clause-step g c)
+
+pub returns-in-Waits-clause-holds : goal.returns-in-Waits-clause-holds
+returns-in-Waits-clause-holds g c = job_keeps c.args.self.now Did _ (returns-in-Waits-clause-step g c)
+
+pub returns-in-Moved-clause-step : goal.returns-in-Moved-clause-step
+returns-in-Moved-clause-step g c = search rules
+
+pub returns-in-Moved-clause-holds : goal.returns-in-Moved-clause-holds
+returns-in-Moved-clause-holds g c = job_keeps c.args.self.now Did _ (returns-in-Moved-clause-step g c)

@@ -1,8 +1,11 @@
-use Rattle.std.proofs.Common.{◌≡◌, true, ℕ, List, ◌++◌, ◌∷◌, [], length, sym, ap, ◌∙◌, subst}
-use Rattle.std.specs.Prelude.{Bool, if◌then◌else◌}
+use Rattle.std.proofs.Common.{◌≡◌, true, ◌++◌, ◌∷◌, [], length, sym, ap, ◌∙◌, subst}
+use Rattle.std.specs.Prelude.{Option, IfSome, Bool, if◌then◌else◌}
 use Rattle.sq_exec.specs.CoreValue.{CoreValue}
-use Rattle.sq_exec.specs.Moving.{may_load}
+use Rattle.sq_chunk.specs.ChunkValue.{ChunkValue, IsChunk}
+use Rattle.sq_exec.specs.Moving.{may_load, LoadsFrom}
 use Rattle.sq_node.specs.NodeState.{NodeState}
+use Rattle.sq_node.specs.declared.stepped.Stepped.TheVariants.{Did}
+use Rattle.sq_node.proofs.Keeps.{load_keeps}
 use Rattle.sq_node.proofs.Settles.{after_load}
 use Rattle.sq_node.proofs.node.Node.step_load.Goals as goal
 
@@ -29,3 +32,41 @@ invariant_of-self-else-note c =
     inside.seats.items pending c.reserve.new.self.items inside.complete.items
     (c.reserve.ensures.items ∙ ap (λ (b : Bool). if b then pending ++ (note.seg, note.node) ∷ [] else pending) (sym c.if-note.false))
     c.self.invariant
+
+pub returns-then-note-clause-step : goal.returns-then-note-clause-step
+returns-then-note-clause-step c =
+    let src = c.in-Some.src in
+    let note = c.in-Ok.note in
+    let new = c.load.new.self.core in
+    let load : LoadsFrom c.args.self.now.core src note new = subst (λ (node : NodeState). LoadsFrom node.core src note new) c.self.view_is c.in-Ok.ensures.ok in (
+      src,
+      record {
+        note = note;
+        can = c.in-Some.ensures.some;
+        load = load;
+        sound = subst (λ (found : Option ChunkValue). IfSome found IsChunk) load.came c.in-Some.ensures.chunk;
+        after = ap (λ (node : NodeState). record node { core = new }) c.self.view_is;
+      },
+    )
+
+pub returns-then-note-clause-holds : goal.returns-then-note-clause-holds
+returns-then-note-clause-holds c = load_keeps c.args.self.now Did _ (returns-then-note-clause-step c)
+
+pub returns-else-note-clause-step : goal.returns-else-note-clause-step
+returns-else-note-clause-step c =
+    let src = c.in-Some.src in
+    let note = c.in-Ok.note in
+    let new = c.load.new.self.core in
+    let load : LoadsFrom c.args.self.now.core src note new = subst (λ (node : NodeState). LoadsFrom node.core src note new) c.self.view_is c.in-Ok.ensures.ok in (
+      src,
+      record {
+        note = note;
+        can = c.in-Some.ensures.some;
+        load = load;
+        sound = subst (λ (found : Option ChunkValue). IfSome found IsChunk) load.came c.in-Some.ensures.chunk;
+        after = ap (λ (node : NodeState). record node { core = new }) c.self.view_is;
+      },
+    )
+
+pub returns-else-note-clause-holds : goal.returns-else-note-clause-holds
+returns-else-note-clause-holds c = load_keeps c.args.self.now Did _ (returns-else-note-clause-step c)

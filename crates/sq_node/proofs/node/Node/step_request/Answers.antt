@@ -1,4 +1,4 @@
-use Rattle.std.proofs.Common.{◌≡◌, ℕ, List, sym, ap, ◌∙◌, subst}
+use Rattle.std.proofs.Common.{rules, ◌≡◌, ap, ◌∙◌, subst}
 use Rattle.sq_tree.specs.declared.status.Status.TheVariants.{Partial}
 use Rattle.sq_status.specs.declared.view.View.{View}
 use Rattle.sq_status.specs.Plays.{Won}
@@ -6,6 +6,8 @@ use Rattle.sq_exec.specs.CoreValue.{CoreValue}
 use Rattle.sq_exec.specs.Moving.{begun_core}
 use Rattle.sq_node.specs.NodeState.{NodeState}
 use Rattle.sq_node.specs.Looks.{OnlyLooked, SeatsLooked}
+use Rattle.sq_node.specs.declared.stepped.Stepped.TheVariants.{Did, Nothing}
+use Rattle.sq_node.proofs.Keeps.{request_keeps}
 use Rattle.sq_node.proofs.Settles.{after_begun, same_loads, other_seats}
 use Rattle.sq_node.proofs.Looked.{settled_at, settled_begun, settled_looked, seats_looked_at, no_looks}
 use Rattle.sq_node.proofs.node.Node.step_request.Goals as goal
@@ -34,8 +36,8 @@ invariant_of-self-3 g c =
     (settled_at named.seg OnlyLooked old new (λ v w looked n settled. settled_looked v w n looked settled) c.if-begin.ensures.0)
     (same_loads inside.core.core c.begin.new.core.core old inside.to_complete.items inside.complete.items (ap (λ (core : CoreValue). core.recon) same) (ap (λ (core : CoreValue). core.loaded) same) c.self.invariant)
 
-pub returns : goal.returns
-returns g c =
+pub returns-clause-step : goal.returns-clause-step
+returns-clause-step g c =
     let inside = c.self.inside in
     let named = c.in-Some-named.named in
     let old = inside.seats.items in
@@ -47,3 +49,12 @@ returns g c =
       after = (λ k. record { core = same k; seats = new; sends = inside.sends.items; recvs = inside.recvs.items; receipts = inside.desk.receipts })
           ∙ ap (λ (node : NodeState). record node { seats = new }) c.self.view_is;
     }
+
+pub returns-clause-holds : goal.returns-clause-holds
+returns-clause-holds g c = request_keeps c.args.self.now Nothing _ (returns-clause-step g c)
+
+pub returns-then-begin-clause-step : goal.returns-then-begin-clause-step
+returns-then-begin-clause-step g c = search rules
+
+pub returns-then-begin-clause-holds : goal.returns-then-begin-clause-holds
+returns-then-begin-clause-holds g c = request_keeps c.args.self.now Did _ (returns-then-begin-clause-step g c)

@@ -1,17 +1,12 @@
-use Rattle.std.proofs.Common.{◌≡◌, ℕ, List, [], ◌∷◌, ◌++◌, length, sym, ap, ◌∙◌, subst}
-use Rattle.sq_ranges.specs.ReconValue.{ReconValue}
-use Rattle.sq_status.specs.Seat.{SeatValue}
+use Rattle.std.proofs.Common.{rules, ◌≡◌, [], ◌∷◌, ◌++◌, sym, ap, ◌∙◌, subst}
 use Rattle.sq_exec.specs.declared.outcome.Outcome.{Outcome}
-use Rattle.sq_exec.specs.declared.outcome.Outcome.TheVariants.{Done, Moved, Waits}
-use Rattle.sq_exec.specs.declared.outcome.Resumed.{Resumed}
-use Rattle.sq_exec.specs.CoreValue.{CoreValue}
-use Rattle.sq_exec.specs.Serving.{must_wait, IsTaken, IsResumed}
+use Rattle.sq_exec.specs.declared.outcome.Outcome.TheVariants.{Done}
+use Rattle.sq_exec.specs.Serving.{IsResumed}
 use Rattle.sq_store.specs.StoreValue.{log_length}
-use Rattle.sq_node_model.specs.NodeValue.{ReceiptValue}
 use Rattle.sq_node_model.specs.Steps.{receipt_of, receipts_after}
 use Rattle.sq_node.specs.NodeState.{NodeState}
-use Rattle.sq_node.specs.Steps.{ClaimsAt}
-use Rattle.sq_node.proofs.Settles.{other_seats}
+use Rattle.sq_node.specs.declared.stepped.Stepped.TheVariants.{Did}
+use Rattle.sq_node.proofs.Keeps.{resume_keeps}
 use Rattle.sq_node.proofs.Served.{after_resumed, resumed_position, receipt_same}
 use Rattle.sq_node.proofs.node.Node.step_resume.Goals as goal
 
@@ -25,8 +20,8 @@ invariant_of-self-in-Moved g c =
     let inside = c.self.inside in
     after_resumed inside.core.core c.resume.new.self.core c.in-Ok.resumed inside.seats.items inside.to_complete.items inside.complete.items c.in-Ok.ensures.ok c.self.invariant
 
-pub returns-in-Done : goal.returns-in-Done
-returns-in-Done g c =
+pub returns-in-Done-clause-step : goal.returns-in-Done-clause-step
+returns-in-Done-clause-step g c =
     let inside = c.self.inside in
     let resumed = c.in-Ok.resumed in
     let txn = resumed.txn in
@@ -44,3 +39,12 @@ returns-in-Done g c =
       after = (λ k. record { core = new; seats = inside.seats.items; sends = inside.sends.items; recvs = inside.recvs.items; receipts = receipts k })
           ∙ ap (λ (node : NodeState). record node { core = new; receipts = receipts_after node.core.store txn resumed.outcome node.receipts }) c.self.view_is;
     }
+
+pub returns-in-Done-clause-holds : goal.returns-in-Done-clause-holds
+returns-in-Done-clause-holds g c = resume_keeps c.args.self.now Did _ (returns-in-Done-clause-step g c)
+
+pub returns-in-Moved-clause-step : goal.returns-in-Moved-clause-step
+returns-in-Moved-clause-step g c = search rules
+
+pub returns-in-Moved-clause-holds : goal.returns-in-Moved-clause-holds
+returns-in-Moved-clause-holds g c = resume_keeps c.args.self.now Did _ (returns-in-Moved-clause-step g c)

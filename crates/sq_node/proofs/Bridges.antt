@@ -1,0 +1,115 @@
+-- Seats and ends of links by key, after a step of one of them.
+use Rattle.std.proofs.Common.{◌≡◌, ⊎_elim, ℕ, suc, zero, false, ◌<◌, ◌≤◌, inl, inr, List, [], ◌∷◌, ◌++◌, length, Option, Some, None, refl, sym, ap, ◌∙◌, subst, arith}
+use Rattle.std.specs.Prelude.{◌≢◌, slice_get, slice_set, slice_index_or}
+use Rattle.std.specs.Option.{option_map_or}
+use Rattle.std.proofs.lemmas.Bool.{cases_lt}
+use Rattle.std.proofs.lemmas.Option.{slice_get_within, slice_get-get_or}
+use Rattle.sq_chunk.specs.ChunkValue.{ChunkValue}
+use Rattle.sq_status.specs.declared.view.View.{View}
+use Rattle.sq_status.specs.View.{fresh}
+use Rattle.sq_status.specs.Seat.{SeatValue}
+use Rattle.sq_exec.specs.declared.outcome.Outcome.{Outcome}
+use Rattle.sq_exec.specs.declared.outcome.Outcome.TheVariants.{Done, Moved, Waits}
+use Rattle.sq_pull.specs.Seats.{StepsAt}
+use Rattle.sq_node_model.specs.NodeValue.{put}
+use Rattle.sq_node_model.proofs.Members.{set_new}
+use Rattle.sq_node_model.proofs.Puts.{put_each, put_set, put_field}
+use Rattle.sq_node_model.proofs.CoreCut.{get_or-past}
+use Rattle.sq_node.specs.declared.ends.SendEnd.{SendEnd}
+use Rattle.sq_node.specs.declared.ends.RecvEnd.{RecvEnd}
+use Rattle.sq_node.specs.Ends.{send_end, recv_end, sent_on, received_on}
+use Rattle.sq_node.specs.NodeState.{views_of, sent_by, received_by}
+use Rattle.sq_node.specs.Looks.{OnlyLooked, SeatsLooked}
+use Rattle.sq_node.specs.Steps.{ClaimsFor}
+
+-- an end stands at a place that there is
+pub stands_below : {X : Type 0} (ends : List (Option X)) (at : ℕ) (end : X) → slice_index_or ends at None ≡ Some end → at < length ends
+stands_below ends at end there =
+    ⊎_elim (λ (low : at < length ends). low) (λ (past : length ends ≤ at). let none = sym (get_or-past ends at None past) ∙ there in cc) (cases_lt at (length ends))
+
+-- what was sent by each end, once one of them sent one more chunk
+pub sent_one : (sends : List (Option SendEnd)) (dst : ℕ) (end : SendEnd) (chunk : ChunkValue) → send_end sends dst ≡ Some end
+    → (k : ℕ) → sent_by (slice_set sends dst (Some (sent_on end chunk))) k ≡ put dst (sent_by sends dst ++ chunk ∷ []) (sent_by sends) k
+sent_one sends dst end chunk there k =
+    let sent = λ (found : Option SendEnd). option_map_or (λ (e : SendEnd). e.pass.sent) found [] in
+    ap sent (put_set sends dst (Some (sent_on end chunk)) None (stands_below sends dst end there) k)
+    ∙ put_field sent dst (Some (sent_on end chunk)) (send_end sends) k
+    ∙ ap (λ (before : List ChunkValue). put dst (before ++ chunk ∷ []) (sent_by sends) k) (sym (ap sent there))
+
+-- what was received by each end, once one of them received one more chunk
+pub received_one : (recvs : List (Option RecvEnd)) (src : ℕ) (end : RecvEnd) (chunk : ChunkValue) → recv_end recvs src ≡ Some end
+    → (k : ℕ) → received_by (slice_set recvs src (Some (received_on end chunk))) k ≡ put src (received_by recvs src ++ chunk ∷ []) (received_by recvs) k
+received_one recvs src end chunk there k =
+    let received = λ (found : Option RecvEnd). option_map_or (λ (e : RecvEnd). e.pass.received) found [] in
+    ap received (put_set recvs src (Some (received_on end chunk)) None (stands_below recvs src end there) k)
+    ∙ put_field received src (Some (received_on end chunk)) (recv_end recvs) k
+    ∙ ap (λ (before : List ChunkValue). put src (before ++ chunk ∷ []) (received_by recvs) k) (sym (ap received there))
+
+-- the view of the seat that stands there, or of one that did nothing
+abbrev view_of : Option SeatValue → View
+view_of found = option_map_or (λ (seat : SeatValue). seat.view) found (fresh false false)
+
+set_other : {X : Type 0} (xs : List X) (i j : ℕ) (v : X) → j ≢ i → slice_get (slice_set xs i v) j ≡ slice_get xs j
+set_other [] i j v apart = refl
+set_other (x ∷ xs) zero zero v apart = absurd (apart refl)
+set_other (x ∷ xs) zero (suc j) v apart = refl
+set_other (x ∷ xs) (suc i) zero v apart = refl
+set_other (x ∷ xs) (suc i) (suc j) v apart = set_other xs i j v (λ e. apart (ap suc e))
+
+-- the view of the seat that made steps, before them
+pub view_before : (seg : ℕ) (steps : View → View → Type 0) (old new : List SeatValue) (step : StepsAt seg steps old new) → views_of old seg ≡ step.before.view
+view_before seg steps old new step = ap view_of step.there
+
+-- the views, once one seat made steps
+pub views_after : (seg : ℕ) (steps : View → View → Type 0) (old new : List SeatValue) (step : StepsAt seg steps old new) (k : ℕ) → views_of new k ≡ put seg step.after.view (views_of old) k
+views_after seg steps old new step k =
+    ap (λ seats. views_of seats k) step.others
+    ∙ put_each (λ j view. views_of (slice_set old seg step.after) j ≡ view) seg step.after.view (views_of old)
+    (ap view_of (set_new old seg step.after step.before step.there))
+    (λ j apart. ap view_of (set_other old seg j step.after apart)) k
+
+-- two seats began and completed the same nodes
+pub record SameDone (v w : View) : Type 0 where
+  pub begun : w.begun ≡ v.begun
+  pub completed : w.completed ≡ v.completed
+
+pub only_looked_same : (v w : View) → OnlyLooked v w → SameDone v w
+only_looked_same v w looked = record { begun = ap (λ (u : View). u.begun) looked.after; completed = ap (λ (u : View). u.completed) looked.after }
+
+-- seats that only looked
+pub looked_same : (old new : List SeatValue) → SeatsLooked old new → (seg : ℕ) → SameDone (views_of old seg) (views_of new seg)
+looked_same old new looked seg = by (slice_get old seg) refl (slice_get new seg) refl
+  where
+    by : (x : Option SeatValue) → slice_get old seg ≡ x → (y : Option SeatValue) → slice_get new seg ≡ y → SameDone (view_of x) (view_of y)
+    by None was None is = record { begun = refl; completed = refl }
+    by (Some a) was None is =
+        let within = slice_get_within old seg a was in
+        let count = looked.count in
+        let stands = slice_get-get_or new seg a (omega arith) in
+        absurd (let e = sym is ∙ stands in cc)
+    by None was (Some b) is =
+        let within = slice_get_within new seg b is in
+        let count = looked.count in
+        let stands = slice_get-get_or old seg b (omega arith) in
+        absurd (let e = sym was ∙ stands in cc)
+    by (Some a) was (Some b) is = only_looked_same a.view b.view (looked.each seg a b was is).1
+
+-- a step of one seat that began and completed nothing
+pub step_same : (seg : ℕ) (steps : View → View → Type 0) (old new : List SeatValue) (step : StepsAt seg steps old new) → SameDone step.before.view step.after.view
+    → (k : ℕ) → SameDone (views_of old k) (views_of new k)
+step_same seg steps old new step same k =
+    subst (SameDone (views_of old k)) (sym (views_after seg steps old new step k))
+    (put_each (λ j view. SameDone (views_of old j) view) seg step.after.view (views_of old)
+    (subst (λ view. SameDone view step.after.view) (sym (view_before seg steps old new step)) same)
+    (λ j apart. record { begun = refl; completed = refl }) k)
+
+kept_same : (old new : List SeatValue) → new ≡ old → (k : ℕ) → SameDone (views_of old k) (views_of new k)
+kept_same old new same k = subst (λ seats. SameDone (views_of old k) (views_of seats k)) (sym same) (record { begun = refl; completed = refl })
+
+-- seats of which one may have claimed a leaf
+pub claimed_same : (outcome : Outcome) (old new : List SeatValue) → ClaimsFor outcome old new → (k : ℕ) → SameDone (views_of old k) (views_of new k)
+claimed_same (Done reply) old new same k = kept_same old new same k
+claimed_same (Moved to) old new same k = kept_same old new same k
+claimed_same (Waits seg leaf) old new (inl claims) k =
+    let only = claims.2.told.claims in step_same seg _ old new claims.2 (record { begun = only.begun; completed = only.completed }) k
+claimed_same (Waits seg leaf) old new (inr same) k = kept_same old new same k

@@ -1,0 +1,200 @@
+-- Each step of a node keeps what holds of it.
+use Rattle.std.proofs.lemmas.List.{length-set}
+use Rattle.std.proofs.Common.{◌≡◌, ℕ, Bool, true, false, List, slice_get, Option, Some, None, refl, sym, ap, ◌∙◌, subst}
+use Rattle.std.specs.Option.{option_map_or}
+use Rattle.sq_chunk.specs.ChunkValue.{ChunkValue}
+use Rattle.sq_ranges.specs.declared.recon.Range.{Range}
+use Rattle.sq_ranges.specs.ReconValue.{ReconValue}
+use Rattle.sq_ranges.specs.OpeningValue.{OpeningValue}
+use Rattle.sq_schema.specs.TxnValue.{TxnValue}
+use Rattle.sq_store.specs.StoreValue.{StoreValue}
+use Rattle.sq_tree.specs.declared.status.Status.TheVariants.{Partial, Complete}
+use Rattle.sq_status.specs.Plays.{Won}
+use Rattle.sq_status.specs.Seat.{SeatValue}
+use Rattle.sq_exec.specs.declared.outcome.Outcome.{Outcome}
+use Rattle.sq_exec.specs.OutLink.{OutLinkValue}
+use Rattle.sq_exec.specs.Runs.{is_whole}
+use Rattle.sq_exec.specs.CoreValue.{CoreValue, out_at, with_out, loaded_at}
+use Rattle.sq_exec.specs.Serving.{must_wait, IsTaken}
+use Rattle.sq_exec.specs.Moving.{can_load, loaded_core, begun_in}
+use Rattle.sq_pull.specs.Seats.{StepsAt}
+use Rattle.sq_node_model.specs.NodeValue.{ReceiptValue, node_of, put}
+use Rattle.sq_node_model.specs.Steps.{receipts_after}
+use Rattle.sq_node_model.specs.NodeHolds.{NodeHolds}
+use Rattle.sq_node_model.specs.Cores.{IsCoreOf, IsLoadable}
+use Rattle.sq_node_model.proofs.Puts.{put_each, put_same, put_other}
+use Rattle.sq_node_model.proofs.CoreBegun.{core_looked, core_completed, core_begun}
+use Rattle.sq_node_model.proofs.CoreCut.{core_cut}
+use Rattle.sq_node_model.proofs.CoreLinks.{core_sent, core_received}
+use Rattle.sq_node_model.proofs.CoreLoad.{core_loaded}
+use Rattle.sq_node_model.proofs.CoreServed.{core_submitted, core_resumed}
+use Rattle.sq_node.specs.declared.stepped.Stepped.{Stepped}
+use Rattle.sq_node.specs.declared.stepped.Stepped.TheVariants.{Did, Nothing, Memory}
+use Rattle.sq_node.specs.FabricValue.{FabricValue}
+use Rattle.sq_node.specs.NodeState.{NodeState, views_of, sent_by, received_by}
+use Rattle.sq_node.specs.Holds.{HoldsUnder, KeepsAll}
+use Rattle.sq_node.specs.Looks.{LooksAndCompletes}
+use Rattle.sq_node.specs.Steps.{JobStep, RequestStep, CutStep, SendStep, RecvStep, LoadStep, CompleteStep, ResumeStep, Looks}
+use Rattle.sq_node.proofs.Bridges.{SameDone, only_looked_same, sent_one, received_one, view_before, views_after, looked_same, claimed_same}
+
+-- what is as it was keeps all
+pub same_keeps : (old new : NodeState) → new ≡ old → KeepsAll old new
+same_keeps old new same o is h = subst (HoldsUnder o) (sym same) h
+
+-- a partition with other families, and with another end of a link
+with_core : (o : OpeningValue) (core : CoreValue) (dst : ℕ) (out : OutLinkValue) (store : StoreValue) → IsCoreOf o core → IsCoreOf o (record (with_out core dst out) { store = store })
+with_core o core dst out store of = record { plan = of.plan; recon = of.recon; outs = length-set core.outs dst out ∙ of.outs; given_up = of.given_up; loaded = of.loaded }
+
+pub cut_keeps : (old : NodeState) (answer : Stepped) (new : NodeState) → CutStep old answer new → KeepsAll old new
+cut_keeps old Did new step o is h =
+    let cuts = step.1 in
+    subst (HoldsUnder o) (sym cuts.after)
+    (record {
+      core = subst (IsCoreOf o) (sym cuts.cut.after) (with_core o old.core step.0 cuts.cut.out cuts.cut.store h.core);
+      holds = core_cut old.core new.core (views_of old.seats) (sent_by old.sends) (received_by old.recvs) old.receipts step.0 cuts.note cuts.cut o is h.holds;
+    })
+cut_keeps old Nothing new step o is h = same_keeps old new step.0 o is h
+cut_keeps old Memory new step o is h = same_keeps old new step o is h
+
+pub send_keeps : (fabric : FabricValue) (old : NodeState) (answer : Stepped) (new : NodeState) → SendStep fabric old answer new → KeepsAll old new
+send_keeps fabric old Did new step o is h =
+    let sends = step.1 in
+    subst (HoldsUnder o) (sym sends.after)
+    (record {
+      core = with_core o old.core step.0 (record (out_at old.core step.0) { outbox = None }) old.core.store h.core;
+      holds = core_sent o old.core (views_of old.seats) (sent_by old.sends) _ (received_by old.recvs) old.receipts step.0 sends.chunk sends.cut (sent_one old.sends step.0 sends.end sends.chunk sends.there) h.holds;
+    })
+send_keeps fabric old Nothing new step o is h = same_keeps old new step.0 o is h
+send_keeps fabric old Memory new step o is h = absurd step
+
+pub recv_keeps : (old : NodeState) (answer : Stepped) (new : NodeState) → RecvStep old answer new → KeepsAll old new
+recv_keeps old Did new step o is h =
+    let receives = step.1 in
+    let of = h.core in
+    subst (HoldsUnder o) (sym receives.after)
+    (record {
+      core = record { plan = of.plan; recon = of.recon; outs = of.outs; given_up = of.given_up; loaded = of.loaded };
+      holds = core_received o old.core (views_of old.seats) (sent_by old.sends) (received_by old.recvs) _ old.receipts step.0 receives.chunk receives.exists receives.empty (received_one old.recvs step.0 receives.end receives.chunk receives.there) h.holds;
+    })
+recv_keeps old Nothing new step o is h = same_keeps old new step.0 o is h
+recv_keeps old Memory new step o is h = absurd step
+
+loaded_core_of : (o : OpeningValue) (core : CoreValue) (src : ℕ) (chunk : ChunkValue) → IsCoreOf o core → IsCoreOf o (loaded_core core src chunk)
+loaded_core_of o core src chunk of = record { plan = of.plan; recon = of.recon; outs = of.outs; given_up = of.given_up; loaded = length-set core.loaded chunk.note.seg _ ∙ of.loaded }
+
+pub load_keeps : (old : NodeState) (answer : Stepped) (new : NodeState) → LoadStep old answer new → KeepsAll old new
+load_keeps old Did new step o is h =
+    let src = step.0 in
+    let loads = step.1 in
+    let load = loads.load in
+    let can : can_load old.core src load.chunk ≡ true = ap (λ (inbox : Option ChunkValue). option_map_or (can_load old.core src) inbox false) (sym load.came) ∙ loads.can in
+    let loadable : IsLoadable old.core src load.chunk = record { can = can; sound = loads.sound } in
+    subst (HoldsUnder o) (sym loads.after)
+    (record {
+      core = subst (IsCoreOf o) (sym load.after) (loaded_core_of o old.core src load.chunk h.core);
+      holds = core_loaded o old.core new.core (views_of old.seats) (sent_by old.sends) (received_by old.recvs) old.receipts src loads.note h.core load loadable is h.holds;
+    })
+load_keeps old Nothing new step o is h = same_keeps old new step.0 o is h
+load_keeps old Memory new step o is h = same_keeps old new step o is h
+
+-- where the seats began and completed nothing more
+seats_keep : (o : OpeningValue) (core : CoreValue) (old new : List SeatValue) (sent received : ℕ → List ChunkValue) (receipts : List ReceiptValue) → ((seg : ℕ) → SameDone (views_of old seg) (views_of new seg))
+    → NodeHolds o (node_of core (views_of old) sent received receipts) → NodeHolds o (node_of core (views_of new) sent received receipts)
+seats_keep o core old new sent received receipts same h =
+    core_looked o core (views_of old) (views_of new) sent received receipts (λ seg. (same seg).begun) (λ seg. (same seg).completed) h
+
+pub looks_keep : (old new : NodeState) → Looks old new → KeepsAll old new
+looks_keep old new looks o is h =
+    subst (HoldsUnder o) (sym looks.after)
+    (record {
+      core = h.core;
+      holds = seats_keep o old.core old.seats new.seats (sent_by old.sends) (received_by old.recvs) old.receipts (looked_same old.seats new.seats looks.seats) h.holds;
+    })
+
+begun_core_of : (o : OpeningValue) (core : CoreValue) (seg n pull : ℕ) (found : Option Range) → IsCoreOf o core → IsCoreOf o (begun_in core seg n pull found)
+begun_core_of o core seg n pull None of = of
+begun_core_of o core seg n pull (Some segment) of = record {
+  plan = of.plan;
+  recon = of.recon;
+  outs = length-set core.outs segment.dst _ ∙ of.outs;
+  given_up = length-set core.given_up seg _ ∙ of.given_up;
+  loaded = of.loaded;
+}
+
+pub request_keeps : (old : NodeState) (answer : Stepped) (new : NodeState) → RequestStep old answer new → KeepsAll old new
+request_keeps old Did new step o is h =
+    let at = step.seg in
+    let outward = step.outward in
+    let there : slice_get o.recon.segments at ≡ Some outward.segment = ap (λ (r : ReconValue). slice_get r.segments at) (sym h.core.recon) ∙ outward.there in
+    let won = step.won in
+    let before = view_before at _ old.seats new.seats won in
+    subst (HoldsUnder o) (sym step.after)
+    (record {
+      core = begun_core_of o old.core at step.node step.pull (slice_get old.core.recon.segments at) h.core;
+      holds = core_begun o is old.core (views_of old.seats) (views_of new.seats) (sent_by old.sends) (received_by old.recvs) old.receipts at step.node step.pull won.after.view outward.segment h.core there
+          (subst (λ view. Won view step.node (Partial step.pull) won.after.view) (sym before) won.told)
+          (views_after at _ old.seats new.seats won) outward.leaves outward.node h.holds;
+    })
+request_keeps old Nothing new step o is h = looks_keep old new step o is h
+request_keeps old Memory new step o is h = same_keeps old new step o is h
+
+-- a value that is put at a key in place of another that was put there
+put_twice : {X : Type 0} (key : ℕ) (first value : X) (f : ℕ → X) (k : ℕ) → put key value f k ≡ put key value (put key first f) k
+put_twice key first value f =
+    put_each (λ k x. x ≡ put key value (put key first f) k) key value f
+    (sym (put_same key value (put key first f)))
+    (λ k apart. sym (put_other key value (put key first f) k apart ∙ put_other key first f k apart))
+
+-- where a seat looked at a node of a tree, and then completed it
+completes_keep : (o : OpeningValue) (core : CoreValue) (old new : List SeatValue) (sent received : ℕ → List ChunkValue) (receipts : List ReceiptValue) (seg n : ℕ)
+    → (done : StepsAt seg (λ v w. LooksAndCompletes v n w) old new) → is_whole (loaded_at core seg) n ≡ true
+    → NodeHolds o (node_of core (views_of old) sent received receipts) → NodeHolds o (node_of core (views_of new) sent received receipts)
+completes_keep o core old new sent received receipts seg n done whole h =
+    let view = done.told.1 in
+    let looked = put seg view (views_of old) in
+    let same : (k : ℕ) → SameDone (views_of old k) (looked k) =
+    put_each (λ k v. SameDone (views_of old k) v) seg view (views_of old)
+    (subst (λ v. SameDone v view) (sym (view_before seg _ old new done)) (only_looked_same done.before.view view done.told.2))
+    (λ k apart. record { begun = refl; completed = refl }) in
+    core_completed o core looked (views_of new) sent received receipts seg n done.told.0 done.after.view whole
+    (subst (λ v. Won v n (Complete done.told.0) done.after.view) (sym (put_same seg view (views_of old))) done.told.3)
+    (λ k. views_after seg _ old new done k ∙ put_twice seg view done.after.view (views_of old) k)
+    (core_looked o core (views_of old) looked sent received receipts (λ k. (same k).begun) (λ k. (same k).completed) h)
+
+pub complete_keeps : (old : NodeState) (answer : Stepped) (new : NodeState) → CompleteStep old answer new → KeepsAll old new
+complete_keeps old Did new step o is h =
+    subst (HoldsUnder o) (sym step.after)
+    (record {
+      core = h.core;
+      holds = completes_keep o old.core step.between new.seats (sent_by old.sends) (received_by old.recvs) old.receipts step.seg step.node step.completed step.whole
+          (seats_keep o old.core old.seats step.between (sent_by old.sends) (received_by old.recvs) old.receipts (looked_same old.seats step.between step.looked) h.holds);
+    })
+complete_keeps old Nothing new step o is h = looks_keep old new step.0 o is h
+complete_keeps old Memory new step o is h = absurd step
+
+taken_core_of : (o : OpeningValue) (waits : Bool) (old new : CoreValue) (txn : TxnValue) (outcome : Outcome) → IsTaken waits old txn outcome new → IsCoreOf o old → IsCoreOf o new
+taken_core_of o true old new txn outcome taken of = subst (IsCoreOf o) (sym taken.last) (record { plan = of.plan; recon = of.recon; outs = of.outs; given_up = of.given_up; loaded = of.loaded })
+taken_core_of o false old new txn outcome taken of = subst (IsCoreOf o) (sym taken.after) (record { plan = of.plan; recon = of.recon; outs = of.outs; given_up = of.given_up; loaded = of.loaded })
+
+pub job_keeps : (old : NodeState) (answer : Stepped) (new : NodeState) → JobStep old answer new → KeepsAll old new
+job_keeps old Did new step o is h =
+    let receipts = receipts_after old.core.store step.txn step.outcome old.receipts in
+    subst (HoldsUnder o) (sym step.after)
+    (record {
+      core = taken_core_of o (must_wait old.core step.txn.root) old.core new.core step.txn step.outcome step.taken h.core;
+      holds = seats_keep o new.core old.seats new.seats (sent_by old.sends) (received_by old.recvs) receipts (claimed_same step.outcome old.seats new.seats step.claims)
+          (core_submitted (views_of old.seats) (sent_by old.sends) (received_by old.recvs) old.receipts o is old.core new.core (must_wait old.core step.txn.root) step.txn step.outcome h.core step.taken h.holds);
+    })
+job_keeps old Nothing new step o is h = same_keeps old new step o is h
+job_keeps old Memory new step o is h = same_keeps old new step o is h
+
+pub resume_keeps : (old : NodeState) (answer : Stepped) (new : NodeState) → ResumeStep old answer new → KeepsAll old new
+resume_keeps old Did new step o is h =
+    let of = h.core in
+    subst (HoldsUnder o) (sym step.after)
+    (record {
+      core = subst (IsCoreOf o) (sym step.taken.after) (record { plan = of.plan; recon = of.recon; outs = of.outs; given_up = of.given_up; loaded = of.loaded });
+      holds = core_resumed (views_of old.seats) (sent_by old.sends) (received_by old.recvs) old.receipts o is old.core new.core step.resumed h.core step.taken h.holds;
+    })
+resume_keeps old Nothing new step o is h = same_keeps old new step.0 o is h
+resume_keeps old Memory new step o is h = same_keeps old new step o is h
