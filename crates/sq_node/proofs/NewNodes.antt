@@ -1,6 +1,6 @@
 -- Nodes that are opened one after another.
-use Rattle.std.proofs.Common.{◌≡◌, ℕ, ◌+◌, ◌<◌, ◌≤◌, true, false, List, [], ◌∷◌, ◌++◌, length, get_or, replicate, Option, Some, None, refl, sym, ap, ◌∙◌, subst, ⊎_elim, length-append, arith}
-use Rattle.std.specs.Prelude.{◌⊎◌, ◌≢◌, slice_get}
+use Rattle.std.proofs.Common.{◌≡◌, ℕ, suc, ◌+◌, ◌<◌, ◌≤◌, true, false, List, [], ◌∷◌, ◌++◌, length, get_or, map, replicate, Option, Some, None, refl, sym, ap, ◌∙◌, subst, ⊎_elim, length-append, arith}
+use Rattle.std.specs.Prelude.{◌⊎◌, ◌≢◌, slice_get, Result, Ok, Err, IfOk}
 use Rattle.std.specs.Option.{option_map_or}
 use Rattle.std.proofs.lemmas.Bool.{cases_lt}
 use Rattle.std.proofs.lemmas.List.{get_or-replicate, get_or_past, length-replicate}
@@ -25,7 +25,8 @@ use Rattle.sq_node.specs.declared.ends.RecvEnd.{RecvEnd}
 use Rattle.sq_node.specs.Ends.{link_at, send_end, recv_end, AreSendEnds, AreRecvEnds}
 use Rattle.sq_node.specs.FabricValue.{FabricValue}
 use Rattle.sq_node.specs.NodeState.{NodeState, views_of, sent_by, received_by}
-use Rattle.sq_node.specs.Opened.{AreFirstSeats, AreNewSeats, GaveEach, HasSendEnds, HasRecvEnds, LeavesSendEnds, LeavesRecvEnds, HaveSentNothing, HaveReceivedNothing, IsFabricOf, IsNewNode, AreNewNodes, first_view, started_part}
+use Rattle.sq_pull.specs.Pump.{PumpValue}
+use Rattle.sq_node.specs.Opened.{IsNewPump, AreNewPumps, AreFirstSeats, AreNewSeats, GaveEach, HasSendEnds, HasRecvEnds, LeavesSendEnds, LeavesRecvEnds, HaveSentNothing, HaveReceivedNothing, IsFabricOf, IsNewNode, AreNewNodes, first_view, started_part}
 
 all_same : {X : Type 0} (n i : ℕ) (x : X) → get_or (replicate n x) i x ≡ x
 all_same n i x =
@@ -129,16 +130,25 @@ more_nodes o old new count nodes node same are made =
           (push_stood nodes node part one there);
     })
 
+gave_trees : (old new : List SeatValue) → GaveEach old new → map (λ (seat : SeatValue). seat.tree) new ≡ map (λ (seat : SeatValue). seat.tree) old
+gave_trees [] [] gives = refl
+gave_trees [] (seat ∷ new) gives = let count = gives.count in absurd (omega arith)
+gave_trees (seat ∷ old) [] gives = let count = gives.count in absurd (omega arith)
+gave_trees (seat ∷ old) (next ∷ new) gives =
+    let is : next ≡ record { tree = seat.tree; view = gave seat.view } = same_Some next (record { tree = seat.tree; view = gave seat.view }) (gives.each 0 seat refl) in
+    let count = gives.count in
+    λ k. (is k).tree ∷ gave_trees old new (record { count = omega arith; each = λ seg before there. gives.each (suc seg) before there }) k
+
 -- each first seat gave out one more
-pub gave_one_more : (given : ℕ) (trees : List TableId) (old new : List SeatValue) → AreFirstSeats given trees old → GaveEach old new → AreSeatsOf trees new → AreFirstSeats (given + 1) trees new
-gave_one_more given trees old new are gives of =
+pub gave_one_more : (given : ℕ) (trees : List TableId) (old new : List SeatValue) → AreFirstSeats given trees old → GaveEach old new → AreFirstSeats (given + 1) trees new
+gave_one_more given trees old new are gives =
     record {
-      of = of;
+      of = gave_trees old new gives ∙ are.of;
       each = λ seg seat there.
           let within : seg < length old = let lt = slice_get_within new seg seat there in omega (arith, gives.count) in
           let before = get_or old seg seat in
           let stood : slice_get old seg ≡ Some before = slice_get-get_or old seg seat within in
-          let is : record { tree = before.tree; view = gave before.view } ≡ seat = same_Some _ seat (sym (gives.each seg before stood) ∙ there) in
+          let is : record { tree = before.tree; view = gave before.view } ≡ seat = same_Some (record { tree = before.tree; view = gave before.view }) seat (sym (gives.each seg before stood) ∙ there) in
           ap (λ (s : SeatValue). s.view) (sym is) ∙ ap gave (are.each seg before stood);
     }
 
@@ -156,3 +166,34 @@ left_recvs links old new part other leaves apart has =
       count = leaves.count ∙ has.count;
       each = λ i lt dst. leaves.each i (λ same. apart (sym same ∙ dst)) ∙ has.each i lt dst;
     }
+
+-- a node that is opened with these is new, where there is memory for it
+pub opened_node : {E : Type 0} (o : OpeningValue) (fabric : FabricValue) (part : ℕ) (core : CoreValue) (seats : List SeatValue) (sends : List (Option SendEnd)) (recvs : List (Option RecvEnd)) (result : Result NodeState E)
+    → IsFabricOf o fabric → part < o.old.parts → core ≡ opened_part o part → HasOwned o part core.store → AreNewSeats fabric.trees seats
+    → AreSendEnds fabric.links part sends × HaveSentNothing sends × (length sends ≡ fabric.parts) → AreRecvEnds fabric.links part recvs × HaveReceivedNothing recvs × (length recvs ≡ fabric.parts)
+    → IfOk result (λ node. node.core ≡ record core { started = true }) → IfOk result (λ node. node.seats ≡ seats) → IfOk result (λ node. node.sends ≡ sends) → IfOk result (λ node. node.recvs ≡ recvs)
+    → IfOk result (λ node. node.receipts ≡ []) → IfOk result (IsNewNode o fabric part)
+opened_node o fabric part core seats sends recvs (Ok node) shared below opened owned new out into is_core is_seats is_sends is_recvs is_receipts =
+    new_node o fabric part core seats sends recvs node shared below opened owned new out into
+    (λ k. record { core = is_core k; seats = is_seats k; sends = is_sends k; recvs = is_recvs k; receipts = is_receipts k })
+opened_node o fabric part core seats sends recvs (Err fault) shared below opened owned new out into is_core is_seats is_sends is_recvs is_receipts = tt
+
+-- what is shared fits an opening whatever seats it keeps
+pub same_shared : (o : OpeningValue) (old new : FabricValue) → new ≡ record old { seats = new.seats } → IsFabricOf o old → IsFabricOf o new
+same_shared o old new same shared =
+    subst (IsFabricOf o) (sym same) (record { recon = shared.recon; parts = shared.parts; capacity = shared.capacity })
+
+-- one more pump
+pub more_pumps : (old new : FabricValue) (count : ℕ) (pumps : List PumpValue) (pump : PumpValue) → new ≡ record old { seats = new.seats } → AreNewPumps old count pumps → IsNewPump old count pump
+    → AreNewPumps new (count + 1) (pumps ++ pump ∷ [])
+more_pumps old new count pumps pump same are made =
+    subst (λ (fabric : FabricValue). AreNewPumps fabric (count + 1) (pumps ++ pump ∷ [])) (sym same)
+    (record {
+      all = length-append pumps (pump ∷ []) ∙ ap (λ (n : ℕ). n + 1) are.all;
+      each = λ number one there. ⊎_elim (λ (before : slice_get pumps number ≡ Some one). same_pump number one (are.each number one before))
+          (λ (last : (number ≡ length pumps) × (pump ≡ one)). same_pump number one (subst (λ (k : ℕ). IsNewPump old k one) (sym are.all ∙ sym last.0) (subst (IsNewPump old count) last.1 made)))
+          (push_stood pumps pump number one there);
+    })
+  where
+    same_pump : (number : ℕ) (one : PumpValue) → IsNewPump old number one → IsNewPump (record old { seats = new.seats }) number one
+    same_pump number one new = record { numbered = new.numbered; wins = new.wins; seats = new.seats }

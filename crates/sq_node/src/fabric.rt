@@ -13,6 +13,8 @@ use std::marker::Model;
 use std::sync::Wait;
 use std::sync::atomic::{AtomicU64, Ordering};
 
+mod open;
+
 /// How many requests the queue of a partition holds.
 pub const REQUEST_PLACES: usize = 256;
 

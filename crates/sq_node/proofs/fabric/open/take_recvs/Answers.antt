@@ -1,0 +1,19 @@
+use Rattle.std.proofs.Common.{◌≡◌, ℕ, length, sym, ap, ◌∙◌, Option, subst}
+use Rattle.std.specs.Prelude.{◌==◌, MatchOption, Some, None, slice_set, List}
+use Rattle.std.proofs.lemmas.Bool.{eq-eqb}
+use Rattle.sq_node.specs.declared.ends.RecvEnd.{RecvEnd}
+use Rattle.sq_node.specs.Ends.{link_at, link_from, recv_end}
+use Rattle.sq_node.specs.Opened.{new_recv_end}
+use Rattle.sq_node.proofs.Taken.{takes_one, found_link}
+use Rattle.sq_node.proofs.fabric.open.take_recvs.Goals as goal
+
+pub loop-number-preserved : goal.loop-number-preserved
+loop-number-preserved c =
+    let links = c.args.links.now in
+    let part = c.args.part in
+    let number = c.loop-number.number in
+    let ends = c.loop-number.ends in
+    let told = subst (λ (k : ℕ). MatchOption (link_from links k part) ((c.take_recv-end.result ≡ None) × (c.take_recv-end.new.ends ≡ ends)) (λ at. (c.take_recv-end.result ≡ recv_end ends at) × (c.take_recv-end.new.ends ≡ slice_set ends at None))) c.new.ensures c.take_recv-end.ensures in
+    takes_one (new_recv_end links) (length links) (λ i. (link_at links i).dst == part) (λ i. (link_at links i).src) (λ (src : ℕ). link_from links src part) c.args.ends.now number ends c.loop-number.recvs.items c.loop-number.invariant
+    (λ at is. let found = found_link links number part at is in (found.0, eq-eqb (link_at links at).dst part found.2, found.1))
+    c.take_recv-end.result c.take_recv-end.new.ends _ told c.in_ok-push.ensures.items

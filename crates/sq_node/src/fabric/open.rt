@@ -1,0 +1,304 @@
+// Opening a run.
+ghost use Rattle.std.specs.Prelude.{◌≡◌, ◌≢◌, ℕ, ◌+◌, ◌<◌, ◌≤◌, length, slice_set, None, MatchOption, IfOk, OnOk};
+ghost use Rattle.sq_ranges.specs.ReconValue.{AreLinks};
+ghost use Rattle.sq_pull.specs.Seats.{AreSeatsOf};
+ghost use Rattle.sq_pull.specs.declared.numbers.TheConstants.{MAX_OWNERS};
+ghost use Rattle.sq_node.specs.Ends.{link_from, send_end, recv_end, AreSendEnds, AreRecvEnds};
+ghost use Rattle.sq_node.specs.FabricValue.{AreFirst, IsFabric};
+ghost use Rattle.sq_node.specs.Opened.{AreFirstSeats, AreNewSeats, GaveEach, AreNewLinks, HasAllEnds, HasSendEnds, HasRecvEnds, LeavesSendEnds, LeavesRecvEnds, HaveSentNothing, HaveReceivedNothing, IsFabricOf, IsNewNode, AreNewNodes, IsNewPump, AreNewPumps, IsOpened};
+
+use super::{Fabric, JOB_PLACES, REQUEST_PLACES};
+use crate::ends::{Receiver, RecvEnd, SendEnd, Sender};
+use crate::node::Node;
+use crossbeam_queue::ArrayQueue;
+use sq_link::Link;
+use sq_opened::open_partition;
+use sq_plan::PartId;
+use sq_pull::Pump;
+use sq_ranges::{Opening, Recon};
+use sq_status::{StatusTree, TreeSeat};
+use std::alloc::{AllocError, Global};
+use std::sync::atomic::AtomicU64;
+
+// The ends of links that aren't handed out, each where its link stands.
+#[derive(Drop)]
+struct Ends {
+    sends: Vec<Sender>,
+    recvs: Vec<Receiver>,
+}
+
+impl Fabric {
+    /// What a run shares, its nodes, and this many pumps. The move has started.
+    pub fn open(
+        alloc: Global,
+        opening: &Opening,
+        pumps: u32,
+    ) -> Result<(Fabric, Vec<Node>, Vec<Pump>), AllocError>
+        requires { pumps ≤ MAX_OWNERS }
+        ensures { IfOk result (λ opened. IsOpened opening.now pumps opened.0 opened.1.items opened.2.items) }
+    {
+        let (mut fabric, ends) = open_fabric(alloc, opening)?;
+        let nodes = open_nodes(alloc, opening, &mut fabric, ends)?;
+        let pumps = open_pumps(alloc, pumps, &mut fabric)?;
+        Ok((fabric, nodes, pumps))
+    }
+
+    // A seat at each tree.
+    fn share_seats(&mut self, alloc: Global) -> Result<Vec<TreeSeat>, AllocError>
+        ensures same { self.new ≡ record self.old { seats = self.new.seats } }
+        ensures own { IfOk result (λ own. AreNewSeats self.old.trees own.items) }
+        ensures gave { OnOk result (GaveEach self.old.seats self.new.seats) }
+        ensures fabric { IsFabric self.old }
+    {
+        share_all(alloc, &self.trees, &mut self.seats)
+    }
+}
+
+// What a run shares, with the ends of its links.
+fn open_fabric(alloc: Global, opening: &Opening) -> Result<(Fabric, Ends), AllocError>
+    ensures fabric { IfOk result (λ opened. IsFabricOf opening.now opened.0) }
+    ensures seats { IfOk result (λ opened. AreFirstSeats 0 opened.0.trees opened.0.seats) }
+    ensures ends { IfOk result (λ opened. HasAllEnds opened.0.links opened.1.sends.items opened.1.recvs.items) }
+{
+    let parts = opening.old_plan().parts();
+    let (trees, seats) = open_trees(alloc, opening.recon().segments().len())?;
+    let (links, ends) = open_links(alloc, opening.recon(), opening.config().capacity)?;
+    let fabric = Fabric {
+        recon: opening.recon().clone()?,
+        parts,
+        trees,
+        seats,
+        links,
+        requests: queues(alloc, parts, REQUEST_PLACES)?,
+        jobs: queues(alloc, parts, JOB_PLACES)?,
+        posted: AtomicU64::new(0),
+        answered: AtomicU64::new(0),
+    };
+    Ok((fabric, ends))
+}
+
+// This many trees, whose nodes are all free, with their first seats.
+fn open_trees(alloc: Global, count: usize) -> Result<(Vec<StatusTree>, Vec<TreeSeat>), AllocError>
+    ensures count { IfOk result (λ opened. length opened.0.items ≡ count) }
+    ensures seats { IfOk result (λ opened. AreFirstSeats 0 opened.0.items opened.1.items) }
+{
+    let mut trees = Vec::new(alloc);
+    let mut seats = Vec::new(alloc);
+    for _opened in 0..count {
+        let (tree, seat) = StatusTree::open(alloc)?;
+        trees.push(tree)?;
+        seats.push(seat)?;
+    }
+    Ok((trees, seats))
+}
+
+// The links of a reconfiguration, each of which holds this many chunks, with their ends.
+fn open_links(alloc: Global, recon: &Recon, capacity: u64) -> Result<(Vec<Link>, Ends), AllocError>
+    requires { 0 < capacity }
+    ensures links { IfOk result (λ opened. AreNewLinks recon.now.ranges capacity opened.0.items) }
+    ensures ends { IfOk result (λ opened. HasAllEnds opened.0.items opened.1.sends.items opened.1.recvs.items) }
+{
+    let mut links = Vec::new(alloc);
+    let mut sends = Vec::new(alloc);
+    let mut recvs = Vec::new(alloc);
+    for (at, ends) in recon.links().iter().enumerate() {
+        let (link, send, recv) = Link::open(alloc, ends.src, ends.dst, capacity)?;
+        links.push(link)?;
+        sends.push(Sender::new(Some(SendEnd {
+            link: at,
+            pass: send,
+        })))?;
+        recvs.push(Receiver::new(Some(RecvEnd {
+            link: at,
+            pass: recv,
+        })))?;
+    }
+    Ok((links, Ends { sends, recvs }))
+}
+
+// A queue for each partition, with this many places.
+fn queues<T: Drop>(
+    alloc: Global,
+    parts: u8,
+    places: usize,
+) -> Result<Vec<ArrayQueue<T>>, AllocError>
+    requires { 0 < places }
+    ensures { IfOk result (λ queues. length queues.items ≡ parts) }
+{
+    let mut queues = Vec::new(alloc);
+    for _part in 0..parts {
+        queues.push(ArrayQueue::new(alloc, places)?)?;
+    }
+    Ok(queues)
+}
+
+// A seat at each tree.
+fn share_all(
+    alloc: Global,
+    trees: &[StatusTree],
+    seats: &mut Vec<TreeSeat>,
+) -> Result<Vec<TreeSeat>, AllocError>
+    requires of { AreSeatsOf trees.now seats.old.items }
+    requires first { AreFirst seats.old.items }
+    ensures of { AreSeatsOf trees.now seats.new.items }
+    ensures first { AreFirst seats.new.items }
+    ensures own { IfOk result (λ own. AreNewSeats trees.now own.items) }
+    ensures gave { OnOk result (GaveEach seats.old.items seats.new.items) }
+{
+    let mut shared = Vec::new(alloc);
+    for (at, tree) in trees.iter().enumerate() {
+        shared.push(tree.share(&mut seats[at]))?;
+    }
+    Ok(shared)
+}
+
+// The node of each partition.
+fn open_nodes(
+    alloc: Global,
+    opening: &Opening,
+    fabric: &mut Fabric,
+    mut ends: Ends,
+) -> Result<Vec<Node>, AllocError>
+    requires fabric { IsFabricOf opening.now fabric.old }
+    requires seats { AreFirstSeats 0 fabric.old.trees fabric.old.seats }
+    requires ends { HasAllEnds fabric.old.links ends.sends.items ends.recvs.items }
+    ensures same { fabric.new ≡ record fabric.old { seats = fabric.new.seats } }
+    ensures seats { OnOk result (AreFirstSeats opening.now.old.parts fabric.new.trees fabric.new.seats) }
+    ensures nodes { IfOk result (λ nodes. AreNewNodes opening.now fabric.new opening.now.old.parts nodes.items) }
+{
+    let mut nodes = Vec::new(alloc);
+    for number in 0..fabric.parts() {
+        let part = PartId::new(number);
+        nodes.push(open_node(alloc, opening, fabric, &mut ends, part)?)?;
+    }
+    Ok(nodes)
+}
+
+// The node of a partition.
+fn open_node(
+    alloc: Global,
+    opening: &Opening,
+    fabric: &mut Fabric,
+    ends: &mut Ends,
+    part: PartId,
+) -> Result<Node, AllocError>
+    requires fabric { IsFabricOf opening.now fabric.old }
+    requires part { part < opening.now.old.parts }
+    requires sends { HasSendEnds fabric.old.links ends.old.sends.items part }
+    requires recvs { HasRecvEnds fabric.old.links ends.old.recvs.items part }
+    ensures same { fabric.new ≡ record fabric.old { seats = fabric.new.seats } }
+    ensures gave { OnOk result (GaveEach fabric.old.seats fabric.new.seats) }
+    ensures node { IfOk result (IsNewNode opening.now fabric.old part) }
+    ensures sends { OnOk result (LeavesSendEnds fabric.old.links ends.old.sends.items part ends.new.sends.items) }
+    ensures recvs { OnOk result (LeavesRecvEnds fabric.old.links ends.old.recvs.items part ends.new.recvs.items) }
+{
+    let core = open_partition(alloc, opening, part)?;
+    let seats = fabric.share_seats(alloc)?;
+    let parts = fabric.parts();
+    let sends = take_sends(alloc, parts, fabric.links(), &mut ends.sends, part)?;
+    let recvs = take_recvs(alloc, parts, fabric.links(), &mut ends.recvs, part)?;
+    Node::open(alloc, core, seats, sends, recvs)
+}
+
+// This many pumps.
+fn open_pumps(alloc: Global, count: u32, fabric: &mut Fabric) -> Result<Vec<Pump>, AllocError>
+    requires { count ≤ MAX_OWNERS }
+    ensures same { fabric.new ≡ record fabric.old { seats = fabric.new.seats } }
+    ensures seats { OnOk result ((given : ℕ) → AreFirstSeats given fabric.old.trees fabric.old.seats → AreFirstSeats (given + count) fabric.new.trees fabric.new.seats) }
+    ensures pumps { IfOk result (λ pumps. AreNewPumps fabric.new count pumps.items) }
+{
+    let mut pumps = Vec::new(alloc);
+    for number in 0..count {
+        pumps.push(open_pump(alloc, fabric, number)?)?;
+    }
+    Ok(pumps)
+}
+
+// The pump of a number.
+fn open_pump(alloc: Global, fabric: &mut Fabric, number: u32) -> Result<Pump, AllocError>
+    requires { number < MAX_OWNERS }
+    ensures same { fabric.new ≡ record fabric.old { seats = fabric.new.seats } }
+    ensures gave { OnOk result (GaveEach fabric.old.seats fabric.new.seats) }
+    ensures pump { IfOk result (IsNewPump fabric.old number) }
+{
+    let seats = fabric.share_seats(alloc)?;
+    match Pump::new(alloc, number, seats) {
+        Ok(pump) => Ok(pump),
+        Err(_) => Err(AllocError),
+    }
+}
+
+// The ends that a partition sends by, by the partition that each sends to.
+fn take_sends(
+    alloc: Global,
+    parts: u8,
+    links: &[Link],
+    ends: &mut [Sender],
+    part: PartId,
+) -> Result<Vec<Sender>, AllocError>
+    requires { HasSendEnds links.now ends.old part }
+    ensures sends { IfOk result (λ sends. AreSendEnds links.now part sends.items × HaveSentNothing sends.items × (length sends.items ≡ parts)) }
+    ensures left { OnOk result (LeavesSendEnds links.now ends.old part ends.new) }
+{
+    let mut sends = Vec::new(alloc);
+    for number in 0..parts {
+        let end = take_send(links, ends, part, PartId::new(number));
+        sends.push(end)?;
+    }
+    Ok(sends)
+}
+
+// The ends that a partition receives by, by the partition that each receives from.
+fn take_recvs(
+    alloc: Global,
+    parts: u8,
+    links: &[Link],
+    ends: &mut [Receiver],
+    part: PartId,
+) -> Result<Vec<Receiver>, AllocError>
+    requires { HasRecvEnds links.now ends.old part }
+    ensures recvs { IfOk result (λ recvs. AreRecvEnds links.now part recvs.items × HaveReceivedNothing recvs.items × (length recvs.items ≡ parts)) }
+    ensures left { OnOk result (LeavesRecvEnds links.now ends.old part ends.new) }
+{
+    let mut recvs = Vec::new(alloc);
+    for number in 0..parts {
+        let end = take_recv(links, ends, PartId::new(number), part);
+        recvs.push(end)?;
+    }
+    Ok(recvs)
+}
+
+// The end of the link from one partition to another, if there is such a link.
+fn take_send(links: &[Link], ends: &mut [Sender], src: PartId, dst: PartId) -> Sender
+    requires { length ends.old ≡ length links.now }
+    ensures { MatchOption (link_from links.now src dst)
+        ((result ≡ None) × (ends.new ≡ ends.old))
+        (λ at. (result ≡ send_end ends.old at) × (ends.new ≡ slice_set ends.old at None)) }
+{
+    match link_from(links, src, dst) {
+        Some(at) => ends[at].take(),
+        None => Sender::new(None),
+    }
+}
+
+// The end of the link from one partition to another, if there is such a link.
+fn take_recv(links: &[Link], ends: &mut [Receiver], src: PartId, dst: PartId) -> Receiver
+    requires { length ends.old ≡ length links.now }
+    ensures { MatchOption (link_from links.now src dst)
+        ((result ≡ None) × (ends.new ≡ ends.old))
+        (λ at. (result ≡ recv_end ends.old at) × (ends.new ≡ slice_set ends.old at None)) }
+{
+    match link_from(links, src, dst) {
+        Some(at) => ends[at].take(),
+        None => Receiver::new(None),
+    }
+}
+
+// Where the link from one partition to another stands.
+fn link_from(links: &[Link], src: PartId, dst: PartId) -> Option<usize>
+    ensures { result ≡ link_from links.now src dst }
+{
+    links
+        .iter()
+        .position(|link| link.src() == src && link.dst() == dst)
+}
