@@ -1,7 +1,6 @@
 pub mod Cores
 pub mod Dumps
 pub mod Each
-pub mod Families
 pub mod Found
 pub mod Guards
 pub mod Leading

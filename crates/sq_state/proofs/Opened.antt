@@ -38,8 +38,9 @@ use Rattle.sq_transition.specs.WorldValue.{WorldValue, QueueValue, LinkValue, no
 use Rattle.sq_transition.specs.Leading.{phase_of, parts_of, has_prepared, has_reported}
 use Rattle.sq_transition.specs.Holds.{share_at, LinkHolds, MovesHold, IsSetFor, CoreHolds, Holds}
 use Rattle.sq_state.specs.Queue.{opened_queue, link_of}
-use Rattle.sq_state.specs.Openings.{opened_part, AreNewTrees, AreNewQueues}
-use Rattle.sq_state.proofs.Families.{get_opened}
+use Rattle.sq_opened.specs.Opened.{opened_part}
+use Rattle.sq_opened.proofs.Families.{get_opened}
+use Rattle.sq_state.specs.Openings.{AreNewTrees, AreNewQueues}
 use Rattle.sq_state.proofs.Found.{found_at}
 
 -- a link that has carried nothing

@@ -1,21 +1,18 @@
 // The state that a world opens in.
-ghost use Rattle.std.specs.Prelude.{◌≡◌, ℕ, [], map, IfOk, IfErr, IsTrue};
+ghost use Rattle.std.specs.Prelude.{◌≡◌, ℕ, [], map, IfOk, IfErr};
 ghost use Rattle.std.specs.List.{range_with_len};
-ghost use Rattle.std.specs.FinMap.{empty};
-ghost use Rattle.sq_chunk.specs.ChunkValue.{are_within};
 ghost use Rattle.sq_ranges.specs.SetUp.{IsSetUp};
-ghost use Rattle.sq_store.specs.StoreValue.{with_families};
 ghost use Rattle.sq_transition.specs.Holds.{Holds};
-ghost use Rattle.sq_state.specs.Openings.{opened_families, opened_part, AreNewTrees, AreNewQueues};
+ghost use Rattle.sq_opened.specs.Opened.{opened_part};
+ghost use Rattle.sq_state.specs.Openings.{AreNewTrees, AreNewQueues};
 
 use crate::queue::Queue;
 use crate::state::State;
 use sq_exec::PartCore;
 use sq_leader::{Idle, Leader};
-use sq_plan::{PartId, Plan};
+use sq_opened::open_partitions;
 use sq_ranges::{Opening, OpeningParts, Range, Recon};
-use sq_schema::{Family, Table};
-use sq_store::{FamilyStore, SlabStore};
+use sq_store::SlabStore;
 use sq_tree::PlainTree;
 use std::alloc::{AllocError, Global};
 
@@ -74,70 +71,10 @@ fn fresh_state(alloc: Global, opening: &Opening) -> Result<Fresh, AllocError>
     ensures queues { IfOk result (λ fresh. AreNewQueues opening.now.recon.ranges fresh.queues.items) }
 {
     Ok(Fresh {
-        cores: partitions(alloc, opening)?,
+        cores: open_partitions(alloc, opening)?,
         trees: trees(alloc, opening.recon().segments())?,
         queues: queues(alloc, opening.recon())?,
     })
-}
-
-// The partitions of the plan before the move.
-fn partitions(alloc: Global, opening: &Opening) -> Result<Vec<PartCore<SlabStore>>, AllocError>
-    ensures { IfOk result (λ cores. map (λ part. part.core) cores.items ≡ map (opened_part opening.now) (range_with_len 0 opening.now.old.parts)) }
-{
-    let mut cores = Vec::new(alloc);
-    for number in 0..opening.old_plan().parts() {
-        cores.push(partition(alloc, opening, PartId::new(number))?)?;
-    }
-    Ok(cores)
-}
-
-// A partition with the families of the root keys that it owns.
-fn partition(
-    alloc: Global,
-    opening: &Opening,
-    part: PartId,
-) -> Result<PartCore<SlabStore>, AllocError>
-    ensures { IfOk result (λ opened. opened.core ≡ opened_part opening.now part) }
-{
-    let families = families(alloc, opening.old_plan(), part, opening.table())?;
-    let store = store(alloc, families)?;
-    match PartCore::open(alloc, opening, part, store) {
-        Ok(core) => Ok(core),
-        Err(_) => Err(AllocError),
-    }
-}
-
-// The families of the root keys that a partition owns.
-fn families(
-    alloc: Global,
-    plan: &Plan,
-    part: PartId,
-    table: &Table,
-) -> Result<Vec<Family>, AllocError>
-    ensures { IfOk result (λ families. families.items ≡ opened_families plan.now part table.now) }
-{
-    let mut families = Vec::new(alloc);
-    for (root, rows) in table.iter() {
-        if plan.owner(*root) == part {
-            let Ok(family) = Family::opened(alloc, *root, rows.clone()?) else {
-                return Err(AllocError);
-            };
-            families.push(family)?;
-        }
-    }
-    Ok(families)
-}
-
-// A store of families whose root keys rise.
-fn store(alloc: Global, families: Vec<Family>) -> Result<SlabStore, AllocError>
-    requires { (lo : ℕ) × (hi : ℕ) × IsTrue (are_within lo hi families.items) }
-    ensures { IfOk result (λ store. store ≡ with_families empty families.items) }
-{
-    let mut store = SlabStore::new(alloc);
-    match store.give(families) {
-        Ok(()) => Ok(store),
-        Err(_) => Err(AllocError),
-    }
 }
 
 // The trees of segments, of which each node is free.
