@@ -4,3 +4,4 @@ pub mod Comings
 pub mod Fronts
 pub mod Buffers
 pub mod Lengths
+mod Places

@@ -2,6 +2,7 @@
 ghost use Rattle.std.specs.Prelude.{◌≡◌, ◌==◌, ◌+◌, ◌-◌, ◌<◌, ◌≤◌, ◌++◌, length, take, drop, slice_range, IfOk, OnErr, vec_len, position};
 ghost use Rattle.std.specs.Io.KnownBytes.{Keeps, Consumes, IsAtEnd};
 
+use memchr::memchr;
 use std::io;
 use std::io::{ErrorKind, Read};
 
@@ -14,11 +15,11 @@ pub const BLOCK: usize = 65_536;
 /// The size of the buffer: a line as long as it may be, and a block behind it.
 pub(crate) const ROOM: usize = MAX_UNENDED + BLOCK;
 
-// The place of the first line end.
-pub(crate) fn place_of_end(bytes: &[u8]) -> Option<usize>
-    ensures { result ≡ position (λ b. b == 10) bytes.now }
+/// The first place of a byte; `None` where it has none.
+pub fn place_of(byte: u8, bytes: &[u8]) -> Option<usize>
+    ensures { result ≡ position (λ b. b == byte) bytes.now }
 {
-    bytes.iter().position(|b| *b == b'\n')
+    memchr(byte, bytes)
 }
 
 // Moves the bytes from one place up to another to the front.

@@ -4,7 +4,7 @@ ghost use Rattle.sq_lines.specs.Pieces.{next_begins, PieceValue};
 ghost use Rattle.sq_lines.specs.Coming.{CanCome, IsUndecided, Gives, Finds, GoesOn, reads_left};
 ghost use Rattle.std.specs.List.{list_all};
 
-use crate::buffer::{MAX_UNENDED, ROOM, move_to_front, place_of_end, read_behind};
+use crate::buffer::{MAX_UNENDED, ROOM, move_to_front, place_of, read_behind};
 use std::alloc::{AllocError, Global};
 use std::io::Read;
 use std::marker::Model;
@@ -154,7 +154,7 @@ impl<R: Read> LineReader<R> {
         if self.lines == 0 {
             return Next::TooMany;
         }
-        let Some(at) = place_of_end(&self.buffer[self.searched..self.end]) else {
+        let Some(at) = place_of(b'\n', &self.buffer[self.searched..self.end]) else {
             self.searched = self.end;
             if self.end - self.start > most {
                 return Next::Long;

@@ -8,3 +8,4 @@ pub mod OpRun
 pub mod Appending
 pub mod HeaderRun
 pub mod Moves
+mod VerbWords

@@ -2,12 +2,7 @@
 ghost use Rattle.std.specs.Prelude.{◌≡◌, ◌==◌, [], ◌∷◌, MatchOption, position};
 ghost use Rattle.sq_text.specs.Words.{split_by};
 
-// The first place of a byte.
-fn place_of(byte: u8, bytes: &[u8]) -> Option<usize>
-    ensures { result ≡ position (λ b. b == byte) bytes.now }
-{
-    bytes.iter().position(|b| *b == byte)
-}
+use sq_lines::place_of;
 
 // What stands before the first of these bytes, and what stands after it; `None` where there is none.
 pub(crate) fn split_once(byte: u8, bytes: &[u8]) -> Option<(&[u8], &[u8])>

@@ -21,52 +21,30 @@ pub(crate) enum Verb {
 }
 
 impl Verb {
-    ghost use Rattle.sq_text.specs.Verbs.{verb_word, verb_in};
-
-    const ALL: [Verb; 14] = [
-        Verb::Prepare,
-        Verb::Start,
-        Verb::Resume,
-        Verb::Split,
-        Verb::Claim,
-        Verb::Begin,
-        Verb::Cut,
-        Verb::Push,
-        Verb::Pop,
-        Verb::Load,
-        Verb::Complete,
-        Verb::Report,
-        Verb::Finish,
-        Verb::Status,
-    ];
-
-    fn word(self) -> &'static [u8]
-        ensures { result.now ≡ verb_word self }
-    {
-        match self {
-            Verb::Prepare => b"prepare",
-            Verb::Start => b"start",
-            Verb::Resume => b"resume",
-            Verb::Split => b"split",
-            Verb::Claim => b"claim",
-            Verb::Begin => b"begin",
-            Verb::Cut => b"cut",
-            Verb::Push => b"push",
-            Verb::Pop => b"pop",
-            Verb::Load => b"load",
-            Verb::Complete => b"complete",
-            Verb::Report => b"report",
-            Verb::Finish => b"finish",
-            Verb::Status => b"status",
-        }
-    }
+    ghost use Rattle.sq_text.specs.Verbs.{verb_in};
 
     // The verb that a word spells.
     #[tactic(auto, unfolding(crate::specs::Verbs::verb_in))]
     pub(crate) fn of(word: &[u8]) -> Option<Verb>
         ensures { result ≡ verb_in word.now }
     {
-        Verb::ALL.iter().copied().find(|verb| verb.word() == word)
+        match word {
+            b"prepare" => Some(Verb::Prepare),
+            b"start" => Some(Verb::Start),
+            b"resume" => Some(Verb::Resume),
+            b"split" => Some(Verb::Split),
+            b"claim" => Some(Verb::Claim),
+            b"begin" => Some(Verb::Begin),
+            b"cut" => Some(Verb::Cut),
+            b"push" => Some(Verb::Push),
+            b"pop" => Some(Verb::Pop),
+            b"load" => Some(Verb::Load),
+            b"complete" => Some(Verb::Complete),
+            b"report" => Some(Verb::Report),
+            b"finish" => Some(Verb::Finish),
+            b"status" => Some(Verb::Status),
+            _ => None,
+        }
     }
 }
 
@@ -81,33 +59,20 @@ pub(crate) enum OpName {
 }
 
 impl OpName {
-    ghost use Rattle.sq_text.specs.Verbs.{op_word, op_name_in};
-
-    const ALL: [OpName; 5] = [
-        OpName::Get,
-        OpName::Put,
-        OpName::Add,
-        OpName::Del,
-        OpName::Check,
-    ];
-
-    fn word(self) -> &'static [u8]
-        ensures { result.now ≡ op_word self }
-    {
-        match self {
-            OpName::Get => b"get",
-            OpName::Put => b"put",
-            OpName::Add => b"add",
-            OpName::Del => b"del",
-            OpName::Check => b"check",
-        }
-    }
+    ghost use Rattle.sq_text.specs.Verbs.{op_name_in};
 
     // The name that a word spells.
     #[tactic(auto, unfolding(crate::specs::Verbs::op_name_in))]
     pub(crate) fn of(word: &[u8]) -> Option<OpName>
         ensures { result ≡ op_name_in word.now }
     {
-        OpName::ALL.iter().copied().find(|name| name.word() == word)
+        match word {
+            b"get" => Some(OpName::Get),
+            b"put" => Some(OpName::Put),
+            b"add" => Some(OpName::Add),
+            b"del" => Some(OpName::Del),
+            b"check" => Some(OpName::Check),
+            _ => None,
+        }
     }
 }

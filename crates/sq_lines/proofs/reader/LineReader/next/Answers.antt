@@ -25,34 +25,34 @@ returns-then-self-eq0 g c =
     (subst (λ v. CanCome v _) c.self.view_is (too_many _ c.if-self-eq0.true some), refl)
 
 pub invariant_of-self : goal.invariant_of-self
-invariant_of-self g c = all_searched _ _ _ _ c.self.inside.searched _ _ _ c.self.invariant (rw (← c.deref.ensures.value) (sym c.place_of_end.ensures ∙ c.in_default.is))
+invariant_of-self g c = all_searched _ _ _ _ c.self.inside.searched _ _ _ c.self.invariant (rw (← c.deref.ensures.value) (sym c.place_of.ensures ∙ c.in_default.is))
 
 pub returns-then-self-most : goal.returns-then-self-most
 returns-then-self-most g c =
     let s = c.self.inside in
-    let none : position (λ b. b == 10) (slice_range s.buffer.items s.searched s.end) ≡ None = rw (← c.deref.ensures.value) (sym c.place_of_end.ensures ∙ c.in_default.is) in
+    let none : position (λ b. b == 10) (slice_range s.buffer.items s.searched s.end) ≡ None = rw (← c.deref.ensures.value) (sym c.place_of.ensures ∙ c.in_default.is) in
     let unended = found_none s.buffer.items s.start s.searched s.end c.self.invariant.searched_after c.self.invariant.searched_before c.self.invariant.unended none in
     let count = length_range s.buffer.items s.start s.end (omega (arith, c.self.invariant.within, c.self.invariant.room)) in
     (subst (λ v. IsLong c.args.most v) c.self.view_is (long_unended _ c.args.most (omega (arith, c.if-self-eq0.false)) unended (omega (arith, count, c.if-self-most.true))), c.self.view_is)
 
 pub invariant_of-self-in-Open-reading : goal.invariant_of-self-in-Open-reading
-invariant_of-self-in-Open-reading g c = all_searched _ _ _ _ c.self.inside.searched _ _ _ c.self.invariant (rw (← c.deref.ensures.value) (sym c.place_of_end.ensures ∙ c.in_default.is))
+invariant_of-self-in-Open-reading g c = all_searched _ _ _ _ c.self.inside.searched _ _ _ c.self.invariant (rw (← c.deref.ensures.value) (sym c.place_of.ensures ∙ c.in_default.is))
 
 pub returns-in-Open-reading : goal.returns-in-Open-reading
 returns-in-Open-reading g c =
     let s = c.self.inside in
-    let none : position (λ b. b == 10) (slice_range s.buffer.items s.searched s.end) ≡ None = rw (← c.deref.ensures.value) (sym c.place_of_end.ensures ∙ c.in_default.is) in
+    let none : position (λ b. b == 10) (slice_range s.buffer.items s.searched s.end) ≡ None = rw (← c.deref.ensures.value) (sym c.place_of.ensures ∙ c.in_default.is) in
     let unended = found_none s.buffer.items s.start s.searched s.end c.self.invariant.searched_after c.self.invariant.searched_before c.self.invariant.unended none in
     let count = length_range s.buffer.items s.start s.end (omega (arith, c.self.invariant.within, c.self.invariant.room)) in
     (subst (λ v. IsUndecided c.args.most v) c.self.view_is (record { unended = unended; short = omega (arith, count, c.if-self-most.false); goes_on = c.in-Open-reading.is; some_line = inr (omega (arith, c.if-self-eq0.false)) }), c.self.view_is)
 
 pub invariant_of-self-in-Failed-reading : goal.invariant_of-self-in-Failed-reading
-invariant_of-self-in-Failed-reading g c = all_searched _ _ _ _ c.self.inside.searched _ _ _ c.self.invariant (rw (← c.deref.ensures.value) (sym c.place_of_end.ensures ∙ c.in_default.is))
+invariant_of-self-in-Failed-reading g c = all_searched _ _ _ _ c.self.inside.searched _ _ _ c.self.invariant (rw (← c.deref.ensures.value) (sym c.place_of.ensures ∙ c.in_default.is))
 
 pub returns-in-Failed-reading : goal.returns-in-Failed-reading
 returns-in-Failed-reading g c =
     let s = c.self.inside in
-    let none : position (λ b. b == 10) (slice_range s.buffer.items s.searched s.end) ≡ None = rw (← c.deref.ensures.value) (sym c.place_of_end.ensures ∙ c.in_default.is) in
+    let none : position (λ b. b == 10) (slice_range s.buffer.items s.searched s.end) ≡ None = rw (← c.deref.ensures.value) (sym c.place_of.ensures ∙ c.in_default.is) in
     let unended = found_none s.buffer.items s.start s.searched s.end c.self.invariant.searched_after c.self.invariant.searched_before c.self.invariant.unended none in
     let count = length_range s.buffer.items s.start s.end (omega (arith, c.self.invariant.within, c.self.invariant.room)) in
     (subst (λ (v : LinesValue). CanCome v (Failed v.held ∷ [])) c.self.view_is (failed_comes _ c.in-Failed-reading.is unended (inr (omega (arith, c.if-self-eq0.false))) (omega (arith, count, c.if-self-most.false, c.requires))), omega (arith, count, c.if-self-most.false, ap (λ (v : LinesValue). length v.held) c.self.view_is), c.self.view_is)
@@ -60,7 +60,7 @@ returns-in-Failed-reading g c =
 pub returns-in-Ended-reading : goal.returns-in-Ended-reading
 returns-in-Ended-reading g c =
     let s = c.self.inside in
-    let none : position (λ b. b == 10) (slice_range s.buffer.items s.searched s.end) ≡ None = rw (← c.deref.ensures.value) (sym c.place_of_end.ensures ∙ c.in_default.is) in
+    let none : position (λ b. b == 10) (slice_range s.buffer.items s.searched s.end) ≡ None = rw (← c.deref.ensures.value) (sym c.place_of.ensures ∙ c.in_default.is) in
     let unended = found_none s.buffer.items s.start s.searched s.end c.self.invariant.searched_after c.self.invariant.searched_before c.self.invariant.unended none in
     let count = length_range s.buffer.items s.start s.end (omega (arith, c.self.invariant.within, c.self.invariant.room)) in
     let short : length (slice_range s.buffer.items s.start s.end) ≤ c.args.most = omega (arith, count, c.if-self-most.false) in (
@@ -73,7 +73,7 @@ pub returns-then-line_end-self-gt-MAX_UNENDED : goal.returns-then-line_end-self-
 returns-then-line_end-self-gt-MAX_UNENDED g c =
     let s = c.self.inside in
     let at = c.in-Some.at in
-    let some : position (λ b. b == 10) (slice_range s.buffer.items s.searched s.end) ≡ Some at = rw (← c.deref.ensures.value) (sym c.place_of_end.ensures ∙ c.in-Some.is) in
+    let some : position (λ b. b == 10) (slice_range s.buffer.items s.searched s.end) ≡ Some at = rw (← c.deref.ensures.value) (sym c.place_of.ensures ∙ c.in-Some.is) in
     let found = found_line s.buffer.items s.start s.searched s.end at c.self.invariant.searched_after c.self.invariant.searched_before (omega (arith, c.self.invariant.within, c.self.invariant.room)) c.self.invariant.unended some in
     (subst (λ v. IsLong c.args.most v) c.self.view_is (long_line _ c.args.most (slice_range s.buffer.items s.start (s.searched + at)) (slice_range s.buffer.items (s.searched + at + 1) s.end) c.requires (omega (arith, c.if-self-eq0.false)) found.held found.unended (omega (arith, found.count, c.if-line_end-self-gt-MAX_UNENDED.true))), refl)
 
@@ -81,7 +81,7 @@ pub returns : goal.returns
 returns g c =
     let s = c.self.inside in
     let at = c.in-Some.at in
-    let some : position (λ b. b == 10) (slice_range s.buffer.items s.searched s.end) ≡ Some at = rw (← c.deref.ensures.value) (sym c.place_of_end.ensures ∙ c.in-Some.is) in
+    let some : position (λ b. b == 10) (slice_range s.buffer.items s.searched s.end) ≡ Some at = rw (← c.deref.ensures.value) (sym c.place_of.ensures ∙ c.in-Some.is) in
     let found = found_line s.buffer.items s.start s.searched s.end at c.self.invariant.searched_after c.self.invariant.searched_before (omega (arith, c.self.invariant.within, c.self.invariant.room)) c.self.invariant.unended some in
     let lines : c.args.self.now.lines ≡ s.lines - 1 + 1 = sym (ap (λ (v : LinesValue). v.lines) c.self.view_is) ∙ omega (arith, c.if-self-eq0.false) in
     let short : length (slice_range s.buffer.items s.start (s.searched + at)) ≤ 1048576 = omega (arith, found.count, c.if-line_end-self-gt-MAX_UNENDED.false) in (
