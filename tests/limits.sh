@@ -1,6 +1,7 @@
 #!/usr/bin/env bash
 # Makes inputs at the limits, and what is to be written for them: NAME.in, NAME.out and, where the exit status isn't 0,
-# NAME.status, in the folder that is named. They are too large, or too much alike from line to line, to be stored.
+# NAME.status, in the folder that is named, as they stand in tests/runs. They are too large, or too much alike from line
+# to line, to be stored.
 #
 #   tests/limits.sh FOLDER
 set -eu
@@ -22,10 +23,10 @@ repeat() { yes "$2" | head -n "$1"; }
 # letters COUNT: letters without a line end.
 letters() { head -c "$1" /dev/zero | tr '\0' a; }
 
-# fault NAME NUMBER: nothing but this fault is to be written.
+# fault NAME NUMBER LINE: nothing but this fault, which belongs to this line, is to be written.
 fault() {
     echo "fault $2" > "$1.out"
-    echo 2 > "$1.status"
+    echo "2 at line $3" > "$1.status"
 }
 
 # An input may have any number of bytes: these are the header, 300 long lines and a rest.
@@ -49,27 +50,27 @@ echo 2 > more_than_1000000_lines.status
 { printf '%-65536s\n' "$old"; header | tail -n 3; } > longest_line_of_a_header.in
 dump idle > longest_line_of_a_header.out
 { printf '%-65537s\n' "$old"; header | tail -n 3; } > plan_line_over_65536_bytes.in
-fault plan_line_over_65536_bytes 231
+fault plan_line_over_65536_bytes 231 1
 { printf 'old '; letters 65532; echo; } > longest_line_that_is_no_plan.in
-fault longest_line_that_is_no_plan 101
+fault longest_line_that_is_no_plan 101 1
 { header; printf 'row '; letters 65532; echo; } > row_of_65536_bytes.in
-fault row_of_65536_bytes 121
+fault row_of_65536_bytes 121 5
 { header; printf 'row '; letters 65533; echo; } > row_over_65536_bytes.in
-fault row_over_65536_bytes 231
+fault row_over_65536_bytes 231 5
 { header; printf 'row '; letters 1048573; echo; } > row_without_end.in
-fault row_without_end 231
+fault row_without_end 231 5
 { printf 'old '; letters 1048577; } > plan_line_without_end.in
-fault plan_line_without_end 231
+fault plan_line_without_end 231 1
 { header; printf rows; letters 65533; echo; } > long_line_like_a_row.in
 { echo 'refused 231'; dump idle; } > long_line_like_a_row.out
 
 # So has a rest in the header; in the script it is refused whatever it holds.
 { printf 'old '; letters 65532; } > rest_of_65536_bytes.in
-fault rest_of_65536_bytes 121
+fault rest_of_65536_bytes 121 1
 { printf 'old '; letters 65533; } > rest_over_65536_bytes.in
-fault rest_over_65536_bytes 231
+fault rest_over_65536_bytes 231 1
 { header; printf 'row '; letters 65533; } > rest_of_a_row_over_65536_bytes.in
-fault rest_of_a_row_over_65536_bytes 231
+fault rest_of_a_row_over_65536_bytes 231 5
 
 # At most 1,048,576 bytes come without a line end.
 { header; start; letters 1048576; } > longest_rest.in
@@ -90,20 +91,20 @@ plan() {
 { echo "old $(plan 16 256)"; echo "new $(plan 16 1)"; echo 'config 1 64 1'; } > plan_of_16_partitions_and_256_ranges.in
 echo 'end idle' > plan_of_16_partitions_and_256_ranges.out
 echo "old $(plan 16 257)" > plan_of_257_ranges.in
-fault plan_of_257_ranges 107
+fault plan_of_257_ranges 107 1
 echo "old $(plan 17 256)" > plan_of_17_partitions_and_256_ranges.in
-fault plan_of_17_partitions_and_256_ranges 104
+fault plan_of_17_partitions_and_256_ranges 104 1
 echo "old $(plan 17 257)" > plan_of_17_partitions_and_257_ranges.in
-fault plan_of_17_partitions_and_257_ranges 104
+fault plan_of_17_partitions_and_257_ranges 104 1
 echo "old $(plan 0 1)" > plan_of_0_partitions_and_a_range.in
-fault plan_of_0_partitions_and_a_range 104
+fault plan_of_0_partitions_and_a_range 104 1
 
 # JSON's arrays stand in one another at most 127 times. Those here are no plan.
 nested() { yes "$1" | head -n "$2" | tr -d '\n'; }
 echo "old $(nested '[' 127)$(nested ']' 127)" > arrays_in_127_arrays.in
-fault arrays_in_127_arrays 102
+fault arrays_in_127_arrays 102 1
 echo "old $(nested '[' 128)$(nested ']' 128)" > arrays_in_128_arrays.in
-fault arrays_in_128_arrays 101
+fault arrays_in_128_arrays 101 1
 
 # A log holds at most 4,096 transactions. Beyond it each is refused where the key runs, whatever its operations.
 {

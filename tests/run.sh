@@ -4,11 +4,11 @@
 #   tests/run.sh
 #
 # `squall run` gets each tests/runs/NAME.in, and then the inputs at the limits that tests/limits.sh makes; `squall ranges`
-# gets each tests/listings/NAME.in. Its standard
-# output must be NAME.out, byte for byte, and its exit status the number in NAME.status, or 0 where there is no such
-# file. A fault must be said on standard error by its text in tests/texts, which has a line for each number; without one
-# standard error is empty. Then come the examples of examples/ and those of the help texts, streams that fail, memory that
-# runs out, and command lines, whose texts are in tests/usage.
+# gets each tests/listings/NAME.in. Its standard output must be NAME.out, byte for byte, and its exit status the number in
+# NAME.status, or 0 where there is no such file. A fault must be said on standard error: the line of the header that it
+# belongs to, where NAME.status names one ('2 at line 5'), and its text in tests/texts, which has a line for each number;
+# without a fault standard error is empty. Then come the examples of examples/ and those of the help texts, streams that
+# fail, memory that runs out, and command lines, whose texts are in tests/usage.
 #
 # The programs are those that `rt ci` leaves in crates/squall/out: squall, as LLVM builds it, and squall.by-rattle, as
 # Rattle's own compiler does. SQUALL=PATH takes another one.
@@ -40,11 +40,15 @@ difference() {
     head -n 5 "$room/difference"
 }
 
-# said NUMBER: what is to be said on standard error of the fault of this number.
+# said NUMBER [LINE]: what is to be said on standard error of the fault of this number, which belongs to this line of the
+# header. The text of a plan's fault begins with 'plan'; which plan it is stands before it.
 said() {
-    local number text
+    local number text line=${2:+line $2: }
     while read -r number text; do
-        if [ "$number" = "$1" ]; then echo "squall: fault $number: $text"; fi
+        case $text in
+            plan*) if [ "${2:-}" = 1 ]; then text="the old $text"; else text="the new $text"; fi ;;
+        esac
+        if [ "$number" = "$1" ]; then echo "squall: ${line}fault $number: $text"; fi
     done < "$tests/texts"
 }
 
@@ -68,16 +72,17 @@ give() {
 }
 
 # compare NAME INPUT WANTED STATUS [WORD]: gives an input to a subcommand, `run` if none is named, and compares what is
-# written with a file.
+# written with a file. The line that a fault belongs to stands behind the status.
 compare() {
-    local last
+    local last status line
+    read -r status _ _ line <<< "$4"
     give "$2" "${5:-run}"
     last=$(tail -n 1 "$3")
     case $last in
-        fault*) said "${last#fault }" > "$room/said" ;;
+        fault*) said "${last#fault }" "$line" > "$room/said" ;;
         *) : > "$room/said" ;;
     esac
-    judge "$1" "$4" "$3" "$room/said"
+    judge "$1" "$status" "$3" "$room/said"
 }
 
 # compare_all FOLDER WORD: gives each input of a folder to a subcommand.
@@ -125,8 +130,8 @@ try_streams() {
     echo "fault 122" > "$room/wanted"
     compare endless_input <(head -n 4 "$tests/runs/moves_four_keys.in"; tr '\0' a < /dev/zero) "$room/wanted" 2
     echo "fault 123" > "$room/wanted"
-    compare input_that_is_not_read "$room" "$room/wanted" 2
-    compare plans_that_are_not_read "$room" "$room/wanted" 2 ranges
+    compare input_that_is_not_read "$room" "$room/wanted" '2 at line 1'
+    compare plans_that_are_not_read "$room" "$room/wanted" '2 at line 1' ranges
     ended=0
     timeout 120 "$squall" run < "$tests/runs/moves_four_keys.in" > /dev/full 2> "$room/errors" || ended=$?
     : > "$room/output"
@@ -137,18 +142,48 @@ try_streams() {
     judge listing_that_is_not_written 2 /dev/null "$room/said"
 }
 
-# An input of 40 MB is run in a program that has no more than 16 MiB: what it takes doesn't grow with the input.
+# An input that ends within its first three lines has a fault of the line where it ends, and behind them none, unless it
+# ends within a row.
+try_ends() {
+    local input=$tests/runs/moves_four_keys.in header length=0 ended_lines
+    header=$(head -n 3 "$input"; echo .)
+    header=${header%.}
+    echo 'fault 121' > "$room/wanted"
+    while [ "$length" -lt "${#header}" ]; do
+        ended_lines=$(head -c "$length" "$input" | wc -l)
+        compare "input of $length bytes" <(head -c "$length" "$input") "$room/wanted" "2 at line $((ended_lines + 1))"
+        length=$((length + 1))
+    done
+    compare input_that_ends_in_a_row <(printf '%srow 5' "$header") "$room/wanted" '2 at line 4'
+    echo 'end idle' > "$room/wanted"
+    compare input_that_ends_behind_the_sizes <(printf %s "$header") "$room/wanted" 0
+    printf '%s\n' 'refused 230' 'end idle' > "$room/wanted"
+    compare input_that_ends_in_what_may_be_a_row <(printf '%sro' "$header") "$room/wanted" 0
+}
+
+# give_in_16_mib INPUT: gives an input to `squall run` in a program that has no more than 16 MiB.
+give_in_16_mib() {
+    (
+        ulimit -v 16384
+        give "$1" run
+        echo "$ended" > "$room/ended"
+    )
+    ended=$(cat "$room/ended")
+}
+
+# What the program takes doesn't grow with its input, here of 40 MB. Where there is no memory for a row of the header,
+# that is all that is written.
 try_memory() {
     local line='txn 0 1 9 check 0 0 1 get 0 0 get 0 0 get 0 0'
     { head -n 4 "$tests/runs/moves_four_keys.in"; yes "$line" | head -n 900000; } > "$room/large.in"
     { yes 'abort 1 0 absent' | head -n 900000; printf '%s\n' 'end idle' 'at 0 5 0 0.0=10/-'; } > "$room/wanted"
-    (
-        ulimit -v 16384
-        give "$room/large.in" run
-        echo "$ended" > "$room/ended"
-    )
-    ended=$(cat "$room/ended")
+    give_in_16_mib "$room/large.in"
     judge memory_that_does_not_grow 0 "$room/wanted" /dev/null
+    { head -n 3 "$tests/runs/moves_four_keys.in"; seq -f 'row %.0f 0 0 1 -' 0 499999; } > "$room/large.in"
+    echo 'fault 222' > "$room/wanted"
+    said 222 > "$room/said"
+    give_in_16_mib "$room/large.in"
+    judge memory_that_runs_out_in_the_header 2 "$room/wanted" "$room/said"
 }
 
 # One who types at the program sees each answer before the next line.
@@ -237,6 +272,7 @@ for program in "${programs[@]}"; do
     compare_all "$tests/listings" ranges
     compare_all "$room/limits" run
     try_examples
+    try_ends
     try_streams
     try_memory
     try_session

@@ -10,21 +10,24 @@ use thiserror::Error;
 /// Why bytes weren't read as a plan. The checks come in this order, and the first that fails is the fault: `NotJson`,
 /// `Shape` for the object and its version, `Version`, `Shape` for the other fields, `PartitionCount`, `TooManyRanges`,
 /// `RangeOrder`, `PartitionNumber`.
+///
+/// The texts begin with `plan` without an article, so that one can say before them which plan it is: `the new plan's
+/// version isn't 1`.
 #[derive(Clone, Copy, Debug, PartialEq, Eq, Error)]
 pub enum PlanFault {
-    #[error("a plan isn't JSON")]
+    #[error("plan isn't JSON")]
     NotJson = 101,
-    #[error("a plan isn't an object with a version, a number of partitions and ranges of three whole numbers each")]
+    #[error("plan isn't an object with a version, a number of partitions and ranges of three whole numbers each")]
     Shape = 102,
-    #[error("a plan's version isn't 1")]
+    #[error("plan's version isn't 1")]
     Version = 103,
-    #[error("a plan's partitions aren't from 1 to {MAX_PARTS}")]
+    #[error("plan's partitions aren't from 1 to {MAX_PARTS}")]
     PartitionCount = 104,
-    #[error("a plan's ranges don't follow one another from 0 to {ROOT_END}, each nonempty")]
+    #[error("plan's ranges don't follow one another from 0 to {ROOT_END}, each nonempty")]
     RangeOrder = 105,
-    #[error("a plan gives a range to a partition that it doesn't have")]
+    #[error("plan gives a range to a partition that it doesn't have")]
     PartitionNumber = 106,
-    #[error("a plan has more than {MAX_RANGES} ranges")]
+    #[error("plan has more than {MAX_RANGES} ranges")]
     TooManyRanges = 107,
     #[error("{}", AllocError)]
     Memory = OUT_OF_MEMORY as isize,

@@ -26,18 +26,18 @@ none-both None rest e = (refl, e)
 none-both (Some fault) rest e = absurd (none-some fault (sym e))
 
 -- nor has a row whose fault is told as one of an opening
-none-told : (fault : Option TxnFault) → option_map Row fault ≡ None → fault ≡ None
-none-told None e = refl
-none-told (Some fault) e = absurd (none-some (Row fault) (sym e))
+none-told : (at : ℕ) (fault : Option TxnFault) → option_map (Row at) fault ≡ None → fault ≡ None
+none-told at None e = refl
+none-told at (Some fault) e = absurd (none-some (Row at fault) (sym e))
 
--- a table so far, with the rows that are still to be given
-pub record IsSoFar (tables : ℕ) (rows rest : List GivenRow) (table : TableValue) : Type 0 where
-  pub fault : rows_fault tables no_rows rows ≡ rows_fault tables (rows_in table) rest
+-- a table so far, with the rows that are still to be given, numbered from this on
+pub record IsSoFar (tables : ℕ) (rows : List GivenRow) (at : ℕ) (rest : List GivenRow) (table : TableValue) : Type 0 where
+  pub fault : rows_fault tables no_rows 0 rows ≡ rows_fault tables (rows_in table) at rest
   pub given : given_rows no_rows rows ≡ given_rows (rows_in table) rest
-  pub early : first_fault tables (rows_in table) rest ≡ None → first_fault tables no_rows rows ≡ None
+  pub early : first_fault tables (rows_in table) at rest ≡ None → first_fault tables no_rows 0 rows ≡ None
   pub below : (root : ℕ) → ROOT_END ≤ root → rows_in table root ≡ []
 
-pub so_far-start : (tables : ℕ) (rows : List GivenRow) (table : TableValue) → table ≡ [] → IsSoFar tables rows rows table
+pub so_far-start : (tables : ℕ) (rows : List GivenRow) (table : TableValue) → table ≡ [] → IsSoFar tables rows 0 rows table
 so_far-start tables rows table empty = rw empty (record { fault = refl; given = refl; early = λ none. none; below = λ root high. refl })
 
 -- a row that isn't refused has a root key
@@ -48,24 +48,24 @@ shape-root tables given none = ltb-true given.root ROOT_END (from_if _ (nat_lt g
     from_if rest true e = refl
     from_if rest false e = absurd (none-some BadRoot (sym e))
 
-module _ (tables : ℕ) (rows : List GivenRow) (i : ℕ) (table : TableValue) (so_far : IsSoFar tables rows (drop i rows) table) where
+module _ (tables : ℕ) (rows : List GivenRow) (i : ℕ) (table : TableValue) (so_far : IsSoFar tables rows i (drop i rows) table) where
   module _ (given : GivenRow) (within : i < length rows) (here : given ≡ slice_index_or rows i given) where
-    next_fault : rows_fault tables no_rows rows ≡ option_or (given_fault tables (rows_in table) given) (rows_fault tables (with_one (rows_in table) given) (drop (i + 1) rows))
+    next_fault : rows_fault tables no_rows 0 rows ≡ option_or (given_fault tables (rows_in table) i given) (rows_fault tables (with_one (rows_in table) given) (i + 1) (drop (i + 1) rows))
     next_fault = so_far.fault ∙ rw (drop_more rows i given within, ← here) refl
 
     next_rows : given_rows no_rows rows ≡ given_rows (with_one (rows_in table) given) (drop (i + 1) rows)
     next_rows = so_far.given ∙ rw (drop_more rows i given within, ← here) refl
 
     -- where this row has no fault, the first has none
-    early_none : given_fault tables (rows_in table) given ≡ None → first_fault tables no_rows rows ≡ None
+    early_none : given_fault tables (rows_in table) i given ≡ None → first_fault tables no_rows 0 rows ≡ None
     early_none none = so_far.early (rw (drop_more rows i given within, ← here) none)
 
-    pub so_far-next : (now : TableValue) → given_fault tables (rows_in table) given ≡ None → ((root : ℕ) → rows_in now root ≡ with_one (rows_in table) given root) → IsSoFar tables rows (drop (i + 1) rows) now
+    pub so_far-next : (now : TableValue) → given_fault tables (rows_in table) i given ≡ None → ((root : ℕ) → rows_in now root ≡ with_one (rows_in table) given root) → IsSoFar tables rows (i + 1) (drop (i + 1) rows) now
     so_far-next now none taken =
         let same : rows_in now ≡ with_one (rows_in table) given = λ j root. taken root j in
-        let root : given.root < ROOT_END = shape-root tables given (none-told (shape_fault tables given) (none-both (option_map Row (shape_fault tables given)) _ none).0) in
+        let root : given.root < ROOT_END = shape-root tables given (none-told i (shape_fault tables given) (none-both (option_map (Row i) (shape_fault tables given)) _ none).0) in
         record {
-          fault = next_fault ∙ ap (λ first. option_or first (rows_fault tables (with_one (rows_in table) given) (drop (i + 1) rows))) none ∙ ap (λ (t : RowTable). rows_fault tables t (drop (i + 1) rows)) (sym same);
+          fault = next_fault ∙ ap (λ first. option_or first (rows_fault tables (with_one (rows_in table) given) (i + 1) (drop (i + 1) rows))) none ∙ ap (λ (t : RowTable). rows_fault tables t (i + 1) (drop (i + 1) rows)) (sym same);
           given = next_rows ∙ ap (λ (t : RowTable). given_rows t (drop (i + 1) rows)) (sym same);
           early = λ _. early_none none;
           below = λ other high. let apart : given.root ≢ other = omega arith in taken other ∙ rw (ne_eqb given.root other apart) (so_far.below other high);
@@ -96,8 +96,8 @@ roots-below (entry ∷ table) below opening =
     head_below : (root : ℕ) → (ROOT_END ≤ root → ⊥) → root < ROOT_END
     head_below root low = elim (cases_lt root ROOT_END) [ inl is ↦ is | inr high ↦ absurd (low high) ]
 
-pub so_far-end : (tables : ℕ) (rows : List GivenRow) (i : ℕ) (table : TableValue) → length rows ≤ i → IsSoFar tables rows (drop i rows) table → is_sorted nat_cmp table ≡ true → AllPass (λ entry. is_opening entry.1) table → (rows_fault tables no_rows rows ≡ None) × IsTableOf rows table
+pub so_far-end : (tables : ℕ) (rows : List GivenRow) (i : ℕ) (table : TableValue) → length rows ≤ i → IsSoFar tables rows i (drop i rows) table → is_sorted nat_cmp table ≡ true → AllPass (λ entry. is_opening entry.1) table → (rows_fault tables no_rows 0 rows ≡ None) × IsTableOf rows table
 so_far-end tables rows i table end so_far rising opening =
-    let none : rows_fault tables no_rows rows ≡ None = so_far.fault ∙ rw (drop_all i rows end) refl in
+    let none : rows_fault tables no_rows 0 rows ≡ None = so_far.fault ∙ rw (drop_all i rows end) refl in
     let all : given_rows no_rows rows ≡ rows_in table = so_far.given ∙ rw (drop_all i rows end) refl in
     (none, record { given = λ root. sym (ap (λ (t : RowTable). t root) all); rising = rising; opening = opening; roots = roots-below table so_far.below opening })

@@ -13,10 +13,10 @@ abbrev pub of_recon : ReconFault → OpeningFault
 of_recon recon.Memory = opening.Memory
 of_recon fault = opening.Recon fault
 
--- a fault of a row in its place, told as one of the opening
-abbrev pub of_row : RowFault → OpeningFault
-of_row row.Memory = opening.Memory
-of_row fault = opening.Place fault
+-- a fault of the row with this number in its place, told as one of the opening
+abbrev pub of_row : ℕ → RowFault → OpeningFault
+of_row at row.Memory = opening.Memory
+of_row at fault = opening.Place at fault
 
 abbrev pub recon_fault_number : ReconFault → ℕ
 recon_fault_number recon.PartitionsDiffer = 111
@@ -28,6 +28,6 @@ abbrev pub opening_fault_number : OpeningFault → ℕ
 opening_fault_number (opening.Recon fault) = recon_fault_number fault
 opening_fault_number opening.Limit = 114
 opening_fault_number opening.Capacity = 115
-opening_fault_number (opening.Row fault) = txn_fault_number fault
-opening_fault_number (opening.Place fault) = row_fault_number fault
+opening_fault_number (opening.Row at fault) = txn_fault_number fault
+opening_fault_number (opening.Place at fault) = row_fault_number fault
 opening_fault_number opening.Memory = memory_number

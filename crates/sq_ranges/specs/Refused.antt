@@ -1,5 +1,5 @@
 -- Why a world doesn't open.
-use Rattle.std.specs.Prelude.{◌≡◌, ℕ, Bool, ◌&&◌, not, nat_lt, nat_le, if◌then◌else◌, List, [], ◌∷◌, Option, Some, None}
+use Rattle.std.specs.Prelude.{◌≡◌, ℕ, ◌+◌, Bool, ◌&&◌, not, nat_lt, nat_le, if◌then◌else◌, List, [], ◌∷◌, Option, Some, None}
 use Rattle.std.specs.Option.{option_map, option_or}
 use Rattle.sq_schema.specs.Effect.{RowTable}
 use Rattle.sq_schema.specs.Refusals.{row_fault}
@@ -41,28 +41,28 @@ shape_fault tables given =
     if not (nat_lt given.root ROOT_END) then Some BadRoot
     else row_fault tables (key_of given) (row_of given)
 
--- why a given row isn't taken into a table
-abbrev pub given_fault : ℕ → RowTable → GivenRow → Option OpeningFault
-given_fault tables table given =
-    option_or (option_map Row (shape_fault tables given)) (option_map of_row (row_given_fault (table given.root) (key_of given)))
+-- why a given row, the one with this number, isn't taken into a table
+abbrev pub given_fault : ℕ → RowTable → ℕ → GivenRow → Option OpeningFault
+given_fault tables table at given =
+    option_or (option_map (Row at) (shape_fault tables given)) (option_map (of_row at) (row_given_fault (table given.root) (key_of given)))
 
--- the fault of the first row that has one, each taken on top of those before it
-abbrev pub rows_fault : ℕ → RowTable → List GivenRow → Option OpeningFault
-rows_fault tables table [] = None
-rows_fault tables table (given ∷ rows) = option_or (given_fault tables table given) (rows_fault tables (with_one table given) rows)
+-- the fault of the first row that has one, each taken on top of those before it; the rows are numbered from this on
+abbrev pub rows_fault : ℕ → RowTable → ℕ → List GivenRow → Option OpeningFault
+rows_fault tables table at [] = None
+rows_fault tables table at (given ∷ rows) = option_or (given_fault tables table at given) (rows_fault tables (with_one table given) (at + 1) rows)
 
--- the fault of the first row, where it has one
-abbrev pub first_fault : ℕ → RowTable → List GivenRow → Option OpeningFault
-first_fault tables table [] = None
-first_fault tables table (given ∷ rows) = given_fault tables table given
+-- the fault of the first row, which has this number, where it has one
+abbrev pub first_fault : ℕ → RowTable → ℕ → List GivenRow → Option OpeningFault
+first_fault tables table at [] = None
+first_fault tables table at (given ∷ rows) = given_fault tables table at given
 
--- the first fault of an opening: of plans and sizes, and then row by row
+-- the first fault of an opening: of plans and sizes, and then row by row, the rows numbered from 0
 abbrev pub opening_fault : ℕ → PlanValue → PlanValue → Config → List GivenRow → Option OpeningFault
-opening_fault tables old new config rows = option_or (config_fault old new config) (rows_fault tables no_rows rows)
+opening_fault tables old new config rows = option_or (config_fault old new config) (rows_fault tables no_rows 0 rows)
 
 -- the first fault that is found before any memory is taken: of plans and sizes, and then of the first row
 abbrev pub early_fault : ℕ → PlanValue → PlanValue → Config → List GivenRow → Option OpeningFault
-early_fault tables old new config rows = option_or (config_fault old new config) (first_fault tables no_rows rows)
+early_fault tables old new config rows = option_or (config_fault old new config) (first_fault tables no_rows 0 rows)
 
 -- an opening may be refused for its first fault, or because memory ran out where it has none of the early ones
 abbrev pub MayRefuse : Option OpeningFault → Option OpeningFault → OpeningFault → Type 0

@@ -1,6 +1,6 @@
 // Why there is no reconfiguration or no opening, in the order in which the causes are looked at.
 ghost use Rattle.std.specs.Prelude.{◌≡◌};
-ghost use Rattle.sq_ranges.specs.Fault.{recon_fault_number, opening_fault_number};
+ghost use Rattle.sq_ranges.specs.Fault.{of_row, recon_fault_number, opening_fault_number};
 
 use crate::opening::{MAX_CAPACITY, MAX_LIMIT, MIN_LIMIT};
 use crate::recon::MAX_WIDTH;
@@ -53,12 +53,12 @@ pub enum OpeningFault {
     /// 115.
     #[error("the capacity of a link isn't from 1 to {MAX_CAPACITY}")]
     Capacity,
-    /// A row isn't of the schema.
-    #[error(transparent)]
-    Row(TxnFault),
-    /// A row isn't in its place.
-    #[error(transparent)]
-    Place(RowFault),
+    /// The row with this number, from 0, isn't of the schema.
+    #[error("{1}")]
+    Row(usize, TxnFault),
+    /// The row with this number, from 0, isn't in its place.
+    #[error("{1}")]
+    Place(usize, RowFault),
     /// Memory ran out, wherever it did.
     #[error("{}", AllocError)]
     Memory,
@@ -73,9 +73,19 @@ impl OpeningFault {
             OpeningFault::Recon(fault) => fault.number(),
             OpeningFault::Limit => 114,
             OpeningFault::Capacity => 115,
-            OpeningFault::Row(fault) => fault.number(),
-            OpeningFault::Place(fault) => fault.number(),
+            OpeningFault::Row(_, fault) => fault.number(),
+            OpeningFault::Place(_, fault) => fault.number(),
             OpeningFault::Memory => OUT_OF_MEMORY,
+        }
+    }
+
+    /// Why the row with this number isn't in its place, or that memory ran out there.
+    pub(crate) fn of_row(at: usize, fault: RowFault) -> OpeningFault
+        ensures { result ≡ of_row at fault }
+    {
+        match fault {
+            RowFault::Memory => OpeningFault::Memory,
+            fault => OpeningFault::Place(at, fault),
         }
     }
 }
@@ -99,29 +109,6 @@ impl From<ReconFault> for OpeningFault {
         match fault {
             ReconFault::Memory => OpeningFault::Memory,
             fault => OpeningFault::Recon(fault),
-        }
-    }
-}
-
-impl From<TxnFault> for OpeningFault {
-    ghost use Rattle.sq_ranges.specs.declared.fault.OpeningFault.TheVariants as faults;
-
-    ghost from_gives = { λ cause fault. fault ≡ faults.Row cause };
-
-    fn from(fault: TxnFault) -> OpeningFault {
-        OpeningFault::Row(fault)
-    }
-}
-
-impl From<RowFault> for OpeningFault {
-    ghost use Rattle.sq_ranges.specs.Fault.{of_row};
-
-    ghost from_gives = { λ cause fault. fault ≡ of_row cause };
-
-    fn from(fault: RowFault) -> OpeningFault {
-        match fault {
-            RowFault::Memory => OpeningFault::Memory,
-            fault => OpeningFault::Place(fault),
         }
     }
 }

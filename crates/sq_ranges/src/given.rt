@@ -63,34 +63,37 @@ fn check(old: &Plan, new: &Plan, config: Config) -> Result<(), OpeningFault>
 fn table_of(alloc: Global, tables: u8, rows: &[GivenRow]) -> Result<Table, OpeningFault>
     requires { tables ≤ MAX_TABLES }
     ensures fault { MatchResult result
-        (λ _. rows_fault tables no_rows rows.now ≡ None)
-        (λ fault. MayRefuse (first_fault tables no_rows rows.now) (rows_fault tables no_rows rows.now) fault) }
+        (λ _. rows_fault tables no_rows 0 rows.now ≡ None)
+        (λ fault. MayRefuse (first_fault tables no_rows 0 rows.now) (rows_fault tables no_rows 0 rows.now) fault) }
     ensures table { IfOk result (IsTableOf rows.now) }
 {
     let mut table = Table::new(alloc);
-    for given in rows {
-        take(&mut table, tables, given)?;
+    for (at, given) in rows.iter().enumerate() {
+        take(&mut table, tables, at, given)?;
     }
     // Called for what it ensures, that the root keys of the table rise and each has rows.
     let _ = table.iter();
     Ok(table)
 }
 
-// Takes one row into a table. No memory is taken before the row was found fit.
-fn take(table: &mut Table, tables: u8, given: &GivenRow) -> Result<(), OpeningFault>
+// Takes one row, which has this number, into a table. No memory is taken before the row was found fit.
+fn take(table: &mut Table, tables: u8, at: usize, given: &GivenRow) -> Result<(), OpeningFault>
     requires { tables ≤ MAX_TABLES }
     ensures fault { MatchResult result
-        (λ _. given_fault tables (rows_in table.old) given.now ≡ None)
-        (λ fault. MayRefuse (given_fault tables (rows_in table.old) given.now) (given_fault tables (rows_in table.old) given.now) fault) }
+        (λ _. given_fault tables (rows_in table.old) at given.now ≡ None)
+        (λ fault. MayRefuse (given_fault tables (rows_in table.old) at given.now) (given_fault tables (rows_in table.old) at given.now) fault) }
     ensures ok { OnOk result ((root : ℕ) → rows_in table.new root ≡ with_one (rows_in table.old) given.now root) }
 {
-    let root = given.root(tables)?;
+    let root = match given.root(tables) {
+        Ok(root) => root,
+        Err(fault) => return Err(OpeningFault::Row(at, fault)),
+    };
     if let Some(fault) = table.fault(root, given.key()) {
-        return Err(fault.into());
+        return Err(OpeningFault::of_row(at, fault));
     }
     let row = given.row()?;
     if let Err((fault, _)) = table.insert(root, given.key(), row) {
-        return Err(fault.into());
+        return Err(OpeningFault::of_row(at, fault));
     }
     Ok(())
 }

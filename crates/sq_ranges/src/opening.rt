@@ -108,8 +108,8 @@ impl Opening {
     /// The opening of two plans with these sizes and rows. Otherwise the plans and the rows come back as they were,
     /// with the first of these faults: those of the plans and the width of a leaf, as [`Recon::fault`] has them; the
     /// bytes of a chunk; the chunks of a queue; and then row by row the root key, the table, the sub key, the note,
-    /// a row that was given before, and a row without its root row. That memory ran out may be told in place of any
-    /// answer about rows but a fault of the first, and of none about plans and sizes.
+    /// a row that was given before, and a row without its root row. A row's fault tells which row it is. That memory ran
+    /// out may be told in place of any answer about rows but a fault of the first, and of none about plans and sizes.
     pub fn new(
         alloc: Global,
         schema: Schema,

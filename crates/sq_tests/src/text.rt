@@ -178,7 +178,7 @@ fn resumed_transactions(rt: HostRuntime) -> Result<(), Fail> {
 fn fault_of(alloc: Global, input: &str) -> Result<u16, Fail> {
     let mut lines = LineReader::new(alloc, input.as_bytes())?;
     let fault = read_header(alloc, schema()?, &mut lines).err();
-    Ok(fault.map_or(0, |fault| fault.number()))
+    Ok(fault.map_or(0, |located| located.fault.number()))
 }
 
 // Headers with the numbers of their faults.
@@ -266,6 +266,44 @@ fn faults_of_sizes_and_rows(rt: HostRuntime) -> Result<(), Fail> {
     for (lines, number) in LINES {
         let input = format!(in rt.alloc(); "{PLANS}{lines}")?;
         assert!(rt; fault_of(rt.alloc(), input.as_str())? == number, "{lines}");
+    }
+    Ok(())
+}
+
+// What comes behind the lines of two plans, with what is said of its fault.
+const LOCATED: [(&str, &str); 5] = [
+    (
+        "config 0 64 1\n",
+        "line 3: fault 112: the width of a leaf isn't from 1 to 65536",
+    ),
+    (
+        "config 1 64 1\nrow 5 0 0 1 -\nrow x\n",
+        "line 5: fault 121: a line of the header is missing or malformed",
+    ),
+    (
+        "config 1 64 1\nrow 5 0 0 1 -\nrow 6 9 0 1 -\n",
+        "line 5: fault 133: a table isn't in the schema",
+    ),
+    (
+        "config 1 64 1\nrow 5 0 0 1 -\nrow 6 0 0 1 -\nrow 5 0 0 2 -\nrow x\n",
+        "line 6: fault 136: a row is given twice",
+    ),
+    (
+        "config 1 64 1\nrow 5 0 0 1 -\nrow 6 0 0 1 -",
+        "line 5: fault 121: a line of the header is missing or malformed",
+    ),
+];
+
+#[test]
+fn faults_with_their_lines(rt: HostRuntime) -> Result<(), Fail> {
+    for (lines, wanted) in LOCATED {
+        let input = format!(in rt.alloc(); "{PLANS}{lines}")?;
+        let mut reader = LineReader::new(rt.alloc(), input.as_bytes())?;
+        let Err(located) = read_header(rt.alloc(), schema()?, &mut reader) else {
+            return Err("an opening")?;
+        };
+        let said = format!(in rt.alloc(); "{located}")?;
+        assert!(rt; said.as_str() == wanted, "{said}");
     }
     Ok(())
 }

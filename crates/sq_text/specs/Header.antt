@@ -1,5 +1,5 @@
 -- The header of an input: two plans, the sizes, and the opening rows.
-use Rattle.std.specs.Prelude.{◌≡◌, ℕ, nat_eq, nat_lt, if◌then◌else◌, List, [], ◌∷◌, length, map, drop, Option, Some, None, Result, Ok, Err, codes, ok_or}
+use Rattle.std.specs.Prelude.{◌≡◌, ◌≢◌, ℕ, nat_eq, nat_lt, if◌then◌else◌, List, [], ◌∷◌, length, map, drop, Option, Some, None, Result, Ok, Err, codes, ok_or}
 use Rattle.std.specs.List.{starts_with}
 use Rattle.sq_plan.specs.declared.fault.PlanFault.{PlanFault}
 use Rattle.sq_plan.specs.PlanValue.{PlanValue}
@@ -13,10 +13,13 @@ use Rattle.sq_ranges.specs.Refused.{opening_fault}
 use Rattle.sq_text.specs.declared.header.RowLines.{RowLines}
 use Rattle.sq_text.specs.declared.step.TheConstants.{MAX_LINE}
 use Rattle.sq_text.specs.declared.input_fault.InputFault.{InputFault}
-use Rattle.sq_text.specs.declared.input_fault.InputFault.TheVariants.{Plan, Opening, BadHeader, TooLong, ReadFailed, LineTooLong, Memory}
+use Rattle.sq_text.specs.declared.input_fault.InputFault.TheVariants.{Plan, BadHeader, TooLong, ReadFailed, LineTooLong, Memory}
+use Rattle.sq_text.specs.declared.located.HeaderLine.TheVariants as line
+use Rattle.sq_text.specs.declared.located.LocatedFault.{LocatedFault}
 use Rattle.sq_text.specs.Words.{words_of}
 use Rattle.sq_lines.specs.Pieces.{PieceValue, Line, Rest, Failed, Endless, TooMany, bytes_of}
 use Rattle.sq_text.specs.InputFaults.{◌>>=◌, IsRead}
+use Rattle.sq_text.specs.Located.{at_line, of_opening}
 use Rattle.sq_text.specs.HeaderFields.{GivenValue, value_of, config_in, given_in}
 
 -- the bytes of a line of the header, or why it is none: it has too many bytes, or no end, or a read failed
@@ -103,40 +106,44 @@ abbrev pub no_rows : List PieceValue → RowsValue
 no_rows pieces = record { rows = []; ending = Ok pieces }
 
 -- the lines of the plans and of the sizes that pieces begin with, and then the rows that are read so
-abbrev pub header_with : (List PieceValue → RowsValue) → List PieceValue → Result HeaderValue InputFault
+abbrev pub header_with : (List PieceValue → RowsValue) → List PieceValue → Result HeaderValue LocatedFault
 header_with rows pieces = do
-  old ← line_as (plan_of (codes "old ")) pieces
-  new ← line_as (plan_of (codes "new ")) old.1
-  config ← line_as config_of new.1
+  old ← at_line line.Old (line_as (plan_of (codes "old ")) pieces)
+  new ← at_line line.New (line_as (plan_of (codes "new ")) old.1)
+  config ← at_line line.Config (line_as config_of new.1)
   Ok (record { old = old.0; new = new.0; config = config.0; lines = rows config.1 })
 
 -- the header that pieces begin with: the lines of the plans and of the sizes, and the rows
-abbrev pub header_of : List PieceValue → Result HeaderValue InputFault
+abbrev pub header_of : List PieceValue → Result HeaderValue LocatedFault
 header_of pieces = header_with row_lines pieces
 
 -- the plans and the sizes that pieces begin with: their first three lines
-abbrev pub plans_of : List PieceValue → Result HeaderValue InputFault
+abbrev pub plans_of : List PieceValue → Result HeaderValue LocatedFault
 plans_of pieces = header_with no_rows pieces
 
 -- what comes after the rows, unless they make no opening
-abbrev pub ending_unless : Option OpeningFault → Result (List PieceValue) InputFault → Result (List PieceValue) InputFault
+abbrev pub ending_unless : Option OpeningFault → Result (List PieceValue) LocatedFault → Result (List PieceValue) LocatedFault
 ending_unless None ending = ending
-ending_unless (Some fault) ending = Err (Opening fault)
+ending_unless (Some fault) ending = Err (of_opening fault)
 
 -- what comes after a header with these rows, or its first fault: that of the opening of these rows, and then that of the line which ends them
-abbrev pub header_ending : ℕ → HeaderValue → List GivenRow → Result (List PieceValue) InputFault
-header_ending tables header rows = ending_unless (opening_fault tables header.old header.new header.config rows) header.lines.ending
+abbrev pub header_ending : ℕ → HeaderValue → List GivenRow → Result (List PieceValue) LocatedFault
+header_ending tables header rows =
+    ending_unless (opening_fault tables header.old header.new header.config rows) (at_line (line.Row (length rows)) header.lines.ending)
 
 -- these are the rows of the header, and it ends so
-pub record Ends (tables : ℕ) (header : HeaderValue) (rows : List GivenRow) (ending : Result (List PieceValue) InputFault) : Type 0 where
+pub record Ends (tables : ℕ) (header : HeaderValue) (rows : List GivenRow) (ending : Result (List PieceValue) LocatedFault) : Type 0 where
   pub rows_are : map value_of rows ≡ header.lines.rows
   pub ending_is : header_ending tables header rows ≡ ending
 
+-- this fault, with its line, is the first one of a header
+abbrev pub IsFirstFault : ℕ → LocatedFault → Result HeaderValue LocatedFault → Type 0
+IsFirstFault tables fault (Err first) = fault ≡ first
+IsFirstFault tables fault (Ok header) = (rows : List GivenRow) × Ends tables header rows (Err fault)
+
 -- the answer is the opening of a header, with what comes after it, or else its first fault, unless memory ran out
-abbrev pub Opens : ℕ → Result OpeningValue InputFault → List PieceValue → Result HeaderValue InputFault → Type 0
-Opens tables (Err Memory) left header = Unit {0}
-Opens tables (Err fault) left (Err first) = fault ≡ first
-Opens tables (Err fault) left (Ok header) = (rows : List GivenRow) × Ends tables header rows (Err fault)
+abbrev pub Opens : ℕ → Result OpeningValue LocatedFault → List PieceValue → Result HeaderValue LocatedFault → Type 0
+Opens tables (Err refused) left header = refused.fault ≢ Memory → IsFirstFault tables refused header
 Opens tables (Ok opening) left (Err first) = ⊥
 Opens tables (Ok opening) left (Ok header) =
     (rows : List GivenRow) × Ends tables header rows (Ok left) × IsOpeningOf tables header.old header.new header.config rows opening

@@ -3,8 +3,6 @@ use Rattle.std.specs.Prelude.{◌≡◌, ℕ, Result, Ok, Err}
 use Rattle.sq_plan.specs.declared.fault.PlanFault.{PlanFault}
 use Rattle.sq_plan.specs.declared.fault.PlanFault.TheVariants as plan
 use Rattle.sq_plan.specs.Fault.{plan_fault_number}
-use Rattle.sq_ranges.specs.declared.fault.OpeningFault.{OpeningFault}
-use Rattle.sq_ranges.specs.declared.fault.OpeningFault.TheVariants as opening
 use Rattle.sq_ranges.specs.Fault.{opening_fault_number}
 use Rattle.sq_schema.specs.Fault.{memory_number}
 use Rattle.sq_text.specs.Faults.{line_fault_number}
@@ -29,11 +27,6 @@ abbrev pub of_plan : PlanFault → InputFault
 of_plan plan.Memory = Memory
 of_plan fault = Plan fault
 
--- why there is no opening, told as a fault of the input
-abbrev pub of_opening : OpeningFault → InputFault
-of_opening opening.Memory = Memory
-of_opening fault = Opening fault
-
 -- why words aren't read, told as a fault of the input
 abbrev pub of_read : ReadFault → InputFault
 of_read words.Malformed = BadHeader
@@ -41,7 +34,7 @@ of_read words.Memory = Memory
 
 -- the next step goes on with what this one found, and a fault stops
 infixl 10 ◌>>=◌
-abbrev pub ◌>>=◌ : {A B : Type 0} → Result A InputFault → (A → Result B InputFault) → Result B InputFault
+abbrev pub ◌>>=◌ : {A B F : Type 0} → Result A F → (A → Result B F) → Result B F
 (Ok x) >>= f = f x
 (Err fault) >>= f = Err fault
 

@@ -8,5 +8,6 @@ pub mod Ops
 pub mod Steps
 pub mod Texts
 pub mod InputFaults
+pub mod Located
 pub mod HeaderFields
 pub mod Header

@@ -10,6 +10,7 @@ ghost use Rattle.sq_text.specs.Header.{next_line, line_as, behind, plan_of, conf
 
 use crate::fault::{Malformed, ReadFault};
 use crate::input_fault::InputFault;
+use crate::located::{HeaderLine, LocatedFault};
 use crate::note::note;
 use crate::step::MAX_LINE;
 use crate::words::Words;
@@ -187,33 +188,45 @@ fn opening(
     new: Plan,
     config: Config,
     lines: RowLines,
-) -> Result<Opening, InputFault>
+) -> Result<Opening, LocatedFault>
     ensures { (left : List PieceValue) (rows : RowsValue) → AreRows lines left rows → Opens schema result left (Ok (record { old = old; new = new; config = config; lines = rows })) }
 {
     let RowLines { rows, ending } = lines;
+    let count = rows.len();
     let opening = Opening::new(alloc, schema, old, new, config, rows)?;
-    ending?;
-    Ok(opening)
+    match ending {
+        Ok(()) => Ok(opening),
+        Err(fault) => Err(fault.at(HeaderLine::Row(count))),
+    }
 }
 
 /// The opening that the header of an input spells; the lines that are left are those of the script.
 ///
 /// Its lines are `old JSON` and `new JSON`, each with a plan; `config W L C`, the width of a leaf, the bytes of a
 /// chunk and the chunks of a link's queue; and then, as long as lines begin with `row `, opening rows:
-/// `row ROOT T S N NOTE`. A refusal is the first fault in the order of the lines: that of a plan; a line that is
-/// missing or isn't of its form; one with over [`MAX_LINE`] bytes, as soon as they came; a read that fails; an input
-/// with too many lines; and for the plans, the sizes and each row the fault that [`Opening::new`] finds.
-/// [`InputFault::Memory`] may come in place of any answer.
+/// `row ROOT T S N NOTE`. A refusal is the first fault in the order of the lines, with the line that it belongs to: that
+/// of a plan; a line that is missing or isn't of its form; one with over [`MAX_LINE`] bytes, as soon as they came; a read
+/// that fails; an input with too many lines; and for the plans, the sizes and each row the fault that [`Opening::new`]
+/// finds. [`InputFault::Memory`] may come in place of any answer.
 pub fn read_header<R: Read>(
     alloc: Global,
     schema: Schema,
     lines: &mut LineReader<R>,
-) -> Result<Opening, InputFault>
+) -> Result<Opening, LocatedFault>
     ensures { Leaves lines.old lines.new (λ all left. Opens schema result left (header_of all)) }
 {
-    let old = plan_line(alloc, b"old ", lines)?;
-    let new = plan_line(alloc, b"new ", lines)?;
-    let config = config_line(lines)?;
+    let old = match plan_line(alloc, b"old ", lines) {
+        Ok(old) => old,
+        Err(fault) => return Err(fault.at(HeaderLine::Old)),
+    };
+    let new = match plan_line(alloc, b"new ", lines) {
+        Ok(new) => new,
+        Err(fault) => return Err(fault.at(HeaderLine::New)),
+    };
+    let config = match config_line(lines) {
+        Ok(config) => config,
+        Err(fault) => return Err(fault.at(HeaderLine::Config)),
+    };
     let rows = row_lines(alloc, lines)?;
     opening(alloc, schema, old, new, config, rows)
 }
@@ -225,12 +238,21 @@ pub fn read_plans<R: Read>(
     alloc: Global,
     schema: Schema,
     lines: &mut LineReader<R>,
-) -> Result<Opening, InputFault>
+) -> Result<Opening, LocatedFault>
     ensures { Leaves lines.old lines.new (λ all left. Opens schema result left (plans_of all)) }
 {
-    let old = plan_line(alloc, b"old ", lines)?;
-    let new = plan_line(alloc, b"new ", lines)?;
-    let config = config_line(lines)?;
+    let old = match plan_line(alloc, b"old ", lines) {
+        Ok(old) => old,
+        Err(fault) => return Err(fault.at(HeaderLine::Old)),
+    };
+    let new = match plan_line(alloc, b"new ", lines) {
+        Ok(new) => new,
+        Err(fault) => return Err(fault.at(HeaderLine::New)),
+    };
+    let config = match config_line(lines) {
+        Ok(config) => config,
+        Err(fault) => return Err(fault.at(HeaderLine::Config)),
+    };
     let rows = RowLines {
         rows: Vec::new(alloc),
         ending: Ok(()),

@@ -5,7 +5,7 @@ ghost use Rattle.sq_text.specs.InputFaults.{input_fault_number};
 use crate::fault::{LineFault, Malformed, ReadFault};
 use crate::step::MAX_LINE;
 use sq_plan::PlanFault;
-use sq_ranges::{OpeningFault, RefusedOpening};
+use sq_ranges::OpeningFault;
 use sq_schema::OUT_OF_MEMORY;
 use std::alloc::AllocError;
 use thiserror::Error;
@@ -62,19 +62,6 @@ impl From<PlanFault> for InputFault {
         match fault {
             PlanFault::Memory => InputFault::Memory,
             fault => InputFault::Plan(fault),
-        }
-    }
-}
-
-impl From<RefusedOpening> for InputFault {
-    ghost use Rattle.sq_text.specs.InputFaults.{of_opening};
-
-    ghost from_gives = { λ refused fault. fault ≡ of_opening refused.fault };
-
-    fn from(refused: RefusedOpening) -> InputFault {
-        match refused.fault {
-            OpeningFault::Memory => InputFault::Memory,
-            fault => InputFault::Opening(fault),
         }
     }
 }

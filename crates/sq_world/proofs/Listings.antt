@@ -6,7 +6,7 @@ use Rattle.sq_schema.specs.declared.schema.TheConstants.{MAX_TABLES}
 use Rattle.sq_ranges.specs.OpeningValue.{OpeningValue}
 use Rattle.sq_lines.specs.Coming.{LinesValue, Leaves}
 use Rattle.sq_lines.proofs.Comings.{some_pieces}
-use Rattle.sq_text.specs.declared.input_fault.InputFault.{InputFault}
+use Rattle.sq_text.specs.declared.located.LocatedFault.{LocatedFault}
 use Rattle.sq_text.specs.Texts.{moves_text}
 use Rattle.sq_text.specs.Header.{plans_of, Opens}
 use Rattle.sq_world.specs.declared.ending.Ending.{Ending}
@@ -24,7 +24,7 @@ listed tables o begin lines before now eight opens wrote =
     (all.0, all.1, moves_text o.recon, wrote, inl (record { opening = o; left = some.pieces; plans = subst (λ n. Opens n (Ok o) some.pieces (plans_of all.0)) eight all.2; says = refl; ends = refl }))
 
 -- the lines were refused
-pub not_listed : {E : Type 0} (r : Result Ending E) (tables : ℕ) (fault : InputFault) (begin lines : LinesValue) (before now : Option (List ℕ)) → tables ≡ MAX_TABLES
+pub not_listed : {E : Type 0} (r : Result Ending E) (tables : ℕ) (fault : LocatedFault) (begin lines : LinesValue) (before now : Option (List ℕ)) → tables ≡ MAX_TABLES
     → Leaves begin lines (λ all left. Opens tables (Err fault) left (plans_of all))
     → IfOk r (λ ending. (out : List ℕ) × Appends before now out × IsFault fault out ending) → IfOk r (OfLines (IsListing MAX_TABLES) begin before now)
 not_listed (Err e) tables fault begin lines before now eight opens wrote = tt

@@ -1,6 +1,6 @@
 -- Runs of whole inputs.
 use Rattle.std.proofs.Common.{◌≡◌, ℕ, List, [], ◌++◌, Option, inl, inr, refl, sym, subst, ap, ◌∙◌}
-use Rattle.std.specs.Prelude.{◌⊎◌, Result, Ok, Err, IfOk}
+use Rattle.std.specs.Prelude.{◌⊎◌, None, Result, Ok, Err, IfOk}
 use Rattle.std.specs.Io.KnownBytes.{Appends, Keeps}
 use Rattle.sq_schema.specs.declared.schema.TheConstants.{MAX_TABLES}
 use Rattle.sq_ranges.specs.OpeningValue.{OpeningValue}
@@ -11,8 +11,9 @@ use Rattle.sq_lines.specs.declared.reader.Reading.TheVariants.{Open}
 use Rattle.sq_lines.specs.Pieces.{PieceValue, pieces, pieces_in}
 use Rattle.sq_lines.specs.Coming.{LinesValue, Comes, CanCome, Leaves}
 use Rattle.sq_lines.proofs.Comings.{some_more, some_pieces}
-use Rattle.sq_text.specs.declared.input_fault.InputFault.{InputFault}
+use Rattle.sq_text.specs.declared.located.LocatedFault.{LocatedFault}
 use Rattle.sq_text.specs.declared.input_fault.InputFault.TheVariants.{Memory}
+use Rattle.sq_text.specs.Located.{located}
 use Rattle.sq_text.specs.Header.{HeaderValue, header_of, Opens}
 use Rattle.sq_world.specs.declared.ending.Ending.{Ending}
 use Rattle.sq_world.specs.Input.{IsGiven}
@@ -21,7 +22,7 @@ use Rattle.sq_world.specs.Script.{LeadsTo, IsWritten}
 use Rattle.sq_world.proofs.Kept.{kept}
 
 -- an opening that is read has the tables of the schema
-tables_of : (tables : ℕ) (o : OpeningValue) (left : List PieceValue) (header : Result HeaderValue InputFault) → Opens tables (Ok o) left header → o.tables ≡ tables
+tables_of : (tables : ℕ) (o : OpeningValue) (left : List PieceValue) (header : Result HeaderValue LocatedFault) → Opens tables (Ok o) left header → o.tables ≡ tables
 tables_of tables o left (Err first) opens = absurd opens
 tables_of tables o left (Ok header) opens = opens.2.tables_are
 
@@ -43,7 +44,7 @@ run_from (Ok ending) tables begin lines before now w eight opens writes =
     (all.0, all.1, written.out, written.written, inl (record { opening = o; script = written.pieces; header = subst (λ n. Opens n (Ok o) written.pieces (header_of all.0)) eight all.2; is_opening = opens.1.is_opening; writes = written.writes }))
 
 -- a header that is refused
-pub run_refused : {E : Type 0} (r : Result Ending E) (tables : ℕ) (fault : InputFault) (begin lines : LinesValue) (before now : Option (List ℕ)) → tables ≡ MAX_TABLES
+pub run_refused : {E : Type 0} (r : Result Ending E) (tables : ℕ) (fault : LocatedFault) (begin lines : LinesValue) (before now : Option (List ℕ)) → tables ≡ MAX_TABLES
     → Leaves begin lines (λ all left. Opens tables (Err fault) left (header_of all))
     → IfOk r (λ ending. (out : List ℕ) × Appends before now out × IsFault fault out ending) → IfOk r (RunsLines begin before now)
 run_refused (Err e) tables fault begin lines before now eight opens wrote = tt
@@ -74,8 +75,8 @@ run_given says (Err e) v known before now none still most same ran = tt
 run_given says (Ok ending) v known before now none still most same ran = (ran.0, given_first v known ran.0 none still most same ran.1, ran.2, ran.3, ran.4)
 
 -- there was no memory for a line
-pub run_nothing : {E : Type 0} (says : List PieceValue → List ℕ → Ending → Type 0) (r : Result Ending E) (known before now : Option (List ℕ)) → ((given : List PieceValue) (out : List ℕ) (ending : Ending) → IsFault Memory out ending → says given out ending)
-    → IfOk r (λ ending. (out : List ℕ) × Appends before now out × IsFault Memory out ending) → IfOk r (OfReader says known before now)
+pub run_nothing : {E : Type 0} (says : List PieceValue → List ℕ → Ending → Type 0) (r : Result Ending E) (known before now : Option (List ℕ)) → ((given : List PieceValue) (out : List ℕ) (ending : Ending) → IsFault (located Memory None) out ending → says given out ending)
+    → IfOk r (λ ending. (out : List ℕ) × Appends before now out × IsFault (located Memory None) out ending) → IfOk r (OfReader says known before now)
 run_nothing says (Err e) known before now nothing wrote = tt
 run_nothing says (Ok ending) known before now nothing wrote =
     let some = some_more Open known in

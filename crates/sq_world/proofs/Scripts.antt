@@ -1,6 +1,6 @@
 -- A script, line by line.
 use Rattle.std.proofs.Common.{◌≡◌, ℕ, List, [], ◌∷◌, ◌++◌, Option, inl, refl, sym, ap, ◌∙◌, subst, append_assoc}
-use Rattle.std.specs.Prelude.{Result, Ok, Err, IfOk, OnOk}
+use Rattle.std.specs.Prelude.{None, Result, Ok, Err, IfOk, OnOk}
 use Rattle.std.specs.Io.KnownBytes.{Appends, Keeps}
 use Rattle.sq_ranges.specs.OpeningValue.{OpeningValue}
 use Rattle.sq_model.specs.declared.step.Step.{Step}
@@ -11,7 +11,8 @@ use Rattle.sq_model.specs.Legal.{IsLegal}
 use Rattle.sq_transition.specs.WorldValue.{WorldValue}
 use Rattle.sq_transition.specs.Holds.{Holds}
 use Rattle.sq_transition.specs.Headline.{KeepsHeadline}
-use Rattle.sq_text.specs.declared.input_fault.InputFault.{InputFault}
+use Rattle.sq_text.specs.declared.located.LocatedFault.{LocatedFault}
+use Rattle.sq_text.specs.Located.{located}
 use Rattle.sq_text.specs.declared.input_fault.InputFault.TheVariants.{TooLong, ReadFailed}
 use Rattle.sq_text.specs.declared.fault.LineFault.TheVariants as faults
 use Rattle.sq_text.specs.Steps.{step_of}
@@ -103,7 +104,7 @@ at_rest (Ok ending) tables begin was bytes number first mid said now start w bef
     (both mid said now (refused_line (line_fault_number faults.NotAStep)) (dump w) _ refused written refl)
 
 -- a fault, which ends the run
-at_fault : {E : Type 0} (r : Result Ending E) (tables : ℕ) (begin was : LinesValue) (left : List PieceValue) (fault : InputFault) (first mid now : Option (List ℕ)) (start w : WorldValue) → AllBefore tables begin was first mid start w → CanCome was left
+at_fault : {E : Type 0} (r : Result Ending E) (tables : ℕ) (begin was : LinesValue) (left : List PieceValue) (fault : LocatedFault) (first mid now : Option (List ℕ)) (start w : WorldValue) → AllBefore tables begin was first mid start w → CanCome was left
     → ((o : OpeningValue) (t : Trace) (out : List ℕ) (ending : Ending) → IsFault fault out ending → Writes o t left out ending)
     → IfOk r (λ ending. (out : List ℕ) × Appends mid now out × IsFault fault out ending) → IfOk r (AllWritten tables begin first now start)
 at_fault (Err e) tables begin was left fault first mid now start w before can writes over = tt
@@ -111,18 +112,18 @@ at_fault (Ok ending) tables begin was left fault first mid now start w before ca
     λ o t leads same. let b = before o t leads same in ended_by o t begin was left over.0 ending first mid now w b can (writes o b.here over.0 ending over.2) over.1
 
 pub at_failed : {E : Type 0} (r : Result Ending E) (tables : ℕ) (begin was : LinesValue) (bytes : List ℕ) (first mid now : Option (List ℕ)) (start w : WorldValue) → AllBefore tables begin was first mid start w → CanCome was (Failed bytes ∷ [])
-    → IfOk r (λ ending. (out : List ℕ) × Appends mid now out × IsFault ReadFailed out ending) → IfOk r (AllWritten tables begin first now start)
-at_failed r tables begin was bytes first mid now start w before can over = at_fault r tables begin was (Failed bytes ∷ []) ReadFailed first mid now start w before can (λ o t out ending is. is) over
+    → IfOk r (λ ending. (out : List ℕ) × Appends mid now out × IsFault (located ReadFailed None) out ending) → IfOk r (AllWritten tables begin first now start)
+at_failed r tables begin was bytes first mid now start w before can over = at_fault r tables begin was (Failed bytes ∷ []) (located ReadFailed None) first mid now start w before can (λ o t out ending is. is) over
 
 pub at_too_many : {E : Type 0} (r : Result Ending E) (tables : ℕ) (begin was : LinesValue) (first mid now : Option (List ℕ)) (start w : WorldValue) → AllBefore tables begin was first mid start w → CanCome was (TooMany ∷ [])
-    → IfOk r (λ ending. (out : List ℕ) × Appends mid now out × IsFault TooLong out ending) → IfOk r (AllWritten tables begin first now start)
-at_too_many r tables begin was first mid now start w before can over = at_fault r tables begin was (TooMany ∷ []) TooLong first mid now start w before can (λ o t out ending is. is) over
+    → IfOk r (λ ending. (out : List ℕ) × Appends mid now out × IsFault (located TooLong None) out ending) → IfOk r (AllWritten tables begin first now start)
+at_too_many r tables begin was first mid now start w before can over = at_fault r tables begin was (TooMany ∷ []) (located TooLong None) first mid now start w before can (λ o t out ending is. is) over
 
 pub at_long : {E : Type 0} (r : Result Ending E) (tables : ℕ) (begin was : LinesValue) (first mid now : Option (List ℕ)) (start w : WorldValue) → AllBefore tables begin was first mid start w → IsLong MAX_UNENDED was
-    → IfOk r (λ ending. (out : List ℕ) × Appends mid now out × IsFault TooLong out ending) → IfOk r (AllWritten tables begin first now start)
+    → IfOk r (λ ending. (out : List ℕ) × Appends mid now out × IsFault (located TooLong None) out ending) → IfOk r (AllWritten tables begin first now start)
 at_long r tables begin was first mid now start w before long over =
     let endless = is_endless was long in
-    at_fault r tables begin was (Endless endless.bytes ∷ endless.others) TooLong first mid now start w before endless.can_come (λ o t out ending is. is) over
+    at_fault r tables begin was (Endless endless.bytes ∷ endless.others) (located TooLong None) first mid now start w before endless.can_come (λ o t out ending is. is) over
 
 -- a step was answered
 pub on_step : {T E : Type 0} (r : Result T E) (tables : ℕ) (line : List ℕ) (step : Step) (given : Answer) (before now : Option (List ℕ)) (w new : WorldValue) → Ok step ≡ step_of tables line

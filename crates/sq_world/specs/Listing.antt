@@ -3,7 +3,7 @@ use Rattle.std.specs.Prelude.{◌≡◌, ◌⊎◌, ℕ, List, Option, Ok, Err}
 use Rattle.std.specs.Io.KnownBytes.{Appends}
 use Rattle.sq_ranges.specs.OpeningValue.{OpeningValue}
 use Rattle.sq_lines.specs.Pieces.{PieceValue}
-use Rattle.sq_text.specs.declared.input_fault.InputFault.{InputFault}
+use Rattle.sq_text.specs.declared.located.LocatedFault.{LocatedFault}
 use Rattle.sq_text.specs.Texts.{moves_text}
 use Rattle.sq_text.specs.Header.{plans_of, Opens}
 use Rattle.sq_world.specs.declared.ending.Ending.{Ending}
@@ -21,7 +21,7 @@ pub record IsListed (tables : ℕ) (given : List PieceValue) (out : List ℕ) (e
 
 -- the first three lines have a fault, which is their first, or memory ran out
 pub record IsNotListed (tables : ℕ) (given : List PieceValue) (out : List ℕ) (ending : Ending) : Type 0 where
-  pub fault : InputFault
+  pub fault : LocatedFault
   pub left : List PieceValue
   pub plans : Opens tables (Err fault) left (plans_of given)
   pub wrote : IsFault fault out ending

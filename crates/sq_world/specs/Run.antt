@@ -1,5 +1,5 @@
 -- A run: what is written for an input.
-use Rattle.std.specs.Prelude.{◌≡◌, ◌⊎◌, ℕ, true, List, [], ◌∷◌, ◌++◌, Option, Ok, Err}
+use Rattle.std.specs.Prelude.{◌≡◌, ◌⊎◌, ℕ, true, List, [], ◌∷◌, ◌++◌, Option, None, Ok, Err}
 use Rattle.std.specs.Io.KnownBytes.{Appends}
 use Rattle.sq_ranges.specs.OpeningValue.{OpeningValue}
 use Rattle.sq_model.specs.declared.step.Step.{Step}
@@ -11,12 +11,13 @@ use Rattle.sq_transition.specs.WorldValue.{WorldValue}
 use Rattle.sq_transition.specs.Holds.{Holds}
 use Rattle.sq_text.specs.declared.fault.LineFault.{LineFault}
 use Rattle.sq_text.specs.declared.fault.LineFault.TheVariants as line_fault
-use Rattle.sq_text.specs.declared.input_fault.InputFault.{InputFault}
+use Rattle.sq_text.specs.declared.located.LocatedFault.{LocatedFault}
 use Rattle.sq_text.specs.declared.input_fault.InputFault.TheVariants.{TooLong, ReadFailed}
 use Rattle.sq_text.specs.Words.{words_of}
 use Rattle.sq_text.specs.Steps.{step_of, begins_txn}
 use Rattle.sq_text.specs.Faults.{line_fault_number}
 use Rattle.sq_text.specs.InputFaults.{input_fault_number}
+use Rattle.sq_text.specs.Located.{located}
 use Rattle.sq_text.specs.Texts.{answer_line, refused_line, fault_line}
 use Rattle.sq_lines.specs.Pieces.{PieceValue, Line, Rest, Failed, Endless, TooMany}
 use Rattle.sq_text.specs.Header.{header_of, Opens}
@@ -57,10 +58,10 @@ pub record IsDumped (o : OpeningValue) (t : Trace) (out : List ℕ) : Type 0 whe
   pub holds : Holds o t world
   pub says : out ≡ dump world
 
--- a fault is all that is written
-pub record IsFault (fault : InputFault) (out : List ℕ) (ending : Ending) : Type 0 where
-  pub says : out ≡ fault_line (input_fault_number fault)
-  pub ends : ending ≡ Fault fault
+-- the number of a fault is all that is written, and the ending tells the line that it belongs to
+pub record IsFault (located : LocatedFault) (out : List ℕ) (ending : Ending) : Type 0 where
+  pub says : out ≡ fault_line (input_fault_number located.fault)
+  pub ends : ending ≡ Fault located
 
 -- what is written for the pieces of a script after this history, and how the run ends
 abbrev pub Writes : OpeningValue → Trace → List PieceValue → List ℕ → Ending → Type 0
@@ -68,9 +69,9 @@ Writes o t [] out ending = IsDumped o t out × (ending ≡ Done)
 Writes o t (Line line ∷ others) out ending =
     (after : Trace) × (text : List ℕ) × (later : List ℕ) × AnswersLine o t line after text × (out ≡ text ++ later) × Writes o after others later ending
 Writes o t (Rest bytes ∷ others) out ending = (later : List ℕ) × (out ≡ refused_line (line_fault_number line_fault.NotAStep) ++ later) × Writes o t others later ending
-Writes o t (Failed bytes ∷ others) out ending = IsFault ReadFailed out ending
-Writes o t (Endless bytes ∷ others) out ending = IsFault TooLong out ending
-Writes o t (TooMany ∷ others) out ending = IsFault TooLong out ending
+Writes o t (Failed bytes ∷ others) out ending = IsFault (located ReadFailed None) out ending
+Writes o t (Endless bytes ∷ others) out ending = IsFault (located TooLong None) out ending
+Writes o t (TooMany ∷ others) out ending = IsFault (located TooLong None) out ending
 
 -- the header is read to this opening, and then the script is run from it
 pub record IsRunFrom (tables : ℕ) (given : List PieceValue) (out : List ℕ) (ending : Ending) : Type 0 where
@@ -82,7 +83,7 @@ pub record IsRunFrom (tables : ℕ) (given : List PieceValue) (out : List ℕ) (
 
 -- the header has a fault, which is its first, or memory ran out
 pub record IsRefused (tables : ℕ) (given : List PieceValue) (out : List ℕ) (ending : Ending) : Type 0 where
-  pub fault : InputFault
+  pub fault : LocatedFault
   pub left : List PieceValue
   pub header : Opens tables (Err fault) left (header_of given)
   pub wrote : IsFault fault out ending
@@ -98,4 +99,4 @@ Runs tables known before now ending = (given : List PieceValue) × IsGiven known
 -- the exit status of an ending
 abbrev pub exit_status_of : Ending → ℕ
 exit_status_of Done = 0
-exit_status_of (Fault fault) = 2
+exit_status_of (Fault located) = 2

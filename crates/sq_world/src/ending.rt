@@ -1,7 +1,7 @@
 // How runs end.
 ghost use Rattle.std.specs.Prelude.{◌≡◌};
 
-use sq_text::InputFault;
+use sq_text::LocatedFault;
 use std::io;
 use thiserror::Error;
 
@@ -10,8 +10,8 @@ use thiserror::Error;
 pub enum Ending {
     /// The script was run to its end, and the dump was written.
     Done,
-    /// A fault was written, and nothing after it.
-    Fault(InputFault),
+    /// The number of a fault was written, and nothing after it; its line wasn't.
+    Fault(LocatedFault),
 }
 
 impl Ending {

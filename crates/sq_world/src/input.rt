@@ -9,11 +9,11 @@ ghost use Rattle.sq_world.specs.Run.{IsRun, Runs};
 ghost use Rattle.sq_world.specs.Script.{LeadsTo};
 
 use crate::ending::{Ending, WriteFault};
-use crate::script::{end_by, run_script};
+use crate::script::{end_by, end_by_located, run_script};
 use crate::world::World;
 use sq_lines::LineReader;
 use sq_schema::{MAX_TABLES, Schema};
-use sq_text::{InputFault, read_header};
+use sq_text::{InputFault, LocatedFault, read_header};
 use std::alloc::Global;
 use std::io;
 use std::io::{Read, Write};
@@ -65,7 +65,7 @@ fn run_lines<R: Read, W: Write>(
     };
     match open_world(alloc, schema, lines) {
         Ok(mut world) => run_script(alloc, &schema, &mut world, lines, writer),
-        Err(fault) => end_by(writer, fault),
+        Err(fault) => end_by_located(writer, fault),
     }
 }
 
@@ -74,13 +74,13 @@ fn open_world<R: Read>(
     alloc: Global,
     schema: Schema,
     lines: &mut LineReader<R>,
-) -> Result<World, InputFault>
+) -> Result<World, LocatedFault>
     ensures world { IfOk result (λ world. (o : OpeningValue) × LeadsTo o [] world × Leaves lines.old lines.new (λ all left. Opens schema (Ok o) left (header_of all))) }
     ensures fault { IfErr result (λ fault. Leaves lines.old lines.new (λ all left. Opens schema (Err fault) left (header_of all))) }
 {
     let opening = read_header(alloc, schema, lines)?;
     match World::from_opening(alloc, opening) {
         Ok(world) => Ok(world),
-        Err(_) => Err(InputFault::Memory),
+        Err(_) => Err(InputFault::Memory.at_no_line()),
     }
 }

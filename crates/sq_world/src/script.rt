@@ -1,9 +1,10 @@
 // Scripts.
-ghost use Rattle.std.specs.Prelude.{◌≡◌, List, ℕ, OnOk, IfOk};
+ghost use Rattle.std.specs.Prelude.{◌≡◌, List, ℕ, None, OnOk, IfOk};
 ghost use Rattle.std.specs.Io.KnownBytes.{Appends};
 ghost use Rattle.sq_ranges.specs.OpeningValue.{OpeningValue};
 ghost use Rattle.sq_model.specs.Trace.{Trace};
 ghost use Rattle.sq_state.specs.Dump.{dump};
+ghost use Rattle.sq_text.specs.Located.{located};
 ghost use Rattle.sq_world.specs.Run.{IsFault};
 ghost use Rattle.sq_world.specs.Script.{LeadsTo, IsAnswered, IsWritten};
 
@@ -11,7 +12,9 @@ use crate::ending::Ending;
 use crate::world::World;
 use sq_lines::{LineReader, MAX_UNENDED, Next};
 use sq_schema::Schema;
-use sq_text::{InputFault, LineFault, read_step, write_answer, write_fault, write_refused};
+use sq_text::{
+    InputFault, LineFault, LocatedFault, read_step, write_answer, write_fault, write_refused,
+};
 use std::alloc::Global;
 use std::io;
 use std::io::{Read, Write};
@@ -73,10 +76,17 @@ fn write_line<W: Write>(
     }
 }
 
-// Writes a fault, which ends the run.
+// Writes a fault that belongs to no line of the header, which ends the run.
 pub(crate) fn end_by<W: Write>(writer: &mut W, fault: InputFault) -> io::Result<Ending>
-    ensures { IfOk result (λ ending. (out : List ℕ) × Appends (W.contents writer.old) (W.contents writer.new) out × IsFault fault out ending) }
+    ensures { IfOk result (λ ending. (out : List ℕ) × Appends (W.contents writer.old) (W.contents writer.new) out × IsFault (located fault None) out ending) }
 {
-    write_fault(writer, fault.number())?;
-    Ok(Ending::Fault(fault))
+    end_by_located(writer, fault.at_no_line())
+}
+
+// Writes the number of a fault, which ends the run.
+pub(crate) fn end_by_located<W: Write>(writer: &mut W, located: LocatedFault) -> io::Result<Ending>
+    ensures { IfOk result (λ ending. (out : List ℕ) × Appends (W.contents writer.old) (W.contents writer.new) out × IsFault located out ending) }
+{
+    write_fault(writer, located.fault.number())?;
+    Ok(Ending::Fault(located))
 }

@@ -8,9 +8,8 @@ ghost use Rattle.squall.specs.Session.{exit_status};
 
 use clap::Error;
 use clap::error::ErrorKind;
-use sq_text::InputFault;
+use sq_text::{InputFault, LocatedFault};
 use sq_world::{Ending, WriteFault, ranges, run};
-use std::fmt::Display;
 use std::io;
 use std::io::{Read, Write};
 
@@ -47,12 +46,15 @@ pub fn listing<R: Read, W: Write>(
     exit_status(listed)
 }
 
-// Says on standard error what the fault of a run means, if it has one.
+// Says on standard error what the fault of a run means, if it has one, and the line that it belongs to.
 fn explain_end(rt: &impl Eprint, ran: Result<Ending, WriteFault>) {
     match ran {
         Ok(Ending::Done) => {}
-        Ok(Ending::Fault(fault)) => explain(rt, fault.number(), &fault),
-        Err(fault) => explain(rt, fault.number(), &fault),
+        Ok(Ending::Fault(located)) => explain(rt, &located),
+        Err(fault) => {
+            let number = fault.number();
+            let _ = eprintln!(rt; "squall: fault {number}: {fault}");
+        }
     }
 }
 
@@ -71,15 +73,14 @@ pub fn refuse_for_memory(rt: &(impl Print + Eprint)) -> u8
     ensures { result ≡ 2 }
 {
     let fault = InputFault::Memory;
-    let number = fault.number();
-    let _ = println!(rt; "fault {number}");
-    explain(rt, number, &fault);
+    let _ = println!(rt; "fault {}", fault.number());
+    explain(rt, &fault.at_no_line());
     REFUSED
 }
 
-// Says on standard error what a fault means.
-fn explain(rt: &impl Eprint, number: u16, fault: &impl Display) {
-    let _ = eprintln!(rt; "squall: fault {number}: {fault}");
+// Says on standard error the line that a fault belongs to, and what it means.
+fn explain(rt: &impl Eprint, located: &LocatedFault) {
+    let _ = eprintln!(rt; "squall: {located}");
 }
 
 /// Prints what `clap` says of a command line: a help text that was asked for to standard output, anything else to

@@ -1,5 +1,5 @@
-use Rattle.std.proofs.Common.{◌≡◌, ◌≤◌, length, ap, ◌∙◌, sym, arith, ◌∷◌}
-use Rattle.sq_lines.specs.Pieces.{PieceValue, Line}
+use Rattle.std.proofs.Common.{length, ap, arith, ◌∷◌}
+use Rattle.sq_lines.specs.Pieces.{Line}
 use Rattle.sq_text.proofs.HeaderRun.{short_line, long_piece}
 use Rattle.sq_text.proofs.header.next_line.Goals as goal
 

@@ -1,0 +1,111 @@
+// Faults of an input, with the lines that they belong to.
+ghost use Rattle.std.specs.Prelude.{◌≡◌, ◌+◌, ◌<◌, ◌^◌, None, Some};
+ghost use Rattle.sq_text.specs.Located.{line_number, located, of_opening};
+
+use crate::input_fault::InputFault;
+use sq_ranges::{OpeningFault, RefusedOpening};
+use std::alloc::AllocError;
+use std::fmt;
+use std::fmt::{Display, Formatter, Write};
+
+/// A line of a header.
+#[derive(Clone, Copy, Debug, PartialEq, Eq)]
+pub enum HeaderLine {
+    /// The first one, with the old plan.
+    Old,
+    /// The second one, with the new plan.
+    New,
+    /// The third one, with the sizes.
+    Config,
+    /// The line with this number, from 0, of those behind the sizes, each of which begins as an opening row does.
+    Row(usize),
+}
+
+impl HeaderLine {
+    /// Its number in the input, whose first line has the number 1.
+    pub fn number(self) -> u64
+        ensures { line_number self < 2 ^ 64 → result ≡ line_number self }
+    {
+        match self {
+            HeaderLine::Old => 1,
+            HeaderLine::New => 2,
+            HeaderLine::Config => 3,
+            HeaderLine::Row(at) => (at as u64).saturating_add(4),
+        }
+    }
+}
+
+/// A fault of an input, and the line of the header that it belongs to.
+#[derive(Clone, Copy, Debug, PartialEq, Eq)]
+pub struct LocatedFault {
+    /// What is wrong.
+    pub fault: InputFault,
+    /// The line; `None` where memory ran out at no line, and after the header.
+    pub line: Option<HeaderLine>,
+}
+
+impl InputFault {
+    /// The fault, which belongs to this line.
+    pub(crate) fn at(self, line: HeaderLine) -> LocatedFault
+        ensures { result ≡ located self (Some line) }
+    {
+        LocatedFault {
+            fault: self,
+            line: Some(line),
+        }
+    }
+
+    /// The fault, which belongs to no line of the header.
+    pub fn at_no_line(self) -> LocatedFault
+        ensures { result ≡ located self None }
+    {
+        LocatedFault {
+            fault: self,
+            line: None,
+        }
+    }
+}
+
+/// Says the line by its number, the number of the fault, and what it means; a plan is said to be the old or the new one.
+impl Display for LocatedFault {
+    fn fmt<W: Write>(&self, f: &mut Formatter<W>) -> fmt::Result {
+        if let Some(line) = self.line {
+            write!(f, "line {}: ", line.number())?;
+        }
+        write!(f, "fault {}: ", self.fault.number())?;
+        match (self.line, self.fault) {
+            (Some(HeaderLine::Old), InputFault::Plan(fault)) => write!(f, "the old {fault}"),
+            (Some(HeaderLine::New), InputFault::Plan(fault)) => write!(f, "the new {fault}"),
+            (_, fault) => write!(f, "{fault}"),
+        }
+    }
+}
+
+impl From<RefusedOpening> for LocatedFault {
+    ghost use Rattle.sq_text.specs.Located.{of_opening};
+
+    ghost from_gives = { λ refused fault. fault ≡ of_opening refused.fault };
+
+    fn from(refused: RefusedOpening) -> LocatedFault {
+        let fault = refused.fault;
+        match fault {
+            OpeningFault::Memory => InputFault::Memory.at_no_line(),
+            OpeningFault::Row(at, _) | OpeningFault::Place(at, _) => {
+                InputFault::Opening(fault).at(HeaderLine::Row(at))
+            }
+            fault => InputFault::Opening(fault).at(HeaderLine::Config),
+        }
+    }
+}
+
+impl From<AllocError> for LocatedFault {
+    ghost use Rattle.std.specs.Prelude.{None};
+    ghost use Rattle.sq_text.specs.Located.{located};
+    ghost use Rattle.sq_text.specs.declared.input_fault.InputFault.TheVariants as faults;
+
+    ghost from_gives = { λ _ fault. fault ≡ located faults.Memory None };
+
+    fn from(_error: AllocError) -> LocatedFault {
+        InputFault::Memory.at_no_line()
+    }
+}
