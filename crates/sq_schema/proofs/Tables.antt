@@ -119,6 +119,14 @@ pub none_from : {A : Type 0} (o : Option A) → is_some o ≡ false → o ≡ No
 none_from None is = refl
 none_from (Some x) is = absurd (cc)
 
+off : (some less : Bool) → less ≡ true → (some ≡ true → less ≡ false) → some ≡ false
+off true less is bound = sym is ∙ bound refl
+off false less is bound = refl
+
+-- a root key above a bound of all has no rows
+pub none_above : (table : TableValue) (bound root : ℕ) → is_lt (nat_cmp bound root) ≡ true → (is_some (lookup (is_at (nat_cmp root)) table) ≡ true → is_lt (nat_cmp bound root) ≡ false) → lookup (is_at (nat_cmp root)) table ≡ None
+none_above table bound root less is_bound = none_from (lookup (is_at (nat_cmp root)) table) (off _ _ less is_bound)
+
 -- the rows of each root key keep the rule of the root row
 pub is_rooted-rows_in : (table : TableValue) (root : ℕ) → All (λ entry. is_opening entry.1 ≡ true) table → is_rooted (rows_in table root) ≡ true
 is_rooted-rows_in [] root all = refl

@@ -58,6 +58,11 @@ impl Table {
         ensures rows { option_copied result ≡ find nat_cmp root self.now }
         ensures opening { IfSome result (λ rows. is_opening rows.now ≡ true) }
     {
+        // Most openings list their root keys in rising order, and one past the last needs no search.
+        let (last, _) = self.rows.last_key_value()?;
+        if *last < root {
+            return None;
+        }
         self.rows.get(&root)
     }
 
@@ -83,7 +88,7 @@ impl Table {
         if let Some(fault) = self.fault(root, key) {
             return Err((fault, row));
         }
-        let taken = if self.rows.contains_key(&root) {
+        let taken = if self.rows(root).is_some() {
             self.extend(root, key, row)
         } else {
             self.open(root, key, row)
