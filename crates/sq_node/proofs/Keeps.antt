@@ -1,11 +1,13 @@
 -- Each step of a node keeps what holds of it.
 use Rattle.std.proofs.lemmas.List.{length-set}
 use Rattle.std.proofs.Common.{◌≡◌, ℕ, Bool, true, false, List, slice_get, Option, Some, None, refl, sym, ap, ◌∙◌, subst}
+use Rattle.std.specs.Prelude.{IfSome}
 use Rattle.std.specs.Option.{option_map_or}
-use Rattle.sq_chunk.specs.ChunkValue.{ChunkValue}
+use Rattle.sq_chunk.specs.ChunkValue.{ChunkValue, IsChunk}
 use Rattle.sq_ranges.specs.declared.recon.Range.{Range}
 use Rattle.sq_ranges.specs.ReconValue.{ReconValue}
 use Rattle.sq_ranges.specs.OpeningValue.{OpeningValue}
+use Rattle.sq_ranges.specs.Opening.{IsOpening}
 use Rattle.sq_schema.specs.TxnValue.{TxnValue}
 use Rattle.sq_store.specs.StoreValue.{StoreValue}
 use Rattle.sq_tree.specs.declared.status.Status.TheVariants.{Partial, Complete}
@@ -14,24 +16,25 @@ use Rattle.sq_status.specs.Seat.{SeatValue}
 use Rattle.sq_exec.specs.declared.outcome.Outcome.{Outcome}
 use Rattle.sq_exec.specs.OutLink.{OutLinkValue}
 use Rattle.sq_exec.specs.Runs.{is_whole}
-use Rattle.sq_exec.specs.CoreValue.{CoreValue, out_at, with_out, loaded_at}
+use Rattle.sq_exec.specs.CoreValue.{CoreValue, out_at, with_out, loaded_at, inbox_at}
 use Rattle.sq_exec.specs.Serving.{must_wait, IsTaken}
-use Rattle.sq_exec.specs.Moving.{can_load, loaded_core, begun_in}
+use Rattle.sq_exec.specs.Moving.{can_load, loaded_core, begun_in, may_load}
 use Rattle.sq_pull.specs.Seats.{StepsAt}
 use Rattle.sq_node_model.specs.NodeValue.{ReceiptValue, node_of, put}
 use Rattle.sq_node_model.specs.Steps.{receipts_after}
 use Rattle.sq_node_model.specs.NodeHolds.{NodeHolds}
-use Rattle.sq_node_model.specs.Cores.{IsCoreOf, IsLoadable}
+use Rattle.sq_node_model.specs.Cores.{IsCoreOf, IsLoadable, HasNoneToLoad}
 use Rattle.sq_node_model.proofs.Puts.{put_each, put_same, put_other}
 use Rattle.sq_node_model.proofs.CoreBegun.{core_looked, core_completed, core_begun}
 use Rattle.sq_node_model.proofs.CoreCut.{core_cut}
 use Rattle.sq_node_model.proofs.CoreLinks.{core_sent, core_received}
 use Rattle.sq_node_model.proofs.CoreLoad.{core_loaded}
+use Rattle.sq_node_model.proofs.CoreRefused.{came_loaded}
 use Rattle.sq_node_model.proofs.CoreServed.{core_submitted, core_resumed}
 use Rattle.sq_node.specs.declared.stepped.Stepped.{Stepped}
 use Rattle.sq_node.specs.declared.stepped.Stepped.TheVariants.{Did, Nothing, Memory}
 use Rattle.sq_node.specs.FabricValue.{FabricValue}
-use Rattle.sq_node.specs.NodeState.{NodeState, views_of, sent_by, received_by}
+use Rattle.sq_node.specs.NodeState.{NodeState, node_value, views_of, sent_by, received_by}
 use Rattle.sq_node.specs.Holds.{HoldsUnder, KeepsAll}
 use Rattle.sq_node.specs.Looks.{LooksAndCompletes}
 use Rattle.sq_node.specs.Steps.{JobStep, RequestStep, CutStep, SendStep, RecvStep, LoadStep, CompleteStep, ResumeStep, Looks}
@@ -198,3 +201,10 @@ resume_keeps old Did new step o is h =
     })
 resume_keeps old Nothing new step o is h = same_keeps old new step.0 o is h
 resume_keeps old Memory new step o is h = same_keeps old new step o is h
+
+-- where no chunk that came can be loaded, each that belongs here covers a key that was loaded
+pub none_to_load : (node : NodeState) → ((src : ℕ) → may_load node.core src ≡ false) → ((src : ℕ) → IfSome (inbox_at node.core src) IsChunk) → (o : OpeningValue) → IsOpening o → HoldsUnder o node
+    → (src : ℕ) → HasNoneToLoad o (node_value node) src
+none_to_load node none chunks o is h src chunk came arrived =
+    came_loaded o is node.core (views_of node.seats) (sent_by node.sends) (received_by node.recvs) node.receipts h.core h.holds src chunk
+    (subst (λ (found : Option ChunkValue). IfSome found IsChunk) came (chunks src)) arrived came (none src)

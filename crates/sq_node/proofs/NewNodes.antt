@@ -14,6 +14,8 @@ use Rattle.sq_status.specs.View.{fresh, gave}
 use Rattle.sq_status.specs.Seat.{SeatValue}
 use Rattle.sq_exec.specs.declared.run.Run.{Run}
 use Rattle.sq_exec.specs.Runs.{is_whole}
+use Rattle.sq_exec.specs.GivenUp.{none_given_up}
+use Rattle.sq_exec.specs.OutLink.{new_out_link}
 use Rattle.sq_exec.specs.CoreValue.{CoreValue, loaded_at}
 use Rattle.sq_opened.specs.Opened.{opened_part, HasOwned}
 use Rattle.sq_pull.specs.Seats.{AreSeatsOf}
@@ -88,7 +90,10 @@ new_node o fabric part core seats sends recvs node shared below opened owned new
       sends = out.1;
       recvs = into.1;
       receipts = refl;
-      holds = core_new o part (opened_part o part).store below (subst (λ (c : CoreValue). HasOwned o part c.store) opened owned) (views_of seats) (sent_by sends) (received_by recvs) (unused fabric.trees seats sends recvs new out.1 into.1);
+      holds = record {
+        core = record { plan = refl; recon = refl; outs = length-replicate o.old.parts new_out_link; given_up = length-replicate (length o.recon.segments) none_given_up; loaded = length-replicate (length o.recon.segments) [] };
+        holds = core_new o part (opened_part o part).store below (subst (λ (c : CoreValue). HasOwned o part c.store) opened owned) (views_of seats) (sent_by sends) (received_by recvs) (unused fabric.trees seats sends recvs new out.1 into.1);
+      };
     })
 
 -- it is new whatever seats the fabric keeps

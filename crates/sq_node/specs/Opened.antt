@@ -17,8 +17,8 @@ use Rattle.sq_node.specs.declared.ends.SendEnd.{SendEnd}
 use Rattle.sq_node.specs.declared.ends.RecvEnd.{RecvEnd}
 use Rattle.sq_node.specs.Ends.{link_at, send_end, recv_end}
 use Rattle.sq_node.specs.FabricValue.{FabricValue, ends_of}
-use Rattle.sq_node_model.specs.NodeHolds.{NodeHolds}
-use Rattle.sq_node.specs.NodeState.{NodeState, IsNodeOf, node_value}
+use Rattle.sq_node.specs.NodeState.{NodeState, IsNodeOf}
+use Rattle.sq_node.specs.Holds.{HoldsUnder}
 
 -- a partition whose move has started
 abbrev pub started_part : OpeningValue → ℕ → CoreValue
@@ -97,7 +97,7 @@ pub record IsNewNode (o : OpeningValue) (fabric : FabricValue) (part : ℕ) (nod
   pub sends : HaveSentNothing node.sends
   pub recvs : HaveReceivedNothing node.recvs
   pub receipts : node.receipts ≡ []
-  pub holds : NodeHolds o (node_value node)
+  pub holds : HoldsUnder o node
 
 -- what a run shares fits an opening: what moves, how many partitions there are, and how many chunks a link holds
 pub record IsFabricOf (o : OpeningValue) (fabric : FabricValue) : Type 0 where

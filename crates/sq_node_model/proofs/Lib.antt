@@ -19,6 +19,7 @@ pub mod NodeSent
 pub mod NodeBegun
 pub mod CoreCut
 pub mod CoreLoad
+pub mod CoreRefused
 pub mod CoreBegun
 pub mod CoreLinks
 pub mod CoreServed

@@ -3,13 +3,16 @@ use Rattle.std.specs.Prelude.{◌≡◌, ℕ, true, ◌==◌, ◌&&◌, if◌the
 use Rattle.std.specs.FinMap.{get}
 use Rattle.sq_schema.specs.Family.{FamilyValue}
 use Rattle.sq_store.specs.StoreValue.{StoreValue}
-use Rattle.sq_chunk.specs.ChunkValue.{ChunkValue, IsChunk}
+use Rattle.sq_chunk.specs.ChunkValue.{ChunkValue, IsChunk, covers}
 use Rattle.sq_ranges.specs.OpeningValue.{OpeningValue}
 use Rattle.sq_exec.specs.CoreValue.{CoreValue}
 use Rattle.sq_exec.specs.Moving.{can_load}
 use Rattle.sq_model.specs.Tables.{opening_rows}
 use Rattle.sq_model.specs.Place.{source}
 use Rattle.sq_status.specs.declared.view.View.{View}
+use Rattle.sq_node_model.specs.NodeValue.{NodeValue}
+use Rattle.sq_node_model.specs.Chunks.{HasLoaded, IsCovered}
+use Rattle.sq_node_model.specs.InHolds.{HasArrived}
 use Rattle.sq_node_model.specs.OutHolds.{is_opened}
 
 -- the partition knows the plan and the moves of the opening, and has a place for each partition and for each segment
@@ -33,6 +36,11 @@ OpensWith o part store =
 pub record IsLoadable (core : CoreValue) (src : ℕ) (chunk : ChunkValue) : Type 0 where
   pub can : can_load core src chunk ≡ true
   pub sound : IsChunk chunk
+
+-- a chunk that came from the partition and isn't loaded doesn't belong here, or covers a root key that was loaded
+abbrev pub HasNoneToLoad : OpeningValue → NodeValue → ℕ → Type 0
+HasNoneToLoad o node src =
+    (chunk : ChunkValue) → node.inboxes src ≡ Some chunk → HasArrived o src node.part chunk.note → (root : ℕ) × (covers chunk.note root ≡ true) × IsCovered (HasLoaded node) root
 
 -- the seats, by segment, began and completed nothing, and nothing was sent and received
 pub record IsUnused (views : ℕ → View) (sent received : ℕ → List ChunkValue) : Type 0 where

@@ -1,5 +1,5 @@
 // What each step of a node does to it, and that it keeps what holds of the node.
-ghost use Rattle.std.specs.Prelude.{◌≡◌, ◌≢◌, ◌<◌, ℕ, Bool, List, [], ◌∷◌, ◌++◌, length, true, slice_get, Some, None, Contains};
+ghost use Rattle.std.specs.Prelude.{◌≡◌, ◌≢◌, ◌<◌, ℕ, Bool, List, [], ◌∷◌, ◌++◌, length, true, false, slice_get, Some, None, IfSome, Contains};
 ghost use mathlib.Core.Option.{some};
 ghost use lib.ListN.{get_elem?};
 ghost use Rattle.sq_schema.specs.TxnValue.{TxnValue};
@@ -10,7 +10,7 @@ ghost use Rattle.sq_tree.specs.Status.{is_begun};
 ghost use Rattle.sq_tree.specs.Tree.{status_at, IsGrown};
 ghost use Rattle.sq_store.specs.StoreValue.{StoreValue};
 ghost use Rattle.sq_chunk.specs.declared.chunk.Note.{Note};
-ghost use Rattle.sq_chunk.specs.ChunkValue.{ChunkValue};
+ghost use Rattle.sq_chunk.specs.ChunkValue.{ChunkValue, IsChunk};
 ghost use Rattle.sq_ranges.specs.declared.recon.Range.{Range};
 ghost use Rattle.sq_ranges.specs.OpeningValue.{OpeningValue};
 ghost use Rattle.sq_ranges.specs.Opening.{IsOpening};
@@ -19,7 +19,7 @@ ghost use Rattle.sq_exec.specs.declared.outcome.Resumed.{Resumed};
 ghost use Rattle.sq_exec.specs.Runs.{is_whole};
 ghost use Rattle.sq_exec.specs.CoreValue.{CoreValue, opened_core, out_at, with_out, inbox_at, with_inbox, loaded_at};
 ghost use Rattle.sq_exec.specs.Serving.{IsTaken, IsResumed};
-ghost use Rattle.sq_exec.specs.Moving.{whole_node, begun_core, CutsFor, LoadsFrom};
+ghost use Rattle.sq_exec.specs.Moving.{whole_node, begun_core, may_load, CutsFor, LoadsFrom};
 ghost use Rattle.sq_model.specs.Place.{extent_of, is_within};
 ghost use Rattle.sq_status.specs.declared.view.View.{View};
 ghost use Rattle.sq_status.specs.Rule.{IsTreeOf};
@@ -27,7 +27,7 @@ ghost use Rattle.sq_status.specs.Plays.{Won};
 ghost use Rattle.sq_node_model.specs.NodeValue.{ReceiptValue, node_of, put};
 ghost use Rattle.sq_node_model.specs.Steps.{node_begun, node_cut, node_sent, node_received, node_loaded, node_completed, node_served, receipts_after};
 ghost use Rattle.sq_node_model.specs.NodeHolds.{NodeHolds};
-ghost use Rattle.sq_node_model.specs.Cores.{IsCoreOf, OpensWith, IsLoadable, IsUnused};
+ghost use Rattle.sq_node_model.specs.Cores.{IsCoreOf, OpensWith, IsLoadable, HasNoneToLoad, IsUnused};
 
 /// A partition that opens with the families that it owns, and whose thread did nothing yet, is a node of which all holds.
 pub fn a_new_node_holds()
@@ -125,6 +125,13 @@ pub fn a_resume_keeps_a_node()
         → IsOpening o → IsCoreOf o old → IsResumed old resumed new
         → NodeHolds o (node_of old views sent received receipts)
         → NodeHolds o (node_of new views sent received (receipts_after old.store resumed.txn resumed.outcome receipts)) }
+{}
+
+/// A chunk that came and belongs here can be loaded, unless it covers a root key that was loaded.
+pub fn what_belongs_here_can_be_loaded()
+    ensures { (o : OpeningValue) (core : CoreValue) (views : ℕ → View) (sent received : ℕ → List ChunkValue) (receipts : List ReceiptValue) (src : ℕ)
+        → IsOpening o → IsCoreOf o core → NodeHolds o (node_of core views sent received receipts) → IfSome (inbox_at core src) IsChunk → may_load core src ≡ false
+        → HasNoneToLoad o (node_of core views sent received receipts) src }
 {}
 
 /// A tree that threads share is one that splits and claims lead to from a free one.

@@ -116,7 +116,7 @@ impl<S: FamilyStore> PartCore<S> {
     /// Whether a chunk came from a partition that can be loaded, but for memory.
     pub fn may_load(&self, src: PartId) -> bool
         ensures can { result ≡ may_load self.now.core src }
-        ensures chunk { IsTrue result → IfSome (inbox_at self.now.core src) IsChunk }
+        ensures chunk { IfSome (inbox_at self.now.core src) IsChunk }
     {
         match self.inbox(src) {
             Some(chunk) => self.can_load(src, chunk),
@@ -161,11 +161,12 @@ impl<S: FamilyStore> PartCore<S> {
     // Whether a chunk that came from a partition can be loaded.
     fn can_load(&self, src: PartId, chunk: &Chunk) -> bool
         ensures can { result ≡ can_load self.now.core src chunk.now }
-        ensures chunk { IsTrue result → IsChunk chunk.now }
+        ensures chunk { IsChunk chunk.now }
     {
         let note = chunk.note();
         // For the proof alone: a chunk is about a node from 1 to 63.
         let _ = note.node.number();
+        let families = chunk.families();
         let at = note.seg.number() as usize;
         let Some(segment) = self.recon.segments().get(at) else {
             return false;
@@ -178,7 +179,7 @@ impl<S: FamilyStore> PartCore<S> {
             && keys.lo <= note.lo
             && note.hi <= keys.hi
             && !is_met(&self.loaded[at], &note)
-            && self.has_none_of(chunk.families())
+            && self.has_none_of(families)
     }
 
     // Whether the store has a family of none of these root keys.

@@ -4,8 +4,11 @@ ghost use Rattle.sq_chunk.specs.ChunkValue.{IsChunk};
 ghost use Rattle.sq_exec.specs.CoreValue.{out_at, inbox_at};
 ghost use Rattle.sq_exec.specs.OutLink.{may_cut};
 ghost use Rattle.sq_exec.specs.Moving.{may_load};
-ghost use Rattle.sq_node.specs.NodeState.{IsNodeOf};
-ghost use Rattle.sq_node.specs.Holds.{KeepsAll};
+ghost use Rattle.sq_ranges.specs.OpeningValue.{OpeningValue};
+ghost use Rattle.sq_ranges.specs.Opening.{IsOpening};
+ghost use Rattle.sq_node_model.specs.Cores.{HasNoneToLoad};
+ghost use Rattle.sq_node.specs.NodeState.{IsNodeOf, node_value};
+ghost use Rattle.sq_node.specs.Holds.{HoldsUnder, KeepsAll};
 ghost use Rattle.sq_node.specs.Steps.{Sends, Receives, HasNoneToSend, HasNoneToReceive, CutStep, SendStep, RecvStep, LoadStep};
 
 use super::Node;
@@ -108,6 +111,7 @@ impl Node {
     pub fn step_load(&mut self) -> Stepped
         ensures step { LoadStep self.old result self.new }
         ensures holds { KeepsAll self.old self.new }
+        ensures nothing { result ≡ Stepped.Nothing → (o : OpeningValue) → IsOpening o → HoldsUnder o self.old → (src : ℕ) → HasNoneToLoad o (node_value self.old) src }
     {
         let Some(src) = self.next_load() else {
             return Stepped::Nothing;
@@ -128,6 +132,7 @@ impl Node {
     fn next_load(&self) -> Option<PartId>
         ensures some { IfSome result (λ src. may_load self.now.core src ≡ true) }
         ensures chunk { IfSome result (λ src. IfSome (inbox_at self.now.core src) IsChunk) }
+        ensures chunks { IfNone result ((src : ℕ) → IfSome (inbox_at self.now.core src) IsChunk) }
         ensures each { length self.now.core.loaded ≡ length self.now.core.recon.segments }
         ensures none { IfNone result ((src : ℕ) → may_load self.now.core src ≡ false) }
     {

@@ -5,7 +5,7 @@ use Rattle.sq_chunk.specs.ChunkValue.{ChunkValue, IsChunk}
 use Rattle.sq_exec.specs.Moving.{may_load, LoadsFrom}
 use Rattle.sq_node.specs.NodeState.{NodeState}
 use Rattle.sq_node.specs.declared.stepped.Stepped.TheVariants.{Did}
-use Rattle.sq_node.proofs.Keeps.{load_keeps}
+use Rattle.sq_node.proofs.Keeps.{load_keeps, none_to_load}
 use Rattle.sq_node.proofs.Settles.{after_load}
 use Rattle.sq_node.proofs.node.Node.step_load.Goals as goal
 
@@ -70,3 +70,6 @@ returns-else-note-clause-step c =
 
 pub returns-else-note-clause-holds : goal.returns-else-note-clause-holds
 returns-else-note-clause-holds c = load_keeps c.args.self.now Did _ (returns-else-note-clause-step c)
+
+pub returns-in_default-clause-nothing : goal.returns-in_default-clause-nothing
+returns-in_default-clause-nothing c = λ nothing. none_to_load c.args.self.now c.in_default.ensures.none c.in_default.ensures.chunks
