@@ -20,6 +20,7 @@ impl Node {
     pub fn step_job<R: Wait>(&mut self, rt: &R, fabric: &Fabric) -> Stepped
         requires { IsNodeOf fabric.now self.old }
         ensures step { JobStep self.old result self.new }
+        ensures of { IsNodeOf fabric.now self.new }
         ensures holds { KeepsAll self.old self.new }
     {
         if self.desk.reserve().is_err() || self.puller.reserve().is_err() {
@@ -56,6 +57,7 @@ impl Node {
     pub fn step_resume<R: Wait>(&mut self, rt: &R, fabric: &Fabric) -> Stepped
         requires { IsNodeOf fabric.now self.old }
         ensures step { ResumeStep self.old result self.new }
+        ensures of { IsNodeOf fabric.now self.new }
         ensures holds { KeepsAll self.old self.new }
     {
         if self.desk.reserve().is_err() {

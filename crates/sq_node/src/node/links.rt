@@ -7,6 +7,7 @@ ghost use Rattle.sq_exec.specs.Moving.{may_load};
 ghost use Rattle.sq_ranges.specs.OpeningValue.{OpeningValue};
 ghost use Rattle.sq_ranges.specs.Opening.{IsOpening};
 ghost use Rattle.sq_node_model.specs.Cores.{HasNoneToLoad};
+ghost use Rattle.sq_node.specs.FabricValue.{FabricValue};
 ghost use Rattle.sq_node.specs.NodeState.{IsNodeOf, node_value};
 ghost use Rattle.sq_node.specs.Holds.{HoldsUnder, KeepsAll};
 ghost use Rattle.sq_node.specs.Steps.{Sends, Receives, HasNoneToSend, HasNoneToReceive, CutStep, SendStep, RecvStep, LoadStep};
@@ -21,6 +22,7 @@ impl Node {
     /// Cuts a chunk for the first partition for which there is one to cut.
     pub fn step_cut(&mut self) -> Stepped
         ensures step { CutStep self.old result self.new }
+        ensures of { (fabric : FabricValue) → IsNodeOf fabric self.old → IsNodeOf fabric self.new }
         ensures holds { KeepsAll self.old self.new }
     {
         let Some(dst) = self.next_cut() else {
@@ -50,6 +52,7 @@ impl Node {
     pub fn step_send<R: Wait>(&mut self, rt: &R, fabric: &Fabric) -> Stepped
         requires { IsNodeOf fabric.now self.old }
         ensures step { SendStep fabric.now self.old result self.new }
+        ensures of { IsNodeOf fabric.now self.new }
         ensures holds { KeepsAll self.old self.new }
     {
         for number in 0..fabric.parts() {
@@ -82,6 +85,7 @@ impl Node {
     pub fn step_recv<R: Wait>(&mut self, rt: &R, fabric: &Fabric) -> Stepped
         requires { IsNodeOf fabric.now self.old }
         ensures step { RecvStep self.old result self.new }
+        ensures of { IsNodeOf fabric.now self.new }
         ensures holds { KeepsAll self.old self.new }
     {
         for number in 0..fabric.parts() {
@@ -110,6 +114,7 @@ impl Node {
     /// Loads the chunk of the first partition from which one came that can be loaded.
     pub fn step_load(&mut self) -> Stepped
         ensures step { LoadStep self.old result self.new }
+        ensures of { (fabric : FabricValue) → IsNodeOf fabric self.old → IsNodeOf fabric self.new }
         ensures holds { KeepsAll self.old self.new }
         ensures nothing { result ≡ Stepped.Nothing → (o : OpeningValue) → IsOpening o → HoldsUnder o self.old → (src : ℕ) → HasNoneToLoad o (node_value self.old) src }
     {

@@ -27,6 +27,7 @@ impl Node {
     pub fn step_request<R: Wait>(&mut self, rt: &R, fabric: &Fabric) -> Stepped
         requires { IsNodeOf fabric.now self.old }
         ensures step { RequestStep self.old result self.new }
+        ensures of { IsNodeOf fabric.now self.new }
         ensures holds { KeepsAll self.old self.new }
     {
         if self.core.reserve_begin().is_err() {
@@ -74,6 +75,7 @@ impl Node {
     pub fn step_complete(&mut self, fabric: &Fabric) -> Stepped
         requires { IsNodeOf fabric.now self.old }
         ensures step { CompleteStep self.old result self.new }
+        ensures of { IsNodeOf fabric.now self.new }
         ensures holds { KeepsAll self.old self.new }
     {
         if complete_first(fabric.trees(), &mut self.seats, &mut self.to_complete) {

@@ -21,6 +21,7 @@ impl Node {
     pub fn turn<R: Wait>(&mut self, rt: &R, fabric: &Fabric)
         requires { IsNodeOf fabric.now self.old }
         ensures steps { Turns fabric.now self.old self.new }
+        ensures of { IsNodeOf fabric.now self.new }
         ensures holds { KeepsAll self.old self.new }
     {
         self.send_pending(rt, fabric);
@@ -48,6 +49,7 @@ impl Node {
     pub fn idle(&mut self, fabric: &Fabric) -> bool
         requires { IsNodeOf fabric.now self.old }
         ensures looks { Looks self.old self.new }
+        ensures of { IsNodeOf fabric.now self.new }
         ensures holds { KeepsAll self.old self.new }
     {
         if !fabric.is_answered() || !self.is_at_rest(fabric) {

@@ -1,4 +1,6 @@
 use Rattle.std.proofs.Common.{rules, ◌∙◌}
+use Rattle.sq_node.specs.declared.stepped.Stepped.TheVariants.{Nothing}
+use Rattle.sq_node.proofs.Stays.{request_stays}
 use Rattle.sq_node.proofs.Keeps.{looks_keep}
 use Rattle.sq_node.proofs.Settles.{other_seats}
 use Rattle.sq_node.proofs.Looked.{settled_seats}
@@ -19,3 +21,6 @@ returns-clause-looks c = search rules
 
 pub returns-clause-holds : goal.returns-clause-holds
 returns-clause-holds c = looks_keep c.args.self.now _ (returns-clause-looks c)
+
+pub returns-clause-of : goal.returns-clause-of
+returns-clause-of c = request_stays c.args.fabric.now c.args.self.now Nothing _ (returns-clause-looks c) c.requires

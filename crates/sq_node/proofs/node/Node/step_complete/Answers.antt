@@ -5,6 +5,7 @@ use Rattle.sq_exec.specs.CoreValue.{loaded_at}
 use Rattle.sq_node.specs.NodeState.{NodeState}
 use Rattle.sq_node.specs.Looks.{SeatsLooked, HasNoneToComplete}
 use Rattle.sq_node.specs.declared.stepped.Stepped.TheVariants.{Did, Nothing}
+use Rattle.sq_node.proofs.Stays.{complete_stays}
 use Rattle.sq_node.proofs.Keeps.{complete_keeps}
 use Rattle.sq_node.proofs.Completing.{after_one, after_none, one_is_whole, none_of_all}
 use Rattle.sq_node.proofs.node.Node.step_complete.Goals as goal
@@ -62,3 +63,9 @@ returns-then-complete_first-clause-holds c = complete_keeps c.args.self.now Did 
 
 pub returns-clause-holds : goal.returns-clause-holds
 returns-clause-holds c = complete_keeps c.args.self.now Nothing _ (returns-clause-step c)
+
+pub returns-then-complete_first-clause-of : goal.returns-then-complete_first-clause-of
+returns-then-complete_first-clause-of c = complete_stays c.args.fabric.now c.args.self.now Did _ (returns-then-complete_first-clause-step c) c.requires
+
+pub returns-clause-of : goal.returns-clause-of
+returns-clause-of c = complete_stays c.args.fabric.now c.args.self.now Nothing _ (returns-clause-step c) c.requires

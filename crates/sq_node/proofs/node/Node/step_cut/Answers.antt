@@ -1,6 +1,7 @@
 use Rattle.sq_node.proofs.Settles.{after_cut, same_loads}
 use Rattle.sq_exec.specs.CoreValue.{CoreValue}
 use Rattle.std.proofs.Common.{ap, rules}
+use Rattle.sq_node.proofs.Stays.{cut_stays}
 use Rattle.sq_node.proofs.Keeps.{cut_keeps}
 use Rattle.sq_node.proofs.node.Node.step_cut.Goals as goal
 use Rattle.sq_node.proofs.node.Node.step_cut.Goals.{in-Ok, in-Err}
@@ -19,3 +20,6 @@ returns-clause-step c = search rules
 
 pub returns-clause-holds : goal.returns-clause-holds
 returns-clause-holds c = cut_keeps c.args.self.now _ _ (returns-clause-step c)
+
+pub returns-clause-of : goal.returns-clause-of
+returns-clause-of c = λ fabric of. cut_stays fabric c.args.self.now _ _ (returns-clause-step c) of

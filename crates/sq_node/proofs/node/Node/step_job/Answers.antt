@@ -8,6 +8,7 @@ use Rattle.sq_node_model.specs.Steps.{receipt_of, receipts_after}
 use Rattle.sq_node.specs.NodeState.{NodeState}
 use Rattle.sq_node.specs.Steps.{ClaimsAt}
 use Rattle.sq_node.specs.declared.stepped.Stepped.TheVariants.{Did}
+use Rattle.sq_node.proofs.Stays.{job_stays}
 use Rattle.sq_node.proofs.Keeps.{job_keeps}
 use Rattle.sq_node.proofs.Settles.{other_seats}
 use Rattle.sq_node.proofs.Served.{after_taken, submitted_position, receipt_same, settled_claims, pulled_claims}
@@ -90,3 +91,12 @@ returns-in-Moved-clause-step g c = search rules
 
 pub returns-in-Moved-clause-holds : goal.returns-in-Moved-clause-holds
 returns-in-Moved-clause-holds g c = job_keeps c.args.self.now Did _ (returns-in-Moved-clause-step g c)
+
+pub returns-in-Done-clause-of : goal.returns-in-Done-clause-of
+returns-in-Done-clause-of g c = job_stays c.args.fabric.now c.args.self.now Did _ (returns-in-Done-clause-step g c) c.requires
+
+pub returns-in-Waits-clause-of : goal.returns-in-Waits-clause-of
+returns-in-Waits-clause-of g c = job_stays c.args.fabric.now c.args.self.now Did _ (returns-in-Waits-clause-step g c) c.requires
+
+pub returns-in-Moved-clause-of : goal.returns-in-Moved-clause-of
+returns-in-Moved-clause-of g c = job_stays c.args.fabric.now c.args.self.now Did _ (returns-in-Moved-clause-step g c) c.requires

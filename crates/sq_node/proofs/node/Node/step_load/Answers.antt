@@ -5,6 +5,7 @@ use Rattle.sq_chunk.specs.ChunkValue.{ChunkValue, IsChunk}
 use Rattle.sq_exec.specs.Moving.{may_load, LoadsFrom}
 use Rattle.sq_node.specs.NodeState.{NodeState}
 use Rattle.sq_node.specs.declared.stepped.Stepped.TheVariants.{Did}
+use Rattle.sq_node.proofs.Stays.{load_stays}
 use Rattle.sq_node.proofs.Keeps.{load_keeps, none_to_load}
 use Rattle.sq_node.proofs.Settles.{after_load}
 use Rattle.sq_node.proofs.node.Node.step_load.Goals as goal
@@ -73,3 +74,9 @@ returns-else-note-clause-holds c = load_keeps c.args.self.now Did _ (returns-els
 
 pub returns-in_default-clause-nothing : goal.returns-in_default-clause-nothing
 returns-in_default-clause-nothing c = λ nothing. none_to_load c.args.self.now c.in_default.ensures.none c.in_default.ensures.chunks
+
+pub returns-then-note-clause-of : goal.returns-then-note-clause-of
+returns-then-note-clause-of c = λ fabric of. load_stays fabric c.args.self.now Did _ (returns-then-note-clause-step c) of
+
+pub returns-else-note-clause-of : goal.returns-else-note-clause-of
+returns-else-note-clause-of c = λ fabric of. load_stays fabric c.args.self.now Did _ (returns-else-note-clause-step c) of

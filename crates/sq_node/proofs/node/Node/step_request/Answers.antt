@@ -7,6 +7,7 @@ use Rattle.sq_exec.specs.Moving.{begun_core}
 use Rattle.sq_node.specs.NodeState.{NodeState}
 use Rattle.sq_node.specs.Looks.{OnlyLooked, SeatsLooked}
 use Rattle.sq_node.specs.declared.stepped.Stepped.TheVariants.{Did, Nothing}
+use Rattle.sq_node.proofs.Stays.{request_stays}
 use Rattle.sq_node.proofs.Keeps.{request_keeps}
 use Rattle.sq_node.proofs.Settles.{after_begun, same_loads, other_seats}
 use Rattle.sq_node.proofs.Looked.{settled_at, settled_begun, settled_looked, seats_looked_at, no_looks}
@@ -58,3 +59,9 @@ returns-then-begin-clause-step g c = search rules
 
 pub returns-then-begin-clause-holds : goal.returns-then-begin-clause-holds
 returns-then-begin-clause-holds g c = request_keeps c.args.self.now Did _ (returns-then-begin-clause-step g c)
+
+pub returns-then-begin-clause-of : goal.returns-then-begin-clause-of
+returns-then-begin-clause-of g c = request_stays c.args.fabric.now c.args.self.now Did _ (returns-then-begin-clause-step g c) c.requires
+
+pub returns-clause-of : goal.returns-clause-of
+returns-clause-of g c = request_stays c.args.fabric.now c.args.self.now Nothing _ (returns-clause-step g c) c.requires

@@ -6,6 +6,7 @@ use Rattle.sq_store.specs.StoreValue.{log_length}
 use Rattle.sq_node_model.specs.Steps.{receipt_of, receipts_after}
 use Rattle.sq_node.specs.NodeState.{NodeState}
 use Rattle.sq_node.specs.declared.stepped.Stepped.TheVariants.{Did}
+use Rattle.sq_node.proofs.Stays.{resume_stays}
 use Rattle.sq_node.proofs.Keeps.{resume_keeps}
 use Rattle.sq_node.proofs.Served.{after_resumed, resumed_position, receipt_same}
 use Rattle.sq_node.proofs.node.Node.step_resume.Goals as goal
@@ -48,3 +49,9 @@ returns-in-Moved-clause-step g c = search rules
 
 pub returns-in-Moved-clause-holds : goal.returns-in-Moved-clause-holds
 returns-in-Moved-clause-holds g c = resume_keeps c.args.self.now Did _ (returns-in-Moved-clause-step g c)
+
+pub returns-in-Done-clause-of : goal.returns-in-Done-clause-of
+returns-in-Done-clause-of g c = resume_stays c.args.fabric.now c.args.self.now Did _ (returns-in-Done-clause-step g c) c.requires
+
+pub returns-in-Moved-clause-of : goal.returns-in-Moved-clause-of
+returns-in-Moved-clause-of g c = resume_stays c.args.fabric.now c.args.self.now Did _ (returns-in-Moved-clause-step g c) c.requires
