@@ -155,6 +155,7 @@ impl<S: FamilyStore> PartCore<S> {
         ensures waiting { txns_of result.waiting.arrivals ≡ self.core.waiting }
         ensures inboxes { result.inboxes.items ≡ self.core.inboxes }
         ensures outs { map (λ out. out.link) result.outs.items ≡ self.core.outs }
+        ensures kept { (arrivals : List Arrival) × IsCore self.core arrivals }
     {
         let PartCore {
             store,

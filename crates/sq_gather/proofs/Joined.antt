@@ -9,7 +9,8 @@ use Rattle.sq_status.specs.declared.view.View.{View}
 use Rattle.sq_status.specs.View.{took}
 use Rattle.sq_status.specs.Seat.{SeatValue}
 use Rattle.sq_placed.proofs.Lists.{stands_at}
-use Rattle.sq_gather.specs.Trees.{AwaitOwners, AreJoined, AreWhole, AreTreesOf, AreClosed, view_of, view_with}
+use Rattle.sq_node.specs.NodeState.{views_of}
+use Rattle.sq_gather.specs.Trees.{AwaitOwners, AreJoined, AreWhole, AreTreesOf, AreClosed, view_with}
 
 pub given_stays : (view : View) (views : List View) → (fold took view views).given ≡ view.given
 given_stays view [] = refl
@@ -38,14 +39,14 @@ joined_seat first owners joined is seg seat there =
 pub joined_whole : (first : List SeatValue) (owners : List (List SeatValue)) (joined : List SeatValue) → AreJoined first owners joined → AwaitOwners (length owners) first → AreWhole joined
 joined_whole first owners joined is await seg seat there =
     let was = joined_seat first owners joined is seg seat there in
-    let views : List View = map (λ (seats : List SeatValue). view_of seats seg) owners in
+    let views : List View = map (λ (seats : List SeatValue). views_of seats seg) owners in
     omega (
       arith,
       ap (λ (v : View). v.given) was.2,
       ap (λ (v : View). v.taken) was.2,
       given_stays was.0.view views,
       taken_grows was.0.view views,
-      length-map owners (λ (seats : List SeatValue). view_of seats seg),
+      length-map owners (λ (seats : List SeatValue). views_of seats seg),
       await seg was.0 was.1,
     )
 

@@ -14,7 +14,9 @@ use Rattle.sq_status.specs.Seat.{SeatValue}
 use Rattle.sq_pull.specs.Seats.{AreSeatsOf}
 use Rattle.sq_node_model.proofs.Members.{set_stood, set_kept, set_new}
 use Rattle.sq_placed.proofs.Lists.{stands_at}
-use Rattle.sq_gather.specs.Trees.{AreFirst, AreJoined, view_of, view_with}
+use Rattle.sq_node.specs.FabricValue.{AreFirst}
+use Rattle.sq_node.specs.NodeState.{views_of}
+use Rattle.sq_gather.specs.Trees.{AreJoined, view_with}
 use Rattle.sq_gather.proofs.Lists.{push_kept, push_new}
 
 abbrev with_seat : SeatValue → SeatValue → SeatValue
@@ -116,7 +118,7 @@ joined_more old mid new owners seats before more =
     record {
       count = more.count ∙ before.count;
       each = λ seg seat there.
-          let f : List SeatValue → View = λ seats. view_of seats seg in
+          let f : List SeatValue → View = λ seats. views_of seats seg in
           let views : view_with seat.view (owners ++ seats ∷ []) seg ≡ took (view_with seat.view owners seg) (f seats)
           = ap (fold took seat.view) (map-append f owners (seats ∷ [])) ∙ fold-append took seat.view (map f owners) (f seats ∷ []) in
           more.each seg (record { tree = seat.tree; view = view_with seat.view owners seg }) (before.each seg seat there) ∙ (λ k. Some (record { tree = seat.tree; view = sym views k }));

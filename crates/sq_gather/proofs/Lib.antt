@@ -1,5 +1,11 @@
-pub mod Linked
-pub mod Joined
+pub mod Adding
 pub mod Closing
+pub mod Filling
+pub mod Joined
 pub mod Joining
+pub mod Linked
+pub mod LinksFrom
 pub mod Lists
+pub mod Placing
+pub mod Putting
+pub mod Whole

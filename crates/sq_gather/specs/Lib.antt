@@ -1,3 +1,6 @@
+pub mod Ends
+pub mod Gathered
+pub mod GatheringValue
 pub mod LinkEnds
 pub mod Links
 pub mod Trees

@@ -1,21 +1,13 @@
 -- Trees whose seats are joined into the ones that they were opened with, and which are then closed.
-use Rattle.std.specs.Prelude.{◌≡◌, ℕ, ◌+◌, true, false, List, [], ◌∷◌, length, map, fold, slice_get, slice_index_or, Some}
-use Rattle.std.specs.Option.{option_map_or}
+use Rattle.std.specs.Prelude.{◌≡◌, ℕ, ◌+◌, List, [], ◌∷◌, length, map, fold, slice_get, slice_index_or, Some}
 use Rattle.atomic_table.specs.Seated.{TableId}
 use Rattle.sq_tree.specs.declared.status.Status.{Status}
 use Rattle.sq_status.specs.declared.view.View.{View}
-use Rattle.sq_status.specs.View.{fresh, took}
+use Rattle.sq_status.specs.View.{took}
 use Rattle.sq_status.specs.Seat.{SeatValue}
 use Rattle.sq_status.specs.Rule.{IsTreeOf}
 use Rattle.sq_pull.specs.Seats.{AreSeatsOf}
-
--- the seats are those that their trees were opened with
-abbrev pub AreFirst : List SeatValue → Type 0
-AreFirst seats = (seg : ℕ) (seat : SeatValue) → slice_get seats seg ≡ Some seat → seat.view.first ≡ true
-
--- what the seat of a segment has done and seen
-abbrev pub view_of : List SeatValue → ℕ → View
-view_of seats seg = option_map_or (λ seat. seat.view) (slice_get seats seg) (fresh false false)
+use Rattle.sq_node.specs.NodeState.{views_of}
 
 -- each owner has a seat of each of these trees
 abbrev pub AllAreSeatsOf : List TableId → List (List SeatValue) → Type 0
@@ -27,7 +19,7 @@ AwaitOwners count seats = (seg : ℕ) (seat : SeatValue) → slice_get seats seg
 
 -- the view of a first seat once the seats of a segment of these owners were joined into it, in their order
 abbrev pub view_with : View → List (List SeatValue) → ℕ → View
-view_with view owners seg = fold took view (map (λ seats. view_of seats seg) owners)
+view_with view owners seg = fold took view (map (λ seats. views_of seats seg) owners)
 
 -- the seats of these owners were joined into the first seats
 pub record AreJoined (old : List SeatValue) (owners : List (List SeatValue)) (new : List SeatValue) : Type 0 where

@@ -1,10 +1,16 @@
 //! Gathering: once the threads of a run are done, its trees and its links are closed, and what they left is put together.
 #![tactic(auto)]
 
+mod ends;
+mod gathered;
+mod gathering;
 mod link_ends;
 mod links;
+mod run;
 mod trees;
 
+pub use gathered::Gathered;
 pub use link_ends::LinkEnds;
 pub use links::{ClosedLink, close_link, close_links};
+pub use run::{Ungathered, gather};
 pub use trees::close_trees;

@@ -91,6 +91,13 @@ impl Desk {
         }
     }
 
+    /// The receipts, in the order in which they were written.
+    pub(crate) fn receipts(&self) -> &[Receipt]
+        ensures { result.now ≡ self.now.receipts }
+    {
+        &self.receipts
+    }
+
     /// Whether no job is left to post on.
     pub(crate) fn is_sent(&self) -> bool
         ensures { IsTrue result ↔ (self.now.posts ≡ []) }

@@ -1,7 +1,8 @@
 // Turns of a node.
-ghost use Rattle.std.specs.Prelude.{◌≡◌, ◌<◌, length, map};
+ghost use Rattle.std.specs.Prelude.{◌≡◌, ◌<◌, List, length, map};
 ghost use Rattle.sq_status.specs.Seat.{IsSameSeat};
-ghost use Rattle.sq_waiting.specs.Waiting.{txns_of};
+ghost use Rattle.sq_waiting.specs.Waiting.{Arrival, txns_of};
+ghost use Rattle.sq_exec.specs.Kept.{IsCore};
 ghost use Rattle.sq_pull.specs.Seats.{AreSeatsOf, StepsAt};
 ghost use Rattle.sq_node.specs.NodeState.{IsNodeOf};
 ghost use Rattle.sq_node.specs.Holds.{KeepsAll};
@@ -10,6 +11,7 @@ ghost use Rattle.sq_node.specs.Steps.{Turns, Looks};
 
 use super::{Node, NodeParts};
 use crate::fabric::Fabric;
+use crate::receipt::Receipt;
 use sq_plan::PartId;
 use sq_ranges::Range;
 use sq_status::{StatusTree, TreeSeat};
@@ -66,6 +68,13 @@ impl Node {
         )
     }
 
+    /// The receipts of the jobs that it answered, in the order in which they were written.
+    pub fn receipts(&self) -> &[Receipt]
+        ensures { result.now ≡ self.now.receipts }
+    {
+        self.desk.receipts()
+    }
+
     /// What it had.
     pub fn into_parts(self) -> NodeParts
         ensures part { result.part ≡ self.core.part }
@@ -77,6 +86,7 @@ impl Node {
         ensures sends { result.sends.items ≡ self.sends }
         ensures recvs { result.recvs.items ≡ self.recvs }
         ensures receipts { result.receipts.items ≡ self.receipts }
+        ensures kept { (arrivals : List Arrival) × IsCore self.core arrivals }
     {
         let Node {
             core,

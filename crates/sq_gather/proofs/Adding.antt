@@ -1,0 +1,97 @@
+-- What nodes left, added one after another.
+use Rattle.std.proofs.Common.{◌≡◌, ℕ, suc, ◌+◌, ◌<◌, List, [], ◌∷◌, ◌++◌, length, map, sum_by, refl, sym, ap, ◌∙◌, subst, append_assoc, append-nil, length-append, arith}
+use Rattle.std.specs.Prelude.{slice_get, Some}
+use Rattle.std.specs.List.{flat_map}
+use Rattle.std.proofs.lemmas.List.Sums.{sum_by-cons}
+use Rattle.sq_link.specs.Values.{LinkValue}
+use Rattle.sq_status.specs.Seat.{SeatValue}
+use Rattle.sq_node_model.specs.NodeValue.{ReceiptValue}
+use Rattle.sq_store.specs.StoreValue.{StoreValue}
+use Rattle.sq_node.specs.FabricValue.{FabricValue, IsFabric}
+use Rattle.sq_node.specs.NodeState.{NodeState, IsNodeOf}
+use Rattle.sq_gather.specs.GatheringValue.{GatheringValue, KeepsRoom, IsAddable, HasRoomFor, AddsNode, AddsNodes}
+use Rattle.sq_gather.proofs.Filling.{AreFilled, sends_apart, recvs_apart, filled_more}
+
+pub adds_none : (old : GatheringValue) → AddsNodes old [] old
+adds_none old = refl
+
+pub adds_more : (old mid new : GatheringValue) (nodes : List NodeState) (node : NodeState) → AddsNodes old nodes mid → AddsNode mid node new → AddsNodes old (nodes ++ node ∷ []) new
+adds_more old mid new [] node before more = (new, subst (λ (g : GatheringValue). AddsNode g node new) before more, refl)
+adds_more old mid new (first ∷ nodes) node before more = (before.0, before.1, adds_more before.0 mid new nodes node before.2 more)
+
+pub ends_kept : (old : GatheringValue) (node : NodeState) (new : GatheringValue) → AddsNode old node new → length new.ends ≡ length old.ends
+ends_kept old node new adds = adds.destinations.count ∙ adds.sources.count
+
+-- there is room for the others where there was room for all
+pub room_left : (old : GatheringValue) (node : NodeState) (nodes left : List NodeState) (new : GatheringValue) → AddsNode old node new → left ≡ node ∷ nodes → HasRoomFor old left → HasRoomFor new nodes
+room_left old node nodes left new adds is room =
+    let sums : sum_by (λ (n : NodeState). length n.receipts) left ≡ length node.receipts + sum_by (λ (n : NodeState). length n.receipts) nodes = ap (λ (list : List NodeState). sum_by (λ (n : NodeState). length n.receipts) list) is ∙ sum_by-cons (λ (n : NodeState). length n.receipts) node nodes in
+    record {
+      stores = omega (arith, room.stores, ap length is, ap length adds.stores, length-append old.stores (node.core.store ∷ []), adds.room.stores);
+      receipts = omega (arith, room.receipts, sums, ap length adds.receipts, length-append old.receipts node.receipts, adds.room.receipts);
+      owners = omega (arith, room.owners, ap length is, ap length adds.owners, length-append old.owners (node.seats ∷ []), adds.room.owners);
+    }
+
+-- what comes of adding them all
+pub record HasAdded (old : GatheringValue) (nodes : List NodeState) (new : GatheringValue) : Type 0 where
+  pub stores : new.stores ≡ old.stores ++ map (λ (node : NodeState). node.core.store) nodes
+  pub receipts : new.receipts ≡ old.receipts ++ flat_map (λ (node : NodeState). node.receipts) nodes
+  pub owners : new.owners ≡ old.owners ++ map (λ (node : NodeState). node.seats) nodes
+  pub room : KeepsRoom old.room new.room
+
+pub has_added : (old : GatheringValue) (nodes : List NodeState) (new : GatheringValue) → AddsNodes old nodes new → HasAdded old nodes new
+has_added old [] new adds = record {
+  stores = ap (λ (g : GatheringValue). g.stores) adds ∙ sym (append-nil old.stores);
+  receipts = ap (λ (g : GatheringValue). g.receipts) adds ∙ sym (append-nil old.receipts);
+  owners = ap (λ (g : GatheringValue). g.owners) adds ∙ sym (append-nil old.owners);
+  room = record {
+    stores = omega (arith, ap (λ (g : GatheringValue). g.room.stores) adds);
+    receipts = omega (arith, ap (λ (g : GatheringValue). g.room.receipts) adds);
+    owners = omega (arith, ap (λ (g : GatheringValue). g.room.owners) adds);
+    links = omega (arith, ap (λ (g : GatheringValue). g.room.links) adds);
+    trees = ap (λ (g : GatheringValue). g.room.trees) adds;
+  };
+}
+has_added old (node ∷ nodes) new adds =
+    let one = adds.1 in
+    let rest = has_added adds.0 nodes new adds.2 in
+    record {
+      stores = rest.stores ∙ ap (λ (list : List StoreValue). list ++ map (λ (node : NodeState). node.core.store) nodes) one.stores ∙ append_assoc old.stores (node.core.store ∷ []) (map (λ (node : NodeState). node.core.store) nodes);
+      receipts = rest.receipts ∙ ap (λ (list : List ReceiptValue). list ++ flat_map (λ (node : NodeState). node.receipts) nodes) one.receipts
+          ∙ append_assoc old.receipts node.receipts (flat_map (λ (node : NodeState). node.receipts) nodes);
+      owners = rest.owners ∙ ap (λ (list : List (List SeatValue)). list ++ map (λ (node : NodeState). node.seats) nodes) one.owners ∙ append_assoc old.owners (node.seats ∷ []) (map (λ (node : NodeState). node.seats) nodes);
+      room = record {
+        stores = omega (arith, one.room.stores, rest.room.stores);
+        receipts = omega (arith, one.room.receipts, rest.room.receipts);
+        owners = omega (arith, one.room.owners, rest.room.owners);
+        links = omega (arith, one.room.links, rest.room.links);
+        trees = rest.room.trees ∙ one.room.trees;
+      };
+    }
+
+-- a node of the run can be added
+pub addable : (fabric : FabricValue) → IsFabric fabric → (node : NodeState) → IsNodeOf fabric node → (links : ℕ) → links ≡ length fabric.links → IsAddable links node
+addable fabric is node of links count =
+    record {
+      all_sends = of.all_sends ∙ sym of.parts;
+      all_recvs = of.all_recvs ∙ sym of.parts;
+      sends = λ other end there. let ends = (of.sends.ends other end there).exists in omega arith;
+      sends_apart = sends_apart fabric is node of;
+      recvs = λ other end there. let ends = (of.recvs.ends other end there).exists in omega arith;
+      recvs_apart = recvs_apart fabric is node of;
+    }
+
+-- the ends of all nodes are there once all are added
+pub all_filled : (fabric : FabricValue) → IsFabric fabric → ((i : ℕ) (link : LinkValue) → slice_get fabric.links i ≡ Some link → (link.src < fabric.parts) × (link.dst < fabric.parts)) → (done nodes : List NodeState)
+    → ((k : ℕ) (node : NodeState) → slice_get nodes k ≡ Some node → IsNodeOf fabric node × (node.core.part ≡ length done + k)) → (old new : GatheringValue) → AddsNodes old nodes new → AreFilled fabric.links done old.ends
+    → AreFilled fabric.links (done ++ nodes) new.ends
+all_filled fabric is below done [] each old new adds filled =
+    subst (λ (list : List NodeState). AreFilled fabric.links list new.ends) (sym (append-nil done)) (subst (λ (g : GatheringValue). AreFilled fabric.links done g.ends) (sym adds) filled)
+all_filled fabric is below done (node ∷ nodes) each old new adds filled =
+    let one = adds.1 in
+    let first = each 0 node refl in
+    let more : AreFilled fabric.links (done ++ node ∷ []) adds.0.ends
+    = filled_more fabric is node first.0 done (omega (arith, first.1)) below old.ends one.between adds.0.ends filled one.sources one.destinations in
+    subst (λ (list : List NodeState). AreFilled fabric.links list new.ends) (append_assoc done (node ∷ []) nodes)
+    (all_filled fabric is below (done ++ node ∷ []) nodes
+    (λ k other there. let at = each (suc k) other there in (at.0, omega (arith, at.1, length-append done (node ∷ [])))) adds.0 new adds.2 more)

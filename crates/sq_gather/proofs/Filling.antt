@@ -1,0 +1,209 @@
+-- What the nodes left of the links, node by node.
+use Rattle.std.proofs.Common.{◌≡◌, ℕ, ◌+◌, ◌<◌, ◌≤◌, List, [], ◌∷◌, ◌++◌, length, Option, Some, None, refl, sym, ap, ◌∙◌, subst, ⊎_elim, inl, inr, arith}
+use Rattle.std.specs.Prelude.{◌⊎◌, slice_get, slice_index_or, option_map}
+use Rattle.std.proofs.lemmas.Bool.{cases_lt}
+use Rattle.std.proofs.lemmas.List.{get_or_past}
+use Rattle.std.proofs.lemmas.Option.{same_Some, slice_get_within}
+use Rattle.sq_exec.specs.OutLink.{new_out_link}
+use Rattle.sq_exec.specs.CoreValue.{out_at, inbox_at}
+use Rattle.sq_link.specs.Values.{LinkValue}
+use Rattle.sq_placed.proofs.Lists.{stands_at}
+use Rattle.sq_node_model.proofs.Members.{push_stood}
+use Rattle.sq_node.specs.declared.ends.SendEnd.{SendEnd}
+use Rattle.sq_node.specs.declared.ends.RecvEnd.{RecvEnd}
+use Rattle.sq_node.specs.Ends.{no_link, link_from, send_end, recv_end}
+use Rattle.sq_node.specs.FabricValue.{FabricValue, IsFabric, ends_of}
+use Rattle.sq_node.specs.NodeState.{NodeState, IsNodeOf}
+use Rattle.sq_gather.specs.LinkEnds.{LinkEndsValue}
+use Rattle.sq_gather.specs.Ends.{WasPut, AreApart, SourcesPut, DestinationsPut, send_link, recv_link, with_source, with_destination}
+use Rattle.sq_gather.proofs.LinksFrom.{stands_from, found_from}
+
+-- the node's end of the link to this partition is there
+pub record HasSource (node : NodeState) (dst i : ℕ) (left : LinkEndsValue) : Type 0 where
+  pub end : SendEnd
+  pub there : send_end node.sends dst ≡ Some end
+  pub here : end.link ≡ i
+  pub sender : left.sender ≡ Some end.pass
+  pub notes : left.notes ≡ (out_at node.core dst).notes
+  pub outbox : left.outbox ≡ (out_at node.core dst).outbox
+
+-- the node's end of the link from this partition is there
+pub record HasDestination (node : NodeState) (src i : ℕ) (left : LinkEndsValue) : Type 0 where
+  pub end : RecvEnd
+  pub there : recv_end node.recvs src ≡ Some end
+  pub here : end.link ≡ i
+  pub receiver : left.receiver ≡ Some end.pass
+  pub inbox : left.inbox ≡ inbox_at node.core src
+
+-- the ends of these nodes are there
+pub record AreFilled (links : List LinkValue) (nodes : List NodeState) (ends : List LinkEndsValue) : Type 0 where
+  pub count : length ends ≡ length links
+  pub room : (i : ℕ) (link : LinkValue) (left : LinkEndsValue) → slice_get links i ≡ Some link → slice_get ends i ≡ Some left → link.capacity + 2 ≤ left.room
+  pub source : (i : ℕ) (link : LinkValue) (left : LinkEndsValue) (node : NodeState) → slice_get links i ≡ Some link → slice_get ends i ≡ Some left → slice_get nodes link.src ≡ Some node → HasSource node link.dst i left
+  pub destination : (i : ℕ) (link : LinkValue) (left : LinkEndsValue) (node : NodeState) → slice_get links i ≡ Some link → slice_get ends i ≡ Some left → slice_get nodes link.dst ≡ Some node → HasDestination node link.src i left
+
+none_or_some : {X : Type 0} (found : Option X) (x : X) → found ≡ None → found ≡ Some x → ⊥
+none_or_some found x none some = cc
+
+-- what reads as something stands within the list
+within : {X : Type 0} (xs : List (Option X)) (k : ℕ) (x : X) → slice_index_or xs k None ≡ Some x → k < length xs
+within xs k x there =
+    ⊎_elim (λ (low : k < length xs). low) (λ (past : length xs ≤ k). absurd (none_or_some (slice_index_or xs k None) x (get_or_past xs k None past) there)) (cases_lt k (length xs))
+
+end_of : {X : Type 0} (link_of : X → ℕ) (found : Option X) (i : ℕ) → option_map link_of found ≡ Some i → (end : X) × (found ≡ Some end) × (link_of end ≡ i)
+end_of link_of None i is = absurd cc
+end_of link_of (Some end) i is = (end, refl, same_Some (link_of end) i is)
+
+module _ (fabric : FabricValue) (is : IsFabric fabric) (node : NodeState) (of : IsNodeOf fabric node) where
+  -- a node's end is of the link that leads from there to the end's partition
+  pub sends_from : (dst : ℕ) (end : SendEnd) → send_end node.sends dst ≡ Some end → link_from fabric.links node.core.part dst ≡ Some end.link
+  sends_from dst end there = sym (of.sends.which dst (within node.sends dst end there)) ∙ ap (option_map send_link) there
+
+  pub recvs_from : (src : ℕ) (end : RecvEnd) → recv_end node.recvs src ≡ Some end → link_from fabric.links src node.core.part ≡ Some end.link
+  recvs_from src end there = sym (of.recvs.which src (within node.recvs src end there)) ∙ ap (option_map recv_link) there
+
+  pub sends_apart : AreApart send_link node.sends
+  sends_apart a b one other one_there other_there same =
+      let found = found_from ends_of fabric.recon.ranges fabric.links no_link is.links node.core.part a one.link (sends_from a one one_there) in
+      let again = found_from ends_of fabric.recon.ranges fabric.links no_link is.links node.core.part b other.link (sends_from b other other_there) in
+      sym found.3 ∙ ap (λ (l : LinkValue). l.dst) (same_Some found.0 again.0 (sym found.1 ∙ ap (slice_get fabric.links) same ∙ again.1)) ∙ again.3
+
+  pub recvs_apart : AreApart recv_link node.recvs
+  recvs_apart a b one other one_there other_there same =
+      let found = found_from ends_of fabric.recon.ranges fabric.links no_link is.links a node.core.part one.link (recvs_from a one one_there) in
+      let again = found_from ends_of fabric.recon.ranges fabric.links no_link is.links b node.core.part other.link (recvs_from b other other_there) in
+      sym found.2 ∙ ap (λ (l : LinkValue). l.src) (same_Some found.0 again.0 (sym found.1 ∙ ap (slice_get fabric.links) same ∙ again.1)) ∙ again.2
+
+  -- the end of a link that leads from there is there
+  pub send_there : (i : ℕ) (link : LinkValue) → slice_get fabric.links i ≡ Some link → link.src ≡ node.core.part → link.dst < fabric.parts → (end : SendEnd) × (send_end node.sends link.dst ≡ Some end) × (end.link ≡ i)
+  send_there i link there src below =
+      end_of send_link (send_end node.sends link.dst) i
+      (of.sends.which link.dst (let count = of.all_sends in omega arith) ∙ ap (λ (src : ℕ). link_from fabric.links src link.dst) (sym src)
+      ∙ stands_from ends_of fabric.recon.ranges fabric.links no_link is.links i link there)
+
+  pub recv_there : (i : ℕ) (link : LinkValue) → slice_get fabric.links i ≡ Some link → link.dst ≡ node.core.part → link.src < fabric.parts → (end : RecvEnd) × (recv_end node.recvs link.src ≡ Some end) × (end.link ≡ i)
+  recv_there i link there dst below =
+      end_of recv_link (recv_end node.recvs link.src) i
+      (of.recvs.which link.src (let count = of.all_recvs in omega arith) ∙ ap (λ (dst : ℕ). link_from fabric.links link.src dst) (sym dst)
+      ∙ stands_from ends_of fabric.recon.ranges fabric.links no_link is.links i link there)
+
+  -- an end of the node is of a link that leads from its partition
+  put_from : (i : ℕ) (was now : LinkEndsValue) (link : LinkValue) → slice_get fabric.links i ≡ Some link → WasPut send_link with_source node.sends node.core.outs new_out_link 0 i was now → link.src ≡ node.core.part
+  put_from i was now link there put =
+      let found = found_from ends_of fabric.recon.ranges fabric.links no_link is.links node.core.part put.other put.end.link (sends_from put.other put.end put.there) in
+      ap (λ (l : LinkValue). l.src) (same_Some link found.0 (sym there ∙ ap (slice_get fabric.links) (sym put.here) ∙ found.1)) ∙ found.2
+
+  put_to : (i : ℕ) (was now : LinkEndsValue) (link : LinkValue) → slice_get fabric.links i ≡ Some link → WasPut recv_link with_destination node.recvs node.core.inboxes None 0 i was now → link.dst ≡ node.core.part
+  put_to i was now link there put =
+      let found = found_from ends_of fabric.recon.ranges fabric.links no_link is.links put.other node.core.part put.end.link (recvs_from put.other put.end put.there) in
+      ap (λ (l : LinkValue). l.dst) (same_Some link found.0 (sym there ∙ ap (slice_get fabric.links) (sym put.here) ∙ found.1)) ∙ found.3
+
+  -- a destination's end leaves the source's as it is, and the other way round
+  keep_source : (other : NodeState) (dst i : ℕ) (was now : LinkEndsValue) → HasSource other dst i was → WasPut recv_link with_destination node.recvs node.core.inboxes None 0 i was now ⊎ (now ≡ was) → HasSource other dst i now
+  keep_source other dst i was now has (inl put) = record {
+    end = has.end;
+    there = has.there;
+    here = has.here;
+    sender = ap (λ (e : LinkEndsValue). e.sender) put.is ∙ has.sender;
+    notes = ap (λ (e : LinkEndsValue). e.notes) put.is ∙ has.notes;
+    outbox = ap (λ (e : LinkEndsValue). e.outbox) put.is ∙ has.outbox;
+  }
+  keep_source other dst i was now has (inr same) = subst (HasSource other dst i) (sym same) has
+
+  keep_destination : (other : NodeState) (src i : ℕ) (was now : LinkEndsValue) → HasDestination other src i was → WasPut send_link with_source node.sends node.core.outs new_out_link 0 i was now ⊎ (now ≡ was) → HasDestination other src i now
+  keep_destination other src i was now has (inl put) = record {
+    end = has.end;
+    there = has.there;
+    here = has.here;
+    receiver = ap (λ (e : LinkEndsValue). e.receiver) put.is ∙ has.receiver;
+    inbox = ap (λ (e : LinkEndsValue). e.inbox) put.is ∙ has.inbox;
+  }
+  keep_destination other src i was now has (inr same) = subst (HasDestination other src i) (sym same) has
+
+  source_room : (i : ℕ) (was now : LinkEndsValue) → WasPut send_link with_source node.sends node.core.outs new_out_link 0 i was now ⊎ (now ≡ was) → now.room ≡ was.room
+  source_room i was now (inl put) = ap (λ (e : LinkEndsValue). e.room) put.is
+  source_room i was now (inr same) = ap (λ (e : LinkEndsValue). e.room) same
+
+  destination_room : (i : ℕ) (was now : LinkEndsValue) → WasPut recv_link with_destination node.recvs node.core.inboxes None 0 i was now ⊎ (now ≡ was) → now.room ≡ was.room
+  destination_room i was now (inl put) = ap (λ (e : LinkEndsValue). e.room) put.is
+  destination_room i was now (inr same) = ap (λ (e : LinkEndsValue). e.room) same
+
+  -- one more node's ends are there
+  module _ (nodes : List NodeState) (next : node.core.part ≡ length nodes) (below : (i : ℕ) (link : LinkValue) → slice_get fabric.links i ≡ Some link → (link.src < fabric.parts) × (link.dst < fabric.parts)) (old between new : List LinkEndsValue)
+      (so_far : AreFilled fabric.links nodes old) (sources : SourcesPut node.sends node.core.outs 0 old between) (destinations : DestinationsPut node.recvs node.core.inboxes 0 between new) where
+    -- what became of the ends of a link
+    record Became (i : ℕ) (left : LinkEndsValue) : Type 0 where
+      was : LinkEndsValue
+      was_there : slice_get old i ≡ Some was
+      mid : LinkEndsValue
+      mid_there : slice_get between i ≡ Some mid
+      from : WasPut send_link with_source node.sends node.core.outs new_out_link 0 i was mid ⊎ (mid ≡ was)
+      to : WasPut recv_link with_destination node.recvs node.core.inboxes None 0 i mid left ⊎ (left ≡ mid)
+
+    became : (i : ℕ) (left : LinkEndsValue) → slice_get new i ≡ Some left → Became i left
+    became i left there =
+        let low = slice_get_within new i left there in
+        let was : (e : LinkEndsValue) × (slice_get old i ≡ Some e) = stands_at old i (omega (arith, destinations.count, sources.count)) in
+        let mid = sources.each i was.0 was.1 in
+        let now = destinations.each i mid.0 mid.1 in
+        let is : now.0 ≡ left = same_Some now.0 left (sym now.1 ∙ there) in
+        record {
+          was = was.0;
+          was_there = was.1;
+          mid = mid.0;
+          mid_there = mid.1;
+          from = mid.2;
+          to = subst (λ (e : LinkEndsValue). WasPut recv_link with_destination node.recvs node.core.inboxes None 0 i mid.0 e ⊎ (e ≡ mid.0)) is now.2;
+        }
+
+    source_new : (i : ℕ) (link : LinkValue) (left : LinkEndsValue) → slice_get fabric.links i ≡ Some link → Became i left → link.src ≡ length nodes → HasSource node link.dst i left
+    source_new i link left there b src =
+        let end = send_there i link there (src ∙ sym next) (below i link there).1 in
+        let all = sources.all link.dst end.0 b.was (omega arith) end.1 (ap (slice_get old) end.2 ∙ b.was_there) in
+        let is : b.mid ≡ with_source b.was end.0 (out_at node.core link.dst) = same_Some b.mid (with_source b.was end.0 (out_at node.core link.dst)) (sym b.mid_there ∙ ap (slice_get between) (sym end.2) ∙ all) in
+        keep_source node link.dst i b.mid left
+        (record { end = end.0; there = end.1; here = end.2; sender = ap (λ (e : LinkEndsValue). e.sender) is; notes = ap (λ (e : LinkEndsValue). e.notes) is; outbox = ap (λ (e : LinkEndsValue). e.outbox) is })
+        b.to
+
+    source_old : (i : ℕ) (link : LinkValue) (left : LinkEndsValue) (other : NodeState) → slice_get fabric.links i ≡ Some link → Became i left → slice_get nodes link.src ≡ Some other → HasSource other link.dst i left
+    source_old i link left other there b at =
+        let has = so_far.source i link b.was other there b.was_there at in
+        let low = slice_get_within nodes link.src other at in
+        ⊎_elim
+        (λ (put : WasPut send_link with_source node.sends node.core.outs new_out_link 0 i b.was b.mid). absurd (omega (arith, put_from i b.was b.mid link there put)))
+        (λ (same : b.mid ≡ b.was). keep_source other link.dst i b.mid left (subst (HasSource other link.dst i) (sym same) has) b.to)
+        b.from
+
+    destination_new : (i : ℕ) (link : LinkValue) (left : LinkEndsValue) → slice_get fabric.links i ≡ Some link → slice_get new i ≡ Some left → Became i left → link.dst ≡ length nodes → HasDestination node link.src i left
+    destination_new i link left there left_there b dst =
+        let end = recv_there i link there (dst ∙ sym next) (below i link there).0 in
+        let all = destinations.all link.src end.0 b.mid (omega arith) end.1 (ap (slice_get between) end.2 ∙ b.mid_there) in
+        let is : left ≡ with_destination b.mid end.0 (inbox_at node.core link.src) = same_Some left (with_destination b.mid end.0 (inbox_at node.core link.src)) (sym left_there ∙ ap (slice_get new) (sym end.2) ∙ all) in
+        record { end = end.0; there = end.1; here = end.2; receiver = ap (λ (e : LinkEndsValue). e.receiver) is; inbox = ap (λ (e : LinkEndsValue). e.inbox) is }
+
+    destination_old : (i : ℕ) (link : LinkValue) (left : LinkEndsValue) (other : NodeState) → slice_get fabric.links i ≡ Some link → Became i left → slice_get nodes link.dst ≡ Some other → HasDestination other link.src i left
+    destination_old i link left other there b at =
+        let has = keep_destination other link.src i b.was b.mid (so_far.destination i link b.was other there b.was_there at) b.from in
+        let low = slice_get_within nodes link.dst other at in
+        ⊎_elim
+        (λ (put : WasPut recv_link with_destination node.recvs node.core.inboxes None 0 i b.mid left). absurd (omega (arith, put_to i b.mid left link there put)))
+        (λ (same : left ≡ b.mid). subst (HasDestination other link.src i) (sym same) has)
+        b.to
+
+    pub filled_more : AreFilled fabric.links (nodes ++ node ∷ []) new
+    filled_more = record {
+      count = destinations.count ∙ sources.count ∙ so_far.count;
+      room = λ i link left there left_there.
+          let b = became i left left_there in
+          omega (arith, so_far.room i link b.was there b.was_there, source_room i b.was b.mid b.from, destination_room i b.mid left b.to);
+      source = λ i link left other there left_there at.
+          let b = became i left left_there in
+          ⊎_elim (λ (before : slice_get nodes link.src ≡ Some other). source_old i link left other there b before)
+          (λ (last : (link.src ≡ length nodes) × (node ≡ other)). subst (λ (n : NodeState). HasSource n link.dst i left) last.1 (source_new i link left there b last.0))
+          (push_stood nodes node link.src other at);
+      destination = λ i link left other there left_there at.
+          let b = became i left left_there in
+          ⊎_elim (λ (before : slice_get nodes link.dst ≡ Some other). destination_old i link left other there b before)
+          (λ (last : (link.dst ≡ length nodes) × (node ≡ other)). subst (λ (n : NodeState). HasDestination n link.src i left) last.1 (destination_new i link left there left_there b last.0))
+          (push_stood nodes node link.dst other at);
+    }

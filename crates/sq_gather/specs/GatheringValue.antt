@@ -1,0 +1,86 @@
+-- What is gathered so far, and the room for the rest.
+use Rattle.std.specs.Prelude.{◌≡◌, ℕ, ◌+◌, ◌≤◌, List, [], ◌∷◌, ◌++◌, length, sum_by, slice_get, Some}
+use Rattle.sq_store.specs.StoreValue.{StoreValue}
+use Rattle.sq_link.specs.Values.{LinkValue}
+use Rattle.sq_status.specs.Seat.{SeatValue}
+use Rattle.sq_node_model.specs.NodeValue.{ReceiptValue}
+use Rattle.sq_node.specs.FabricValue.{FabricValue}
+use Rattle.sq_node.specs.NodeState.{NodeState}
+use Rattle.sq_gather.specs.LinkEnds.{LinkEndsValue}
+use Rattle.sq_gather.specs.Links.{no_ends}
+use Rattle.sq_gather.specs.Ends.{AreApart, AreAmong, send_link, recv_link, SourcesPut, DestinationsPut}
+
+-- for how many stores, receipts, owners of seats and links there is room, and for how many trees
+pub record RoomValue : Type 0 where
+  pub stores : ℕ
+  pub receipts : ℕ
+  pub owners : ℕ
+  pub links : ℕ
+  pub trees : ℕ
+
+-- the families by partition, the receipts, the seats by owner, and what the ends of each link left of it
+pub record GatheringValue : Type 0 where
+  pub stores : List StoreValue
+  pub receipts : List ReceiptValue
+  pub owners : List (List SeatValue)
+  pub ends : List LinkEndsValue
+  pub room : RoomValue
+
+-- there is room for all of a run with these nodes and this many pumps
+pub record IsRoomFor (fabric : FabricValue) (nodes : List NodeState) (pumps : ℕ) (room : RoomValue) : Type 0 where
+  pub stores : length nodes ≤ room.stores
+  pub receipts : sum_by (λ node. length node.receipts) nodes ≤ room.receipts
+  pub owners : length nodes + pumps ≤ room.owners
+  pub links : length fabric.links ≤ room.links
+  pub trees : room.trees ≡ length fabric.recon.segments
+
+-- for each link there is room, and none of its ends is there
+pub record AreReserved (links : List LinkValue) (ends : List LinkEndsValue) : Type 0 where
+  pub count : length ends ≡ length links
+  pub each : (i : ℕ) (link : LinkValue) (left : LinkEndsValue) → slice_get links i ≡ Some link → slice_get ends i ≡ Some left → left ≡ no_ends (link.capacity + 2)
+
+-- nothing is gathered, and there is room for all
+pub record IsReserved (fabric : FabricValue) (nodes : List NodeState) (pumps : ℕ) (gathering : GatheringValue) : Type 0 where
+  pub stores : gathering.stores ≡ []
+  pub receipts : gathering.receipts ≡ []
+  pub owners : gathering.owners ≡ []
+  pub ends : AreReserved fabric.links gathering.ends
+  pub room : IsRoomFor fabric nodes pumps gathering.room
+
+-- there is as much room as there was
+pub record KeepsRoom (old new : RoomValue) : Type 0 where
+  pub stores : old.stores ≤ new.stores
+  pub receipts : old.receipts ≤ new.receipts
+  pub owners : old.owners ≤ new.owners
+  pub links : old.links ≤ new.links
+  pub trees : new.trees ≡ old.trees
+
+-- a node has an end for each partition, each of one of this many links, no two of one link
+pub record IsAddable (links : ℕ) (node : NodeState) : Type 0 where
+  pub all_sends : length node.sends ≡ node.core.plan.parts
+  pub all_recvs : length node.recvs ≡ node.core.plan.parts
+  pub sends : AreAmong send_link links node.sends
+  pub sends_apart : AreApart send_link node.sends
+  pub recvs : AreAmong recv_link links node.recvs
+  pub recvs_apart : AreApart recv_link node.recvs
+
+-- there is room for what these nodes left
+pub record HasRoomFor (gathering : GatheringValue) (nodes : List NodeState) : Type 0 where
+  pub stores : length gathering.stores + length nodes ≤ gathering.room.stores
+  pub receipts : length gathering.receipts + sum_by (λ node. length node.receipts) nodes ≤ gathering.room.receipts
+  pub owners : length gathering.owners + length nodes ≤ gathering.room.owners
+
+-- what a node left is added
+pub record AddsNode (old : GatheringValue) (node : NodeState) (new : GatheringValue) : Type 0 where
+  pub stores : new.stores ≡ old.stores ++ node.core.store ∷ []
+  pub receipts : new.receipts ≡ old.receipts ++ node.receipts
+  pub owners : new.owners ≡ old.owners ++ node.seats ∷ []
+  pub between : List LinkEndsValue
+  pub sources : SourcesPut node.sends node.core.outs 0 old.ends between
+  pub destinations : DestinationsPut node.recvs node.core.inboxes 0 between new.ends
+  pub room : KeepsRoom old.room new.room
+
+-- what these nodes left is added, one after another
+abbrev pub AddsNodes : GatheringValue → List NodeState → GatheringValue → Type 0
+AddsNodes old [] new = new ≡ old
+AddsNodes old (node ∷ nodes) new = (between : GatheringValue) × AddsNode old node between × AddsNodes between nodes new

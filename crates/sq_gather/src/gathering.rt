@@ -1,0 +1,199 @@
+// What is gathered of a run, node by node.
+ghost use Rattle.std.specs.Prelude.{◌≡◌, ℕ, ◌+◌, ◌<◌, ◌≤◌, ◌∷◌, [], ◌++◌, length, map, sum_by, slice_get, Some, IfOk, IfSome};
+ghost use Rattle.sq_pull.specs.Seats.{AreSeatsOf};
+ghost use Rattle.sq_node.specs.FabricValue.{AreFirst};
+ghost use Rattle.sq_node.specs.NodeState.{NodeState};
+ghost use Rattle.sq_gather.specs.Links.{HaveEnds, AreClosed as AreClosedLinks};
+ghost use Rattle.sq_gather.specs.Trees.{AllAreSeatsOf, AwaitOwners, AreClosed as AreClosedTrees};
+ghost use Rattle.sq_gather.specs.GatheringValue.{IsAddable, HasRoomFor, AreReserved, IsReserved, AddsNode, AddsNodes};
+
+use crate::ends::{put_destinations, put_sources};
+use crate::gathered::Gathered;
+use crate::link_ends::LinkEnds;
+use crate::links::{ClosedLink, close_links};
+use crate::trees::close_trees;
+use sq_exec::CoreParts;
+use sq_link::Link;
+use sq_node::{Fabric, Node, NodeParts, Receipt};
+use sq_pull::Pump;
+use sq_status::{StatusTree, TreeSeat};
+use sq_store::SlabStore;
+use sq_tree::{NODES, Status};
+use std::alloc::{AllocError, Global};
+use std::marker::Model;
+use std::sync::Wait;
+
+// What is gathered so far, with the room for the rest. To a contract it is a `GatheringValue`.
+#[derive(Drop)]
+pub(crate) struct Gathering {
+    stores: Vec<SlabStore>,
+    receipts: Vec<Receipt>,
+    owners: Vec<Vec<TreeSeat>>,
+    ends: Vec<LinkEnds>,
+    links: Vec<ClosedLink>,
+    words: Vec<[Status; NODES]>,
+}
+
+impl Model for Gathering {
+    ghost use Rattle.std.specs.Prelude.{◌≡◌, map, length, vec_len, vec_capacity};
+    ghost use Rattle.std.specs.Coded.{Coded, coded_ℕ, codes};
+    ghost use Rattle.std.specs.Ordering.{nat_cmp};
+    ghost use Rattle.std.specs.FinMap as fin;
+    ghost use Rattle.sq_schema.specs.Family.{FamilyValue};
+    ghost use Rattle.sq_gather.specs.GatheringValue.{GatheringValue};
+
+    ghost Value = { GatheringValue };
+
+    ghost coded = { let family : Coded FamilyValue = Prim.hlevel codes in let store : Coded (fin.FinMap nat_cmp FamilyValue) = fin.code coded_ℕ family in Prim.hlevel (codes, store) };
+
+    ghost view = { λ g. record {
+      stores = g.stores.items;
+      receipts = g.receipts.items;
+      owners = map (λ owner. owner.items) g.owners.items;
+      ends = g.ends.items;
+      room = record {
+        stores = vec_capacity g.stores;
+        receipts = vec_capacity g.receipts;
+        owners = vec_capacity g.owners;
+        links = vec_capacity g.links;
+        trees = length g.words.items;
+      };
+    } };
+
+    ghost invariant = { λ g. vec_len g.links ≡ 0 };
+}
+
+impl Gathering {
+    // Room for all that these nodes and this many pumps left.
+    pub(crate) fn reserve(
+        alloc: Global,
+        fabric: &Fabric,
+        nodes: &[Node],
+        pumps: usize,
+    ) -> Result<Gathering, AllocError>
+        ensures { IfOk result (IsReserved fabric.now nodes.now pumps) }
+    {
+        let receipts = count_receipts(nodes).ok_or(AllocError)?;
+        let owners = nodes.len().checked_add(pumps).ok_or(AllocError)?;
+        let trees = fabric.recon().segments().len();
+        Ok(Gathering {
+            stores: Vec::with_capacity(alloc, nodes.len())?,
+            receipts: Vec::with_capacity(alloc, receipts)?,
+            owners: Vec::with_capacity(alloc, owners)?,
+            ends: reserve_ends(alloc, fabric.links())?,
+            links: Vec::with_capacity(alloc, fabric.links().len())?,
+            words: vec![in alloc; [Status::Free; NODES]; trees]?,
+        })
+    }
+
+    // Adds what the nodes left.
+    pub(crate) fn add_nodes(&mut self, nodes: Vec<Node>)
+        requires ends { (part : ℕ) (node : NodeState) → slice_get nodes.items part ≡ Some node → IsAddable (length self.old.ends) node }
+        requires room { HasRoomFor self.old nodes.items }
+        ensures { AddsNodes self.old nodes.items self.new }
+    {
+        for node in nodes {
+            self.add_node(node);
+        }
+    }
+
+    // Adds what a node left.
+    fn add_node(&mut self, node: Node)
+        requires stores { length self.old.stores < self.old.room.stores }
+        requires receipts { length self.old.receipts + length node.receipts ≤ self.old.room.receipts }
+        requires owners { length self.old.owners < self.old.room.owners }
+        requires ends { IsAddable (length self.old.ends) node }
+        ensures { AddsNode self.old node self.new }
+    {
+        let NodeParts {
+            core,
+            seats,
+            sends,
+            recvs,
+            mut receipts,
+            ..
+        } = node.into_parts();
+        let CoreParts {
+            store,
+            inboxes,
+            outs,
+            ..
+        } = core;
+        self.stores.push_reserved(store);
+        let Ok(()) = self.receipts.append(&mut receipts) else {
+            unreachable!()
+        };
+        self.owners.push_reserved(seats);
+        put_sources(&mut self.ends, sends, outs);
+        put_destinations(&mut self.ends, recvs, inboxes);
+    }
+
+    // Adds the seats of the pumps.
+    pub(crate) fn add_pumps(&mut self, pumps: Vec<Pump>)
+        requires { length self.old.owners + length pumps.items ≤ self.old.room.owners }
+        ensures { self.new ≡ record self.old { owners = self.old.owners ++ map (λ pump. pump.seats) pumps.items } }
+    {
+        for pump in pumps {
+            self.add_pump(pump);
+        }
+    }
+
+    // Adds the seats of a pump.
+    fn add_pump(&mut self, pump: Pump)
+        requires { length self.old.owners < self.old.room.owners }
+        ensures { self.new ≡ record self.old { owners = self.old.owners ++ pump.seats ∷ [] } }
+    {
+        let (seats, _) = pump.into_parts();
+        self.owners.push_reserved(seats);
+    }
+
+    // Closes the trees and the links.
+    pub(crate) fn close<R: Wait>(
+        self,
+        rt: &R,
+        trees: Vec<StatusTree>,
+        first: Vec<TreeSeat>,
+        links: Vec<Link>,
+    ) -> Gathered
+        requires first { AreSeatsOf trees.items first.items }
+        requires opened { AreFirst first.items }
+        requires owners { AllAreSeatsOf trees.items self.owners }
+        requires given { AwaitOwners (length self.owners) first.items }
+        requires trees { self.room.trees ≡ length trees.items }
+        requires ends { HaveEnds links.items self.ends }
+        requires links { length links.items ≤ self.room.links }
+        ensures stores { result.stores ≡ self.stores }
+        ensures receipts { result.receipts ≡ self.receipts }
+        ensures links { AreClosedLinks links.items self.ends result.links }
+        ensures words { AreClosedTrees first.items self.owners result.words }
+    {
+        Gathered {
+            stores: self.stores,
+            receipts: self.receipts,
+            links: close_links(rt, links, self.ends, self.links),
+            words: close_trees(trees, first, self.owners, self.words),
+        }
+    }
+}
+
+// How many receipts the nodes have together.
+fn count_receipts(nodes: &[Node]) -> Option<usize>
+    ensures { IfSome result (λ count. count ≡ sum_by (λ node. length node.receipts) nodes.now) }
+{
+    let mut count: usize = 0;
+    for node in nodes {
+        count = count.checked_add(node.receipts().len())?;
+    }
+    Some(count)
+}
+
+// Room for what is under way on each link.
+fn reserve_ends(alloc: Global, links: &[Link]) -> Result<Vec<LinkEnds>, AllocError>
+    ensures { IfOk result (λ ends. AreReserved links.now ends.items) }
+{
+    let mut ends = Vec::new(alloc);
+    for link in links {
+        ends.push(LinkEnds::reserve(alloc, link)?)?;
+    }
+    Ok(ends)
+}
