@@ -1,4 +1,6 @@
 // Two partitions, between which root keys 4 to 7 move in chunks of one family, with ample memory.
+ghost use Rattle.std.specs.Prelude.{◌≡◌, ◌<◌, length, IfOk};
+
 use sq_chunk::{Chunk, Note};
 use sq_exec::{Outcome, PartCore};
 use sq_plan::{PartId, Plan};
@@ -51,17 +53,38 @@ fn store(alloc: Global, roots: &[u64]) -> Result<VecStore, Fail> {
     Ok(store)
 }
 
+// A partition with these families, once the move has started.
+fn started(
+    alloc: Global,
+    opening: &Opening,
+    part: PartId,
+    store: VecStore,
+) -> Result<PartCore<VecStore>, Fail>
+    ensures { IfOk result (λ started. started.core.recon ≡ opening.now.recon) }
+{
+    let mut started = PartCore::open(alloc, opening, part, store)?;
+    started.start();
+    Ok(started)
+}
+
+// Begins the whole of the first segment.
+fn begin_all(part: &mut PartCore<VecStore>) -> Result<(), Fail>
+    requires { 0 < length part.old.core.recon.segments }
+{
+    part.reserve_begin()?;
+    let seg = SegId::new(0).ok_or("no segment")?;
+    part.begun(seg, NodeId::WHOLE, 2);
+    Ok(())
+}
+
 // The source with these families, once all that moves is begun.
 fn source(alloc: Global, roots: &[u64]) -> Result<PartCore<VecStore>, Fail> {
     let opening = opening(alloc)?;
-    let segments = opening.recon().segments().len() as u64;
-    let mut part = PartCore::open(alloc, &opening, PartId::new(0), store(alloc, roots)?)?;
-    part.start();
-    part.reserve_begin()?;
-    match SegId::new(0) {
-        Some(seg) if seg.number() < segments => part.begun(seg, NodeId::WHOLE, 2),
-        _ => Err("no segment")?,
+    if opening.recon().segments().is_empty() {
+        return Err("nothing moves")?;
     }
+    let mut part = started(alloc, &opening, PartId::new(0), store(alloc, roots)?)?;
+    begin_all(&mut part)?;
     Ok(part)
 }
 
@@ -149,56 +172,76 @@ fn answer(alloc: Global, part: &mut PartCore<VecStore>, call: Call) -> Result<To
     })
 }
 
+// Whether the calls are answered so, one after another.
+fn are_answered(
+    alloc: Global,
+    part: &mut PartCore<VecStore>,
+    calls: &[(Call, Told)],
+) -> Result<bool, Fail> {
+    for (call, wanted) in calls {
+        if answer(alloc, part, *call)? != *wanted {
+            return Ok(false);
+        }
+    }
+    Ok(true)
+}
+
+// What the source of the families 4, 7 and 9 answers.
+const AT_THE_SOURCE: [(Call, Told); 14] = [
+    (Call::Submit(4), Told::Moved(1)),
+    (Call::Submit(9), Told::Number(11)),
+    (Call::Resume, Told::Refused(223)),
+    (Call::Cut(1), Told::Chunk(0, 4, 7, false)),
+    (Call::Cut(1), Told::Refused(210)),
+    (Call::TakeOutbox, Told::Families(1)),
+    (Call::TakeOutbox, Told::Refused(211)),
+    (Call::Cut(1), Told::Chunk(1, 7, 8, true)),
+    (Call::TakeOutbox, Told::Families(1)),
+    (Call::Cut(1), Told::Refused(209)),
+    (Call::Cut(0), Told::Refused(209)),
+    (Call::Cut(9), Told::Refused(209)),
+    (Call::Load, Told::Refused(215)),
+    (Call::Submit(9), Told::Number(12)),
+];
+
 #[test]
 fn calls_at_the_source(rt: HostRuntime) -> Result<(), Fail> {
     let mut part = source(rt.alloc(), &[4, 7, 9])?;
-    let calls = [
-        (Call::Submit(4), Told::Moved(1)),
-        (Call::Submit(9), Told::Number(11)),
-        (Call::Resume, Told::Refused(223)),
-        (Call::Cut(1), Told::Chunk(0, 4, 7, false)),
-        (Call::Cut(1), Told::Refused(210)),
-        (Call::TakeOutbox, Told::Families(1)),
-        (Call::TakeOutbox, Told::Refused(211)),
-        (Call::Cut(1), Told::Chunk(1, 7, 8, true)),
-        (Call::TakeOutbox, Told::Families(1)),
-        (Call::Cut(1), Told::Refused(209)),
-        (Call::Cut(0), Told::Refused(209)),
-        (Call::Cut(9), Told::Refused(209)),
-        (Call::Load, Told::Refused(215)),
-        (Call::Submit(9), Told::Number(12)),
-    ];
-    for (call, wanted) in calls {
-        assert_eq!(rt; answer(rt.alloc(), &mut part, call)?, wanted);
-    }
+    assert!(rt; are_answered(rt.alloc(), &mut part, &AT_THE_SOURCE)?);
     let parts = part.close();
-    assert_eq!(rt; (parts.store.len(), parts.outs.len()), (1, 2));
+    assert!(rt; parts.store.len() == 1 && parts.outs.len() == 2);
     Ok(())
+}
+
+// What the destination answers, to which the family 4 came in the first of two chunks.
+const AT_THE_DESTINATION: [(Call, Told); 11] = [
+    (Call::Submit(4), Told::Waits(0)),
+    (Call::Submit(7), Told::Waits(3)),
+    (Call::Resume, Told::Refused(223)),
+    (Call::Load, Told::Chunk(0, 4, 7, false)),
+    (Call::Load, Told::Refused(215)),
+    (Call::Submit(4), Told::Waits(0)),
+    (Call::Resume, Told::Number(11)),
+    (Call::Resume, Told::Number(12)),
+    (Call::Resume, Told::Refused(223)),
+    (Call::Submit(4), Told::Number(13)),
+    (Call::Submit(9), Told::Moved(0)),
+];
+
+// The first chunk of a source of the families 4 and 7.
+fn first_chunk(alloc: Global) -> Result<Option<Chunk>, Fail> {
+    let mut source = source(alloc, &[4, 7])?;
+    answer(alloc, &mut source, Call::Cut(1))?;
+    Ok(source.take_outbox(PartId::new(1)))
 }
 
 #[test]
 fn calls_at_the_destination(rt: HostRuntime) -> Result<(), Fail> {
-    let mut source = source(rt.alloc(), &[4, 7])?;
-    let first = answer(rt.alloc(), &mut source, Call::Cut(1))?;
-    let mut part = destination(rt.alloc(), source.take_outbox(PartId::new(1)))?;
-    let calls = [
-        (Call::Submit(4), Told::Waits(0)),
-        (Call::Submit(7), Told::Waits(3)),
-        (Call::Resume, Told::Refused(223)),
-        (Call::Load, first),
-        (Call::Load, Told::Refused(215)),
-        (Call::Submit(4), Told::Waits(0)),
-        (Call::Resume, Told::Number(11)),
-        (Call::Resume, Told::Number(12)),
-        (Call::Resume, Told::Refused(223)),
-        (Call::Submit(4), Told::Number(13)),
-        (Call::Submit(9), Told::Moved(0)),
-    ];
-    for (call, wanted) in calls {
-        assert_eq!(rt; answer(rt.alloc(), &mut part, call)?, wanted);
-    }
+    let chunk = first_chunk(rt.alloc())?;
+    let mut part = destination(rt.alloc(), chunk)?;
+    assert!(rt; are_answered(rt.alloc(), &mut part, &AT_THE_DESTINATION)?);
     let root = Root::new(4).ok_or("a root key")?;
-    assert_eq!(rt; part.position(root), 4);
+    assert!(rt; part.position(root) == 4);
     Ok(())
 }
 
@@ -219,33 +262,30 @@ fn as_many_wait_as_may(rt: HostRuntime) -> Result<(), Fail> {
     Ok(())
 }
 
-// The arrival number of the first transaction that waits for this root key.
-fn arrival(part: &PartCore<VecStore>, root: u64) -> Result<Option<u64>, Fail> {
-    Ok(part.arrival(Root::new(root).ok_or("a root key")?))
+// The destination, at which the first transaction that waits gets this number.
+fn destination_at(alloc: Global, next: u64) -> Result<PartCore<VecStore>, Fail> {
+    let opening = opening(alloc)?;
+    let store = VecStore::new(alloc);
+    let mut part = PartCore::open_at(alloc, &opening, PartId::new(1), store, next)?;
+    part.start();
+    Ok(part)
+}
+
+// Whether the first transactions that wait for the root keys 5 and 6 have these arrival numbers.
+fn have_arrived(part: &PartCore<VecStore>, five: Option<u64>, six: Option<u64>) -> bool {
+    Root::new(5).and_then(|root| part.arrival(root)) == five
+        && Root::new(6).and_then(|root| part.arrival(root)) == six
 }
 
 #[test]
 fn numbers_begin_anew_where_none_is_left(rt: HostRuntime) -> Result<(), Fail> {
     let last = 18_446_744_073_709_551_614;
-    let opening = opening(rt.alloc())?;
-    let store = VecStore::new(rt.alloc());
-    let mut part = PartCore::open_at(rt.alloc(), &opening, PartId::new(1), store, last)?;
-    part.start();
-    assert_eq!(rt; arrival(&part, 5)?, None);
-    assert_eq!(rt;
-        answer(rt.alloc(), &mut part, Call::Submit(5))?,
-        Told::Waits(1)
-    );
-    assert_eq!(rt; arrival(&part, 5)?, Some(last));
-    assert_eq!(rt;
-        answer(rt.alloc(), &mut part, Call::Submit(6))?,
-        Told::Waits(2)
-    );
-    assert_eq!(rt; arrival(&part, 5)?, Some(0));
-    assert_eq!(rt; arrival(&part, 6)?, Some(1));
-    assert_eq!(rt;
-        answer(rt.alloc(), &mut part, Call::Resume)?,
-        Told::Refused(223)
-    );
+    let mut part = destination_at(rt.alloc(), last)?;
+    assert!(rt; have_arrived(&part, None, None));
+    assert!(rt; are_answered(rt.alloc(), &mut part, &[(Call::Submit(5), Told::Waits(1))])?);
+    assert!(rt; have_arrived(&part, Some(last), None));
+    assert!(rt; are_answered(rt.alloc(), &mut part, &[(Call::Submit(6), Told::Waits(2))])?);
+    assert!(rt; have_arrived(&part, Some(0), Some(1)));
+    assert!(rt; are_answered(rt.alloc(), &mut part, &[(Call::Resume, Told::Refused(223))])?);
     Ok(())
 }
