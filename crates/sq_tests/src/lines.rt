@@ -1,5 +1,5 @@
 // The lines of inputs, from readers that give little at a time, or fail.
-use sq_lines::{LineReader, Next};
+use sq_lines::{LineReader, Next, place_of};
 use std::alloc::Global;
 use std::io;
 use std::io::{ErrorKind, Read};
@@ -128,6 +128,24 @@ fn fronts_in_pieces(rt: HostRuntime) -> Result<(), Fail> {
                 assert!(rt; lines.begins_read(b"row ") == begins, "{input:?} by {most}");
             }
         }
+    }
+    Ok(())
+}
+
+// Bytes, and where the first space among them stands.
+const SPACES: [(&[u8], Option<usize>); 6] = [
+    (b"", None),
+    (b" ", Some(0)),
+    (b"push", None),
+    (b"push 0 1", Some(4)),
+    (b"0123456789abcdef0123456789abcdef", None),
+    (b"0123456789abcdef0123456789abcdef0123 4 5", Some(36)),
+];
+
+#[test]
+fn first_places(rt: HostRuntime) -> Result<(), Fail> {
+    for (bytes, place) in SPACES {
+        assert!(rt; place_of(b' ', bytes) == place, "{bytes:?}");
     }
     Ok(())
 }
