@@ -94,6 +94,13 @@ impl Node {
             complete,
         })
     }
+
+    /// The partition.
+    pub fn part(&self) -> PartId
+        ensures { result ≡ self.now.core.part }
+    {
+        self.core.part()
+    }
 }
 
 /// What a node had, once its thread is joined.

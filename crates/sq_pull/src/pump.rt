@@ -71,6 +71,13 @@ impl Pump {
         })
     }
 
+    /// Its number among the pumps.
+    pub fn number(&self) -> u32
+        ensures { result ≡ self.now.number }
+    {
+        self.number
+    }
+
     /// The requests that aren't sent, the oldest first.
     pub fn pending(&self) -> &[PendingRequest]
         ensures { result.now ≡ self.now.wins.pending }
