@@ -206,14 +206,32 @@ fn short_reads_and_writes(rt: HostRuntime) -> Result<(), Fail> {
     Ok(())
 }
 
-// How many lines of the input are its header.
-const HEADER_LINES: usize = 6;
+// A header, and a script that takes a node, with all that is written for them.
+const HEADER: &[u8] = b"old {\"version\":1,\"partitions\":2,\"ranges\":[[0,4294967296,0]]}
+new {\"version\":1,\"partitions\":2,\"ranges\":[[0,4,0],[4,8,1],[8,4294967296,0]]}
+config 1 64 1
+row 5 0 0 10 -
+";
+
+const SCRIPT: &[u8] = b"prepare 0
+prepare 1
+start
+claim 0 1 2
+";
+
+const ANSWERS: &[u8] = b"ok
+ok
+ok
+ok
+end moving
+at 0 5 0 0.0=10/-
+";
 
 // The answers to the first lines of the script, and then the fault of a failed read.
 fn answers_and_fault(alloc: Global, count: usize) -> Result<Vec<u8>, Fail> {
     let mut wanted = Vec::new(alloc);
     let mut left = count;
-    for byte in OUTPUT {
+    for byte in ANSWERS {
         if left == 0 {
             break;
         }
@@ -226,23 +244,43 @@ fn answers_and_fault(alloc: Global, count: usize) -> Result<Vec<u8>, Fail> {
     Ok(wanted)
 }
 
-// The lines that ended before a read failed are answered, unless the header isn't complete.
+// What is written where a read fails behind these bytes, and whether the run ends by a fault.
+fn run_failing(alloc: Global, given: &[u8], most: usize) -> Result<(Vec<u8>, bool), Fail> {
+    let mut reader = Drip {
+        rest: given,
+        most,
+        fails: true,
+    };
+    let mut output = Vec::new(alloc);
+    let ending = run(alloc, &mut reader, &mut output)?;
+    Ok((output, ending.status() == 2))
+}
+
+// Behind each front of a script the lines that ended are answered.
 #[test]
-fn readers_that_fail(rt: HostRuntime) -> Result<(), Fail> {
-    for length in (0..=INPUT.len()).step_by(29) {
-        let given = &INPUT[..length];
-        let ended = given.iter().filter(|byte| **byte == b'\n').count();
-        let wanted = answers_and_fault(rt.alloc(), ended.saturating_sub(HEADER_LINES))?;
-        for most in [1, 4096] {
-            let mut reader = Drip {
-                rest: given,
-                most,
-                fails: true,
-            };
-            let mut output = Vec::new(rt.alloc());
-            let ending = run(rt.alloc(), &mut reader, &mut output)?;
-            assert!(rt; ending.status() == 2 && output == wanted, "after {length}");
-        }
+fn readers_that_fail_in_a_script(rt: HostRuntime) -> Result<(), Fail> {
+    for length in 0..=SCRIPT.len() {
+        let script = &SCRIPT[..length];
+        let ended = script.iter().filter(|byte| **byte == b'\n').count();
+        let wanted = answers_and_fault(rt.alloc(), ended)?;
+        let mut given = Vec::new(rt.alloc());
+        given.extend_from_slice(HEADER)?;
+        given.extend_from_slice(script)?;
+        let (output, failed) = run_failing(rt.alloc(), &given, 4096)?;
+        assert!(rt; failed && output == wanted, "after {length}");
+    }
+    Ok(())
+}
+
+// A header that isn't complete has the fault alone.
+#[test]
+fn readers_that_fail_in_a_header(rt: HostRuntime) -> Result<(), Fail> {
+    for length in (0..HEADER.len()).step_by(11) {
+        let (output, failed) = run_failing(rt.alloc(), &HEADER[..length], 7)?;
+        assert!(rt;
+            failed && output.as_slice() == b"fault 123\n".as_slice(),
+            "after {length}"
+        );
     }
     Ok(())
 }
@@ -299,7 +337,7 @@ fn writers_that_fail(rt: HostRuntime) {
     }
     let (ending, got) = run_narrowly(rt.alloc(), b"old {\n", 5);
     assert!(rt; ending.is_ok() && got.as_slice() == fault);
-    for calls in (0..100).step_by(9) {
+    for calls in (0..100).step_by(18) {
         let (ending, got) = run_narrowly(rt.alloc(), INPUT, calls);
         assert!(rt;
             ending == Err(WriteFault) && OUTPUT.starts_with(&got),
@@ -307,4 +345,24 @@ fn writers_that_fail(rt: HostRuntime) {
         );
     }
     assert!(rt; WriteFault.number() == 124);
+}
+
+// The same of each call of a run, until one needs no more calls.
+#[test]
+fn writers_that_fail_at_each_call(rt: HostRuntime) -> Result<(), Fail> {
+    let mut input = Vec::new(rt.alloc());
+    input.extend_from_slice(HEADER)?;
+    input.extend_from_slice(SCRIPT)?;
+    for calls in 0..100 {
+        let (ending, got) = run_narrowly(rt.alloc(), &input, calls);
+        if ending == Ok(Ending::Done) {
+            assert!(rt; got.as_slice() == ANSWERS);
+            return Ok(());
+        }
+        assert!(rt;
+            ending == Err(WriteFault) && ANSWERS.starts_with(&got),
+            "after {calls}"
+        );
+    }
+    Err("no run went through")?
 }
