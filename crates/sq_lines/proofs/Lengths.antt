@@ -1,9 +1,9 @@
 -- Pieces that are too long.
-use Rattle.std.proofs.Common.{◌≡◌, ℕ, ◌-◌, ◌<◌, ◌≤◌, Bool, true, false, cond, eqb, ltb, List, [], ◌∷◌, ◌++◌, length, refl, sym, ap, ◌∙◌, subst, arith}
+use Rattle.std.proofs.Common.{◌≡◌, ℕ, ◌-◌, ◌<◌, ◌≤◌, Bool, true, false, cond, eqb, List, [], ◌∷◌, ◌++◌, length, refl, sym, ap, subst, arith}
 use Rattle.std.specs.Prelude.{nat_lt}
 use Rattle.std.proofs.lemmas.Bool.{ltb-false}
 use Rattle.sq_lines.specs.declared.buffer.TheConstants.{MAX_UNENDED}
-use Rattle.sq_lines.specs.Pieces.{cut_at_ends, PieceValue, Line, Rest, Failed, Endless, TooMany, InputEnd, Whole, Cut, ending_piece, last_piece, line_then, pieces_of, pieces_in, bytes_of}
+use Rattle.sq_lines.specs.Pieces.{cut_at_ends, PieceValue, Line, Rest, Failed, Endless, TooMany, InputEnd, Whole, Cut, ending_piece, last_piece, pieces_of, bytes_of}
 use Rattle.sq_lines.specs.Coming.{LinesValue, CanCome, IsLong}
 
 -- a piece with more bytes than may come without a line end has no end

@@ -1,7 +1,7 @@
 -- Parts of a buffer.
 use Rattle.std.proofs.Common.{◌≡◌, ℕ, ◌+◌, ◌-◌, ◌<◌, ◌≤◌, List, [], ◌∷◌, ◌++◌, length, take, drop, Some, None, refl, sym, ap, ◌∙◌, subst, append_assoc, arith}
 use Rattle.std.specs.Prelude.{slice_range, position, ◌==◌}
-use Rattle.std.proofs.lemmas.List.{take-append-drop, take-take, drop-drop, drop-take, length-take-le, length-drop, take_all}
+use Rattle.std.proofs.lemmas.List.{take-append-drop, take-take, drop-drop, drop-take, length-take-le, length-drop}
 use Rattle.sq_lines.specs.Pieces.{cut_at_ends}
 use Rattle.sq_lines.proofs.Ends.{no_end, first_end, unended_both}
 

@@ -1,5 +1,5 @@
 -- The buffer of a reader of lines.
-use Rattle.std.specs.Prelude.{◌≡◌, ◌≤◌, ◌+◌, ℕ, Bool, true, List, [], ◌∷◌, length, slice_range, Option}
+use Rattle.std.specs.Prelude.{◌≡◌, ◌≤◌, ℕ, List, [], ◌∷◌, length, slice_range, Option}
 use Rattle.std.specs.Io.KnownBytes.{IsAtEnd}
 use Rattle.sq_lines.specs.declared.buffer.TheConstants.{ROOM}
 use Rattle.sq_lines.specs.declared.reader.Reading.{Reading}

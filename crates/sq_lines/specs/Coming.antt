@@ -1,12 +1,11 @@
 -- What a reader of lines gives, and what can still come of it.
-use Rattle.std.specs.Prelude.{◌≡◌, ◌<◌, ◌≤◌, ◌⊎◌, ℕ, ◌+◌, ◌-◌, Bool, true, false, cond, List, [], ◌∷◌, ◌++◌, length, Option, Some, None}
+use Rattle.std.specs.Prelude.{◌≡◌, ◌<◌, ◌≤◌, ◌⊎◌, ℕ, ◌+◌, ◌-◌, List, [], ◌∷◌, ◌++◌, length, Option, Some, None}
 use Rattle.sq_lines.specs.declared.buffer.TheConstants.{MAX_UNENDED}
-use Rattle.sq_lines.specs.declared.reader.TheConstants.{MAX_LINES}
 use Rattle.sq_lines.specs.declared.reader.Reading.{Reading}
 use Rattle.sq_lines.specs.declared.reader.Reading.TheVariants as reading
 use Rattle.sq_lines.specs.declared.reader.Next.{Next as NextPiece}
 use Rattle.sq_lines.specs.declared.reader.Next.TheVariants as next
-use Rattle.sq_lines.specs.Pieces.{cut_at_ends, PieceValue, Line, Rest, Failed, Endless, TooMany, InputEnd, Whole, Cut, pieces_in, bytes_of}
+use Rattle.sq_lines.specs.Pieces.{cut_at_ends, PieceValue, Line, Rest, Failed, TooMany, InputEnd, Whole, Cut, pieces_in, bytes_of}
 
 -- a reader of lines: the bytes of the piece that it gave last, what was read and not given, how the reading stands, how many lines may still come, and what its reader has left, where that is known
 pub record LinesValue : Type 0 where

@@ -1,5 +1,5 @@
 -- Bytes that were written and stay.
-use Rattle.std.proofs.Common.{◌≡◌, ℕ, List, Option, Some, None, ◌∙◌}
+use Rattle.std.proofs.Common.{ℕ, List, Option, Some, None, ◌∙◌}
 use Rattle.std.specs.Io.KnownBytes.{Appends, Keeps}
 
 -- bytes that are kept were written

@@ -1,6 +1,6 @@
 -- Runs of whole inputs.
-use Rattle.std.proofs.Common.{◌≡◌, ℕ, List, [], ◌++◌, Option, inl, inr, refl, sym, subst, ap, ◌∙◌}
-use Rattle.std.specs.Prelude.{◌⊎◌, None, Result, Ok, Err, IfOk}
+use Rattle.std.proofs.Common.{◌≡◌, ℕ, List, [], Option, inl, inr, refl, subst, ◌∙◌}
+use Rattle.std.specs.Prelude.{None, Result, Ok, Err, IfOk}
 use Rattle.std.specs.Io.KnownBytes.{Appends, Keeps}
 use Rattle.sq_schema.specs.declared.schema.TheConstants.{MAX_TABLES}
 use Rattle.sq_ranges.specs.OpeningValue.{OpeningValue}
@@ -8,7 +8,7 @@ use Rattle.sq_model.specs.Trace.{Trace}
 use Rattle.sq_transition.specs.WorldValue.{WorldValue}
 use Rattle.sq_lines.specs.declared.reader.TheConstants.{MAX_LINES}
 use Rattle.sq_lines.specs.declared.reader.Reading.TheVariants.{Open}
-use Rattle.sq_lines.specs.Pieces.{PieceValue, pieces, pieces_in}
+use Rattle.sq_lines.specs.Pieces.{PieceValue, pieces}
 use Rattle.sq_lines.specs.Coming.{LinesValue, Comes, CanCome, Leaves}
 use Rattle.sq_lines.proofs.Comings.{some_more, some_pieces}
 use Rattle.sq_text.specs.declared.located.LocatedFault.{LocatedFault}

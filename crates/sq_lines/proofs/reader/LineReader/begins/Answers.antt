@@ -1,8 +1,7 @@
-use Rattle.std.proofs.Common.{◌≡◌, ◌<◌, ◌≤◌, List, length, inl, inr, arith, sym, ◌∙◌, ap}
-use Rattle.std.specs.Prelude.{nat_eq, false, true}
+use Rattle.std.proofs.Common.{◌≡◌, ◌<◌, length, arith, sym, ◌∙◌, ap}
+use Rattle.std.specs.Prelude.{nat_eq}
 use Rattle.std.specs.List.{starts_with}
-use Rattle.sq_lines.specs.Pieces.{PieceValue, next_begins}
-use Rattle.sq_lines.specs.Coming.{LinesValue, CanCome}
+use Rattle.sq_lines.specs.Coming.{LinesValue}
 use Rattle.sq_lines.proofs.Fronts.{no_line, enough_begins, all_begins, otherwise, undecided}
 use Rattle.sq_lines.proofs.reader.LineReader.begins.Goals as goal
 

@@ -1,8 +1,8 @@
-use Rattle.std.proofs.Common.{◌≡◌, ◌<◌, ◌≤◌, ◌+◌, ◌-◌, length, List, [], ◌∷◌, inl, inr, refl, sym, ap, ◌∙◌, subst, arith}
+use Rattle.std.proofs.Common.{◌≡◌, ◌<◌, ◌≤◌, ◌+◌, ◌-◌, length, [], ◌∷◌, inl, inr, refl, sym, ap, ◌∙◌, subst, arith}
 use Rattle.std.specs.Prelude.{◌==◌, position, slice_range, Some, None}
 use Rattle.sq_lines.specs.Pieces.{Rest, Failed}
 use Rattle.sq_lines.specs.Coming.{LinesValue, CanCome, IsLong, IsUndecided}
-use Rattle.sq_lines.proofs.Ranges.{empty_range, length_range, found_line, found_none, FoundLine}
+use Rattle.sq_lines.proofs.Ranges.{empty_range, length_range, found_line, found_none}
 use Rattle.sq_lines.proofs.Comings.{at_end, too_many, line_came, rest_comes, failed_comes, long_line, long_unended}
 use Rattle.sq_lines.proofs.Buffers.{all_searched}
 use Rattle.sq_lines.proofs.reader.LineReader.next.Goals as goal
