@@ -1,4 +1,5 @@
 pub mod Adding
+pub mod AllOf
 pub mod Closing
 pub mod Filling
 pub mod Joined

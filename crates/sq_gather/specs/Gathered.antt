@@ -20,11 +20,15 @@ pub record IsPumpOf (fabric : FabricValue) (pump : PumpValue) : Type 0 where
   pub begun : (seg : ℕ) → (views_of pump.seats seg).begun ≡ []
   pub completed : (seg : ℕ) → (views_of pump.seats seg).completed ≡ []
 
--- these are all nodes of the run, in the order of their partitions, and all its pumps: as many seats of each tree were given out as there are of them, and each link leads from one of the partitions to another
+-- each link of the run leads from one of its partitions to another
+abbrev pub LinksHaveNodes : FabricValue → Type 0
+LinksHaveNodes fabric = (i : ℕ) (link : LinkValue) → slice_get fabric.links i ≡ Some link → (link.src < fabric.parts) × (link.dst < fabric.parts)
+
+-- these are all nodes of the run, in the order of their partitions, and all its pumps: as many seats of each tree were given out as there are of them, and each link has its two nodes among them
 pub record AreAllOf (fabric : FabricValue) (nodes : List NodeState) (pumps : List PumpValue) : Type 0 where
   pub seats : AreFirstSeats (length nodes + length pumps) fabric.trees fabric.seats
   pub count : length nodes ≡ fabric.parts
-  pub ends : (i : ℕ) (link : LinkValue) → slice_get fabric.links i ≡ Some link → (link.src < fabric.parts) × (link.dst < fabric.parts)
+  pub ends : LinksHaveNodes fabric
   pub each_node : (part : ℕ) (node : NodeState) → slice_get nodes part ≡ Some node → IsNodeOf fabric node × (node.core.part ≡ part)
   pub each_pump : (i : ℕ) (pump : PumpValue) → slice_get pumps i ≡ Some pump → IsPumpOf fabric pump
 

@@ -4,6 +4,7 @@
 mod ends;
 mod gathered;
 mod gathering;
+pub mod laws;
 mod link_ends;
 mod links;
 mod run;

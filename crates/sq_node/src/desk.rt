@@ -48,6 +48,13 @@ impl Desk {
         }
     }
 
+    /// The receipts, in the order in which they were added.
+    pub(crate) fn receipts(&self) -> &[Receipt]
+        ensures { result.now ≡ self.now.receipts }
+    {
+        &self.receipts
+    }
+
     /// Takes room for one more receipt and for one more job.
     pub(crate) fn reserve(&mut self) -> Result<(), AllocError>
         ensures receipts { self.new.receipts ≡ self.old.receipts }
@@ -89,13 +96,6 @@ impl Desk {
                 self.posts.push_back_reserved(Post { to, job });
             }
         }
-    }
-
-    /// The receipts, in the order in which they were written.
-    pub(crate) fn receipts(&self) -> &[Receipt]
-        ensures { result.now ≡ self.now.receipts }
-    {
-        &self.receipts
     }
 
     /// Whether no job is left to post on.

@@ -95,7 +95,14 @@ impl Node {
         })
     }
 
-    /// The partition.
+    /// The receipts of the jobs that it answered, in the order in which they were written.
+    pub fn receipts(&self) -> &[Receipt]
+        ensures { result.now ≡ self.now.receipts }
+    {
+        self.desk.receipts()
+    }
+
+    /// Its partition.
     pub fn part(&self) -> PartId
         ensures { result ≡ self.now.core.part }
     {

@@ -11,7 +11,6 @@ ghost use Rattle.sq_node.specs.Steps.{Turns, Looks};
 
 use super::{Node, NodeParts};
 use crate::fabric::Fabric;
-use crate::receipt::Receipt;
 use sq_plan::PartId;
 use sq_ranges::Range;
 use sq_status::{StatusTree, TreeSeat};
@@ -66,13 +65,6 @@ impl Node {
             segments,
             part,
         )
-    }
-
-    /// The receipts of the jobs that it answered, in the order in which they were written.
-    pub fn receipts(&self) -> &[Receipt]
-        ensures { result.now ≡ self.now.receipts }
-    {
-        self.desk.receipts()
     }
 
     /// What it had.
