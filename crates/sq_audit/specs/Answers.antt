@@ -35,9 +35,13 @@ AreKnown g jobs =
 abbrev pub is_of : TxnValue → ReceiptValue → Bool
 is_of txn receipt = (receipt.id == txn.id) && (receipt.root == txn.root)
 
+-- each job has one of these receipts
+abbrev pub AreAnsweredBy : List ReceiptValue → List Job → Type 0
+AreAnsweredBy receipts jobs = (job : Job) → Contains jobs job → count_by (is_of job.txn) receipts ≡ 1
+
 -- each job has one receipt
 abbrev pub AreAnswered : GatheredValue → List Job → Type 0
-AreAnswered g jobs = (job : Job) → Contains jobs job → count_by (is_of job.txn) g.receipts ≡ 1
+AreAnswered g jobs = AreAnsweredBy g.receipts jobs
 
 -- no two jobs have the same id
 abbrev pub IdsDiffer : List Job → Type 0

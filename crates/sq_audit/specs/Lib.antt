@@ -1,3 +1,6 @@
+pub mod Counts
 pub mod Answers
 pub mod Sound
 pub mod Defects
+pub mod Located
+pub mod Index

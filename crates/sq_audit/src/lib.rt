@@ -1,9 +1,12 @@
 //! The audit of what a run left: where its families are, and whether they and the receipts are what the run was to give.
 #![tactic(auto)]
 
+mod answered;
 mod gathered;
+mod index;
 mod job;
 pub mod laws;
+mod located;
 mod verdict;
 
 pub use gathered::{Gathered, GatheredLink, Receipt};

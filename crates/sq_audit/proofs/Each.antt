@@ -1,0 +1,41 @@
+-- What a loop over a list tells of each element.
+use Rattle.std.proofs.Common.{◌≡◌, ⊎_elim, ℕ, ◌+◌, ◌<◌, ◌≤◌, Bool, true, false, List, length, slice_get, Contains, Some, refl, sym, ◌∙◌, subst, arith, true≢false}
+use Rattle.std.specs.Bool.{Decides}
+use Rattle.std.proofs.lemmas.Bool.{cases_lt}
+use Rattle.std.proofs.lemmas.Option.{slice_get_within}
+use Rattle.sq_model.proofs.Lists.{Contains-slice_get, slice_get-Contains}
+
+-- two things at one place are one
+pub same_of : {X : Type 0} (xs : List X) (i j : ℕ) (x y : X) → slice_get xs i ≡ Some x → slice_get xs j ≡ Some y → j ≡ i → y ≡ x
+same_of xs i j x y at also same = let here = subst (λ k. slice_get xs k ≡ Some y) same also in cc
+
+-- it holds of those before a place, and of the one there
+pub each_more : {X : Type 0} (P : X → Type 0) (xs : List X) (n : ℕ) (x : X)
+    → ((i : ℕ) (y : X) → i < n → slice_get xs i ≡ Some y → P y) → slice_get xs n ≡ Some x → P x
+    → (i : ℕ) (y : X) → i < n + 1 → slice_get xs i ≡ Some y → P y
+each_more P xs n x before at here i y below there =
+    ⊎_elim
+    (λ low. before i y low there)
+    (λ from. subst P (sym (same_of xs n i x y at there (omega (arith, below, from)))) here)
+    (cases_lt i n)
+
+-- it holds of all once the loop is done
+pub each_done : {X : Type 0} (P : X → Type 0) (xs : List X) (n : ℕ)
+    → ((i : ℕ) (y : X) → i < n → slice_get xs i ≡ Some y → P y) → length xs ≤ n → Decides true ((x : X) → Contains xs x → P x)
+each_done P xs n before whole = (
+  (λ e x has.
+      let within = slice_get_within xs has.0 x (slice_get-Contains xs x has) in
+      before has.0 x (omega (arith, within, whole)) (slice_get-Contains xs x has)),
+  (λ all. refl),
+)
+
+-- one of which it doesn't hold
+pub each_fails : {X : Type 0} (P : X → Type 0) (xs : List X) (n : ℕ) (x : X) → slice_get xs n ≡ Some x → (P x → ⊥) → Decides false ((x : X) → Contains xs x → P x)
+each_fails P xs n x at fails = ((λ e. absurd (true≢false (sym e))), (λ all. absurd (fails (all x (Contains-slice_get xs n x at)))))
+
+-- what a test told where it failed, and where it didn't
+pub refuted : {P : Type 0} (b : Bool) → Decides b P → b ≡ false → P → ⊥
+refuted b d e p = true≢false (sym (d.1 p) ∙ e)
+
+pub shown : {P : Type 0} (b : Bool) → Decides b P → b ≡ true → P
+shown b d e = d.0 e

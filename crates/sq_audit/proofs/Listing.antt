@@ -1,0 +1,264 @@
+-- That all families of what was gathered are listed: those of a store by a walk, those of a chunk in their order.
+use Rattle.std.proofs.Common.{◌≡◌, ⊎_elim, ℕ, ◌+◌, ◌<◌, ◌≤◌, ◌==◌, get_or, true, nat_le, nat_lt, if◌then◌else◌, List, [], ◌∷◌, ◌++◌, map, length, slice_get, Contains, Option, Some, None, refl, sym, ap, ◌∙◌, subst, arith, append_assoc, eqb-true, eq-eqb}
+use Rattle.std.specs.Prelude.{option_and_then}
+use Rattle.std.specs.FinMap.{get}
+use Rattle.std.proofs.lemmas.Bool.{cases_lt, and_from, le-leb, lt-ltb, ne_eqb}
+use Rattle.std.proofs.lemmas.List.{map-append}
+use Rattle.std.proofs.lemmas.List.Elements.{Contains-append_left, Contains-append_right, Contains-append_cases, Contains-push}
+use Rattle.std.proofs.lemmas.Option.{slice_get_within, slice_get-get_or}
+use Rattle.sq_schema.specs.Family.{FamilyValue}
+use Rattle.sq_store.specs.StoreValue.{StoreValue, family_in}
+use Rattle.sq_store.specs.InOrder.{family_from, HoldsByRoot, are_within}
+use Rattle.sq_store.proofs.Rising.{rises}
+use Rattle.sq_store.proofs.Firsts.{first_is, first_none, none_between}
+use Rattle.sq_chunk.specs.ChunkValue.{ChunkValue}
+use Rattle.sq_model.proofs.Lists.{Contains-nothing, Contains-cases, Contains-slice_get, slice_get-Contains, found_in}
+use Rattle.sq_node_model.specs.declared.spot.Spot.{Spot}
+use Rattle.sq_node_model.specs.declared.spot.Spot.TheVariants.{Store, Chunk}
+use Rattle.sq_node_model.specs.Gathered.{GatheredLink, GatheredValue}
+use Rattle.sq_node_model.specs.Spots.{StandsAt}
+use Rattle.sq_node_model.proofs.Members.{Contains-map}
+use Rattle.sq_placed.proofs.Lists.{map_at}
+use Rattle.sq_audit.specs.declared.located.Located.{Located}
+use Rattle.sq_audit.specs.Located.{Entry, entry_of, entries_of, AreAllOf, AddsAll, AddsLink, ListsAll}
+
+no_some : {X : Type 0} (x : X) → None ≡ Some x → ⊥
+no_some x e = cc
+
+pub mapped_in : {X Y : Type 0} (f : X → Y) (xs : List X) (y : Y) → Contains (map f xs) y → (x : X) × Contains xs x × (f x ≡ y)
+mapped_in f xs y has = let at = map_at f xs has.0 y (slice_get-Contains (map f xs) y has) in (at.0, Contains-slice_get xs has.0 at.0 at.1, at.2)
+
+-- one more is listed
+pub pushed : (all : List Located) (one : Located) (before : List Entry) (families : List FamilyValue) (spot : Spot) (family : FamilyValue)
+    → entries_of all ≡ before ++ map (λ f. (spot, f)) families → entry_of one ≡ (spot, family)
+    → entries_of (all ++ one ∷ []) ≡ before ++ map (λ f. (spot, f)) (families ++ family ∷ [])
+pushed all one before families spot family so_far is =
+    let pair : FamilyValue → Entry = λ f. (spot, f) in
+    map-append entry_of all (one ∷ [])
+    ∙ ap (λ (es : List Entry). es ++ entry_of one ∷ []) so_far
+    ∙ ap (λ (e : Entry). (before ++ map pair families) ++ e ∷ []) is
+    ∙ append_assoc before (map pair families) (pair family ∷ [])
+    ∙ ap (λ (es : List Entry). before ++ es) (sym (map-append pair families (family ∷ [])))
+
+-- the families of a store below a root key
+pub record WalkedTo (store : StoreValue) (at : ℕ) (families : List FamilyValue) : Type 0 where
+  pub here : (family : FamilyValue) → Contains families family → get store family.root ≡ Some family
+  pub each : (root : ℕ) (family : FamilyValue) → root < at → get store root ≡ Some family → Contains families family
+
+pub walked_none : (store : StoreValue) → WalkedTo store 0 []
+walked_none store = record { here = λ family has. absurd (Contains-nothing family has); each = λ root family below at. absurd (omega (arith, below)) }
+
+module _ (store : StoreValue) (at : ℕ) (families : List FamilyValue) (by : HoldsByRoot store) (so_far : WalkedTo store at families) where
+  pub walked_next : (next : ℕ) (family : FamilyValue) → family_from store at ≡ Some family → next ≡ family.root + 1 → WalkedTo store next (families ++ family ∷ [])
+  walked_next next family found next_is =
+      let first = first_is store at by (family.root + 1) family found (omega arith) in
+      record {
+        here = λ other has.
+            ⊎_elim (so_far.here other)
+            (λ last. ⊎_elim
+            (λ same. subst (λ (f : FamilyValue). get store f.root ≡ Some f) same first.stands)
+            (λ none. absurd (Contains-nothing other none))
+            (Contains-cases family [] other last))
+            (Contains-append_cases families (family ∷ []) other has);
+        each = λ root other below stands.
+            ⊎_elim
+            (λ low. Contains-append_left families (family ∷ []) other (so_far.each root other low stands))
+            (λ upto. ⊎_elim
+            (λ under.
+            let between = and_from (nat_le at root) (nat_lt root family.root) (le-leb at root upto) (lt-ltb root family.root under) in
+            absurd (no_some other (sym (none_between store at family.root root (first.before family.root (omega arith)) between) ∙ stands)))
+            (λ from.
+            let same_root : root ≡ family.root = omega (arith, next_is, below, from) in
+            let here : get store family.root ≡ Some other = ap (get store) (sym same_root) ∙ stands in
+            let stands_first = first.stands in
+            let same : family ≡ other = cc in
+            subst (Contains (families ++ family ∷ [])) same (Contains-push families family))
+            (cases_lt root family.root))
+            (cases_lt root at);
+      }
+
+  pub walked_all : family_from store at ≡ None → AreAllOf (get store) families
+  walked_all none =
+      record {
+        here = so_far.here;
+        each = λ root family stands.
+            ⊎_elim
+            (λ low. so_far.each root family low stands)
+            (λ upto.
+            let between = and_from (nat_le at root) (nat_lt root (root + 1)) (le-leb at root upto) (lt-ltb root (root + 1) (omega arith)) in
+            absurd (no_some family (sym (none_between store at (root + 1) root (first_none store at by (root + 1) none) between) ∙ stands)))
+            (cases_lt root at);
+        keyed = by;
+      }
+
+-- families that rise are found by their root keys
+lowest : (lo hi : ℕ) (families : List FamilyValue) (family : FamilyValue) → are_within lo hi families ≡ true → Contains families family → lo ≤ family.root
+lowest lo hi [] family rise has = absurd (Contains-nothing family has)
+lowest lo hi (first ∷ families) family rise has =
+    let r = rises lo hi first families rise in
+    let low = r.low in
+    ⊎_elim
+    (λ same. let root : first.root ≡ family.root = ap (λ (f : FamilyValue). f.root) same in omega (arith, low, root))
+    (λ later. let above = lowest (first.root + 1) hi families family r.rest later in omega (arith, low, above))
+    (Contains-cases first families family has)
+
+found_here : (lo hi : ℕ) (families : List FamilyValue) (family : FamilyValue) → are_within lo hi families ≡ true → Contains families family → family_in families family.root ≡ Some family
+found_here lo hi [] family rise has = absurd (Contains-nothing family has)
+found_here lo hi (first ∷ families) family rise has =
+    let r = rises lo hi first families rise in
+    ⊎_elim
+    (λ same. ap (λ b. if b then Some first else family_in families family.root) (eq-eqb first.root family.root (ap (λ (f : FamilyValue). f.root) same)) ∙ ap Some same)
+    (λ later.
+    let above = lowest (first.root + 1) hi families family r.rest later in
+    ap (λ b. if b then Some first else family_in families family.root) (ne_eqb first.root family.root (λ same. absurd (omega (arith, above, same))))
+    ∙ found_here (first.root + 1) hi families family r.rest later)
+    (Contains-cases first families family has)
+
+pub carried_all : (lo hi : ℕ) (families : List FamilyValue) → are_within lo hi families ≡ true → AreAllOf (family_in families) families
+carried_all lo hi families rise =
+    record {
+      here = λ family has. found_here lo hi families family rise has;
+      each = λ root family found. (found_in (λ f. f.root == root) families family found).0;
+      keyed = λ root family found. eqb-true family.root root (found_in (λ f. f.root == root) families family found).1;
+    }
+
+-- the families of the chunks before one of a link
+pub record CarriedTo (link : ℕ) (of : GatheredLink) (upto : ℕ) (entries : List Entry) : Type 0 where
+  pub here : (entry : Entry) → Contains entries entry → (chunk : ℕ) × (found : ChunkValue) × (entry.0 ≡ Chunk link chunk) × (slice_get of.under_way chunk ≡ Some found) × (family_in found.families entry.1.root ≡ Some entry.1)
+  pub each : (chunk root : ℕ) (found : ChunkValue) (family : FamilyValue) → chunk < upto → slice_get of.under_way chunk ≡ Some found → family_in found.families root ≡ Some family
+      → Contains entries (Chunk link chunk, family) × (family.root ≡ root)
+
+pub carried_none : (link : ℕ) (of : GatheredLink) → CarriedTo link of 0 []
+carried_none link of = record { here = λ entry has. absurd (Contains-nothing entry has); each = λ chunk root found family below there at. absurd (omega (arith, below)) }
+
+-- what is added of a spot
+abbrev pub of_spot : Spot → List FamilyValue → List Entry
+of_spot spot families = map (λ family. (spot, family)) families
+
+same_of : {X : Type 0} (xs : List X) (i j : ℕ) (x y : X) → slice_get xs i ≡ Some x → slice_get xs j ≡ Some y → j ≡ i → y ≡ x
+same_of xs i j x y at also same = let here = subst (λ k. slice_get xs k ≡ Some y) same also in cc
+
+module _ (link : ℕ) (of : GatheredLink) (chunk : ℕ) (found : ChunkValue) (there : slice_get of.under_way chunk ≡ Some found) where
+  pub carried_next : (entries : List Entry) (families : List FamilyValue) → CarriedTo link of chunk entries → AreAllOf (family_in found.families) families
+      → CarriedTo link of (chunk + 1) (entries ++ of_spot (Chunk link chunk) families)
+  carried_next entries families so_far all =
+      let more = of_spot (Chunk link chunk) families in
+      record {
+        here = λ entry has.
+            ⊎_elim (so_far.here entry)
+            (λ last.
+            let at = mapped_in (λ family. (Chunk link chunk, family)) families entry last in
+            (chunk, found, ap (λ (e : Entry). e.0) (sym at.2), there, subst (λ (f : FamilyValue). family_in found.families f.root ≡ Some f) (ap (λ (e : Entry). e.1) at.2) (all.here at.0 at.1)))
+            (Contains-append_cases entries more entry has);
+        each = λ other root again family below also stands.
+            ⊎_elim
+            (λ low. let old = so_far.each other root again family low also stands in (Contains-append_left entries more (Chunk link other, family) old.0, old.1))
+            (λ from.
+            let here : other ≡ chunk = omega (arith, below, from) in
+            let same : again ≡ found = same_of of.under_way chunk other found again there also here in
+            let stands_here : family_in found.families root ≡ Some family = ap (λ (c : ChunkValue). family_in c.families root) (sym same) ∙ stands in
+            let listed = Contains-append_right entries more (Chunk link chunk, family) (Contains-map (λ f. (Chunk link chunk, f)) families family (all.each root family stands_here)) in
+            (subst (λ k. Contains (entries ++ more) (Chunk link k, family)) (sym here) listed, all.keyed root family stands_here))
+            (cases_lt other chunk);
+      }
+
+pub carried_whole : (link : ℕ) (of : GatheredLink) (old new entries : List Entry) → CarriedTo link of (length of.under_way) entries → new ≡ old ++ entries → AddsLink link of old new
+carried_whole link of old new entries whole added =
+    record {
+      entries = entries;
+      here = whole.here;
+      each = λ chunk root found family there stands. whole.each chunk root found family (slice_get_within of.under_way chunk found there) there stands;
+      added = added;
+    }
+
+-- the families of the stores before one
+pub record StoredTo (g : GatheredValue) (upto : ℕ) (entries : List Entry) : Type 0 where
+  pub here : (entry : Entry) → Contains entries entry → StandsAt g entry.0 entry.1.root entry.1
+  pub stores : (part root : ℕ) (family : FamilyValue) → part < upto → StandsAt g (Store part) root family → Contains entries (Store part, family) × (family.root ≡ root)
+
+-- and of all stores, and of the links before one
+pub record LinkedTo (g : GatheredValue) (upto : ℕ) (entries : List Entry) : Type 0 where
+  pub here : (entry : Entry) → Contains entries entry → StandsAt g entry.0 entry.1.root entry.1
+  pub stores : (part root : ℕ) (family : FamilyValue) → StandsAt g (Store part) root family → Contains entries (Store part, family) × (family.root ≡ root)
+  pub links : (link chunk root : ℕ) (family : FamilyValue) → link < upto → StandsAt g (Chunk link chunk) root family → Contains entries (Chunk link chunk, family) × (family.root ≡ root)
+
+of_some : {X Y : Type 0} (f : X → Option Y) (found : Option X) (y : Y) → option_and_then f found ≡ Some y → (x : X) × (found ≡ Some x) × (f x ≡ Some y)
+of_some f None y at = absurd (no_some y at)
+of_some f (Some x) y at = (x, refl, at)
+
+module _ (g : GatheredValue) where
+  pub stored_none : StoredTo g 0 []
+  stored_none = record { here = λ entry has. absurd (Contains-nothing entry has); stores = λ part root family below stands. absurd (omega (arith, below)) }
+
+  pub stored_next : (part : ℕ) (store : StoreValue) (old new : List Entry) → slice_get g.stores part ≡ Some store → StoredTo g part old → AddsAll (Store part) (get store) old new → StoredTo g (part + 1) new
+  stored_next part store old new there so_far adds =
+      let more = of_spot (Store part) adds.families in
+      subst (StoredTo g (part + 1)) (sym adds.added)
+      (record {
+        here = λ entry has.
+            ⊎_elim (so_far.here entry)
+            (λ last.
+            let at = mapped_in (λ family. (Store part, family)) adds.families entry last in
+            subst (λ (e : Entry). StandsAt g e.0 e.1.root e.1) at.2
+            (ap (option_and_then (λ (s : StoreValue). get s at.0.root)) there ∙ adds.all.here at.0 at.1))
+            (Contains-append_cases old more entry has);
+        stores = λ other root family below stands.
+            ⊎_elim
+            (λ low. let before = so_far.stores other root family low stands in (Contains-append_left old more (Store other, family) before.0, before.1))
+            (λ from.
+            let here : other ≡ part = omega (arith, below, from) in
+            let stands_here : get store root ≡ Some family = sym (ap (option_and_then (λ (s : StoreValue). get s root)) (ap (slice_get g.stores) here ∙ there)) ∙ stands in
+            let listed = Contains-append_right old more (Store part, family) (Contains-map (λ f. (Store part, f)) adds.families family (adds.all.each root family stands_here)) in
+            (subst (λ k. Contains (old ++ more) (Store k, family)) (sym here) listed, adds.all.keyed root family stands_here))
+            (cases_lt other part);
+      })
+
+  pub linked_none : (entries : List Entry) → StoredTo g (length g.stores) entries → LinkedTo g 0 entries
+  linked_none entries stored =
+      record {
+        here = stored.here;
+        stores = λ part root family stands.
+            let at = of_some (λ (s : StoreValue). get s root) (slice_get g.stores part) family stands in
+            stored.stores part root family (slice_get_within g.stores part at.0 at.1) stands;
+        links = λ link chunk root family below stands. absurd (omega (arith, below));
+      }
+
+  pub linked_next : (link : ℕ) (of : GatheredLink) (old new : List Entry) → slice_get g.links link ≡ Some of → LinkedTo g link old → AddsLink link of old new → LinkedTo g (link + 1) new
+  linked_next link of old new there so_far adds =
+      let more = adds.entries in
+      let chunk_at : (chunk : ℕ) → option_and_then (λ (l : GatheredLink). slice_get l.under_way chunk) (slice_get g.links link) ≡ slice_get of.under_way chunk = λ chunk. ap (option_and_then (λ (l : GatheredLink). slice_get l.under_way chunk)) there in
+      subst (LinkedTo g (link + 1)) (sym adds.added)
+      (record {
+        here = λ entry has.
+            ⊎_elim (so_far.here entry)
+            (λ last.
+            let at = adds.here entry last in
+            subst (λ (spot : Spot). StandsAt g spot entry.1.root entry.1) (sym at.2)
+            (ap (option_and_then (λ (c : ChunkValue). family_in c.families entry.1.root)) (chunk_at at.0 ∙ at.3) ∙ at.4))
+            (Contains-append_cases old more entry has);
+        stores = λ part root family stands. let before = so_far.stores part root family stands in (Contains-append_left old more (Store part, family) before.0, before.1);
+        links = λ other chunk root family below stands.
+            ⊎_elim
+            (λ low. let before = so_far.links other chunk root family low stands in (Contains-append_left old more (Chunk other chunk, family) before.0, before.1))
+            (λ from.
+            let here : other ≡ link = omega (arith, below, from) in
+            let stands_here : StandsAt g (Chunk link chunk) root family = subst (λ k. StandsAt g (Chunk k chunk) root family) here stands in
+            let at = of_some (λ (c : ChunkValue). family_in c.families root) (option_and_then (λ (l : GatheredLink). slice_get l.under_way chunk) (slice_get g.links link)) family stands_here in
+            let listed = adds.each chunk root at.0 family (sym (chunk_at chunk) ∙ at.1) at.2 in
+            (subst (λ k. Contains (old ++ more) (Chunk k chunk, family)) (sym here) (Contains-append_right old more (Chunk link chunk, family) listed.0), listed.1))
+            (cases_lt other link);
+      })
+
+  pub listed_all : (entries : List Entry) → LinkedTo g (length g.links) entries → ListsAll g entries
+  listed_all entries linked = record { here = linked.here; each = λ spot root family stands. (known spot root family stands).0; keyed = λ spot root family stands. (known spot root family stands).1 }
+    where
+      known : (spot : Spot) (root : ℕ) (family : FamilyValue) → StandsAt g spot root family → Contains entries (spot, family) × (family.root ≡ root)
+      known (Store part) root family stands = linked.stores part root family stands
+      known (Chunk link chunk) root family stands =
+          let at = of_some (λ (c : ChunkValue). family_in c.families root) (option_and_then (λ (l : GatheredLink). slice_get l.under_way chunk) (slice_get g.links link)) family stands in
+          let of = of_some (λ (l : GatheredLink). slice_get l.under_way chunk) (slice_get g.links link) at.0 at.1 in
+          linked.links link chunk root family (slice_get_within g.links link of.0 of.1) stands
+
+-- what an iteration reads
+pub item_at : {X : Type 0} (xs : List X) (i : ℕ) (x : X) → x ≡ get_or xs i x → i < length xs → slice_get xs i ≡ Some x
+item_at xs i x is within = slice_get-get_or xs i x within ∙ ap Some (sym is)

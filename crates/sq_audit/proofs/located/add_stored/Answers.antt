@@ -1,0 +1,41 @@
+use Rattle.std.proofs.Common.{◌≡◌, ◌+◌, ◌<◌, ◌≤◌, ◌++◌, ◌∷◌, [], sym, ap, ◌∙◌, refl, arith}
+use Rattle.std.proofs.lemmas.List.{append-nil}
+use Rattle.sq_schema.specs.declared.root.TheConstants.{ROOT_END}
+use Rattle.sq_store.proofs.Firsts.{first_is}
+use Rattle.sq_audit.specs.declared.located.Located.{Located}
+use Rattle.sq_audit.specs.Located.{spot_of, entries_of}
+use Rattle.sq_audit.proofs.Listing.{pushed, walked_none, walked_next, walked_all}
+use Rattle.sq_audit.proofs.located.add_stored.Goals as goal
+
+pub loop-family-init : goal.loop-family-init
+loop-family-init c = ([], sym (append-nil (entries_of c.args.all.now.items)), walked_none c.args.store.now, omega arith)
+
+pub loop-family-smaller : goal.loop-family-smaller
+loop-family-smaller c =
+    let family = c.in-Some.family.now in
+    let first = first_is c.args.store.now c.loop-family.at c.walk.ensures.rooted (family.root + 1) family (sym c.in-Some.ensures.family) (omega arith) in
+    let from : c.loop-family.at ≤ family.root = first.from in
+    let number : c.number-at.result ≡ family.root = c.number-at.ensures.number ∙ c.root.ensures in
+    let bound : c.number-at.result < ROOT_END = c.number-at.ensures.bound in
+    omega (arith, from, number, bound)
+
+pub loop-family-preserved : goal.loop-family-preserved
+loop-family-preserved c =
+    let family = c.in-Some.family.now in
+    let so_far = c.loop-family.invariant in
+    let one : Located = record { site = c.args.site; family = c.in-Some.family } in
+    let number : c.number-at.result ≡ family.root = c.number-at.ensures.number ∙ c.root.ensures in (
+      so_far.0 ++ family ∷ [],
+      ap entries_of c.in_ok-push.ensures.items ∙ pushed c.loop-family.all.items one (entries_of c.args.all.now.items) so_far.0 (spot_of c.args.site) family so_far.1 refl,
+      walked_next c.args.store.now c.loop-family.at so_far.0 c.walk.ensures.rooted so_far.2 (c.number-at.result + 1) family (sym c.in-Some.ensures.family) (ap (λ n. n + 1) number),
+      (let bound : c.number-at.result < ROOT_END = c.number-at.ensures.bound in omega (arith, bound)),
+    )
+
+pub returns : goal.returns
+returns c =
+    let so_far = c.loop-family.invariant in
+    record {
+      families = so_far.0;
+      all = walked_all c.args.store.now c.loop-family.at so_far.0 c.walk.ensures.rooted so_far.2 (sym c.in_default.ensures.family);
+      added = so_far.1;
+    }

@@ -1,0 +1,18 @@
+-- How many receipts there are of each id and root key.
+use Rattle.std.specs.Prelude.{◌≡◌, ℕ, Bool, ◌==◌, ◌&&◌, List, count_by, unwrap_or}
+use Rattle.std.specs.declared.cmp.Ordering.{Ordering}
+use Rattle.std.specs.Ordering.{nat_cmp, ordering_then}
+use Rattle.std.specs.BTreeMap.{BTreeMap, get}
+use Rattle.sq_node_model.specs.NodeValue.{ReceiptValue}
+
+-- an id and a root key, in order
+abbrev pub key_order : ℕ × ℕ → ℕ × ℕ → Ordering
+key_order one other = ordering_then (nat_cmp one.0 other.0) (nat_cmp one.1 other.1)
+
+-- the receipt has this id and this root key
+abbrev pub has_key : ℕ → ℕ → ReceiptValue → Bool
+has_key id root receipt = (receipt.id == id) && (receipt.root == root)
+
+-- the map has the count of each id and root key, or nothing where there is none
+abbrev pub Counts : List ReceiptValue → BTreeMap (ℕ × ℕ) ℕ → Type 0
+Counts receipts counts = (id root : ℕ) → unwrap_or (get key_order counts (id, root)) 0 ≡ count_by (has_key id root) receipts

@@ -1,0 +1,55 @@
+-- What is told of root keys and their families.
+use Rattle.std.specs.Prelude.{◌≡◌, ◌<◌, ⊤, ℕ, List, slice_get, Option, Some, None, IsSome, Contains}
+use Rattle.std.specs.Ordering.{nat_cmp}
+use Rattle.std.specs.BTreeMap.{BTreeMap, get}
+use Rattle.sq_schema.specs.Effect.{RowList, RowTable}
+use Rattle.sq_schema.specs.Family.{FamilyValue}
+use Rattle.sq_schema.specs.Table.{TableValue}
+use Rattle.sq_node_model.specs.declared.spot.Spot.{Spot}
+use Rattle.sq_audit.specs.Located.{Entry}
+
+-- what stands at this place has this key
+pub record HasKeyAt {X : Type 0} (key : X → ℕ) (xs : List X) (k place : ℕ) : Type 0 where
+  pub one : X
+  pub there : slice_get xs place ≡ Some one
+  pub key_is : key one ≡ k
+
+-- the index has the place of one of each key that some have, of those before a place
+pub record IsIndexTo {X : Type 0} (key : X → ℕ) (xs : List X) (upto : ℕ) (places : BTreeMap ℕ ℕ) : Type 0 where
+  pub found : (k place : ℕ) → get nat_cmp places k ≡ Some place → HasKeyAt key xs k place
+  pub before : (k place : ℕ) → get nat_cmp places k ≡ Some place → place < upto
+  pub none : (k : ℕ) → get nat_cmp places k ≡ None → (place : ℕ) (x : X) → place < upto → slice_get xs place ≡ Some x → key x ≡ k → ⊥
+
+-- the index has the place of one of each key that some have
+pub record IsIndex {X : Type 0} (key : X → ℕ) (xs : List X) (places : BTreeMap ℕ ℕ) : Type 0 where
+  pub found : (k place : ℕ) → get nat_cmp places k ≡ Some place → HasKeyAt key xs k place
+  pub none : (k : ℕ) → get nat_cmp places k ≡ None → (x : X) → Contains xs x → key x ≡ k → ⊥
+
+-- the root key of an entry
+abbrev pub root_of : Entry → ℕ
+root_of entry = entry.1.root
+
+-- the entry at this place is at the spot, if there is a place
+abbrev pub IsThere : List Entry → Option ℕ → Spot → Type 0
+IsThere entries None spot = ⊤
+IsThere entries (Some place) spot = (entry : Entry) → slice_get entries place ≡ Some entry → entry.0 ≡ spot
+
+-- entries before a place of one root key have one spot
+abbrev pub AgreeTo : List Entry → ℕ → Type 0
+AgreeTo entries upto =
+    (i j : ℕ) (one other : Entry) → i < upto → j < upto → slice_get entries i ≡ Some one → slice_get entries j ≡ Some other → one.1.root ≡ other.1.root → one.0 ≡ other.0
+
+-- entries of one root key have one spot
+abbrev pub AgreeOnSpots : List Entry → Type 0
+AgreeOnSpots entries = (one other : Entry) → Contains entries one → Contains entries other → one.1.root ≡ other.1.root → one.0 ≡ other.0
+
+-- each root key of the table has a family
+abbrev pub HaveFamilies : TableValue → BTreeMap ℕ ℕ → Type 0
+HaveFamilies table places = (entry : ℕ × RowList) → Contains table entry → IsSome (get nat_cmp places entry.0)
+
+-- the family's base is the rows of its root key
+abbrev pub StartsFrom : RowTable → FamilyValue → Type 0
+StartsFrom rows family = family.base ≡ rows family.root
+
+abbrev pub StartFrom : RowTable → List Entry → Type 0
+StartFrom rows entries = (entry : Entry) → Contains entries entry → StartsFrom rows entry.1

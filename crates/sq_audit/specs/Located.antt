@@ -1,0 +1,52 @@
+-- The families of what was gathered, each with where it is.
+use Rattle.std.specs.Prelude.{◌≡◌, ℕ, List, ◌++◌, map, slice_get, Option, Some, Contains}
+use Rattle.sq_schema.specs.Family.{FamilyValue}
+use Rattle.sq_store.specs.StoreValue.{family_in}
+use Rattle.sq_chunk.specs.ChunkValue.{ChunkValue}
+use Rattle.sq_node_model.specs.declared.spot.Spot.{Spot}
+use Rattle.sq_node_model.specs.declared.spot.Spot.TheVariants as spots
+use Rattle.sq_node_model.specs.Gathered.{GatheredLink, GatheredValue}
+use Rattle.sq_node_model.specs.Spots.{StandsAt}
+use Rattle.sq_audit.specs.declared.located.Site.{Site}
+use Rattle.sq_audit.specs.declared.located.Site.TheVariants.{Store, Chunk}
+use Rattle.sq_audit.specs.declared.located.Located.{Located}
+
+abbrev pub spot_of : Site → Spot
+spot_of (Store part) = spots.Store part
+spot_of (Chunk link chunk) = spots.Chunk link chunk
+
+-- a family, and its spot
+abbrev pub Entry : Type 0
+Entry = Spot × FamilyValue
+
+abbrev pub entry_of : Located → Entry
+entry_of located = (spot_of located.site, located.family.now)
+
+abbrev pub entries_of : List Located → List Entry
+entries_of all = map entry_of all
+
+-- these families are just those of their root keys
+pub record AreAllOf (family_of : ℕ → Option FamilyValue) (families : List FamilyValue) : Type 0 where
+  pub here : (family : FamilyValue) → Contains families family → family_of family.root ≡ Some family
+  pub each : (root : ℕ) (family : FamilyValue) → family_of root ≡ Some family → Contains families family
+  pub keyed : (root : ℕ) (family : FamilyValue) → family_of root ≡ Some family → family.root ≡ root
+
+-- all families of a spot were added
+pub record AddsAll (spot : Spot) (family_of : ℕ → Option FamilyValue) (old new : List Entry) : Type 0 where
+  pub families : List FamilyValue
+  pub all : AreAllOf family_of families
+  pub added : new ≡ old ++ map (λ family. (spot, family)) families
+
+-- all families of the chunks of a link were added
+pub record AddsLink (link : ℕ) (of : GatheredLink) (old new : List Entry) : Type 0 where
+  pub entries : List Entry
+  pub here : (entry : Entry) → Contains entries entry → (chunk : ℕ) × (found : ChunkValue) × (entry.0 ≡ spots.Chunk link chunk) × (slice_get of.under_way chunk ≡ Some found) × (family_in found.families entry.1.root ≡ Some entry.1)
+  pub each : (chunk root : ℕ) (found : ChunkValue) (family : FamilyValue) → slice_get of.under_way chunk ≡ Some found → family_in found.families root ≡ Some family
+      → Contains entries (spots.Chunk link chunk, family) × (family.root ≡ root)
+  pub added : new ≡ old ++ entries
+
+-- these are just the families that stand
+pub record ListsAll (g : GatheredValue) (entries : List Entry) : Type 0 where
+  pub here : (entry : Entry) → Contains entries entry → StandsAt g entry.0 entry.1.root entry.1
+  pub each : (spot : Spot) (root : ℕ) (family : FamilyValue) → StandsAt g spot root family → Contains entries (spot, family)
+  pub keyed : (spot : Spot) (root : ℕ) (family : FamilyValue) → StandsAt g spot root family → family.root ≡ root

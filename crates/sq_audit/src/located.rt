@@ -1,0 +1,84 @@
+// The families of what was gathered, each with where it is.
+ghost use Rattle.std.specs.Prelude.{◌≡◌, ◌++◌, ◌∷◌, [], List, map, IfOk, OnOk};
+ghost use Rattle.std.specs.FinMap.{get};
+ghost use Rattle.sq_schema.specs.Family.{FamilyValue};
+ghost use Rattle.sq_store.specs.StoreValue.{family_in};
+ghost use Rattle.sq_audit.specs.Located.{spot_of, entries_of, ListsAll, AddsAll, AddsLink};
+
+use crate::gathered::{Gathered, GatheredLink};
+use sq_chunk::Chunk;
+use sq_schema::Family;
+use sq_store::{FamilyStore, SlabStore};
+use std::alloc::{AllocError, Global};
+
+/// Where a family is: in a store or in a chunk, by their places from 0.
+#[derive(Clone, Copy, Debug, PartialEq, Eq)]
+pub(crate) enum Site {
+    Store(usize),
+    Chunk { link: usize, chunk: usize },
+}
+
+/// A family, and where it is.
+#[derive(Clone, Copy, Debug)]
+pub(crate) struct Located<'a> {
+    pub(crate) site: Site,
+    pub(crate) family: &'a Family,
+}
+
+/// All families of what was gathered.
+pub(crate) fn locate(alloc: Global, g: &Gathered) -> Result<Vec<Located<'_>>, AllocError>
+    ensures { IfOk result (λ all. ListsAll g.now (entries_of all.items)) }
+{
+    let mut all = Vec::new(alloc);
+    for (part, store) in g.stores.iter().enumerate() {
+        add_stored(&mut all, Site::Store(part), store)?;
+    }
+    for (at, link) in g.links.iter().enumerate() {
+        add_under_way(&mut all, at, link)?;
+    }
+    Ok(all)
+}
+
+// Adds the families of a store.
+fn add_stored<'a>(
+    all: &mut Vec<Located<'a>>,
+    site: Site,
+    store: &'a SlabStore,
+) -> Result<(), AllocError>
+    ensures { OnOk result (AddsAll (spot_of site) (get store.now) (entries_of all.old.items) (entries_of all.new.items)) }
+{
+    let mut at = 0;
+    while let Some(family) = store.walk(at) {
+        all.push(Located { site, family })?;
+        at = family.root().number() + 1;
+    }
+    Ok(())
+}
+
+// Adds the families of the chunks of a link that are under way.
+fn add_under_way<'a>(
+    all: &mut Vec<Located<'a>>,
+    link: usize,
+    of: &'a GatheredLink,
+) -> Result<(), AllocError>
+    ensures { OnOk result (AddsLink link of.now (entries_of all.old.items) (entries_of all.new.items)) }
+{
+    for (chunk, carried) in of.under_way.iter().enumerate() {
+        add_carried(all, Site::Chunk { link, chunk }, carried)?;
+    }
+    Ok(())
+}
+
+// Adds the families of a chunk.
+fn add_carried<'a>(
+    all: &mut Vec<Located<'a>>,
+    site: Site,
+    chunk: &'a Chunk,
+) -> Result<(), AllocError>
+    ensures { OnOk result (AddsAll (spot_of site) (family_in chunk.now.families) (entries_of all.old.items) (entries_of all.new.items)) }
+{
+    for family in chunk.families() {
+        all.push(Located { site, family })?;
+    }
+    Ok(())
+}
