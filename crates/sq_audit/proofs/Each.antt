@@ -1,8 +1,10 @@
 -- What a loop over a list tells of each element.
-use Rattle.std.proofs.Common.{◌≡◌, ⊎_elim, ℕ, ◌+◌, ◌<◌, ◌≤◌, Bool, true, false, List, length, slice_get, Contains, Some, refl, sym, ◌∙◌, subst, arith, true≢false}
+use Rattle.std.proofs.Common.{◌≡◌, ⊎_elim, ℕ, ◌+◌, ◌<◌, ◌≤◌, Bool, true, false, List, length, slice_get, Contains, Some, refl, sym, ◌∙◌, subst, arith, true≢false, Bor, ltb-true, ltb-false, Option, None, ap, ◌==◌, eq-eqb}
 use Rattle.std.specs.Bool.{Decides}
-use Rattle.std.proofs.lemmas.Bool.{cases_lt}
-use Rattle.std.proofs.lemmas.Option.{slice_get_within}
+use Rattle.std.specs.Option.{option_copied}
+use Rattle.std.specs.Slice.{IsItemAt}
+use Rattle.std.proofs.lemmas.Bool.{cases_lt, cases_eq}
+use Rattle.std.proofs.lemmas.Option.{slice_get_within, slice_get_past, slice_get-get_or}
 use Rattle.sq_model.proofs.Lists.{Contains-slice_get, slice_get-Contains}
 
 -- two things at one place are one
@@ -39,3 +41,18 @@ refuted b d e p = true≢false (sym (d.1 p) ∙ e)
 
 pub shown : {P : Type 0} (b : Bool) → Decides b P → b ≡ true → P
 shown b d e = d.0 e
+
+-- what a look-up by place gives
+pub looked_up : {X : Type 0} (xs : List X) (i : ℕ) (r : Option (Bor X)) → IsItemAt xs i r → option_copied r ≡ slice_get xs i
+looked_up xs i None is = sym (slice_get_past xs i (ltb-false i (length xs) (sym is.0)))
+looked_up xs i (Some x) is = sym (slice_get-get_or xs i x.now (ltb-true i (length xs) (sym is.0)) ∙ ap Some (sym is.1))
+
+pub some_same : {X : Type 0} {x y : X} → Some x ≡ Some y → x ≡ y
+some_same e = cc
+
+pub no_some : {X : Type 0} (x : X) → None ≡ Some x → ⊥
+no_some x e = cc
+
+-- a test of two numbers that can't be apart
+pub by_cases : (m n : ℕ) → ((m ≡ n → ⊥) → ⊥) → (m == n) ≡ true
+by_cases m n never = ⊎_elim (λ same. eq-eqb m n same) (λ apart. absurd (never apart)) (cases_eq m n)

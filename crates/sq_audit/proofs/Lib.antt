@@ -3,3 +3,9 @@ pub mod Listing
 pub mod Each
 pub mod Indexing
 pub mod Counting
+pub mod Jobs
+pub mod Lists
+pub mod Walks
+pub mod Orders
+pub mod Knowing
+pub mod Auditing

@@ -4,3 +4,4 @@ pub mod Sound
 pub mod Defects
 pub mod Located
 pub mod Index
+pub mod Told

@@ -2,11 +2,13 @@
 #![tactic(auto)]
 
 mod answered;
+mod by_id;
 mod gathered;
 mod index;
 mod job;
 pub mod laws;
 mod located;
+mod told;
 mod verdict;
 
 pub use gathered::{Gathered, GatheredLink, Receipt};

@@ -1,0 +1,232 @@
+-- Receipts in order, and those of one root key among them.
+use Rattle.std.proofs.Common.{◌≡◌, ◌⊎◌, inl, inr, ⊎_elim, ℕ, zero, suc, ◌+◌, ◌-◌, ◌<◌, ◌≤◌, ◌==◌, nat_lt, nat_le, Bool, true, false, List, [], ◌∷◌, length, get_or, take, drop, slice_get, filter, Some, refl, sym, ap, ◌∙◌, subst, arith, true≢false, eqb-true, Bor}
+use Rattle.std.specs.declared.cmp.Ordering.{Ordering}
+use Rattle.std.specs.declared.cmp.Ordering.TheVariants.{Less, Equal, Greater}
+use Rattle.std.specs.Ordering.{nat_cmp, bool_cmp, ordering_then, is_lt, is_eq}
+use Rattle.std.specs.Cmp.{IsTotalOrder, unsigned_tied, then_total, on_total, nat_cmp_total, bool_cmp_total}
+use Rattle.std.specs.List.Sorted.{IsSortedByKey, IsNonDecreasingBy, IsPartitionedBy, IsPartitionPoint}
+use Rattle.std.proofs.lemmas.Bool.{cases_Bool, cases_lt, eq-eqb, ne_eqb, ltb-true, ltb-false, leb-true, leb-false}
+use Rattle.std.proofs.lemmas.List.Sorted.{ranks_by, sorted_far, IsNonDecreasingBy-drop, IsPartitionedBy-ltb, IsPartitionedBy-leb}
+use Rattle.std.proofs.lemmas.Option.{slice_get_within, slice_get-get_or, get_or_from_slice_get}
+use Rattle.sq_store.proofs.Order.{cmp_less}
+use Rattle.std.proofs.lemmas.List.{length-map, get_or-map}
+use Rattle.sq_placed.proofs.Lists.{at_map, stands_at}
+use Rattle.sq_model.proofs.Lists.{filter-first, filter-other}
+use Rattle.sq_audit.proofs.Lists.{at_dropped}
+use Rattle.sq_node_model.specs.NodeValue.{ReceiptValue}
+use Rattle.sq_node_model.specs.Receipts.{is_commit}
+use Rattle.sq_audit.specs.Told.{values_of, receipts_of, receipt_key, key_order, ReceiptKey, AreInOrder}
+
+is_equal : (o : Ordering) → is_eq o ≡ true → o ≡ Equal
+is_equal Less e = absurd (true≢false (sym e))
+is_equal Equal e = refl
+is_equal Greater e = absurd (true≢false (sym e))
+
+cmp_equal : (x y : ℕ) → x ≡ y → nat_cmp x y ≡ Equal
+cmp_equal x y same = is_equal (nat_cmp x y) (unsigned_tied x y ∙ eq-eqb x y same)
+
+key_total : IsTotalOrder key_order
+key_total = then_total (then_total (on_total (λ (k : ReceiptKey). k.0) nat_cmp_total) (on_total (λ (k : ReceiptKey). k.1) nat_cmp_total)) (on_total (λ (k : ReceiptKey). k.2) bool_cmp_total)
+
+-- what the order says of two receipts, the first of which comes before
+abbrev pub Precedes : ReceiptValue → ReceiptValue → Type 0
+Precedes one other =
+    (one.root < other.root)
+    ⊎ ((one.root ≡ other.root) × ((one.position < other.position) ⊎ ((one.position ≡ other.position) × (is_commit one.reply ≡ true → is_commit other.reply ≡ true))))
+
+bool_upto : (a b : Bool) → is_lt (bool_cmp a b) ≡ false → b ≡ true → a ≡ true
+bool_upto true b e is = refl
+bool_upto false true e is = absurd (true≢false e)
+bool_upto false false e is = absurd (true≢false (sym is))
+
+-- no key that isn't less precedes
+precedes : (one other : ReceiptValue) → is_lt (key_order (receipt_key other) (receipt_key one)) ≡ false → Precedes one other
+precedes one other e =
+    let commits = bool_cmp (is_commit other.reply) (is_commit one.reply) in
+    ⊎_elim
+    (λ less. absurd (true≢false (sym (ap (λ o. is_lt (ordering_then (ordering_then o (nat_cmp other.position one.position)) commits)) (cmp_less other.root one.root less)) ∙ e)))
+    (λ upto.
+    ⊎_elim
+    (λ before. inl before)
+    (λ from.
+    let same : other.root ≡ one.root = omega (arith, upto, from) in
+    let level : is_lt (ordering_then (nat_cmp other.position one.position) commits) ≡ false = sym (ap (λ o. is_lt (ordering_then (ordering_then o (nat_cmp other.position one.position)) commits)) (cmp_equal other.root one.root same)) ∙ e in
+    inr (
+      sym same,
+      ⊎_elim
+          (λ less. absurd (true≢false (sym (ap (λ o. is_lt (ordering_then o commits)) (cmp_less other.position one.position less)) ∙ level)))
+          (λ at_least.
+          ⊎_elim
+          (λ low. inl low)
+          (λ high.
+          let at : other.position ≡ one.position = omega (arith, at_least, high) in
+          inr (sym at, bool_upto (is_commit other.reply) (is_commit one.reply) (sym (ap (λ o. is_lt (ordering_then o commits)) (cmp_equal other.position one.position at)) ∙ level)))
+          (cases_lt one.position other.position))
+          (cases_lt other.position one.position),
+    ))
+    (cases_lt one.root other.root))
+    (cases_lt other.root one.root)
+
+module _ (receipts : List ReceiptValue) (sorted : IsSortedByKey receipt_key key_order receipts) where
+  pub in_order : (i j : ℕ) (one other : ReceiptValue) → i < j → slice_get receipts i ≡ Some one → slice_get receipts j ≡ Some other → Precedes one other
+  in_order i j one other before at there =
+      let within = slice_get_within receipts j other there in
+      let far = sorted_far (λ x y. is_lt (key_order (receipt_key x) (receipt_key y))) (ranks_by key_total receipt_key) receipts sorted i j one (omega (arith, before)) within in
+      precedes one other
+      ((λ k. is_lt (key_order (receipt_key (sym (get_or_from_slice_get receipts j other one there) k)) (receipt_key (sym (get_or_from_slice_get receipts i one one at) k)))) ∙ far)
+
+  pub roots_rise : (i j : ℕ) (one other : ReceiptValue) → i ≤ j → slice_get receipts i ≡ Some one → slice_get receipts j ≡ Some other → one.root ≤ other.root
+  roots_rise i j one other upto at there =
+      ⊎_elim
+      (λ before. ⊎_elim (λ less. omega (arith, less)) (λ level. let same = level.0 in omega (arith, same)) (in_order i j one other before at there))
+      (λ from.
+      let here : i ≡ j = omega (arith, upto, from) in
+      let again = subst (λ k. slice_get receipts k ≡ Some one) here at in
+      let e = same_root again there in
+      omega (arith, e))
+      (cases_lt i j)
+    where
+      same_root : {x y : ReceiptValue} → slice_get receipts j ≡ Some x → slice_get receipts j ≡ Some y → x.root ≡ y.root
+      same_root {x} {y} a b = let e : x ≡ y = cc in ap (λ (r : ReceiptValue). r.root) e
+
+-- what is kept of a list stands in it in the same order
+pub record StandApart {X : Type 0} (xs : List X) (x y : X) : Type 0 where
+  pub first : ℕ
+  pub second : ℕ
+  pub before : first < second
+  pub there : slice_get xs first ≡ Some x
+  pub later : slice_get xs second ≡ Some y
+
+pub record StandsAs {X : Type 0} (p : X → Bool) (xs : List X) (x : X) : Type 0 where
+  pub place : ℕ
+  pub there : slice_get xs place ≡ Some x
+  pub passes : p x ≡ true
+
+first_kept : {X : Type 0} (p : X → Bool) (y : X) (xs : List X) (x : X) → p y ≡ true → ((k : ℕ) → slice_get (filter p xs) k ≡ Some x → StandsAs p xs x)
+    → (k : ℕ) → slice_get (y ∷ filter p xs) k ≡ Some x → StandsAs p (y ∷ xs) x
+first_kept p y xs x passes rest zero at = let same : y ≡ x = cc in record { place = 0; there = ap Some same; passes = ap p (sym same) ∙ passes }
+first_kept p y xs x passes rest (suc k) at = let later = rest k at in record { place = suc later.place; there = later.there; passes = later.passes }
+
+kept_at : {X : Type 0} (p : X → Bool) (xs : List X) (k : ℕ) (x : X) → slice_get (filter p xs) k ≡ Some x → StandsAs p xs x
+kept_at p [] k x at = absurd cc
+kept_at p (y ∷ xs) k x at =
+    elim (cases_Bool (p y)) [
+      | inl passes ↦ first_kept p y xs x passes (λ n there. kept_at p xs n x there) k (subst (λ ys. slice_get ys k ≡ Some x) (filter-first p y xs passes) at)
+      | inr fails ↦ let rest = kept_at p xs k x (subst (λ ys. slice_get ys k ≡ Some x) (filter-other p y xs fails) at) in record { place = suc rest.place; there = rest.there; passes = rest.passes }
+    ]
+
+shifted : {X : Type 0} (z : X) (xs : List X) (x y : X) → StandApart xs x y → StandApart (z ∷ xs) x y
+shifted z xs x y rest = record { first = suc rest.first; second = suc rest.second; before = (let b = rest.before in omega (arith, b)); there = rest.there; later = rest.later }
+
+first_apart : {X : Type 0} (p : X → Bool) (z : X) (xs : List X) (x y : X) → ((i j : ℕ) → i < j → slice_get (filter p xs) i ≡ Some x → slice_get (filter p xs) j ≡ Some y → StandApart xs x y)
+    → (i j : ℕ) → i < j → slice_get (z ∷ filter p xs) i ≡ Some x → slice_get (z ∷ filter p xs) j ≡ Some y → StandApart (z ∷ xs) x y
+first_apart p z xs x y rest i zero before at there = absurd (omega (arith, before))
+first_apart p z xs x y rest zero (suc j) before at there = let later = kept_at p xs j y there in record { first = 0; second = suc later.place; before = omega arith; there = at; later = later.there }
+first_apart p z xs x y rest (suc i) (suc j) before at there = shifted z xs x y (rest i j (omega (arith, before)) at there)
+
+pub kept_apart : {X : Type 0} (p : X → Bool) (xs : List X) (i j : ℕ) (x y : X) → i < j → slice_get (filter p xs) i ≡ Some x → slice_get (filter p xs) j ≡ Some y → StandApart xs x y
+kept_apart p [] i j x y before at there = absurd cc
+kept_apart p (z ∷ xs) i j x y before at there =
+    elim (cases_Bool (p z)) [
+      | inl passes ↦
+          first_apart p z xs x y (λ m n low one other. kept_apart p xs m n x y low one other) i j before
+          (subst (λ ys. slice_get ys i ≡ Some x) (filter-first p z xs passes) at) (subst (λ ys. slice_get ys j ≡ Some y) (filter-first p z xs passes) there)
+      | inr fails ↦
+          shifted z xs x y (kept_apart p xs i j x y before (subst (λ ys. slice_get ys i ≡ Some x) (filter-other p z xs fails) at) (subst (λ ys. slice_get ys j ≡ Some y) (filter-other p z xs fails) there))
+    ]
+
+-- receipts of one root key are in order
+pub group_in_order : (receipts : List ReceiptValue) (root : ℕ) → IsSortedByKey receipt_key key_order receipts → AreInOrder (receipts_of root receipts)
+group_in_order receipts root sorted i j one other before at there =
+    let apart = kept_apart (λ r. r.root == root) receipts i j one other before at there in
+    let same : one.root ≡ other.root = eqb-true one.root root (kept_at (λ r. r.root == root) receipts i one at).passes ∙ sym (eqb-true other.root root (kept_at (λ r. r.root == root) receipts j other there).passes) in
+    ⊎_elim (λ less. absurd (omega (arith, less, same))) (λ level. level.1) (in_order receipts sorted apart.first apart.second one other apart.before apart.there apart.later)
+
+pub values_kept : (receipts : List (Bor ReceiptValue)) (root : ℕ) → values_of (filter (λ r. r.now.root == root) receipts) ≡ receipts_of root (values_of receipts)
+values_kept [] root = refl
+values_kept (r ∷ receipts) root =
+    elim (cases_Bool (r.now.root == root)) [
+      | inl here ↦
+          ap values_of (filter-first (λ (x : Bor ReceiptValue). x.now.root == root) r receipts here) ∙ ap (λ (rs : List ReceiptValue). r.now ∷ rs) (values_kept receipts root)
+          ∙ sym (filter-first (λ (x : ReceiptValue). x.root == root) r.now (values_of receipts) here)
+      | inr other ↦
+          ap values_of (filter-other (λ (x : Bor ReceiptValue). x.now.root == root) r receipts other) ∙ values_kept receipts root
+          ∙ sym (filter-other (λ (x : ReceiptValue). x.root == root) r.now (values_of receipts) other)
+    ]
+
+pub rise_by_root : (receipts : List (Bor ReceiptValue)) → IsSortedByKey receipt_key key_order (values_of receipts) → IsNonDecreasingBy (λ r. r.now.root) receipts
+rise_by_root receipts sorted i j d upto within =
+    let value = λ (r : Bor ReceiptValue). r.now in
+    roots_rise (values_of receipts) sorted i j (get_or receipts i d).now (get_or receipts j d).now upto
+    (at_map value receipts i (get_or receipts i d) (slice_get-get_or receipts i d (omega (arith, upto, within))))
+    (at_map value receipts j (get_or receipts j d) (slice_get-get_or receipts j d within))
+
+-- what passes stands from one place on, and is this much
+pub kept_run : {X : Type 0} (p : X → Bool) (xs : List X) (from n : ℕ)
+    → ((k : ℕ) (x : X) → slice_get xs k ≡ Some x → k < from → p x ≡ false)
+    → ((k : ℕ) (x : X) → slice_get xs k ≡ Some x → from ≤ k → k < from + n → p x ≡ true)
+    → ((k : ℕ) (x : X) → slice_get xs k ≡ Some x → from + n ≤ k → p x ≡ false)
+    → take n (drop from xs) ≡ filter p xs
+kept_run p [] zero zero low mid high = refl
+kept_run p [] zero (suc n) low mid high = refl
+kept_run p [] (suc from) zero low mid high = refl
+kept_run p [] (suc from) (suc n) low mid high = refl
+kept_run p (x ∷ xs) zero zero low mid high =
+    kept_run p xs zero zero (λ k y at below. absurd (omega (arith, below))) (λ k y at from below. absurd (omega (arith, below))) (λ k y at from. high (suc k) y at (omega arith))
+    ∙ sym (filter-other p x xs (high 0 x refl (omega arith)))
+kept_run p (x ∷ xs) zero (suc n) low mid high =
+    ap (λ ys. x ∷ ys)
+    (kept_run p xs zero n (λ k y at below. absurd (omega (arith, below))) (λ k y at from below. mid (suc k) y at (omega arith) (omega (arith, below))) (λ k y at from. high (suc k) y at (omega (arith, from))))
+    ∙ sym (filter-first p x xs (mid 0 x refl (omega arith) (omega arith)))
+kept_run p (x ∷ xs) (suc from) n low mid high =
+    kept_run p xs from n (λ k y at below. low (suc k) y at (omega (arith, below))) (λ k y at above below. mid (suc k) y at (omega (arith, above)) (omega (arith, below))) (λ k y at above. high (suc k) y at (omega (arith, above)))
+    ∙ sym (filter-other p x xs (low 0 x refl (omega arith)))
+
+-- of receipts by root key those of one stand between two places
+module _ (sorted rest : List (Bor ReceiptValue)) (root from count : ℕ) (rise : IsNonDecreasingBy (λ r. r.now.root) sorted) (rest_is : rest ≡ drop from sorted)
+    (first : IsPartitionedBy (λ r. nat_lt r.now.root root) sorted → IsPartitionPoint (λ r. nat_lt r.now.root root ≡ true) (λ r. nat_lt r.now.root root ≡ false) sorted from)
+    (last : IsPartitionedBy (λ r. nat_le r.now.root root) rest → IsPartitionPoint (λ r. nat_le r.now.root root ≡ true) (λ r. nat_le r.now.root root ≡ false) rest count) where
+  value_at : (xs : List (Bor ReceiptValue)) (k : ℕ) (r : Bor ReceiptValue) → slice_get xs k ≡ Some r → (get_or xs k r).now.root ≡ r.now.root
+  value_at xs k r at = ap (λ (x : Bor ReceiptValue). x.now.root) (get_or_from_slice_get xs k r r at)
+
+  rest_rise : IsNonDecreasingBy (λ r. r.now.root) rest
+  rest_rise = subst (λ (xs : List (Bor ReceiptValue)). IsNonDecreasingBy (λ r. r.now.root) xs) (sym rest_is) (IsNonDecreasingBy-drop (λ r. r.now.root) from sorted rise)
+
+  in_rest : (k : ℕ) (r : Bor ReceiptValue) → slice_get sorted k ≡ Some r → from ≤ k → slice_get rest (k - from) ≡ Some r
+  in_rest k r at above =
+      let shift : k ≡ from + (k - from) = omega (arith, above) in
+      subst (λ (xs : List (Bor ReceiptValue)). slice_get xs (k - from) ≡ Some r) (sym rest_is) (at_dropped sorted from (k - from) r (subst (λ n. slice_get sorted n ≡ Some r) shift at))
+
+  pub group_is : take count rest ≡ filter (λ r. r.now.root == root) sorted
+  group_is =
+      let below = first (IsPartitionedBy-ltb (λ r. r.now.root) sorted root rise) in
+      let upto = last (IsPartitionedBy-leb (λ r. r.now.root) rest root rest_rise) in
+      ap (take count) rest_is
+      ∙ kept_run (λ r. r.now.root == root) sorted from count
+      (λ k r at low.
+      let less = ltb-true (get_or sorted k r).now.root root (below.0 k r (omega arith) low) in
+      let e = value_at sorted k r at in
+      ne_eqb r.now.root root (λ same. absurd (omega (arith, less, e, same))))
+      (λ k r at above low.
+      let within = slice_get_within sorted k r at in
+      let there = in_rest k r at above in
+      let least = ltb-false (get_or sorted k r).now.root root (below.1 k r above within) in
+      let e = value_at sorted k r at in
+      let most = leb-true (get_or rest (k - from) r).now.root root (upto.0 (k - from) r (omega arith) (omega (arith, above, low))) in
+      let f = value_at rest (k - from) r there in
+      eq-eqb r.now.root root (omega (arith, least, e, most, f)))
+      (λ k r at above.
+      let there = in_rest k r at (omega (arith, above)) in
+      let within = slice_get_within rest (k - from) r there in
+      let more = leb-false (get_or rest (k - from) r).now.root root (upto.1 (k - from) r (omega (arith, above)) within) in
+      let f = value_at rest (k - from) r there in
+      ne_eqb r.now.root root (λ same. absurd (omega (arith, more, f, same))))
+
+pub sorted_values : (receipts : List (Bor ReceiptValue)) → IsSortedByKey (λ (r : Bor ReceiptValue). receipt_key r.now) key_order receipts → IsSortedByKey receipt_key key_order (values_of receipts)
+sorted_values receipts sorted k d from within =
+    let value = λ (r : Bor ReceiptValue). r.now in
+    let inside : k + 1 < length receipts = subst (λ n. k + 1 < n) (length-map receipts value) within in
+    let one = (stands_at receipts k (omega (arith, inside))).0 in
+    let next = get_or-map value receipts (k + 1) one d inside in
+    let here = get_or-map value receipts k one d (omega (arith, inside)) in
+    (λ i. is_lt (key_order (receipt_key (next i)) (receipt_key (here i)))) ∙ sorted k one from inside

@@ -1,0 +1,47 @@
+use Rattle.std.proofs.Common.{◌≡◌, Some, None, sym, ap, ◌∙◌, subst, eqb-true, eq-eqb, true≢false}
+use Rattle.std.specs.Ordering.{nat_cmp}
+use Rattle.std.specs.BTreeMap.{get}
+use Rattle.sq_node_model.specs.NodeValue.{ReceiptValue}
+use Rattle.sq_audit.specs.declared.job.Job.{Job}
+use Rattle.sq_audit.specs.Told.{IsOneJob}
+use Rattle.sq_audit.proofs.Each.{looked_up, some_same, no_some}
+use Rattle.sq_audit.proofs.Jobs.{of_parts, one_job, other_root}
+use Rattle.sq_audit.proofs.by_id.job_of.Goals as goal
+
+pub returns-in_default-clause-none : goal.returns-in_default-clause-none
+returns-in_default-clause-none c job has is =
+    let id = ap (λ (r : ReceiptValue). r.id) c.receipt.view_is in
+    c.requires.places.none c.args.receipt.now.id (ap (get nat_cmp c.args.places.now) (sym id) ∙ sym c.in_default.ensures.value) job has (sym (of_parts job.txn c.args.receipt.now is).id)
+
+pub returns-in_default-get-clause-none : goal.returns-in_default-get-clause-none
+returns-in_default-get-clause-none c =
+    let jobs = c.args.jobs.now in
+    let place = c.in-Some.place.now in
+    let id = ap (λ (r : ReceiptValue). r.id) c.receipt.view_is in
+    let found = c.requires.places.found c.args.receipt.now.id place (ap (get nat_cmp c.args.places.now) (sym id) ∙ sym c.in-Some.ensures.value) in
+    absurd (no_some found.one (looked_up jobs place None c.in_default-get.ensures.lookup ∙ found.there))
+
+pub returns-then-eq-clause-one : goal.returns-then-eq-clause-one
+returns-then-eq-clause-one c =
+    let jobs = c.args.jobs.now in
+    let receipt = c.args.receipt.now in
+    let place = c.in-Some.place.now in
+    let id = ap (λ (r : ReceiptValue). r.id) c.receipt.view_is in
+    let found = c.requires.places.found receipt.id place (ap (get nat_cmp c.args.places.now) (sym id) ∙ sym c.in-Some.ensures.value) in
+    let same = some_same (looked_up jobs place (Some c.in-Some-get.job) c.in-Some-get.ensures.lookup ∙ found.there) in
+    let root : found.one.txn.root ≡ receipt.root =
+    ap (λ (j : Job). j.txn.root) (sym same) ∙ sym c.root.ensures ∙ eqb-true c.root.result c.receipt.inside.root (sym c.eq.ensures ∙ c.if-eq.true) ∙ ap (λ (r : ReceiptValue). r.root) c.receipt.view_is in
+    subst (λ (j : Job). IsOneJob jobs receipt j.txn) (sym same) (one_job jobs c.requires.ids receipt place found root)
+
+pub returns-else-eq-clause-none : goal.returns-else-eq-clause-none
+returns-else-eq-clause-none c =
+    let jobs = c.args.jobs.now in
+    let receipt = c.args.receipt.now in
+    let place = c.in-Some.place.now in
+    let id = ap (λ (r : ReceiptValue). r.id) c.receipt.view_is in
+    let found = c.requires.places.found receipt.id place (ap (get nat_cmp c.args.places.now) (sym id) ∙ sym c.in-Some.ensures.value) in
+    let same = some_same (looked_up jobs place (Some c.in-Some-get.job) c.in-Some-get.ensures.lookup ∙ found.there) in
+    other_root jobs c.requires.ids receipt place found
+    (λ root.
+    let equal = c.root.ensures ∙ ap (λ (j : Job). j.txn.root) same ∙ root ∙ ap (λ (r : ReceiptValue). r.root) (sym c.receipt.view_is) in
+    true≢false (sym (eq-eqb c.root.result c.receipt.inside.root equal) ∙ sym c.eq.ensures ∙ c.if-eq.false))

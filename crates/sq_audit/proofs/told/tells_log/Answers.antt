@@ -1,0 +1,74 @@
+use Rattle.std.proofs.Common.{◌≡◌, ◌+◌, ℕ, Bor, List, ◌≤◌, length, slice_get, Option, Some, sym, ap, ◌∙◌, subst, true≢false, eqb-true}
+use Rattle.std.specs.Option.{option_copied}
+use Rattle.std.proofs.lemmas.List.{length-map}
+use Rattle.sq_schema.specs.TxnValue.{TxnValue}
+use Rattle.sq_node_model.specs.NodeValue.{ReceiptValue}
+use Rattle.sq_placed.proofs.Lists.{at_map}
+use Rattle.sq_audit.specs.Told.{values_of, IsAnswered, rows_then}
+use Rattle.sq_audit.proofs.Listing.{item_at}
+use Rattle.sq_audit.proofs.Each.{looked_up, refuted, shown, by_cases}
+use Rattle.sq_audit.proofs.Walks.{WalkedTo, step_commit, step_abort, fails_position, fails_answer, walk_ends, fails_end}
+use Rattle.sq_audit.proofs.told.tells_log.Goals as goal
+use Rattle.sq_audit.proofs.told.tells_log.Goals.{then-commits, else-commits}
+
+pub returns-then-receipt-position : goal.returns-then-receipt-position
+returns-then-receipt-position c =
+    let group = values_of c.args.receipts.now in
+    let i = c.loop-receipt.receipt-index in
+    let r = c.receipt-item.result.now in
+    let at : slice_get group i ≡ Some r = at_map (λ (x : Bor ReceiptValue). x.now) c.args.receipts.now i c.receipt-item.result (item_at c.args.receipts.now i c.receipt-item.result c.receipt-item.is c.loop-receipt-test.true) in
+    let view = ap (λ (x : Bor ReceiptValue). x.now.position) c.receipt.view_is in (
+      (λ e. absurd (true≢false (sym e))),
+      (λ tells.
+          absurd (fails_position c.args.jobs.now c.args.family.now group i c.loop-receipt.position c.loop-receipt.rows c.loop-receipt.invariant r at c.requires.order (λ here. c.if-receipt-position.true (view ∙ here)) tells)),
+    )
+
+pub returns-then-not-branch : goal.returns-then-not-branch
+returns-then-not-branch c =
+    let group = values_of c.args.receipts.now in
+    let i = c.loop-receipt.receipt-index in
+    let r = c.receipt-item.result.now in
+    let position = c.loop-receipt.position in
+    let at : slice_get group i ≡ Some r = at_map (λ (x : Bor ReceiptValue). x.now) c.args.receipts.now i c.receipt-item.result (item_at c.args.receipts.now i c.receipt-item.result c.receipt-item.is c.loop-receipt-test.true) in
+    let here : r.position ≡ position = sym (ap (λ (x : Bor ReceiptValue). x.now.position) c.receipt.view_is) ∙ c.if-receipt-position.false in
+    let next : option_copied c.get-next.result ≡ slice_get c.args.family.now.log position =
+    looked_up c.log.result.now position c.get-next.result c.get-next.ensures.lookup ∙ ap (λ (l : List TxnValue). slice_get l position) c.log.ensures.log in (
+      (λ e. absurd (true≢false (sym e))),
+      (λ tells.
+          absurd (fails_answer c.args.jobs.now c.args.family.now group i position c.loop-receipt.rows c.loop-receipt.invariant r at here
+          (λ told. refuted c.in_ok-is_answered.field-0 c.in_ok-is_answered.ensures.answered c.if-not-branch.true (subst (λ (o : Option TxnValue). IsAnswered c.args.jobs.now c.loop-receipt.rows o r) (sym next) told)) tells)),
+    )
+
+pub loop-receipt-preserved : goal.loop-receipt-preserved
+loop-receipt-preserved c =
+    let group = values_of c.args.receipts.now in
+    let i = c.loop-receipt.receipt-index in
+    let r = c.receipt-item.result.now in
+    let position = c.loop-receipt.position in
+    let at : slice_get group i ≡ Some r = at_map (λ (x : Bor ReceiptValue). x.now) c.args.receipts.now i c.receipt-item.result (item_at c.args.receipts.now i c.receipt-item.result c.receipt-item.is c.loop-receipt-test.true) in
+    let here : r.position ≡ position = sym (ap (λ (x : Bor ReceiptValue). x.now.position) c.receipt.view_is) ∙ c.if-receipt-position.false in
+    let next : option_copied c.get-next.result ≡ slice_get c.args.family.now.log position =
+    looked_up c.log.result.now position c.get-next.result c.get-next.ensures.lookup ∙ ap (λ (l : List TxnValue). slice_get l position) c.log.ensures.log in
+    let rows = c.loop-receipt.rows in
+    let told = subst (λ (o : Option TxnValue). IsAnswered c.args.jobs.now rows o r) next (shown c.in_ok-is_answered.field-0 c.in_ok-is_answered.ensures.answered c.if-not-branch.false) in
+    let after = c.in_ok-is_answered.ensures.rows c.if-not-branch.false ∙ ap (λ (o : Option TxnValue). rows_then rows o r) next in
+    let walked = λ (n : ℕ). WalkedTo c.args.jobs.now c.args.family.now group (i + 1) n c.is_answered.new.rows in
+    elim c.if-commits.branch [
+      | then-commits w ↦
+          subst walked (sym w.position-is)
+          (step_commit c.args.jobs.now c.args.family.now group i position rows c.loop-receipt.invariant r at here told c.is_answered.new.rows after (sym c.commits.ensures ∙ w.if-commits.true))
+      | else-commits w ↦
+          subst walked (sym w.position-is)
+          (step_abort c.args.jobs.now c.args.family.now group i position rows c.loop-receipt.invariant r at here told c.is_answered.new.rows after (sym c.commits.ensures ∙ w.if-commits.false))
+    ]
+
+pub returns : goal.returns
+returns c =
+    let group = values_of c.args.receipts.now in
+    let i = c.loop-receipt.receipt-index in
+    let log = ap length c.log-2.ensures.log in
+    let whole = subst (λ n. n ≤ i) (sym (length-map c.args.receipts.now (λ (x : Bor ReceiptValue). x.now))) c.loop-receipt-test.false in (
+      (λ e. walk_ends c.args.jobs.now c.args.family.now group i c.loop-receipt.position c.loop-receipt.rows c.loop-receipt.invariant whole (eqb-true c.loop-receipt.position _ e ∙ log)),
+      (λ tells. by_cases c.loop-receipt.position (length c.log-2.result.now)
+          (λ apart. fails_end c.args.jobs.now c.args.family.now group i c.loop-receipt.position c.loop-receipt.rows c.loop-receipt.invariant whole (λ same. apart (same ∙ sym log)) tells)),
+    )

@@ -1,0 +1,218 @@
+// Whether receipts tell what jobs had to be answered, and each position of the logs.
+ghost use Rattle.std.specs.Prelude.{◌≡◌, ◌==◌, [], true, filter, nat_lt, nat_le, option_copied, IfOk};
+ghost use Rattle.std.specs.Bool.{Decides};
+ghost use Rattle.std.specs.List.Sorted.{IsPermutation, IsSortedByKey, IsNonDecreasingBy};
+ghost use Rattle.sq_node_model.specs.Receipts.{is_commit};
+ghost use Rattle.sq_audit.specs.Answers.{IdsDiffer};
+ghost use Rattle.sq_audit.specs.Located.{entries_of};
+ghost use Rattle.sq_audit.specs.Index.{IsIndex, root_of};
+ghost use Rattle.sq_audit.specs.Told.{values_of, id_of, receipt_key, key_order, IsAnswered, rows_then, AreInOrder, TellsLog, TellLogs, TellNothing, KnowsAll};
+
+use crate::by_id::{by_id, job_of};
+use crate::gathered::Receipt;
+use crate::job::Job;
+use crate::located::Located;
+use sq_schema::{Family, Reply, Rows, Txn};
+use std::alloc::{AllocError, Global};
+use std::collections::BTreeMap;
+
+/// Whether each receipt is the answer to a job, and the committed ones name each position of each log once, where `places`
+/// has the place of a family of each root key.
+pub(crate) fn are_known(
+    alloc: Global,
+    all: &[Located],
+    places: &BTreeMap<u64, usize>,
+    jobs: &[Job],
+    receipts: &[Receipt],
+) -> Result<bool, AllocError>
+    requires ids { IdsDiffer jobs.now }
+    requires places { IsIndex root_of (entries_of all.now) places.now }
+    ensures { IfOk result (λ known. Decides known (KnowsAll (entries_of all.now) jobs.now receipts.now)) }
+{
+    let ids = by_id(alloc, jobs)?;
+    let sorted = sort(alloc, receipts)?;
+    if !tell_logs(alloc, all, jobs, &ids, &sorted)? {
+        return Ok(false);
+    }
+    tell_nothing(alloc, places, jobs, &ids, receipts)
+}
+
+// Whether receipts, in order, tell the logs of all families.
+fn tell_logs(
+    alloc: Global,
+    all: &[Located],
+    jobs: &[Job],
+    ids: &BTreeMap<u64, usize>,
+    sorted: &[&Receipt],
+) -> Result<bool, AllocError>
+    requires ids { IdsDiffer jobs.now }
+    requires index { IsIndex id_of jobs.now ids.now }
+    requires sorted { IsSortedByKey receipt_key key_order (values_of sorted.now) }
+    ensures { IfOk result (λ tell. Decides tell (TellLogs (entries_of all.now) jobs.now (values_of sorted.now))) }
+{
+    for located in all {
+        let group = group(sorted, located.family.root().number());
+        if !tells_log(alloc, jobs, ids, located.family, group)? {
+            return Ok(false);
+        }
+    }
+    Ok(true)
+}
+
+// Whether the receipts of root keys without a family tell aborts on no rows.
+fn tell_nothing(
+    alloc: Global,
+    places: &BTreeMap<u64, usize>,
+    jobs: &[Job],
+    ids: &BTreeMap<u64, usize>,
+    receipts: &[Receipt],
+) -> Result<bool, AllocError>
+    requires ids { IdsDiffer jobs.now }
+    requires index { IsIndex id_of jobs.now ids.now }
+    ensures { IfOk result (λ tell. Decides tell (TellNothing places.now jobs.now receipts.now)) }
+{
+    for receipt in receipts {
+        if places.contains_key(&receipt.root.number()) {
+            continue;
+        }
+        if !tells_nothing(alloc, jobs, ids, receipt)? {
+            return Ok(false);
+        }
+    }
+    Ok(true)
+}
+
+// Whether a receipt is of an abort on no rows.
+fn tells_nothing(
+    alloc: Global,
+    jobs: &[Job],
+    ids: &BTreeMap<u64, usize>,
+    receipt: &Receipt,
+) -> Result<bool, AllocError>
+    requires ids { IdsDiffer jobs.now }
+    requires index { IsIndex id_of jobs.now ids.now }
+    ensures { IfOk result (λ tells. Decides tells ((receipt.now.position ≡ 0) × IsAnswered jobs.now [] None receipt.now)) }
+{
+    if receipt.position != 0 {
+        return Ok(false);
+    }
+    is_answered(alloc, jobs, ids, &mut Rows::new(alloc), None, receipt)
+}
+
+// Whether receipts of a family's root key, by position and at one position the aborts first, tell its log.
+fn tells_log(
+    alloc: Global,
+    jobs: &[Job],
+    ids: &BTreeMap<u64, usize>,
+    family: &Family,
+    receipts: &[&Receipt],
+) -> Result<bool, AllocError>
+    requires ids { IdsDiffer jobs.now }
+    requires index { IsIndex id_of jobs.now ids.now }
+    requires order { AreInOrder (values_of receipts.now) }
+    ensures { IfOk result (λ tells. Decides tells (TellsLog jobs.now family.now (values_of receipts.now))) }
+{
+    let mut rows = family.base().clone()?;
+    let mut position = 0;
+    for receipt in receipts {
+        let next = family.log().get(position);
+        if receipt.position != position as u64 {
+            return Ok(false);
+        }
+        if !is_answered(alloc, jobs, ids, &mut rows, next, receipt)? {
+            return Ok(false);
+        }
+        if commits(receipt) {
+            position += 1;
+        }
+    }
+    Ok(position == family.log().len())
+}
+
+// Whether the receipt is what its job is answered on rows, where the log goes on with `next`: a commit has to be that
+// one. The rows are then those after the job.
+fn is_answered(
+    alloc: Global,
+    jobs: &[Job],
+    ids: &BTreeMap<u64, usize>,
+    rows: &mut Rows,
+    next: Option<&Txn>,
+    receipt: &Receipt,
+) -> Result<bool, AllocError>
+    requires ids { IdsDiffer jobs.now }
+    requires index { IsIndex id_of jobs.now ids.now }
+    ensures answered { IfOk result (λ answered. Decides answered (IsAnswered jobs.now rows.old (option_copied next.entry) receipt.now)) }
+    ensures rows { IfOk result (λ answered. answered ≡ true → rows.new ≡ rows_then rows.old (option_copied next.entry) receipt.now) }
+{
+    let Some(txn) = job_of(jobs, ids, receipt) else {
+        return Ok(false);
+    };
+    if !may_stand(next, txn, receipt) {
+        return Ok(false);
+    }
+    let reply = rows.apply(alloc, txn)?;
+    Ok(reply == receipt.reply)
+}
+
+// Whether the transaction comes next, if the receipt is of a commit.
+fn may_stand(next: Option<&Txn>, txn: &Txn, receipt: &Receipt) -> bool
+    ensures { Decides result (is_commit receipt.now.reply ≡ true → option_copied next.entry ≡ Some txn.now) }
+{
+    if commits(receipt) {
+        is_next(next, txn)
+    } else {
+        true
+    }
+}
+
+// Whether the transaction comes next.
+fn is_next(next: Option<&Txn>, txn: &Txn) -> bool
+    ensures { Decides result (option_copied next.entry ≡ Some txn.now) }
+{
+    match next {
+        Some(next) => *next == *txn,
+        None => false,
+    }
+}
+
+// Whether the receipt is of a commit.
+fn commits(receipt: &Receipt) -> bool
+    ensures { result ≡ is_commit receipt.now.reply }
+{
+    match &receipt.reply {
+        Reply::Committed(_) => true,
+        Reply::Aborted { .. } => false,
+    }
+}
+
+// Receipts by root key, then by position, and at one position those of aborts first.
+fn sort(alloc: Global, receipts: &[Receipt]) -> Result<Vec<&Receipt>, AllocError>
+    ensures all { IfOk result (λ sorted. IsPermutation receipts.now (values_of sorted.items)) }
+    ensures sorted { IfOk result (λ sorted. IsSortedByKey receipt_key key_order (values_of sorted.items)) }
+{
+    let mut sorted = Vec::with_capacity(alloc, receipts.len())?;
+    for receipt in receipts {
+        sorted.push(receipt)?;
+    }
+    sorted.sort_by_key(|receipt| (receipt.root.number(), receipt.position, commits(receipt)))?;
+    Ok(sorted)
+}
+
+// Of receipts by root key those of one.
+fn group<'a, 'b>(sorted: &'a [&'b Receipt], root: u64) -> &'a [&'b Receipt]
+    requires { IsNonDecreasingBy (λ receipt. receipt.now.root) sorted.now }
+    ensures { result.now ≡ filter (λ receipt. receipt.now.root == root) sorted.now }
+{
+    let from = sorted.partition_point(
+        |receipt: &&Receipt| -> bool
+            ensures { result ≡ nat_lt receipt.now.now.root root }
+        { receipt.root.number() < root },
+    );
+    let rest = &sorted[from..];
+    let count = rest.partition_point(
+        |receipt: &&Receipt| -> bool
+            ensures { result ≡ nat_le receipt.now.now.root root }
+        { receipt.root.number() <= root },
+    );
+    &rest[..count]
+}
