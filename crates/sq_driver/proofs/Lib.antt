@@ -1,0 +1,7 @@
+pub mod Ways
+pub mod Parts
+pub mod Driving
+pub mod Pumping
+pub mod Together
+pub mod Opening
+pub mod Crosses

@@ -1,0 +1,41 @@
+-- What becomes of nodes that are driven.
+use Rattle.std.specs.Prelude.{◌≡◌, ◌⊎◌, ℕ, ◌<◌, List, length, slice_index_or}
+use Rattle.sq_node.specs.declared.stepped.Stepped.{Stepped}
+use Rattle.sq_node.specs.declared.stepped.Stepped.TheVariants.{Nothing}
+use Rattle.sq_node.specs.FabricValue.{FabricValue}
+use Rattle.sq_node.specs.NodeState.{NodeState, IsNodeOf}
+use Rattle.sq_node.specs.Holds.{KeepsAll}
+use Rattle.sq_node.specs.Steps.{JobStep, RequestStep, CutStep, SendStep, RecvStep, LoadStep, CompleteStep, ResumeStep, Looks}
+use Rattle.sq_driver.specs.declared.gate.NodeStep.{NodeStep}
+use Rattle.sq_driver.specs.declared.gate.NodeStep.TheVariants.{Job, Request, Cut, Send, Recv, Load, Complete, Resume, Pump, Answered}
+use Rattle.sq_driver.specs.Ways.{ComesOf}
+
+-- a node made the step. What is no step of a node does nothing
+abbrev pub MakesStep : FabricValue → NodeStep → NodeState → Stepped → NodeState → Type 0
+MakesStep fabric Job old answer new = JobStep old answer new
+MakesStep fabric Request old answer new = RequestStep old answer new
+MakesStep fabric Cut old answer new = CutStep old answer new
+MakesStep fabric Send old answer new = SendStep fabric old answer new
+MakesStep fabric Recv old answer new = RecvStep old answer new
+MakesStep fabric Load old answer new = LoadStep old answer new
+MakesStep fabric Complete old answer new = CompleteStep old answer new
+MakesStep fabric Resume old answer new = ResumeStep old answer new
+MakesStep fabric Pump old answer new = (answer ≡ Nothing) × (new ≡ old)
+MakesStep fabric Answered old answer new = (answer ≡ Nothing) × (new ≡ old)
+
+-- a node made one of its steps, or looked at trees
+abbrev pub GoesOn : FabricValue → NodeState → NodeState → Type 0
+GoesOn fabric old new = ((step : NodeStep) × (answer : Stepped) × MakesStep fabric step old answer new) ⊎ Looks old new
+
+-- a node was driven: what became of it came by its own steps, it is the same partition's and one of the fabric, and what a node keeps holds still, under each opening under which it did
+pub record Driven (fabric : FabricValue) (old new : NodeState) : Type 0 where
+  pub way : List NodeState
+  pub steps : ComesOf (GoesOn fabric) old way new
+  pub part : new.core.part ≡ old.core.part
+  pub stays : IsNodeOf fabric new
+  pub holds : KeepsAll old new
+
+-- each of the nodes was driven
+pub record AllDriven (fabric : FabricValue) (old new : List NodeState) : Type 0 where
+  pub count : length new ≡ length old
+  pub each : (i : ℕ) (d : NodeState) → i < length old → Driven fabric (slice_index_or old i d) (slice_index_or new i d)

@@ -1,0 +1,34 @@
+//! What holds of the workers of a run. The functions do nothing: each states a law, which the checker proves.
+ghost use Rattle.std.specs.Prelude.{ℕ, List, All};
+ghost use Rattle.sq_ranges.specs.OpeningValue.{OpeningValue};
+ghost use Rattle.sq_ranges.specs.Opening.{IsOpening};
+ghost use Rattle.sq_pull.specs.Pump.{PumpValue};
+ghost use Rattle.sq_node.specs.FabricValue.{FabricValue};
+ghost use Rattle.sq_node.specs.NodeState.{NodeState, IsNodeOf};
+ghost use Rattle.sq_node.specs.Holds.{HoldsUnder};
+ghost use Rattle.sq_node.specs.Opened.{IsOpened};
+ghost use Rattle.sq_driver.specs.Nodes.{AllDriven};
+ghost use Rattle.sq_driver.specs.Pumps.{IsPumpOf, AllPumpsDriven};
+
+/// The nodes and the pumps that a run opens with can be driven, and what a node keeps holds of each node.
+pub fn opened_workers_can_be_driven()
+    ensures nodes { (o : OpeningValue) (count : ℕ) (fabric : FabricValue) (nodes : List NodeState) (pumps : List PumpValue)
+        → IsOpened o count fabric nodes pumps → All (IsNodeOf fabric) nodes }
+    ensures pumps { (o : OpeningValue) (count : ℕ) (fabric : FabricValue) (nodes : List NodeState) (pumps : List PumpValue)
+        → IsOpened o count fabric nodes pumps → All (IsPumpOf fabric) pumps }
+    ensures hold { (o : OpeningValue) (count : ℕ) (fabric : FabricValue) (nodes : List NodeState) (pumps : List PumpValue)
+        → IsOpened o count fabric nodes pumps → All (HoldsUnder o) nodes }
+{}
+
+/// What a node keeps holds of all nodes of a run once they were driven, under each opening under which it held of them
+/// before.
+pub fn driven_nodes_hold()
+    ensures { (fabric : FabricValue) (o : OpeningValue) (old new : List NodeState)
+        → IsOpening o → AllDriven fabric old new → All (HoldsUnder o) old → All (HoldsUnder o) new }
+{}
+
+/// Workers that were driven are those of their fabric still, and can be driven again.
+pub fn driven_workers_stay()
+    ensures nodes { (fabric : FabricValue) (old new : List NodeState) → AllDriven fabric old new → All (IsNodeOf fabric) new }
+    ensures pumps { (fabric : FabricValue) (old new : List PumpValue) → AllPumpsDriven fabric old new → All (IsPumpOf fabric) new }
+{}

@@ -1,0 +1,38 @@
+// Pumps that are driven.
+ghost use Rattle.sq_pull.specs.Seats.{AreSeatsOf};
+ghost use Rattle.sq_driver.specs.Pumps.{PumpDriven};
+
+use crate::gate::{Gate, NodeStep};
+use sq_node::Fabric;
+use sq_pull::{Pump, PumpTurn};
+use std::sync::Wait;
+use std::thread;
+
+/// Drives a pump: it takes this many turns. It ends before where it is done: there was nothing to claim in any segment, and
+/// nothing is pending. And it ends where the gate says so, which is asked before each turn. After a turn in which nothing was
+/// claimed, other threads go first.
+pub fn drive_pump<R: Wait, G: Gate>(rt: &R, fabric: &Fabric, pump: &mut Pump, turns: u64, gate: &G)
+    requires { AreSeatsOf fabric.now.trees pump.old.seats }
+    ensures { PumpDriven fabric.now pump.old pump.new }
+{
+    let who = u64::from(fabric.parts()) + u64::from(pump.number());
+    for _turn in 0..turns {
+        if pump.is_done() || !gate.pass(who, NodeStep::Pump) {
+            return;
+        }
+        if !take_turn(rt, fabric, pump) {
+            thread::yield_now();
+        }
+    }
+}
+
+// A turn of a pump, and whether something was claimed.
+fn take_turn<R: Wait>(rt: &R, fabric: &Fabric, pump: &mut Pump) -> bool
+    requires { AreSeatsOf fabric.now.trees pump.old.seats }
+    ensures { PumpDriven fabric.now pump.old pump.new }
+{
+    match pump.turn(rt, &fabric.shared()) {
+        Ok(PumpTurn::Won(_, _)) => true,
+        Ok(PumpTurn::Nothing | PumpTurn::Spent) | Err(_) => false,
+    }
+}
