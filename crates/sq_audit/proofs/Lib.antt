@@ -9,3 +9,5 @@ pub mod Walks
 pub mod Orders
 pub mod Knowing
 pub mod Auditing
+pub mod Verdicts
+pub mod Parts

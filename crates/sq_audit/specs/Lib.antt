@@ -5,3 +5,4 @@ pub mod Defects
 pub mod Located
 pub mod Index
 pub mod Told
+pub mod Fits

@@ -3,6 +3,7 @@
 
 mod answered;
 mod by_id;
+mod fits;
 mod gathered;
 mod index;
 mod job;

@@ -1,7 +1,7 @@
 // What is read of schemas, families and tables.
 use crate::fixtures::{has, opening, reply_line, transaction};
 use sq_schema::{
-    Family, OpAnswer, OpAnswers, Root, Row, RowFault, RowKey, Rows, Schema, Table, Txn,
+    Family, OpAnswer, OpAnswers, Reply, Root, Row, RowFault, RowKey, Rows, Schema, Table, Txn,
 };
 use std::alloc::Global;
 use std::test::Fail;
@@ -94,6 +94,80 @@ fn families(rt: HostRuntime) -> Result<(), Fail> {
             family.base().is_empty() != has_row && family.stands() == (has_row || log == 1),
             "{line}"
         );
+    }
+    Ok(())
+}
+
+#[test]
+fn rows_without_a_log(rt: HostRuntime) -> Result<(), Fail> {
+    let alloc = rt.alloc();
+    for (has_row, line, want, size, _) in TRANSACTIONS {
+        let mut family = family(alloc, has_row)?;
+        let mut rows = family.rows().clone()?;
+        let txn = transaction(alloc, line)?;
+        let reply = rows.apply(alloc, &txn)?;
+        assert!(rt; reply == rows_reply(&mut family, &txn)?, "{line}");
+        assert!(rt; rows == *family.rows() && rows.size() == size, "{line}");
+        assert!(rt;
+            reply_line(alloc, reply)?.as_slice() == want.as_bytes(),
+            "{line}"
+        );
+    }
+    Ok(())
+}
+
+// What a family of root key 5 answers.
+fn rows_reply(family: &mut Family, txn: &Txn) -> Result<Reply, Fail> {
+    if txn.root() != family.root() {
+        return Err("a transaction of another root key")?;
+    }
+    Ok(family.apply(txn)?)
+}
+
+// Lines of transactions, of which no two are equal.
+const APART: [&str; 9] = [
+    "txn 0 1 5 get 0 0",
+    "txn 0 2 5 get 0 0",
+    "txn 0 1 6 get 0 0",
+    "txn 0 1 5 get 1 0",
+    "txn 0 1 5 del 0 0",
+    "txn 0 1 5 get 0 0 get 0 0",
+    "txn 0 1 5 put 0 0 1 6869",
+    "txn 0 1 5 put 0 0 2 6869",
+    "txn 0 1 5 put 0 0 1 -",
+];
+
+#[test]
+fn equal_transactions(rt: HostRuntime) -> Result<(), Fail> {
+    for (at, line) in APART.iter().enumerate() {
+        let txn = transaction(rt.alloc(), line)?;
+        for (other, again) in APART.iter().enumerate() {
+            let same = txn == transaction(rt.alloc(), again)?;
+            assert!(rt; same == (at == other), "{line} and {again}");
+        }
+    }
+    Ok(())
+}
+
+// Replies of families, of which no two are equal: whether the family has a root row, and the line of the transaction.
+const REPLIES: [(bool, &str); 6] = [
+    (true, "txn 0 1 5 get 0 0"),
+    (false, "txn 0 1 5 get 0 0"),
+    (true, "txn 0 1 5 add 0 0 1"),
+    (true, "txn 0 1 5 add 0 0 2"),
+    (true, "txn 0 1 5 check 0 0 11"),
+    (true, "txn 0 1 5 get 0 0 check 0 0 11"),
+];
+
+#[test]
+fn equal_replies(rt: HostRuntime) -> Result<(), Fail> {
+    let alloc = rt.alloc();
+    for (at, (has_row, line)) in REPLIES.iter().enumerate() {
+        let reply = rows_reply(&mut family(alloc, *has_row)?, &transaction(alloc, line)?)?;
+        for (other, (has_other, again)) in REPLIES.iter().enumerate() {
+            let second = rows_reply(&mut family(alloc, *has_other)?, &transaction(alloc, again)?)?;
+            assert!(rt; (reply == second) == (at == other), "{line} and {again}");
+        }
     }
     Ok(())
 }

@@ -1,0 +1,144 @@
+-- That there is just one link wherever a range moves.
+use Rattle.std.proofs.Common.{◌≡◌, inl, inr, ⊎_elim, ℕ, zero, suc, ◌+◌, ◌<◌, ◌≤◌, ◌==◌, ◌||◌, Bool, true, List, [], ◌∷◌, length, take, drop, slice_get, Some, None, refl, sym, ap, ◌∙◌, subst, arith, true≢false, eqb-true, eq-eqb}
+use Rattle.std.specs.Prelude.{cond, count_by, position, is_some, not, nat_lt}
+use Rattle.std.specs.List.{prefix_len, list_any}
+use Rattle.std.proofs.lemmas.Bool.{cases_Bool, cases_lt, and_parts, and_from, lt-ltb, le-ltb}
+use Rattle.sq_ranges.specs.declared.recon.Link.{Link}
+use Rattle.sq_ranges.specs.ReconValue.{AreLinks, is_link}
+use Rattle.sq_ranges.specs.OpeningValue.{OpeningValue}
+use Rattle.sq_model.proofs.Lists.{Contains-slice_get, slice_get-Contains, list_any-Contains, any_in}
+use Rattle.sq_node_model.specs.Gathered.{GatheredLink, HasEachLink}
+use Rattle.sq_audit.specs.Fits.{is_between, ends_of, AreKnownLinks, HaveOneEach}
+use Rattle.sq_audit.proofs.Lists.{counted, count_parts, at_dropped}
+use Rattle.sq_audit.proofs.Knowing.{count_first}
+
+-- what passes a test is counted, and has a position
+at_counted : {X : Type 0} (p : X → Bool) (xs : List X) (k : ℕ) (x : X) → slice_get xs k ≡ Some x → p x ≡ true → 1 ≤ count_by p xs
+at_counted p [] k x at passes = absurd cc
+at_counted p (y ∷ xs) zero x at passes =
+    let same : y ≡ x = cc in
+    let first = count_first p y xs ∙ ap (λ b. cond b 1 0 + count_by p xs) (ap p same ∙ passes) in
+    omega (arith, first)
+at_counted p (y ∷ xs) (suc k) x at passes =
+    let first = count_first p y xs in
+    let rest = at_counted p xs k x at passes in
+    omega (arith, first, rest)
+
+at_taken : {X : Type 0} (xs : List X) (i k : ℕ) (x : X) → slice_get xs k ≡ Some x → k < i → slice_get (take i xs) k ≡ Some x
+at_taken [] i k x at below = absurd cc
+at_taken (y ∷ xs) zero k x at below = absurd (omega (arith, below))
+at_taken (y ∷ xs) (suc i) zero x at below = at
+at_taken (y ∷ xs) (suc i) (suc k) x at below = at_taken xs i k x at (omega (arith, below))
+
+not_before : {X : Type 0} (p : X → Bool) (xs : List X) → count_by p xs ≡ 1 → (i j : ℕ) (x y : X) → slice_get xs i ≡ Some x → slice_get xs j ≡ Some y → p x ≡ true → p y ≡ true → i < j → ⊥
+not_before p xs once i j x y at there passes also before =
+    let one = at_counted p (take j xs) i x (at_taken xs j i x at before) passes in
+    let two = at_counted p (drop j xs) 0 y (at_dropped xs j 0 y (subst (λ n. slice_get xs n ≡ Some y) (let e : j ≡ j + 0 = omega arith in e) there)) also in
+    let all = count_parts p xs j in
+    omega (arith, once, one, two, all)
+
+pub counted_once : {X : Type 0} (p : X → Bool) (xs : List X) → count_by p xs ≡ 1 → (i j : ℕ) (x y : X) → slice_get xs i ≡ Some x → slice_get xs j ≡ Some y → p x ≡ true → p y ≡ true → i ≡ j
+counted_once p xs once i j x y at there passes also =
+    ⊎_elim
+    (λ before. absurd (not_before p xs once i j x y at there passes also before))
+    (λ from. ⊎_elim (λ after. absurd (not_before p xs once j i y x there at also passes after)) (λ upto. omega (arith, from, upto)) (cases_lt j i))
+    (cases_lt i j)
+
+pub at_most_once : {X : Type 0} (p : X → Bool) (xs : List X) → ((i j : ℕ) (x y : X) → slice_get xs i ≡ Some x → slice_get xs j ≡ Some y → p x ≡ true → p y ≡ true → i ≡ j) → count_by p xs ≤ 1
+at_most_once p [] alone = omega arith
+at_most_once p (x ∷ xs) alone =
+    let first = count_first p x xs in
+    elim (cases_Bool (p x)) [
+      | inl passes ↦
+          let one : count_by p (x ∷ xs) ≡ 1 + count_by p xs = first ∙ ap (λ b. cond b 1 0 + count_by p xs) passes in
+          ⊎_elim
+          (λ some.
+          let more = counted p xs some in
+          let same = alone 0 (suc more.place) x more.one refl more.there passes more.passes in
+          absurd (omega (arith, same)))
+          (λ none. omega (arith, one, none))
+          (cases_lt 0 (count_by p xs))
+      | inr fails ↦
+          let none : count_by p (x ∷ xs) ≡ 0 + count_by p xs = first ∙ ap (λ b. cond b 1 0 + count_by p xs) fails in
+          let rest = at_most_once p xs (λ i j y z at there passes also. let same = alone (suc i) (suc j) y z at there passes also in omega (arith, same)) in
+          omega (arith, none, rest)
+    ]
+
+-- a test has a position exactly where something passes it
+before_end : {X : Type 0} (p : X → Bool) (xs : List X) → nat_lt (prefix_len (λ x. not (p x)) xs) (length xs) ≡ list_any p xs
+before_end p [] = refl
+before_end p (x ∷ xs) =
+    let rest = prefix_len (λ y. not (p y)) xs in
+    elim (cases_Bool (p x)) [
+      | inl passes ↦ ap (λ b. nat_lt (cond (not b) (1 + rest) 0) (suc (length xs))) passes ∙ lt-ltb 0 (suc (length xs)) (omega arith) ∙ ap (λ b. b || list_any p xs) (sym passes)
+      | inr fails ↦
+          ap (λ b. nat_lt (cond (not b) (1 + rest) 0) (suc (length xs))) fails
+          ∙ ⊎_elim
+          (λ low. lt-ltb (1 + rest) (suc (length xs)) (omega (arith, low)) ∙ sym (lt-ltb rest (length xs) low))
+          (λ from. le-ltb (1 + rest) (suc (length xs)) (omega (arith, from)) ∙ sym (le-ltb rest (length xs) from))
+          (cases_lt rest (length xs))
+          ∙ before_end p xs ∙ ap (λ b. b || list_any p xs) (sym fails)
+    ]
+
+position_any : {X : Type 0} (p : X → Bool) (xs : List X) → is_some (position p xs) ≡ list_any p xs
+position_any p xs =
+    elim (cases_Bool (nat_lt (prefix_len (λ x. not (p x)) xs) (length xs))) [
+      | inl some ↦ ap (λ b. is_some (cond b (Some (prefix_len (λ x. not (p x)) xs)) None)) some ∙ sym some ∙ before_end p xs
+      | inr none ↦ ap (λ b. is_some (cond b (Some (prefix_len (λ x. not (p x)) xs)) None)) none ∙ sym none ∙ before_end p xs
+    ]
+
+module _ (o : OpeningValue) (gathered : List GatheredLink) (links : List Link) (are : AreLinks o.recon.ranges links) where
+  passes_ends : (at : GatheredLink) (link : Link) → at.src ≡ link.src → at.dst ≡ link.dst → is_between link at ≡ true
+  passes_ends at link src dst = and_from (at.src == link.src) (at.dst == link.dst) (eq-eqb at.src link.src src) (eq-eqb at.dst link.dst dst)
+
+  pub each_link_from : AreKnownLinks links gathered → HaveOneEach links gathered → HasEachLink o gathered
+  each_link_from known once =
+      record {
+        ends = λ src dst. position_any (is_between (record { src = src; dst = dst })) gathered ∙ any_is src dst;
+        one_each = λ i j one other at there src dst.
+            let link = ends_of one in
+            counted_once (is_between link) gathered (once link (known one (Contains-slice_get gathered i one at))) i j one other at there (passes_ends one link refl refl) (passes_ends other link (sym src) (sym dst));
+      }
+    where
+      any_is : (src dst : ℕ) → list_any (is_between (record { src = src; dst = dst })) gathered ≡ is_link o.recon.ranges src dst
+      any_is src dst =
+          let link : Link = record { src = src; dst = dst } in
+          elim (cases_Bool (is_link o.recon.ranges src dst)) [
+            | inl moves ↦
+                let found = counted (is_between link) gathered (let one = once link ((are.all link).1 moves) in omega (arith, one)) in
+                list_any-Contains (is_between link) gathered found.one (Contains-slice_get gathered found.place found.one found.there) found.passes ∙ sym moves
+            | inr none ↦
+                elim (cases_Bool (list_any (is_between link) gathered)) [
+                  | inl some ↦
+                      let found = any_in (is_between link) gathered some in
+                      let parts = and_parts (found.0.src == src) (found.0.dst == dst) found.2 in
+                      let moves : is_link o.recon.ranges src dst ≡ true =
+                      (λ i. is_link o.recon.ranges (sym (eqb-true found.0.src src parts.0) i) (sym (eqb-true found.0.dst dst parts.1) i)) ∙ (are.all (ends_of found.0)).0 (known found.0 found.1) in
+                      absurd (true≢false (sym moves ∙ none))
+                  | inr nothing ↦ nothing ∙ sym none
+                ]
+          ]
+
+  pub known_links : HasEachLink o gathered → AreKnownLinks links gathered
+  known_links each at has =
+      let link = ends_of at in
+      (are.all link).1 (sym (each.ends at.src at.dst) ∙ position_any (is_between link) gathered ∙ list_any-Contains (is_between link) gathered at has (passes_ends at link refl refl))
+
+  pub one_of_each : HasEachLink o gathered → HaveOneEach links gathered
+  one_of_each each link has =
+      let found = any_in (is_between link) gathered (sym (position_any (is_between link) gathered) ∙ each.ends link.src link.dst ∙ (are.all link).0 has) in
+      let there = slice_get-Contains gathered found.0 found.1 in
+      let some = at_counted (is_between link) gathered (found.1).0 found.0 there found.2 in
+      let few = at_most_once (is_between link) gathered
+      (λ i j x y at also passes too.
+      let one = and_parts (x.src == link.src) (x.dst == link.dst) passes in
+      let other = and_parts (y.src == link.src) (y.dst == link.dst) too in
+      each.one_each i j x y at also (eqb-true x.src link.src one.0 ∙ sym (eqb-true y.src link.src other.0)) (eqb-true x.dst link.dst one.1 ∙ sym (eqb-true y.dst link.dst other.1))) in
+      omega (arith, some, few)
+
+pub same_link : {one other : Link} → one.src ≡ other.src → one.dst ≡ other.dst → one ≡ other
+same_link src dst = λ i. record { src = src i; dst = dst i }
+
+-- links of two lists that are those of the same ranges
+pub known_again : (o : OpeningValue) (gathered : List GatheredLink) (links others : List Link) → AreLinks o.recon.ranges links → AreLinks o.recon.ranges others → AreKnownLinks links gathered → AreKnownLinks others gathered
+known_again o gathered links others are also known at has = (also.all (ends_of at)).1 ((are.all (ends_of at)).0 (known at has))
