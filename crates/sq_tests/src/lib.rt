@@ -4,6 +4,8 @@
 #[cfg(test)]
 mod chunk;
 #[cfg(test)]
+mod driver;
+#[cfg(test)]
 mod example;
 #[cfg(test)]
 mod exec;
