@@ -4,8 +4,6 @@
 #[cfg(test)]
 mod chunk;
 #[cfg(test)]
-mod driver;
-#[cfg(test)]
 mod example;
 #[cfg(test)]
 mod exec;
