@@ -4,8 +4,8 @@ ghost use Rattle.std.specs.Bool.{Decides};
 ghost use Rattle.sq_audit.specs.Answers.{AreAnsweredBy};
 ghost use Rattle.sq_audit.specs.Counts.{Counts};
 
-use crate::gathered::Receipt;
 use crate::job::Job;
+use sq_node::Receipt;
 use std::alloc::{AllocError, Global};
 use std::collections::BTreeMap;
 

@@ -5,8 +5,8 @@ ghost use Rattle.sq_audit.specs.Answers.{IdsDiffer, is_of};
 ghost use Rattle.sq_audit.specs.Index.{IsIndex};
 ghost use Rattle.sq_audit.specs.Told.{id_of, IsOneJob};
 
-use crate::gathered::Receipt;
 use crate::job::Job;
+use sq_node::Receipt;
 use sq_schema::Txn;
 use std::alloc::{AllocError, Global};
 use std::collections::BTreeMap;

@@ -4,7 +4,7 @@ ghost use Rattle.std.specs.Bool.{Decides};
 ghost use Rattle.sq_node_model.specs.Placed.{HasEachPart};
 ghost use Rattle.sq_audit.specs.Fits.{is_between, AreKnownLinks, HaveOneEach};
 
-use crate::gathered::{Gathered, GatheredLink};
+use sq_gather::{ClosedLink, Gathered};
 use sq_ranges::{Link, Opening};
 
 /// Whether there is a store for each partition, a link wherever a range moves, and a tree for each segment.
@@ -25,7 +25,7 @@ pub(crate) fn has_parts(opening: &Opening, g: &Gathered) -> bool
 }
 
 // Whether each link that was gathered is one of these.
-fn are_known(links: &[Link], gathered: &[GatheredLink]) -> bool
+fn are_known(links: &[Link], gathered: &[ClosedLink]) -> bool
     ensures { Decides result (AreKnownLinks links.now gathered.now) }
 {
     for link in gathered {
@@ -41,7 +41,7 @@ fn are_known(links: &[Link], gathered: &[GatheredLink]) -> bool
 }
 
 // Whether each of these links was gathered once.
-fn have_one_each(links: &[Link], gathered: &[GatheredLink]) -> bool
+fn have_one_each(links: &[Link], gathered: &[ClosedLink]) -> bool
     ensures { Decides result (HaveOneEach links.now gathered.now) }
 {
     for link in links {
@@ -53,7 +53,7 @@ fn have_one_each(links: &[Link], gathered: &[GatheredLink]) -> bool
 }
 
 // How often a link was gathered.
-fn count(gathered: &[GatheredLink], link: Link) -> usize
+fn count(gathered: &[ClosedLink], link: Link) -> usize
     ensures { result ≡ count_by (is_between link) gathered.now }
 {
     let mut count = 0;

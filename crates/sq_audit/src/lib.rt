@@ -4,7 +4,6 @@
 mod answered;
 mod by_id;
 mod fits;
-mod gathered;
 mod index;
 mod job;
 pub mod laws;
@@ -12,6 +11,5 @@ mod located;
 mod told;
 mod verdict;
 
-pub use gathered::{Gathered, GatheredLink, Receipt};
 pub use job::Job;
 pub use verdict::{Defect, Verdict};

@@ -5,8 +5,8 @@ ghost use Rattle.sq_schema.specs.Family.{FamilyValue};
 ghost use Rattle.sq_store.specs.StoreValue.{family_in};
 ghost use Rattle.sq_audit.specs.Located.{spot_of, entries_of, ListsAll, AddsAll, AddsLink};
 
-use crate::gathered::{Gathered, GatheredLink};
 use sq_chunk::Chunk;
+use sq_gather::{ClosedLink, Gathered};
 use sq_schema::Family;
 use sq_store::{FamilyStore, SlabStore};
 use std::alloc::{AllocError, Global};
@@ -59,7 +59,7 @@ fn add_stored<'a>(
 fn add_under_way<'a>(
     all: &mut Vec<Located<'a>>,
     link: usize,
-    of: &'a GatheredLink,
+    of: &'a ClosedLink,
 ) -> Result<(), AllocError>
     ensures { OnOk result (AddsLink link of.now (entries_of all.old.items) (entries_of all.new.items)) }
 {

@@ -9,9 +9,9 @@ ghost use Rattle.sq_audit.specs.Index.{IsIndex, root_of};
 ghost use Rattle.sq_audit.specs.Told.{values_of, id_of, receipt_key, key_order, IsAnswered, rows_then, AreInOrder, TellsLog, TellLogs, TellNothing, KnowsAll};
 
 use crate::by_id::{by_id, job_of};
-use crate::gathered::Receipt;
 use crate::job::Job;
 use crate::located::Located;
+use sq_node::Receipt;
 use sq_schema::{Family, Reply, Rows, Txn};
 use std::alloc::{AllocError, Global};
 use std::collections::BTreeMap;
