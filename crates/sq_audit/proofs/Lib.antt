@@ -11,3 +11,6 @@ pub mod Knowing
 pub mod Auditing
 pub mod Verdicts
 pub mod Parts
+pub mod Places
+pub mod Once
+pub mod Tiling

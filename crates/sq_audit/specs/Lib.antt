@@ -6,3 +6,4 @@ pub mod Located
 pub mod Index
 pub mod Told
 pub mod Fits
+pub mod Notes
