@@ -14,3 +14,4 @@ pub mod Parts
 pub mod Places
 pub mod Once
 pub mod Tiling
+pub mod Ways

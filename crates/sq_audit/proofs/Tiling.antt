@@ -1,11 +1,11 @@
 -- Walks over notes, the oldest first, of which lists with the newest first are told.
-use Rattle.std.proofs.Common.{◌≡◌, inl, inr, ℕ, ◌+◌, ◌-◌, ◌<◌, ◌≤◌, Bool, true, false, ◌==◌, ◌&&◌, ◌||◌, List, [], ◌∷◌, ◌++◌, length, take, drop, slice_get, find, Option, Some, None, refl, sym, ap, ◌∙◌, subst, subst₂, arith, true≢false}
+use Rattle.std.proofs.Common.{◌≡◌, inl, inr, ℕ, ◌+◌, Bool, true, false, ◌==◌, ◌&&◌, ◌||◌, List, [], ◌∷◌, ◌++◌, length, take, drop, slice_get, find, Option, Some, refl, sym, ap, ◌∙◌, subst, subst₂, arith}
 use Rattle.std.specs.Prelude.{cond, reverse}
 use Rattle.std.specs.Ordering.{nat_cmp}
 use Rattle.std.specs.Cmp.{unsigned_tied, both_tied}
 use Rattle.std.specs.BTreeMap.{BTreeMap, get, Updates}
 use Rattle.std.proofs.lemmas.Bool.{cases_Bool, cond-true, cond-false}
-use Rattle.std.proofs.lemmas.List.{take_more, take_all, take-append-drop, reverse-append, length-reverse, length-take-le}
+use Rattle.std.proofs.lemmas.List.{take_more, take-append-drop, reverse-append, length-reverse, length-take-le}
 use Rattle.std.proofs.lemmas.Option.{slice_get_within, get_or_from_slice_get}
 use Rattle.sq_chunk.specs.declared.chunk.Note.{Note}
 use Rattle.sq_ranges.specs.declared.recon.Extent.{Extent}
@@ -15,7 +15,7 @@ use Rattle.sq_model.specs.Links.{is_about, has_last}
 use Rattle.sq_model.specs.Orderly.{AreNumbered, GoesOn, Tiles}
 use Rattle.sq_model.proofs.Tiles.{about_is}
 use Rattle.sq_audit.specs.Counts.{key_order}
-use Rattle.sq_audit.specs.Notes.{is_last, IsPart, Continues}
+use Rattle.sq_audit.specs.Notes.{is_last, Continues}
 
 -- what was walked of a list, the newest first
 abbrev pub walked : {X : Type 0} → List X → ℕ → List X
@@ -25,9 +25,6 @@ pub walked_more : {X : Type 0} (xs : List X) (i : ℕ) (x : X) → slice_get xs 
 walked_more xs i x at =
     let within = slice_get_within xs i x at in
     ap reverse (take_more xs i x within ∙ ap (λ y. take i xs ++ y ∷ []) (get_or_from_slice_get xs i x x at)) ∙ reverse-append (take i xs) (x ∷ [])
-
-pub walked_all : {X : Type 0} (xs : List X) (i : ℕ) → length xs ≤ i → walked xs i ≡ reverse xs
-walked_all xs i whole = ap reverse (take_all i xs whole)
 
 -- what holds of a list holds of what was walked of it, where it doesn't need what came later
 module _ {X : Type 0} (P : List X → Type 0) (earlier : (x : X) (xs : List X) → P (x ∷ xs) → P xs) where
@@ -75,13 +72,13 @@ last_is o (note ∷ ns) tiles seg node =
 
 -- so a note goes on exactly if it continues the newest one
 module _ (o : OpeningValue) (ns : List Note) (tiles : Tiles o ns) (note : Note) where
-  abbrev keys : Extent
-  keys = extent_of o note.seg note.node
+  abbrev extent : Extent
+  extent = extent_of o note.seg note.node
 
   abbrev newest : Option Note
   newest = find (is_about note.seg note.node) ns
 
-  pub goes_on : Continues keys newest note → GoesOn o note ns
+  pub goes_on : Continues extent newest note → GoesOn o note ns
   goes_on c =
       record {
         begins = c.part.begins;
@@ -91,7 +88,7 @@ module _ (o : OpeningValue) (ns : List Note) (tiles : Tiles o ns) (note : Note) 
         first_last = last_is o ns tiles note.seg note.node ∙ c.unfinished;
       }
 
-  pub continues : GoesOn o note ns → Continues keys newest note
+  pub continues : GoesOn o note ns → Continues extent newest note
   continues g =
       record {
         part = record { begins = g.begins; rises = g.rises; within = g.within; last = g.last };

@@ -1,7 +1,7 @@
--- What holds of the notes of links: that each link is placed, in parts, and where a note goes on from the newest one of its node.
-use Rattle.std.specs.Prelude.{◌≡◌, ℕ, ◌≤◌, Bool, false, ◌==◌, ◌-◌, List, length, map, drop, slice_get, Option, Some, None, Contains}
+-- What holds of the notes of links, and where a note goes on from the newest one of its node.
+use Rattle.std.specs.Prelude.{◌≡◌, ℕ, ◌≤◌, Bool, true, false, ◌==◌, ◌-◌, List, length, map, drop, slice_get, Option, Some, None, Contains}
 use Rattle.sq_chunk.specs.declared.chunk.Note.{Note}
-use Rattle.sq_chunk.specs.ChunkValue.{ChunkValue}
+use Rattle.sq_chunk.specs.ChunkValue.{ChunkValue, are_within}
 use Rattle.sq_ranges.specs.declared.recon.Extent.{Extent}
 use Rattle.sq_ranges.specs.OpeningValue.{OpeningValue}
 use Rattle.sq_model.specs.Links.{end_of_note}
@@ -16,22 +16,27 @@ LinksPlaced o g = (i : ℕ) (link : GatheredLink) → slice_get g.links i ≡ So
 abbrev pub AreOfLast : List ChunkValue → List Note → Type 0
 AreOfLast chunks notes = map (λ chunk. chunk.note) chunks ≡ drop (length notes - length chunks) notes
 
+-- the families of each chunk are of the keys that its note covers
+abbrev pub HoldTheirKeys : List ChunkValue → Type 0
+HoldTheirKeys chunks = (chunk : ChunkValue) → Contains chunks chunk → are_within chunk.note.lo chunk.note.hi chunk.families ≡ true
+
 -- each note is one of the link's
 abbrev pub AreLinkNotes : OpeningValue → GatheredValue → GatheredLink → Type 0
 AreLinkNotes o g link = (note : Note) → Contains link.notes note → IsLinkNote o g link note
 
+-- there is such a note, and it is its node's last
 abbrev pub is_last : Option Note → Bool
 is_last None = false
 is_last (Some note) = note.last
 
--- the note goes from this key on to at most the high end of these keys, and is last exactly if it ends there
-pub record IsPart (keys : Extent) (from : ℕ) (note : Note) : Type 0 where
+-- the note goes from this key on to at most the high end of an extent, and is last exactly if it ends there
+pub record IsPart (extent : Extent) (from : ℕ) (note : Note) : Type 0 where
   pub begins : note.lo ≡ from
   pub rises : note.lo ≤ note.hi
-  pub within : note.hi ≤ keys.hi
-  pub last : note.last ≡ (note.hi == keys.hi)
+  pub within : note.hi ≤ extent.hi
+  pub last : note.last ≡ (note.hi == extent.hi)
 
--- the note goes on where the newest one of its node ends, which wasn't its last, or where there is none at the low end of the node's keys
-pub record Continues (keys : Extent) (newest : Option Note) (note : Note) : Type 0 where
-  pub part : IsPart keys (end_of_note keys.lo newest) note
+-- the note goes on where the newest one of its node ends, which wasn't its last, or where there is none at the low end of the node's extent
+pub record Continues (extent : Extent) (newest : Option Note) (note : Note) : Type 0 where
+  pub part : IsPart extent (end_of_note extent.lo newest) note
   pub unfinished : is_last newest ≡ false

@@ -8,6 +8,8 @@ mod index;
 mod job;
 pub mod laws;
 mod located;
+mod notes;
+mod tiles;
 mod told;
 mod verdict;
 

@@ -1,0 +1,141 @@
+// Whether the notes of links are as they have to be.
+ghost use Rattle.std.specs.Prelude.{◌≡◌, [], true, reverse, slice_index_or, IsTrue, IfOk};
+ghost use Rattle.std.specs.Option.{option_copied};
+ghost use Rattle.std.specs.Bool.{Decides};
+ghost use Rattle.sq_tree.specs.Node.{is_node};
+ghost use Rattle.sq_tree.specs.Status.{is_begun};
+ghost use Rattle.sq_tree.specs.Tree.{status_at};
+ghost use Rattle.sq_model.specs.Links.{goes};
+ghost use Rattle.sq_model.specs.Orderly.{AreNumbered};
+ghost use Rattle.sq_node_model.specs.Placed.{IsLinkNote, IsLinkPlaced};
+ghost use Rattle.sq_audit.specs.Notes.{LinksPlaced, AreOfLast, HoldTheirKeys, AreLinkNotes};
+
+use crate::tiles::tile;
+use sq_chunk::{Chunk, Note};
+use sq_gather::{ClosedLink, Gathered};
+use sq_plan::PartId;
+use sq_ranges::{Opening, Range, SegId};
+use sq_tree::{NODES, NodeId, Status};
+use std::alloc::{AllocError, Global};
+
+/// Whether the notes of each link are numbered from 0, are about begun nodes of the link's segments and tile them, and
+/// the chunks under way are those of the last ones.
+pub(crate) fn links_fit(alloc: Global, opening: &Opening, g: &Gathered) -> Result<bool, AllocError>
+    ensures { IfOk result (λ fit. Decides fit (LinksPlaced opening.now g.now)) }
+{
+    for link in &g.links {
+        if !link_fits(alloc, opening, g, link)? {
+            return Ok(false);
+        }
+    }
+    Ok(true)
+}
+
+// Whether the notes and the chunks of a link are so.
+fn link_fits(
+    alloc: Global,
+    opening: &Opening,
+    g: &Gathered,
+    link: &ClosedLink,
+) -> Result<bool, AllocError>
+    ensures { IfOk result (λ fits. Decides fits (IsLinkPlaced opening.now g.now link.now)) }
+{
+    if !are_of_last(&link.under_way, &link.notes) {
+        return Ok(false);
+    }
+    if !are_numbered(&link.notes) {
+        return Ok(false);
+    }
+    if !are_link_notes(opening, g, link) {
+        return Ok(false);
+    }
+    tile(alloc, opening, &link.notes)
+}
+
+// Whether the chunks are those of the last notes.
+fn are_of_last(chunks: &[Chunk], notes: &[Note]) -> bool
+    ensures last { Decides result (AreOfLast chunks.now notes.now) }
+    ensures within { result ≡ true → HoldTheirKeys chunks.now }
+{
+    let Some(loaded) = notes.len().checked_sub(chunks.len()) else {
+        return false;
+    };
+    for (at, chunk) in chunks.iter().enumerate() {
+        if chunk.note() != notes[loaded + at] {
+            return false;
+        }
+        // For the proof alone: it tells that the families are of keys that the note covers, as those of each chunk are.
+        chunk.families();
+    }
+    true
+}
+
+// Whether the notes, the oldest first, are numbered from 0.
+fn are_numbered(notes: &[Note]) -> bool
+    ensures { Decides result (AreNumbered (reverse notes.now)) }
+{
+    for (at, note) in notes.iter().enumerate() {
+        if note.number != at as u64 {
+            return false;
+        }
+    }
+    true
+}
+
+// Whether each note is one of the link's.
+fn are_link_notes(opening: &Opening, g: &Gathered, link: &ClosedLink) -> bool
+    ensures { Decides result (AreLinkNotes opening.now g.now link.now) }
+{
+    for note in &link.notes {
+        if !is_link_note(opening, g, link, note) {
+            return false;
+        }
+    }
+    true
+}
+
+// Whether the note goes along the link, and is about a begun node of one of its segments.
+fn is_link_note(opening: &Opening, g: &Gathered, link: &ClosedLink, note: &Note) -> bool
+    ensures { Decides result (IsLinkNote opening.now g.now link.now note.now) }
+{
+    if note.src != link.src {
+        return false;
+    }
+    if note.dst != link.dst {
+        return false;
+    }
+    let segment = opening.recon().segments().get(note.seg.index());
+    if !goes(segment, link.src, link.dst) {
+        return false;
+    }
+    is_begun(status_of(&g.words, note.seg, note.node))
+}
+
+// Whether there is a segment, and it goes from the one partition to the other.
+fn goes(segment: Option<&Range>, src: PartId, dst: PartId) -> bool
+    ensures { result ≡ goes (option_copied segment.entry) src dst }
+{
+    match segment {
+        Some(segment) => segment.src == src && segment.dst == dst,
+        None => false,
+    }
+}
+
+// The status of a node of a segment's tree; that of a free one where there is no such segment.
+fn status_of(words: &[[Status; NODES]], seg: SegId, node: NodeId) -> Status
+    ensures status { result ≡ status_at (slice_index_or words.now seg []) node }
+    ensures node { IsTrue (is_node node) }
+{
+    let place = node.index();
+    match words.get(seg.index()) {
+        Some(statuses) => statuses[place],
+        None => Status::Free,
+    }
+}
+
+// Whether the source gave a node with this status up.
+fn is_begun(status: Status) -> bool
+    ensures { result ≡ is_begun status }
+{
+    matches!(status, Status::Partial(_) | Status::Complete(_))
+}

@@ -1,0 +1,56 @@
+// Whether notes tile the nodes that they are about.
+ghost use Rattle.std.specs.Prelude.{◌≡◌, reverse, slice_get, IfOk};
+ghost use Rattle.std.specs.Bool.{Decides};
+ghost use Rattle.sq_model.specs.Place.{extent_in};
+ghost use Rattle.sq_model.specs.Orderly.{Tiles};
+ghost use Rattle.sq_audit.specs.Notes.{Continues, IsPart};
+
+use sq_chunk::Note;
+use sq_ranges::{Extent, Opening, Recon, SegId};
+use sq_tree::NodeId;
+use std::alloc::{AllocError, Global};
+use std::collections::BTreeMap;
+
+/// Whether the notes, the oldest first, tile their nodes from the low ends on.
+pub(crate) fn tile(alloc: Global, opening: &Opening, notes: &[Note]) -> Result<bool, AllocError>
+    ensures { IfOk result (λ tile. Decides tile (Tiles opening.now (reverse notes.now))) }
+{
+    let mut newest = BTreeMap::new(alloc);
+    for note in notes {
+        let node = (note.seg.number(), note.node.number());
+        let extent = extent_of(opening.recon(), note.seg, note.node);
+        if !continues(extent, newest.get(&node).copied(), *note) {
+            return Ok(false);
+        }
+        newest.insert(node, *note)?;
+    }
+    Ok(true)
+}
+
+// The root keys of a node; none where there is no such segment.
+fn extent_of(recon: &Recon, seg: SegId, node: NodeId) -> Extent
+    ensures { result ≡ extent_in recon.now.width (slice_get recon.now.segments seg) node }
+{
+    recon.extent(seg, node).unwrap_or(Extent { lo: 0, hi: 0 })
+}
+
+// Whether a note goes on where the newest one of its node, which has this extent, ends.
+fn continues(extent: Extent, newest: Option<Note>, note: Note) -> bool
+    ensures { Decides result (Continues extent newest note) }
+{
+    match newest {
+        Some(newest) if newest.last => false,
+        Some(newest) => is_part(extent, newest.hi, note),
+        None => is_part(extent, extent.lo, note),
+    }
+}
+
+// Whether a note goes from here on to at most the high end of an extent, and is last exactly if it ends there.
+fn is_part(extent: Extent, from: u64, note: Note) -> bool
+    ensures { Decides result (IsPart extent from note) }
+{
+    if note.lo != from || note.hi < from || note.hi > extent.hi {
+        return false;
+    }
+    note.last == (note.hi == extent.hi)
+}
