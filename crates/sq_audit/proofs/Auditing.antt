@@ -100,7 +100,7 @@ module _ (o : OpeningValue) (g : GatheredValue) (entries : List Entry) (lists : 
   once_is b decides =
       Decides-like b
       (λ agree one other root family again stands also.
-      agree (one, family) (other, again) (lists.each one root family stands) (lists.each other root again also) (lists.keyed one root family stands ∙ sym (lists.keyed other root again also)))
+      agree (one, family) (other, again) (lists.each one root family stands) (lists.each other root again also) ((lists.keyed one root family stands).same_root ∙ sym (lists.keyed other root again also).same_root))
       (λ once one other has also same.
       once one.0 other.0 one.1.root one.1 other.1 (lists.here one has) (subst (λ k. StandsAt g other.0 k other.1) (sym same) (lists.here other also)))
       decides
@@ -108,7 +108,7 @@ module _ (o : OpeningValue) (g : GatheredValue) (entries : List Entry) (lists : 
   pub bases_are : (b : Bool) → Decides b (StartFrom (rows_in o.table) entries) → Decides b (KeepBases o g)
   bases_are b decides =
       Decides-like b
-      (λ start spot root family stands. start (spot, family) (lists.each spot root family stands) ∙ ap (rows_in o.table) (lists.keyed spot root family stands))
+      (λ start spot root family stands. start (spot, family) (lists.each spot root family stands) ∙ ap (rows_in o.table) (lists.keyed spot root family stands).same_root)
       (λ keep entry has. keep entry.0 entry.1.root entry.1 (lists.here entry has))
       decides
 
@@ -123,7 +123,7 @@ module _ (o : OpeningValue) (g : GatheredValue) (entries : List Entry) (lists : 
         let rows = entry_found o.table entry sorted has in
         let some = (and_parts (not (length entry.1 == 0)) _ (opening_at o.table entry opening has)).0 in
         let stands = all entry.0 (ap (λ (f : Option RowList). not (length (unwrap_or f []) == 0)) rows ∙ some) in
-        is_there entry.0 (get nat_cmp places entry.0) refl (λ none. index.none entry.0 none (stands.0, stands.1) (lists.each stands.0 entry.0 stands.1 stands.2) (lists.keyed stands.0 entry.0 stands.1 stands.2)))
+        is_there entry.0 (get nat_cmp places entry.0) refl (λ none. index.none entry.0 none (stands.0, stands.1) (lists.each stands.0 entry.0 stands.1 stands.2) (lists.keyed stands.0 entry.0 stands.1 stands.2).same_root))
         decides
       where
         of_opened : (root : ℕ) (found : Option RowList) → find nat_cmp root o.table ≡ found → is_opened o root ≡ true → (entry : ℕ × RowList) × Contains o.table entry × (entry.0 ≡ root)
@@ -173,7 +173,7 @@ module _ (o : OpeningValue) (g : GatheredValue) (entries : List Entry) (lists : 
                 job,
                 absent receipt.root,
                 told.1.1,
-                inr ((λ spot other stands. none (spot, other) (lists.each spot receipt.root other stands) (lists.keyed spot receipt.root other stands)), refl),
+                inr ((λ spot other stands. none (spot, other) (lists.each spot receipt.root other stands) (lists.keyed spot receipt.root other stands).same_root), refl),
                 record {
                   id = of.id;
                   root = of.root;
@@ -185,7 +185,7 @@ module _ (o : OpeningValue) (g : GatheredValue) (entries : List Entry) (lists : 
 
       named_each : KnowsAll entries jobs g.receipts → NameEach g
       named_each all spot root family stands position =
-          let same = lists.keyed spot root family stands in
+          let same = (lists.keyed spot root family stands).same_root in
           ap (λ k. times_named k position g.receipts) (sym same) ∙ sym (names_are family.root position g.receipts) ∙ (all.logs (spot, family) (lists.each spot root family stands)).named position
 
       knows_from : AreKnown g jobs → NameEach g → KnowsAll entries jobs g.receipts
@@ -205,7 +205,7 @@ module _ (o : OpeningValue) (g : GatheredValue) (entries : List Entry) (lists : 
             nothing = λ receipt has none.
                 let is = known receipt has in
                 ⊎_elim
-                (λ at. absurd (none (at.0, is.1) (lists.each at.0 receipt.root is.1 at.1) (lists.keyed at.0 receipt.root is.1 at.1)))
+                (λ at. absurd (none (at.0, is.1) (lists.each at.0 receipt.root is.1 at.1) (lists.keyed at.0 receipt.root is.1 at.1).same_root))
                 (λ empty.
                 let answer = subst (λ (f : FamilyValue). IsAnswerTo f is.0.txn receipt) empty.1 is.4 in
                 let within = answer.within in (

@@ -1,20 +1,21 @@
 -- That all families of what was gathered are listed: those of a store by a walk, those of a chunk in their order.
 use Rattle.std.proofs.Common.{◌≡◌, ⊎_elim, ℕ, ◌+◌, ◌<◌, ◌≤◌, ◌==◌, get_or, true, nat_le, nat_lt, if◌then◌else◌, List, [], ◌∷◌, ◌++◌, map, length, slice_get, Contains, Option, Some, None, refl, sym, ap, ◌∙◌, subst, arith, append_assoc, eqb-true, eq-eqb}
-use Rattle.std.specs.Prelude.{option_and_then}
+use Rattle.std.specs.Prelude.{option_and_then, All}
 use Rattle.std.specs.FinMap.{get}
 use Rattle.std.proofs.lemmas.Bool.{cases_lt, and_from, le-leb, lt-ltb, ne_eqb}
 use Rattle.std.proofs.lemmas.List.{map-append}
-use Rattle.std.proofs.lemmas.List.Elements.{Contains-append_left, Contains-append_right, Contains-append_cases, Contains-push}
+use Rattle.std.proofs.lemmas.List.Elements.{All-contains, Contains-append_left, Contains-append_right, Contains-append_cases, Contains-push}
 use Rattle.std.proofs.lemmas.Option.{slice_get_within, slice_get-get_or}
 use Rattle.sq_schema.specs.Family.{FamilyValue}
 use Rattle.sq_store.specs.StoreValue.{StoreValue, family_in}
-use Rattle.sq_store.specs.InOrder.{family_from, HoldsByRoot, are_within}
+use Rattle.sq_store.specs.InOrder.{family_from, HoldsByRoot, are_within, AreKeyed}
 use Rattle.sq_store.proofs.Rising.{rises}
 use Rattle.sq_store.proofs.Firsts.{first_is, first_none, none_between}
 use Rattle.sq_chunk.specs.ChunkValue.{ChunkValue}
 use Rattle.sq_model.proofs.Lists.{Contains-nothing, Contains-cases, Contains-slice_get, slice_get-Contains, found_in}
 use Rattle.sq_node_model.specs.declared.spot.Spot.{Spot}
 use Rattle.sq_node_model.specs.declared.spot.Spot.TheVariants.{Store, Chunk}
+use Rattle.sq_node_model.specs.FamiliesHold.{IsOf}
 use Rattle.sq_node_model.specs.Gathered.{GatheredLink, GatheredValue}
 use Rattle.sq_node_model.specs.Spots.{StandsAt}
 use Rattle.sq_node_model.proofs.Members.{Contains-map}
@@ -27,6 +28,10 @@ no_some x e = cc
 
 pub mapped_in : {X Y : Type 0} (f : X → Y) (xs : List X) (y : Y) → Contains (map f xs) y → (x : X) × Contains xs x × (f x ≡ y)
 mapped_in f xs y has = let at = map_at f xs has.0 y (slice_get-Contains (map f xs) y has) in (at.0, Contains-slice_get xs has.0 at.0 at.1, at.2)
+
+-- a family whose log is its own is that of its root key
+of_root : (root : ℕ) (family : FamilyValue) → family.root ≡ root → All (λ txn. txn.root ≡ family.root) family.log → IsOf root family
+of_root root family same own = record { same_root = same; own_log = subst (λ k. All (λ txn. txn.root ≡ k) family.log) same own }
 
 -- one more is listed
 pub pushed : (all : List Located) (one : Located) (before : List Entry) (families : List FamilyValue) (spot : Spot) (family : FamilyValue)
@@ -44,13 +49,14 @@ pushed all one before families spot family so_far is =
 pub record WalkedTo (store : StoreValue) (at : ℕ) (families : List FamilyValue) : Type 0 where
   pub here : (family : FamilyValue) → Contains families family → get store family.root ≡ Some family
   pub each : (root : ℕ) (family : FamilyValue) → root < at → get store root ≡ Some family → Contains families family
+  pub own : (family : FamilyValue) → Contains families family → All (λ txn. txn.root ≡ family.root) family.log
 
 pub walked_none : (store : StoreValue) → WalkedTo store 0 []
-walked_none store = record { here = λ family has. absurd (Contains-nothing family has); each = λ root family below at. absurd (omega (arith, below)) }
+walked_none store = record { here = λ family has. absurd (Contains-nothing family has); each = λ root family below at. absurd (omega (arith, below)); own = λ family has. absurd (Contains-nothing family has) }
 
 module _ (store : StoreValue) (at : ℕ) (families : List FamilyValue) (by : HoldsByRoot store) (so_far : WalkedTo store at families) where
-  pub walked_next : (next : ℕ) (family : FamilyValue) → family_from store at ≡ Some family → next ≡ family.root + 1 → WalkedTo store next (families ++ family ∷ [])
-  walked_next next family found next_is =
+  pub walked_next : (next : ℕ) (family : FamilyValue) → family_from store at ≡ Some family → next ≡ family.root + 1 → All (λ txn. txn.root ≡ family.root) family.log → WalkedTo store next (families ++ family ∷ [])
+  walked_next next family found next_is own =
       let first = first_is store at by (family.root + 1) family found (omega arith) in
       record {
         here = λ other has.
@@ -75,21 +81,31 @@ module _ (store : StoreValue) (at : ℕ) (families : List FamilyValue) (by : Hol
             subst (Contains (families ++ family ∷ [])) same (Contains-push families family))
             (cases_lt root family.root))
             (cases_lt root at);
+        own = λ other has.
+            ⊎_elim (so_far.own other)
+            (λ last. ⊎_elim
+            (λ same. subst (λ (f : FamilyValue). All (λ txn. txn.root ≡ f.root) f.log) same own)
+            (λ none. absurd (Contains-nothing other none))
+            (Contains-cases family [] other last))
+            (Contains-append_cases families (family ∷ []) other has);
       }
 
   pub walked_all : family_from store at ≡ None → AreAllOf (get store) families
   walked_all none =
       record {
         here = so_far.here;
-        each = λ root family stands.
-            ⊎_elim
-            (λ low. so_far.each root family low stands)
-            (λ upto.
-            let between = and_from (nat_le at root) (nat_lt root (root + 1)) (le-leb at root upto) (lt-ltb root (root + 1) (omega arith)) in
-            absurd (no_some family (sym (none_between store at (root + 1) root (first_none store at by (root + 1) none) between) ∙ stands)))
-            (cases_lt root at);
-        keyed = by;
+        each = each;
+        keyed = λ root family stands. of_root root family (by root family stands) (so_far.own family (each root family stands));
       }
+    where
+      each : (root : ℕ) (family : FamilyValue) → get store root ≡ Some family → Contains families family
+      each root family stands =
+          ⊎_elim
+          (λ low. so_far.each root family low stands)
+          (λ upto.
+          let between = and_from (nat_le at root) (nat_lt root (root + 1)) (le-leb at root upto) (lt-ltb root (root + 1) (omega arith)) in
+          absurd (no_some family (sym (none_between store at (root + 1) root (first_none store at by (root + 1) none) between) ∙ stands)))
+          (cases_lt root at)
 
 -- families that rise are found by their root keys
 lowest : (lo hi : ℕ) (families : List FamilyValue) (family : FamilyValue) → are_within lo hi families ≡ true → Contains families family → lo ≤ family.root
@@ -114,19 +130,21 @@ found_here lo hi (first ∷ families) family rise has =
     ∙ found_here (first.root + 1) hi families family r.rest later)
     (Contains-cases first families family has)
 
-pub carried_all : (lo hi : ℕ) (families : List FamilyValue) → are_within lo hi families ≡ true → AreAllOf (family_in families) families
-carried_all lo hi families rise =
+pub carried_all : (lo hi : ℕ) (families : List FamilyValue) → are_within lo hi families ≡ true → AreKeyed families → AreAllOf (family_in families) families
+carried_all lo hi families rise own =
     record {
       here = λ family has. found_here lo hi families family rise has;
       each = λ root family found. (found_in (λ f. f.root == root) families family found).0;
-      keyed = λ root family found. eqb-true family.root root (found_in (λ f. f.root == root) families family found).1;
+      keyed = λ root family found.
+          let here = found_in (λ f. f.root == root) families family found in
+          of_root root family (eqb-true family.root root here.1) (All-contains (λ f. All (λ txn. txn.root ≡ f.root) f.log) families family own here.0);
     }
 
 -- the families of the chunks before one of a link
 pub record CarriedTo (link : ℕ) (of : GatheredLink) (upto : ℕ) (entries : List Entry) : Type 0 where
   pub here : (entry : Entry) → Contains entries entry → (chunk : ℕ) × (found : ChunkValue) × (entry.0 ≡ Chunk link chunk) × (slice_get of.under_way chunk ≡ Some found) × (family_in found.families entry.1.root ≡ Some entry.1)
   pub each : (chunk root : ℕ) (found : ChunkValue) (family : FamilyValue) → chunk < upto → slice_get of.under_way chunk ≡ Some found → family_in found.families root ≡ Some family
-      → Contains entries (Chunk link chunk, family) × (family.root ≡ root)
+      → Contains entries (Chunk link chunk, family) × IsOf root family
 
 pub carried_none : (link : ℕ) (of : GatheredLink) → CarriedTo link of 0 []
 carried_none link of = record { here = λ entry has. absurd (Contains-nothing entry has); each = λ chunk root found family below there at. absurd (omega (arith, below)) }
@@ -174,13 +192,13 @@ carried_whole link of old new entries whole added =
 -- the families of the stores before one
 pub record StoredTo (g : GatheredValue) (upto : ℕ) (entries : List Entry) : Type 0 where
   pub here : (entry : Entry) → Contains entries entry → StandsAt g entry.0 entry.1.root entry.1
-  pub stores : (part root : ℕ) (family : FamilyValue) → part < upto → StandsAt g (Store part) root family → Contains entries (Store part, family) × (family.root ≡ root)
+  pub stores : (part root : ℕ) (family : FamilyValue) → part < upto → StandsAt g (Store part) root family → Contains entries (Store part, family) × IsOf root family
 
 -- and of all stores, and of the links before one
 pub record LinkedTo (g : GatheredValue) (upto : ℕ) (entries : List Entry) : Type 0 where
   pub here : (entry : Entry) → Contains entries entry → StandsAt g entry.0 entry.1.root entry.1
-  pub stores : (part root : ℕ) (family : FamilyValue) → StandsAt g (Store part) root family → Contains entries (Store part, family) × (family.root ≡ root)
-  pub links : (link chunk root : ℕ) (family : FamilyValue) → link < upto → StandsAt g (Chunk link chunk) root family → Contains entries (Chunk link chunk, family) × (family.root ≡ root)
+  pub stores : (part root : ℕ) (family : FamilyValue) → StandsAt g (Store part) root family → Contains entries (Store part, family) × IsOf root family
+  pub links : (link chunk root : ℕ) (family : FamilyValue) → link < upto → StandsAt g (Chunk link chunk) root family → Contains entries (Chunk link chunk, family) × IsOf root family
 
 of_some : {X Y : Type 0} (f : X → Option Y) (found : Option X) (y : Y) → option_and_then f found ≡ Some y → (x : X) × (found ≡ Some x) × (f x ≡ Some y)
 of_some f None y at = absurd (no_some y at)
@@ -252,7 +270,7 @@ module _ (g : GatheredValue) where
   pub listed_all : (entries : List Entry) → LinkedTo g (length g.links) entries → ListsAll g entries
   listed_all entries linked = record { here = linked.here; each = λ spot root family stands. (known spot root family stands).0; keyed = λ spot root family stands. (known spot root family stands).1 }
     where
-      known : (spot : Spot) (root : ℕ) (family : FamilyValue) → StandsAt g spot root family → Contains entries (spot, family) × (family.root ≡ root)
+      known : (spot : Spot) (root : ℕ) (family : FamilyValue) → StandsAt g spot root family → Contains entries (spot, family) × IsOf root family
       known (Store part) root family stands = linked.stores part root family stands
       known (Chunk link chunk) root family stands =
           let at = of_some (λ (c : ChunkValue). family_in c.families root) (option_and_then (λ (l : GatheredLink). slice_get l.under_way chunk) (slice_get g.links link)) family stands in

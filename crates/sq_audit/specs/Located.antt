@@ -3,6 +3,7 @@ use Rattle.std.specs.Prelude.{◌≡◌, ℕ, List, ◌++◌, map, slice_get, Op
 use Rattle.sq_schema.specs.Family.{FamilyValue}
 use Rattle.sq_store.specs.StoreValue.{family_in}
 use Rattle.sq_chunk.specs.ChunkValue.{ChunkValue}
+use Rattle.sq_node_model.specs.FamiliesHold.{IsOf}
 use Rattle.sq_node_model.specs.declared.spot.Spot.{Spot}
 use Rattle.sq_node_model.specs.declared.spot.Spot.TheVariants as spots
 use Rattle.sq_node_model.specs.Gathered.{GatheredLink, GatheredValue}
@@ -25,11 +26,11 @@ entry_of located = (spot_of located.site, located.family.now)
 abbrev pub entries_of : List Located → List Entry
 entries_of all = map entry_of all
 
--- these families are just those of their root keys
+-- these families are just those of their root keys, and their logs are of these
 pub record AreAllOf (family_of : ℕ → Option FamilyValue) (families : List FamilyValue) : Type 0 where
   pub here : (family : FamilyValue) → Contains families family → family_of family.root ≡ Some family
   pub each : (root : ℕ) (family : FamilyValue) → family_of root ≡ Some family → Contains families family
-  pub keyed : (root : ℕ) (family : FamilyValue) → family_of root ≡ Some family → family.root ≡ root
+  pub keyed : (root : ℕ) (family : FamilyValue) → family_of root ≡ Some family → IsOf root family
 
 -- all families of a spot were added
 pub record AddsAll (spot : Spot) (family_of : ℕ → Option FamilyValue) (old new : List Entry) : Type 0 where
@@ -42,11 +43,11 @@ pub record AddsLink (link : ℕ) (of : GatheredLink) (old new : List Entry) : Ty
   pub entries : List Entry
   pub here : (entry : Entry) → Contains entries entry → (chunk : ℕ) × (found : ChunkValue) × (entry.0 ≡ spots.Chunk link chunk) × (slice_get of.under_way chunk ≡ Some found) × (family_in found.families entry.1.root ≡ Some entry.1)
   pub each : (chunk root : ℕ) (found : ChunkValue) (family : FamilyValue) → slice_get of.under_way chunk ≡ Some found → family_in found.families root ≡ Some family
-      → Contains entries (spots.Chunk link chunk, family) × (family.root ≡ root)
+      → Contains entries (spots.Chunk link chunk, family) × IsOf root family
   pub added : new ≡ old ++ entries
 
--- these are just the families that stand
+-- these are just the families that stand, each of its root key
 pub record ListsAll (g : GatheredValue) (entries : List Entry) : Type 0 where
   pub here : (entry : Entry) → Contains entries entry → StandsAt g entry.0 entry.1.root entry.1
   pub each : (spot : Spot) (root : ℕ) (family : FamilyValue) → StandsAt g spot root family → Contains entries (spot, family)
-  pub keyed : (spot : Spot) (root : ℕ) (family : FamilyValue) → StandsAt g spot root family → family.root ≡ root
+  pub keyed : (spot : Spot) (root : ℕ) (family : FamilyValue) → StandsAt g spot root family → IsOf root family

@@ -49,6 +49,8 @@ fn add_stored<'a>(
 {
     let mut at = 0;
     while let Some(family) = store.walk(at) {
+        // For the proof alone: it tells that the log is of the family's own root key, as that of each family is.
+        family.log();
         all.push(Located { site, family })?;
         at = family.root().number() + 1;
     }

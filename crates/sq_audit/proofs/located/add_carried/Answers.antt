@@ -14,6 +14,6 @@ returns c =
     let before = entries_of c.args.all.now.items in
     record {
       families = c.args.chunk.now.families;
-      all = carried_all c.args.chunk.now.note.lo c.args.chunk.now.note.hi c.args.chunk.now.families c.families-family-items.ensures.within;
+      all = carried_all c.args.chunk.now.note.lo c.args.chunk.now.note.hi c.args.chunk.now.families c.families-family-items.ensures.within c.families-family-items.ensures.keyed;
       added = c.loop-family.invariant ∙ ap (λ (fs : List FamilyValue). before ++ of_spot (spot_of c.args.site) fs) (take_all c.loop-family.family-index items whole ∙ here);
     }

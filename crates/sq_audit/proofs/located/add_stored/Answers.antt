@@ -1,5 +1,7 @@
-use Rattle.std.proofs.Common.{◌≡◌, ◌+◌, ◌<◌, ◌≤◌, ◌++◌, ◌∷◌, [], sym, ap, ◌∙◌, refl, arith}
+use Rattle.std.proofs.Common.{◌≡◌, ◌+◌, ◌<◌, ◌≤◌, ◌++◌, ◌∷◌, [], sym, ap, ◌∙◌, refl, subst, arith}
+use Rattle.std.specs.Prelude.{All}
 use Rattle.std.proofs.lemmas.List.{append-nil}
+use Rattle.sq_schema.specs.TxnValue.{TxnValue}
 use Rattle.sq_schema.specs.declared.root.TheConstants.{ROOT_END}
 use Rattle.sq_store.proofs.Firsts.{first_is}
 use Rattle.sq_audit.specs.declared.located.Located.{Located}
@@ -24,10 +26,11 @@ loop-family-preserved c =
     let family = c.in-Some.family.now in
     let so_far = c.loop-family.invariant in
     let one : Located = record { site = c.args.site; family = c.in-Some.family } in
-    let number : c.number-at.result ≡ family.root = c.number-at.ensures.number ∙ c.root.ensures in (
+    let number : c.number-at.result ≡ family.root = c.number-at.ensures.number ∙ c.root.ensures in
+    let own = subst (All (λ (txn : TxnValue). txn.root ≡ family.root)) c.log.ensures.log c.log.ensures.own in (
       so_far.0 ++ family ∷ [],
       ap entries_of c.in_ok-push.ensures.items ∙ pushed c.loop-family.all.items one (entries_of c.args.all.now.items) so_far.0 (spot_of c.args.site) family so_far.1 refl,
-      walked_next c.args.store.now c.loop-family.at so_far.0 c.walk.ensures.rooted so_far.2 (c.number-at.result + 1) family (sym c.in-Some.ensures.family) (ap (λ n. n + 1) number),
+      walked_next c.args.store.now c.loop-family.at so_far.0 c.walk.ensures.rooted so_far.2 (c.number-at.result + 1) family (sym c.in-Some.ensures.family) (ap (λ n. n + 1) number) own,
       (let bound : c.number-at.result < ROOT_END = c.number-at.ensures.bound in omega (arith, bound)),
     )
 
