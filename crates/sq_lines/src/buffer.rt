@@ -3,6 +3,7 @@ ghost use Rattle.std.specs.Prelude.{◌≡◌, ◌==◌, ◌+◌, ◌-◌, ◌<�
 ghost use Rattle.std.specs.Io.KnownBytes.{Keeps, Consumes, IsAtEnd};
 
 use memchr::memchr;
+use std::alloc::{AllocError, Global};
 use std::io;
 use std::io::{ErrorKind, Read};
 
@@ -14,6 +15,20 @@ pub const BLOCK: usize = 65_536;
 
 /// The size of the buffer: a line as long as it may be, and a block behind it.
 pub(crate) const ROOM: usize = MAX_UNENDED + BLOCK;
+
+// A block of zeros.
+static ZEROS: [u8; BLOCK] = [0; BLOCK];
+
+// A buffer with room for the longest line. It is filled block by block, since `resize` stores byte by byte.
+pub(crate) fn buffer_of(alloc: Global) -> Result<Vec<u8>, AllocError>
+    ensures { IfOk result (λ buffer. vec_len buffer ≡ ROOM) }
+{
+    let mut buffer = Vec::with_capacity(alloc, ROOM)?;
+    for _ in 0..ROOM / BLOCK {
+        buffer.extend_from_slice(&ZEROS)?;
+    }
+    Ok(buffer)
+}
 
 /// The first place of a byte; `None` where it has none.
 pub fn place_of(byte: u8, bytes: &[u8]) -> Option<usize>

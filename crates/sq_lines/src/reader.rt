@@ -4,7 +4,7 @@ ghost use Rattle.sq_lines.specs.Pieces.{next_begins, PieceValue};
 ghost use Rattle.sq_lines.specs.Coming.{CanCome, IsUndecided, Gives, Finds, GoesOn, reads_left};
 ghost use Rattle.std.specs.List.{list_all};
 
-use crate::buffer::{MAX_UNENDED, ROOM, move_to_front, place_of, read_behind};
+use crate::buffer::{MAX_UNENDED, buffer_of, move_to_front, place_of, read_behind};
 use std::alloc::{AllocError, Global};
 use std::io::Read;
 use std::marker::Model;
@@ -81,11 +81,9 @@ impl<R: Read> LineReader<R> {
         ensures lines { IfOk result (λ lines. lines.lines ≡ MAX_LINES) }
         ensures known { IfOk result (λ lines. lines.known ≡ R.remaining reader) }
     {
-        let mut buffer = Vec::with_capacity(alloc, ROOM)?;
-        buffer.resize(ROOM, 0)?;
         Ok(LineReader {
             reader,
-            buffer,
+            buffer: buffer_of(alloc)?,
             piece_start: 0,
             piece_end: 0,
             start: 0,

@@ -275,7 +275,7 @@ fn readers_that_fail_in_a_script(rt: HostRuntime) -> Result<(), Fail> {
 // A header that isn't complete has the fault alone.
 #[test]
 fn readers_that_fail_in_a_header(rt: HostRuntime) -> Result<(), Fail> {
-    for length in (0..HEADER.len()).step_by(11) {
+    for length in 0..HEADER.len() {
         let (output, failed) = run_failing(rt.alloc(), &HEADER[..length], 7)?;
         assert!(rt;
             failed && output.as_slice() == b"fault 123\n".as_slice(),
@@ -337,7 +337,7 @@ fn writers_that_fail(rt: HostRuntime) {
     }
     let (ending, got) = run_narrowly(rt.alloc(), b"old {\n", 5);
     assert!(rt; ending.is_ok() && got.as_slice() == fault);
-    for calls in (0..100).step_by(18) {
+    for calls in 0..100 {
         let (ending, got) = run_narrowly(rt.alloc(), INPUT, calls);
         assert!(rt;
             ending == Err(WriteFault) && OUTPUT.starts_with(&got),
