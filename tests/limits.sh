@@ -38,7 +38,7 @@ fault() {
 { repeat 999996 'refused 230'; dump idle; } > most_lines.out
 { cat most_lines.in; printf x; } > more_than_1000000_lines.in
 { repeat 999996 'refused 230'; echo 'fault 122'; } > more_than_1000000_lines.out
-echo 2 > more_than_1000000_lines.status
+echo '2 at line 1000001' > more_than_1000000_lines.status
 
 # A line has at most 65,536 bytes.
 { header; start; letters 65536; echo; letters 65537; echo; echo start; } > long_lines.in
@@ -79,7 +79,7 @@ fault rest_of_a_row_over_65536_bytes 231 5
 { started; printf '%s\n' 'refused 231' 'refused 217'; dump moving; } > longest_line_that_is_skipped.out
 { header; start; letters 1048577; echo; echo start; } > line_without_end.in
 { started; echo 'fault 122'; } > line_without_end.out
-echo 2 > line_without_end.status
+echo '2 at line 8' > line_without_end.status
 
 # A plan has at most 16 partitions and 256 ranges: plan PARTITIONS RANGES.
 plan() {

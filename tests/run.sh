@@ -5,7 +5,7 @@
 #
 # `squall run` gets each tests/runs/NAME.in, and then the inputs at the limits that tests/limits.sh makes; `squall ranges`
 # gets each tests/listings/NAME.in. Its standard output must be NAME.out, byte for byte, and its exit status the number in
-# NAME.status, or 0 where there is no such file. A fault must be said on standard error: the line of the header that it
+# NAME.status, or 0 where there is no such file. A fault must be said on standard error: the line of the input that it
 # belongs to, where NAME.status names one ('2 at line 5'), and its text in tests/texts, which has a line for each number;
 # without a fault standard error is empty. Then come the examples of examples/ and those of the help texts, streams that
 # fail, memory that runs out, and command lines, whose texts are in tests/usage.
@@ -41,7 +41,7 @@ difference() {
 }
 
 # said NUMBER [LINE]: what is to be said on standard error of the fault of this number, which belongs to this line of the
-# header. The text of a plan's fault begins with 'plan'; which plan it is stands before it.
+# input. The text of a plan's fault begins with 'plan'; which plan it is stands before it.
 said() {
     local number text line=${2:+line $2: }
     while read -r number text; do
@@ -128,7 +128,7 @@ try_examples() {
 # An input without end ends the run, a directory can't be read, and a full device can't be written.
 try_streams() {
     echo "fault 122" > "$room/wanted"
-    compare endless_input <(head -n 4 "$tests/runs/moves_four_keys.in"; tr '\0' a < /dev/zero) "$room/wanted" 2
+    compare endless_input <(head -n 4 "$tests/runs/moves_four_keys.in"; tr '\0' a < /dev/zero) "$room/wanted" '2 at line 5'
     echo "fault 123" > "$room/wanted"
     compare input_that_is_not_read "$room" "$room/wanted" '2 at line 1'
     compare plans_that_are_not_read "$room" "$room/wanted" '2 at line 1' ranges

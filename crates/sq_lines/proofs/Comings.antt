@@ -11,7 +11,7 @@ use Rattle.sq_lines.specs.declared.reader.Next.TheVariants as next
 use Rattle.sq_lines.specs.declared.reader.Reading.{Reading}
 use Rattle.sq_lines.specs.declared.reader.Reading.TheVariants.{Open, Ended}
 use Rattle.sq_lines.specs.declared.reader.Reading.TheVariants as reading
-use Rattle.sq_lines.specs.Pieces.{cut_at_ends, PieceValue, Line, Rest, Failed, Endless, TooMany, InputEnd, Whole, Cut, last_piece, ending_piece, line_then, pieces_of, pieces_in, bytes_of}
+use Rattle.sq_lines.specs.Pieces.{cut_at_ends, PieceValue, Line, Rest, Failed, Endless, TooMany, InputEnd, Whole, Cut, last_piece, ending_piece, line_then, pieces_of, pieces_in, next_line_number, bytes_of}
 use Rattle.sq_lines.specs.Coming.{LinesValue, Comes, CanCome, CameBefore, IsUndecided, IsLong, Gives, Finds, GoesOn}
 use Rattle.sq_lines.proofs.Ends.{HasFirst, has_first, unended_then, line_then_parts}
 
@@ -65,7 +65,7 @@ too_many v none some =
 line_first : (end : InputEnd) (lines : ℕ) (line after : List ℕ) → cut_at_ends line ≡ line ∷ [] → pieces_in end lines (line ++ (10 ∷ after)) ≡ line_then lines line (pieces_in end (lines - 1) after)
 line_first end lines line after e = let next = has_first after in rw (line_then_parts line after e, next.are) refl
 
-some_line : (lines : ℕ) (line : List ℕ) (others : List PieceValue) (b : Bool) → eqb lines 0 ≡ false → nat_lt MAX_UNENDED (length line) ≡ b → line_then lines line others ≡ cond b (Endless line ∷ []) (Line line ∷ others)
+some_line : (lines : ℕ) (line : List ℕ) (others : List PieceValue) (b : Bool) → eqb lines 0 ≡ false → nat_lt MAX_UNENDED (length line) ≡ b → line_then lines line others ≡ cond b (Endless (next_line_number lines) line ∷ []) (Line line ∷ others)
 some_line lines line others b some short = rw (some, short) refl
 
 whole_line : (end : InputEnd) (lines : ℕ) (line after : List ℕ) → cut_at_ends line ≡ line ∷ [] → length line ≤ MAX_UNENDED → pieces_in end (lines + 1) (line ++ (10 ∷ after)) ≡ Line line ∷ pieces_in end lines after
@@ -96,7 +96,7 @@ pub rest_comes : (v : LinesValue) → v.reading ≡ Ended → cut_at_ends v.held
 rest_comes v ended unended some nonempty short =
     record { more = []; end = Whole; comes = ended_comes v.reading v.known ended; are = rw append-nil (sym (last_part Whole v.lines v.held unended ∙ rest_piece v.lines v.held some nonempty short)) }
 
-failed_piece : (lines : ℕ) (bytes : List ℕ) → (bytes ≡ []) ⊎ (0 < lines) → length bytes ≤ MAX_UNENDED → last_piece Cut lines bytes ≡ Failed bytes ∷ []
+failed_piece : (lines : ℕ) (bytes : List ℕ) → (bytes ≡ []) ⊎ (0 < lines) → length bytes ≤ MAX_UNENDED → last_piece Cut lines bytes ≡ Failed (next_line_number lines) bytes ∷ []
 failed_piece lines [] some short = refl
 failed_piece lines (x ∷ xs) (inl none) short = absurd cc
 failed_piece lines (x ∷ xs) (inr some) short =
@@ -105,7 +105,7 @@ failed_piece lines (x ∷ xs) (inr some) short =
     rw (positive, is) refl
 
 -- what came before a read failed
-pub failed_comes : (v : LinesValue) → v.reading ≡ reading.Failed → cut_at_ends v.held ≡ v.held ∷ [] → (v.held ≡ []) ⊎ (0 < v.lines) → length v.held ≤ MAX_UNENDED → CanCome v (Failed v.held ∷ [])
+pub failed_comes : (v : LinesValue) → v.reading ≡ reading.Failed → cut_at_ends v.held ≡ v.held ∷ [] → (v.held ≡ []) ⊎ (0 < v.lines) → length v.held ≤ MAX_UNENDED → CanCome v (Failed (next_line_number v.lines) v.held ∷ [])
 failed_comes v failed unended some short =
     record { more = []; end = Cut; comes = subst (λ r. Comes r v.known Cut []) (sym failed) (refl, refl); are = rw append-nil (sym (last_part Cut v.lines v.held unended ∙ failed_piece v.lines v.held some short)) }
 
@@ -116,7 +116,7 @@ long_line v most line rest within some held unended long =
     let positive : eqb v.lines 0 ≡ false = grind (arith, nat_tests) in
     let over : nat_lt MAX_UNENDED (length line) ≡ true = grind (arith, nat_tests) in
     record {
-      piece = Endless line;
+      piece = Endless (next_line_number v.lines) line;
       others = [];
       can_come = record {
         more = other.more;
@@ -134,24 +134,24 @@ record FirstPiece (ps : List PieceValue) (bytes : List ℕ) : Type 0 where
   are : ps ≡ piece ∷ others
   of : bytes_of piece ≡ bytes
 
-either_first : (b : Bool) (bytes : List ℕ) (one : List PieceValue) (first : PieceValue) (others : List PieceValue) → one ≡ first ∷ others → bytes_of first ≡ bytes → FirstPiece (cond b (Endless bytes ∷ []) one) bytes
-either_first true bytes one first others e is = record { piece = Endless bytes; others = []; are = refl; of = refl }
-either_first false bytes one first others e is = record { piece = first; others = others; are = e; of = is }
+either_first : (b : Bool) (number : ℕ) (bytes : List ℕ) (one : List PieceValue) (first : PieceValue) (others : List PieceValue) → one ≡ first ∷ others → bytes_of first ≡ bytes → FirstPiece (cond b (Endless number bytes ∷ []) one) bytes
+either_first true number bytes one first others e is = record { piece = Endless number bytes; others = []; are = refl; of = refl }
+either_first false number bytes one first others e is = record { piece = first; others = others; are = e; of = is }
 
 -- the piece of bytes that aren't ended
-ending_first : (end : InputEnd) (x : ℕ) (xs : List ℕ) → FirstPiece (ending_piece end (x ∷ xs)) (x ∷ xs)
-ending_first Whole x xs = record { piece = Rest (x ∷ xs); others = []; are = refl; of = refl }
-ending_first Cut x xs = record { piece = Failed (x ∷ xs); others = []; are = refl; of = refl }
+ending_first : (end : InputEnd) (lines x : ℕ) (xs : List ℕ) → FirstPiece (ending_piece end lines (x ∷ xs)) (x ∷ xs)
+ending_first Whole lines x xs = record { piece = Rest (x ∷ xs); others = []; are = refl; of = refl }
+ending_first Cut lines x xs = record { piece = Failed (next_line_number lines) (x ∷ xs); others = []; are = refl; of = refl }
 
 first_piece : (end : InputEnd) (lines : ℕ) (parts : List (List ℕ)) (x : ℕ) (first : List ℕ) (others : List (List ℕ)) → 0 < lines → parts ≡ (x ∷ first) ∷ others → FirstPiece (pieces_of end lines parts) (x ∷ first)
 first_piece end lines parts x first [] some e =
     let positive : eqb lines 0 ≡ false = grind (arith, nat_tests) in
-    let last = ending_first end x first in
-    rw (e, positive) (either_first (nat_lt MAX_UNENDED (length (x ∷ first))) (x ∷ first) (ending_piece end (x ∷ first)) last.piece last.others last.are last.of)
+    let last = ending_first end lines x first in
+    rw (e, positive) (either_first (nat_lt MAX_UNENDED (length (x ∷ first))) (next_line_number lines) (x ∷ first) (ending_piece end lines (x ∷ first)) last.piece last.others last.are last.of)
 first_piece end lines parts x first (other ∷ others) some e =
     let positive : eqb lines 0 ≡ false = grind (arith, nat_tests) in
     let after = pieces_of end (lines - 1) (other ∷ others) in
-    rw (e, positive) (either_first (nat_lt MAX_UNENDED (length (x ∷ first))) (x ∷ first) (Line (x ∷ first) ∷ after) (Line (x ∷ first)) after refl refl)
+    rw (e, positive) (either_first (nat_lt MAX_UNENDED (length (x ∷ first))) (next_line_number lines) (x ∷ first) (Line (x ∷ first) ∷ after) (Line (x ∷ first)) after refl refl)
 
 first_held : (end : InputEnd) (lines : ℕ) (held more : List ℕ) → 0 < lines → 0 < length held → cut_at_ends held ≡ held ∷ [] → (h : HasFirst more) → FirstPiece (pieces_in end lines (held ++ more)) (held ++ h.first)
 first_held end lines [] more some nonempty unended h = absurd (omega arith)
@@ -234,7 +234,8 @@ goes_further first old new on before lines = ((λ ps can. on.0 ps (before ps can
 pub found : (most : ℕ) (first old new : LinesValue) (told_next : NextPiece) → GoesOn first old → Gives most old told_next new → (told_next ≡ next.Unread → ⊥) → Finds most first told_next new
 found most first old new next.Line on gives told = ((λ ps can. on.0 (Line new.piece ∷ ps) (gives.0 ps can)), sym on.1 ∙ gives.1, gives.2)
 found most first old new next.Rest on gives told = (on.0 _ gives.0, gives.2)
-found most first old new next.Failed on gives told = (old.held, on.0 _ gives.0, gives.1)
+found most first old new next.Failed on gives told =
+    (old.held, subst (λ n. CanCome first (Failed (next_line_number n) old.held ∷ [])) on.1 (on.0 _ gives.0), gives.1)
 found most first old new next.Long on gives told = record { piece = gives.0.piece; others = gives.0.others; can_come = on.0 _ gives.0.can_come; long = gives.0.long }
 found most first old new next.TooMany on gives told = on.0 _ gives.0
 found most first old new next.End on gives told = on.0 _ gives.0

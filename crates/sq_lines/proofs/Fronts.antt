@@ -7,7 +7,7 @@ use Rattle.std.proofs.lemmas.Bool.Decides.{nat_tests}
 use Rattle.std.proofs.lemmas.List.{append-nil}
 use Rattle.sq_lines.specs.declared.buffer.TheConstants.{MAX_UNENDED}
 use Rattle.sq_lines.specs.declared.reader.Reading.TheVariants.{Open}
-use Rattle.sq_lines.specs.Pieces.{cut_at_ends, PieceValue, Line, Endless, InputEnd, Whole, Cut, ending_piece, pieces_of, pieces_in, next_begins}
+use Rattle.sq_lines.specs.Pieces.{cut_at_ends, PieceValue, Line, Endless, InputEnd, Whole, Cut, ending_piece, pieces_of, pieces_in, next_line_number, next_begins}
 use Rattle.sq_lines.specs.Coming.{LinesValue, CanCome, IsUndecided}
 use Rattle.sq_lines.proofs.Ends.{HasFirst, has_first}
 use Rattle.sq_lines.proofs.Comings.{none_left, nothing_comes}
@@ -45,23 +45,23 @@ begins_either : (b : Bool) (front : List ℕ) (one other : List PieceValue) (beg
 begins_either true front one other begins e f = e
 begins_either false front one other begins e f = f
 
-ending_begins : (end : InputEnd) (front : List ℕ) (x : ℕ) (xs : List ℕ) → next_begins front (ending_piece end (x ∷ xs)) ≡ starts_with nat_eq (x ∷ xs) front
-ending_begins Whole front x xs = refl
-ending_begins Cut front x xs = refl
+ending_begins : (end : InputEnd) (lines : ℕ) (front : List ℕ) (x : ℕ) (xs : List ℕ) → next_begins front (ending_piece end lines (x ∷ xs)) ≡ starts_with nat_eq (x ∷ xs) front
+ending_begins Whole lines front x xs = refl
+ending_begins Cut lines front x xs = refl
 
-nothing_begins : (end : InputEnd) (f : ℕ) (front : List ℕ) → next_begins (f ∷ front) (ending_piece end []) ≡ false
-nothing_begins Whole f front = refl
-nothing_begins Cut f front = refl
+nothing_begins : (end : InputEnd) (lines f : ℕ) (front : List ℕ) → next_begins (f ∷ front) (ending_piece end lines []) ≡ false
+nothing_begins Whole lines f front = refl
+nothing_begins Cut lines f front = refl
 
 -- the next piece begins as its first part does
 next_piece : (end : InputEnd) (lines : ℕ) (parts : List (List ℕ)) (f : ℕ) (front first : List ℕ) (others : List (List ℕ)) → 0 < lines → parts ≡ first ∷ others → next_begins (f ∷ front) (pieces_of end lines parts) ≡ starts_with nat_eq first (f ∷ front)
-next_piece end lines parts f front [] [] some e = rw e (nothing_begins end f front)
+next_piece end lines parts f front [] [] some e = rw e (nothing_begins end lines f front)
 next_piece end lines parts f front (x ∷ xs) [] some e =
     let positive : eqb lines 0 ≡ false = grind (arith, nat_tests) in
-    rw (e, positive) (begins_either (nat_lt MAX_UNENDED (length (x ∷ xs))) (f ∷ front) (Endless (x ∷ xs) ∷ []) (ending_piece end (x ∷ xs)) (starts_with nat_eq (x ∷ xs) (f ∷ front)) refl (ending_begins end (f ∷ front) x xs))
+    rw (e, positive) (begins_either (nat_lt MAX_UNENDED (length (x ∷ xs))) (f ∷ front) (Endless (next_line_number lines) (x ∷ xs) ∷ []) (ending_piece end lines (x ∷ xs)) (starts_with nat_eq (x ∷ xs) (f ∷ front)) refl (ending_begins end lines (f ∷ front) x xs))
 next_piece end lines parts f front first (other ∷ others) some e =
     let positive : eqb lines 0 ≡ false = grind (arith, nat_tests) in
-    rw (e, positive) (begins_either (nat_lt MAX_UNENDED (length first)) (f ∷ front) (Endless first ∷ []) (Line first ∷ pieces_of end (lines - 1) (other ∷ others)) (starts_with nat_eq first (f ∷ front)) refl refl)
+    rw (e, positive) (begins_either (nat_lt MAX_UNENDED (length first)) (f ∷ front) (Endless (next_line_number lines) first ∷ []) (Line first ∷ pieces_of end (lines - 1) (other ∷ others)) (starts_with nat_eq first (f ∷ front)) refl refl)
 
 begins_so : (end : InputEnd) (lines : ℕ) (bytes : List ℕ) (f : ℕ) (front : List ℕ) → 0 < lines → unended (f ∷ front) ≡ true → next_begins (f ∷ front) (pieces_in end lines bytes) ≡ starts_with nat_eq bytes (f ∷ front)
 begins_so end lines bytes f front some apart = let h = has_first bytes in next_piece end lines (cut_at_ends bytes) f front h.first h.others some h.are ∙ same_front (f ∷ front) bytes h.first h.others apart h.are
@@ -98,7 +98,7 @@ front_unended (x ∷ held) (f ∷ front) apart begins =
 
 -- where no line may come, none begins so
 none_begin : (end : InputEnd) (bytes : List ℕ) (f : ℕ) (front : List ℕ) → next_begins (f ∷ front) (pieces_in end 0 bytes) ≡ false
-none_begin end [] f front = nothing_begins end f front
+none_begin end [] f front = nothing_begins end 0 f front
 none_begin end (x ∷ xs) f front = rw (none_left end (x ∷ xs) (omega arith)) refl
 
 -- ---- what a reader of lines can tell of the next piece

@@ -5,7 +5,7 @@ use Rattle.sq_lines.specs.declared.reader.Reading.{Reading}
 use Rattle.sq_lines.specs.declared.reader.Reading.TheVariants as reading
 use Rattle.sq_lines.specs.declared.reader.Next.{Next as NextPiece}
 use Rattle.sq_lines.specs.declared.reader.Next.TheVariants as next
-use Rattle.sq_lines.specs.Pieces.{cut_at_ends, PieceValue, Line, Rest, Failed, TooMany, InputEnd, Whole, Cut, pieces_in, bytes_of}
+use Rattle.sq_lines.specs.Pieces.{cut_at_ends, PieceValue, Line, Rest, Failed, TooMany, InputEnd, Whole, Cut, pieces_in, next_line_number, bytes_of}
 
 -- a reader of lines: the bytes of the piece that it gave last, what was read and not given, how the reading stands, how many lines may still come, and what its reader has left, where that is known
 pub record LinesValue : Type 0 where
@@ -52,7 +52,7 @@ pub record IsLong (most : ℕ) (v : LinesValue) : Type 0 where
 abbrev pub Gives : ℕ → LinesValue → NextPiece → LinesValue → Type 0
 Gives most old next.Line new = CameBefore old (Line new.piece) new × (old.lines ≡ new.lines + 1) × (length new.piece ≤ MAX_UNENDED)
 Gives most old next.Rest new = CanCome old (Rest new.piece ∷ []) × (new.lines ≡ old.lines) × (length new.piece ≤ most)
-Gives most old next.Failed new = CanCome old (Failed old.held ∷ []) × (length old.held ≤ most) × (new ≡ old)
+Gives most old next.Failed new = CanCome old (Failed (next_line_number old.lines) old.held ∷ []) × (length old.held ≤ most) × (new ≡ old)
 Gives most old next.Long new = IsLong most old × (new ≡ old)
 Gives most old next.TooMany new = CanCome old (TooMany ∷ []) × (new ≡ old)
 Gives most old next.End new = CanCome old [] × (new ≡ old)
@@ -76,7 +76,7 @@ GoesOn old new = ((ps : List PieceValue) → CanCome new ps → CanCome old ps) 
 abbrev pub Finds : ℕ → LinesValue → NextPiece → LinesValue → Type 0
 Finds most old next.Line new = CameBefore old (Line new.piece) new × (old.lines ≡ new.lines + 1) × (length new.piece ≤ MAX_UNENDED)
 Finds most old next.Rest new = CanCome old (Rest new.piece ∷ []) × (length new.piece ≤ most)
-Finds most old next.Failed new = (bytes : List ℕ) × CanCome old (Failed bytes ∷ []) × (length bytes ≤ most)
+Finds most old next.Failed new = (bytes : List ℕ) × CanCome old (Failed (next_line_number old.lines) bytes ∷ []) × (length bytes ≤ most)
 Finds most old next.Long new = IsLong most old
 Finds most old next.TooMany new = CanCome old (TooMany ∷ [])
 Finds most old next.End new = CanCome old []

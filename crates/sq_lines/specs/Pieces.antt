@@ -1,5 +1,5 @@
 -- The pieces of an input: its lines, and how the reading of it ends.
-use Rattle.std.specs.Prelude.{ℕ, Bool, false, ◌-◌, ◌==◌, nat_eq, nat_lt, if◌then◌else◌, List, [], ◌∷◌, length}
+use Rattle.std.specs.Prelude.{ℕ, Bool, false, ◌+◌, ◌-◌, ◌==◌, nat_eq, nat_lt, if◌then◌else◌, List, [], ◌∷◌, length}
 use Rattle.std.specs.List.{starts_with, slice_split}
 use Rattle.sq_lines.specs.declared.buffer.TheConstants.{MAX_UNENDED}
 use Rattle.sq_lines.specs.declared.reader.TheConstants.{MAX_LINES}
@@ -8,16 +8,20 @@ use Rattle.sq_lines.specs.declared.reader.TheConstants.{MAX_LINES}
 abbrev pub cut_at_ends : List ℕ → List (List ℕ)
 cut_at_ends bytes = slice_split (λ byte. byte == 10) bytes
 
--- what comes next of an input
+-- the number of the next line, where this many may still come; that of the first is 1
+abbrev pub next_line_number : ℕ → ℕ
+next_line_number lines = MAX_LINES - lines + 1
+
+-- what comes next of an input; where it can't be read further, the number of that line is told
 pub data PieceValue : Type 0 where
   -- the bytes of a line, without its end
   Line : (bytes : List ℕ) → PieceValue
   -- the bytes after the last line end
   Rest : (bytes : List ℕ) → PieceValue
   -- the bytes after the last line end, behind which a read failed
-  Failed : (bytes : List ℕ) → PieceValue
+  Failed : (line : ℕ) (bytes : List ℕ) → PieceValue
   -- more bytes than may come without a line end
-  Endless : (bytes : List ℕ) → PieceValue
+  Endless : (line : ℕ) (bytes : List ℕ) → PieceValue
   -- a byte after the last line that may come
   TooMany : PieceValue
 
@@ -27,24 +31,24 @@ pub data InputEnd : Type 0 where
   Cut : InputEnd
 
 -- what stands after the last line end, where it isn't too long: a rest, unless it is empty, or what came before a read failed
-abbrev pub ending_piece : InputEnd → List ℕ → List PieceValue
-ending_piece Cut bytes = Failed bytes ∷ []
-ending_piece Whole [] = []
-ending_piece Whole (byte ∷ bytes) = Rest (byte ∷ bytes) ∷ []
+abbrev pub ending_piece : InputEnd → ℕ → List ℕ → List PieceValue
+ending_piece Cut lines bytes = Failed (next_line_number lines) bytes ∷ []
+ending_piece Whole lines [] = []
+ending_piece Whole lines (byte ∷ bytes) = Rest (byte ∷ bytes) ∷ []
 
 -- what stands after the last line end, where at most this many lines may come
 abbrev pub last_piece : InputEnd → ℕ → List ℕ → List PieceValue
-last_piece end lines [] = ending_piece end []
+last_piece end lines [] = ending_piece end lines []
 last_piece end lines (byte ∷ bytes) =
     if lines == 0 then TooMany ∷ []
-    else if nat_lt MAX_UNENDED (length (byte ∷ bytes)) then Endless (byte ∷ bytes) ∷ []
-    else ending_piece end (byte ∷ bytes)
+    else if nat_lt MAX_UNENDED (length (byte ∷ bytes)) then Endless (next_line_number lines) (byte ∷ bytes) ∷ []
+    else ending_piece end lines (byte ∷ bytes)
 
 -- a line with its end, and what comes after it
 abbrev pub line_then : ℕ → List ℕ → List PieceValue → List PieceValue
 line_then lines line others =
     if lines == 0 then TooMany ∷ []
-    else if nat_lt MAX_UNENDED (length line) then Endless line ∷ []
+    else if nat_lt MAX_UNENDED (length line) then Endless (next_line_number lines) line ∷ []
     else Line line ∷ others
 
 -- the pieces of an input, given what stands between its line ends, where at most this many lines may come
@@ -65,8 +69,8 @@ pieces end input = pieces_in end MAX_LINES input
 abbrev pub bytes_of : PieceValue → List ℕ
 bytes_of (Line bytes) = bytes
 bytes_of (Rest bytes) = bytes
-bytes_of (Failed bytes) = bytes
-bytes_of (Endless bytes) = bytes
+bytes_of (Failed line bytes) = bytes
+bytes_of (Endless line bytes) = bytes
 bytes_of TooMany = []
 
 -- the next piece begins so

@@ -1,6 +1,6 @@
 // Readers of lines.
 ghost use Rattle.std.specs.Prelude.{◌≡◌, ◌≤◌, ◌<◌, [], ◌∷◌, length, ◌==◌, not, true, List, Some, IfOk, IfSome, IfNone};
-ghost use Rattle.sq_lines.specs.Pieces.{next_begins, PieceValue};
+ghost use Rattle.sq_lines.specs.Pieces.{next_begins, next_line_number, PieceValue};
 ghost use Rattle.sq_lines.specs.Coming.{CanCome, IsUndecided, Gives, Finds, GoesOn, reads_left};
 ghost use Rattle.std.specs.List.{list_all};
 
@@ -99,6 +99,13 @@ impl<R: Read> LineReader<R> {
         ensures { result ≡ self.now.lines }
     {
         self.lines
+    }
+
+    /// The number of the line that comes next, or in which the input ends; that of the first is 1.
+    pub fn next_line_number(&self) -> u32
+        ensures { result ≡ next_line_number self.now.lines }
+    {
+        MAX_LINES.saturating_sub(self.lines) + 1
     }
 
     /// The bytes of the piece that was given last.

@@ -6,6 +6,7 @@ use sq_chunk::Note;
 use sq_model::{Answer, Phase, Refusal, Step};
 use sq_ranges::GivenRow;
 use sq_store::SlabStore;
+use sq_text::{InputFault, InputLine};
 use sq_tree::Status;
 use sq_world::{Ending, World, WriteFault, run, run_world};
 use std::alloc::Global;
@@ -244,8 +245,8 @@ fn answers_and_fault(alloc: Global, count: usize) -> Result<Vec<u8>, Fail> {
     Ok(wanted)
 }
 
-// What is written where a read fails behind these bytes, and whether the run ends by a fault.
-fn run_failing(alloc: Global, given: &[u8], most: usize) -> Result<(Vec<u8>, bool), Fail> {
+// What is written where a read fails behind these bytes, and how the run ends.
+fn run_failing(alloc: Global, given: &[u8], most: usize) -> Result<(Vec<u8>, Ending), Fail> {
     let mut reader = Drip {
         rest: given,
         most,
@@ -253,10 +254,15 @@ fn run_failing(alloc: Global, given: &[u8], most: usize) -> Result<(Vec<u8>, boo
     };
     let mut output = Vec::new(alloc);
     let ending = run(alloc, &mut reader, &mut output)?;
-    Ok((output, ending.status() == 2))
+    Ok((output, ending))
 }
 
-// Behind each front of a script the lines that ended are answered.
+// The ending by a failed read in this line of the script, which stands behind the four lines of the header.
+fn failed_at(line: u32) -> Ending {
+    Ending::Fault(InputFault::ReadFailed.at(InputLine::Later(5 + line)))
+}
+
+// Behind each front of a script the lines that ended are answered, and the fault belongs to the line behind them.
 #[test]
 fn readers_that_fail_in_a_script(rt: HostRuntime) -> Result<(), Fail> {
     for length in 0..=SCRIPT.len() {
@@ -266,8 +272,9 @@ fn readers_that_fail_in_a_script(rt: HostRuntime) -> Result<(), Fail> {
         let mut given = Vec::new(rt.alloc());
         given.extend_from_slice(HEADER)?;
         given.extend_from_slice(script)?;
-        let (output, failed) = run_failing(rt.alloc(), &given, 4096)?;
-        assert!(rt; failed && output == wanted, "after {length}");
+        let (output, ending) = run_failing(rt.alloc(), &given, 4096)?;
+        assert!(rt; output == wanted, "after {length}");
+        assert!(rt; ending == failed_at(ended as u32), "after {length}");
     }
     Ok(())
 }
@@ -276,9 +283,9 @@ fn readers_that_fail_in_a_script(rt: HostRuntime) -> Result<(), Fail> {
 #[test]
 fn readers_that_fail_in_a_header(rt: HostRuntime) -> Result<(), Fail> {
     for length in 0..HEADER.len() {
-        let (output, failed) = run_failing(rt.alloc(), &HEADER[..length], 7)?;
+        let (output, ending) = run_failing(rt.alloc(), &HEADER[..length], 7)?;
         assert!(rt;
-            failed && output.as_slice() == b"fault 123\n".as_slice(),
+            ending.status() == 2 && output.as_slice() == b"fault 123\n".as_slice(),
             "after {length}"
         );
     }
@@ -306,7 +313,8 @@ fn readers_without_end(rt: HostRuntime) -> Result<(), Fail> {
     let mut output = Vec::new(rt.alloc());
     let mut reader = header.as_bytes().chain(Endless);
     let ending = run(rt.alloc(), &mut reader, &mut output)?;
-    assert!(rt; ending.status() == 2 && output.as_slice() == b"ok\nfault 122\n".as_slice());
+    assert!(rt; ending == Ending::Fault(InputFault::TooLong.at(InputLine::Later(5))));
+    assert!(rt; output.as_slice() == b"ok\nfault 122\n".as_slice());
     Ok(())
 }
 

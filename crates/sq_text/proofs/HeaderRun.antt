@@ -15,8 +15,8 @@ use Rattle.sq_text.specs.declared.step.TheConstants.{MAX_LINE}
 use Rattle.sq_text.specs.declared.header.RowLines.{RowLines}
 use Rattle.sq_text.specs.declared.input_fault.InputFault.{InputFault}
 use Rattle.sq_text.specs.declared.input_fault.InputFault.TheVariants as fault
-use Rattle.sq_text.specs.declared.located.HeaderLine.{HeaderLine}
-use Rattle.sq_text.specs.declared.located.HeaderLine.TheVariants as line
+use Rattle.sq_text.specs.declared.located.InputLine.{InputLine}
+use Rattle.sq_text.specs.declared.located.InputLine.TheVariants as line
 use Rattle.sq_text.specs.declared.located.LocatedFault.{LocatedFault}
 use Rattle.sq_text.specs.InputFaults.{◌>>=◌, IsRead, IsReadGivenMemory}
 use Rattle.sq_text.specs.Located.{at_line, located}
@@ -30,8 +30,8 @@ short_line line others short = let is : nat_lt MAX_LINE (length line) ≡ false 
 long_in : (piece : PieceValue) → MAX_LINE < length (bytes_of piece) → line_in piece ≡ Err fault.LineTooLong
 long_in (Line bytes) long = let is : nat_lt MAX_LINE (length bytes) ≡ true = grind (arith, nat_tests) in rw is refl
 long_in (Rest bytes) long = let is : nat_lt MAX_LINE (length bytes) ≡ true = grind (arith, nat_tests) in rw is refl
-long_in (Failed bytes) long = let is : nat_lt MAX_LINE (length bytes) ≡ true = grind (arith, nat_tests) in rw is refl
-long_in (Endless bytes) long = refl
+long_in (Failed line bytes) long = let is : nat_lt MAX_LINE (length bytes) ≡ true = grind (arith, nat_tests) in rw is refl
+long_in (Endless line bytes) long = refl
 long_in TooMany long = absurd (omega arith)
 
 pub long_piece : (piece : PieceValue) (others : List PieceValue) → MAX_LINE < length (bytes_of piece) → next_line (piece ∷ others) ≡ Err fault.LineTooLong
@@ -162,7 +162,7 @@ module _ (first now mid new : LinesValue) (rows : List GivenRow) (so_far : RowsS
 -- ---- whole headers
 
 -- a header whose fault this is, or of which nothing is told
-pub refused : {Y : Type 0} (tables : ℕ) (f : InputFault) (line : HeaderLine) (left : List PieceValue) (header : Result HeaderValue LocatedFault) (view : Y → Y) (read : Result Y InputFault) → IsReadGivenMemory view (Err f) read → (at_line line read ≡ Err (located f (Some line)) → header ≡ Err (located f (Some line))) → Opens tables (Err (located f (Some line))) left header
+pub refused : {Y : Type 0} (tables : ℕ) (f : InputFault) (line : InputLine) (left : List PieceValue) (header : Result HeaderValue LocatedFault) (view : Y → Y) (read : Result Y InputFault) → IsReadGivenMemory view (Err f) read → (at_line line read ≡ Err (located f (Some line)) → header ≡ Err (located f (Some line))) → Opens tables (Err (located f (Some line))) left header
 refused tables f line left header view read is follows = λ apart. rw (follows (ap (at_line line) (is_told f view read apart is))) refl
 
 -- the next line is read so

@@ -14,7 +14,7 @@ use Rattle.sq_text.specs.declared.header.RowLines.{RowLines}
 use Rattle.sq_text.specs.declared.step.TheConstants.{MAX_LINE}
 use Rattle.sq_text.specs.declared.input_fault.InputFault.{InputFault}
 use Rattle.sq_text.specs.declared.input_fault.InputFault.TheVariants.{Plan, BadHeader, TooLong, ReadFailed, LineTooLong, Memory}
-use Rattle.sq_text.specs.declared.located.HeaderLine.TheVariants as line
+use Rattle.sq_text.specs.declared.located.InputLine.TheVariants as line
 use Rattle.sq_text.specs.declared.located.LocatedFault.{LocatedFault}
 use Rattle.sq_text.specs.Words.{words_of}
 use Rattle.sq_lines.specs.Pieces.{PieceValue, Line, Rest, Failed, Endless, TooMany, bytes_of}
@@ -26,8 +26,8 @@ use Rattle.sq_text.specs.HeaderFields.{GivenValue, value_of, config_in, given_in
 abbrev pub line_in : PieceValue → Result (List ℕ) InputFault
 line_in (Line bytes) = if nat_lt MAX_LINE (length bytes) then Err LineTooLong else Ok bytes
 line_in (Rest bytes) = if nat_lt MAX_LINE (length bytes) then Err LineTooLong else Err BadHeader
-line_in (Failed bytes) = if nat_lt MAX_LINE (length bytes) then Err LineTooLong else Err ReadFailed
-line_in (Endless bytes) = Err LineTooLong
+line_in (Failed line bytes) = if nat_lt MAX_LINE (length bytes) then Err LineTooLong else Err ReadFailed
+line_in (Endless line bytes) = Err LineTooLong
 line_in TooMany = Err TooLong
 
 -- the next line, and what comes after it

@@ -4,28 +4,29 @@ use Rattle.sq_ranges.specs.declared.fault.OpeningFault.{OpeningFault}
 use Rattle.sq_ranges.specs.declared.fault.OpeningFault.TheVariants as opening
 use Rattle.sq_text.specs.declared.input_fault.InputFault.{InputFault}
 use Rattle.sq_text.specs.declared.input_fault.InputFault.TheVariants.{Opening, Memory}
-use Rattle.sq_text.specs.declared.located.HeaderLine.{HeaderLine}
-use Rattle.sq_text.specs.declared.located.HeaderLine.TheVariants.{Old, New, Config, Row}
+use Rattle.sq_text.specs.declared.located.InputLine.{InputLine}
+use Rattle.sq_text.specs.declared.located.InputLine.TheVariants.{Old, New, Config, Row, Later}
 use Rattle.sq_text.specs.declared.located.LocatedFault.{LocatedFault}
 
--- the number of a line of the header, of which the first is 1: the old plan, the new plan, the sizes, and then row by row
-abbrev pub line_number : HeaderLine → ℕ
+-- the number of a line, of which the first is 1: the old plan, the new plan, the sizes, row by row, and what comes behind them
+abbrev pub line_number : InputLine → ℕ
 line_number Old = 1
 line_number New = 2
 line_number Config = 3
 line_number (Row at) = at + 4
+line_number (Later number) = number
 
 -- a fault that belongs to this line, or to none
-abbrev pub located : InputFault → Option HeaderLine → LocatedFault
+abbrev pub located : InputFault → Option InputLine → LocatedFault
 located fault line = record { fault = fault; line = line }
 
 -- what is read of this line; a fault belongs to it
-abbrev pub at_line : {A : Type 0} → HeaderLine → Result A InputFault → Result A LocatedFault
+abbrev pub at_line : {A : Type 0} → InputLine → Result A InputFault → Result A LocatedFault
 at_line line (Ok x) = Ok x
 at_line line (Err fault) = Err (located fault (Some line))
 
 -- the line that a fault of the opening belongs to: that of its row, or else that of the sizes
-abbrev pub opening_line : OpeningFault → HeaderLine
+abbrev pub opening_line : OpeningFault → InputLine
 opening_line (opening.Row at fault) = Row at
 opening_line (opening.Place at fault) = Row at
 opening_line fault = Config

@@ -10,7 +10,7 @@ ghost use Rattle.sq_text.specs.Header.{next_line, line_as, behind, plan_of, conf
 
 use crate::fault::{Malformed, ReadFault};
 use crate::input_fault::InputFault;
-use crate::located::{HeaderLine, LocatedFault};
+use crate::located::{InputLine, LocatedFault};
 use crate::note::note;
 use crate::step::MAX_LINE;
 use crate::words::Words;
@@ -196,7 +196,7 @@ fn opening(
     let opening = Opening::new(alloc, schema, old, new, config, rows)?;
     match ending {
         Ok(()) => Ok(opening),
-        Err(fault) => Err(fault.at(HeaderLine::Row(count))),
+        Err(fault) => Err(fault.at(InputLine::Row(count))),
     }
 }
 
@@ -217,15 +217,15 @@ pub fn read_header<R: Read>(
 {
     let old = match plan_line(alloc, b"old ", lines) {
         Ok(old) => old,
-        Err(fault) => return Err(fault.at(HeaderLine::Old)),
+        Err(fault) => return Err(fault.at(InputLine::Old)),
     };
     let new = match plan_line(alloc, b"new ", lines) {
         Ok(new) => new,
-        Err(fault) => return Err(fault.at(HeaderLine::New)),
+        Err(fault) => return Err(fault.at(InputLine::New)),
     };
     let config = match config_line(lines) {
         Ok(config) => config,
-        Err(fault) => return Err(fault.at(HeaderLine::Config)),
+        Err(fault) => return Err(fault.at(InputLine::Config)),
     };
     let rows = row_lines(alloc, lines)?;
     opening(alloc, schema, old, new, config, rows)
@@ -243,15 +243,15 @@ pub fn read_plans<R: Read>(
 {
     let old = match plan_line(alloc, b"old ", lines) {
         Ok(old) => old,
-        Err(fault) => return Err(fault.at(HeaderLine::Old)),
+        Err(fault) => return Err(fault.at(InputLine::Old)),
     };
     let new = match plan_line(alloc, b"new ", lines) {
         Ok(new) => new,
-        Err(fault) => return Err(fault.at(HeaderLine::New)),
+        Err(fault) => return Err(fault.at(InputLine::New)),
     };
     let config = match config_line(lines) {
         Ok(config) => config,
-        Err(fault) => return Err(fault.at(HeaderLine::Config)),
+        Err(fault) => return Err(fault.at(InputLine::Config)),
     };
     let rows = RowLines {
         rows: Vec::new(alloc),

@@ -24,6 +24,6 @@ pub use dump::{write_at, write_end, write_way};
 pub use fault::LineFault;
 pub use header::{read_header, read_plans};
 pub use input_fault::InputFault;
-pub use located::{HeaderLine, LocatedFault};
+pub use located::{InputLine, LocatedFault};
 pub use moves_text::write_moves;
 pub use step::{MAX_LINE, read_step};

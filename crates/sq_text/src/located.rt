@@ -8,9 +8,9 @@ use std::alloc::AllocError;
 use std::fmt;
 use std::fmt::{Display, Formatter, Write};
 
-/// A line of a header.
+/// A line of an input.
 #[derive(Clone, Copy, Debug, PartialEq, Eq)]
-pub enum HeaderLine {
+pub enum InputLine {
     /// The first one, with the old plan.
     Old,
     /// The second one, with the new plan.
@@ -19,34 +19,37 @@ pub enum HeaderLine {
     Config,
     /// The line with this number, from 0, of those behind the sizes, each of which begins as an opening row does.
     Row(usize),
+    /// A line behind the header, by its number in the input, whose first line has the number 1.
+    Later(u32),
 }
 
-impl HeaderLine {
+impl InputLine {
     /// Its number in the input, whose first line has the number 1.
     pub fn number(self) -> u64
         ensures { line_number self < 2 ^ 64 → result ≡ line_number self }
     {
         match self {
-            HeaderLine::Old => 1,
-            HeaderLine::New => 2,
-            HeaderLine::Config => 3,
-            HeaderLine::Row(at) => (at as u64).saturating_add(4),
+            InputLine::Old => 1,
+            InputLine::New => 2,
+            InputLine::Config => 3,
+            InputLine::Row(at) => (at as u64).saturating_add(4),
+            InputLine::Later(number) => u64::from(number),
         }
     }
 }
 
-/// A fault of an input, and the line of the header that it belongs to.
+/// A fault of an input, and the line that it belongs to.
 #[derive(Clone, Copy, Debug, PartialEq, Eq)]
 pub struct LocatedFault {
     /// What is wrong.
     pub fault: InputFault,
-    /// The line; `None` where memory ran out at no line, and after the header.
-    pub line: Option<HeaderLine>,
+    /// The line; `None` where memory ran out.
+    pub line: Option<InputLine>,
 }
 
 impl InputFault {
     /// The fault, which belongs to this line.
-    pub(crate) fn at(self, line: HeaderLine) -> LocatedFault
+    pub fn at(self, line: InputLine) -> LocatedFault
         ensures { result ≡ located self (Some line) }
     {
         LocatedFault {
@@ -55,7 +58,7 @@ impl InputFault {
         }
     }
 
-    /// The fault, which belongs to no line of the header.
+    /// The fault, which belongs to no line.
     pub fn at_no_line(self) -> LocatedFault
         ensures { result ≡ located self None }
     {
@@ -74,8 +77,8 @@ impl Display for LocatedFault {
         }
         write!(f, "fault {}: ", self.fault.number())?;
         match (self.line, self.fault) {
-            (Some(HeaderLine::Old), InputFault::Plan(fault)) => write!(f, "the old {fault}"),
-            (Some(HeaderLine::New), InputFault::Plan(fault)) => write!(f, "the new {fault}"),
+            (Some(InputLine::Old), InputFault::Plan(fault)) => write!(f, "the old {fault}"),
+            (Some(InputLine::New), InputFault::Plan(fault)) => write!(f, "the new {fault}"),
             (_, fault) => write!(f, "{fault}"),
         }
     }
@@ -91,9 +94,9 @@ impl From<RefusedOpening> for LocatedFault {
         match fault {
             OpeningFault::Memory => InputFault::Memory.at_no_line(),
             OpeningFault::Row(at, _) | OpeningFault::Place(at, _) => {
-                InputFault::Opening(fault).at(HeaderLine::Row(at))
+                InputFault::Opening(fault).at(InputLine::Row(at))
             }
-            fault => InputFault::Opening(fault).at(HeaderLine::Config),
+            fault => InputFault::Opening(fault).at(InputLine::Config),
         }
     }
 }

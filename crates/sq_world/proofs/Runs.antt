@@ -75,12 +75,12 @@ run_given says (Err e) v known before now none still most same ran = tt
 run_given says (Ok ending) v known before now none still most same ran = (ran.0, given_first v known ran.0 none still most same ran.1, ran.2, ran.3, ran.4)
 
 -- there was no memory for a line
-pub run_nothing : {E : Type 0} (says : List PieceValue → List ℕ → Ending → Type 0) (r : Result Ending E) (known before now : Option (List ℕ)) → ((given : List PieceValue) (out : List ℕ) (ending : Ending) → IsFault (located Memory None) out ending → says given out ending)
-    → IfOk r (λ ending. (out : List ℕ) × Appends before now out × IsFault (located Memory None) out ending) → IfOk r (OfReader says known before now)
-run_nothing says (Err e) known before now nothing wrote = tt
-run_nothing says (Ok ending) known before now nothing wrote =
+pub run_nothing : {E : Type 0} (says : List PieceValue → List ℕ → Ending → Type 0) (r : Result Ending E) (known before now : Option (List ℕ)) (fault : LocatedFault) → fault ≡ located Memory None → ((given : List PieceValue) (out : List ℕ) (ending : Ending) → IsFault (located Memory None) out ending → says given out ending)
+    → IfOk r (λ ending. (out : List ℕ) × Appends before now out × IsFault fault out ending) → IfOk r (OfReader says known before now)
+run_nothing says (Err e) known before now fault is nothing wrote = tt
+run_nothing says (Ok ending) known before now fault is nothing wrote =
     let some = some_more Open known in
-    (pieces some.end some.more, record { input = some.more; end = some.end; comes = some.comes; are = refl }, wrote.0, wrote.1, nothing (pieces some.end some.more) wrote.0 ending wrote.2)
+    (pieces some.end some.more, record { input = some.more; end = some.end; comes = some.comes; are = refl }, wrote.0, wrote.1, nothing (pieces some.end some.more) wrote.0 ending (subst (λ f. IsFault f wrote.0 ending) is wrote.2))
 
 -- what was written is flushed
 pub run_flushed : (says : List PieceValue → List ℕ → Ending → Type 0) (known before mid now : Option (List ℕ)) (ending : Ending) → OfReader says known before mid ending → Keeps mid now → OfReader says known before now ending

@@ -1,6 +1,6 @@
 -- A script, line by line.
 use Rattle.std.proofs.Common.{◌≡◌, ℕ, List, [], ◌∷◌, ◌++◌, Option, inl, refl, sym, ap, ◌∙◌, subst, append_assoc}
-use Rattle.std.specs.Prelude.{None, Result, Ok, Err, IfOk, OnOk}
+use Rattle.std.specs.Prelude.{◌+◌, Some, Result, Ok, Err, IfOk, OnOk}
 use Rattle.std.specs.Io.KnownBytes.{Appends, Keeps}
 use Rattle.sq_ranges.specs.OpeningValue.{OpeningValue}
 use Rattle.sq_model.specs.declared.step.Step.{Step}
@@ -11,6 +11,7 @@ use Rattle.sq_model.specs.Legal.{IsLegal}
 use Rattle.sq_transition.specs.WorldValue.{WorldValue}
 use Rattle.sq_transition.specs.Holds.{Holds}
 use Rattle.sq_transition.specs.Headline.{KeepsHeadline}
+use Rattle.sq_text.specs.declared.located.InputLine.TheVariants.{Later}
 use Rattle.sq_text.specs.declared.located.LocatedFault.{LocatedFault}
 use Rattle.sq_text.specs.Located.{located}
 use Rattle.sq_text.specs.declared.input_fault.InputFault.TheVariants.{TooLong, ReadFailed}
@@ -19,7 +20,8 @@ use Rattle.sq_text.specs.Steps.{step_of}
 use Rattle.sq_text.specs.Faults.{line_fault_number}
 use Rattle.sq_text.specs.Texts.{answer_line, refused_line}
 use Rattle.sq_lines.specs.declared.buffer.TheConstants.{MAX_UNENDED}
-use Rattle.sq_lines.specs.Pieces.{PieceValue, Line, Rest, Failed, Endless, TooMany}
+use Rattle.sq_lines.specs.declared.reader.TheConstants.{MAX_LINES}
+use Rattle.sq_lines.specs.Pieces.{PieceValue, Line, Rest, Failed, Endless, TooMany, next_line_number}
 use Rattle.sq_lines.specs.Coming.{LinesValue, CanCome, CameBefore, IsLong}
 use Rattle.sq_lines.proofs.Lengths.{is_endless}
 use Rattle.sq_text.proofs.Appending.{both}
@@ -111,19 +113,20 @@ at_fault (Err e) tables begin was left fault first mid now start w before can wr
 at_fault (Ok ending) tables begin was left fault first mid now start w before can writes over =
     λ o t leads same. let b = before o t leads same in ended_by o t begin was left over.0 ending first mid now w b can (writes o b.here over.0 ending over.2) over.1
 
-pub at_failed : {E : Type 0} (r : Result Ending E) (tables : ℕ) (begin was : LinesValue) (bytes : List ℕ) (first mid now : Option (List ℕ)) (start w : WorldValue) → AllBefore tables begin was first mid start w → CanCome was (Failed bytes ∷ [])
-    → IfOk r (λ ending. (out : List ℕ) × Appends mid now out × IsFault (located ReadFailed None) out ending) → IfOk r (AllWritten tables begin first now start)
-at_failed r tables begin was bytes first mid now start w before can over = at_fault r tables begin was (Failed bytes ∷ []) (located ReadFailed None) first mid now start w before can (λ o t out ending is. is) over
+-- the reading failed, or it ended in a line without end, or behind the last line that may come
+pub at_failed : {E : Type 0} (r : Result Ending E) (tables : ℕ) (begin was : LinesValue) (line : ℕ) (bytes : List ℕ) (fault : LocatedFault) (first mid now : Option (List ℕ)) (start w : WorldValue) → AllBefore tables begin was first mid start w → CanCome was (Failed line bytes ∷ [])
+    → fault ≡ located ReadFailed (Some (Later line)) → IfOk r (λ ending. (out : List ℕ) × Appends mid now out × IsFault fault out ending) → IfOk r (AllWritten tables begin first now start)
+at_failed r tables begin was line bytes fault first mid now start w before can is over = at_fault r tables begin was (Failed line bytes ∷ []) fault first mid now start w before can (λ o t out ending wrote. subst (λ f. IsFault f out ending) is wrote) over
 
-pub at_too_many : {E : Type 0} (r : Result Ending E) (tables : ℕ) (begin was : LinesValue) (first mid now : Option (List ℕ)) (start w : WorldValue) → AllBefore tables begin was first mid start w → CanCome was (TooMany ∷ [])
-    → IfOk r (λ ending. (out : List ℕ) × Appends mid now out × IsFault (located TooLong None) out ending) → IfOk r (AllWritten tables begin first now start)
-at_too_many r tables begin was first mid now start w before can over = at_fault r tables begin was (TooMany ∷ []) (located TooLong None) first mid now start w before can (λ o t out ending is. is) over
+pub at_too_many : {E : Type 0} (r : Result Ending E) (tables : ℕ) (begin was : LinesValue) (fault : LocatedFault) (first mid now : Option (List ℕ)) (start w : WorldValue) → AllBefore tables begin was first mid start w → CanCome was (TooMany ∷ [])
+    → fault ≡ located TooLong (Some (Later (MAX_LINES + 1))) → IfOk r (λ ending. (out : List ℕ) × Appends mid now out × IsFault fault out ending) → IfOk r (AllWritten tables begin first now start)
+at_too_many r tables begin was fault first mid now start w before can is over = at_fault r tables begin was (TooMany ∷ []) fault first mid now start w before can (λ o t out ending wrote. subst (λ f. IsFault f out ending) is wrote) over
 
-pub at_long : {E : Type 0} (r : Result Ending E) (tables : ℕ) (begin was : LinesValue) (first mid now : Option (List ℕ)) (start w : WorldValue) → AllBefore tables begin was first mid start w → IsLong MAX_UNENDED was
-    → IfOk r (λ ending. (out : List ℕ) × Appends mid now out × IsFault (located TooLong None) out ending) → IfOk r (AllWritten tables begin first now start)
-at_long r tables begin was first mid now start w before long over =
+pub at_long : {E : Type 0} (r : Result Ending E) (tables : ℕ) (begin was : LinesValue) (fault : LocatedFault) (first mid now : Option (List ℕ)) (start w : WorldValue) → AllBefore tables begin was first mid start w → IsLong MAX_UNENDED was
+    → fault ≡ located TooLong (Some (Later (next_line_number was.lines))) → IfOk r (λ ending. (out : List ℕ) × Appends mid now out × IsFault fault out ending) → IfOk r (AllWritten tables begin first now start)
+at_long r tables begin was fault first mid now start w before long is over =
     let endless = is_endless was long in
-    at_fault r tables begin was (Endless endless.bytes ∷ endless.others) (located TooLong None) first mid now start w before endless.can_come (λ o t out ending is. is) over
+    at_fault r tables begin was (Endless (next_line_number was.lines) endless.bytes ∷ endless.others) fault first mid now start w before endless.can_come (λ o t out ending wrote. subst (λ f. IsFault f out ending) is wrote) over
 
 -- a step was answered
 pub on_step : {T E : Type 0} (r : Result T E) (tables : ℕ) (line : List ℕ) (step : Step) (given : Answer) (before now : Option (List ℕ)) (w new : WorldValue) → Ok step ≡ step_of tables line

@@ -1,5 +1,5 @@
 -- A run: what is written for an input.
-use Rattle.std.specs.Prelude.{◌≡◌, ◌⊎◌, ℕ, true, List, [], ◌∷◌, ◌++◌, Option, None, Ok, Err}
+use Rattle.std.specs.Prelude.{◌≡◌, ◌⊎◌, ℕ, ◌+◌, true, List, [], ◌∷◌, ◌++◌, Option, Some, Ok, Err}
 use Rattle.std.specs.Io.KnownBytes.{Appends}
 use Rattle.sq_ranges.specs.OpeningValue.{OpeningValue}
 use Rattle.sq_model.specs.declared.step.Step.{Step}
@@ -11,6 +11,7 @@ use Rattle.sq_transition.specs.WorldValue.{WorldValue}
 use Rattle.sq_transition.specs.Holds.{Holds}
 use Rattle.sq_text.specs.declared.fault.LineFault.{LineFault}
 use Rattle.sq_text.specs.declared.fault.LineFault.TheVariants as line_fault
+use Rattle.sq_text.specs.declared.located.InputLine.TheVariants.{Later}
 use Rattle.sq_text.specs.declared.located.LocatedFault.{LocatedFault}
 use Rattle.sq_text.specs.declared.input_fault.InputFault.TheVariants.{TooLong, ReadFailed}
 use Rattle.sq_text.specs.Words.{words_of}
@@ -19,6 +20,7 @@ use Rattle.sq_text.specs.Faults.{line_fault_number}
 use Rattle.sq_text.specs.InputFaults.{input_fault_number}
 use Rattle.sq_text.specs.Located.{located}
 use Rattle.sq_text.specs.Texts.{answer_line, refused_line, fault_line}
+use Rattle.sq_lines.specs.declared.reader.TheConstants.{MAX_LINES}
 use Rattle.sq_lines.specs.Pieces.{PieceValue, Line, Rest, Failed, Endless, TooMany}
 use Rattle.sq_text.specs.Header.{header_of, Opens}
 use Rattle.sq_world.specs.declared.ending.Ending.{Ending}
@@ -69,9 +71,9 @@ Writes o t [] out ending = IsDumped o t out × (ending ≡ Done)
 Writes o t (Line line ∷ others) out ending =
     (after : Trace) × (text : List ℕ) × (later : List ℕ) × AnswersLine o t line after text × (out ≡ text ++ later) × Writes o after others later ending
 Writes o t (Rest bytes ∷ others) out ending = (later : List ℕ) × (out ≡ refused_line (line_fault_number line_fault.NotAStep) ++ later) × Writes o t others later ending
-Writes o t (Failed bytes ∷ others) out ending = IsFault (located ReadFailed None) out ending
-Writes o t (Endless bytes ∷ others) out ending = IsFault (located TooLong None) out ending
-Writes o t (TooMany ∷ others) out ending = IsFault (located TooLong None) out ending
+Writes o t (Failed line bytes ∷ others) out ending = IsFault (located ReadFailed (Some (Later line))) out ending
+Writes o t (Endless line bytes ∷ others) out ending = IsFault (located TooLong (Some (Later line))) out ending
+Writes o t (TooMany ∷ others) out ending = IsFault (located TooLong (Some (Later (MAX_LINES + 1)))) out ending
 
 -- the header is read to this opening, and then the script is run from it
 pub record IsRunFrom (tables : ℕ) (given : List PieceValue) (out : List ℕ) (ending : Ending) : Type 0 where

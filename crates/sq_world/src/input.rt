@@ -9,7 +9,7 @@ ghost use Rattle.sq_world.specs.Run.{IsRun, Runs};
 ghost use Rattle.sq_world.specs.Script.{LeadsTo};
 
 use crate::ending::{Ending, WriteFault};
-use crate::script::{end_by, end_by_located, run_script};
+use crate::script::{end_by, run_script};
 use crate::world::World;
 use sq_lines::LineReader;
 use sq_schema::{MAX_TABLES, Schema};
@@ -48,7 +48,7 @@ fn run_unflushed<R: Read, W: Write>(
 {
     match LineReader::new(alloc, reader) {
         Ok(mut lines) => run_lines(alloc, &mut lines, writer),
-        Err(_) => end_by(writer, InputFault::Memory),
+        Err(_) => end_by(writer, InputFault::Memory.at_no_line()),
     }
 }
 
@@ -65,7 +65,7 @@ fn run_lines<R: Read, W: Write>(
     };
     match open_world(alloc, schema, lines) {
         Ok(mut world) => run_script(alloc, &schema, &mut world, lines, writer),
-        Err(fault) => end_by_located(writer, fault),
+        Err(fault) => end_by(writer, fault),
     }
 }
 

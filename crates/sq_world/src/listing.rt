@@ -6,7 +6,7 @@ ghost use Rattle.sq_lines.specs.Coming.{CanCome};
 ghost use Rattle.sq_world.specs.Listing.{IsListing, Lists};
 
 use crate::ending::{Ending, WriteFault};
-use crate::script::{end_by, end_by_located};
+use crate::script::end_by;
 use sq_lines::LineReader;
 use sq_schema::{MAX_TABLES, Schema};
 use sq_text::{InputFault, read_plans, write_moves};
@@ -43,7 +43,7 @@ fn list_unflushed<R: Read, W: Write>(
 {
     match LineReader::new(alloc, reader) {
         Ok(mut lines) => list_moves(alloc, &mut lines, writer),
-        Err(_) => end_by(writer, InputFault::Memory),
+        Err(_) => end_by(writer, InputFault::Memory.at_no_line()),
     }
 }
 
@@ -63,6 +63,6 @@ fn list_moves<R: Read, W: Write>(
             write_moves(writer, opening.recon())?;
             Ok(Ending::Done)
         }
-        Err(fault) => end_by_located(writer, fault),
+        Err(fault) => end_by(writer, fault),
     }
 }

@@ -1,23 +1,27 @@
 // Scripts.
-ghost use Rattle.std.specs.Prelude.{◌≡◌, List, ℕ, None, OnOk, IfOk};
+ghost use Rattle.std.specs.Prelude.{◌≡◌, List, ℕ, OnOk, IfOk};
 ghost use Rattle.std.specs.Io.KnownBytes.{Appends};
 ghost use Rattle.sq_ranges.specs.OpeningValue.{OpeningValue};
 ghost use Rattle.sq_model.specs.Trace.{Trace};
 ghost use Rattle.sq_state.specs.Dump.{dump};
-ghost use Rattle.sq_text.specs.Located.{located};
+ghost use Rattle.sq_lines.specs.Pieces.{next_line_number};
 ghost use Rattle.sq_world.specs.Run.{IsFault};
 ghost use Rattle.sq_world.specs.Script.{LeadsTo, IsAnswered, IsWritten};
 
 use crate::ending::Ending;
 use crate::world::World;
-use sq_lines::{LineReader, MAX_UNENDED, Next};
+use sq_lines::{LineReader, MAX_LINES, MAX_UNENDED, Next};
 use sq_schema::Schema;
 use sq_text::{
-    InputFault, LineFault, LocatedFault, read_step, write_answer, write_fault, write_refused,
+    InputFault, InputLine, LineFault, LocatedFault, read_step, write_answer, write_fault,
+    write_refused,
 };
 use std::alloc::Global;
 use std::io;
 use std::io::{Read, Write};
+
+// The line after the last one that an input may have.
+const AFTER_THE_LAST: InputLine = InputLine::Later(MAX_LINES + 1);
 
 // Writes what the lines of a script are answered, and then the dump. What is written goes out before more is read.
 pub(crate) fn run_script<R: Read, W: Write>(
@@ -41,11 +45,18 @@ pub(crate) fn run_script<R: Read, W: Write>(
                 return end(world, writer);
             }
             Next::End => return end(world, writer),
-            Next::Failed => return end_by(writer, InputFault::ReadFailed),
-            Next::Long => return end_by(writer, InputFault::TooLong),
-            Next::TooMany => return end_by(writer, InputFault::TooLong),
+            Next::Failed => return end_by(writer, InputFault::ReadFailed.at(line_of(lines))),
+            Next::Long => return end_by(writer, InputFault::TooLong.at(line_of(lines))),
+            Next::TooMany => return end_by(writer, InputFault::TooLong.at(AFTER_THE_LAST)),
         }
     }
+}
+
+// The line in which an input ends.
+fn line_of<R: Read>(lines: &LineReader<R>) -> InputLine
+    ensures { result ≡ InputLine.Later (next_line_number lines.now.lines) }
+{
+    InputLine::Later(lines.next_line_number())
 }
 
 // Writes the dump, which ends the run.
@@ -76,15 +87,8 @@ fn write_line<W: Write>(
     }
 }
 
-// Writes a fault that belongs to no line of the header, which ends the run.
-pub(crate) fn end_by<W: Write>(writer: &mut W, fault: InputFault) -> io::Result<Ending>
-    ensures { IfOk result (λ ending. (out : List ℕ) × Appends (W.contents writer.old) (W.contents writer.new) out × IsFault (located fault None) out ending) }
-{
-    end_by_located(writer, fault.at_no_line())
-}
-
 // Writes the number of a fault, which ends the run.
-pub(crate) fn end_by_located<W: Write>(writer: &mut W, located: LocatedFault) -> io::Result<Ending>
+pub(crate) fn end_by<W: Write>(writer: &mut W, located: LocatedFault) -> io::Result<Ending>
     ensures { IfOk result (λ ending. (out : List ℕ) × Appends (W.contents writer.old) (W.contents writer.new) out × IsFault located out ending) }
 {
     write_fault(writer, located.fault.number())?;

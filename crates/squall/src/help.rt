@@ -10,7 +10,7 @@ Exit status:
   2  a fault, or a command line that is refused
 
 After a fault the last line of standard output is its number, as in 'fault 105',
-and standard error says what it means, and on which line of the header it is.";
+and standard error says what it means, and on which line it is.";
 
 /// Behind those of `run`.
 pub const RUN: &str =

@@ -5,4 +5,4 @@ pub returns-in-Ok : goal.returns-in-Ok
 returns-in-Ok g c = run_from c.run_script.result _ _ _ _ _ _ c.in-Some.ensures.1 c.in-Ok.ensures.world c.run_script.ensures
 
 pub returns-in-Err : goal.returns-in-Err
-returns-in-Err g c = run_refused c.end_by_located.result _ _ _ _ _ _ c.in-Some.ensures.1 c.in-Err.ensures.fault c.end_by_located.ensures
+returns-in-Err g c = run_refused c.end_by.result _ _ _ _ _ _ c.in-Some.ensures.1 c.in-Err.ensures.fault c.end_by.ensures

@@ -13,4 +13,4 @@ returns-in_ok-write_moves-in-Ok g c =
     listed _ c.in-Ok.opening _ _ _ _ c.in-Some.ensures.1 c.in-Ok.ensures wrote
 
 pub returns-in-Err : goal.returns-in-Err
-returns-in-Err g c = not_listed c.end_by_located.result _ _ _ _ _ _ c.in-Some.ensures.1 c.in-Err.ensures c.end_by_located.ensures
+returns-in-Err g c = not_listed c.end_by.result _ _ _ _ _ _ c.in-Some.ensures.1 c.in-Err.ensures c.end_by.ensures

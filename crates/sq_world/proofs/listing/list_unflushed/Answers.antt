@@ -10,4 +10,4 @@ pub returns-in-Ok : goal.returns-in-Ok
 returns-in-Ok g c = run_given (IsListing MAX_TABLES) c.list_moves.result _ _ _ _ c.in-Ok.ensures.held c.in-Ok.ensures.open c.in-Ok.ensures.lines c.in-Ok.ensures.known c.list_moves.ensures
 
 pub returns-in-Err : goal.returns-in-Err
-returns-in-Err g c = run_nothing (IsListing MAX_TABLES) c.end_by.result _ _ _ (λ given out ending wrote. inr (record { fault = located Memory None; left = []; plans = λ apart. absurd (apart refl); wrote = wrote })) c.end_by.ensures
+returns-in-Err g c = run_nothing (IsListing MAX_TABLES) c.end_by.result _ _ _ _ c.at_no_line.ensures (λ given out ending wrote. inr (record { fault = located Memory None; left = []; plans = λ apart. absurd (apart refl); wrote = wrote })) c.end_by.ensures

@@ -1,5 +1,10 @@
-use Rattle.std.proofs.Common.{subst}
-use Rattle.sq_lines.specs.Coming.{CanCome}
+use Rattle.std.proofs.Common.{subst, ap, ◌∙◌}
+use Rattle.std.specs.Prelude.{Some}
+use Rattle.sq_lines.specs.Pieces.{next_line_number}
+use Rattle.sq_lines.specs.Coming.{CanCome, LinesValue}
+use Rattle.sq_text.specs.declared.input_fault.InputFault.TheVariants.{ReadFailed, TooLong}
+use Rattle.sq_text.specs.declared.located.InputLine.TheVariants.{Later}
+use Rattle.sq_text.specs.Located.{located}
 use Rattle.sq_world.specs.Script.{IsAnswered}
 use Rattle.sq_world.proofs.Scripts.{begun, on_line, on_read, at_end, at_rest, at_failed, at_long, at_too_many}
 use Rattle.sq_world.proofs.script.run_script.Goals as goal
@@ -30,15 +35,15 @@ returns-in-End g c =
 
 pub returns-in-Failed : goal.returns-in-Failed
 returns-in-Failed g c =
-    at_failed c.end_by.result c.args.schema.now c.args.lines.now c.loop-world.lines c.loop-world.lines.held (g.W.Write.contents c.args.writer.now) (g.W.Write.contents c.loop-world.writer) (g.W.Write.contents c.end_by.new.writer) c.args.world.now c.loop-world.world
-    c.loop-world.invariant c.in-Failed.ensures.0 c.end_by.ensures
+    at_failed c.end_by.result c.args.schema.now c.args.lines.now c.loop-world.lines (next_line_number c.loop-world.lines.lines) c.loop-world.lines.held c.at.result (g.W.Write.contents c.args.writer.now) (g.W.Write.contents c.loop-world.writer) (g.W.Write.contents c.end_by.new.writer) c.args.world.now c.loop-world.world
+    c.loop-world.invariant c.in-Failed.ensures.0 (c.at.ensures ∙ ap (λ line. located ReadFailed (Some line)) (c.line_of.ensures ∙ ap (λ (v : LinesValue). Later (next_line_number v.lines)) c.in-Failed.ensures.2)) c.end_by.ensures
 
 pub returns-in-Long : goal.returns-in-Long
 returns-in-Long g c =
-    at_long c.end_by-in-Long.result c.args.schema.now c.args.lines.now c.loop-world.lines (g.W.Write.contents c.args.writer.now) (g.W.Write.contents c.loop-world.writer) (g.W.Write.contents c.end_by-in-Long.new.writer) c.args.world.now c.loop-world.world
-    c.loop-world.invariant c.in-Long.ensures.0 c.end_by-in-Long.ensures
+    at_long c.end_by-in-Long.result c.args.schema.now c.args.lines.now c.loop-world.lines c.at-in-Long.result (g.W.Write.contents c.args.writer.now) (g.W.Write.contents c.loop-world.writer) (g.W.Write.contents c.end_by-in-Long.new.writer) c.args.world.now c.loop-world.world
+    c.loop-world.invariant c.in-Long.ensures.0 (c.at-in-Long.ensures ∙ ap (λ line. located TooLong (Some line)) (c.line_of-in-Long.ensures ∙ ap (λ (v : LinesValue). Later (next_line_number v.lines)) c.in-Long.ensures.1)) c.end_by-in-Long.ensures
 
 pub returns-in-TooMany : goal.returns-in-TooMany
 returns-in-TooMany g c =
-    at_too_many c.end_by-in-TooMany.result c.args.schema.now c.args.lines.now c.loop-world.lines (g.W.Write.contents c.args.writer.now) (g.W.Write.contents c.loop-world.writer) (g.W.Write.contents c.end_by-in-TooMany.new.writer) c.args.world.now c.loop-world.world
-    c.loop-world.invariant c.in-TooMany.ensures.0 c.end_by-in-TooMany.ensures
+    at_too_many c.end_by-in-TooMany.result c.args.schema.now c.args.lines.now c.loop-world.lines c.at-in-TooMany.result (g.W.Write.contents c.args.writer.now) (g.W.Write.contents c.loop-world.writer) (g.W.Write.contents c.end_by-in-TooMany.new.writer) c.args.world.now c.loop-world.world
+    c.loop-world.invariant c.in-TooMany.ensures.0 c.at-in-TooMany.ensures c.end_by-in-TooMany.ensures

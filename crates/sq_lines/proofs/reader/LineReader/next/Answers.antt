@@ -1,6 +1,6 @@
 use Rattle.std.proofs.Common.{◌≡◌, ◌<◌, ◌≤◌, ◌+◌, ◌-◌, length, [], ◌∷◌, inl, inr, refl, sym, ap, ◌∙◌, subst, arith}
 use Rattle.std.specs.Prelude.{◌==◌, position, slice_range, Some, None}
-use Rattle.sq_lines.specs.Pieces.{Rest, Failed}
+use Rattle.sq_lines.specs.Pieces.{Rest, Failed, next_line_number}
 use Rattle.sq_lines.specs.Coming.{LinesValue, CanCome, IsLong, IsUndecided}
 use Rattle.sq_lines.proofs.Ranges.{empty_range, length_range, found_line, found_none}
 use Rattle.sq_lines.proofs.Comings.{at_end, too_many, line_came, rest_comes, failed_comes, long_line, long_unended}
@@ -16,7 +16,7 @@ pub returns-in-Failed : goal.returns-in-Failed
 returns-in-Failed g c =
     let s = c.self.inside in
     let none = empty_range s.buffer.items s.start s.end (omega (arith, c.if-self.true)) in
-    (subst (λ (v : LinesValue). CanCome v (Failed v.held ∷ [])) c.self.view_is (failed_comes _ c.in-Failed.is (rw none refl) (inl none) (omega (arith, ap length none))), omega (arith, ap length none, ap (λ (v : LinesValue). length v.held) c.self.view_is), refl)
+    (subst (λ (v : LinesValue). CanCome v (Failed (next_line_number v.lines) v.held ∷ [])) c.self.view_is (failed_comes _ c.in-Failed.is (rw none refl) (inl none) (omega (arith, ap length none))), omega (arith, ap length none, ap (λ (v : LinesValue). length v.held) c.self.view_is), refl)
 
 pub returns-then-self-eq0 : goal.returns-then-self-eq0
 returns-then-self-eq0 g c =
@@ -55,7 +55,7 @@ returns-in-Failed-reading g c =
     let none : position (λ b. b == 10) (slice_range s.buffer.items s.searched s.end) ≡ None = rw (← c.deref.ensures.value) (sym c.place_of.ensures ∙ c.in_default.is) in
     let unended = found_none s.buffer.items s.start s.searched s.end c.self.invariant.searched_after c.self.invariant.searched_before c.self.invariant.unended none in
     let count = length_range s.buffer.items s.start s.end (omega (arith, c.self.invariant.within, c.self.invariant.room)) in
-    (subst (λ (v : LinesValue). CanCome v (Failed v.held ∷ [])) c.self.view_is (failed_comes _ c.in-Failed-reading.is unended (inr (omega (arith, c.if-self-eq0.false))) (omega (arith, count, c.if-self-most.false, c.requires))), omega (arith, count, c.if-self-most.false, ap (λ (v : LinesValue). length v.held) c.self.view_is), c.self.view_is)
+    (subst (λ (v : LinesValue). CanCome v (Failed (next_line_number v.lines) v.held ∷ [])) c.self.view_is (failed_comes _ c.in-Failed-reading.is unended (inr (omega (arith, c.if-self-eq0.false))) (omega (arith, count, c.if-self-most.false, c.requires))), omega (arith, count, c.if-self-most.false, ap (λ (v : LinesValue). length v.held) c.self.view_is), c.self.view_is)
 
 pub returns-in-Ended-reading : goal.returns-in-Ended-reading
 returns-in-Ended-reading g c =
