@@ -5,6 +5,7 @@ use Rattle.std.proofs.lemmas.List.{length-drop}
 use Rattle.std.proofs.lemmas.Option.{same_Some, slice_get_within}
 use Rattle.sq_chunk.specs.declared.chunk.Note.{Note}
 use Rattle.sq_chunk.specs.ChunkValue.{ChunkValue}
+use Rattle.sq_placed.proofs.Lists.{at_map}
 use Rattle.sq_audit.specs.Notes.{AreOfLast}
 use Rattle.sq_audit.proofs.Lists.{at_dropped}
 use Rattle.sq_audit.proofs.Each.{same_of}
@@ -39,3 +40,11 @@ last_more chunks notes loaded n chunk note at there same before i other below al
     let is = same_of chunks n i chunk other at also here in
     ap (λ k. slice_get notes (loaded + k)) here ∙ there ∙ ap Some (sym same) ∙ ap (λ (c : ChunkValue). Some c.note) (sym is))
     (cases_lt i n)
+
+-- a chunk has another note than the one that stands where it should
+pub not_of_last : (chunks : List ChunkValue) (notes : List Note) (loaded n : ℕ) (chunk : ChunkValue) (note : Note) → loaded ≡ length notes - length chunks
+    → slice_get chunks n ≡ Some chunk → slice_get notes (loaded + n) ≡ Some note → (chunk.note ≡ note → ⊥) → AreOfLast chunks notes → ⊥
+not_of_last chunks notes loaded n chunk note loaded_is at there differ last =
+    let here = at_map (λ (c : ChunkValue). c.note) chunks n chunk at in
+    let stands = at_dropped notes loaded n note there in
+    differ (same_Some chunk.note note (sym here ∙ ap (λ (ns : List Note). slice_get ns n) last ∙ ap (λ k. slice_get (drop k notes) n) (sym loaded_is) ∙ stands))

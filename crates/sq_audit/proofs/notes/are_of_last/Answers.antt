@@ -1,9 +1,24 @@
-use Rattle.std.proofs.Common.{rules, ◌≡◌, ◌+◌, true, slice_get, Some, refl, sym, ◌∙◌}
+use Rattle.std.proofs.Common.{rules, ◌≡◌, ◌+◌, true, slice_get, Some, refl, sym, ◌∙◌, true≢false}
 use Rattle.sq_chunk.specs.ChunkValue.{ChunkValue, are_within}
 use Rattle.sq_audit.proofs.Listing.{item_at}
 use Rattle.sq_audit.proofs.Each.{each_more, each_done}
-use Rattle.sq_audit.proofs.Ways.{of_last, last_more}
+use Rattle.sq_audit.proofs.Ways.{of_last, last_more, not_of_last}
 use Rattle.sq_audit.proofs.notes.are_of_last.Goals as goal
+
+pub returns-then-ne-clause-last : goal.returns-then-ne-clause-last
+returns-then-ne-clause-last c =
+    let chunks = c.args.chunks.now in
+    let notes = c.args.notes.now in
+    let at = c.loop-at.at in
+    let loaded = c.in-Some.loaded in
+    let chunk = c.index-chunks-at.result in
+    let note = c.index-notes-loaded.result in
+    let there : slice_get chunks at ≡ Some chunk = item_at chunks at chunk c.index-chunks-at.is c.loop-at-test.true in
+    let noted : slice_get notes (loaded + at) ≡ Some note = item_at notes (loaded + at) note c.index-notes-loaded.is (search rules) in
+    let differ : c.note.result ≡ note → ⊥ = search rules in (
+      (λ e. absurd (true≢false (sym e))),
+      (λ last. absurd (not_of_last chunks notes loaded at chunk note c.in-Some.ensures.1 there noted (λ same. differ (c.note.ensures ∙ same)) last)),
+    )
 
 pub loop-at-preserved : goal.loop-at-preserved
 loop-at-preserved c =
