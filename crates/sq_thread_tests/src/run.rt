@@ -1,0 +1,196 @@
+// Runs, made by hand or by their workers.
+ghost use Rattle.std.specs.Prelude.{◌≡◌, ◌≤◌};
+ghost use Rattle.sq_pull.specs.declared.numbers.TheConstants.{MAX_OWNERS};
+ghost use Rattle.sq_node.specs.NodeState.{IsNodeOf};
+ghost use Rattle.sq_gather.specs.Gathered.{AreAllOf};
+
+use crate::text::receipts_text;
+use sq_driver::{Gate, drive_pump, run_workers};
+use sq_gather::{Gathered, Ungathered, gather};
+use sq_lines::LineReader;
+use sq_model::Step;
+use sq_node::{Fabric, Node, Stepped};
+use sq_plan::PartId;
+use sq_pull::{Pump, PumpTurn, Request};
+use sq_schema::{Reply, Schema};
+use sq_text::{read_header, read_step};
+use std::alloc::Global;
+use std::sync::Wait;
+use std::test::Fail;
+use std::thread::Threads;
+
+/// A run: what its nodes share, all nodes and all pumps.
+#[derive(Drop)]
+pub struct Run {
+    pub fabric: Fabric,
+    pub nodes: Vec<Node>,
+    pub pumps: Vec<Pump>,
+    ghost whole: { AreAllOf fabric nodes.items pumps.items },
+}
+
+impl Run {
+    /// The run of a header, with this many pumps.
+    pub fn opened(alloc: Global, header: &str, pumps: u32) -> Result<Run, Fail>
+        requires { pumps ≤ MAX_OWNERS }
+    {
+        let schema = Schema::new(8).ok_or("8 tables are a schema")?;
+        let mut lines = LineReader::new(alloc, header.as_bytes())?;
+        let opening = read_header(alloc, schema, &mut lines)?;
+        let (fabric, nodes, pumps) = Fabric::open(alloc, &opening, pumps)?;
+        // For the proof: what holds of each fabric, which `links` says.
+        let _links = fabric.links();
+        Ok(Run {
+            fabric,
+            nodes,
+            pumps,
+        })
+    }
+
+    /// Posts the transaction of a line to the partition that the line names.
+    pub fn post<R: Wait>(&self, rt: &R, alloc: Global, line: &str) -> Result<(), Fail> {
+        let schema = Schema::new(8).ok_or("8 tables are a schema")?;
+        let Step::Submit(part, job) = read_step(alloc, &schema, line.as_bytes())? else {
+            return Err("no transaction")?;
+        };
+        if part >= u64::from(self.fabric.parts()) {
+            return Err("no such partition")?;
+        }
+        match self.fabric.post(rt, PartId::new(part as u8), job) {
+            Ok(()) => Ok(()),
+            Err(_) => Err("the queue is full")?,
+        }
+    }
+
+    /// Asks a partition to begin a node of a segment for a pull.
+    pub fn request<R: Wait>(&self, rt: &R, part: u8, request: Request) -> Result<(), Fail> {
+        if part >= self.fabric.parts() {
+            return Err("no such partition")?;
+        }
+        match self.fabric.request(rt, PartId::new(part), request) {
+            Ok(()) => Ok(()),
+            Err(_) => Err("the queue is full")?,
+        }
+    }
+
+    /// A turn of the node of a partition.
+    pub fn turn<R: Wait>(&mut self, rt: &R, part: usize) -> Result<(), Fail> {
+        if part >= self.nodes.len() {
+            return Err("no such partition")?;
+        }
+        self.nodes[part].turn(rt, &self.fabric);
+        Ok(())
+    }
+
+    /// What each step of the node of a partition comes to, in their order.
+    pub fn steps<R: Wait>(&mut self, rt: &R, part: usize) -> Result<[Stepped; 8], Fail> {
+        if part >= self.nodes.len() {
+            return Err("no such partition")?;
+        }
+        Ok(make_steps(rt, &self.fabric, &mut self.nodes[part]))
+    }
+
+    /// A turn of the pump of a number.
+    pub fn turn_pump<R: Wait>(&mut self, rt: &R, number: usize) -> Result<PumpTurn, Fail> {
+        if number >= self.pumps.len() {
+            return Err("no such pump")?;
+        }
+        let shared = self.fabric.shared();
+        Ok(self.pumps[number].turn(rt, &shared)?)
+    }
+
+    /// Drives the pump of a number.
+    pub fn drive_pump<R: Wait, G: Gate>(
+        &mut self,
+        rt: &R,
+        number: usize,
+        turns: u64,
+        gate: &G,
+    ) -> Result<(), Fail> {
+        if number >= self.pumps.len() {
+            return Err("no such pump")?;
+        }
+        drive_pump(rt, &self.fabric, &mut self.pumps[number], turns, gate);
+        Ok(())
+    }
+
+    /// Whether the pump of a number is done.
+    pub fn is_pump_done(&self, number: usize) -> bool {
+        self.pumps.get(number).is_some_and(|pump| pump.is_done())
+    }
+
+    /// Runs all workers.
+    pub fn work<R: Threads + Wait + Sync, G: Gate>(&mut self, rt: &R, turns: u64, gate: &G) {
+        run_workers(
+            rt,
+            &self.fabric,
+            &mut self.nodes,
+            &mut self.pumps,
+            turns,
+            gate,
+        );
+    }
+
+    /// The receipts of the node of a partition, in lines.
+    pub fn text_of_receipts(&self, alloc: Global, part: usize) -> Result<String, Fail> {
+        let node = self.nodes.get(part).ok_or("no such partition")?;
+        receipts_text(alloc, node.receipts())
+    }
+
+    /// How many receipts all nodes have.
+    pub fn receipts(&self) -> usize {
+        let mut count: usize = 0;
+        for node in &self.nodes {
+            count = count.saturating_add(node.receipts().len());
+        }
+        count
+    }
+
+    /// Whether all receipts are of commits.
+    pub fn all_commit(&self) -> bool {
+        self.nodes.iter().all(|node| {
+            node.receipts()
+                .iter()
+                .all(|receipt| matches!(receipt.reply, Reply::Committed(_)))
+        })
+    }
+
+    /// What is gathered of it. Where there was no memory for it, what came back is gathered once more.
+    pub fn gathered<R: Wait>(self, rt: &R, alloc: Global) -> Result<Gathered, Fail> {
+        let Run {
+            fabric,
+            nodes,
+            pumps,
+        } = self;
+        let back = match gather(rt, alloc, fabric, nodes, pumps) {
+            Ok(gathered) => return Ok(gathered),
+            Err(back) => back,
+        };
+        let Ungathered {
+            fabric,
+            nodes,
+            pumps,
+        } = back;
+        match gather(rt, alloc, fabric, nodes, pumps) {
+            Ok(gathered) => Ok(gathered),
+            Err(_) => Err("no memory")?,
+        }
+    }
+}
+
+// Makes each step of a node once.
+fn make_steps<R: Wait>(rt: &R, fabric: &Fabric, node: &mut Node) -> [Stepped; 8]
+    requires { IsNodeOf fabric.now node.old }
+    ensures of { IsNodeOf fabric.now node.new }
+    ensures part { node.new.core.part ≡ node.old.core.part }
+{
+    [
+        node.step_job(rt, fabric),
+        node.step_request(rt, fabric),
+        node.step_cut(),
+        node.step_send(rt, fabric),
+        node.step_recv(rt, fabric),
+        node.step_load(),
+        node.step_complete(fabric),
+        node.step_resume(rt, fabric),
+    ]
+}
