@@ -15,3 +15,8 @@ pub mod Places
 pub mod Once
 pub mod Tiling
 pub mod Ways
+pub mod Growing
+pub mod Ending
+pub mod Spanning
+pub mod Placing
+pub mod Fitting

@@ -200,7 +200,7 @@ pub record LinkedTo (g : GatheredValue) (upto : ℕ) (entries : List Entry) : Ty
   pub stores : (part root : ℕ) (family : FamilyValue) → StandsAt g (Store part) root family → Contains entries (Store part, family) × IsOf root family
   pub links : (link chunk root : ℕ) (family : FamilyValue) → link < upto → StandsAt g (Chunk link chunk) root family → Contains entries (Chunk link chunk, family) × IsOf root family
 
-of_some : {X Y : Type 0} (f : X → Option Y) (found : Option X) (y : Y) → option_and_then f found ≡ Some y → (x : X) × (found ≡ Some x) × (f x ≡ Some y)
+pub of_some : {X Y : Type 0} (f : X → Option Y) (found : Option X) (y : Y) → option_and_then f found ≡ Some y → (x : X) × (found ≡ Some x) × (f x ≡ Some y)
 of_some f None y at = absurd (no_some y at)
 of_some f (Some x) y at = (x, refl, at)
 

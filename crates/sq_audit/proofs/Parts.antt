@@ -24,7 +24,7 @@ at_counted p (y ∷ xs) (suc k) x at passes =
     let rest = at_counted p xs k x at passes in
     omega (arith, first, rest)
 
-at_taken : {X : Type 0} (xs : List X) (i k : ℕ) (x : X) → slice_get xs k ≡ Some x → k < i → slice_get (take i xs) k ≡ Some x
+pub at_taken : {X : Type 0} (xs : List X) (i k : ℕ) (x : X) → slice_get xs k ≡ Some x → k < i → slice_get (take i xs) k ≡ Some x
 at_taken [] i k x at below = absurd cc
 at_taken (y ∷ xs) zero k x at below = absurd (omega (arith, below))
 at_taken (y ∷ xs) (suc i) zero x at below = at

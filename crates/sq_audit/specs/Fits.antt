@@ -1,7 +1,11 @@
--- Which links are there.
-use Rattle.std.specs.Prelude.{◌≡◌, Bool, ◌==◌, ◌&&◌, List, count_by, Contains}
+-- Which links are there, and whether all families are where they should be.
+use Rattle.std.specs.Prelude.{◌≡◌, ℕ, Bool, ◌==◌, ◌&&◌, List, count_by, Contains}
 use Rattle.sq_ranges.specs.declared.recon.Link.{Link}
-use Rattle.sq_node_model.specs.Gathered.{GatheredLink}
+use Rattle.sq_schema.specs.Family.{FamilyValue}
+use Rattle.sq_ranges.specs.OpeningValue.{OpeningValue}
+use Rattle.sq_node_model.specs.declared.spot.Spot.{Spot}
+use Rattle.sq_node_model.specs.Gathered.{GatheredLink, GatheredValue}
+use Rattle.sq_node_model.specs.Spots.{place_in, StandsAt, IsSpotOf}
 
 -- what was gathered is of this link
 abbrev pub is_between : Link → GatheredLink → Bool
@@ -17,3 +21,7 @@ AreKnownLinks links gathered = (at : GatheredLink) → Contains gathered at → 
 -- each of these links was gathered once
 abbrev pub HaveOneEach : List Link → List GatheredLink → Type 0
 HaveOneEach links gathered = (link : Link) → Contains links link → count_by (is_between link) gathered ≡ 1
+
+-- each family is where the notes place its root key
+abbrev pub ArePlaced : OpeningValue → GatheredValue → Type 0
+ArePlaced o g = (spot : Spot) (root : ℕ) (family : FamilyValue) → StandsAt g spot root family → IsSpotOf g spot (place_in o g root)

@@ -7,3 +7,5 @@ pub mod Index
 pub mod Told
 pub mod Fits
 pub mod Notes
+pub mod Words
+pub mod Spans

@@ -2,6 +2,7 @@
 ghost use Rattle.std.specs.Prelude.{◌≡◌, ◌↔◌, List};
 ghost use Rattle.sq_ranges.specs.OpeningValue.{OpeningValue};
 ghost use Rattle.sq_node_model.specs.Gathered.{GatheredValue};
+ghost use Rattle.sq_node_model.specs.Placed.{IsPlaced};
 ghost use Rattle.sq_audit.specs.declared.job.Job.{Job};
 ghost use Rattle.sq_audit.specs.declared.verdict.Defect.{Defect};
 ghost use Rattle.sq_audit.specs.declared.verdict.Verdict.{Verdict};
@@ -16,4 +17,10 @@ pub fn sound_is_clear_of_each_defect()
 /// There is one verdict at most.
 pub fn one_verdict()
     ensures { (o : OpeningValue) (g : GatheredValue) (jobs : List Job) (one other : Verdict) → IsVerdict o g jobs one → IsVerdict o g jobs other → one ≡ other }
+{}
+
+/// What is found sound is placed: each family is where the notes place its root key, and nowhere else, it starts from its
+/// opening rows, and the receipts tell its log.
+pub fn sound_is_placed()
+    ensures { (o : OpeningValue) (g : GatheredValue) (jobs : List Job) → IsVerdict o g jobs Verdict.Sound → IsPlaced o g }
 {}

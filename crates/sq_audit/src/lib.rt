@@ -9,9 +9,14 @@ mod job;
 pub mod laws;
 mod located;
 mod notes;
+mod passes;
+mod placed;
+mod spans;
 mod tiles;
 mod told;
 mod verdict;
+mod words;
 
 pub use job::Job;
+pub use passes::audit;
 pub use verdict::{Defect, Verdict};

@@ -1,0 +1,28 @@
+use Rattle.std.proofs.Common.{◌+◌, sym, subst, arith, below_more, refl, true≢false}
+use Rattle.sq_tree.specs.Tree.{status_at}
+use Rattle.sq_audit.specs.Words.{IsGrownAt}
+use Rattle.sq_audit.proofs.Each.{refuted, shown}
+use Rattle.sq_audit.proofs.Growing.{numbered_at, grown_from, grown_at}
+use Rattle.sq_audit.proofs.words.has_grown.Goals as goal
+
+pub returns-then-not-has_grown_at : goal.returns-then-not-has_grown_at
+returns-then-not-has_grown_at c = (
+  (λ e. absurd (true≢false (sym e))),
+  (λ grown. absurd (refuted c.has_grown_at.result c.has_grown_at.ensures c.if-not-has_grown_at.true (grown_at (status_at c.args.tree.now) _ grown))),
+)
+
+pub loop-node-preserved : goal.loop-node-preserved
+loop-node-preserved c =
+    let so_far = c.loop-node.invariant in
+    let status = status_at c.args.tree.now in
+    let number = numbered_at c.all-node-items.result c.loop-node.node-index c.node-item.result so_far.long so_far.numbered c.loop-node-test.true in
+    record {
+      long = so_far.long;
+      numbered = so_far.numbered;
+      grown = below_more (λ k. IsGrownAt status (k + 1)) c.loop-node.node-index so_far.grown (subst (IsGrownAt status) number (shown c.has_grown_at.result c.has_grown_at.ensures c.if-not-has_grown_at.false));
+    }
+
+pub returns : goal.returns
+returns c =
+    let whole = c.loop-node-test.false in
+    ((λ e. grown_from c.args.tree.now (let long = c.told-tree in omega (arith, long)) (λ k low. c.loop-node.invariant.grown k (omega (arith, low, whole)))), (λ grown. refl))

@@ -1,0 +1,52 @@
+// Whether each family is where the notes place its root key.
+ghost use Rattle.std.specs.Prelude.{◌≡◌, ℕ, find, IfOk, Some, slice_get};
+ghost use Rattle.std.specs.Bool.{Decides};
+ghost use Rattle.sq_model.specs.Orderly.{AreDisjoint};
+ghost use Rattle.sq_node_model.specs.Spots.{cut_notes};
+ghost use Rattle.sq_node_model.specs.Placed.{HasEachPart};
+ghost use Rattle.sq_audit.specs.Notes.{LinksPlaced};
+ghost use Rattle.sq_audit.specs.Located.{spot_of, entries_of, ListsAll};
+ghost use Rattle.sq_audit.specs.Spans.{marked_in, is_over, AreByKey, part_by, IsAtPart};
+ghost use Rattle.sq_audit.specs.Fits.{ArePlaced};
+
+use crate::located::{Located, Site};
+use crate::spans::{Span, by_key, part_of};
+use sq_gather::Gathered;
+use sq_ranges::Opening;
+use std::alloc::{AllocError, Global};
+
+/// Whether each of all families is where the notes of links that are placed, which share no key, place its root key.
+pub(crate) fn are_placed(
+    alloc: Global,
+    opening: &Opening,
+    g: &Gathered,
+    all: &[Located],
+) -> Result<bool, AllocError>
+    requires parts { HasEachPart opening.now g.now }
+    requires links { LinksPlaced opening.now g.now }
+    requires apart { AreDisjoint (cut_notes g.now) }
+    requires listed { ListsAll g.now (entries_of all.now) }
+    ensures { IfOk result (λ placed. Decides placed (ArePlaced opening.now g.now)) }
+{
+    let spans = by_key(alloc, &g.links)?;
+    for located in all {
+        if !is_placed(opening, &spans, located) {
+            return Ok(false);
+        }
+    }
+    Ok(true)
+}
+
+// Whether a family that is in a store is where the notes place its root key. One that is in a chunk always is.
+fn is_placed(opening: &Opening, spans: &[Span], located: &Located) -> bool
+    requires { AreByKey (marked_in spans.now) }
+    ensures { let root = located.now.family.now.root in Decides result (IsAtPart (spot_of located.now.site) (part_by opening.now root (find (is_over root) (marked_in spans.now)))) }
+{
+    let Site::Store(part) = located.site else {
+        return true;
+    };
+    match part_of(opening, spans, located.family.root()) {
+        Some(at) => usize::from(at.number()) == part,
+        None => false,
+    }
+}

@@ -1,0 +1,119 @@
+// The statuses of the trees: whether each tree grew from a free one, and whether each complete node has its last note
+// loaded.
+ghost use Rattle.std.specs.Prelude.{◌≡◌, ℕ, ◌||◌, IfOk, OnOk};
+ghost use Rattle.std.specs.List.{flat_map};
+ghost use Rattle.std.specs.Bool.{Decides};
+ghost use Rattle.std.specs.BTreeSet.{contains};
+ghost use Rattle.sq_tree.specs.Status.{is_live};
+ghost use Rattle.sq_tree.specs.Tree.{status_at, IsGrown};
+ghost use Rattle.sq_model.specs.Links.{has_last};
+ghost use Rattle.sq_node_model.specs.Spots.{loads_of};
+ghost use Rattle.sq_audit.specs.Counts.{key_order};
+ghost use Rattle.sq_audit.specs.Words.{HaveGrown, IsGrownAt, AreComplete, AreEnded, IsEnded};
+
+use crate::spans::loads;
+use sq_chunk::Note;
+use sq_gather::{ClosedLink, Gathered};
+use sq_tree::{NODES, NodeId, Status};
+use std::alloc::{AllocError, Global};
+use std::collections::BTreeSet;
+
+/// Whether each of these trees grew from a free one.
+pub(crate) fn have_grown(words: &[[Status; NODES]]) -> bool
+    ensures { Decides result (HaveGrown words.now) }
+{
+    for tree in words {
+        if !has_grown(tree) {
+            return false;
+        }
+    }
+    true
+}
+
+// Whether a tree grew from a free one.
+fn has_grown(tree: &[Status; NODES]) -> bool
+    ensures { Decides result (IsGrown (status_at tree.now)) }
+{
+    for node in NodeId::all() {
+        if !has_grown_at(tree, node) {
+            return false;
+        }
+    }
+    true
+}
+
+// Whether a node of a tree that grew may have the status that this one has.
+fn has_grown_at(tree: &[Status; NODES], node: NodeId) -> bool
+    ensures { Decides result (IsGrownAt (status_at tree.now) node) }
+{
+    match tree[node.index()] {
+        Status::Free => true,
+        Status::Split => is_live(tree, node) && !node.is_leaf(),
+        Status::Claimed(_) | Status::Partial(_) | Status::Complete(_) => is_live(tree, node),
+    }
+}
+
+// Whether a node is the whole segment, or a half of a split node.
+fn is_live(tree: &[Status; NODES], node: NodeId) -> bool
+    ensures { result ≡ is_live (status_at tree.now) node }
+{
+    node == NodeId::WHOLE || tree[node.parent().index()].is_split()
+}
+
+/// Whether each complete node has its last note loaded.
+pub(crate) fn are_complete(alloc: Global, g: &Gathered) -> Result<bool, AllocError>
+    ensures { IfOk result (λ complete. Decides complete (AreComplete g.now)) }
+{
+    let ended = ended(alloc, &g.links)?;
+    for (seg, tree) in g.words.iter().enumerate() {
+        if !are_ended(&ended, seg as u64, tree) {
+            return Ok(false);
+        }
+    }
+    Ok(true)
+}
+
+// Whether each complete node of the tree of a segment is among these.
+fn are_ended(ended: &BTreeSet<(u64, u64)>, seg: u64, tree: &[Status; NODES]) -> bool
+    ensures { Decides result (AreEnded ended.now seg (status_at tree.now)) }
+{
+    for node in NodeId::all() {
+        if !is_ended(ended, seg, node, tree[node.index()]) {
+            return false;
+        }
+    }
+    true
+}
+
+// Whether a node with this status is among these, if it is complete.
+fn is_ended(ended: &BTreeSet<(u64, u64)>, seg: u64, node: NodeId, status: Status) -> bool
+    ensures { Decides result (IsEnded ended.now seg node status) }
+{
+    match status {
+        Status::Complete(_) => ended.contains(&(seg, node.number())),
+        _ => true,
+    }
+}
+
+// The nodes, by segment and number, whose last notes were loaded.
+fn ended(alloc: Global, links: &[ClosedLink]) -> Result<BTreeSet<(u64, u64)>, AllocError>
+    ensures { IfOk result (λ ended. (seg node : ℕ) → contains key_order ended (seg, node) ≡ has_last seg node (flat_map loads_of links.now)) }
+{
+    let mut ended = BTreeSet::new(alloc);
+    for link in links {
+        add_ended(&mut ended, loads(link))?;
+    }
+    Ok(ended)
+}
+
+// Adds the nodes that have their last note among these.
+fn add_ended(ended: &mut BTreeSet<(u64, u64)>, notes: &[Note]) -> Result<(), AllocError>
+    ensures { OnOk result ((seg node : ℕ) → contains key_order ended.new (seg, node) ≡ (contains key_order ended.old (seg, node) || has_last seg node notes.now)) }
+{
+    for note in notes {
+        if note.last {
+            ended.insert((note.seg.number(), note.node.number()))?;
+        }
+    }
+    Ok(())
+}
