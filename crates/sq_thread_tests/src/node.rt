@@ -67,6 +67,48 @@ fn won(node: u64) -> Result<PumpTurn, Fail> {
     Ok(PumpTurn::Won(seg, NodeId::new(node).ok_or("no node")?))
 }
 
+// A queue of jobs holds 4,096. What finds it full comes back to who posts it, and a node keeps it until there is room.
+#[test]
+fn a_job_that_finds_a_full_queue_is_kept(rt: HostRuntime) -> Result<(), Fail> {
+    let alloc = rt.alloc();
+    let mut run = Run::opened(alloc, PAIR, 0)?;
+    for _job in 0..4096 {
+        run.post(&rt, alloc, "txn 0 1 9 check 0 0 1")?;
+    }
+    assert!(rt; !run.has_posted(&rt, alloc, "txn 0 1 9 check 0 0 1")?);
+    run.post(&rt, alloc, "txn 1 2 9 check 0 0 1")?;
+    for part in [1, 0, 1] {
+        run.turn(&rt, part)?;
+    }
+    assert!(rt; run.receipts() == 1);
+    for _turn in 0..4096 {
+        run.turn(&rt, 0)?;
+    }
+    assert!(rt; run.receipts() == 4097);
+    Ok(())
+}
+
+// As many transactions wait as may: the next one goes back into its queue, and waits once another was resumed.
+#[test]
+fn a_job_that_is_refused_is_taken_again(rt: HostRuntime) -> Result<(), Fail> {
+    let alloc = rt.alloc();
+    let mut run = Run::opened(alloc, PAIR, 0)?;
+    for id in 0..1025 {
+        let line = format!(in alloc; "txn 1 {id} 5 get 0 0")?;
+        run.post(&rt, alloc, &line)?;
+    }
+    for _turn in 0..1025 {
+        run.turn(&rt, 1)?;
+    }
+    assert!(rt; run.receipts() == 0);
+    for _turn in 0..1030 {
+        run.turn(&rt, 0)?;
+        run.turn(&rt, 1)?;
+    }
+    assert!(rt; run.receipts() == 1025 && run.all_commit());
+    Ok(())
+}
+
 // Whom requests go to that no claim made, or that name no node of a segment that leaves there, and what they ask for.
 const WRONG: [(u8, Request); 5] = [
     (

@@ -48,6 +48,15 @@ impl Run {
 
     /// Posts the transaction of a line to the partition that the line names.
     pub fn post<R: Wait>(&self, rt: &R, alloc: Global, line: &str) -> Result<(), Fail> {
+        if self.has_posted(rt, alloc, line)? {
+            Ok(())
+        } else {
+            Err("the queue is full")?
+        }
+    }
+
+    /// The same, and whether the queue had room for it.
+    pub fn has_posted<R: Wait>(&self, rt: &R, alloc: Global, line: &str) -> Result<bool, Fail> {
         let schema = Schema::new(8).ok_or("8 tables are a schema")?;
         let Step::Submit(part, job) = read_step(alloc, &schema, line.as_bytes())? else {
             return Err("no transaction")?;
@@ -55,10 +64,7 @@ impl Run {
         if part >= u64::from(self.fabric.parts()) {
             return Err("no such partition")?;
         }
-        match self.fabric.post(rt, PartId::new(part as u8), job) {
-            Ok(()) => Ok(()),
-            Err(_) => Err("the queue is full")?,
-        }
+        Ok(self.fabric.post(rt, PartId::new(part as u8), job).is_ok())
     }
 
     /// Asks a partition to begin a node of a segment for a pull.
