@@ -13,6 +13,7 @@ use Rattle.sq_lines.specs.Coming.{LinesValue, CanCome, GoesOn, Leaves}
 use Rattle.sq_lines.proofs.Comings.{some_pieces}
 use Rattle.sq_text.specs.declared.step.TheConstants.{MAX_LINE}
 use Rattle.sq_text.specs.declared.header.RowLines.{RowLines}
+use Rattle.sq_text.specs.declared.header.FirstLines.{FirstLines}
 use Rattle.sq_text.specs.declared.input_fault.InputFault.{InputFault}
 use Rattle.sq_text.specs.declared.input_fault.InputFault.TheVariants as fault
 use Rattle.sq_text.specs.declared.located.InputLine.{InputLine}
@@ -21,7 +22,7 @@ use Rattle.sq_text.specs.declared.located.LocatedFault.{LocatedFault}
 use Rattle.sq_text.specs.InputFaults.{◌>>=◌, IsRead, IsReadGivenMemory}
 use Rattle.sq_text.specs.Located.{at_line, located}
 use Rattle.sq_text.specs.HeaderFields.{GivenValue, value_of}
-use Rattle.sq_text.specs.Header.{line_in, next_line, line_as, plan_of, config_of, row_of, RowsValue, row_lines, AreRows, HeaderValue, no_rows, header_with, Opens}
+use Rattle.sq_text.specs.Header.{line_in, next_line, line_as, plan_of, config_of, row_of, RowsValue, row_lines, AreRows, first_lines, AreFirstLines, no_rows, header_with, Opens}
 
 -- a line that isn't too long
 pub short_line : (line : List ℕ) (others : List PieceValue) → length line ≤ MAX_LINE → next_line (Line line ∷ others) ≡ Ok (line, others)
@@ -162,8 +163,9 @@ module _ (first now mid new : LinesValue) (rows : List GivenRow) (so_far : RowsS
 -- ---- whole headers
 
 -- a header whose fault this is, or of which nothing is told
-pub refused : {Y : Type 0} (tables : ℕ) (f : InputFault) (line : InputLine) (left : List PieceValue) (header : Result HeaderValue LocatedFault) (view : Y → Y) (read : Result Y InputFault) → IsReadGivenMemory view (Err f) read → (at_line line read ≡ Err (located f (Some line)) → header ≡ Err (located f (Some line))) → Opens tables (Err (located f (Some line))) left header
-refused tables f line left header view read is follows = λ apart. rw (follows (ap (at_line line) (is_told f view read apart is))) refl
+pub refused : {Y : Type 0} (f : InputFault) (line : InputLine) (left : List PieceValue) (wanted : Result (FirstLines × List PieceValue) LocatedFault) (view : Y → Y) (read : Result Y InputFault) → IsReadGivenMemory view (Err f) read → (at_line line read ≡ Err (located f (Some line)) → wanted ≡ Err (located f (Some line)))
+    → AreFirstLines (Err (located f (Some line))) left wanted
+refused f line left wanted view read is follows = λ apart. follows (ap (at_line line) (is_told f view read apart is))
 
 -- the next line is read so
 abbrev pub Reads : {Y : Type 0} → (List ℕ → Result Y InputFault) → Y → LinesValue → LinesValue → Type 0
@@ -173,6 +175,34 @@ Reads read y old new = Leaves old new (λ all left. line_as read all ≡ Ok (y, 
 abbrev pub Fails : {Y : Type 0} → (List ℕ → Result Y InputFault) → InputFault → LinesValue → LinesValue → Type 0
 Fails {Y} read f old new = Leaves old new (λ all left. IsReadGivenMemory {X = Y} {Y = Y × List PieceValue} (λ y. (y, left)) (Err f) (line_as read all))
 
+-- the first three lines are read so
+abbrev pub FirstRead : Result FirstLines LocatedFault → LinesValue → LinesValue → Type 0
+FirstRead r old new = Leaves old new (λ all left. AreFirstLines r left (first_lines all))
+
+pub no_old : (f : InputFault) (v0 v1 : LinesValue) → Fails (plan_of (codes "old ")) f v0 v1 → FirstRead (Err (located f (Some line.Old))) v0 v1
+no_old f v0 v1 fails = λ left can. let a = fails left can in
+    (a.0, a.1, refused f line.Old left (first_lines a.0) (λ y. y) (line_as (plan_of (codes "old ")) a.0) (told_again {X = PlanValue} f (λ y. (y, left)) _ a.2) (λ e. rw e refl))
+
+pub no_new : (f : InputFault) (old : PlanValue) (v0 v1 v2 : LinesValue) → Reads (plan_of (codes "old ")) old v0 v1 → Fails (plan_of (codes "new ")) f v1 v2 → FirstRead (Err (located f (Some line.New))) v0 v2
+no_new f old v0 v1 v2 first fails = λ left can.
+    let b = fails left can in
+    let a = first b.0 b.1 in
+    (a.0, a.1, refused f line.New left (first_lines a.0) (λ y. y) (line_as (plan_of (codes "new ")) b.0) (told_again {X = PlanValue} f (λ y. (y, left)) _ b.2) (λ e. rw (a.2, e) refl))
+
+pub no_config : (f : InputFault) (old new : PlanValue) (v0 v1 v2 v3 : LinesValue) → Reads (plan_of (codes "old ")) old v0 v1 → Reads (plan_of (codes "new ")) new v1 v2 → Fails config_of f v2 v3 → FirstRead (Err (located f (Some line.Config))) v0 v3
+no_config f old new v0 v1 v2 v3 first second fails = λ left can.
+    let d = fails left can in
+    let b = second d.0 d.1 in
+    let a = first b.0 b.1 in
+    (a.0, a.1, refused f line.Config left (first_lines a.0) (λ y. y) (line_as config_of d.0) (told_again {X = Config} f (λ y. (y, left)) _ d.2) (λ e. rw (a.2, b.2, e) refl))
+
+pub all_three : (old new : PlanValue) (config : Config) (v0 v1 v2 v3 : LinesValue) → Reads (plan_of (codes "old ")) old v0 v1 → Reads (plan_of (codes "new ")) new v1 v2 → Reads config_of config v2 v3 → FirstRead (Ok (record { old = old; new = new; config = config })) v0 v3
+all_three old new config v0 v1 v2 v3 first second third = λ left can.
+    let d = third left can in
+    let b = second d.0 d.1 in
+    let a = first b.0 b.1 in
+    (a.0, a.1, rw (a.2, b.2, d.2) refl)
+
 -- the header, whose rows are these of what comes after the sizes, is read so
 abbrev pub HeaderRead : (List PieceValue → RowsValue) → ℕ → Result OpeningValue LocatedFault → LinesValue → LinesValue → Type 0
 HeaderRead rows_of tables r old new = Leaves old new (λ all left. Opens tables r left (header_with rows_of all))
@@ -180,32 +210,15 @@ HeaderRead rows_of tables r old new = Leaves old new (λ all left. Opens tables 
 pub no_memory : (rows_of : List PieceValue → RowsValue) (tables : ℕ) (old new : LinesValue) → HeaderRead rows_of tables (Err (located fault.Memory None)) old new
 no_memory rows_of tables old new = λ left can. let some = some_pieces old in (some.pieces, some.can_come, λ apart. absurd (apart refl))
 
-pub no_old : (rows_of : List PieceValue → RowsValue) (tables : ℕ) (f : InputFault) (v0 v1 : LinesValue) → Fails (plan_of (codes "old ")) f v0 v1 → HeaderRead rows_of tables (Err (located f (Some line.Old))) v0 v1
-no_old rows_of tables f v0 v1 fails = λ left can. let a = fails left can in
-    (a.0, a.1, refused tables f line.Old left (header_with rows_of a.0) (λ y. y) (line_as (plan_of (codes "old ")) a.0) (told_again {X = PlanValue} f (λ y. (y, left)) _ a.2) (λ e. rw e refl))
+pub no_first : (rows_of : List PieceValue → RowsValue) (tables : ℕ) (told : LocatedFault) (v0 v1 : LinesValue) → FirstRead (Err told) v0 v1 → HeaderRead rows_of tables (Err told) v0 v1
+no_first rows_of tables told v0 v1 first = λ left can. let a = first left can in (a.0, a.1, λ apart. rw (a.2 apart) refl)
 
-pub no_new : (rows_of : List PieceValue → RowsValue) (tables : ℕ) (f : InputFault) (old : PlanValue) (v0 v1 v2 : LinesValue) → Reads (plan_of (codes "old ")) old v0 v1 → Fails (plan_of (codes "new ")) f v1 v2 → HeaderRead rows_of tables (Err (located f (Some line.New))) v0 v2
-no_new rows_of tables f old v0 v1 v2 first fails = λ left can.
-    let b = fails left can in
-    let a = first b.0 b.1 in
-    (a.0, a.1, refused tables f line.New left (header_with rows_of a.0) (λ y. y) (line_as (plan_of (codes "new ")) b.0) (told_again {X = PlanValue} f (λ y. (y, left)) _ b.2) (λ e. rw (a.2, e) refl))
-
-pub no_config : (rows_of : List PieceValue → RowsValue) (tables : ℕ) (f : InputFault) (old new : PlanValue) (v0 v1 v2 v3 : LinesValue) → Reads (plan_of (codes "old ")) old v0 v1 → Reads (plan_of (codes "new ")) new v1 v2 → Fails config_of f v2 v3 → HeaderRead rows_of tables (Err (located f (Some line.Config))) v0 v3
-no_config rows_of tables f old new v0 v1 v2 v3 first second fails = λ left can.
-    let d = fails left can in
-    let b = second d.0 d.1 in
-    let a = first b.0 b.1 in
-    (a.0, a.1, refused tables f line.Config left (header_with rows_of a.0) (λ y. y) (line_as config_of d.0) (told_again {X = Config} f (λ y. (y, left)) _ d.2) (λ e. rw (a.2, b.2, e) refl))
-
-pub whole_header : (rows_of : List PieceValue → RowsValue) (tables : ℕ) (r : Result OpeningValue LocatedFault) (old new : PlanValue) (config : Config) (lines : RowLines) (v0 v1 v2 v3 v4 : LinesValue) → Reads (plan_of (codes "old ")) old v0 v1 → Reads (plan_of (codes "new ")) new v1 v2 → Reads config_of config v2 v3
-    → Leaves v3 v4 (λ all left. AreRows lines left (rows_of all))
-    → ((left : List PieceValue) (rows : RowsValue) → AreRows lines left rows → Opens tables r left (Ok (record { old = old; new = new; config = config; lines = rows }))) → HeaderRead rows_of tables r v0 v4
-whole_header rows_of tables r old new config lines v0 v1 v2 v3 v4 first second third rows opens = λ left can.
+pub whole_header : (rows_of : List PieceValue → RowsValue) (tables : ℕ) (r : Result OpeningValue LocatedFault) (first : FirstLines) (lines : RowLines) (v0 v1 v2 : LinesValue) → FirstRead (Ok first) v0 v1 → Leaves v1 v2 (λ all left. AreRows lines left (rows_of all))
+    → ((left : List PieceValue) (rows : RowsValue) → AreRows lines left rows → Opens tables r left (Ok (record { first = first; lines = rows }))) → HeaderRead rows_of tables r v0 v2
+whole_header rows_of tables r first lines v0 v1 v2 begins rows opens = λ left can.
     let e = rows left can in
-    let d = third e.0 e.1 in
-    let b = second d.0 d.1 in
-    let a = first b.0 b.1 in
-    let whole : header_with rows_of a.0 ≡ Ok (record { old = old; new = new; config = config; lines = rows_of e.0 }) = rw (a.2, b.2, d.2) refl in
+    let a = begins e.0 e.1 in
+    let whole : header_with rows_of a.0 ≡ Ok (record { first = first; lines = rows_of e.0 }) = rw a.2 refl in
     (a.0, a.1, subst (Opens tables r left) (sym whole) (opens left (rows_of e.0) e.2))
 
 -- no rows, of which nothing is read

@@ -11,6 +11,7 @@ use Rattle.sq_ranges.specs.OpeningValue.{OpeningValue}
 use Rattle.sq_ranges.specs.Given.{IsOpeningOf}
 use Rattle.sq_ranges.specs.Refused.{opening_fault}
 use Rattle.sq_text.specs.declared.header.RowLines.{RowLines}
+use Rattle.sq_text.specs.declared.header.FirstLines.{FirstLines}
 use Rattle.sq_text.specs.declared.step.TheConstants.{MAX_LINE}
 use Rattle.sq_text.specs.declared.input_fault.InputFault.{InputFault}
 use Rattle.sq_text.specs.declared.input_fault.InputFault.TheVariants.{Plan, BadHeader, TooLong, ReadFailed, LineTooLong, Memory}
@@ -94,11 +95,22 @@ pub record AreRows (lines : RowLines) (left : List PieceValue) (wanted : RowsVal
   pub rows_are : map value_of lines.rows.items ≡ wanted.rows
   pub ending_is : IsRead (λ x. left) lines.ending wanted.ending
 
+-- the plans and the sizes that pieces begin with, and what comes after these three lines
+abbrev pub first_lines : List PieceValue → Result (FirstLines × List PieceValue) LocatedFault
+first_lines pieces = do
+  old ← at_line line.Old (line_as (plan_of (codes "old ")) pieces)
+  new ← at_line line.New (line_as (plan_of (codes "new ")) old.1)
+  config ← at_line line.Config (line_as config_of new.1)
+  Ok (record { old = old.0; new = new.0; config = config.0 }, config.1)
+
+-- these are the plans and the sizes, with what comes after them, or this is the fault of their lines, unless memory ran out
+abbrev pub AreFirstLines : Result FirstLines LocatedFault → List PieceValue → Result (FirstLines × List PieceValue) LocatedFault → Type 0
+AreFirstLines (Ok first) left wanted = wanted ≡ Ok (first, left)
+AreFirstLines (Err refused) left wanted = refused.fault ≢ Memory → wanted ≡ Err refused
+
 -- a header, as far as it can be read
 pub record HeaderValue : Type 0 where
-  pub old : PlanValue
-  pub new : PlanValue
-  pub config : Config
+  pub first : FirstLines
   pub lines : RowsValue
 
 -- no rows, before whatever comes
@@ -108,10 +120,8 @@ no_rows pieces = record { rows = []; ending = Ok pieces }
 -- the lines of the plans and of the sizes that pieces begin with, and then the rows that are read so
 abbrev pub header_with : (List PieceValue → RowsValue) → List PieceValue → Result HeaderValue LocatedFault
 header_with rows pieces = do
-  old ← at_line line.Old (line_as (plan_of (codes "old ")) pieces)
-  new ← at_line line.New (line_as (plan_of (codes "new ")) old.1)
-  config ← at_line line.Config (line_as config_of new.1)
-  Ok (record { old = old.0; new = new.0; config = config.0; lines = rows config.1 })
+  first ← first_lines pieces
+  Ok (record { first = first.0; lines = rows first.1 })
 
 -- the header that pieces begin with: the lines of the plans and of the sizes, and the rows
 abbrev pub header_of : List PieceValue → Result HeaderValue LocatedFault
@@ -129,7 +139,7 @@ ending_unless (Some fault) ending = Err (of_opening fault)
 -- what comes after a header with these rows, or its first fault: that of the opening of these rows, and then that of the line which ends them
 abbrev pub header_ending : ℕ → HeaderValue → List GivenRow → Result (List PieceValue) LocatedFault
 header_ending tables header rows =
-    ending_unless (opening_fault tables header.old header.new header.config rows) (at_line (line.Row (length rows)) header.lines.ending)
+    ending_unless (opening_fault tables header.first.old header.first.new header.first.config rows) (at_line (line.Row (length rows)) header.lines.ending)
 
 -- these are the rows of the header, and it ends so
 pub record Ends (tables : ℕ) (header : HeaderValue) (rows : List GivenRow) (ending : Result (List PieceValue) LocatedFault) : Type 0 where
@@ -146,4 +156,4 @@ abbrev pub Opens : ℕ → Result OpeningValue LocatedFault → List PieceValue 
 Opens tables (Err refused) left header = refused.fault ≢ Memory → IsFirstFault tables refused header
 Opens tables (Ok opening) left (Err first) = ⊥
 Opens tables (Ok opening) left (Ok header) =
-    (rows : List GivenRow) × Ends tables header rows (Ok left) × IsOpeningOf tables header.old header.new header.config rows opening
+    (rows : List GivenRow) × Ends tables header rows (Ok left) × IsOpeningOf tables header.first.old header.first.new header.first.config rows opening

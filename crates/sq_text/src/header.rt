@@ -6,7 +6,7 @@ ghost use Rattle.sq_lines.specs.Coming.{Leaves};
 ghost use Rattle.sq_text.specs.Faults.{IsParsed, IsParsedGivenMemory};
 ghost use Rattle.sq_text.specs.InputFaults.{IsRead, IsReadGivenMemory};
 ghost use Rattle.sq_text.specs.HeaderFields.{value_of, config_in, given_in};
-ghost use Rattle.sq_text.specs.Header.{next_line, line_as, behind, plan_of, config_of, row_of, RowsValue, row_lines, AreRows, header_of, plans_of, Opens};
+ghost use Rattle.sq_text.specs.Header.{next_line, line_as, behind, plan_of, config_of, row_of, RowsValue, row_lines, AreRows, first_lines, AreFirstLines, header_of, plans_of, Opens};
 
 use crate::fault::{Malformed, ReadFault};
 use crate::input_fault::InputFault;
@@ -180,17 +180,45 @@ fn row_lines<R: Read>(alloc: Global, lines: &mut LineReader<R>) -> Result<RowLin
     })
 }
 
-// The opening of two plans, sizes and rows, whose lines end so.
-fn opening(
-    alloc: Global,
-    schema: Schema,
+/// What the first three lines of an input spell.
+#[derive(Drop)]
+struct FirstLines {
     old: Plan,
     new: Plan,
     config: Config,
+}
+
+// The plans and the sizes of the first three lines.
+fn first_lines<R: Read>(
+    alloc: Global,
+    lines: &mut LineReader<R>,
+) -> Result<FirstLines, LocatedFault>
+    ensures { Leaves lines.old lines.new (λ all left. AreFirstLines result left (first_lines all)) }
+{
+    let old = match plan_line(alloc, b"old ", lines) {
+        Ok(old) => old,
+        Err(fault) => return Err(fault.at(InputLine::Old)),
+    };
+    let new = match plan_line(alloc, b"new ", lines) {
+        Ok(new) => new,
+        Err(fault) => return Err(fault.at(InputLine::New)),
+    };
+    match config_line(lines) {
+        Ok(config) => Ok(FirstLines { old, new, config }),
+        Err(fault) => Err(fault.at(InputLine::Config)),
+    }
+}
+
+// The opening of plans, sizes and rows, whose lines end so.
+fn opening(
+    alloc: Global,
+    schema: Schema,
+    first: FirstLines,
     lines: RowLines,
 ) -> Result<Opening, LocatedFault>
-    ensures { (left : List PieceValue) (rows : RowsValue) → AreRows lines left rows → Opens schema result left (Ok (record { old = old; new = new; config = config; lines = rows })) }
+    ensures { (left : List PieceValue) (rows : RowsValue) → AreRows lines left rows → Opens schema result left (Ok (record { first = first; lines = rows })) }
 {
+    let FirstLines { old, new, config } = first;
     let RowLines { rows, ending } = lines;
     let count = rows.len();
     let opening = Opening::new(alloc, schema, old, new, config, rows)?;
@@ -215,20 +243,9 @@ pub fn read_header<R: Read>(
 ) -> Result<Opening, LocatedFault>
     ensures { Leaves lines.old lines.new (λ all left. Opens schema result left (header_of all)) }
 {
-    let old = match plan_line(alloc, b"old ", lines) {
-        Ok(old) => old,
-        Err(fault) => return Err(fault.at(InputLine::Old)),
-    };
-    let new = match plan_line(alloc, b"new ", lines) {
-        Ok(new) => new,
-        Err(fault) => return Err(fault.at(InputLine::New)),
-    };
-    let config = match config_line(lines) {
-        Ok(config) => config,
-        Err(fault) => return Err(fault.at(InputLine::Config)),
-    };
+    let first = first_lines(alloc, lines)?;
     let rows = row_lines(alloc, lines)?;
-    opening(alloc, schema, old, new, config, rows)
+    opening(alloc, schema, first, rows)
 }
 
 /// What the first three lines of an input spell, as an opening without rows: those of a header, with the plans and the
@@ -241,21 +258,10 @@ pub fn read_plans<R: Read>(
 ) -> Result<Opening, LocatedFault>
     ensures { Leaves lines.old lines.new (λ all left. Opens schema result left (plans_of all)) }
 {
-    let old = match plan_line(alloc, b"old ", lines) {
-        Ok(old) => old,
-        Err(fault) => return Err(fault.at(InputLine::Old)),
-    };
-    let new = match plan_line(alloc, b"new ", lines) {
-        Ok(new) => new,
-        Err(fault) => return Err(fault.at(InputLine::New)),
-    };
-    let config = match config_line(lines) {
-        Ok(config) => config,
-        Err(fault) => return Err(fault.at(InputLine::Config)),
-    };
+    let first = first_lines(alloc, lines)?;
     let rows = RowLines {
         rows: Vec::new(alloc),
         ending: Ok(()),
     };
-    opening(alloc, schema, old, new, config, rows)
+    opening(alloc, schema, first, rows)
 }
