@@ -1,0 +1,103 @@
+-- The jobs of lines, read one after another.
+use Rattle.std.proofs.Common.{◌≡◌, ◌≢◌, ℕ, ◌<◌, ◌==◌, Bool, true, false, List, [], ◌∷◌, ◌++◌, length, refl, sym, ap, ◌∙◌, subst, ltb-true}
+use Rattle.std.specs.Prelude.{Result, Ok, Err, All, None, nat_lt, if◌then◌else◌}
+use Rattle.std.proofs.lemmas.List.Elements.{All-append, All-nil, All-cons}
+use Rattle.sq_audit.specs.declared.job.Job.{Job}
+use Rattle.sq_lines.specs.declared.buffer.TheConstants.{MAX_UNENDED}
+use Rattle.sq_lines.specs.Pieces.{PieceValue, Line, Rest, Failed, Endless, TooMany as TooManyLines}
+use Rattle.sq_lines.specs.Coming.{LinesValue, CanCome, CameBefore, IsLong, Leaves}
+use Rattle.sq_lines.proofs.Lengths.{is_endless}
+use Rattle.sq_text.specs.declared.input_fault.InputFault.TheVariants as input
+use Rattle.sq_text.specs.Located.{located}
+use Rattle.sq_live.specs.declared.fault.JobFault.{JobFault}
+use Rattle.sq_live.specs.declared.fault.JobFault.TheVariants as faults
+use Rattle.sq_live.specs.declared.fault.LiveFault.{LiveFault}
+use Rattle.sq_live.specs.declared.fault.LiveFault.TheVariants.{Input}
+use Rattle.sq_live.specs.declared.job_list.TheConstants.{MAX_JOBS}
+use Rattle.sq_live.specs.Faults.{fault_at, out_of_memory}
+use Rattle.sq_live.specs.Jobs.{has_id, HavePartitions}
+use Rattle.sq_live.specs.JobLines.{job_by, job_of, jobs_then, jobs_in, line_behind, AddsJob, IsFirstFault}
+use Rattle.sq_model.specs.declared.step.Step.{Step}
+use Rattle.sq_model.specs.declared.step.Step.TheVariants.{Submit}
+use Rattle.sq_text.specs.declared.fault.LineFault.{LineFault}
+use Rattle.sq_text.specs.declared.fault.LineFault.TheVariants as line
+use Rattle.sq_text.specs.Steps.{step_of}
+
+-- ---- one line
+
+-- what comes of a job for which there is room, and which is of a partition and new
+taken : (full within known : Bool) (made job : Job) → (if full then Err faults.TooMany else (if within then (if known then Err faults.RepeatedId else Ok made) else Err faults.NoSuchPartition)) ≡ Ok job → (within ≡ true) × (made ≡ job)
+taken true within known made job e = absurd cc
+taken false false known made job e = absurd cc
+taken false true true made job e = absurd cc
+taken false true false made job e = (refl, cc)
+
+refused : (full : Bool) (fault : JobFault) (job : Job) → (if full then Err faults.TooMany else Err fault) ≡ Ok job → ⊥
+refused true fault job e = cc
+refused false fault job e = cc
+
+within_by : (parts : ℕ) (jobs : List Job) (spelled : Result Step LineFault) (job : Job) → job_by parts jobs spelled ≡ Ok job → job.part < parts
+within_by parts jobs (Ok (Submit part txn)) job e =
+    let t = taken (length jobs == MAX_JOBS) (nat_lt part parts) (has_id txn.id jobs) (record { part = part; txn = txn }) job e in
+    subst (λ (j : Job). j.part < parts) t.1 (ltb-true part parts t.0)
+within_by parts jobs (Err (line.Txn fault)) job e = absurd (refused (length jobs == MAX_JOBS) (faults.Txn fault) job e)
+within_by parts jobs (Err line.NotAStep) job e = absurd cc
+within_by parts jobs (Err line.TooLong) job e = absurd cc
+within_by parts jobs (Err line.Memory) job e = absurd cc
+within_by parts jobs (Ok _) job e = absurd cc
+
+-- ---- line by line
+
+module _ (tables parts header : ℕ) where
+  -- whatever comes now, the jobs of all of it are those so far and then its own
+  abbrev pub JobsSoFar : LinesValue → LinesValue → List Job → Type 0
+  JobsSoFar first now jobs = Leaves first now (λ all left. jobs_in tables parts header [] all ≡ jobs_in tables parts header jobs left)
+
+  pub none_yet : (lines : LinesValue) → JobsSoFar lines lines []
+  none_yet lines = λ left can. (left, can, refl)
+
+  module _ (first now : LinesValue) (jobs : List Job) (so_far : JobsSoFar first now jobs) where
+    -- a line with a job
+    pub job_more : (new : LinesValue) (bytes : List ℕ) (more : List Job) → CameBefore now (Line bytes) new → (job : Job) × (job_of tables parts jobs bytes ≡ Ok job) × (more ≡ jobs ++ job ∷ []) → JobsSoFar first new more
+    job_more new bytes more came adds = λ left can.
+        let all = so_far (Line bytes ∷ left) (came left can) in
+        (all.0, all.1, all.2 ∙ ap (λ told. jobs_then header jobs told (λ others. jobs_in tables parts header others left)) adds.1 ∙ ap (λ (others : List Job). jobs_in tables parts header others left) (sym adds.2))
+
+    -- the job is of a partition, as those before it
+    pub parts_more : (bytes : List ℕ) (more : List Job) → HavePartitions parts jobs → (job : Job) × (job_of tables parts jobs bytes ≡ Ok job) × (more ≡ jobs ++ job ∷ []) → HavePartitions parts more
+    parts_more bytes more all adds =
+        let within : adds.0.part < parts = within_by parts jobs (step_of tables bytes) adds.0 adds.1 in
+        let P : Job → Type 0 = λ j. j.part < parts in
+        subst (All P) (sym adds.2) (All-append P jobs (adds.0 ∷ []) all (All-cons P adds.0 [] within (All-nil P)))
+
+    -- what can come has this fault
+    ends_by : (fault : LiveFault) (left : List PieceValue) → CanCome now left → (fault ≢ out_of_memory → jobs_in tables parts header jobs left ≡ Err fault) → IsFirstFault tables parts header first fault
+    ends_by fault left can is = let all = so_far left can in (all.0, all.1, λ told. all.2 ∙ is told)
+
+    bad_line : (fault : JobFault) (bytes : List ℕ) (left : List PieceValue) → job_of tables parts jobs bytes ≡ Err fault → jobs_in tables parts header jobs (Line bytes ∷ left) ≡ Err (fault_at (line_behind header jobs) fault)
+    bad_line fault bytes left is = ap (λ told. jobs_then header jobs told (λ others. jobs_in tables parts header others left)) is
+
+    -- the fault of a line
+    pub at_line : (result_fault : JobFault) (line : ℕ) (told : LiveFault) (new : LinesValue) (bytes : List ℕ) (more : List Job) (left : List PieceValue) → CanCome new left → CameBefore now (Line bytes) new
+        → AddsJob tables parts jobs bytes (Err result_fault) more → line ≡ line_behind header jobs → told ≡ fault_at line result_fault → IsFirstFault tables parts header first told
+    at_line faults.Memory line told new bytes more left can came adds is says = ends_by told (Line bytes ∷ left) (came left can) (λ apart. absurd (apart says))
+    at_line faults.TooMany line told new bytes more left can came adds is says = ends_by told (Line bytes ∷ left) (came left can) (λ apart. bad_line faults.TooMany bytes left adds.0 ∙ ap Err (ap (λ n. fault_at n faults.TooMany) (sym is) ∙ sym says))
+    at_line faults.NotAJob line told new bytes more left can came adds is says = ends_by told (Line bytes ∷ left) (came left can) (λ apart. bad_line faults.NotAJob bytes left adds.0 ∙ ap Err (ap (λ n. fault_at n faults.NotAJob) (sym is) ∙ sym says))
+    at_line faults.RepeatedId line told new bytes more left can came adds is says = ends_by told (Line bytes ∷ left) (came left can) (λ apart. bad_line faults.RepeatedId bytes left adds.0 ∙ ap Err (ap (λ n. fault_at n faults.RepeatedId) (sym is) ∙ sym says))
+    at_line (faults.Txn fault) line told new bytes more left can came adds is says = ends_by told (Line bytes ∷ left) (came left can) (λ apart. bad_line (faults.Txn fault) bytes left adds.0 ∙ ap Err (ap (λ n. fault_at n (faults.Txn fault)) (sym is) ∙ sym says))
+    at_line faults.NoSuchPartition line told new bytes more left can came adds is says = ends_by told (Line bytes ∷ left) (came left can) (λ apart. bad_line faults.NoSuchPartition bytes left adds.0 ∙ ap Err (ap (λ n. fault_at n faults.NoSuchPartition) (sym is) ∙ sym says))
+    at_line faults.LineTooLong line told new bytes more left can came adds is says = ends_by told (Line bytes ∷ left) (came left can) (λ apart. bad_line faults.LineTooLong bytes left adds.0 ∙ ap Err (ap (λ n. fault_at n faults.LineTooLong) (sym is) ∙ sym says))
+
+    pub at_rest : (line : ℕ) (told : LiveFault) (bytes : List ℕ) → CanCome now (Rest bytes ∷ []) → line ≡ line_behind header jobs → told ≡ fault_at line faults.NotAJob → IsFirstFault tables parts header first told
+    at_rest line told bytes can is says = ends_by told (Rest bytes ∷ []) can (λ apart. ap Err (ap (λ n. fault_at n faults.NotAJob) (sym is) ∙ sym says))
+
+    pub at_failed : (told : LiveFault) (bytes : List ℕ) → CanCome now (Failed bytes ∷ []) → told ≡ Input (located input.ReadFailed None) → IsFirstFault tables parts header first told
+    at_failed told bytes can says = ends_by told (Failed bytes ∷ []) can (λ apart. ap Err (sym says))
+
+    pub at_long : (told : LiveFault) → IsLong MAX_UNENDED now → told ≡ Input (located input.TooLong None) → IsFirstFault tables parts header first told
+    at_long told long says =
+        let endless = is_endless now long in
+        ends_by told (Endless endless.bytes ∷ endless.others) endless.can_come (λ apart. ap Err (sym says))
+
+    pub at_too_many : (told : LiveFault) → CanCome now (TooManyLines ∷ []) → told ≡ Input (located input.TooLong None) → IsFirstFault tables parts header first told
+    at_too_many told can says = ends_by told (TooManyLines ∷ []) can (λ apart. ap Err (sym says))

@@ -1,0 +1,2 @@
+mod JobIds
+mod JobRuns

@@ -1,0 +1,32 @@
+-- The numbers of the faults of a live run, as a user sees them, and the lines that they belong to.
+use Rattle.std.specs.Prelude.{ℕ, None}
+use Rattle.sq_schema.specs.Fault.{memory_number, txn_fault_number}
+use Rattle.sq_text.specs.declared.input_fault.InputFault.TheVariants as input
+use Rattle.sq_text.specs.InputFaults.{input_fault_number}
+use Rattle.sq_text.specs.Located.{located}
+use Rattle.sq_live.specs.declared.fault.JobFault.{JobFault}
+use Rattle.sq_live.specs.declared.fault.JobFault.TheVariants.{TooMany, NotAJob, RepeatedId, Txn, NoSuchPartition, LineTooLong, Memory}
+use Rattle.sq_live.specs.declared.fault.LiveFault.{LiveFault}
+use Rattle.sq_live.specs.declared.fault.LiveFault.TheVariants.{Input, Job}
+
+abbrev pub job_fault_number : JobFault → ℕ
+job_fault_number TooMany = 125
+job_fault_number NotAJob = 126
+job_fault_number RepeatedId = 127
+job_fault_number (Txn fault) = txn_fault_number fault
+job_fault_number NoSuchPartition = 219
+job_fault_number LineTooLong = 231
+job_fault_number Memory = memory_number
+
+abbrev pub live_fault_number : LiveFault → ℕ
+live_fault_number (Input located) = input_fault_number located.fault
+live_fault_number (Job told) = job_fault_number told.fault
+
+-- memory ran out, at no line
+abbrev pub out_of_memory : LiveFault
+out_of_memory = Input (located input.Memory None)
+
+-- the fault of the line with this number. That memory ran out belongs to no line
+abbrev pub fault_at : ℕ → JobFault → LiveFault
+fault_at line Memory = out_of_memory
+fault_at line fault = Job (record { fault = fault; line = line })

@@ -1,0 +1,82 @@
+-- The jobs that lines spell.
+use Rattle.std.specs.Prelude.{◌≡◌, ◌≢◌, ℕ, ◌+◌, ◌==◌, nat_lt, if◌then◌else◌, List, [], ◌∷◌, ◌++◌, length, None, Result, Ok, Err}
+use Rattle.sq_schema.specs.TxnValue.{TxnValue}
+use Rattle.sq_audit.specs.declared.job.Job.{Job}
+use Rattle.sq_lines.specs.Pieces.{PieceValue, Line, Rest, Failed, Endless, TooMany as TooManyLines}
+use Rattle.sq_lines.specs.Coming.{LinesValue, CanCome}
+use Rattle.sq_model.specs.declared.step.Step.{Step}
+use Rattle.sq_model.specs.declared.step.Step.TheVariants.{Submit}
+use Rattle.sq_text.specs.declared.fault.LineFault.{LineFault}
+use Rattle.sq_text.specs.declared.fault.LineFault.TheVariants as line
+use Rattle.sq_text.specs.declared.input_fault.InputFault.TheVariants as input
+use Rattle.sq_text.specs.Located.{located}
+use Rattle.sq_text.specs.Steps.{step_of}
+use Rattle.sq_live.specs.declared.job_list.TheConstants.{MAX_JOBS}
+use Rattle.sq_live.specs.declared.fault.JobFault.{JobFault}
+use Rattle.sq_live.specs.declared.fault.JobFault.TheVariants.{TooMany, NotAJob, RepeatedId, Txn, NoSuchPartition, LineTooLong, Memory}
+use Rattle.sq_live.specs.declared.fault.LiveFault.{LiveFault}
+use Rattle.sq_live.specs.declared.fault.LiveFault.TheVariants.{Input}
+use Rattle.sq_live.specs.Faults.{fault_at, out_of_memory}
+use Rattle.sq_live.specs.Jobs.{has_id}
+
+-- the transaction is a job behind these of as many partitions, unless it has the id of one of them, or goes to no partition
+abbrev pub fresh_job : ℕ → List Job → ℕ → TxnValue → Result Job JobFault
+fresh_job parts jobs part txn =
+    if nat_lt part parts then (if has_id txn.id jobs then Err RepeatedId else Ok (record { part = part; txn = txn })) else Err NoSuchPartition
+
+-- what is told of a transaction, unless there are as many jobs as there may be
+abbrev pub if_room : List Job → Result Job JobFault → Result Job JobFault
+if_room jobs told = if length jobs == MAX_JOBS then Err TooMany else told
+
+-- the job behind these that a line spells, by the step that it spells
+abbrev pub job_by : ℕ → List Job → Result Step LineFault → Result Job JobFault
+job_by parts jobs (Ok (Submit part txn)) = if_room jobs (fresh_job parts jobs part txn)
+job_by parts jobs (Ok step) = Err NotAJob
+job_by parts jobs (Err line.NotAStep) = Err NotAJob
+job_by parts jobs (Err line.TooLong) = Err LineTooLong
+job_by parts jobs (Err (line.Txn fault)) = if_room jobs (Err (Txn fault))
+job_by parts jobs (Err line.Memory) = Err Memory
+
+-- the job behind these that a line spells, for a schema with this many tables and for this many partitions
+abbrev pub job_of : ℕ → ℕ → List Job → List ℕ → Result Job JobFault
+job_of tables parts jobs line = job_by parts jobs (step_of tables line)
+
+-- the number of the line behind those of the header and of these jobs
+abbrev pub line_behind : ℕ → List Job → ℕ
+line_behind header jobs = header + length jobs + 1
+
+-- the jobs of lines, behind these and the one that the first line spells, or the fault of that line
+abbrev pub jobs_then : ℕ → List Job → Result Job JobFault → (List Job → Result (List Job) LiveFault) → Result (List Job) LiveFault
+jobs_then header jobs (Ok job) others = others (jobs ++ job ∷ [])
+jobs_then header jobs (Err fault) others = Err (fault_at (line_behind header jobs) fault)
+
+-- the jobs that pieces spell, behind these and a header of this many lines, or the first fault
+abbrev pub jobs_in : ℕ → ℕ → ℕ → List Job → List PieceValue → Result (List Job) LiveFault
+jobs_in tables parts header jobs [] = Ok jobs
+jobs_in tables parts header jobs (Line bytes ∷ pieces) =
+    jobs_then header jobs (job_of tables parts jobs bytes) (λ more. jobs_in tables parts header more pieces)
+jobs_in tables parts header jobs (Rest bytes ∷ pieces) = Err (fault_at (line_behind header jobs) NotAJob)
+jobs_in tables parts header jobs (Failed bytes ∷ pieces) = Err (Input (located input.ReadFailed None))
+jobs_in tables parts header jobs (Endless bytes ∷ pieces) = Err (Input (located input.TooLong None))
+jobs_in tables parts header jobs (TooManyLines ∷ pieces) = Err (Input (located input.TooLong None))
+
+-- the transaction gave one job more, or the fault that it has, unless memory ran out, and then the jobs stay as they were
+abbrev pub AddsFresh : ℕ → List Job → ℕ → TxnValue → Result Unit JobFault → List Job → Type 0
+AddsFresh parts old part txn (Ok done) new = (if_room old (fresh_job parts old part txn) ≡ Ok (record { part = part; txn = txn })) × (new ≡ old ++ record { part = part; txn = txn } ∷ [])
+AddsFresh parts old part txn (Err Memory) new = new ≡ old
+AddsFresh parts old part txn (Err fault) new = (if_room old (fresh_job parts old part txn) ≡ Err fault) × (new ≡ old)
+
+-- the line gave one job more, or the fault that it has, unless memory ran out, and then the jobs stay as they were
+abbrev pub AddsJob : ℕ → ℕ → List Job → List ℕ → Result Unit JobFault → List Job → Type 0
+AddsJob tables parts old line (Ok done) new = (job : Job) × (job_of tables parts old line ≡ Ok job) × (new ≡ old ++ job ∷ [])
+AddsJob tables parts old line (Err Memory) new = new ≡ old
+AddsJob tables parts old line (Err fault) new = (job_of tables parts old line ≡ Err fault) × (new ≡ old)
+
+-- these are the jobs that what comes of a reader of lines spells
+abbrev pub AreJobs : ℕ → ℕ → ℕ → LinesValue → List Job → Type 0
+AreJobs tables parts header lines jobs = (pieces : List PieceValue) × CanCome lines pieces × (jobs_in tables parts header [] pieces ≡ Ok jobs)
+
+-- this is the first fault of what comes of a reader of lines, unless memory ran out
+abbrev pub IsFirstFault : ℕ → ℕ → ℕ → LinesValue → LiveFault → Type 0
+IsFirstFault tables parts header lines fault =
+    (pieces : List PieceValue) × CanCome lines pieces × (fault ≢ out_of_memory → jobs_in tables parts header [] pieces ≡ Err fault)

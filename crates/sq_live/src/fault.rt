@@ -1,0 +1,126 @@
+// Why an input gives no live run.
+ghost use Rattle.std.specs.Prelude.{◌≡◌};
+ghost use Rattle.sq_live.specs.Faults.{job_fault_number, live_fault_number, fault_at};
+
+use crate::job_list::MAX_JOBS;
+use sq_schema::{OUT_OF_MEMORY, TxnFault};
+use sq_text::{InputFault, LocatedFault, MAX_LINE};
+use std::alloc::AllocError;
+use std::fmt;
+use std::fmt::{Display, Formatter, Write};
+use thiserror::Error;
+
+/// Why a line behind the header gives no job.
+#[derive(Clone, Copy, Debug, PartialEq, Eq, Error)]
+pub enum JobFault {
+    /// 125.
+    #[error("there are more than {MAX_JOBS} jobs")]
+    TooMany,
+    /// 126.
+    #[error("a line behind the header is no transaction")]
+    NotAJob,
+    /// 127.
+    #[error("a job has the id of one before it")]
+    RepeatedId,
+    /// The schema doesn't have the transaction.
+    #[error(transparent)]
+    Txn(TxnFault),
+    /// 219.
+    #[error("there is no such partition")]
+    NoSuchPartition,
+    /// 231.
+    #[error("a line has more than {MAX_LINE} bytes")]
+    LineTooLong,
+    /// Memory ran out.
+    #[error("{}", AllocError)]
+    Memory,
+}
+
+/// Why a line behind the header gives no job, and its number in the input, whose first line has the number 1.
+#[derive(Clone, Copy, Debug, PartialEq, Eq)]
+pub struct JobLineFault {
+    /// What is wrong.
+    pub fault: JobFault,
+    /// The number of the line.
+    pub line: u64,
+}
+
+/// Why an input gives no live run.
+#[derive(Clone, Copy, Debug, PartialEq, Eq)]
+pub enum LiveFault {
+    /// The header has a fault, or the input can't be read to its end, or memory ran out.
+    Input(LocatedFault),
+    /// A line behind the header gives no job.
+    Job(JobLineFault),
+}
+
+impl JobFault {
+    /// The number that a user sees.
+    pub fn number(self) -> u16
+        ensures { result ≡ job_fault_number self }
+    {
+        match self {
+            JobFault::TooMany => 125,
+            JobFault::NotAJob => 126,
+            JobFault::RepeatedId => 127,
+            JobFault::Txn(fault) => fault.number(),
+            JobFault::NoSuchPartition => 219,
+            JobFault::LineTooLong => 231,
+            JobFault::Memory => OUT_OF_MEMORY,
+        }
+    }
+
+    // The fault of the line with this number. That memory ran out belongs to no line.
+    pub(crate) fn at(self, line: u64) -> LiveFault
+        ensures { result ≡ fault_at line self }
+    {
+        match self {
+            JobFault::Memory => LiveFault::Input(InputFault::Memory.at_no_line()),
+            fault => LiveFault::Job(JobLineFault { fault, line }),
+        }
+    }
+}
+
+impl LiveFault {
+    /// The number that a user sees.
+    pub fn number(self) -> u16
+        ensures { result ≡ live_fault_number self }
+    {
+        match self {
+            LiveFault::Input(located) => located.fault.number(),
+            LiveFault::Job(told) => told.fault.number(),
+        }
+    }
+}
+
+/// Says the line by its number, where the fault belongs to one, the number of the fault, and what it means.
+impl Display for LiveFault {
+    fn fmt<W: Write>(&self, f: &mut Formatter<W>) -> fmt::Result {
+        match self {
+            LiveFault::Input(located) => write!(f, "{located}"),
+            LiveFault::Job(JobLineFault { fault, line }) => {
+                write!(f, "line {line}: fault {}: {fault}", fault.number())
+            }
+        }
+    }
+}
+
+impl From<LocatedFault> for LiveFault {
+    ghost use Rattle.sq_live.specs.declared.fault.LiveFault.TheVariants as faults;
+
+    ghost from_gives = { λ located fault. fault ≡ faults.Input located };
+
+    fn from(located: LocatedFault) -> LiveFault {
+        LiveFault::Input(located)
+    }
+}
+
+impl From<AllocError> for LiveFault {
+    ghost use Rattle.sq_live.specs.Faults.{out_of_memory};
+
+    ghost from_gives = { λ _ fault. fault ≡ out_of_memory };
+
+    fn from(_error: AllocError) -> LiveFault {
+        LiveFault::Input(InputFault::Memory.at_no_line())
+    }
+}
