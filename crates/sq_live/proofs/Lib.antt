@@ -1,2 +1,7 @@
 mod JobIds
 mod JobRuns
+mod Driven
+mod ReceiptIds
+mod NodeReads
+mod Counts
+mod LiveRuns

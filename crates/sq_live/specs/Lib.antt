@@ -1,3 +1,6 @@
 pub mod Faults
 pub mod Jobs
 pub mod JobLines
+pub mod Outcome
+pub mod Judged
+pub mod Live

@@ -2,9 +2,18 @@
 //! is gathered and audited.
 #![tactic(auto)]
 
+mod ending;
 mod fault;
+mod input;
 mod job_list;
+mod judging;
+mod outcome;
+mod run;
 
+pub use ending::LiveEnding;
 pub use fault::{JobFault, JobLineFault, LiveFault};
+pub use input::live;
 pub use job_list::{JobList, MAX_JOBS, read_jobs};
+pub use judging::judge;
+pub use outcome::{Outcome, write_outcome};
 pub use sq_audit::Job;

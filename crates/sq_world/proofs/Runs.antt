@@ -62,7 +62,7 @@ abbrev pub OfReader : (List PieceValue → List ℕ → Ending → Type 0) → O
 OfReader says known before now ending = (given : List PieceValue) × IsGiven known given × (out : List ℕ) × Appends before now out × says given out ending
 
 -- what can come of a reader of lines at its start is given by its reader
-given_first : (v : LinesValue) (known : Option (List ℕ)) (given : List PieceValue) → v.held ≡ [] → v.reading ≡ Open → v.lines ≡ MAX_LINES → v.known ≡ known → CanCome v given → IsGiven known given
+pub given_first : (v : LinesValue) (known : Option (List ℕ)) (given : List PieceValue) → v.held ≡ [] → v.reading ≡ Open → v.lines ≡ MAX_LINES → v.known ≡ known → CanCome v given → IsGiven known given
 given_first v known given none still most same can = record {
   input = can.more;
   end = can.end;

@@ -1,0 +1,79 @@
+-- Live runs: what is written for an input.
+use Rattle.std.specs.Prelude.{◌≡◌, ◌≢◌, ◌⊎◌, ℕ, List, [], Option, Ok, Err}
+use Rattle.std.specs.Io.KnownBytes.{Appends}
+use Rattle.sq_ranges.specs.OpeningValue.{OpeningValue}
+use Rattle.sq_lines.specs.Pieces.{PieceValue}
+use Rattle.sq_lines.specs.Coming.{LinesValue, CanCome}
+use Rattle.sq_text.specs.declared.located.LocatedFault.{LocatedFault}
+use Rattle.sq_text.specs.Header.{header_of, Opens}
+use Rattle.sq_text.specs.Texts.{fault_line}
+use Rattle.sq_world.specs.Input.{IsGiven}
+use Rattle.sq_node_model.specs.Gathered.{GatheredValue}
+use Rattle.sq_node_model.specs.Placed.{IsPlaced}
+use Rattle.sq_audit.specs.declared.job.Job.{Job}
+use Rattle.sq_live.specs.declared.fault.LiveFault.{LiveFault}
+use Rattle.sq_live.specs.declared.fault.LiveFault.TheVariants.{Input}
+use Rattle.sq_live.specs.declared.outcome.Outcome.{Outcome}
+use Rattle.sq_live.specs.declared.ending.LiveEnding.{LiveEnding}
+use Rattle.sq_live.specs.declared.ending.LiveEnding.TheVariants.{Done, Fault}
+use Rattle.sq_live.specs.Faults.{live_fault_number, out_of_memory}
+use Rattle.sq_live.specs.JobLines.{jobs_in}
+use Rattle.sq_live.specs.Outcome.{outcome_line, outcome_status, CameTo}
+
+-- the pieces spell a header with this opening, and then these jobs of its partitions
+pub record SpellJobs (tables : ℕ) (given : List PieceValue) (o : OpeningValue) (jobs : List Job) : Type 0 where
+  pub left : List PieceValue
+  pub opens : Opens tables (Ok o) left (header_of given)
+  pub header : ℕ
+  pub spelled : jobs_in tables o.old.parts header [] left ≡ Ok jobs
+
+-- the header has this fault
+pub record HasHeaderFault (tables : ℕ) (given : List PieceValue) (fault : LiveFault) : Type 0 where
+  pub located : LocatedFault
+  pub is : fault ≡ Input located
+  pub left : List PieceValue
+  pub opens : Opens tables (Err located) left (header_of given)
+
+-- the jobs behind the header have this fault, unless memory ran out
+pub record HasJobFault (tables : ℕ) (given : List PieceValue) (fault : LiveFault) : Type 0 where
+  pub opening : OpeningValue
+  pub left : List PieceValue
+  pub opens : Opens tables (Ok opening) left (header_of given)
+  pub header : ℕ
+  pub first : fault ≢ out_of_memory → jobs_in tables opening.old.parts header [] left ≡ Err fault
+
+-- the pieces spell no jobs, for this fault, which is their first, or memory ran out
+abbrev pub HaveFault : ℕ → List PieceValue → LiveFault → Type 0
+HaveFault tables given fault = HasHeaderFault tables given fault ⊎ HasJobFault tables given fault
+
+-- jobs were run from an opening. Whatever the threads did, what was gathered of them is placed, and this is what it came to
+pub record WereRun (o : OpeningValue) (jobs : List Job) (outcome : Outcome) : Type 0 where
+  pub gathered : GatheredValue
+  pub placed : IsPlaced o gathered
+  pub came : CameTo o gathered jobs outcome
+
+-- the jobs that the pieces spell were run and came to this, or the pieces have this fault
+abbrev pub EndsLive : ℕ → List PieceValue → LiveEnding → Type 0
+EndsLive tables given (Done outcome) = (o : OpeningValue) × (jobs : List Job) × SpellJobs tables given o jobs × WereRun o jobs outcome
+EndsLive tables given (Fault fault) = HaveFault tables given fault
+
+-- the line that is written
+abbrev pub ending_line : LiveEnding → List ℕ
+ending_line (Done outcome) = outcome_line outcome
+ending_line (Fault fault) = fault_line (live_fault_number fault)
+
+-- what a reader gives ends so, and the line of that goes to the end of what a writer holds
+abbrev pub RunsLive : ℕ → Option (List ℕ) → Option (List ℕ) → Option (List ℕ) → LiveEnding → Type 0
+RunsLive tables known before now ending = (given : List PieceValue) × IsGiven known given × EndsLive tables given ending × Appends before now (ending_line ending)
+
+-- what can come of a reader of lines spells these jobs
+abbrev pub ComesToSpell : ℕ → LinesValue → OpeningValue → List Job → Type 0
+ComesToSpell tables lines o jobs = (given : List PieceValue) × CanCome lines given × SpellJobs tables given o jobs
+
+-- what can come of a reader of lines has this fault
+abbrev pub ComesToFail : ℕ → LinesValue → LiveFault → Type 0
+ComesToFail tables lines fault = (given : List PieceValue) × CanCome lines given × HaveFault tables given fault
+
+abbrev pub ending_status : LiveEnding → ℕ
+ending_status (Done outcome) = outcome_status outcome
+ending_status (Fault fault) = 2

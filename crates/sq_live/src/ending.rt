@@ -1,0 +1,27 @@
+// How live runs end.
+ghost use Rattle.std.specs.Prelude.{◌≡◌};
+ghost use Rattle.sq_live.specs.Live.{ending_status};
+
+use crate::fault::LiveFault;
+use crate::outcome::Outcome;
+
+/// How a live run ends.
+#[derive(Clone, Copy, Debug, PartialEq, Eq)]
+pub enum LiveEnding {
+    /// It came to this, and the line of it was written.
+    Done(Outcome),
+    /// It has this fault, whose number was written.
+    Fault(LiveFault),
+}
+
+impl LiveEnding {
+    /// The exit status: that of the outcome, and 2 after a fault.
+    pub fn status(self) -> u8
+        ensures { result ≡ ending_status self }
+    {
+        match self {
+            LiveEnding::Done(outcome) => outcome.status(),
+            LiveEnding::Fault(_) => 2,
+        }
+    }
+}

@@ -1,0 +1,137 @@
+// Live runs, from bytes to bytes.
+ghost use Rattle.std.specs.Prelude.{◌≡◌, ◌≤◌, List, IfOk, IfErr, OnOk};
+ghost use Rattle.std.specs.Io.KnownBytes.{Appends};
+ghost use Rattle.sq_pull.specs.declared.numbers.TheConstants.{MAX_OWNERS};
+ghost use Rattle.sq_lines.specs.Pieces.{PieceValue};
+ghost use Rattle.sq_lines.specs.Coming.{CanCome};
+ghost use Rattle.sq_world.specs.Input.{IsGiven};
+ghost use Rattle.sq_live.specs.Jobs.{HavePartitions};
+ghost use Rattle.sq_live.specs.Live.{EndsLive, WereRun, ending_line, RunsLive, ComesToSpell, ComesToFail};
+
+use crate::ending::LiveEnding;
+use crate::fault::LiveFault;
+use crate::job_list::{JobList, read_jobs};
+use crate::judging::judge;
+use crate::outcome::{Outcome, write_outcome};
+use crate::run::run_jobs;
+use sq_driver::Gate;
+use sq_lines::LineReader;
+use sq_ranges::Opening;
+use sq_schema::{MAX_TABLES, Schema};
+use sq_text::{read_header, write_fault};
+use sq_world::WriteFault;
+use std::alloc::{AllocError, Global};
+use std::io;
+use std::io::{Read, Write};
+use std::sync::Wait;
+use std::thread::Threads;
+
+/// Reads an input, runs its jobs in threads while rows move, audits what is left, and writes one line of what that comes to.
+///
+/// The input is a header, as [`read_header`] has it for a schema of [`MAX_TABLES`] tables, and jobs, as [`read_jobs`] has
+/// them. Where it has a fault, no thread is started, and the line tells the fault. Else each partition and each pump runs in
+/// a thread of its own, each of them up to so many turns, past the gate. Where memory runs out, the line is that of its fault.
+/// An error is a write or a flush that failed.
+///
+/// Whatever the threads do, what they leave is placed, and the line says `sound` only where the audit found it so.
+pub fn live<T: Threads + Wait + Sync, R: Read, W: Write, G: Gate>(
+    rt: &T,
+    alloc: Global,
+    reader: &mut R,
+    writer: &mut W,
+    turns: u64,
+    pumps: u32,
+    gate: &G,
+) -> Result<LiveEnding, WriteFault>
+    requires { pumps ≤ MAX_OWNERS }
+    ensures { IfOk result (RunsLive MAX_TABLES (R.remaining reader.old) (W.contents writer.old) (W.contents writer.new)) }
+{
+    let ending = end_input(rt, alloc, reader, turns, pumps, gate);
+    write_ending(writer, ending)?;
+    writer.flush()?;
+    Ok(ending)
+}
+
+// Writes the line of an ending.
+fn write_ending<W: Write>(writer: &mut W, ending: LiveEnding) -> io::Result<()>
+    ensures { OnOk result (Appends (W.contents writer.old) (W.contents writer.new) (ending_line ending)) }
+{
+    match ending {
+        LiveEnding::Done(outcome) => write_outcome(writer, outcome),
+        LiveEnding::Fault(fault) => write_fault(writer, fault.number()),
+    }
+}
+
+// How an input ends.
+fn end_input<T: Threads + Wait + Sync, R: Read, G: Gate>(
+    rt: &T,
+    alloc: Global,
+    reader: &mut R,
+    turns: u64,
+    pumps: u32,
+    gate: &G,
+) -> LiveEnding
+    requires { pumps ≤ MAX_OWNERS }
+    ensures { (given : List PieceValue) × IsGiven (R.remaining reader.old) given × EndsLive MAX_TABLES given result }
+{
+    match LineReader::new(alloc, reader) {
+        Ok(mut lines) => end_lines(rt, alloc, &mut lines, turns, pumps, gate),
+        Err(error) => LiveEnding::Fault(LiveFault::from(error)),
+    }
+}
+
+// How the lines of an input end.
+fn end_lines<T: Threads + Wait + Sync, R: Read, G: Gate>(
+    rt: &T,
+    alloc: Global,
+    lines: &mut LineReader<R>,
+    turns: u64,
+    pumps: u32,
+    gate: &G,
+) -> LiveEnding
+    requires { pumps ≤ MAX_OWNERS }
+    ensures { (given : List PieceValue) × CanCome lines.old given × EndsLive MAX_TABLES given result }
+{
+    match read_input(alloc, lines) {
+        Ok((opening, jobs)) => match run_input(rt, alloc, &opening, &jobs, turns, pumps, gate) {
+            Ok(outcome) => LiveEnding::Done(outcome),
+            Err(error) => LiveEnding::Fault(LiveFault::from(error)),
+        },
+        Err(fault) => LiveEnding::Fault(fault),
+    }
+}
+
+// The opening and the jobs that lines spell.
+fn read_input<R: Read>(
+    alloc: Global,
+    lines: &mut LineReader<R>,
+) -> Result<(Opening, JobList), LiveFault>
+    ensures input { IfOk result (λ input. ComesToSpell MAX_TABLES lines.old input.0 input.1) }
+    ensures partitions { IfOk result (λ input. HavePartitions input.0.old.parts input.1) }
+    ensures fault { IfErr result (ComesToFail MAX_TABLES lines.old) }
+{
+    let Some(schema) = Schema::new(MAX_TABLES) else {
+        unreachable!()
+    };
+    let opening = read_header(alloc, schema, lines)?;
+    let jobs = read_jobs(alloc, &schema, opening.old_plan().parts(), lines)?;
+    Ok((opening, jobs))
+}
+
+// What a run of jobs from an opening comes to.
+fn run_input<T: Threads + Wait + Sync, G: Gate>(
+    rt: &T,
+    alloc: Global,
+    opening: &Opening,
+    jobs: &JobList,
+    turns: u64,
+    pumps: u32,
+    gate: &G,
+) -> Result<Outcome, AllocError>
+    requires pumps { pumps ≤ MAX_OWNERS }
+    requires partitions { HavePartitions opening.now.old.parts jobs.now }
+    ensures { IfOk result (WereRun opening.now jobs.now) }
+{
+    let g = run_jobs(rt, alloc, opening, jobs.as_slice(), turns, pumps, gate)?;
+    judge(alloc, opening, &g, jobs.as_slice())
+}

@@ -1,0 +1,71 @@
+// What live runs come to.
+ghost use Rattle.std.specs.Prelude.{◌≡◌, OnOk};
+ghost use Rattle.std.specs.Io.KnownBytes.{Appends};
+ghost use Rattle.sq_live.specs.Outcome.{outcome_status, outcome_line};
+
+use sq_audit::Defect;
+use std::io;
+use std::io::Write;
+
+/// What a live run comes to.
+#[derive(Clone, Copy, Debug, PartialEq, Eq)]
+pub enum Outcome {
+    /// Each job is answered, each segment is complete, and the audit of what was gathered found it sound.
+    Sound {
+        /// How many families all stores have.
+        families: u64,
+        /// How many receipts are of commits.
+        committed: u64,
+    },
+    /// A job isn't answered, or a segment isn't complete. What was gathered wasn't audited.
+    Stopped {
+        /// How many jobs are answered.
+        answered: u64,
+        /// How many jobs there are.
+        jobs: u64,
+        /// How many segments are complete.
+        complete: u64,
+        /// How many segments there are.
+        segments: u64,
+    },
+    /// Each job is answered, each segment is complete, and this is the first defect of what was gathered.
+    Unsound(Defect),
+}
+
+impl Outcome {
+    /// The exit status: 0 where the run is sound, 3 where it stopped, and 4 where it isn't sound.
+    pub fn status(self) -> u8
+        ensures { result ≡ outcome_status self }
+    {
+        match self {
+            Outcome::Sound { .. } => 0,
+            Outcome::Stopped { .. } => 3,
+            Outcome::Unsound(_) => 4,
+        }
+    }
+}
+
+/// Writes the line that a live run comes to. An error is the writer's.
+pub fn write_outcome<W: Write>(writer: &mut W, outcome: Outcome) -> io::Result<()>
+    ensures { OnOk result (Appends (W.contents writer.old) (W.contents writer.new) (outcome_line outcome)) }
+{
+    match outcome {
+        Outcome::Sound {
+            families,
+            committed,
+        } => writeln!(writer, "sound {families} families {committed} committed"),
+        Outcome::Stopped {
+            answered,
+            jobs,
+            complete,
+            segments,
+        } => writeln!(
+            writer,
+            "stopped {answered} of {jobs} jobs, {complete} of {segments} segments"
+        ),
+        Outcome::Unsound(defect) => {
+            let number = defect.number();
+            writeln!(writer, "unsound {number}")
+        }
+    }
+}
