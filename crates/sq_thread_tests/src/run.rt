@@ -160,23 +160,32 @@ impl Run {
         })
     }
 
-    /// What is gathered of it. Where there was no memory for it, what came back is gathered once more.
-    pub fn gathered<R: Wait>(self, rt: &R, alloc: Global) -> Result<Gathered, Fail> {
+    /// What is gathered of it. Where there is no memory for it, it comes back.
+    pub fn gather<R: Wait>(self, rt: &R, alloc: Global) -> Result<Gathered, Run> {
         let Run {
             fabric,
             nodes,
             pumps,
         } = self;
-        let back = match gather(rt, alloc, fabric, nodes, pumps) {
-            Ok(gathered) => return Ok(gathered),
-            Err(back) => back,
-        };
-        let Ungathered {
-            fabric,
-            nodes,
-            pumps,
-        } = back;
         match gather(rt, alloc, fabric, nodes, pumps) {
+            Ok(gathered) => Ok(gathered),
+            Err(
+                Ungathered {
+                    fabric,
+                    nodes,
+                    pumps,
+                },
+            ) => Err(Run {
+                fabric,
+                nodes,
+                pumps,
+            }),
+        }
+    }
+
+    /// What is gathered of it.
+    pub fn gathered<R: Wait>(self, rt: &R, alloc: Global) -> Result<Gathered, Fail> {
+        match self.gather(rt, alloc) {
             Ok(gathered) => Ok(gathered),
             Err(_) => Err("no memory")?,
         }
