@@ -259,7 +259,7 @@ fn run_failing(alloc: Global, given: &[u8], most: usize) -> Result<(Vec<u8>, End
 
 // The ending by a failed read in this line of the script, which stands behind the four lines of the header.
 fn failed_at(line: u32) -> Ending {
-    Ending::Fault(InputFault::ReadFailed.at(InputLine::Later(5 + line)))
+    Ending::Fault(InputFault::ReadFailed.at(InputLine::Later(line.saturating_add(5))))
 }
 
 // Behind each front of a script the lines that ended are answered, and the fault belongs to the line behind them.
