@@ -1,10 +1,12 @@
 -- The jobs of lines, read one after another.
-use Rattle.std.proofs.Common.{◌≡◌, ◌≢◌, ℕ, ◌<◌, ◌==◌, Bool, true, false, List, [], ◌∷◌, ◌++◌, length, refl, sym, ap, ◌∙◌, subst, ltb-true}
-use Rattle.std.specs.Prelude.{Result, Ok, Err, All, None, nat_lt, if◌then◌else◌}
+use Rattle.std.proofs.Common.{◌≡◌, ◌≢◌, ℕ, ◌+◌, ◌-◌, ◌<◌, ◌==◌, Bool, true, false, List, [], ◌∷◌, ◌++◌, length, refl, sym, ap, ◌∙◌, subst, ltb-true, arith, Some}
+use Rattle.std.specs.Prelude.{Result, Ok, Err, All, nat_lt, if◌then◌else◌}
 use Rattle.std.proofs.lemmas.List.Elements.{All-append, All-nil, All-cons}
 use Rattle.sq_audit.specs.declared.job.Job.{Job}
 use Rattle.sq_lines.specs.declared.buffer.TheConstants.{MAX_UNENDED}
-use Rattle.sq_lines.specs.Pieces.{PieceValue, Line, Rest, Failed, Endless, TooMany as TooManyLines}
+use Rattle.sq_lines.specs.declared.reader.TheConstants.{MAX_LINES}
+use Rattle.sq_text.specs.declared.located.InputLine.TheVariants.{Later}
+use Rattle.sq_lines.specs.Pieces.{next_line_number, PieceValue, Line, Failed, Endless, TooMany as TooManyLines}
 use Rattle.sq_lines.specs.Coming.{LinesValue, CanCome, CameBefore, IsLong, Leaves}
 use Rattle.sq_lines.proofs.Lengths.{is_endless}
 use Rattle.sq_text.specs.declared.input_fault.InputFault.TheVariants as input
@@ -16,7 +18,7 @@ use Rattle.sq_live.specs.declared.fault.LiveFault.TheVariants.{Input}
 use Rattle.sq_live.specs.declared.job_list.TheConstants.{MAX_JOBS}
 use Rattle.sq_live.specs.Faults.{fault_at, out_of_memory}
 use Rattle.sq_live.specs.Jobs.{has_id, HavePartitions}
-use Rattle.sq_live.specs.JobLines.{job_by, job_of, jobs_then, jobs_in, line_behind, AddsJob, IsFirstFault}
+use Rattle.sq_live.specs.JobLines.{job_by, job_of, jobs_then, jobs_in, AddsJob, IsFirstFault}
 use Rattle.sq_model.specs.declared.step.Step.{Step}
 use Rattle.sq_model.specs.declared.step.Step.TheVariants.{Submit}
 use Rattle.sq_text.specs.declared.fault.LineFault.{LineFault}
@@ -48,20 +50,24 @@ within_by parts jobs (Ok _) job e = absurd cc
 
 -- ---- line by line
 
-module _ (tables parts header : ℕ) where
+module _ (tables parts : ℕ) where
   -- whatever comes now, the jobs of all of it are those so far and then its own
   abbrev pub JobsSoFar : LinesValue → LinesValue → List Job → Type 0
-  JobsSoFar first now jobs = Leaves first now (λ all left. jobs_in tables parts header [] all ≡ jobs_in tables parts header jobs left)
-
-  pub none_yet : (lines : LinesValue) → JobsSoFar lines lines []
-  none_yet lines = λ left can. (left, can, refl)
+  JobsSoFar first now jobs = Leaves first now (λ all left. jobs_in tables parts first.lines [] all ≡ jobs_in tables parts now.lines jobs left)
 
   module _ (first now : LinesValue) (jobs : List Job) (so_far : JobsSoFar first now jobs) where
     -- a line with a job
-    pub job_more : (new : LinesValue) (bytes : List ℕ) (more : List Job) → CameBefore now (Line bytes) new → (job : Job) × (job_of tables parts jobs bytes ≡ Ok job) × (more ≡ jobs ++ job ∷ []) → JobsSoFar first new more
-    job_more new bytes more came adds = λ left can.
+    pub job_more : (new : LinesValue) (bytes : List ℕ) (more : List Job) → CameBefore now (Line bytes) new → now.lines ≡ new.lines + 1 → (job : Job) × (job_of tables parts jobs bytes ≡ Ok job) × (more ≡ jobs ++ job ∷ []) → JobsSoFar first new more
+    job_more new bytes more came fewer adds = λ left can.
         let all = so_far (Line bytes ∷ left) (came left can) in
-        (all.0, all.1, all.2 ∙ ap (λ told. jobs_then header jobs told (λ others. jobs_in tables parts header others left)) adds.1 ∙ ap (λ (others : List Job). jobs_in tables parts header others left) (sym adds.2))
+        let lines : now.lines - 1 ≡ new.lines = omega (arith, fewer) in (
+          all.0,
+          all.1,
+          all.2
+              ∙ ap (λ told. jobs_then (next_line_number now.lines) jobs told (λ others. jobs_in tables parts (now.lines - 1) others left)) adds.1
+              ∙ ap (λ (others : List Job). jobs_in tables parts (now.lines - 1) others left) (sym adds.2)
+              ∙ ap (λ n. jobs_in tables parts n more left) lines,
+        )
 
     -- the job is of a partition, as those before it
     pub parts_more : (bytes : List ℕ) (more : List Job) → HavePartitions parts jobs → (job : Job) × (job_of tables parts jobs bytes ≡ Ok job) × (more ≡ jobs ++ job ∷ []) → HavePartitions parts more
@@ -71,33 +77,29 @@ module _ (tables parts header : ℕ) where
         subst (All P) (sym adds.2) (All-append P jobs (adds.0 ∷ []) all (All-cons P adds.0 [] within (All-nil P)))
 
     -- what can come has this fault
-    ends_by : (fault : LiveFault) (left : List PieceValue) → CanCome now left → (fault ≢ out_of_memory → jobs_in tables parts header jobs left ≡ Err fault) → IsFirstFault tables parts header first fault
+    ends_by : (fault : LiveFault) (left : List PieceValue) → CanCome now left → (fault ≢ out_of_memory → jobs_in tables parts now.lines jobs left ≡ Err fault) → IsFirstFault tables parts first fault
     ends_by fault left can is = let all = so_far left can in (all.0, all.1, λ told. all.2 ∙ is told)
 
-    bad_line : (fault : JobFault) (bytes : List ℕ) (left : List PieceValue) → job_of tables parts jobs bytes ≡ Err fault → jobs_in tables parts header jobs (Line bytes ∷ left) ≡ Err (fault_at (line_behind header jobs) fault)
-    bad_line fault bytes left is = ap (λ told. jobs_then header jobs told (λ others. jobs_in tables parts header others left)) is
+    -- a line that spells no job
+    bad_line : (fault : JobFault) (bytes : List ℕ) (left : List PieceValue) (told : LiveFault) → job_of tables parts jobs bytes ≡ Err fault → told ≡ fault_at (next_line_number now.lines) fault → jobs_in tables parts now.lines jobs (Line bytes ∷ left) ≡ Err told
+    bad_line fault bytes left told is says = ap (λ r. jobs_then (next_line_number now.lines) jobs r (λ others. jobs_in tables parts (now.lines - 1) others left)) is ∙ ap Err (sym says)
 
-    -- the fault of a line
-    pub at_line : (result_fault : JobFault) (line : ℕ) (told : LiveFault) (new : LinesValue) (bytes : List ℕ) (more : List Job) (left : List PieceValue) → CanCome new left → CameBefore now (Line bytes) new
-        → AddsJob tables parts jobs bytes (Err result_fault) more → line ≡ line_behind header jobs → told ≡ fault_at line result_fault → IsFirstFault tables parts header first told
-    at_line faults.Memory line told new bytes more left can came adds is says = ends_by told (Line bytes ∷ left) (came left can) (λ apart. absurd (apart says))
-    at_line faults.TooMany line told new bytes more left can came adds is says = ends_by told (Line bytes ∷ left) (came left can) (λ apart. bad_line faults.TooMany bytes left adds.0 ∙ ap Err (ap (λ n. fault_at n faults.TooMany) (sym is) ∙ sym says))
-    at_line faults.NotAJob line told new bytes more left can came adds is says = ends_by told (Line bytes ∷ left) (came left can) (λ apart. bad_line faults.NotAJob bytes left adds.0 ∙ ap Err (ap (λ n. fault_at n faults.NotAJob) (sym is) ∙ sym says))
-    at_line faults.RepeatedId line told new bytes more left can came adds is says = ends_by told (Line bytes ∷ left) (came left can) (λ apart. bad_line faults.RepeatedId bytes left adds.0 ∙ ap Err (ap (λ n. fault_at n faults.RepeatedId) (sym is) ∙ sym says))
-    at_line (faults.Txn fault) line told new bytes more left can came adds is says = ends_by told (Line bytes ∷ left) (came left can) (λ apart. bad_line (faults.Txn fault) bytes left adds.0 ∙ ap Err (ap (λ n. fault_at n (faults.Txn fault)) (sym is) ∙ sym says))
-    at_line faults.NoSuchPartition line told new bytes more left can came adds is says = ends_by told (Line bytes ∷ left) (came left can) (λ apart. bad_line faults.NoSuchPartition bytes left adds.0 ∙ ap Err (ap (λ n. fault_at n faults.NoSuchPartition) (sym is) ∙ sym says))
-    at_line faults.LineTooLong line told new bytes more left can came adds is says = ends_by told (Line bytes ∷ left) (came left can) (λ apart. bad_line faults.LineTooLong bytes left adds.0 ∙ ap Err (ap (λ n. fault_at n faults.LineTooLong) (sym is) ∙ sym says))
+    pub at_line : (fault : JobFault) (told : LiveFault) (bytes : List ℕ) (more : List Job) (left : List PieceValue) → CanCome now (Line bytes ∷ left) → AddsJob tables parts jobs bytes (Err fault) more → told ≡ fault_at (next_line_number now.lines) fault → IsFirstFault tables parts first told
+    at_line faults.Memory told bytes more left can adds says = ends_by told (Line bytes ∷ left) can (λ apart. absurd (apart says))
+    at_line faults.TooMany told bytes more left can adds says = ends_by told (Line bytes ∷ left) can (λ apart. bad_line faults.TooMany bytes left told adds.0 says)
+    at_line faults.NotAJob told bytes more left can adds says = ends_by told (Line bytes ∷ left) can (λ apart. bad_line faults.NotAJob bytes left told adds.0 says)
+    at_line faults.RepeatedId told bytes more left can adds says = ends_by told (Line bytes ∷ left) can (λ apart. bad_line faults.RepeatedId bytes left told adds.0 says)
+    at_line (faults.Txn fault) told bytes more left can adds says = ends_by told (Line bytes ∷ left) can (λ apart. bad_line (faults.Txn fault) bytes left told adds.0 says)
+    at_line faults.NoSuchPartition told bytes more left can adds says = ends_by told (Line bytes ∷ left) can (λ apart. bad_line faults.NoSuchPartition bytes left told adds.0 says)
+    at_line faults.LineTooLong told bytes more left can adds says = ends_by told (Line bytes ∷ left) can (λ apart. bad_line faults.LineTooLong bytes left told adds.0 says)
 
-    pub at_rest : (line : ℕ) (told : LiveFault) (bytes : List ℕ) → CanCome now (Rest bytes ∷ []) → line ≡ line_behind header jobs → told ≡ fault_at line faults.NotAJob → IsFirstFault tables parts header first told
-    at_rest line told bytes can is says = ends_by told (Rest bytes ∷ []) can (λ apart. ap Err (ap (λ n. fault_at n faults.NotAJob) (sym is) ∙ sym says))
+    pub at_failed : (told : LiveFault) (number : ℕ) (bytes : List ℕ) → CanCome now (Failed number bytes ∷ []) → told ≡ Input (located input.ReadFailed (Some (Later number))) → IsFirstFault tables parts first told
+    at_failed told number bytes can says = ends_by told (Failed number bytes ∷ []) can (λ apart. ap Err (sym says))
 
-    pub at_failed : (told : LiveFault) (bytes : List ℕ) → CanCome now (Failed bytes ∷ []) → told ≡ Input (located input.ReadFailed None) → IsFirstFault tables parts header first told
-    at_failed told bytes can says = ends_by told (Failed bytes ∷ []) can (λ apart. ap Err (sym says))
-
-    pub at_long : (told : LiveFault) → IsLong MAX_UNENDED now → told ≡ Input (located input.TooLong None) → IsFirstFault tables parts header first told
+    pub at_long : (told : LiveFault) → IsLong MAX_UNENDED now → told ≡ Input (located input.TooLong (Some (Later (next_line_number now.lines)))) → IsFirstFault tables parts first told
     at_long told long says =
         let endless = is_endless now long in
-        ends_by told (Endless endless.bytes ∷ endless.others) endless.can_come (λ apart. ap Err (sym says))
+        ends_by told (Endless (next_line_number now.lines) endless.bytes ∷ endless.others) endless.can_come (λ apart. ap Err (sym says))
 
-    pub at_too_many : (told : LiveFault) → CanCome now (TooManyLines ∷ []) → told ≡ Input (located input.TooLong None) → IsFirstFault tables parts header first told
+    pub at_too_many : (told : LiveFault) → CanCome now (TooManyLines ∷ []) → told ≡ Input (located input.TooLong (Some (Later (MAX_LINES + 1)))) → IsFirstFault tables parts first told
     at_too_many told can says = ends_by told (TooManyLines ∷ []) can (λ apart. ap Err (sym says))

@@ -19,9 +19,9 @@ use Rattle.sq_lines.specs.declared.reader.Reading.TheVariants.{Open}
 use Rattle.sq_lines.specs.Pieces.{PieceValue, pieces}
 use Rattle.sq_world.specs.Input.{IsGiven}
 
-module _ (tables parts header : ℕ) (begin lines : LinesValue) (o : OpeningValue) where
+module _ (tables parts : ℕ) (begin lines : LinesValue) (o : OpeningValue) where
   -- the header of an input, and the jobs behind it
-  pub read_both : (jobs : List Job) → tables ≡ MAX_TABLES → parts ≡ o.old.parts → Leaves begin lines (λ all left. Opens tables (Ok o) left (header_of all)) → AreJobs tables parts header lines jobs
+  pub read_both : (jobs : List Job) → tables ≡ MAX_TABLES → parts ≡ o.old.parts → Leaves begin lines (λ all left. Opens tables (Ok o) left (header_of all)) → AreJobs tables parts lines jobs
       → ComesToSpell MAX_TABLES begin o jobs
   read_both jobs eight are opens spelled =
       let all = opens spelled.0 spelled.1 in (
@@ -30,13 +30,13 @@ module _ (tables parts header : ℕ) (begin lines : LinesValue) (o : OpeningValu
         record {
           left = spelled.0;
           opens = subst (λ n. Opens n (Ok o) spelled.0 (header_of all.0)) eight all.2;
-          header = header;
-          spelled = subst (λ n. jobs_in n o.old.parts header [] spelled.0 ≡ Ok jobs) eight (subst (λ n. jobs_in tables n header [] spelled.0 ≡ Ok jobs) are spelled.2);
+          lines = lines.lines;
+          spelled = subst (λ n. jobs_in n o.old.parts lines.lines [] spelled.0 ≡ Ok jobs) eight (subst (λ n. jobs_in tables n lines.lines [] spelled.0 ≡ Ok jobs) are spelled.2);
         },
       )
 
   -- or a fault of the jobs
-  pub read_no_jobs : (fault : LiveFault) → tables ≡ MAX_TABLES → parts ≡ o.old.parts → Leaves begin lines (λ all left. Opens tables (Ok o) left (header_of all)) → IsFirstFault tables parts header lines fault
+  pub read_no_jobs : (fault : LiveFault) → tables ≡ MAX_TABLES → parts ≡ o.old.parts → Leaves begin lines (λ all left. Opens tables (Ok o) left (header_of all)) → IsFirstFault tables parts lines fault
       → ComesToFail MAX_TABLES begin fault
   read_no_jobs fault eight are opens first =
       let all = opens first.0 first.1 in (
@@ -46,8 +46,8 @@ module _ (tables parts header : ℕ) (begin lines : LinesValue) (o : OpeningValu
           opening = o;
           left = first.0;
           opens = subst (λ n. Opens n (Ok o) first.0 (header_of all.0)) eight all.2;
-          header = header;
-          first = λ apart. subst (λ n. jobs_in n o.old.parts header [] first.0 ≡ Err fault) eight (subst (λ n. jobs_in tables n header [] first.0 ≡ Err fault) are (first.2 apart));
+          lines = lines.lines;
+          first = λ apart. subst (λ n. jobs_in n o.old.parts lines.lines [] first.0 ≡ Err fault) eight (subst (λ n. jobs_in tables n lines.lines [] first.0 ≡ Err fault) are (first.2 apart));
         }),
       )
 

@@ -1,14 +1,16 @@
 -- The jobs that lines spell.
-use Rattle.std.specs.Prelude.{◌≡◌, ◌≢◌, ℕ, ◌+◌, ◌==◌, nat_lt, if◌then◌else◌, List, [], ◌∷◌, ◌++◌, length, None, Result, Ok, Err}
+use Rattle.std.specs.Prelude.{◌≡◌, ◌≢◌, ℕ, ◌+◌, ◌-◌, ◌==◌, nat_lt, if◌then◌else◌, List, [], ◌∷◌, ◌++◌, length, Some, Result, Ok, Err}
 use Rattle.sq_schema.specs.TxnValue.{TxnValue}
 use Rattle.sq_audit.specs.declared.job.Job.{Job}
-use Rattle.sq_lines.specs.Pieces.{PieceValue, Line, Rest, Failed, Endless, TooMany as TooManyLines}
+use Rattle.sq_lines.specs.declared.reader.TheConstants.{MAX_LINES}
+use Rattle.sq_lines.specs.Pieces.{PieceValue, Line, Rest, Failed, Endless, TooMany as TooManyLines, next_line_number}
 use Rattle.sq_lines.specs.Coming.{LinesValue, CanCome}
 use Rattle.sq_model.specs.declared.step.Step.{Step}
 use Rattle.sq_model.specs.declared.step.Step.TheVariants.{Submit}
 use Rattle.sq_text.specs.declared.fault.LineFault.{LineFault}
 use Rattle.sq_text.specs.declared.fault.LineFault.TheVariants as line
 use Rattle.sq_text.specs.declared.input_fault.InputFault.TheVariants as input
+use Rattle.sq_text.specs.declared.located.InputLine.TheVariants.{Later}
 use Rattle.sq_text.specs.Located.{located}
 use Rattle.sq_text.specs.Steps.{step_of}
 use Rattle.sq_live.specs.declared.job_list.TheConstants.{MAX_JOBS}
@@ -41,24 +43,20 @@ job_by parts jobs (Err line.Memory) = Err Memory
 abbrev pub job_of : ℕ → ℕ → List Job → List ℕ → Result Job JobFault
 job_of tables parts jobs line = job_by parts jobs (step_of tables line)
 
--- the number of the line behind those of the header and of these jobs
-abbrev pub line_behind : ℕ → List Job → ℕ
-line_behind header jobs = header + length jobs + 1
-
--- the jobs of lines, behind these and the one that the first line spells, or the fault of that line
+-- the jobs of lines, behind these and the one that the line of this number spells, or the fault of that line
 abbrev pub jobs_then : ℕ → List Job → Result Job JobFault → (List Job → Result (List Job) LiveFault) → Result (List Job) LiveFault
-jobs_then header jobs (Ok job) others = others (jobs ++ job ∷ [])
-jobs_then header jobs (Err fault) others = Err (fault_at (line_behind header jobs) fault)
+jobs_then number jobs (Ok job) others = others (jobs ++ job ∷ [])
+jobs_then number jobs (Err fault) others = Err (fault_at number fault)
 
--- the jobs that pieces spell, behind these and a header of this many lines, or the first fault
+-- the jobs that pieces spell, behind these, where this many lines may still come, or the first fault
 abbrev pub jobs_in : ℕ → ℕ → ℕ → List Job → List PieceValue → Result (List Job) LiveFault
-jobs_in tables parts header jobs [] = Ok jobs
-jobs_in tables parts header jobs (Line bytes ∷ pieces) =
-    jobs_then header jobs (job_of tables parts jobs bytes) (λ more. jobs_in tables parts header more pieces)
-jobs_in tables parts header jobs (Rest bytes ∷ pieces) = Err (fault_at (line_behind header jobs) NotAJob)
-jobs_in tables parts header jobs (Failed bytes ∷ pieces) = Err (Input (located input.ReadFailed None))
-jobs_in tables parts header jobs (Endless bytes ∷ pieces) = Err (Input (located input.TooLong None))
-jobs_in tables parts header jobs (TooManyLines ∷ pieces) = Err (Input (located input.TooLong None))
+jobs_in tables parts lines jobs [] = Ok jobs
+jobs_in tables parts lines jobs (Line bytes ∷ pieces) =
+    jobs_then (next_line_number lines) jobs (job_of tables parts jobs bytes) (λ more. jobs_in tables parts (lines - 1) more pieces)
+jobs_in tables parts lines jobs (Rest bytes ∷ pieces) = Err (fault_at (next_line_number lines) NotAJob)
+jobs_in tables parts lines jobs (Failed number bytes ∷ pieces) = Err (Input (located input.ReadFailed (Some (Later number))))
+jobs_in tables parts lines jobs (Endless number bytes ∷ pieces) = Err (Input (located input.TooLong (Some (Later number))))
+jobs_in tables parts lines jobs (TooManyLines ∷ pieces) = Err (Input (located input.TooLong (Some (Later (MAX_LINES + 1)))))
 
 -- the transaction gave one job more, or the fault that it has, unless memory ran out, and then the jobs stay as they were
 abbrev pub AddsFresh : ℕ → List Job → ℕ → TxnValue → Result Unit JobFault → List Job → Type 0
@@ -73,10 +71,10 @@ AddsJob tables parts old line (Err Memory) new = new ≡ old
 AddsJob tables parts old line (Err fault) new = (job_of tables parts old line ≡ Err fault) × (new ≡ old)
 
 -- these are the jobs that what comes of a reader of lines spells
-abbrev pub AreJobs : ℕ → ℕ → ℕ → LinesValue → List Job → Type 0
-AreJobs tables parts header lines jobs = (pieces : List PieceValue) × CanCome lines pieces × (jobs_in tables parts header [] pieces ≡ Ok jobs)
+abbrev pub AreJobs : ℕ → ℕ → LinesValue → List Job → Type 0
+AreJobs tables parts lines jobs = (pieces : List PieceValue) × CanCome lines pieces × (jobs_in tables parts lines.lines [] pieces ≡ Ok jobs)
 
 -- this is the first fault of what comes of a reader of lines, unless memory ran out
-abbrev pub IsFirstFault : ℕ → ℕ → ℕ → LinesValue → LiveFault → Type 0
-IsFirstFault tables parts header lines fault =
-    (pieces : List PieceValue) × CanCome lines pieces × (fault ≢ out_of_memory → jobs_in tables parts header [] pieces ≡ Err fault)
+abbrev pub IsFirstFault : ℕ → ℕ → LinesValue → LiveFault → Type 0
+IsFirstFault tables parts lines fault =
+    (pieces : List PieceValue) × CanCome lines pieces × (fault ≢ out_of_memory → jobs_in tables parts lines.lines [] pieces ≡ Err fault)

@@ -42,7 +42,7 @@ pub struct JobLineFault {
     /// What is wrong.
     pub fault: JobFault,
     /// The number of the line.
-    pub line: u64,
+    pub line: u32,
 }
 
 /// Why an input gives no live run.
@@ -71,7 +71,7 @@ impl JobFault {
     }
 
     // The fault of the line with this number. That memory ran out belongs to no line.
-    pub(crate) fn at(self, line: u64) -> LiveFault
+    pub(crate) fn at(self, line: u32) -> LiveFault
         ensures { result ≡ fault_at line self }
     {
         match self {

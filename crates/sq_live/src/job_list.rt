@@ -1,6 +1,5 @@
 // The jobs that lines spell.
-ghost use Rattle.std.specs.Prelude.{◌≡◌, ◌==◌, ◌-◌, ◌≤◌, [], length, IfOk, IfErr};
-ghost use Rattle.sq_lines.specs.declared.reader.TheConstants.{MAX_LINES};
+ghost use Rattle.std.specs.Prelude.{◌≡◌, ◌==◌, ◌≤◌, [], length, IfOk, IfErr};
 ghost use Rattle.sq_audit.specs.Answers.{IdsDiffer};
 ghost use Rattle.sq_live.specs.Jobs.{HavePartitions};
 ghost use Rattle.sq_live.specs.JobLines.{AddsJob, AddsFresh, AreJobs, IsFirstFault};
@@ -11,11 +10,14 @@ use sq_lines::{LineReader, MAX_LINES, MAX_UNENDED, Next};
 use sq_model::Step;
 use sq_plan::PartId;
 use sq_schema::{Schema, Txn};
-use sq_text::{InputFault, LineFault, read_step};
+use sq_text::{InputFault, InputLine, LineFault, read_step};
 use std::alloc::Global;
 use std::collections::BTreeSet;
 use std::io::Read;
 use std::marker::Model;
+
+// The line after the last one that an input may have.
+const AFTER_THE_LAST: InputLine = InputLine::Later(MAX_LINES + 1);
 
 /// The most jobs that a live run has.
 pub const MAX_JOBS: usize = 4096;
@@ -124,14 +126,13 @@ pub fn read_jobs<R: Read>(
     parts: u8,
     lines: &mut LineReader<R>,
 ) -> Result<JobList, LiveFault>
-    ensures jobs { IfOk result (AreJobs schema.now parts (MAX_LINES - lines.old.lines) lines.old) }
+    ensures jobs { IfOk result (AreJobs schema.now parts lines.old) }
     ensures partitions { IfOk result (HavePartitions parts) }
-    ensures fault { IfErr result (IsFirstFault schema.now parts (MAX_LINES - lines.old.lines) lines.old) }
+    ensures fault { IfErr result (IsFirstFault schema.now parts lines.old) }
 {
-    let header = MAX_LINES.saturating_sub(lines.lines_left());
     let mut jobs = JobList::new(alloc);
     loop {
-        let line = u64::from(header) + jobs.as_slice().len() as u64 + 1;
+        let line = lines.next_line_number();
         match lines.next_read(MAX_UNENDED) {
             Next::Line => {
                 if let Err(fault) = jobs.add_line(alloc, schema, parts, lines.piece()) {
@@ -140,9 +141,9 @@ pub fn read_jobs<R: Read>(
             }
             Next::Rest => return Err(JobFault::NotAJob.at(line)),
             Next::End => return Ok(jobs),
-            Next::Failed => return Err(InputFault::ReadFailed.at_no_line().into()),
-            Next::Long => return Err(InputFault::TooLong.at_no_line().into()),
-            Next::TooMany => return Err(InputFault::TooLong.at_no_line().into()),
+            Next::Failed => return Err(InputFault::ReadFailed.at(InputLine::Later(line)).into()),
+            Next::Long => return Err(InputFault::TooLong.at(InputLine::Later(line)).into()),
+            Next::TooMany => return Err(InputFault::TooLong.at(AFTER_THE_LAST).into()),
             Next::Unread => unreachable!(),
         }
     }

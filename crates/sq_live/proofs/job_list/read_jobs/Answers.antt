@@ -1,9 +1,12 @@
-use Rattle.std.proofs.Common.{◌≡◌, ◌-◌, ◌+◌, Ok, Err, List, [], ◌∷◌, ◌++◌, length, ap, ◌∙◌, subst}
-use Rattle.sq_live.specs.declared.fault.LiveFault.TheVariants.{Input}
-use Rattle.sq_lines.specs.declared.reader.TheConstants.{MAX_LINES}
+use Rattle.std.proofs.Common.{◌≡◌, Ok, Err, Some, [], ◌∷◌, ◌++◌, ap, ◌∙◌, subst}
 use Rattle.sq_lines.proofs.Comings.{some_pieces}
+use Rattle.sq_text.specs.declared.input_fault.InputFault.TheVariants.{ReadFailed, TooLong}
+use Rattle.sq_text.specs.declared.located.InputLine.TheVariants.{Later}
+use Rattle.sq_text.specs.Located.{located}
 use Rattle.sq_audit.specs.declared.job.Job.{Job}
-use Rattle.sq_live.specs.JobLines.{job_of, line_behind, AddsJob}
+use Rattle.sq_live.specs.declared.fault.LiveFault.TheVariants.{Input}
+use Rattle.sq_live.specs.Faults.{fault_at}
+use Rattle.sq_live.specs.JobLines.{job_of, AddsJob}
 use Rattle.sq_live.proofs.JobRuns.{job_more, parts_more, at_line, at_failed, at_long, at_too_many}
 use Rattle.sq_live.proofs.job_list.read_jobs.Goals as goal
 
@@ -11,11 +14,9 @@ pub returns-in-Err-clause-fault : goal.returns-in-Err-clause-fault
 returns-in-Err-clause-fault g c =
     let jobs = c.loop-jobs.jobs in
     let some = some_pieces c.next_read.new.self in
-    let line : c.from.result + length c.as_slice.result.now + 1 ≡ line_behind (MAX_LINES - c.args.lines.now.lines) jobs =
-    ap (λ n. n + length c.as_slice.result.now + 1) (c.from.ensures ∙ c.saturating_sub-header.ensures ∙ ap (λ n. MAX_LINES - n) c.lines_left.ensures)
-    ∙ ap (λ (l : List Job). line_behind (MAX_LINES - c.args.lines.now.lines) l) c.as_slice.ensures.jobs in
     let adds = subst (λ bytes. AddsJob c.args.schema.now c.args.parts jobs bytes (Err c.in-Err.fault) c.add_line.new.self) c.piece.ensures c.in-Err.ensures in
-    at_line _ _ _ _ _ jobs c.loop-jobs.invariant.0 c.in-Err.fault _ c.at.result c.next_read.new.self _ _ some.pieces some.can_come c.in-Line.ensures.0 adds line c.at.ensures
+    at_line _ _ _ _ jobs c.loop-jobs.invariant.0 c.in-Err.fault c.at.result c.next_read.new.self.piece _ some.pieces (c.in-Line.ensures.0 some.pieces some.can_come) adds
+    (c.at.ensures ∙ ap (λ n. fault_at n c.in-Err.fault) c.next_line_number-line.ensures)
 
 pub loop-jobs-preserved : goal.loop-jobs-preserved
 loop-jobs-preserved g c =
@@ -23,15 +24,17 @@ loop-jobs-preserved g c =
     let more = c.add_line.new.self in
     let adds : (job : Job) × (job_of c.args.schema.now c.args.parts jobs c.next_read.new.self.piece ≡ Ok job) × (more ≡ jobs ++ job ∷ []) =
     subst (λ bytes. (job : Job) × (job_of c.args.schema.now c.args.parts jobs bytes ≡ Ok job) × (more ≡ jobs ++ job ∷ [])) c.piece.ensures c.in_default.ensures in (
-      job_more _ _ _ _ _ jobs c.loop-jobs.invariant.0 c.next_read.new.self c.next_read.new.self.piece more c.in-Line.ensures.0 adds,
-      parts_more _ _ (MAX_LINES - c.args.lines.now.lines) c.args.lines.now c.loop-jobs.lines jobs c.loop-jobs.invariant.0 c.next_read.new.self.piece more c.loop-jobs.invariant.1 adds,
+      job_more _ _ _ _ jobs c.loop-jobs.invariant.0 c.next_read.new.self c.next_read.new.self.piece more c.in-Line.ensures.0 c.in-Line.ensures.1 adds,
+      parts_more _ _ c.args.lines.now c.loop-jobs.lines jobs c.loop-jobs.invariant.0 c.next_read.new.self.piece more c.loop-jobs.invariant.1 adds,
     )
 
 pub returns-in-Failed-clause-fault : goal.returns-in-Failed-clause-fault
-returns-in-Failed-clause-fault g c = at_failed _ _ _ _ _ _ c.loop-jobs.invariant.0 c.into.result _ c.in-Failed.ensures.1 (c.into.ensures ∙ ap Input c.at_no_line.ensures)
+returns-in-Failed-clause-fault g c =
+    at_failed _ _ _ _ _ c.loop-jobs.invariant.0 c.into.result _ _ c.in-Failed.ensures.1 (c.into.ensures ∙ ap Input c.at-in-Failed.ensures ∙ ap (λ n. Input (located ReadFailed (Some (Later n)))) c.next_line_number-line.ensures)
 
 pub returns-in-Long-clause-fault : goal.returns-in-Long-clause-fault
-returns-in-Long-clause-fault g c = at_long _ _ _ _ _ _ c.loop-jobs.invariant.0 c.into-in-Long.result c.in-Long.ensures (c.into-in-Long.ensures ∙ ap Input c.at_no_line-in-Long.ensures)
+returns-in-Long-clause-fault g c =
+    at_long _ _ _ _ _ c.loop-jobs.invariant.0 c.into-in-Long.result c.in-Long.ensures (c.into-in-Long.ensures ∙ ap Input c.at-in-Long.ensures ∙ ap (λ n. Input (located TooLong (Some (Later n)))) c.next_line_number-line.ensures)
 
 pub returns-in-TooMany-clause-fault : goal.returns-in-TooMany-clause-fault
-returns-in-TooMany-clause-fault g c = at_too_many _ _ _ _ _ _ c.loop-jobs.invariant.0 c.into-in-TooMany.result c.in-TooMany.ensures (c.into-in-TooMany.ensures ∙ ap Input c.at_no_line-in-TooMany.ensures)
+returns-in-TooMany-clause-fault g c = at_too_many _ _ _ _ _ c.loop-jobs.invariant.0 c.into-in-TooMany.result c.in-TooMany.ensures (c.into-in-TooMany.ensures ∙ ap Input c.at-in-TooMany.ensures)
