@@ -1,10 +1,11 @@
-use Rattle.std.proofs.Common.{List, sym, ap, ◌∙◌, subst}
+use Rattle.std.proofs.Common.{◌≡◌, false, List, sym, ap, ◌∙◌, subst}
 use Rattle.std.specs.Bool.{Decides}
 use Rattle.sq_schema.specs.Table.{TableValue, rows_in}
 use Rattle.sq_node_model.specs.NodeValue.{ReceiptValue}
 use Rattle.sq_node_model.specs.Gathered.{GatheredValue}
+use Rattle.sq_node_model.specs.Placed.{StandOnce, AllStand, KeepBases, NameEach}
 use Rattle.sq_audit.specs.declared.located.Located.{Located}
-use Rattle.sq_audit.specs.Answers.{AreAnsweredBy}
+use Rattle.sq_audit.specs.Answers.{AreKnown, AreAnswered, AreAnsweredBy}
 use Rattle.sq_audit.specs.Located.{entries_of, ListsAll}
 use Rattle.sq_audit.specs.Index.{IsIndex, root_of, HaveFamilies, AgreeOnSpots, StartFrom}
 use Rattle.sq_audit.specs.Told.{KnowsAll}
@@ -12,153 +13,109 @@ use Rattle.sq_audit.proofs.Each.{refuted, shown}
 use Rattle.sq_audit.proofs.Auditing.{stand_is, once_is, bases_are, known_are}
 use Rattle.sq_audit.proofs.Verdicts.{first_missing, first_doubled, first_changed, first_wrong, first_unknown, first_unanswered, all_clear}
 use Rattle.sq_audit.proofs.passes.audit.Goals as goal
+use Rattle.sq_audit.proofs.passes.audit.Goals.{After-have_families, After-start_from, In_ok-are_known, In_ok-are_answered}
+
+-- what each pass decides
+
+index_of : (c : After-have_families) → IsIndex root_of (entries_of c.in_ok-all.all.items) c.in_ok-index.index.places
+index_of c = subst (λ (all : List Located). IsIndex root_of (entries_of all) c.in_ok-index.index.places) c.deref.ensures.value c.in_ok-index.ensures.places
+
+stand : (c : After-have_families) → Decides c.have_families.result (AllStand c.args.opening.now c.args.g.now)
+stand c =
+    let places = c.in_ok-index.index.places in
+    let have = subst (λ (t : TableValue). Decides c.have_families.result (HaveFamilies t places)) c.table.ensures.table c.have_families.ensures in
+    stand_is c.args.opening.now c.args.g.now (entries_of c.in_ok-all.all.items) c.in_ok-all.ensures places (index_of c) c.have_families.result c.table.ensures.set_up.rising c.table.ensures.set_up.rows have
+
+once : (c : After-have_families) → Decides c.in_ok-index.index.once (StandOnce c.args.g.now)
+once c =
+    once_is c.args.opening.now c.args.g.now (entries_of c.in_ok-all.all.items) c.in_ok-all.ensures c.in_ok-index.index.once
+    (subst (λ (all : List Located). Decides c.in_ok-index.index.once (AgreeOnSpots (entries_of all))) c.deref.ensures.value c.in_ok-index.ensures.once)
+
+keep : (c : After-start_from) → Decides c.start_from.result (KeepBases c.args.opening.now c.args.g.now)
+keep c =
+    let o = c.args.opening.now in
+    let start = subst (λ (t : TableValue). Decides c.start_from.result (StartFrom (rows_in t) (entries_of c.deref-2.result.now))) c.table-2.ensures.table c.start_from.ensures in
+    bases_are o c.args.g.now (entries_of c.in_ok-all.all.items) c.in_ok-all.ensures c.start_from.result
+    (subst (λ (all : List Located). Decides c.start_from.result (StartFrom (rows_in o.table) (entries_of all))) c.deref-2.ensures.value start)
+
+known : (c : In_ok-are_known) → IsIndex root_of (entries_of c.in_ok-all.all.items) c.in_ok-index.index.places → StandOnce c.args.g.now
+    → Decides c.in_ok-are_known.field-0 (AreKnown c.args.g.now c.args.jobs.now × NameEach c.args.g.now)
+known c index is_once =
+    let jobs = c.args.jobs.now in
+    let entries = entries_of c.in_ok-all.all.items in
+    let knows = c.in_ok-are_known.field-0 in
+    let all = subst (λ (all : List Located). Decides knows (KnowsAll (entries_of all) jobs c.deref-5.result.now)) c.deref-4.ensures.value c.in_ok-are_known.ensures in
+    let receipts = c.deref-5.ensures.value ∙ ap (λ (v : GatheredValue). v.receipts) c.g.view_is in
+    known_are c.args.opening.now c.args.g.now entries c.in_ok-all.ensures c.in_ok-index.index.places index jobs is_once knows (subst (λ (rs : List ReceiptValue). Decides knows (KnowsAll entries jobs rs)) receipts all)
+
+answered : (c : In_ok-are_answered) → Decides c.in_ok-are_answered.field-0 (AreAnswered c.args.g.now c.args.jobs.now)
+answered c =
+    let receipts = c.deref-6.ensures.value ∙ ap (λ (v : GatheredValue). v.receipts) c.g.view_is in
+    subst (λ (rs : List ReceiptValue). Decides c.in_ok-are_answered.field-0 (AreAnsweredBy rs c.args.jobs.now)) receipts c.in_ok-are_answered.ensures
 
 pub returns-then-not-have_families : goal.returns-then-not-have_families
 returns-then-not-have_families c =
-    let o = c.args.opening.now in
-    let g = c.args.g.now in
-    let jobs = c.args.jobs.now in
-    let lists = c.in_ok-all.ensures in
-    let entries = entries_of c.in_ok-all.all.items in
-    let places = c.in_ok-index.index.places in
-    let index = subst (λ (all : List Located). IsIndex root_of (entries_of all) places) c.deref.ensures.value c.in_ok-index.ensures.places in
-    let have = subst (λ (t : TableValue). Decides c.have_families.result (HaveFamilies t places)) c.table.ensures.table c.have_families.ensures in
-    let stand = stand_is o g entries lists places index c.have_families.result c.table.ensures.set_up.rising c.table.ensures.set_up.rows have in
-    first_missing o g jobs (refuted c.have_families.result stand c.if-not-have_families.true)
+    let at = (goal.at.returns-then-not-have_families c).After-have_families in
+    first_missing c.args.opening.now c.args.g.now c.args.jobs.now (refuted c.have_families.result (stand at) c.if-not-have_families.true)
 
 pub returns-then-not-index : goal.returns-then-not-index
 returns-then-not-index c =
-    let o = c.args.opening.now in
-    let g = c.args.g.now in
-    let jobs = c.args.jobs.now in
-    let lists = c.in_ok-all.ensures in
-    let entries = entries_of c.in_ok-all.all.items in
-    let places = c.in_ok-index.index.places in
-    let index = subst (λ (all : List Located). IsIndex root_of (entries_of all) places) c.deref.ensures.value c.in_ok-index.ensures.places in
-    let have = subst (λ (t : TableValue). Decides c.have_families.result (HaveFamilies t places)) c.table.ensures.table c.have_families.ensures in
-    let stand = stand_is o g entries lists places index c.have_families.result c.table.ensures.set_up.rising c.table.ensures.set_up.rows have in
-    let agree = subst (λ (all : List Located). Decides c.in_ok-index.index.once (AgreeOnSpots (entries_of all))) c.deref.ensures.value c.in_ok-index.ensures.once in
-    let once = once_is o g entries lists c.in_ok-index.index.once agree in
-    let is_stand = shown c.have_families.result stand c.if-not-have_families.false in
-    first_doubled o g jobs is_stand (refuted c.in_ok-index.index.once once c.if-not-index.true)
+    let at = (goal.at.returns-then-not-index c).After-have_families in
+    first_doubled c.args.opening.now c.args.g.now c.args.jobs.now
+    (shown c.have_families.result (stand at) c.if-not-have_families.false)
+    (refuted c.in_ok-index.index.once (once at) c.if-not-index.true)
 
 pub returns-then-not-start_from : goal.returns-then-not-start_from
 returns-then-not-start_from c =
-    let o = c.args.opening.now in
-    let g = c.args.g.now in
-    let jobs = c.args.jobs.now in
-    let lists = c.in_ok-all.ensures in
-    let entries = entries_of c.in_ok-all.all.items in
-    let places = c.in_ok-index.index.places in
-    let index = subst (λ (all : List Located). IsIndex root_of (entries_of all) places) c.deref.ensures.value c.in_ok-index.ensures.places in
-    let have = subst (λ (t : TableValue). Decides c.have_families.result (HaveFamilies t places)) c.table.ensures.table c.have_families.ensures in
-    let stand = stand_is o g entries lists places index c.have_families.result c.table.ensures.set_up.rising c.table.ensures.set_up.rows have in
-    let agree = subst (λ (all : List Located). Decides c.in_ok-index.index.once (AgreeOnSpots (entries_of all))) c.deref.ensures.value c.in_ok-index.ensures.once in
-    let once = once_is o g entries lists c.in_ok-index.index.once agree in
-    let start = subst (λ (t : TableValue). Decides c.start_from.result (StartFrom (rows_in t) (entries_of c.deref-2.result.now))) c.table-2.ensures.table c.start_from.ensures in
-    let keep = bases_are o g entries lists c.start_from.result (subst (λ (all : List Located). Decides c.start_from.result (StartFrom (rows_in o.table) (entries_of all))) c.deref-2.ensures.value start) in
-    let is_stand = shown c.have_families.result stand c.if-not-have_families.false in
-    let is_once = shown c.in_ok-index.index.once once c.if-not-index.false in
-    first_changed o g jobs is_stand is_once (refuted c.start_from.result keep c.if-not-start_from.true)
+    let at = goal.at.returns-then-not-start_from c in
+    first_changed c.args.opening.now c.args.g.now c.args.jobs.now
+    (shown c.have_families.result (stand at.After-have_families) c.if-not-have_families.false)
+    (shown c.in_ok-index.index.once (once at.After-have_families) c.if-not-index.false)
+    (refuted c.start_from.result (keep at.After-start_from) c.if-not-start_from.true)
 
 pub fit-requires : goal.fit-requires
-fit-requires c =
-    subst (λ (all : List Located). ListsAll c.args.g.now (entries_of all)) (sym c.deref-3.ensures.value) c.in_ok-all.ensures
+fit-requires c = subst (λ (all : List Located). ListsAll c.args.g.now (entries_of all)) (sym c.deref-3.ensures.value) c.in_ok-all.ensures
 
 pub returns-then-not-branch : goal.returns-then-not-branch
 returns-then-not-branch c =
-    let o = c.args.opening.now in
-    let g = c.args.g.now in
-    let jobs = c.args.jobs.now in
-    let lists = c.in_ok-all.ensures in
-    let entries = entries_of c.in_ok-all.all.items in
-    let places = c.in_ok-index.index.places in
-    let index = subst (λ (all : List Located). IsIndex root_of (entries_of all) places) c.deref.ensures.value c.in_ok-index.ensures.places in
-    let have = subst (λ (t : TableValue). Decides c.have_families.result (HaveFamilies t places)) c.table.ensures.table c.have_families.ensures in
-    let stand = stand_is o g entries lists places index c.have_families.result c.table.ensures.set_up.rising c.table.ensures.set_up.rows have in
-    let agree = subst (λ (all : List Located). Decides c.in_ok-index.index.once (AgreeOnSpots (entries_of all))) c.deref.ensures.value c.in_ok-index.ensures.once in
-    let once = once_is o g entries lists c.in_ok-index.index.once agree in
-    let start = subst (λ (t : TableValue). Decides c.start_from.result (StartFrom (rows_in t) (entries_of c.deref-2.result.now))) c.table-2.ensures.table c.start_from.ensures in
-    let keep = bases_are o g entries lists c.start_from.result (subst (λ (all : List Located). Decides c.start_from.result (StartFrom (rows_in o.table) (entries_of all))) c.deref-2.ensures.value start) in
-    let is_stand = shown c.have_families.result stand c.if-not-have_families.false in
-    let is_once = shown c.in_ok-index.index.once once c.if-not-index.false in
-    let is_keep = shown c.start_from.result keep c.if-not-start_from.false in
-    first_wrong o g jobs is_stand is_once is_keep (refuted c.in_ok-fit.field-0 c.in_ok-fit.ensures c.if-not-branch.true)
+    let at = goal.at.returns-then-not-branch c in
+    first_wrong c.args.opening.now c.args.g.now c.args.jobs.now
+    (shown c.have_families.result (stand at.After-have_families) c.if-not-have_families.false)
+    (shown c.in_ok-index.index.once (once at.After-have_families) c.if-not-index.false)
+    (shown c.start_from.result (keep at.After-start_from) c.if-not-start_from.false)
+    (refuted c.in_ok-fit.field-0 c.in_ok-fit.ensures c.if-not-branch.true)
 
 pub returns-then-not-branch-2 : goal.returns-then-not-branch-2
 returns-then-not-branch-2 c =
-    let o = c.args.opening.now in
-    let g = c.args.g.now in
-    let jobs = c.args.jobs.now in
-    let lists = c.in_ok-all.ensures in
-    let entries = entries_of c.in_ok-all.all.items in
-    let places = c.in_ok-index.index.places in
-    let index = subst (λ (all : List Located). IsIndex root_of (entries_of all) places) c.deref.ensures.value c.in_ok-index.ensures.places in
-    let have = subst (λ (t : TableValue). Decides c.have_families.result (HaveFamilies t places)) c.table.ensures.table c.have_families.ensures in
-    let stand = stand_is o g entries lists places index c.have_families.result c.table.ensures.set_up.rising c.table.ensures.set_up.rows have in
-    let agree = subst (λ (all : List Located). Decides c.in_ok-index.index.once (AgreeOnSpots (entries_of all))) c.deref.ensures.value c.in_ok-index.ensures.once in
-    let once = once_is o g entries lists c.in_ok-index.index.once agree in
-    let start = subst (λ (t : TableValue). Decides c.start_from.result (StartFrom (rows_in t) (entries_of c.deref-2.result.now))) c.table-2.ensures.table c.start_from.ensures in
-    let keep = bases_are o g entries lists c.start_from.result (subst (λ (all : List Located). Decides c.start_from.result (StartFrom (rows_in o.table) (entries_of all))) c.deref-2.ensures.value start) in
-    let is_stand = shown c.have_families.result stand c.if-not-have_families.false in
-    let is_once = shown c.in_ok-index.index.once once c.if-not-index.false in
-    let is_keep = shown c.start_from.result keep c.if-not-start_from.false in
-    let is_fit = shown c.in_ok-fit.field-0 c.in_ok-fit.ensures c.if-not-branch.false in
-    let all = subst (λ (all : List Located). Decides c.in_ok-are_known.field-0 (KnowsAll (entries_of all) jobs c.deref-5.result.now)) c.deref-4.ensures.value c.in_ok-are_known.ensures in
-    let receipts = c.deref-5.ensures.value ∙ ap (λ (v : GatheredValue). v.receipts) c.g.view_is in
-    let known = known_are o g entries lists places index jobs is_once c.in_ok-are_known.field-0 (subst (λ (rs : List ReceiptValue). Decides c.in_ok-are_known.field-0 (KnowsAll entries jobs rs)) receipts all) in
-    first_unknown o g jobs is_stand is_once is_keep is_fit (refuted c.in_ok-are_known.field-0 known c.if-not-branch-2.true)
+    let at = goal.at.returns-then-not-branch-2 c in
+    let is_once = shown c.in_ok-index.index.once (once at.After-have_families) c.if-not-index.false in
+    first_unknown c.args.opening.now c.args.g.now c.args.jobs.now
+    (shown c.have_families.result (stand at.After-have_families) c.if-not-have_families.false)
+    is_once
+    (shown c.start_from.result (keep at.After-start_from) c.if-not-start_from.false)
+    (shown c.in_ok-fit.field-0 c.in_ok-fit.ensures c.if-not-branch.false)
+    (refuted c.in_ok-are_known.field-0 (known at.In_ok-are_known (index_of at.After-have_families) is_once) c.if-not-branch-2.true)
 
 pub returns-then-not-branch-3 : goal.returns-then-not-branch-3
 returns-then-not-branch-3 c =
-    let o = c.args.opening.now in
-    let g = c.args.g.now in
-    let jobs = c.args.jobs.now in
-    let lists = c.in_ok-all.ensures in
-    let entries = entries_of c.in_ok-all.all.items in
-    let places = c.in_ok-index.index.places in
-    let index = subst (λ (all : List Located). IsIndex root_of (entries_of all) places) c.deref.ensures.value c.in_ok-index.ensures.places in
-    let have = subst (λ (t : TableValue). Decides c.have_families.result (HaveFamilies t places)) c.table.ensures.table c.have_families.ensures in
-    let stand = stand_is o g entries lists places index c.have_families.result c.table.ensures.set_up.rising c.table.ensures.set_up.rows have in
-    let agree = subst (λ (all : List Located). Decides c.in_ok-index.index.once (AgreeOnSpots (entries_of all))) c.deref.ensures.value c.in_ok-index.ensures.once in
-    let once = once_is o g entries lists c.in_ok-index.index.once agree in
-    let start = subst (λ (t : TableValue). Decides c.start_from.result (StartFrom (rows_in t) (entries_of c.deref-2.result.now))) c.table-2.ensures.table c.start_from.ensures in
-    let keep = bases_are o g entries lists c.start_from.result (subst (λ (all : List Located). Decides c.start_from.result (StartFrom (rows_in o.table) (entries_of all))) c.deref-2.ensures.value start) in
-    let is_stand = shown c.have_families.result stand c.if-not-have_families.false in
-    let is_once = shown c.in_ok-index.index.once once c.if-not-index.false in
-    let is_keep = shown c.start_from.result keep c.if-not-start_from.false in
-    let is_fit = shown c.in_ok-fit.field-0 c.in_ok-fit.ensures c.if-not-branch.false in
-    let all = subst (λ (all : List Located). Decides c.in_ok-are_known.field-0 (KnowsAll (entries_of all) jobs c.deref-5.result.now)) c.deref-4.ensures.value c.in_ok-are_known.ensures in
-    let receipts = c.deref-5.ensures.value ∙ ap (λ (v : GatheredValue). v.receipts) c.g.view_is in
-    let known = known_are o g entries lists places index jobs is_once c.in_ok-are_known.field-0 (subst (λ (rs : List ReceiptValue). Decides c.in_ok-are_known.field-0 (KnowsAll entries jobs rs)) receipts all) in
-    let is_known = shown c.in_ok-are_known.field-0 known c.if-not-branch-2.false in
-    let receipts_too = c.deref-6.ensures.value ∙ ap (λ (v : GatheredValue). v.receipts) c.g.view_is in
-    let answered = subst (λ (rs : List ReceiptValue). Decides c.in_ok-are_answered.field-0 (AreAnsweredBy rs jobs)) receipts_too c.in_ok-are_answered.ensures in
-    first_unanswered o g jobs is_stand is_once is_keep is_fit is_known (refuted c.in_ok-are_answered.field-0 answered c.if-not-branch-3.true)
+    let at = goal.at.returns-then-not-branch-3 c in
+    let is_once = shown c.in_ok-index.index.once (once at.After-have_families) c.if-not-index.false in
+    first_unanswered c.args.opening.now c.args.g.now c.args.jobs.now
+    (shown c.have_families.result (stand at.After-have_families) c.if-not-have_families.false)
+    is_once
+    (shown c.start_from.result (keep at.After-start_from) c.if-not-start_from.false)
+    (shown c.in_ok-fit.field-0 c.in_ok-fit.ensures c.if-not-branch.false)
+    (shown c.in_ok-are_known.field-0 (known at.In_ok-are_known (index_of at.After-have_families) is_once) c.if-not-branch-2.false)
+    (refuted c.in_ok-are_answered.field-0 (answered at.In_ok-are_answered) c.if-not-branch-3.true)
 
 pub returns : goal.returns
 returns c =
-    let o = c.args.opening.now in
-    let g = c.args.g.now in
-    let jobs = c.args.jobs.now in
-    let lists = c.in_ok-all.ensures in
-    let entries = entries_of c.in_ok-all.all.items in
-    let places = c.in_ok-index.index.places in
-    let index = subst (λ (all : List Located). IsIndex root_of (entries_of all) places) c.deref.ensures.value c.in_ok-index.ensures.places in
-    let have = subst (λ (t : TableValue). Decides c.have_families.result (HaveFamilies t places)) c.table.ensures.table c.have_families.ensures in
-    let stand = stand_is o g entries lists places index c.have_families.result c.table.ensures.set_up.rising c.table.ensures.set_up.rows have in
-    let agree = subst (λ (all : List Located). Decides c.in_ok-index.index.once (AgreeOnSpots (entries_of all))) c.deref.ensures.value c.in_ok-index.ensures.once in
-    let once = once_is o g entries lists c.in_ok-index.index.once agree in
-    let start = subst (λ (t : TableValue). Decides c.start_from.result (StartFrom (rows_in t) (entries_of c.deref-2.result.now))) c.table-2.ensures.table c.start_from.ensures in
-    let keep = bases_are o g entries lists c.start_from.result (subst (λ (all : List Located). Decides c.start_from.result (StartFrom (rows_in o.table) (entries_of all))) c.deref-2.ensures.value start) in
-    let is_stand = shown c.have_families.result stand c.if-not-have_families.false in
-    let is_once = shown c.in_ok-index.index.once once c.if-not-index.false in
-    let is_keep = shown c.start_from.result keep c.if-not-start_from.false in
-    let is_fit = shown c.in_ok-fit.field-0 c.in_ok-fit.ensures c.if-not-branch.false in
-    let all = subst (λ (all : List Located). Decides c.in_ok-are_known.field-0 (KnowsAll (entries_of all) jobs c.deref-5.result.now)) c.deref-4.ensures.value c.in_ok-are_known.ensures in
-    let receipts = c.deref-5.ensures.value ∙ ap (λ (v : GatheredValue). v.receipts) c.g.view_is in
-    let known = known_are o g entries lists places index jobs is_once c.in_ok-are_known.field-0 (subst (λ (rs : List ReceiptValue). Decides c.in_ok-are_known.field-0 (KnowsAll entries jobs rs)) receipts all) in
-    let is_known = shown c.in_ok-are_known.field-0 known c.if-not-branch-2.false in
-    let receipts_too = c.deref-6.ensures.value ∙ ap (λ (v : GatheredValue). v.receipts) c.g.view_is in
-    let answered = subst (λ (rs : List ReceiptValue). Decides c.in_ok-are_answered.field-0 (AreAnsweredBy rs jobs)) receipts_too c.in_ok-are_answered.ensures in
-    all_clear o g jobs is_stand is_once is_keep is_fit is_known (shown c.in_ok-are_answered.field-0 answered c.if-not-branch-3.false)
+    let at = goal.at.returns c in
+    let is_once = shown c.in_ok-index.index.once (once at.After-have_families) c.if-not-index.false in
+    all_clear c.args.opening.now c.args.g.now c.args.jobs.now
+    (shown c.have_families.result (stand at.After-have_families) c.if-not-have_families.false)
+    is_once
+    (shown c.start_from.result (keep at.After-start_from) c.if-not-start_from.false)
+    (shown c.in_ok-fit.field-0 c.in_ok-fit.ensures c.if-not-branch.false)
+    (shown c.in_ok-are_known.field-0 (known at.In_ok-are_known (index_of at.After-have_families) is_once) c.if-not-branch-2.false)
+    (shown c.in_ok-are_answered.field-0 (answered at.In_ok-are_answered) c.if-not-branch-3.false)
