@@ -14,7 +14,8 @@ use sq_gather::Gathered;
 use sq_ranges::Opening;
 use std::alloc::AllocError;
 
-/// Whether what was gathered of a run of these jobs, whose ids differ, is sound, or else its first defect.
+/// Whether what was gathered of a run of these jobs, whose ids differ, is sound, or else its first defect. It is refused
+/// only where there is no memory for it.
 pub fn audit(opening: &Opening, g: &Gathered, jobs: &[Job]) -> Result<Verdict, AllocError>
     requires { IdsDiffer jobs.now }
     ensures { IfOk result (IsVerdict opening.now g.now jobs.now) }

@@ -1,4 +1,4 @@
-use Rattle.std.proofs.Common.{◌≡◌, false, List, sym, ap, ◌∙◌, subst}
+use Rattle.std.proofs.Common.{List, sym, ap, ◌∙◌, subst}
 use Rattle.std.specs.Bool.{Decides}
 use Rattle.sq_schema.specs.Table.{TableValue, rows_in}
 use Rattle.sq_node_model.specs.NodeValue.{ReceiptValue}
