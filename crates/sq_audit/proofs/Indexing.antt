@@ -1,5 +1,5 @@
 -- The index of families by root key, as it grows.
-use Rattle.std.proofs.Common.{◌≡◌, ⊎_elim, ℕ, ◌+◌, ◌<◌, ◌≤◌, ◌&&◌, Bool, true, List, length, slice_get, Option, Some, None, refl, sym, ap, ◌∙◌, subst, arith}
+use Rattle.std.proofs.Common.{◌≡◌, ⊎_elim, ℕ, ◌+◌, ◌<◌, ◌≤◌, ◌&&◌, Bool, List, length, slice_get, Option, Some, None, refl, sym, ap, ◌∙◌, subst, arith}
 use Rattle.std.specs.Bool.{Decides}
 use Rattle.std.specs.Ordering.{nat_cmp}
 use Rattle.std.specs.Cmp.{unsigned_tied}
@@ -25,17 +25,6 @@ site_same (Store part) (Store other) = Decides-like _ (λ same. ap (λ p. spot_o
 site_same (Chunk link chunk) (Chunk other again) =
     Decides-like _ (λ same. let one = same.0 in let two = same.1 in cc) (λ same. ((cc), (cc))) (Decides-and _ _ (unsigned_Decides link other) (unsigned_Decides chunk again))
 site_same _ _ = ((λ wrong. cc), (λ same. cc))
-
-pub index_none : {X : Type 0} (key : X → ℕ) (xs : List X) (places : BTreeMap ℕ ℕ) → ((k : ℕ) → get nat_cmp places k ≡ None) → IsIndexTo key xs 0 places
-index_none key xs places empty =
-    record {
-      found = λ k place at. absurd (no_some place (sym (empty k) ∙ at));
-      before = λ k place at. absurd (no_some place (sym (empty k) ∙ at));
-      none = λ k none place x below. absurd (omega (arith, below));
-    }
-
-pub agree_none : (entries : List Entry) → Decides true (AgreeTo entries 0)
-agree_none entries = ((λ e i j one other low. absurd (omega (arith, low))), (λ all. refl))
 
 module _ {X : Type 0} (key : X → ℕ) (xs : List X) (upto k : ℕ) (old new : BTreeMap ℕ ℕ) (one : X) (there : slice_get xs upto ≡ Some one) (is : key one ≡ k)
     (updates : Updates nat_cmp old new k (Some upto)) (so_far : IsIndexTo key xs upto old) where

@@ -11,8 +11,7 @@ pub mod Knowing
 pub mod Auditing
 pub mod Verdicts
 pub mod Parts
-pub mod Places
-pub mod Once
+pub mod Apart
 pub mod Tiling
 pub mod Ways
 pub mod Growing

@@ -36,12 +36,6 @@ module _ {X : Type 0} (P : List X → Type 0) (earlier : (x : X) (xs : List X) �
   walked_holds xs i holds = behind (reverse (drop i xs)) (walked xs i) (subst P (ap reverse (sym (take-append-drop i xs)) ∙ reverse-append (take i xs) (drop i xs)) holds)
 
 -- notes that are numbered
-pub numbered_more : (notes : List Note) (i : ℕ) (note : Note) → slice_get notes i ≡ Some note → AreNumbered (walked notes i) → note.number ≡ i → AreNumbered (walked notes (i + 1))
-numbered_more notes i note at so_far number =
-    let within = slice_get_within notes i note at in
-    let count : length (walked notes i) ≡ i = length-reverse (take i notes) ∙ length-take-le i notes (omega (arith, within)) in
-    subst AreNumbered (sym (walked_more notes i note at)) (number ∙ sym count, so_far)
-
 pub number_at : (notes : List Note) (i : ℕ) (note : Note) → slice_get notes i ≡ Some note → AreNumbered (reverse notes) → note.number ≡ i
 number_at notes i note at numbered =
     let within = slice_get_within notes i note at in

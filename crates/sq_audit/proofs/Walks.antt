@@ -49,19 +49,6 @@ module _ (jobs : List Job) (family : FamilyValue) (group : List ReceiptValue) wh
     pub known : (k : ℕ) (r : ReceiptValue) → k < i → slice_get group k ≡ Some r → IsKnownOn jobs family r
     pub named : (q : ℕ) → count_by (is_named q) (take i group) ≡ one_if (nat_lt q position)
 
-  pub walk_begins : (rows : RowList) → rows ≡ family.base → WalkedTo 0 0 rows
-  walk_begins rows same =
-      record {
-        rows_are = same ∙ ap (replay_rows family.base) (sym (none_taken family.log));
-        within = omega arith;
-        known = λ k r low. absurd (omega (arith, low));
-        named = λ q. ap (count_by (is_named q)) (none_taken group) ∙ sym (none_from q 0 (omega arith));
-      }
-    where
-      none_taken : {X : Type 0} (xs : List X) → take 0 xs ≡ []
-      none_taken [] = refl
-      none_taken (x ∷ xs) = refl
-
   module _ (i position : ℕ) (rows : RowList) (so_far : WalkedTo i position rows) (r : ReceiptValue) (at : slice_get group i ≡ Some r) where
     known_from : r.position ≡ position → IsAnswered jobs rows (slice_get family.log position) r → IsKnownOn jobs family r
     known_from here told =

@@ -4,7 +4,7 @@ use Rattle.sq_tree.specs.declared.status.Status.{Status}
 use Rattle.sq_node_model.specs.Gathered.{GatheredValue}
 use Rattle.sq_audit.specs.Words.{HaveGrown}
 use Rattle.sq_audit.proofs.Each.{refuted, shown}
-use Rattle.sq_audit.proofs.Once.{apart}
+use Rattle.sq_audit.proofs.Apart.{apart}
 use Rattle.sq_audit.proofs.Fitting.{fit_if_placed}
 use Rattle.sq_audit.proofs.fits.fit.Goals as goal
 
