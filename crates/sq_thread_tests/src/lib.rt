@@ -1,6 +1,9 @@
-//! Tests of runs in threads: of nodes and pumps, of the workers that drive them, and of what is gathered of them.
+//! Tests of runs in threads: of nodes and pumps, of the workers that drive them, of what is gathered of them, and of
+//! its audit.
 #![tactic(auto)]
 
+#[cfg(test)]
+mod audit;
 #[cfg(test)]
 mod driver;
 #[cfg(test)]

@@ -5,6 +5,7 @@ ghost use Rattle.sq_node.specs.NodeState.{IsNodeOf};
 ghost use Rattle.sq_gather.specs.Gathered.{AreAllOf};
 
 use crate::text::receipts_text;
+use sq_audit::Job;
 use sq_driver::{Gate, drive_pump, run_workers};
 use sq_gather::{Gathered, Ungathered, gather};
 use sq_lines::LineReader;
@@ -12,12 +13,32 @@ use sq_model::Step;
 use sq_node::{Fabric, Node, Stepped};
 use sq_plan::PartId;
 use sq_pull::{Pump, PumpTurn, Request};
+use sq_ranges::Opening;
 use sq_schema::{Reply, Schema};
 use sq_text::{read_header, read_step};
 use std::alloc::Global;
 use std::sync::Wait;
 use std::test::Fail;
 use std::thread::Threads;
+
+/// The opening of a header.
+pub fn read_opening(alloc: Global, header: &str) -> Result<Opening, Fail> {
+    let schema = Schema::new(8).ok_or("8 tables are a schema")?;
+    let mut lines = LineReader::new(alloc, header.as_bytes())?;
+    Ok(read_header(alloc, schema, &mut lines)?)
+}
+
+/// The job of a line, which names its partition.
+pub fn job(alloc: Global, line: &str) -> Result<Job, Fail> {
+    let schema = Schema::new(8).ok_or("8 tables are a schema")?;
+    match read_step(alloc, &schema, line.as_bytes())? {
+        Step::Submit(part, txn) if part < 256 => Ok(Job {
+            part: PartId::new(part as u8),
+            txn,
+        }),
+        _ => Err("no transaction")?,
+    }
+}
 
 /// A run: what its nodes share, all nodes and all pumps.
 #[derive(Drop)]
@@ -33,9 +54,7 @@ impl Run {
     pub fn opened(alloc: Global, header: &str, pumps: u32) -> Result<Run, Fail>
         requires { pumps ≤ MAX_OWNERS }
     {
-        let schema = Schema::new(8).ok_or("8 tables are a schema")?;
-        let mut lines = LineReader::new(alloc, header.as_bytes())?;
-        let opening = read_header(alloc, schema, &mut lines)?;
+        let opening = read_opening(alloc, header)?;
         let (fabric, nodes, pumps) = Fabric::open(alloc, &opening, pumps)?;
         // For the proof: what holds of each fabric, which `links` says.
         let _links = fabric.links();
@@ -57,14 +76,11 @@ impl Run {
 
     /// The same, and whether the queue had room for it.
     pub fn has_posted<R: Wait>(&self, rt: &R, alloc: Global, line: &str) -> Result<bool, Fail> {
-        let schema = Schema::new(8).ok_or("8 tables are a schema")?;
-        let Step::Submit(part, job) = read_step(alloc, &schema, line.as_bytes())? else {
-            return Err("no transaction")?;
-        };
-        if part >= u64::from(self.fabric.parts()) {
+        let Job { part, txn } = job(alloc, line)?;
+        if part.number() >= self.fabric.parts() {
             return Err("no such partition")?;
         }
-        Ok(self.fabric.post(rt, PartId::new(part as u8), job).is_ok())
+        Ok(self.fabric.post(rt, part, txn).is_ok())
     }
 
     /// Asks a partition to begin a node of a segment for a pull.

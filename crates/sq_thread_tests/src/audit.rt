@@ -1,0 +1,158 @@
+// The audit of a run, and of what was gathered of it with one thing changed.
+ghost use Rattle.std.specs.Prelude.{IfOk};
+ghost use Rattle.sq_audit.specs.Answers.{IdsDiffer};
+
+use crate::node::PAIR;
+use crate::run::{Run, job, read_opening};
+use sq_audit::{Job, Verdict, audit};
+use sq_gather::Gathered;
+use sq_ranges::Extent;
+use sq_schema::{Family, Root, Row, RowKey, Rows};
+use sq_store::{FamilyStore, SlabStore, StoreAnswer, StoreCommand, run_store};
+use std::alloc::Global;
+use std::sync::Wait;
+use std::test::Fail;
+
+// The first commits, and the second aborts.
+const FIRST: &str = "txn 0 1 5 get 0 0";
+
+const SECOND: &str = "txn 0 2 9 check 0 0 99";
+
+// The jobs of the run.
+fn jobs(alloc: Global) -> Result<Vec<Job>, Fail>
+    ensures { IfOk result (λ jobs. IdsDiffer jobs.items) }
+{
+    let first = job(alloc, FIRST)?;
+    let second = job(alloc, SECOND)?;
+    if first.txn.id() == second.txn.id() {
+        return Err("two jobs have one id")?;
+    }
+    let mut jobs = Vec::with_capacity(alloc, 2)?;
+    jobs.push_reserved(first);
+    jobs.push_reserved(second);
+    Ok(jobs)
+}
+
+// What is gathered of the run, in which partition 0 answers both.
+fn worked<R: Wait>(rt: &R, alloc: Global) -> Result<Gathered, Fail> {
+    let mut run = Run::opened(alloc, PAIR, 1)?;
+    run.post(rt, alloc, FIRST)?;
+    run.post(rt, alloc, SECOND)?;
+    for _turn in 0..4 {
+        run.turn(rt, 0)?;
+    }
+    run.gathered(rt, alloc)
+}
+
+// What is changed of it.
+#[derive(Clone, Copy, Debug)]
+enum Change {
+    Nothing,
+    // The family of root key 5 is taken out.
+    FamilyOut,
+    // A second one stands at partition 1.
+    FamilyTwice,
+    // One that opens with this number stands in its place, with an empty log.
+    FamilyOpened(i64),
+    // It stands at partition 1.
+    FamilyMoved,
+    // The receipt of the first job has this id.
+    ReceiptId(u64),
+    // The receipt at this place is taken out.
+    ReceiptOut(usize),
+}
+
+// A family of root key 5 that opens with this number.
+fn opened(alloc: Global, number: i64) -> Result<Family, Fail> {
+    let root = Root::new(5).ok_or("no root key")?;
+    let mut rows = Rows::new(alloc);
+    rows.insert(RowKey::ROOT, Row::new(number, Vec::new(alloc)))?;
+    Ok(Family::opened(alloc, root, rows)?)
+}
+
+// Takes the family of root key 5 out of the store of partition 0.
+fn take_family(stores: &mut [SlabStore]) -> Result<Family, Fail> {
+    let Some(store) = stores.first_mut() else {
+        return Err("no store")?;
+    };
+    let mut cut = store.take(Extent { lo: 5, hi: 6 }, 1000)?;
+    Ok(cut.families.pop().ok_or("no family")?)
+}
+
+// Puts a family into the store of a partition.
+fn put_family(
+    alloc: Global,
+    stores: &mut [SlabStore],
+    part: usize,
+    family: Family,
+) -> Result<(), Fail> {
+    let Some(store) = stores.get_mut(part) else {
+        return Err("no store")?;
+    };
+    let mut families = Vec::new(alloc);
+    families.push(family)?;
+    let mut commands = Vec::new(alloc);
+    commands.push(StoreCommand::Give(families))?;
+    match run_store(alloc, store, commands)?.as_slice() {
+        [StoreAnswer::Given(Ok(()))] => Ok(()),
+        _ => Err("the family isn't given")?,
+    }
+}
+
+// Makes a change.
+fn make(alloc: Global, gathered: &mut Gathered, change: Change) -> Result<(), Fail> {
+    let Gathered {
+        stores,
+        receipts,
+        ..
+    } = gathered;
+    match change {
+        Change::Nothing => {}
+        Change::FamilyOut => drop(take_family(stores)?),
+        Change::FamilyTwice => put_family(alloc, stores, 1, opened(alloc, 10)?)?,
+        Change::FamilyOpened(number) => {
+            drop(take_family(stores)?);
+            put_family(alloc, stores, 0, opened(alloc, number)?)?;
+        }
+        Change::FamilyMoved => {
+            let family = take_family(stores)?;
+            put_family(alloc, stores, 1, family)?;
+        }
+        Change::ReceiptId(id) => {
+            receipts.first_mut().ok_or("no receipt")?.id = id;
+        }
+        Change::ReceiptOut(at) if at < receipts.len() => drop(receipts.remove(at)),
+        Change::ReceiptOut(_) => return Err("no receipt")?,
+    }
+    Ok(())
+}
+
+// Each change, and the number of the defect that is found.
+const DEFECTS: [(Change, Option<u16>); 9] = [
+    (Change::Nothing, None),
+    (Change::FamilyOut, Some(301)),
+    (Change::FamilyTwice, Some(302)),
+    (Change::FamilyOpened(11), Some(303)),
+    (Change::FamilyMoved, Some(304)),
+    (Change::FamilyOpened(10), Some(305)),
+    (Change::ReceiptId(3), Some(305)),
+    (Change::ReceiptOut(0), Some(305)),
+    (Change::ReceiptOut(1), Some(306)),
+];
+
+#[test]
+fn each_change_has_its_defect(rt: HostRuntime) -> Result<(), Fail> {
+    let alloc = rt.alloc();
+    let opening = read_opening(alloc, PAIR)?;
+    let jobs = jobs(alloc)?;
+    for (change, want) in DEFECTS {
+        let mut gathered = worked(&rt, alloc)?;
+        make(alloc, &mut gathered, change)?;
+        let found = match audit(&opening, &gathered, &jobs)? {
+            Verdict::Sound => None,
+            Verdict::Unsound(defect) => Some(defect.number()),
+        };
+        assert!(rt; found == want, "{change:?}");
+    }
+    Ok(())
+}
