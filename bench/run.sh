@@ -7,8 +7,10 @@
 # Prints for each script the seconds, the lines a second, the most memory that the program took, and the multiple of the
 # time that `LC_ALL=C wc -lw` takes on the same input, which is a measure that stands on every machine. Then it prints
 # how the time of a transaction and of a chunk grows with the database: the ratio of the time at 400,000 families to that
-# at 1,000. The time of a script is the difference of an input with it and one without it. Each time is processor time,
-# and the best of several (RUNS=COUNT, 5 if left out).
+# at 1,000. The time of a script is the difference of an input with it and one without it. Each of these times is
+# processor time. At last come live runs with 4,096 jobs, whose partitions each give all their root keys to the next one:
+# how many jobs are answered in a second that passes, and the ratio to a run of one partition. Each time is the best of
+# several (RUNS=COUNT, 5 if left out).
 #
 # The program is crates/squall/out/squall, which `rt run` leaves in crates/squall; SQUALL=PATH takes another.
 set -eu
@@ -245,10 +247,32 @@ BEGIN {
     }
 }'
 
-# Runs the program on the input, and compares what it writes with what is wanted.
+# Jobs of a live run, as many as are named, on root keys that all go from their partition to the next one meanwhile.
+jobs='
+BEGIN {
+    end = "4294967296"
+    each = roots / parts
+    old = new = ""
+    for (part = 0; part < parts; part++) {
+        extent = "[" part * each "," (part + 1) * each ","
+        old = old extent part "],"
+        new = new extent (part + 1) % parts "],"
+    }
+    print "old {\"version\":1,\"partitions\":" parts ",\"ranges\":[" old "[" roots "," end ",0]]}" > input
+    print "new {\"version\":1,\"partitions\":" parts ",\"ranges\":[" new "[" roots "," end ",0]]}" > input
+    print "config 8 4096 8" > input
+    rows(roots)
+    for (id = 0; id < count; id++) {
+        root = random(roots)
+        transaction(int(root / each), id, root)
+    }
+    print "sound " roots " families " count " committed" > wanted
+}'
+
+# Runs a subcommand of the program, `run` if none is named, on the input, and compares what it writes with what is wanted.
 check() {
     local status=0
-    "$squall" run < "$room/input" > "$room/output" || status=$?
+    "$squall" "${2:-run}" < "$room/input" > "$room/output" || status=$?
     if [ "$status" != 0 ] || ! cmp -s "$room/output" "$room/wanted"; then
         echo "bench: $1: status $status, and the output isn't the wanted one; its last lines:" >&2
         tail -n 3 "$room/output" | cut -c 1-200 >&2
@@ -264,6 +288,18 @@ best() {
     for ((run = 0; run < runs; run++)); do
         taken=$({ time for ((i = 0; i < count; i++)); do "$@" < "$room/input" > "$room/output"; done; } 2>&1)
         taken=$(awk -v count="$count" '{ printf "%.0f", ($1 + $2) * 1000000 / count }' <<< "$taken")
+        if [ -z "$least" ] || [ "$taken" -lt "$least" ]; then least=$taken; fi
+    done
+    echo "$least"
+}
+
+# elapsed WORD..: the least time in microseconds that passes while a command runs on the input.
+elapsed() {
+    local least= from taken run
+    for ((run = 0; run < runs; run++)); do
+        from=$(date +%s%N)
+        "$@" < "$room/input" > "$room/output"
+        taken=$((($(date +%s%N) - from) / 1000))
         if [ -z "$least" ] || [ "$taken" -lt "$least" ]; then least=$taken; fi
     done
     echo "$least"
@@ -315,6 +351,17 @@ grows() {
 }'
 }
 
+# lively PARTITIONS [RATE]: times a live run. Leaves how many jobs it answers a second in `rate`, and prints the ratio to
+# another rate, where one is named.
+lively() {
+    generate "$jobs" roots=4096 parts="$1" count=4096
+    check "live run of $1 partitions" live
+    rate=$((4096 * 1000000 / $(elapsed "$squall" live)))
+    awk -v parts="$1" -v rate="$rate" -v other="${2:-$rate}" 'BEGIN {
+    printf "a live run of %d partition%s: %d jobs a second, %.2f times as many as of one\n", parts, parts == 1 ? "" : "s", rate, rate / other
+}'
+}
+
 measure transactions "$transactions" roots=10000 count=100000
 measure "move in chunks" "$chunks"
 measure "move one by one" "$one_by_one"
@@ -322,3 +369,7 @@ measure "resumed transactions" "$resumes"
 measure "empty lines" "$empty_lines"
 grows "a transaction" "$transactions" 2000 250000
 grows "a chunk" "$growing_chunks" 500 100000
+lively 1
+one=$rate
+lively 4 "$one"
+lively 16 "$one"
