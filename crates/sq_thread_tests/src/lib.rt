@@ -1,5 +1,5 @@
-//! Tests of runs in threads: of nodes and pumps, of the workers that drive them, of what is gathered of them, and of
-//! its audit.
+//! Tests of runs in threads: of nodes and pumps, of the workers that drive them, of what is gathered of them and of its
+//! audit, and of live runs.
 #![tactic(auto)]
 
 #[cfg(test)]
@@ -7,7 +7,11 @@ mod audit;
 #[cfg(test)]
 mod driver;
 #[cfg(test)]
+mod gates;
+#[cfg(test)]
 mod gather;
+#[cfg(test)]
+mod live;
 #[cfg(test)]
 mod node;
 #[cfg(test)]
