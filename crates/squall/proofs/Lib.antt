@@ -1,2 +1,3 @@
 mod Subcommands
 pub mod Endings
+pub mod Options

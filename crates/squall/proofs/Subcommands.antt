@@ -119,17 +119,18 @@ module _ (s : Shape) (names : Names) (enabled : s.disable_help_subcommand ≡ fa
 abbrev name_met : Option (Text × List Row) → Option Text
 name_met = option_map (λ sub. sub.0)
 
--- the name of one of the two
-abbrev IsEither : Text → Text → Option Text → Type 0
-IsEither x y name = (name ≡ Some x) ⊎ (name ≡ Some y)
+-- the name is one of these three
+abbrev IsOneOf : Text → Text → Text → Option Text → Type 0
+IsOneOf x y z name = (name ≡ Some x) ⊎ ((name ≡ Some y) ⊎ (name ≡ Some z))
 
-found : (run ranges help : Bool) (words : List Text) (x y z : Shape) → not help ≡ true
-    → is_some (option_map (λ s. rows_at s words) (cond (run || false) (Some x) (cond (ranges || false) (Some y) (cond (help || false) (Some z) None)))) ≡ true
-    → IsEither x.name y.name (name_met (option_map (λ s. rows_at s words) (cond (run || false) (Some x) (cond (ranges || false) (Some y) (cond (help || false) (Some z) None)))))
-found true ranges help words x y z is_own is_met = inl refl
-found false true help words x y z is_own is_met = inr refl
-found false false true words x y z is_own is_met = absurd (true≢false (sym is_own))
-found false false false words x y z is_own is_met = absurd (true≢false (sym is_met))
+found : (run ranges live help : Bool) (words : List Text) (x y z h : Shape) → not help ≡ true
+    → is_some (option_map (λ s. rows_at s words) (cond (run || false) (Some x) (cond (ranges || false) (Some y) (cond (live || false) (Some z) (cond (help || false) (Some h) None))))) ≡ true
+    → IsOneOf x.name y.name z.name (name_met (option_map (λ s. rows_at s words) (cond (run || false) (Some x) (cond (ranges || false) (Some y) (cond (live || false) (Some z) (cond (help || false) (Some h) None))))))
+found true ranges live help words x y z h is_own is_met = inl refl
+found false true live help words x y z h is_own is_met = inr (inl refl)
+found false false true help words x y z h is_own is_met = inr (inr refl)
+found false false false true words x y z h is_own is_met = absurd (true≢false (sym is_own))
+found false false false false words x y z h is_own is_met = absurd (true≢false (sym is_met))
 
 abbrev first : List Shape → Shape
 first [] = new_shape []
@@ -137,15 +138,15 @@ first (x ∷ xs) = x
 
 -- the name is that of a subcommand of the command
 abbrev pub IsOwn : Option Text → Type 0
-IsOwn = IsEither (codes "run") (codes "ranges")
+IsOwn = IsOneOf (codes "run") (codes "ranges") (codes "live")
 
 names_own : (stop : Option (Text × List Text)) → is_own stop ≡ true → is_some (entered (built squall) stop) ≡ true
     → IsOwn (name_met (entered (built squall) stop))
 names_own None own met = absurd (true≢false (sym met))
 names_own (Some p) own met =
     let subs = (built squall).subs in
-    found (bytes_eq (codes "run") p.0) (bytes_eq (codes "ranges") p.0) (bytes_eq (codes "help") p.0) p.1
-    (first subs) (first (drop 1 subs)) (first (drop 2 subs)) own met
+    found (bytes_eq (codes "run") p.0) (bytes_eq (codes "ranges") p.0) (bytes_eq (codes "live") p.0) (bytes_eq (codes "help") p.0) p.1
+    (first subs) (first (drop 1 subs)) (first (drop 2 subs)) (first (drop 3 subs)) own met
 
 is_required : (has : Bool) (rows : List Row) → check_fault (built squall).top rows has ≡ [] → has ≡ true
 is_required true rows e = refl

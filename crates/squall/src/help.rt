@@ -2,12 +2,15 @@
 
 /// Behind those of the whole program.
 pub const PROGRAM: &str = "\
-Both commands read standard input and write to standard output. Their own help
-says what, with an example: squall run --help, squall ranges --help.
+All commands read standard input and write to standard output. Their own help
+says what, with an example: squall run --help, squall ranges --help,
+squall live --help.
 
 Exit status:
   0  done
   2  a fault, or a command line that is refused
+  3  a live run that stopped before all was done
+  4  a live run that isn't sound
 
 After a fault the last line of standard output is its number, as in 'fault 105',
 and standard error says what it means, and on which line it is.";
@@ -80,3 +83,43 @@ segment 1 32 40 0 1
 Exit status:
   0  done
   2  a fault, or a command line that is refused"#;
+
+/// Behind those of `live`.
+pub const LIVE: &str = r#"Standard input holds a header, as for 'squall run', and then jobs: lines
+'txn P ID ROOT OP..', at most 4096 of them, no two with one id. A job is a
+transaction that is posted to partition P. Each partition runs in a thread of
+its own. The partitions answer the jobs, and meanwhile their rows move to the
+places of the new plan: a job pulls the rows that it waits for, and pumps, each a
+thread too, claim the rest in the background. In a turn a thread makes each of
+its steps once.
+
+Standard output gets one line:
+
+sound F families N committed           all is done, and the audit of what is
+                                       left found no defect
+stopped A of J jobs, K of S segments   so much was done when the turns ended
+unsound NUMBER                         the first defect that the audit found
+fault NUMBER                           of the input, and then no thread ran, or
+                                       memory ran out
+
+Example:
+
+squall live <<'END'
+old {"version":1,"partitions":2,"ranges":[[0,4294967296,0]]}
+new {"version":1,"partitions":2,"ranges":[[0,4,0],[4,8,1],[8,4294967296,0]]}
+config 1 64 1
+row 5 0 0 10 -
+txn 0 1 5 add 0 0 1
+txn 1 2 5 add 0 0 1
+txn 0 3 6 put 0 0 1 -
+END
+
+writes
+
+sound 2 families 3 committed
+
+Exit status:
+  0  sound
+  2  a fault, or a command line that is refused
+  3  stopped
+  4  unsound"#;

@@ -1,12 +1,15 @@
 // What a command line asks for.
-ghost use Rattle.std.specs.Prelude.{◌≡◌, Some, IfOk, [], false, map};
-ghost use Rattle.clap.specs.Simple.{new_shape};
+ghost use Rattle.std.specs.Prelude.{◌≡◌, ◌≤◌, IfOk, [], false, map};
+ghost use Rattle.clap.specs.Matches.{found_of};
+ghost use Rattle.clap.specs.Walk.{one_of, rows_of, rule_of};
+ghost use Rattle.clap.specs.Simple.{new_shape, subcommand_of};
 ghost use Rattle.clap.specs.Words.{FailsBy, app_of, fault_of, shape_of};
 ghost use Rattle.clap.specs.declared.builder.command.Command.TheViews.{out-Command};
-ghost use Rattle.squall.specs.Line.{program, squall, name_of, asked_by};
+ghost use Rattle.squall.specs.Line.{program, squall, option_rule, live_shape, NumberOf, IsLiveLine, IsLineOf, IsWithin};
 
 use crate::help;
-use clap::{Command, Error};
+use clap::builder::ValueParser;
+use clap::{Arg, ArgMatches, Command, Error, value_parser};
 use std::alloc::{AllocError, Global};
 use std::convert::AsStr;
 
@@ -17,10 +20,28 @@ pub enum Line {
     Run,
     /// Tell what moves between two plans.
     Ranges,
+    /// Run jobs in threads while rows move.
+    Live {
+        /// How many turns each thread takes at most.
+        turns: u64,
+        /// How many pumps there are.
+        pumps: u32,
+    },
 }
 
 // The version that `--version` tells.
 const VERSION: &str = "0.1.0";
+
+/// The most turns that a thread of a live run takes.
+pub const MAX_TURNS: u64 = 1_000_000_000;
+
+/// The most pumps that a live run has.
+pub const MAX_PUMPS: u64 = 16;
+
+/// How many turns a thread takes at most, and how many pumps there are, where no option says it.
+pub const TURNS: u64 = 1_000_000;
+
+pub const PUMPS: u64 = 1;
 
 // The program's command without its subcommands, of which it wants one.
 fn program<'a>(alloc: Global) -> Command<'a>
@@ -44,6 +65,54 @@ fn subcommand<'a>(alloc: Global, name: &'a str, about: &'a str, after_help: &'a 
         .after_help(after_help)
 }
 
+// An option for a number, and the one that stands where it isn't given.
+fn option<'a>(
+    alloc: Global,
+    name: &'a str,
+    help: &'a str,
+    parser: ValueParser<'a>,
+    default: &'a str,
+) -> Arg<'a>
+    ensures rule { rule_of result ≡ option_rule name.entry.now parser.entry default.entry.now }
+    ensures local { result.global ≡ false }
+{
+    Arg::new(alloc, name)
+        .long(name)
+        .value_name("N")
+        .help(help)
+        .value_parser(parser)
+        .default_value(default)
+}
+
+// The subcommand that runs jobs in threads.
+fn live<'a>(alloc: Global) -> Result<Command<'a>, AllocError>
+    ensures shape { IfOk result (λ command. shape_of command ≡ live_shape) }
+    ensures local { IfOk result (λ command. (out-Command command).has_globals ≡ false) }
+{
+    let turns = option(
+        alloc,
+        "turns",
+        "How many turns each thread takes at most",
+        value_parser!(u64).range(1..=1_000_000_000),
+        "1000000",
+    );
+    let pumps = option(
+        alloc,
+        "pumps",
+        "How many threads claim rows in the background, up to 16",
+        value_parser!(u64).range(1..=16),
+        "1",
+    );
+    subcommand(
+        alloc,
+        "live",
+        "Runs jobs in threads while rows move, and audits what is left",
+        help::LIVE,
+    )
+    .arg(turns)?
+    .arg(pumps)
+}
+
 // The program's command, with a subcommand for each line.
 fn command<'a>(alloc: Global) -> Result<Command<'a>, AllocError>
     ensures { IfOk result (λ command. app_of command ≡ squall) }
@@ -60,19 +129,52 @@ fn command<'a>(alloc: Global) -> Result<Command<'a>, AllocError>
         "Tells what moves between two plans",
         help::RANGES,
     );
-    program(alloc).subcommand(run)?.subcommand(ranges)
+    let live = live(alloc)?;
+    program(alloc)
+        .subcommand(run)?
+        .subcommand(ranges)?
+        .subcommand(live)
 }
 
 /// What the words of a command line ask for; the first of them is the program's name. An error is `clap`'s: the words
 /// aren't of the command's form, or ask for a help text or the version, or memory ran out.
 pub fn line_of<'a, S: AsStr>(alloc: Global, words: &'a [S]) -> Result<Line, Error>
-    ensures named { IfOk result (λ line. asked_by squall (map S.text words.now) ≡ Some (name_of line)) }
+    ensures named { IfOk result (IsLineOf (subcommand_of squall (map S.text words.now))) }
+    ensures within { IfOk result IsWithin }
     ensures fails { FailsBy (fault_of squall (map S.text words.now)) result }
 {
     let matches = command(alloc)?.try_get_matches_from(words)?;
-    match matches.subcommand_name() {
-        Some(name) if name == "run" => Ok(Line::Run),
-        Some(name) if name == "ranges" => Ok(Line::Ranges),
+    match matches.subcommand() {
+        Some((name, _)) if name == "run" => Ok(Line::Run),
+        Some((name, _)) if name == "ranges" => Ok(Line::Ranges),
+        Some((name, options)) if name == "live" => Ok(live_line(options)),
         _ => unreachable!(),
+    }
+}
+
+// The live run that options ask for.
+fn live_line(options: &ArgMatches<'_>) -> Line
+    ensures line { IsLiveLine (rows_of (found_of options.now)) result }
+    ensures within { IsWithin result }
+{
+    let turns = number_of(options, "turns", MAX_TURNS, TURNS);
+    let pumps = number_of(options, "pumps", MAX_PUMPS, PUMPS);
+    Line::Live {
+        turns,
+        pumps: pumps as u32,
+    }
+}
+
+// The number of an option, from 1 up to the most that it may be, or else the one that stands for it.
+fn number_of(options: &ArgMatches<'_>, name: &str, most: u64, default: u64) -> u64
+    requires some { 1 ≤ default }
+    requires within { default ≤ most }
+    ensures number { NumberOf most default (one_of name.now (rows_of (found_of options.now))) result }
+    ensures some { 1 ≤ result }
+    ensures within { result ≤ most }
+{
+    match options.get_one::<u64>(name) {
+        Some(number) if 1 <= number && number <= most => number,
+        _ => default,
     }
 }

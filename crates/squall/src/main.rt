@@ -1,21 +1,26 @@
 //! The program `squall`: it reads what to do from standard input, and writes what came of it to standard output.
 #![tactic(auto)]
 
-ghost use Rattle.std.specs.Prelude.{◌≡◌, ◌⊎◌, map};
+ghost use Rattle.std.specs.Prelude.{◌≡◌, map};
 ghost use Rattle.clap.specs.Words.{fault_of};
-ghost use Rattle.squall.specs.Line.{squall, asked_by};
-ghost use Rattle.squall.specs.Session.{EndsWell};
+ghost use Rattle.clap.specs.Simple.{subcommand_of};
+ghost use Rattle.squall.specs.Line.{squall};
+ghost use Rattle.squall.specs.Session.{IsExitStatus, EndsWell};
 
 mod help;
 mod line;
+mod live_runs;
 mod session;
 
 use line::{Line, line_of};
+use live_runs::live_run;
 use session::{listing, print_usage, refuse_for_memory, refuse_words, script};
 use std::convert::AsStr;
 use std::io::{BufWriter, Read, Write};
 use std::process::ExitCode;
 use std::rt::Env;
+use std::sync::Wait;
+use std::thread::Threads;
 use std::{env, io};
 
 // The words of the command line, of which the first is the program's name.
@@ -25,30 +30,31 @@ fn words_of(rt: &(impl Env + AllocGlobal)) -> io::Result<Vec<String>> {
 }
 
 // Does what the words of a command line ask for, and gives the exit status.
-fn obey<S: AsStr, R: Read, W: Write>(
-    rt: &(impl Print + Eprint + AllocGlobal),
+fn obey<T: Threads + Wait + Sync + Print + Eprint + AllocGlobal, S: AsStr, R: Read, W: Write>(
+    rt: &T,
     words: &[S],
     reader: &mut R,
     writer: &mut W,
 ) -> u8
-    ensures status { (result ≡ 0) ⊎ (result ≡ 2) }
-    ensures well { result ≡ 0 → EndsWell (asked_by squall (map S.text words.now)) (fault_of squall (map S.text words.now)) (R.remaining reader.old) (W.contents writer.old) (W.contents writer.new) }
+    ensures status { IsExitStatus result }
+    ensures well { result ≡ 0 → EndsWell (subcommand_of squall (map S.text words.now)) (fault_of squall (map S.text words.now)) (R.remaining reader.old) (W.contents writer.old) (W.contents writer.new) }
 {
     match line_of(rt.alloc(), words) {
         Ok(Line::Run) => script(rt, reader, writer),
         Ok(Line::Ranges) => listing(rt, reader, writer),
+        Ok(Line::Live { turns, pumps }) => live_run(rt, reader, writer, turns, pumps),
         Err(error) => print_usage(rt, &error),
     }
 }
 
 // The same with a buffer in front of the writer. After a failed write nothing more is written.
-fn obey_buffered<S: AsStr, R: Read, W: Write + Drop>(
-    rt: &(impl Print + Eprint + AllocGlobal),
-    words: &[S],
-    reader: &mut R,
-    writer: W,
-) -> u8
-    ensures { (result ≡ 0) ⊎ (result ≡ 2) }
+fn obey_buffered<
+    T: Threads + Wait + Sync + Print + Eprint + AllocGlobal,
+    S: AsStr,
+    R: Read,
+    W: Write + Drop,
+>(rt: &T, words: &[S], reader: &mut R, writer: W) -> u8
+    ensures { IsExitStatus result }
 {
     let Ok(mut writer) = BufWriter::new(rt.alloc(), writer) else {
         return refuse_for_memory(rt);

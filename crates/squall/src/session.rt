@@ -51,11 +51,14 @@ fn explain_end(rt: &impl Eprint, ran: Result<Ending, WriteFault>) {
     match ran {
         Ok(Ending::Done) => {}
         Ok(Ending::Fault(located)) => explain(rt, &located),
-        Err(fault) => {
-            let number = fault.number();
-            let _ = eprintln!(rt; "squall: fault {number}: {fault}");
-        }
+        Err(fault) => explain_write(rt, fault),
     }
+}
+
+/// Says on standard error that a write failed.
+pub(crate) fn explain_write(rt: &impl Eprint, fault: WriteFault) {
+    let number = fault.number();
+    let _ = eprintln!(rt; "squall: fault {number}: {fault}");
 }
 
 /// The exit status after a run: 0 where it was done, and 2 after a fault.

@@ -1,7 +1,7 @@
 use Rattle.std.proofs.Common.{◌≡◌, ◌∙◌, sym, ap, refl, inl, inr, true, false, true≢false, Option, Some, is_some, unwrap_or, List, [], ℕ, map, codes, bytes_eq}
 use Rattle.squall.proofs.Subcommands.{met_own, without_fault}
 use Rattle.squall.proofs.line.line_of.Goals as goal
-use Rattle.squall.proofs.line.line_of.Goals.{in_default-via-in-Some-2+else-eq-2, in_default-via-in_default}
+use Rattle.squall.proofs.line.line_of.Goals.{in_default-via-in-Some-3+else-eq-3, in_default-via-in_default}
 
 -- a name that isn't this text is not its name
 not_its : (text name : List ℕ) → bytes_eq text text ≡ true → false ≡ bytes_eq name text → Some name ≡ Some text → ⊥
@@ -9,30 +9,39 @@ not_its text name same differs is =
     let named : name ≡ text = ap (λ (o : Option (List ℕ)). unwrap_or o []) is in
     true≢false (sym (differs ∙ (ap (λ (other : List ℕ). bytes_eq other text) named ∙ same)))
 
--- src/line.rt:59:1
 pub unreachable-requires : goal.unreachable-requires
 unreachable-requires g c =
     let words = map g.S.AsStr.text c.args.words.now in
     let met = met_own c.in_ok-command.field-0 words c.in_ok-matches.matches c.in_ok-command.ensures c.in_ok-matches.ensures.kinds c.in_ok-matches.ensures.matches in
     elim c.in_default.branch [
-      | in_default-via-in-Some-2+else-eq-2 w ↦
+      | in_default-via-in-Some-3+else-eq-3 w ↦
           elim met [
-            | inl run ↦ not_its (codes "run") w.in-Some.name.now refl w.if-eq.ensures (w.in-Some.ensures ∙ run)
-            | inr ranges ↦ not_its (codes "ranges") w.in-Some.name.now refl w.if-eq-2.ensures (w.in-Some.ensures ∙ ranges)
+            | inl run ↦ not_its (codes "run") w.in-Some.name.now refl w.if-eq.ensures (w.in-Some.ensures.name ∙ run)
+            | inr other ↦
+                elim other [
+                  | inl ranges ↦ not_its (codes "ranges") w.in-Some.name.now refl w.if-eq-2.ensures (w.in-Some.ensures.name ∙ ranges)
+                  | inr live ↦ not_its (codes "live") w.in-Some.name.now refl w.if-eq-3.ensures (w.in-Some.ensures.name ∙ live)
+                ]
           ]
       | in_default-via-in_default w ↦
           elim met [
-            | inl run ↦ true≢false (sym (ap is_some (w.in_default.ensures ∙ run)))
-            | inr ranges ↦ true≢false (sym (ap is_some (w.in_default.ensures ∙ ranges)))
+            | inl run ↦ true≢false (sym (ap is_some (w.in_default.ensures.name ∙ run)))
+            | inr other ↦
+                elim other [
+                  | inl ranges ↦ true≢false (sym (ap is_some (w.in_default.ensures.name ∙ ranges)))
+                  | inr live ↦ true≢false (sym (ap is_some (w.in_default.ensures.name ∙ live)))
+                ]
           ]
     ]
 
--- src/line.rt:59:1
 pub returns-in-Some-clause-fails : goal.returns-in-Some-clause-fails
 returns-in-Some-clause-fails g c =
     without_fault c.in_ok-command.field-0 (map g.S.AsStr.text c.args.words.now) c.in_ok-command.ensures c.in_ok-matches.ensures.kinds
 
--- src/line.rt:59:1
 pub returns-in-Some-2-clause-fails : goal.returns-in-Some-2-clause-fails
 returns-in-Some-2-clause-fails g c =
+    without_fault c.in_ok-command.field-0 (map g.S.AsStr.text c.args.words.now) c.in_ok-command.ensures c.in_ok-matches.ensures.kinds
+
+pub returns-in-Some-3-clause-fails : goal.returns-in-Some-3-clause-fails
+returns-in-Some-3-clause-fails g c =
     without_fault c.in_ok-command.field-0 (map g.S.AsStr.text c.args.words.now) c.in_ok-command.ensures c.in_ok-matches.ensures.kinds
