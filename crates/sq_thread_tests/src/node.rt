@@ -88,6 +88,27 @@ fn a_job_that_finds_a_full_queue_is_kept(rt: HostRuntime) -> Result<(), Fail> {
     Ok(())
 }
 
+// A queue of requests holds 256. The pull of a node that finds it full is asked for once there is room.
+#[test]
+fn a_request_that_finds_a_full_queue_is_kept(rt: HostRuntime) -> Result<(), Fail> {
+    let alloc = rt.alloc();
+    let mut run = Run::opened(alloc, PAIR, 0)?;
+    let (seg, node, pull) = (9, 1, 2);
+    for _request in 0..256 {
+        run.request(&rt, 0, Request { seg, node, pull })?;
+    }
+    run.post(&rt, alloc, "txn 1 9 5 get 0 0")?;
+    for _turn in 0..260 {
+        run.turn(&rt, 1)?;
+        run.turn(&rt, 0)?;
+    }
+    assert_eq!(rt;
+        run.text_of_receipts(alloc, 1)?.as_str(),
+        "receipt 5 0 commit 9 10/-\n"
+    );
+    Ok(())
+}
+
 // As many transactions wait as may: the next one goes back into its queue, and waits once another was resumed.
 #[test]
 fn a_job_that_is_refused_is_taken_again(rt: HostRuntime) -> Result<(), Fail> {
@@ -109,55 +130,21 @@ fn a_job_that_is_refused_is_taken_again(rt: HostRuntime) -> Result<(), Fail> {
     Ok(())
 }
 
-// Whom requests go to that no claim made, or that name no node of a segment that leaves there, and what they ask for.
-const WRONG: [(u8, Request); 5] = [
-    (
-        0,
-        Request {
-            seg: 0,
-            node: 1,
-            pull: 4,
-        },
-    ),
-    (
-        0,
-        Request {
-            seg: 0,
-            node: 0,
-            pull: 2,
-        },
-    ),
-    (
-        0,
-        Request {
-            seg: 0,
-            node: 64,
-            pull: 2,
-        },
-    ),
-    (
-        0,
-        Request {
-            seg: 9,
-            node: 1,
-            pull: 2,
-        },
-    ),
-    (
-        1,
-        Request {
-            seg: 0,
-            node: 1,
-            pull: 2,
-        },
-    ),
+// Requests that no claim made, or that name no node of a segment that leaves there: whom they go to, and the segment, the
+// node and the pull.
+const WRONG: [(u8, u64, u64, u32); 5] = [
+    (0, 0, 1, 4),
+    (0, 0, 0, 2),
+    (0, 0, 64, 2),
+    (0, 9, 1, 2),
+    (1, 0, 1, 2),
 ];
 
 // The run after these requests and five turns of each node.
 fn after_wrong_requests<R: Wait>(rt: &R, alloc: Global) -> Result<Run, Fail> {
     let mut run = Run::opened(alloc, PAIR, 1)?;
-    for (part, request) in WRONG {
-        run.request(rt, part, request)?;
+    for (part, seg, node, pull) in WRONG {
+        run.request(rt, part, Request { seg, node, pull })?;
     }
     for _turn in 0..5 {
         run.turn(rt, 0)?;
