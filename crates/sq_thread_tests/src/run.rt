@@ -43,9 +43,9 @@ pub fn job(alloc: Global, line: &str) -> Result<Job, Fail> {
 /// A run: what its nodes share, all nodes and all pumps.
 #[derive(Drop)]
 pub struct Run {
-    pub fabric: Fabric,
-    pub nodes: Vec<Node>,
-    pub pumps: Vec<Pump>,
+    fabric: Fabric,
+    nodes: Vec<Node>,
+    pumps: Vec<Pump>,
     ghost whole: { AreAllOf fabric nodes.items pumps.items },
 }
 
