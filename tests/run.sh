@@ -1,6 +1,5 @@
 #!/usr/bin/env bash
-# Stored runs: whole inputs of `squall run`, `squall ranges` and `squall live`, command lines, and all that is written
-# for them.
+# Stored runs: whole inputs of `squall run` and `squall ranges`, command lines, and all that is written for them.
 #
 #   tests/run.sh
 #
@@ -8,8 +7,7 @@
 # gets each tests/listings/NAME.in. Its standard output must be NAME.out, byte for byte, and its exit status the number in
 # NAME.status, or 0 where there is no such file. A fault must be said on standard error: the line of the input that it
 # belongs to, where NAME.status names one ('2 at line 5'), and its text in tests/texts, which has a line for each number;
-# without a fault standard error is empty. `squall live` gets each tests/live/NAME.in with the options in NAME.words, if
-# there are some, and what it is to say on standard error is NAME.err. Then come the examples of examples/ and those of the help texts, streams that
+# without a fault standard error is empty. Then come the examples of examples/ and those of the help texts, streams that
 # fail, memory that runs out, and command lines, whose texts are in tests/usage.
 #
 # The programs are those that `rt ci` leaves in crates/squall/out: squall, as LLVM builds it, and squall.by-rattle, as
@@ -124,9 +122,7 @@ try_examples() {
     example run split-node
     help_example run
     example ranges ranges
-    example live under-load
     help_example ranges
-    help_example live
 }
 
 # An input without end ends the run, a directory can't be read, and a full device can't be written.
@@ -144,52 +140,6 @@ try_streams() {
     ended=0
     timeout 120 "$squall" ranges < "$tests/listings/the_last_key.in" > /dev/full 2> "$room/errors" || ended=$?
     judge listing_that_is_not_written 2 /dev/null "$room/said"
-}
-
-# live NAME: gives tests/live/NAME.in to `squall live`.
-live() {
-    local name=$tests/live/$1 status=0 errors=/dev/null words=()
-    if [ -e "$name.words" ]; then read -r -a words < "$name.words"; fi
-    if [ -e "$name.status" ]; then status=$(cat "$name.status"); fi
-    if [ -e "$name.err" ]; then errors=$name.err; fi
-    give "$name.in" live ${words[@]+"${words[@]}"}
-    judge "live $1" "$status" "$name.out" "$errors"
-}
-
-# told NAME OUTPUT ERROR: gives an input to `squall live`, which is to write this and to say this, and ends with 2 where it
-# says something.
-told() {
-    local status=0
-    echo "$2" > "$room/wanted"
-    : > "$room/said"
-    if [ -n "$3" ]; then
-        echo "$3" > "$room/said"
-        status=2
-    fi
-    give "$room/jobs.in" live
-    judge "$1" "$status" "$room/wanted" "$room/said"
-}
-
-# The stored inputs, and those at the limits: 4,096 jobs, and one more; a line of over 65,536 bytes, and one without end.
-# Threads may come in any order, and a move of four partitions under load ends alike each time.
-try_live() {
-    local input header time
-    for input in "$tests"/live/*.in; do live "$(basename "$input" .in)"; done
-    header=$(head -n 3 "$tests/live/two_jobs.in")
-    { echo "$header"; seq -f 'txn 0 %.0f 5 get 0 0' 4096; } > "$room/jobs.in"
-    told most_jobs 'sound 1 families 4096 committed' ''
-    echo 'txn 0 0 5 get 0 0' >> "$room/jobs.in"
-    told more_than_4096_jobs 'fault 125' 'squall: line 4100: fault 125: there are more than 4096 jobs'
-    { echo "$header"; head -c 65537 /dev/zero | tr '\0' a; echo; } > "$room/jobs.in"
-    told long_line_among_jobs 'fault 231' 'squall: line 4: fault 231: a line has more than 65536 bytes'
-    { echo "$header"; head -c 1048577 /dev/zero | tr '\0' a; } > "$room/jobs.in"
-    told line_without_end_among_jobs 'fault 122' "squall: line 4: $(said 122 | sed 's/^squall: //')"
-    for ((time = 0; time < 100; time++)); do live four_partitions; done
-    ended=0
-    timeout 120 "$squall" live < "$tests/live/two_jobs.in" > /dev/full 2> "$room/errors" || ended=$?
-    : > "$room/output"
-    said 124 > "$room/said"
-    judge live_run_that_is_not_written 2 /dev/null "$room/said"
 }
 
 # An input that ends within its first three lines has a fault of the line where it ends, and behind them none, unless it
@@ -211,11 +161,11 @@ try_ends() {
     compare input_that_ends_in_what_may_be_a_row <(printf '%sro' "$header") "$room/wanted" 0
 }
 
-# give_in_16_mib INPUT WORD: gives an input to a subcommand in a program that has no more than 16 MiB.
+# give_in_16_mib INPUT: gives an input to `squall run` in a program that has no more than 16 MiB.
 give_in_16_mib() {
     (
         ulimit -v 16384
-        give "$1" "$2"
+        give "$1" run
         echo "$ended" > "$room/ended"
     )
     ended=$(cat "$room/ended")
@@ -227,15 +177,13 @@ try_memory() {
     local line='txn 0 1 9 check 0 0 1 get 0 0 get 0 0 get 0 0'
     { head -n 4 "$tests/runs/moves_four_keys.in"; yes "$line" | head -n 900000; } > "$room/large.in"
     { yes 'abort 1 0 absent' | head -n 900000; printf '%s\n' 'end idle' 'at 0 5 0 0.0=10/-'; } > "$room/wanted"
-    give_in_16_mib "$room/large.in" run
+    give_in_16_mib "$room/large.in"
     judge memory_that_does_not_grow 0 "$room/wanted" /dev/null
     { head -n 3 "$tests/runs/moves_four_keys.in"; seq -f 'row %.0f 0 0 1 -' 0 499999; } > "$room/large.in"
     echo 'fault 222' > "$room/wanted"
     said 222 > "$room/said"
-    give_in_16_mib "$room/large.in" run
+    give_in_16_mib "$room/large.in"
     judge memory_that_runs_out_in_the_header 2 "$room/wanted" "$room/said"
-    give_in_16_mib "$room/large.in" live
-    judge memory_that_runs_out_before_the_jobs 2 "$room/wanted" "$room/said"
 }
 
 # One who types at the program sees each answer before the next line.
@@ -277,9 +225,6 @@ try_command_lines() {
     answer help_of_ranges 0 ranges --help
     answer help_of_ranges 0 ranges -h
     answer help_of_ranges 0 help ranges
-    answer help_of_live 0 live --help
-    answer help_of_live 0 live -h
-    answer help_of_live 0 help live
     answer version 0 --version
     answer version 0 -V
     answer no_subcommand 2
@@ -288,11 +233,6 @@ try_command_lines() {
     answer unknown_option 2 --all
     answer word_too_many 2 run fast
     answer word_too_many_for_ranges 2 ranges fast
-    answer no_turns 2 live --turns 0
-    answer too_many_turns 2 live --turns 1000000001
-    answer no_pumps 2 live --pumps 0
-    answer too_many_pumps 2 live --pumps 17
-    answer no_number_of_turns 2 live --turns many
     answer version_of_run 2 run --version
 }
 
@@ -334,7 +274,6 @@ for program in "${programs[@]}"; do
     try_examples
     try_ends
     try_streams
-    try_live
     try_memory
     try_session
     try_command_lines
