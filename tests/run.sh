@@ -1,13 +1,15 @@
 #!/usr/bin/env bash
-# Stored runs: whole inputs of `squall run` and `squall ranges`, command lines, and all that is written for them.
+# Stored runs: whole inputs of `squall run`, `squall ranges` and `squall live`, command lines, and all that is written for
+# them.
 #
 #   tests/run.sh
 #
 # `squall run` gets each tests/runs/NAME.in, and then the inputs at the limits that tests/limits.sh makes; `squall ranges`
-# gets each tests/listings/NAME.in. Its standard output must be NAME.out, byte for byte, and its exit status the number in
+# gets each tests/listings/NAME.in, and `squall live` each tests/lives/NAME.in, with the options in NAME.words. Its standard
+# output must be NAME.out, byte for byte, and its exit status the number in
 # NAME.status, or 0 where there is no such file. A fault must be said on standard error: the line of the input that it
 # belongs to, where NAME.status names one ('2 at line 5'), and its text in tests/texts, which has a line for each number;
-# without a fault standard error is empty. Then come the examples of examples/ and those of the help texts, streams that
+# without a fault standard error is empty, unless NAME.err has what it is to say. Then come the examples of examples/ and those of the help texts, streams that
 # fail, memory that runs out, and command lines, whose texts are in tests/usage.
 #
 # The programs are those that `rt ci` leaves in crates/squall/out: squall, as LLVM builds it, and squall.by-rattle, as
@@ -85,6 +87,58 @@ compare() {
     judge "$1" "$status" "$3" "$room/said"
 }
 
+# compare_live NAME: gives an input of tests/lives to `squall live`.
+compare_live() {
+    local path=$tests/lives/$1 status=0 line= last words=()
+    if [ -e "$path.status" ]; then read -r status _ _ line < "$path.status" || true; fi
+    if [ -e "$path.words" ]; then read -r -a words < "$path.words"; fi
+    give "$path.in" live "${words[@]}"
+    last=$(cat "$path.out")
+    if [ -e "$path.err" ]; then
+        cp "$path.err" "$room/said"
+    else
+        case $last in
+            fault*) said "${last#fault }" "$line" > "$room/said" ;;
+            *) : > "$room/said" ;;
+        esac
+    fi
+    judge "live $1" "$status" "$path.out" "$room/said"
+}
+
+# Live runs: each stored input once, and the longest one a hundred times, since threads may go in another order each time.
+try_lives() {
+    local input times=0
+    for input in "$tests"/lives/*.in; do
+        input=$(basename "$input")
+        compare_live "${input%.in}"
+    done
+    while [ "$times" -lt 100 ]; do
+        compare_live four_partitions_round
+        times=$((times + 1))
+    done
+}
+
+# A live run has at most 4,096 jobs, and a line that is too long, or without end, is a fault of that line.
+try_live_limits() {
+    local header
+    header=$(head -n 4 "$tests/lives/move_without_jobs.in")
+    { echo "$header"; seq -f 'txn 0 %.0f 9 get 0 0' 1 4096; } > "$room/jobs.in"
+    echo 'sound 2 families 4096 committed' > "$room/wanted"
+    compare live_with_4096_jobs "$room/jobs.in" "$room/wanted" 0 live
+    echo 'txn 9 1 9' >> "$room/jobs.in"
+    echo 'fault 125' > "$room/wanted"
+    compare live_with_4097_jobs "$room/jobs.in" "$room/wanted" '2 at line 4101' live
+    { echo "$header"; head -c 65537 /dev/zero | tr '\0' a; echo; } > "$room/jobs.in"
+    echo 'fault 231' > "$room/wanted"
+    echo 'squall: line 5: fault 231: a line has more than 65536 bytes' > "$room/said"
+    give "$room/jobs.in" live
+    judge live_with_a_line_of_65537_bytes 2 "$room/wanted" "$room/said"
+    echo 'fault 122' > "$room/wanted"
+    compare live_without_end <(echo "$header"; tr '\0' a < /dev/zero) "$room/wanted" '2 at line 5' live
+    echo 'fault 123' > "$room/wanted"
+    compare live_that_is_not_read "$room" "$room/wanted" '2 at line 1' live
+}
+
 # compare_all FOLDER WORD: gives each input of a folder to a subcommand.
 compare_all() {
     local input name status
@@ -123,6 +177,8 @@ try_examples() {
     help_example run
     example ranges ranges
     help_example ranges
+    example live live-move
+    help_example live
 }
 
 # An input without end ends the run, a directory can't be read, and a full device can't be written.
@@ -140,6 +196,9 @@ try_streams() {
     ended=0
     timeout 120 "$squall" ranges < "$tests/listings/the_last_key.in" > /dev/full 2> "$room/errors" || ended=$?
     judge listing_that_is_not_written 2 /dev/null "$room/said"
+    ended=0
+    timeout 120 "$squall" live < "$tests/lives/move_without_jobs.in" > /dev/full 2> "$room/errors" || ended=$?
+    judge live_that_is_not_written 2 /dev/null "$room/said"
 }
 
 # An input that ends within its first three lines has a fault of the line where it ends, and behind them none, unless it
@@ -225,6 +284,9 @@ try_command_lines() {
     answer help_of_ranges 0 ranges --help
     answer help_of_ranges 0 ranges -h
     answer help_of_ranges 0 help ranges
+    answer help_of_live 0 live --help
+    answer help_of_live 0 live -h
+    answer help_of_live 0 help live
     answer version 0 --version
     answer version 0 -V
     answer no_subcommand 2
@@ -233,6 +295,14 @@ try_command_lines() {
     answer unknown_option 2 --all
     answer word_too_many 2 run fast
     answer word_too_many_for_ranges 2 ranges fast
+    answer word_too_many_for_live 2 live fast
+    answer no_turns 2 live --turns 0
+    answer too_many_turns 2 live --turns 1000000001
+    answer no_pumps 2 live --pumps 0
+    answer too_many_pumps 2 live --pumps 17
+    answer turns_that_are_no_number 2 live --turns many
+    answer turns_twice 2 live --turns 1 --turns 2
+    answer turns_without_a_number 2 live --turns
     answer version_of_run 2 run --version
 }
 
@@ -272,6 +342,8 @@ for program in "${programs[@]}"; do
     compare_all "$tests/listings" ranges
     compare_all "$room/limits" run
     try_examples
+    try_lives
+    try_live_limits
     try_ends
     try_streams
     try_memory
