@@ -6,11 +6,11 @@
 #
 # `squall run` gets each tests/runs/NAME.in, and then the inputs at the limits that tests/limits.sh makes; `squall ranges`
 # gets each tests/listings/NAME.in, and `squall live` each tests/lives/NAME.in, with the options in NAME.words. Its standard
-# output must be NAME.out, byte for byte, and its exit status the number in
-# NAME.status, or 0 where there is no such file. A fault must be said on standard error: the line of the input that it
-# belongs to, where NAME.status names one ('2 at line 5'), and its text in tests/texts, which has a line for each number;
-# without a fault standard error is empty, unless NAME.err has what it is to say. Then come the examples of examples/ and those of the help texts, streams that
-# fail, memory that runs out, and command lines, whose texts are in tests/usage.
+# output must be NAME.out, byte for byte, and its exit status the number in NAME.status, or 0 where there is no such file.
+# A fault must be said on standard error: the line of the input that it belongs to, where NAME.status names one ('2 at
+# line 5'), and its text in tests/texts, which has a line for each number; without a fault standard error is empty, unless
+# NAME.err has what it is to say. Then come the examples of examples/ and those of the help texts, streams that fail,
+# memory that runs out, and command lines, whose texts are in tests/usage.
 #
 # The programs are those that `rt ci` leaves in crates/squall/out: squall, as LLVM builds it, and squall.by-rattle, as
 # Rattle's own compiler does. SQUALL=PATH takes another one.
@@ -220,11 +220,11 @@ try_ends() {
     compare input_that_ends_in_what_may_be_a_row <(printf '%sro' "$header") "$room/wanted" 0
 }
 
-# give_in_16_mib INPUT: gives an input to `squall run` in a program that has no more than 16 MiB.
+# give_in_16_mib INPUT WORD: gives an input to a subcommand in a program that has no more than 16 MiB.
 give_in_16_mib() {
     (
         ulimit -v 16384
-        give "$1" run
+        give "$1" "$2"
         echo "$ended" > "$room/ended"
     )
     ended=$(cat "$room/ended")
@@ -236,13 +236,15 @@ try_memory() {
     local line='txn 0 1 9 check 0 0 1 get 0 0 get 0 0 get 0 0'
     { head -n 4 "$tests/runs/moves_four_keys.in"; yes "$line" | head -n 900000; } > "$room/large.in"
     { yes 'abort 1 0 absent' | head -n 900000; printf '%s\n' 'end idle' 'at 0 5 0 0.0=10/-'; } > "$room/wanted"
-    give_in_16_mib "$room/large.in"
+    give_in_16_mib "$room/large.in" run
     judge memory_that_does_not_grow 0 "$room/wanted" /dev/null
     { head -n 3 "$tests/runs/moves_four_keys.in"; seq -f 'row %.0f 0 0 1 -' 0 499999; } > "$room/large.in"
     echo 'fault 222' > "$room/wanted"
     said 222 > "$room/said"
-    give_in_16_mib "$room/large.in"
+    give_in_16_mib "$room/large.in" run
     judge memory_that_runs_out_in_the_header 2 "$room/wanted" "$room/said"
+    give_in_16_mib "$room/large.in" live
+    judge memory_that_runs_out_before_the_jobs 2 "$room/wanted" "$room/said"
 }
 
 # One who types at the program sees each answer before the next line.
