@@ -156,3 +156,39 @@ fn each_change_has_its_defect(rt: HostRuntime) -> Result<(), Fail> {
     }
     Ok(())
 }
+
+// A job that waits at partition 1 for the rows of root key 5, and pulls their leaf.
+const PULL: &str = "txn 1 9 5 get 0 0";
+
+fn one_job(alloc: Global, line: &str) -> Result<Vec<Job>, Fail>
+    ensures { IfOk result (λ jobs. IdsDiffer jobs.items) }
+{
+    let mut jobs = Vec::with_capacity(alloc, 1)?;
+    jobs.push_reserved(job(alloc, line)?);
+    Ok(jobs)
+}
+
+// How many turns the partitions take, first 0 and then 1 and so on, and the number of the defect that is found then: while
+// the rows are under way the job has no answer.
+const TURNS: [(usize, Option<u16>); 2] = [(3, Some(306)), (4, None)];
+
+#[test]
+fn a_pull_is_audited(rt: HostRuntime) -> Result<(), Fail> {
+    let alloc = rt.alloc();
+    let opening = read_opening(alloc, PAIR)?;
+    let jobs = one_job(alloc, PULL)?;
+    for (turns, want) in TURNS {
+        let mut run = Run::opened(alloc, PAIR, 1)?;
+        run.post(&rt, alloc, PULL)?;
+        for turn in 0..turns {
+            run.turn(&rt, turn % 2)?;
+        }
+        let gathered = run.gathered(&rt, alloc)?;
+        let found = match audit(&opening, &gathered, &jobs)? {
+            Verdict::Sound => None,
+            Verdict::Unsound(defect) => Some(defect.number()),
+        };
+        assert!(rt; found == want, "after {turns} turns");
+    }
+    Ok(())
+}
