@@ -168,8 +168,18 @@ fn one_job(alloc: Global, line: &str) -> Result<Vec<Job>, Fail>
     Ok(jobs)
 }
 
-// How many turns the partitions take, first 0 and then 1 and so on, and the number of the defect that is found then: while
-// the rows are under way the job has no answer.
+// What is gathered of the run of this job after so many turns, first of partition 0 and then of 1 and so on.
+fn pulled<R: Wait>(rt: &R, alloc: Global, turns: usize) -> Result<Gathered, Fail> {
+    let mut run = Run::opened(alloc, PAIR, 1)?;
+    run.post(rt, alloc, PULL)?;
+    for turn in 0..turns {
+        run.turn(rt, turn % 2)?;
+    }
+    run.gathered(rt, alloc)
+}
+
+// How many turns the partitions take, and the number of the defect that is found then: while the rows are under way the job has no
+// answer.
 const TURNS: [(usize, Option<u16>); 2] = [(3, Some(306)), (4, None)];
 
 #[test]
@@ -178,12 +188,7 @@ fn a_pull_is_audited(rt: HostRuntime) -> Result<(), Fail> {
     let opening = read_opening(alloc, PAIR)?;
     let jobs = one_job(alloc, PULL)?;
     for (turns, want) in TURNS {
-        let mut run = Run::opened(alloc, PAIR, 1)?;
-        run.post(&rt, alloc, PULL)?;
-        for turn in 0..turns {
-            run.turn(&rt, turn % 2)?;
-        }
-        let gathered = run.gathered(&rt, alloc)?;
+        let gathered = pulled(&rt, alloc, turns)?;
         let found = match audit(&opening, &gathered, &jobs)? {
             Verdict::Sound => None,
             Verdict::Unsound(defect) => Some(defect.number()),
