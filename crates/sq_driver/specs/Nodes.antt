@@ -7,7 +7,7 @@ use Rattle.sq_node.specs.NodeState.{NodeState, IsNodeOf}
 use Rattle.sq_node.specs.Holds.{KeepsAll}
 use Rattle.sq_node.specs.Steps.{JobStep, RequestStep, CutStep, SendStep, RecvStep, LoadStep, CompleteStep, ResumeStep, Looks}
 use Rattle.sq_driver.specs.declared.gate.NodeStep.{NodeStep}
-use Rattle.sq_driver.specs.declared.gate.NodeStep.TheVariants.{Job, Request, Cut, Send, Recv, Load, Complete, Resume, Pump, Answered}
+use Rattle.sq_driver.specs.declared.gate.NodeStep.TheVariants.{Job, Request, Cut, Send, Recv, Load, Complete, Resume, Pump, Answered, SegmentComplete}
 use Rattle.sq_driver.specs.Ways.{ComesOf}
 
 -- a node made the step. What is no step of a node does nothing
@@ -22,6 +22,7 @@ MakesStep fabric Complete old answer new = CompleteStep old answer new
 MakesStep fabric Resume old answer new = ResumeStep old answer new
 MakesStep fabric Pump old answer new = (answer ≡ Nothing) × (new ≡ old)
 MakesStep fabric Answered old answer new = (answer ≡ Nothing) × (new ≡ old)
+MakesStep fabric SegmentComplete old answer new = (answer ≡ Nothing) × (new ≡ old)
 
 -- a node made one of its steps, or looked at trees
 abbrev pub GoesOn : FabricValue → NodeState → NodeState → Type 0

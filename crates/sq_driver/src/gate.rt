@@ -23,9 +23,11 @@ pub enum NodeStep {
     Pump,
     /// A node has written a receipt.
     Answered,
+    /// A segment is complete: the partition that it moves to has completed the last of its tree nodes.
+    SegmentComplete,
 }
 
-/// What all workers of a run ask before each of their steps, and tell of each receipt.
+/// What all workers of a run ask before each of their steps, and tell of each receipt and of each segment that is complete.
 pub trait Gate: Sync {
     /// Whether a worker may go on. Where it may not, it ends. The node of partition p is number p, and a pump is its
     /// number behind the number of partitions. A call may keep the worker for a while, and has to return.

@@ -31,7 +31,7 @@ enum Turned {
 }
 
 /// Drives a node: it takes this many turns. It ends before where it is idle, and where the gate says so, which is asked
-/// before each step of a turn and told of each receipt. After a turn in which there was nothing to do, other threads go first.
+/// before each step of a turn, and told of each receipt and of each segment that the node completes. After a turn in which there was nothing to do, other threads go first.
 pub fn drive<R: Wait, G: Gate>(rt: &R, fabric: &Fabric, node: &mut Node, turns: u64, gate: &G)
     requires { IsNodeOf fabric.now node.old }
     ensures { Driven fabric.now node.old node.new }
@@ -60,15 +60,28 @@ fn turn<R: Wait, G: Gate>(rt: &R, fabric: &Fabric, node: &mut Node, gate: &G) ->
         if !gate.pass(who, step) {
             return Turned::Stopped;
         }
-        let told = node.receipts().len();
-        if make_step(rt, fabric, node, step) == Stepped::Did {
-            turned = Turned::Worked;
+        let receipts = node.receipts().len();
+        if make_step(rt, fabric, node, step) != Stepped::Did {
+            continue;
         }
-        if node.receipts().len() != told && !gate.pass(who, NodeStep::Answered) {
+        turned = Turned::Worked;
+        if !tell(gate, who, node, step, receipts) {
             return Turned::Stopped;
         }
     }
     turned
+}
+
+// Tells the gate what came of a step that a node made, which had this many receipts before: a receipt, or a segment that is
+// complete. Whether the node may go on.
+fn tell<G: Gate>(gate: &G, who: u64, node: &Node, step: NodeStep, receipts: usize) -> bool {
+    if node.receipts().len() != receipts {
+        return gate.pass(who, NodeStep::Answered);
+    }
+    if step == NodeStep::Complete && node.completes_segment() {
+        return gate.pass(who, NodeStep::SegmentComplete);
+    }
+    true
 }
 
 // Makes a step of a node. What is no step of a node does nothing.
@@ -85,6 +98,6 @@ fn make_step<R: Wait>(rt: &R, fabric: &Fabric, node: &mut Node, step: NodeStep) 
         NodeStep::Load => node.step_load(),
         NodeStep::Complete => node.step_complete(fabric),
         NodeStep::Resume => node.step_resume(rt, fabric),
-        NodeStep::Pump | NodeStep::Answered => Stepped::Nothing,
+        NodeStep::Pump | NodeStep::Answered | NodeStep::SegmentComplete => Stepped::Nothing,
     }
 }

@@ -11,6 +11,8 @@ use Rattle.sq_exec.specs.CoreValue.{CoreValue, loaded_at}
 use Rattle.sq_pull.specs.Seats.{StepsAt}
 use Rattle.sq_node_model.proofs.Members.{set_new, removed_stood, removed_kept}
 use Rattle.sq_node.specs.Settled.{IsSettled, HasSettled, IsNode}
+use Rattle.sq_node.specs.NodeState.{NodeState}
+use Rattle.sq_node.specs.Steps.{Completes}
 use Rattle.sq_node.specs.Looks.{SeatsLooked, HasNoneToComplete, LooksAndCompletes, CompletesOne, CompletesNone}
 use Rattle.sq_node.proofs.Looked.{settled_at, settled_seats, settled_completed, settled_none, completes_settles}
 
@@ -34,7 +36,7 @@ pub none_of_all : (core : CoreValue) (old new : List SeatValue) (nodes left : Li
 none_of_all core old new nodes left complete none is seg n whole =
     ⊎_elim (λ (there : Contains nodes (seg, n)). none.none there.0 seg n (stands_at nodes (seg, n) there)) (λ (settled : HasSettled old seg n). settled_none old new none.looked seg n settled) (is.each seg n whole)
 
-module _ (core : CoreValue) (old new : List SeatValue) (nodes left : List (ℕ × ℕ)) (complete : List Bool) (one : CompletesOne old nodes new left) (is : IsNode core old nodes complete) where
+module _ (core : CoreValue) (old new : List SeatValue) (nodes left : List (ℕ × ℕ)) (at : ℕ) (complete : List Bool) (one : CompletesOne old nodes at new left) (is : IsNode core old nodes complete) where
   -- what is left stood there
   was_there : (seg n : ℕ) → Contains left (seg, n) → Contains nodes (seg, n)
   was_there seg n there =
@@ -46,14 +48,14 @@ module _ (core : CoreValue) (old new : List SeatValue) (nodes left : List (ℕ �
   settles v w told n settled = settled_completed v w n one.node told settled
 
   still : (seg n : ℕ) → HasSettled old seg n → HasSettled new seg n
-  still seg n settled = settled_at one.seg (λ v w. LooksAndCompletes v one.node w) one.between new settles one.completed seg n (settled_seats old one.between one.looked seg n settled)
+  still seg n settled = settled_at at (λ v w. LooksAndCompletes v one.node w) one.between new settles one.completed seg n (settled_seats old one.between one.looked seg n settled)
 
   -- the node that was completed is settled
-  now_settled : HasSettled new one.seg one.node
+  now_settled : HasSettled new at one.node
   now_settled =
       let step = one.completed in (
         step.after,
-        ap (λ (seats : List SeatValue). slice_get seats one.seg) step.others ∙ set_new one.between one.seg step.after step.before step.there,
+        ap (λ (seats : List SeatValue). slice_get seats at) step.others ∙ set_new one.between at step.after step.before step.there,
         completes_settles step.before.view step.after.view one.node step.told,
       )
 
@@ -62,7 +64,7 @@ module _ (core : CoreValue) (old new : List SeatValue) (nodes left : List (ℕ �
       let stands = stands_at nodes (seg, n) there in
       ⊎_elim
       (λ (same : ((there.0 == one.place) ≡ true) × (there.0 ≡ one.place)).
-      let pair : (one.seg, one.node) ≡ (seg, n) = same_Some (one.seg, one.node) (seg, n) (sym one.there ∙ ap (slice_get nodes) (sym same.1) ∙ stands) in
+      let pair : (at, one.node) ≡ (seg, n) = same_Some (at, one.node) (seg, n) (sym one.there ∙ ap (slice_get nodes) (sym same.1) ∙ stands) in
       inr (subst (λ (p : ℕ × ℕ). HasSettled new p.0 p.1) pair now_settled))
       (λ (apart : ((there.0 == one.place) ≡ false) × (there.0 ≢ one.place)).
       inl (subst (λ (xs : List (ℕ × ℕ)). Contains xs (seg, n)) (sym one.rest) (removed_kept nodes one.place there.0 (seg, n) stands apart.1)))
@@ -77,5 +79,27 @@ module _ (core : CoreValue) (old new : List SeatValue) (nodes left : List (ℕ �
         each = λ seg n whole. ⊎_elim (λ (there : Contains nodes (seg, n)). left_or_settled seg n there) (λ (settled : HasSettled old seg n). inr (still seg n settled)) (is.each seg n whole);
       }
 
-  pub one_is_whole : is_whole (loaded_at core one.seg) one.node ≡ true
-  one_is_whole = is.whole one.seg one.node (Contains-slice_get nodes one.place (one.seg, one.node) one.there)
+  stood : Contains nodes (at, one.node)
+  stood = Contains-slice_get nodes one.place (at, one.node) one.there
+
+  pub one_exists : at < length core.recon.segments
+  one_exists = is.exists at one.node stood
+
+  one_is_whole : is_whole (loaded_at core at) one.node ≡ true
+  one_is_whole = is.whole at one.node stood
+
+  -- the node was completed, between looks
+  pub completed_between : (last : List SeatValue) → SeatsLooked new last → (node then : NodeState) → node.core ≡ core → node.seats ≡ old → then ≡ record node { seats = last } → Completes node then
+  completed_between last looked node then core_is seats_are after =
+      subst (Completes node) (sym after)
+      (record {
+        seg = at;
+        node = one.node;
+        whole = ap (λ (c : CoreValue). is_whole (loaded_at c at) one.node) core_is ∙ one_is_whole;
+        between = one.between;
+        looked = subst (λ seats. SeatsLooked seats one.between) (sym seats_are) one.looked;
+        then = new;
+        completed = one.completed;
+        looked_after = looked;
+        after = refl;
+      })

@@ -36,7 +36,7 @@ use Rattle.sq_node.specs.declared.stepped.Stepped.TheVariants.{Did, Nothing, Mem
 use Rattle.sq_node.specs.FabricValue.{FabricValue}
 use Rattle.sq_node.specs.NodeState.{NodeState, node_value, views_of, sent_by, received_by}
 use Rattle.sq_node.specs.Holds.{HoldsUnder, KeepsAll}
-use Rattle.sq_node.specs.Looks.{LooksAndCompletes}
+use Rattle.sq_node.specs.Looks.{SeatsLooked, LooksAndCompletes}
 use Rattle.sq_node.specs.Steps.{JobStep, RequestStep, CutStep, SendStep, RecvStep, LoadStep, CompleteStep, ResumeStep, Looks}
 use Rattle.sq_node.proofs.Bridges.{SameDone, only_looked_same, sent_one, received_one, view_before, views_after, looked_same, claimed_same}
 
@@ -106,12 +106,17 @@ seats_keep : (o : OpeningValue) (core : CoreValue) (old new : List SeatValue) (s
 seats_keep o core old new sent received receipts same h =
     core_looked o core (views_of old) (views_of new) sent received receipts (λ seg. (same seg).begun) (λ seg. (same seg).completed) h
 
+-- where the seats only looked
+looked_keep : (o : OpeningValue) (core : CoreValue) (old new : List SeatValue) (sent received : ℕ → List ChunkValue) (receipts : List ReceiptValue) → SeatsLooked old new
+    → NodeHolds o (node_of core (views_of old) sent received receipts) → NodeHolds o (node_of core (views_of new) sent received receipts)
+looked_keep o core old new sent received receipts looked = seats_keep o core old new sent received receipts (looked_same old new looked)
+
 pub looks_keep : (old new : NodeState) → Looks old new → KeepsAll old new
 looks_keep old new looks o is h =
     subst (HoldsUnder o) (sym looks.after)
     (record {
       core = h.core;
-      holds = seats_keep o old.core old.seats new.seats (sent_by old.sends) (received_by old.recvs) old.receipts (looked_same old.seats new.seats looks.seats) h.holds;
+      holds = looked_keep o old.core old.seats new.seats (sent_by old.sends) (received_by old.recvs) old.receipts looks.seats h.holds;
     })
 
 begun_core_of : (o : OpeningValue) (core : CoreValue) (seg n pull : ℕ) (found : Option Range) → IsCoreOf o core → IsCoreOf o (begun_in core seg n pull found)
@@ -166,11 +171,14 @@ completes_keep o core old new sent received receipts seg n done whole h =
 
 pub complete_keeps : (old : NodeState) (answer : Stepped) (new : NodeState) → CompleteStep old answer new → KeepsAll old new
 complete_keeps old Did new step o is h =
+    let sent = sent_by old.sends in
+    let received = received_by old.recvs in
     subst (HoldsUnder o) (sym step.after)
     (record {
       core = h.core;
-      holds = completes_keep o old.core step.between new.seats (sent_by old.sends) (received_by old.recvs) old.receipts step.seg step.node step.completed step.whole
-          (seats_keep o old.core old.seats step.between (sent_by old.sends) (received_by old.recvs) old.receipts (looked_same old.seats step.between step.looked) h.holds);
+      holds = looked_keep o old.core step.then new.seats sent received old.receipts step.looked_after
+          (completes_keep o old.core step.between step.then sent received old.receipts step.seg step.node step.completed step.whole
+          (looked_keep o old.core old.seats step.between sent received old.receipts step.looked h.holds));
     })
 complete_keeps old Nothing new step o is h = looks_keep old new step.0 o is h
 complete_keeps old Memory new step o is h = absurd step

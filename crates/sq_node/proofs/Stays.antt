@@ -187,7 +187,8 @@ request_stays fabric old Memory new step of = same_node fabric old new step of
 pub complete_stays : (fabric : FabricValue) (old : NodeState) (answer : Stepped) (new : NodeState) → CompleteStep old answer new → IsNodeOf fabric old → IsNodeOf fabric new
 complete_stays fabric old Did new step of =
     core_stays fabric old new _ step.after refl refl (same_part old.core)
-    (seats_stay fabric.trees step.seg _ step.between new.seats step.completed (looked_seats fabric.trees old.seats step.between step.looked of.seats)) of
+    (looked_seats fabric.trees step.then new.seats step.looked_after
+    (seats_stay fabric.trees step.seg _ step.between step.then step.completed (looked_seats fabric.trees old.seats step.between step.looked of.seats))) of
 complete_stays fabric old Nothing new step of =
     core_stays fabric old new _ step.0.after refl refl (same_part old.core) (looked_seats fabric.trees old.seats new.seats step.0.seats of.seats) of
 complete_stays fabric old Memory new step of = absurd step

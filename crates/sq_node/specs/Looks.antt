@@ -43,10 +43,9 @@ LooksAndCompletes v n w = (pull : ℕ) × (between : View) × OnlyLooked v betwe
 abbrev pub LooksOnly : View → ℕ → View → Type 0
 LooksOnly v n w = OnlyLooked v w × (IsSettled w n ⊎ FoundElse v w n)
 
--- one of the nodes was completed, after looks, and is left out
-pub record CompletesOne (old : List SeatValue) (nodes : List (ℕ × ℕ)) (new : List SeatValue) (left : List (ℕ × ℕ)) : Type 0 where
+-- one of the nodes, in this segment, was completed, after looks, and is left out
+pub record CompletesOne (old : List SeatValue) (nodes : List (ℕ × ℕ)) (seg : ℕ) (new : List SeatValue) (left : List (ℕ × ℕ)) : Type 0 where
   pub place : ℕ
-  pub seg : ℕ
   pub node : ℕ
   pub there : slice_get nodes place ≡ Some (seg, node)
   pub between : List SeatValue

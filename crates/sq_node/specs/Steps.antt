@@ -125,14 +125,16 @@ RequestStep old Did new = Begins old new
 RequestStep old Nothing new = Looks old new
 RequestStep old Memory new = new ≡ old
 
--- a node whose last chunk was loaded was completed, after looks
+-- a node whose last chunk was loaded was completed, between looks
 pub record Completes (old new : NodeState) : Type 0 where
   pub seg : ℕ
   pub node : ℕ
   pub whole : is_whole (loaded_at old.core seg) node ≡ true
   pub between : List SeatValue
   pub looked : SeatsLooked old.seats between
-  pub completed : StepsAt seg (λ v w. LooksAndCompletes v node w) between new.seats
+  pub then : List SeatValue
+  pub completed : StepsAt seg (λ v w. LooksAndCompletes v node w) between then
+  pub looked_after : SeatsLooked then new.seats
   pub after : new ≡ record old { seats = new.seats }
 
 abbrev pub CompleteStep : NodeState → Stepped → NodeState → Type 0

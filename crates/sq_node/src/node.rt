@@ -37,6 +37,8 @@ pub struct Node {
     to_complete: Vec<(SegId, NodeId)>,
     // For each segment whether node 1 was seen to read complete.
     complete: Vec<bool>,
+    // Whether the tree node that was completed last was the last of its segment.
+    completes_segment: bool,
 }
 
 impl Model for Node {
@@ -92,6 +94,7 @@ impl Node {
             puller,
             to_complete: Vec::new(alloc),
             complete,
+            completes_segment: false,
         })
     }
 

@@ -1,5 +1,5 @@
 // The steps of a node on trees.
-ghost use Rattle.std.specs.Prelude.{◌≡◌, ℕ, ◌<◌, true, length, Contains, MatchBool, IfSome};
+ghost use Rattle.std.specs.Prelude.{◌≡◌, ℕ, ◌<◌, true, length, Contains, MatchBool, MatchOption, IfSome};
 ghost use Rattle.sq_tree.specs.declared.status.Status.TheVariants.{Partial};
 ghost use Rattle.sq_status.specs.Plays.{Won};
 ghost use Rattle.sq_status.specs.Seat.{IsSameSeat};
@@ -11,6 +11,7 @@ ghost use Rattle.sq_node.specs.Looks.{OnlyLooked, LooksOnly, LooksAndCompletes, 
 ghost use Rattle.sq_node.specs.Steps.{IsOutward, RequestStep, CompleteStep};
 
 use super::Node;
+use super::turn::read_complete_at;
 use crate::fabric::Fabric;
 use crate::stepped::Stepped;
 use sq_exec::PartCore;
@@ -71,17 +72,24 @@ impl Node {
         self.complete.get(seg.index()).copied().unwrap_or(false)
     }
 
-    /// Completes a node whose last chunk was loaded.
+    /// Completes a node whose last chunk was loaded, and sees whether its segment is complete with it.
     pub fn step_complete(&mut self, fabric: &Fabric) -> Stepped
         requires { IsNodeOf fabric.now self.old }
         ensures step { CompleteStep self.old result self.new }
         ensures of { IsNodeOf fabric.now self.new }
         ensures holds { KeepsAll self.old self.new }
     {
-        if complete_first(fabric.trees(), &mut self.seats, &mut self.to_complete) {
-            return Stepped::Did;
-        }
-        Stepped::Nothing
+        let trees = fabric.trees();
+        let Some(seg) = complete_first(trees, &mut self.seats, &mut self.to_complete) else {
+            return Stepped::Nothing;
+        };
+        self.completes_segment = read_complete_at(trees, &mut self.seats, seg.index());
+        Stepped::Did
+    }
+
+    /// Whether the tree node that it completed last was the last of its segment, which is complete with it.
+    pub fn completes_segment(&self) -> bool {
+        self.completes_segment
     }
 }
 
@@ -128,26 +136,26 @@ fn begin_at(trees: &[StatusTree], seats: &mut Vec<TreeSeat>, at: &TreeNode, pull
     trees[index].begin(&mut seats[index], at.node, pull).is_ok()
 }
 
-// Completes the first of these nodes of segments that is partial, and takes it off the list.
+// Completes the first of these nodes of segments that is partial, and takes it off the list. Gives its segment.
 fn complete_first(
     trees: &[StatusTree],
     seats: &mut Vec<TreeSeat>,
     nodes: &mut Vec<(SegId, NodeId)>,
-) -> bool
+) -> Option<SegId>
     requires seats { AreSeatsOf trees.now seats.old.items }
     requires nodes { (seg n : ℕ) → Contains nodes.old.items (seg, n) → seg < length trees.now }
-    ensures { MatchBool result
-        (CompletesOne seats.old.items nodes.old.items seats.new.items nodes.new.items)
-        (CompletesNone seats.old.items nodes.old.items seats.new.items nodes.new.items) }
+    ensures { MatchOption result
+        (CompletesNone seats.old.items nodes.old.items seats.new.items nodes.new.items)
+        (λ seg. CompletesOne seats.old.items nodes.old.items seg seats.new.items nodes.new.items) }
 {
     for at in 0..nodes.len() {
         let (seg, node) = nodes[at];
         if complete_at(trees, seats, TreeNode { seg, node }) {
             nodes.remove(at);
-            return true;
+            return Some(seg);
         }
     }
-    false
+    None
 }
 
 // Completes a node, if it is partial.

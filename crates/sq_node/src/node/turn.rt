@@ -148,7 +148,7 @@ fn see_all_complete(
 }
 
 // Whether the whole of a segment reads complete.
-fn read_complete_at(trees: &[StatusTree], seats: &mut Vec<TreeSeat>, at: usize) -> bool
+pub(super) fn read_complete_at(trees: &[StatusTree], seats: &mut Vec<TreeSeat>, at: usize) -> bool
     requires seats { AreSeatsOf trees.now seats.old.items }
     requires segment { at < length trees.now }
     ensures seats { AreSeatsOf trees.now seats.new.items }

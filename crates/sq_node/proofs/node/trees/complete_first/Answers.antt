@@ -23,7 +23,6 @@ returns-then-complete_at c =
     let within : at < length nodes = omega (arith, c.args.nodes.now.ok.0) in
     record {
       place = at;
-      seg = pair.0;
       node = pair.1;
       there = slice_get_read nodes (length nodes) at pair refl within (c.index.ensures ∙ ap (λ (xs : List (ℕ × ℕ)). get_or xs at pair) c.loop-at.invariant.same);
       between = c.loop-at.seats.items;
