@@ -10,7 +10,7 @@
 # A fault must be said on standard error: the line of the input that it belongs to, where NAME.status names one ('2 at
 # line 5'), and its text in tests/texts, which has a line for each number; without a fault standard error is empty, unless
 # NAME.err has what it is to say. Then come the examples of examples/ and those of the help texts, streams that fail,
-# memory that runs out, and command lines, whose texts are in tests/usage.
+# memory that runs out, a live run at a terminal, and command lines, whose texts are in tests/usage.
 #
 # The programs are those that `rt ci` leaves in crates/squall/out: squall, as LLVM builds it, and squall.by-rattle, as
 # Rattle's own compiler does. SQUALL=PATH takes another one.
@@ -263,6 +263,21 @@ try_session() {
     count session "$why"
 }
 
+# At a terminal a live run tells how far it is, once when it begins and once for each job that is answered and each segment
+# that is complete, on one line that is blank before the run's own line is written. A carriage return stands before each.
+try_terminal() {
+    local jobs=42 segments=4 told why=
+    script -qefc "exec '$squall' live < '$examples/live-move.txt'" /dev/null < /dev/null | tr '\r' '\n' > "$room/terminal"
+    grep " jobs, " "$room/terminal" > "$room/told" || true
+    told=$(wc -l < "$room/told")
+    if [ "$told" != $((1 + jobs + segments)) ]; then why="$told lines of progress"; fi
+    if [ "$(head -n 1 "$room/told")" != "0 of $jobs jobs, 0 of $segments segments" ]; then why='another first line'; fi
+    if ! grep -qx "$jobs of $jobs jobs, $segments of $segments segments" "$room/told"; then why='no line of the whole'; fi
+    printf '%40s\n%s\n' '' 'sound 21 families 41 committed' > "$room/wanted"
+    tail -n 3 "$room/terminal" | head -n 2 > "$room/ends"
+    count progress_at_a_terminal "$why$(difference "$room/wanted" "$room/ends")"
+}
+
 # answer NAME STATUS WORD..: a command line is answered by this status, and by the text of this name in tests/usage: of
 # status 0 NAME.out on standard output, else NAME.err on standard error. The other one stays empty.
 answer() {
@@ -350,6 +365,7 @@ for program in "${programs[@]}"; do
     try_streams
     try_memory
     try_session
+    try_terminal
     try_command_lines
 done
 echo "$passed stored runs passed, $failed failed"

@@ -14,7 +14,7 @@ use crate::job_list::{JobList, read_jobs};
 use crate::judging::judge;
 use crate::outcome::{Outcome, write_outcome};
 use crate::run::run_jobs;
-use sq_driver::Gate;
+use crate::watch::Watch;
 use sq_lines::LineReader;
 use sq_ranges::Opening;
 use sq_schema::{MAX_TABLES, Schema};
@@ -30,23 +30,24 @@ use std::thread::Threads;
 ///
 /// The input is a header, as [`read_header`] has it for a schema of [`MAX_TABLES`] tables, and jobs, as [`read_jobs`] has
 /// them. Where it has a fault, no thread is started, and the line tells the fault. Else each partition and each pump runs in
-/// a thread of its own, each of them up to so many turns, past the gate. Where memory runs out, the line is that of its fault.
+/// a thread of its own, each of them up to so many turns, and asks `watch` before each step. Where memory runs out, the line is
+/// that of its fault.
 /// An error is a write or a flush that failed.
 ///
 /// Whatever the threads do, what they leave is placed, and the line says `sound` only where the audit found it so.
-pub fn live<T: Threads + Wait + Sync, R: Read, W: Write, G: Gate>(
+pub fn live<T: Threads + Wait + Sync, R: Read, W: Write, G: Watch>(
     rt: &T,
     alloc: Global,
     reader: &mut R,
     writer: &mut W,
     turns: u64,
     pumps: u32,
-    gate: &G,
+    watch: &G,
 ) -> Result<LiveEnding, WriteFault>
     requires { pumps ≤ MAX_OWNERS }
     ensures { IfOk result (RunsLive MAX_TABLES (R.remaining reader.old) (W.contents writer.old) (W.contents writer.new)) }
 {
-    let ending = end_input(rt, alloc, reader, turns, pumps, gate);
+    let ending = end_input(rt, alloc, reader, turns, pumps, watch);
     write_ending(writer, ending)?;
     writer.flush()?;
     Ok(ending)
@@ -63,37 +64,37 @@ fn write_ending<W: Write>(writer: &mut W, ending: LiveEnding) -> io::Result<()>
 }
 
 // How an input ends.
-fn end_input<T: Threads + Wait + Sync, R: Read, G: Gate>(
+fn end_input<T: Threads + Wait + Sync, R: Read, G: Watch>(
     rt: &T,
     alloc: Global,
     reader: &mut R,
     turns: u64,
     pumps: u32,
-    gate: &G,
+    watch: &G,
 ) -> LiveEnding
     requires { pumps ≤ MAX_OWNERS }
     ensures { (given : List PieceValue) × IsGiven (R.remaining reader.old) given × EndsLive MAX_TABLES given result }
 {
     match LineReader::new(alloc, reader) {
-        Ok(mut lines) => end_lines(rt, alloc, &mut lines, turns, pumps, gate),
+        Ok(mut lines) => end_lines(rt, alloc, &mut lines, turns, pumps, watch),
         Err(error) => LiveEnding::Fault(LiveFault::from(error)),
     }
 }
 
 // How the lines of an input end.
-fn end_lines<T: Threads + Wait + Sync, R: Read, G: Gate>(
+fn end_lines<T: Threads + Wait + Sync, R: Read, G: Watch>(
     rt: &T,
     alloc: Global,
     lines: &mut LineReader<R>,
     turns: u64,
     pumps: u32,
-    gate: &G,
+    watch: &G,
 ) -> LiveEnding
     requires { pumps ≤ MAX_OWNERS }
     ensures { (given : List PieceValue) × CanCome lines.old given × EndsLive MAX_TABLES given result }
 {
     match read_input(alloc, lines) {
-        Ok((opening, jobs)) => match run_input(rt, alloc, &opening, &jobs, turns, pumps, gate) {
+        Ok((opening, jobs)) => match run_input(rt, alloc, &opening, &jobs, turns, pumps, watch) {
             Ok(outcome) => LiveEnding::Done(outcome),
             Err(error) => LiveEnding::Fault(LiveFault::from(error)),
         },
@@ -119,19 +120,22 @@ fn read_input<R: Read>(
 }
 
 // What a run of jobs from an opening comes to.
-fn run_input<T: Threads + Wait + Sync, G: Gate>(
+fn run_input<T: Threads + Wait + Sync, G: Watch>(
     rt: &T,
     alloc: Global,
     opening: &Opening,
     jobs: &JobList,
     turns: u64,
     pumps: u32,
-    gate: &G,
+    watch: &G,
 ) -> Result<Outcome, AllocError>
     requires pumps { pumps ≤ MAX_OWNERS }
     requires partitions { HavePartitions opening.now.old.parts jobs.now }
     ensures { IfOk result (WereRun opening.now jobs.now) }
 {
-    let g = run_jobs(rt, alloc, opening, jobs.as_slice(), turns, pumps, gate)?;
-    judge(alloc, opening, &g, jobs.as_slice())
+    let segments = opening.recon().segments().len();
+    watch.begins(jobs.as_slice().len() as u64, segments as u64);
+    let ran = run_jobs(rt, alloc, opening, jobs.as_slice(), turns, pumps, watch);
+    watch.ends();
+    judge(alloc, opening, &ran?, jobs.as_slice())
 }

@@ -9,6 +9,7 @@ mod job_list;
 mod judging;
 mod outcome;
 mod run;
+mod watch;
 
 pub use ending::LiveEnding;
 pub use fault::{JobFault, JobLineFault, LiveFault};
@@ -17,3 +18,4 @@ pub use job_list::{JobList, MAX_JOBS, read_jobs};
 pub use judging::judge;
 pub use outcome::{Outcome, write_outcome};
 pub use sq_audit::Job;
+pub use watch::Watch;

@@ -1,5 +1,6 @@
-// Gates that tell what they are asked, that end a worker, and that keep one until others run beside it.
+// Gates that tell what they are asked and told, that end a worker, and that keep one until others run beside it.
 use sq_driver::{Gate, NodeStep};
+use sq_live::Watch;
 use std::alloc::Global;
 use std::sync::atomic::{AtomicBool, AtomicU64, Ordering};
 use std::test::Fail;
@@ -18,6 +19,7 @@ fn digit(step: NodeStep) -> u64 {
         NodeStep::Resume => 8,
         NodeStep::Pump => 9,
         NodeStep::Answered => 10,
+        NodeStep::SegmentComplete => 11,
     }
 }
 
@@ -56,6 +58,8 @@ impl Gate for Recorder {
         self.end != Some(step)
     }
 }
+
+impl Watch for Recorder {}
 
 /// Keeps each worker at its first step until all have come there. One that waits too long has missed the others.
 #[derive(Drop)]
@@ -107,6 +111,8 @@ impl Gate for Meeting {
     }
 }
 
+impl Watch for Meeting {}
+
 /// Keeps one partition at its first job until another has answered one.
 #[derive(Drop)]
 pub struct After {
@@ -140,5 +146,83 @@ impl Gate for After {
             }
         }
         false
+    }
+}
+
+impl Watch for After {}
+
+/// Counts what it is told of a live run: the jobs and the segments at its beginning, and those that are done.
+#[derive(Drop)]
+pub struct Counter {
+    jobs: AtomicU64,
+    segments: AtomicU64,
+    answered: AtomicU64,
+    complete: AtomicU64,
+    runs: AtomicBool,
+    ends: AtomicU64,
+    asked_beside: AtomicBool,
+}
+
+impl Counter {
+    /// Of a run that hasn't begun.
+    pub fn new() -> Counter {
+        Counter {
+            jobs: AtomicU64::new(0),
+            segments: AtomicU64::new(0),
+            answered: AtomicU64::new(0),
+            complete: AtomicU64::new(0),
+            runs: AtomicBool::new(false),
+            ends: AtomicU64::new(0),
+            asked_beside: AtomicBool::new(false),
+        }
+    }
+
+    /// How many jobs there are, and how many are answered.
+    pub fn jobs(&self) -> (u64, u64) {
+        (
+            self.jobs.load(Ordering::SeqCst),
+            self.answered.load(Ordering::SeqCst),
+        )
+    }
+
+    /// How many segments there are, and how many are complete.
+    pub fn segments(&self) -> (u64, u64) {
+        (
+            self.segments.load(Ordering::SeqCst),
+            self.complete.load(Ordering::SeqCst),
+        )
+    }
+
+    /// Whether the run has ended, once, and no worker asked before it began or after it ended.
+    pub fn has_ended(&self) -> bool {
+        self.ends.load(Ordering::SeqCst) == 1 && !self.asked_beside.load(Ordering::SeqCst)
+    }
+}
+
+impl Gate for Counter {
+    fn pass(&self, _who: u64, step: NodeStep) -> bool {
+        if !self.runs.load(Ordering::SeqCst) {
+            self.asked_beside.store(true, Ordering::SeqCst);
+        }
+        if step == NodeStep::Answered {
+            self.answered.fetch_add(1, Ordering::SeqCst);
+        }
+        if step == NodeStep::SegmentComplete {
+            self.complete.fetch_add(1, Ordering::SeqCst);
+        }
+        true
+    }
+}
+
+impl Watch for Counter {
+    fn begins(&self, jobs: u64, segments: u64) {
+        self.jobs.store(jobs, Ordering::SeqCst);
+        self.segments.store(segments, Ordering::SeqCst);
+        self.runs.store(true, Ordering::SeqCst);
+    }
+
+    fn ends(&self) {
+        self.runs.store(false, Ordering::SeqCst);
+        self.ends.fetch_add(1, Ordering::SeqCst);
     }
 }

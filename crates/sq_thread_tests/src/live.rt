@@ -1,11 +1,11 @@
-// Live runs past gates: one that ends a worker, and those that keep one until others run beside it.
+// Live runs past gates: one that ends a worker, those that keep one until others run beside it, and one that counts.
 ghost use Rattle.std.specs.Prelude.{◌≤◌};
 ghost use Rattle.sq_pull.specs.declared.numbers.TheConstants.{MAX_OWNERS};
 
 use crate::driver::ALONE;
-use crate::gates::{After, Meeting, Recorder};
-use sq_driver::{Gate, NodeStep};
-use sq_live::live;
+use crate::gates::{After, Counter, Meeting, Recorder};
+use sq_driver::NodeStep;
+use sq_live::{Watch, live};
 use std::alloc::Global;
 use std::sync::Wait;
 use std::test::Fail;
@@ -27,8 +27,23 @@ new {"version":1,"partitions":16,"ranges":[[0,16,1],[16,4294967296,0]]}
 config 1 64 1
 "#;
 
+// Two partitions, of which the first gives 100 root keys, four segments, to the second, and jobs at both. Those at the second
+// pull what they wait for, so that trees are split.
+const HUNDRED: &str = r#"old {"version":1,"partitions":2,"ranges":[[0,4294967296,0]]}
+new {"version":1,"partitions":2,"ranges":[[0,100,1],[100,4294967296,0]]}
+config 1 64 1
+row 5 0 0 1 -
+row 40 0 0 1 -
+row 70 0 0 1 -
+txn 1 1 5 get 0 0
+txn 1 2 40 get 0 0
+txn 1 3 99 put 0 0 1 -
+txn 0 4 70 get 0 0
+txn 0 5 200 put 0 0 1 -
+"#;
+
 // What a live run of an input writes past a gate, with this many pumps, and its exit status.
-fn ended<R: Threads + Wait + Sync, G: Gate>(
+fn ended<R: Threads + Wait + Sync, G: Watch>(
     rt: &R,
     alloc: Global,
     input: &str,
@@ -78,6 +93,21 @@ fn each_of_two_partitions_waits_for_the_other(rt: HostRuntime) -> Result<(), Fai
         let (line, status) = ended(&rt, alloc, HALVES, 1, &gate)?;
         assert_eq!(rt; line.as_str(), "sound 2 families 2 committed\n");
         assert!(rt; status == 0);
+    }
+    Ok(())
+}
+
+// It is told how much there is to do before the first step, and then of each job that is answered and each segment that is
+// complete, once.
+#[test]
+fn a_watch_is_told_of_all_that_is_done(rt: HostRuntime) -> Result<(), Fail> {
+    let alloc = rt.alloc();
+    for (input, jobs, segments) in [(HALVES, 2, 1), (SIXTEEN, 0, 1), (HUNDRED, 5, 4)] {
+        let counter = Counter::new();
+        let (_line, status) = ended(&rt, alloc, input, 1, &counter)?;
+        assert!(rt; status == 0 && counter.has_ended());
+        assert!(rt; counter.jobs() == (jobs, jobs));
+        assert!(rt; counter.segments() == (segments, segments));
     }
     Ok(())
 }

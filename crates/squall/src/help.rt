@@ -102,6 +102,9 @@ unsound NUMBER                         the first defect that the audit found
 fault NUMBER                           of the input, and then no thread ran, or
                                        memory ran out
 
+At a terminal standard error tells meanwhile how many jobs are answered and how
+many segments are complete.
+
 Example:
 
 squall live <<'END'

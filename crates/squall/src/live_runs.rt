@@ -3,6 +3,7 @@ ghost use Rattle.std.specs.Prelude.{◌≡◌, ◌≤◌};
 ghost use Rattle.sq_pull.specs.declared.numbers.TheConstants.{MAX_OWNERS};
 ghost use Rattle.squall.specs.Session.{live_status, EndsLiveRun};
 
+use crate::progress::Progress;
 use crate::session::{REFUSED, explain_write};
 use sq_driver::OpenGate;
 use sq_live::{LiveEnding, Outcome, live};
@@ -12,18 +13,23 @@ use std::sync::Wait;
 use std::thread::Threads;
 
 /// Runs the jobs in `reader` in threads, writes what that comes to, and says on standard error what it means, unless the run
-/// is sound. Gives the exit status.
+/// is sound. While it runs, standard error tells how far it is, if that is shown. Gives the exit status.
 pub fn live_run<T: Threads + Wait + Sync + Eprint + AllocGlobal, R: Read, W: Write>(
     rt: &T,
     reader: &mut R,
     writer: &mut W,
     turns: u64,
     pumps: u32,
+    shows_progress: bool,
 ) -> u8
     requires { pumps ≤ MAX_OWNERS }
     ensures { EndsLiveRun (R.remaining reader.old) (W.contents writer.old) (W.contents writer.new) result }
 {
-    let ran = live(rt, rt.alloc(), reader, writer, turns, pumps, &OpenGate);
+    let ran = if shows_progress {
+        live(rt, rt.alloc(), reader, writer, turns, pumps, &Progress::new(rt))
+    } else {
+        live(rt, rt.alloc(), reader, writer, turns, pumps, &OpenGate)
+    };
     explain_live(rt, ran);
     live_status(ran)
 }

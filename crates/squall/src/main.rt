@@ -10,13 +10,14 @@ ghost use Rattle.squall.specs.Session.{IsExitStatus, EndsWell};
 mod help;
 mod line;
 mod live_runs;
+mod progress;
 mod session;
 
 use line::{Line, line_of};
 use live_runs::live_run;
 use session::{listing, print_usage, refuse_for_memory, refuse_words, script};
 use std::convert::AsStr;
-use std::io::{BufWriter, Read, Write};
+use std::io::{BufWriter, IsTerminal, Read, Write};
 use std::process::ExitCode;
 use std::rt::Env;
 use std::sync::Wait;
@@ -29,12 +30,14 @@ fn words_of(rt: &(impl Env + AllocGlobal)) -> io::Result<Vec<String>> {
     Ok(words)
 }
 
-// Does what the words of a command line ask for, and gives the exit status.
+// Does what the words of a command line ask for, and gives the exit status. Standard error tells how far a live run is where
+// it is a terminal.
 fn obey<T: Threads + Wait + Sync + Print + Eprint + AllocGlobal, S: AsStr, R: Read, W: Write>(
     rt: &T,
     words: &[S],
     reader: &mut R,
     writer: &mut W,
+    at_terminal: bool,
 ) -> u8
     ensures status { IsExitStatus result }
     ensures well { result ≡ 0 → EndsWell (subcommand_of squall (map S.text words.now)) (fault_of squall (map S.text words.now)) (R.remaining reader.old) (W.contents writer.old) (W.contents writer.new) }
@@ -42,7 +45,9 @@ fn obey<T: Threads + Wait + Sync + Print + Eprint + AllocGlobal, S: AsStr, R: Re
     match line_of(rt.alloc(), words) {
         Ok(Line::Run) => script(rt, reader, writer),
         Ok(Line::Ranges) => listing(rt, reader, writer),
-        Ok(Line::Live { turns, pumps }) => live_run(rt, reader, writer, turns, pumps),
+        Ok(Line::Live { turns, pumps }) => {
+            live_run(rt, reader, writer, turns, pumps, at_terminal)
+        }
         Err(error) => print_usage(rt, &error),
     }
 }
@@ -53,13 +58,13 @@ fn obey_buffered<
     S: AsStr,
     R: Read,
     W: Write + Drop,
->(rt: &T, words: &[S], reader: &mut R, writer: W) -> u8
+>(rt: &T, words: &[S], reader: &mut R, writer: W, at_terminal: bool) -> u8
     ensures { IsExitStatus result }
 {
     let Ok(mut writer) = BufWriter::new(rt.alloc(), writer) else {
         return refuse_for_memory(rt);
     };
-    let status = obey(rt, words, reader, &mut writer);
+    let status = obey(rt, words, reader, &mut writer, at_terminal);
     // A failed write has left bytes, which a buffer that is dropped would write.
     let (_unbuffered, _unwritten) = writer.into_parts();
     status
@@ -67,7 +72,10 @@ fn obey_buffered<
 
 fn main(rt: HostRuntime) -> ExitCode {
     let status = match words_of(&rt) {
-        Ok(words) => obey_buffered(&rt, &words, &mut rt.reader(), io::writer(&rt)),
+        Ok(words) => {
+            let at_terminal = rt.stderr().is_terminal();
+            obey_buffered(&rt, &words, &mut rt.reader(), io::writer(&rt), at_terminal)
+        }
         Err(error) => refuse_words(&rt, &error),
     };
     ExitCode::from(status)

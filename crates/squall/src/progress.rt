@@ -1,0 +1,71 @@
+// How far a live run is, said while it goes on.
+use sq_driver::{Gate, NodeStep};
+use sq_live::Watch;
+use std::sync::atomic::{AtomicU64, Ordering};
+
+// Takes the place of the longest line of progress.
+const BLANK: &str = "\r                                        \r";
+
+/// A gate that lets each worker pass, and says on standard error how many jobs are answered and how many segments are
+/// complete: on one line, which is written again for each of them, and is gone once the threads have ended.
+#[derive(Drop)]
+pub struct Progress<'a, E> {
+    to: &'a E,
+    jobs: AtomicU64,
+    segments: AtomicU64,
+    answered: AtomicU64,
+    complete: AtomicU64,
+}
+
+impl<'a, E: Eprint> Progress<'a, E> {
+    /// Of a run that hasn't begun.
+    pub fn new(to: &'a E) -> Progress<'a, E> {
+        Progress {
+            to,
+            jobs: AtomicU64::new(0),
+            segments: AtomicU64::new(0),
+            answered: AtomicU64::new(0),
+            complete: AtomicU64::new(0),
+        }
+    }
+
+    // Adds one to a count, and says how far the run is.
+    fn count(&self, count: &AtomicU64) {
+        count.fetch_add(1, Ordering::SeqCst);
+        self.say();
+    }
+
+    // Says how far the run is.
+    fn say(&self) {
+        let answered = self.answered.load(Ordering::SeqCst);
+        let jobs = self.jobs.load(Ordering::SeqCst);
+        let complete = self.complete.load(Ordering::SeqCst);
+        let segments = self.segments.load(Ordering::SeqCst);
+        let _ = eprint!(self.to;
+            "\r{answered} of {jobs} jobs, {complete} of {segments} segments"
+        );
+    }
+}
+
+impl<E: Eprint + Sync> Gate for Progress<'_, E> {
+    fn pass(&self, _who: u64, step: NodeStep) -> bool {
+        match step {
+            NodeStep::Answered => self.count(&self.answered),
+            NodeStep::SegmentComplete => self.count(&self.complete),
+            _ => {}
+        }
+        true
+    }
+}
+
+impl<E: Eprint + Sync> Watch for Progress<'_, E> {
+    fn begins(&self, jobs: u64, segments: u64) {
+        self.jobs.store(jobs, Ordering::SeqCst);
+        self.segments.store(segments, Ordering::SeqCst);
+        self.say();
+    }
+
+    fn ends(&self) {
+        let _ = eprint!(self.to; "{BLANK}");
+    }
+}
