@@ -16,7 +16,7 @@ use Rattle.sq_node.specs.FabricValue.{FabricValue, IsFabric, ends_of}
 use Rattle.sq_node.specs.NodeState.{NodeState, IsNodeOf}
 use Rattle.sq_gather.specs.LinkEnds.{LinkEndsValue}
 use Rattle.sq_gather.specs.Ends.{WasPut, AreApart, SourcesPut, DestinationsPut, send_link, recv_link, with_source, with_destination}
-use Rattle.sq_gather.proofs.LinksFrom.{stands_from, found_from}
+use Rattle.sq_ranges.proofs.LinksFrom.{stands_from, found_from}
 
 -- the node's end of the link to this partition is there
 pub record HasSource (node : NodeState) (dst i : ℕ) (left : LinkEndsValue) : Type 0 where
@@ -54,6 +54,14 @@ end_of : {X : Type 0} (link_of : X → ℕ) (found : Option X) (i : ℕ) → opt
 end_of link_of None i is = absurd cc
 end_of link_of (Some end) i is = (end, refl, same_Some (link_of end) i is)
 
+-- ends are apart whose links each tell the place of their end
+apart_by : {X : Type 0} (link_of : X → ℕ) (ends : List (Option X)) (links : List LinkValue) (place_of : LinkValue → ℕ)
+    → ((at : ℕ) (end : X) → slice_index_or ends at None ≡ Some end → (link : LinkValue) × (slice_get links (link_of end) ≡ Some link) × (place_of link ≡ at)) → AreApart link_of ends
+apart_by link_of ends links place_of found a b one other one_there other_there same =
+    let first = found a one one_there in
+    let second = found b other other_there in
+    sym first.2 ∙ ap place_of (same_Some first.0 second.0 (sym first.1 ∙ ap (slice_get links) same ∙ second.1)) ∙ second.2
+
 module _ (fabric : FabricValue) (is : IsFabric fabric) (node : NodeState) (of : IsNodeOf fabric node) where
   -- a node's end is of the link that leads from there to the end's partition
   pub sends_from : (dst : ℕ) (end : SendEnd) → send_end node.sends dst ≡ Some end → link_from fabric.links node.core.part dst ≡ Some end.link
@@ -62,17 +70,18 @@ module _ (fabric : FabricValue) (is : IsFabric fabric) (node : NodeState) (of : 
   pub recvs_from : (src : ℕ) (end : RecvEnd) → recv_end node.recvs src ≡ Some end → link_from fabric.links src node.core.part ≡ Some end.link
   recvs_from src end there = sym (of.recvs.which src (within node.recvs src end there)) ∙ ap (option_map recv_link) there
 
+  -- it leads between these partitions
+  sent_over : (dst : ℕ) (end : SendEnd) → send_end node.sends dst ≡ Some end → (link : LinkValue) × (slice_get fabric.links end.link ≡ Some link) × (link.src ≡ node.core.part) × (link.dst ≡ dst)
+  sent_over dst end there = found_from ends_of fabric.recon.ranges fabric.links no_link is.links node.core.part dst end.link (sends_from dst end there)
+
+  received_over : (src : ℕ) (end : RecvEnd) → recv_end node.recvs src ≡ Some end → (link : LinkValue) × (slice_get fabric.links end.link ≡ Some link) × (link.src ≡ src) × (link.dst ≡ node.core.part)
+  received_over src end there = found_from ends_of fabric.recon.ranges fabric.links no_link is.links src node.core.part end.link (recvs_from src end there)
+
   pub sends_apart : AreApart send_link node.sends
-  sends_apart a b one other one_there other_there same =
-      let found = found_from ends_of fabric.recon.ranges fabric.links no_link is.links node.core.part a one.link (sends_from a one one_there) in
-      let again = found_from ends_of fabric.recon.ranges fabric.links no_link is.links node.core.part b other.link (sends_from b other other_there) in
-      sym found.3 ∙ ap (λ (l : LinkValue). l.dst) (same_Some found.0 again.0 (sym found.1 ∙ ap (slice_get fabric.links) same ∙ again.1)) ∙ again.3
+  sends_apart = apart_by send_link node.sends fabric.links (λ (l : LinkValue). l.dst) (λ dst end there. let over = sent_over dst end there in (over.0, over.1, over.3))
 
   pub recvs_apart : AreApart recv_link node.recvs
-  recvs_apart a b one other one_there other_there same =
-      let found = found_from ends_of fabric.recon.ranges fabric.links no_link is.links a node.core.part one.link (recvs_from a one one_there) in
-      let again = found_from ends_of fabric.recon.ranges fabric.links no_link is.links b node.core.part other.link (recvs_from b other other_there) in
-      sym found.2 ∙ ap (λ (l : LinkValue). l.src) (same_Some found.0 again.0 (sym found.1 ∙ ap (slice_get fabric.links) same ∙ again.1)) ∙ again.2
+  recvs_apart = apart_by recv_link node.recvs fabric.links (λ (l : LinkValue). l.src) (λ src end there. let over = received_over src end there in (over.0, over.1, over.2))
 
   -- the end of a link that leads from there is there
   pub send_there : (i : ℕ) (link : LinkValue) → slice_get fabric.links i ≡ Some link → link.src ≡ node.core.part → link.dst < fabric.parts → (end : SendEnd) × (send_end node.sends link.dst ≡ Some end) × (end.link ≡ i)
@@ -90,12 +99,12 @@ module _ (fabric : FabricValue) (is : IsFabric fabric) (node : NodeState) (of : 
   -- an end of the node is of a link that leads from its partition
   put_from : (i : ℕ) (was now : LinkEndsValue) (link : LinkValue) → slice_get fabric.links i ≡ Some link → WasPut send_link with_source node.sends node.core.outs new_out_link 0 i was now → link.src ≡ node.core.part
   put_from i was now link there put =
-      let found = found_from ends_of fabric.recon.ranges fabric.links no_link is.links node.core.part put.other put.end.link (sends_from put.other put.end put.there) in
+      let found = sent_over put.other put.end put.there in
       ap (λ (l : LinkValue). l.src) (same_Some link found.0 (sym there ∙ ap (slice_get fabric.links) (sym put.here) ∙ found.1)) ∙ found.2
 
   put_to : (i : ℕ) (was now : LinkEndsValue) (link : LinkValue) → slice_get fabric.links i ≡ Some link → WasPut recv_link with_destination node.recvs node.core.inboxes None 0 i was now → link.dst ≡ node.core.part
   put_to i was now link there put =
-      let found = found_from ends_of fabric.recon.ranges fabric.links no_link is.links put.other node.core.part put.end.link (recvs_from put.other put.end put.there) in
+      let found = received_over put.other put.end put.there in
       ap (λ (l : LinkValue). l.dst) (same_Some link found.0 (sym there ∙ ap (slice_get fabric.links) (sym put.here) ∙ found.1)) ∙ found.3
 
   -- a destination's end leaves the source's as it is, and the other way round

@@ -5,7 +5,6 @@ pub mod Filling
 pub mod Joined
 pub mod Joining
 pub mod Linked
-pub mod LinksFrom
 pub mod Lists
 pub mod Placing
 pub mod Putting

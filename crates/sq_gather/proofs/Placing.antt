@@ -24,7 +24,7 @@ use Rattle.sq_node.specs.Opened.{IsFabricOf}
 use Rattle.sq_gather.specs.Trees.{view_with}
 use Rattle.sq_gather.specs.Gathered.{AreAllOf, IsGathered, AllHold, owners_of, closed_ends}
 use Rattle.sq_gather.proofs.Lists.{map_twice, flat_map_none}
-use Rattle.sq_gather.proofs.LinksFrom.{one_each, each_link}
+use Rattle.sq_ranges.proofs.LinksFrom.{one_each, each_link}
 use Rattle.sq_gather.proofs.Joined.{begun_grows, completed_grows}
 
 abbrev no_closed_link : GatheredLink

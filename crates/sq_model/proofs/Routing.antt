@@ -1,5 +1,5 @@
 -- On a legal trace a root key's segment, and the node that covers its leaf, tell whether it was given up, cut and loaded.
-use Rattle.std.proofs.Common.{◌≡◌, ℕ, ◌<◌, Bool, true, false, ◌&&◌, nat_le, nat_lt, List, slice_get, Contains, Some, None, refl, sym, ap₂, ◌∙◌, subst, subst₂, true≢false, arith}
+use Rattle.std.proofs.Common.{◌≡◌, ℕ, ◌<◌, true, false, ◌&&◌, nat_le, nat_lt, List, slice_get, Contains, Some, None, sym, ap₂, ◌∙◌, subst, subst₂, arith}
 use Rattle.std.proofs.lemmas.Bool.{and_parts, and_from, lt-ltb, false_from_ne_true}
 use Rattle.sq_tree.specs.Status.{is_begun, covering}
 use Rattle.sq_tree.proofs.Covering.{covering_is}
@@ -9,6 +9,7 @@ use Rattle.sq_ranges.specs.declared.recon.Range.{Range}
 use Rattle.sq_ranges.specs.ReconValue.{segment_of, leaf_of}
 use Rattle.sq_ranges.specs.OpeningValue.{OpeningValue}
 use Rattle.sq_ranges.specs.Opening.{IsOpening}
+use Rattle.sq_ranges.proofs.Bools.{same_test}
 use Rattle.sq_model.specs.Trace.{Trace, notes, loads}
 use Rattle.sq_model.specs.Nodes.{Item, status_of, items}
 use Rattle.sq_model.specs.Place.{is_covered, extent_of, is_within, is_begun_over}
@@ -21,13 +22,6 @@ use Rattle.sq_model.proofs.Tiles.{tile, covers_of, covered_is}
 use Rattle.sq_model.proofs.Notes.{note_begun, loaded_in, tiles_notes, tiles_loads}
 use Rattle.sq_model.proofs.Keys.{IsIn, found_in_segment, above_within}
 use Rattle.sq_model.proofs.Apart.{covers_bounds, covers_extent, begun_over}
-
--- two tests are one that hold of the same
-same_test : (a b : Bool) → (a ≡ true → b ≡ true) → (b ≡ true → a ≡ true) → a ≡ b
-same_test true true there back = refl
-same_test false false there back = refl
-same_test true false there back = absurd (true≢false (sym (there refl)))
-same_test false true there back = absurd (true≢false (sym (back refl)))
 
 module _ (o : OpeningValue) (is : IsOpening o) (t : Trace) (legal : IsLegal o t) where
   -- a key that no segment holds was not given up

@@ -12,3 +12,5 @@ pub mod Links
 pub mod Made
 pub mod Search
 pub mod Openings
+pub mod Bools
+pub mod LinksFrom

@@ -1,30 +1,22 @@
 -- The state that a world opens in.
-use Rattle.std.proofs.Common.{subst, ⊎_elim, ◌≡◌, ℕ, Bool, true, false, refl, sym, ap, ◌∙◌, arith, length, get_or, map, replicate}
-use Rattle.std.specs.Prelude.{◌<◌, ◌≤◌, ◌==◌, ◌&&◌, if◌then◌else◌, not, [], slice_get, Option, Some, None, is_some, option_map, position, Contains}
+use Rattle.std.proofs.Common.{subst, ⊎_elim, ◌≡◌, ℕ, false, refl, sym, ap, ◌∙◌, arith, length, get_or, map, replicate}
+use Rattle.std.specs.Prelude.{◌∷◌, ◌<◌, ◌≤◌, ◌==◌, ◌&&◌, if◌then◌else◌, not, [], slice_get, Some, None}
 use Rattle.std.specs.List.{range_with_len}
-use Rattle.std.specs.Ordering.{nat_cmp, ordering_then}
-use Rattle.std.specs.declared.cmp.Ordering.{Ordering}
-use Rattle.std.specs.declared.cmp.Ordering.TheVariants.{Less, Equal}
-use Rattle.std.specs.Cmp.{nat_cmp_is}
 use Rattle.std.proofs.Math.Bool.{or-false}
-use Rattle.std.proofs.lemmas.Bool.{eq-eqb, eqb-true, and_from, cases_lt, and_parts}
-use Rattle.std.proofs.lemmas.Option.{slice_get-map, slice_get-get_or}
+use Rattle.std.proofs.lemmas.Bool.{cases_lt}
 use Rattle.std.proofs.lemmas.List.{get_or-map, get_or-replicate, get_or_past, length-map, length-replicate}
-use Rattle.std.proofs.lemmas.List.Elements.{Contains-get_or}
 use Rattle.std.proofs.lemmas.List.FromFn.{get_or-map-range_with_len, length-map-range_with_len}
-use Rattle.std.proofs.lemmas.List.Quantifiers.{position-Some}
 use Rattle.std.proofs.lemmas.List.Sums.{list_all-from_AllPass}
-use Rattle.std.proofs.lemmas.Map.Keys.{Less-from_sorted}
 use Rattle.std.specs.Prelude.{nat_lt, List}
 use Rattle.sq_schema.specs.Effect.{RowList}
 use Rattle.sq_schema.specs.Table.{is_opening}
 use Rattle.sq_schema.specs.declared.root.TheConstants.{ROOT_END}
 use Rattle.sq_tree.specs.declared.node.TheConstants.{LEAVES}
 use Rattle.sq_ranges.specs.declared.recon.Link.{Link}
-use Rattle.sq_ranges.specs.declared.recon.Range.{Range}
-use Rattle.sq_ranges.specs.ReconValue.{is_link, link_cmp, AreLinks}
+use Rattle.sq_ranges.specs.ReconValue.{AreLinks}
 use Rattle.sq_ranges.specs.OpeningValue.{OpeningValue}
 use Rattle.sq_ranges.specs.SetUp.{IsSetUp}
+use Rattle.sq_ranges.proofs.LinksFrom.{one_at, each_link}
 use Rattle.sq_leader.specs.declared.leader.Leader.TheVariants.{Idle}
 use Rattle.sq_chunk.specs.ChunkValue.{ChunkValue}
 use Rattle.sq_exec.specs.declared.run.Run.{Run}
@@ -41,7 +33,6 @@ use Rattle.sq_state.specs.Queue.{opened_queue, link_of}
 use Rattle.sq_opened.specs.Opened.{opened_part}
 use Rattle.sq_opened.proofs.Families.{get_opened}
 use Rattle.sq_state.specs.Openings.{AreNewTrees, AreNewQueues}
-use Rattle.sq_state.proofs.Found.{found_at}
 
 -- a link that has carried nothing
 abbrev new_link : Link → LinkValue
@@ -67,12 +58,6 @@ new_link_holds o link =
 stood : (o : OpeningValue) (part root : ℕ) → (if not (length (opening_rows o root) == 0) && (source o root == part) then Some (record { root = root; base = opening_rows o root; log = [] }) else None) ≡ share_at o [] part root
 stood o part root = ap (λ b. if b && (source o root == part) then Some (family_of o [] root) else None) (sym (or-false (not (length (opening_rows o root) == 0))))
 
-bools_same : (a b : Bool) → (a ≡ true → b ≡ true) → (b ≡ true → a ≡ true) → a ≡ b
-bools_same true true to from = refl
-bools_same true false to from = sym (to refl)
-bools_same false true to from = from refl
-bools_same false false to from = refl
-
 abbrev no_ends : Link
 no_ends = record { src = 0; dst = 0 }
 
@@ -84,59 +69,13 @@ alike n i x =
     (λ (past : n ≤ i). get_or_past (replicate n x) i x (let count : length (replicate n x) ≡ n = length-replicate n x in omega (arith, count, past)))
     (cases_lt i n)
 
-abbrev joins : ℕ → ℕ → QueueValue → Bool
-joins src dst queue = (queue.src == src) && (queue.dst == dst)
+-- the partitions that a queue leads from and to
+abbrev ends_of : QueueValue → Link
+ends_of queue = record { src = queue.src; dst = queue.dst }
 
-module _ (ranges : List Range) (links : List Link) (are : AreLinks ranges links) where
-  linked_at : (src dst : ℕ) (found : Option ℕ) → position (joins src dst) (map opened_queue links) ≡ found → is_some found ≡ true → is_link ranges src dst ≡ true
-  linked_at src dst None e some = absurd (is_none some)
-    where
-      is_none : false ≡ true → ⊥
-      is_none e = cc
-  linked_at src dst (Some i) e some =
-      let facts = position-Some (joins src dst) (map opened_queue links) i no_queue e in
-      let low : i < length links = subst (λ (n : ℕ). i < n) (length-map links opened_queue) facts.0 in
-      let link = get_or links i no_ends in
-      let passes : joins src dst (opened_queue link) ≡ true = ap (joins src dst) (sym (get_or-map opened_queue links i no_ends no_queue low)) ∙ facts.1 in
-      let is_src : link.src ≡ src = eqb-true link.src src (and_parts (link.src == src) (link.dst == dst) passes).0 in
-      let is_dst : link.dst ≡ dst = eqb-true link.dst dst (and_parts (link.src == src) (link.dst == dst) passes).1 in
-      (λ i. is_link ranges (sym is_src i) (sym is_dst i)) ∙ (are.all link).0 (Contains-get_or links i no_ends low)
-
-  at_linked : (src dst : ℕ) → is_link ranges src dst ≡ true → is_some (position (joins src dst) (map opened_queue links)) ≡ true
-  at_linked src dst linked =
-      let link : Link = record { src = src; dst = dst } in
-      let there : Contains links link = (are.all link).1 linked in
-      let at : slice_get (map opened_queue links) there.0 ≡ Some (opened_queue link) =
-      slice_get-map opened_queue links there.0 ∙ ap (option_map opened_queue) (slice_get-get_or links there.0 link there.1 ∙ ap Some there.2) in
-      found_at (joins src dst) (map opened_queue links) there.0 (opened_queue link) at
-      (and_from (src == src) (dst == dst) (eq-eqb src src refl) (eq-eqb dst dst refl))
-
-  new_ends : (src dst : ℕ) → is_some (position (joins src dst) (map opened_queue links)) ≡ is_link ranges src dst
-  new_ends src dst = bools_same _ _ (linked_at src dst (position (joins src dst) (map opened_queue links)) refl) (at_linked src dst)
-
-  -- no link comes before another with its ends
-  not_twice : (i j : ℕ) → i < j → j < length links → (get_or links i no_ends).src ≡ (get_or links j no_ends).src → (get_or links i no_ends).dst ≡ (get_or links j no_ends).dst → ⊥
-  not_twice i j before low same_src same_dst =
-      let one = get_or links i no_ends in
-      let other = get_or links j no_ends in
-      let less : link_cmp one other ≡ Less = Less-from_sorted link_cmp links i j no_ends are.rising before low in
-      let ties : link_cmp one other ≡ Equal =
-      ap (λ (r : Ordering). ordering_then r (nat_cmp one.dst other.dst)) (sym (nat_cmp_is one.src other.src Equal same_src)) ∙ sym (nat_cmp_is one.dst other.dst Equal same_dst) in
-      apart (sym less ∙ ties)
-    where
-      apart : Less ≡ Equal → ⊥
-      apart e = cc
-
-  new_one_each : (i j : ℕ) → i < length links → j < length links → (get_or links i no_ends).src ≡ (get_or links j no_ends).src → (get_or links i no_ends).dst ≡ (get_or links j no_ends).dst → i ≡ j
-  new_one_each i j low_i low_j same_src same_dst =
-      ⊎_elim
-      (λ (before : i < j). absurd (not_twice i j before low_j same_src same_dst))
-      (λ not_before.
-      ⊎_elim
-      (λ (after : j < i). absurd (not_twice j i after low_i (sym same_src) (sym same_dst)))
-      (λ not_after. omega (arith, not_before, not_after))
-      (cases_lt j i))
-      (cases_lt i j)
+ends_again : (links : List Link) → map ends_of (map opened_queue links) ≡ links
+ends_again [] = refl
+ends_again (link ∷ links) = ap (λ (others : List Link). link ∷ others) (ends_again links)
 
 -- a partition of an opening holds what the empty history says of it
 module _ (o : OpeningValue) (part : ℕ) where
@@ -225,7 +164,7 @@ module _ (o : OpeningValue) (w : WorldValue) (built : IsBuilt o w) where
   pub opened_holds : IsSetUp o → Holds o [] w
   opened_holds set_up =
       let links = built.queues.links in
-      let are = built.queues.all in
+      let are : AreLinks o.recon.ranges (map ends_of w.queues) = subst (AreLinks o.recon.ranges) (sym (ap (map ends_of) built.queues.same ∙ ends_again links)) built.queues.all in
       record {
         plans = record { old = built.old; new = built.new; recon = built.recon; config = built.config };
         leader = record {
@@ -244,10 +183,7 @@ module _ (o : OpeningValue) (w : WorldValue) (built : IsBuilt o w) where
         };
         links = record {
           each = λ i low. subst (LinkHolds o []) (sym (link_is i low)) (new_link_holds o (get_or links i no_ends));
-          ends = λ src dst. ap (λ queues. is_some (position (joins src dst) queues)) built.queues.same ∙ new_ends o.recon.ranges links are src dst;
-          one_each = λ i j low_i low_j same_src same_dst.
-              new_one_each o.recon.ranges links are i j (within i low_i) (within j low_j)
-              (sym (ap (λ (q : QueueValue). q.src) (queue_is i low_i)) ∙ same_src ∙ ap (λ (q : QueueValue). q.src) (queue_is j low_j))
-              (sym (ap (λ (q : QueueValue). q.dst) (queue_is i low_i)) ∙ same_dst ∙ ap (λ (q : QueueValue). q.dst) (queue_is j low_j));
+          ends = each_link ends_of o.recon.ranges w.queues no_queue are;
+          one_each = one_at ends_of o.recon.ranges w.queues no_queue are;
         };
       }

@@ -1,5 +1,5 @@
 -- On a legal history a partition can tell of a root key what routing it takes, and running a transaction rests on firm ground.
-use Rattle.std.proofs.Common.{subst, ◌≡◌, ℕ, Bool, true, false, refl, sym, ap, ◌∙◌, true≢false, eq-eqb}
+use Rattle.std.proofs.Common.{subst, ◌≡◌, ℕ, true, sym, ap, ◌∙◌, eq-eqb}
 use Rattle.std.specs.Prelude.{◌==◌, ◌&&◌, drop, reverse, slice_get, Some, None, is_some}
 use Rattle.std.specs.List.{list_any}
 use Rattle.std.proofs.lemmas.Bool.{and_parts, and_from, eqb-true}
@@ -10,6 +10,7 @@ use Rattle.sq_ranges.specs.declared.recon.Range.{Range}
 use Rattle.sq_ranges.specs.ReconValue.{segment_of, leaf_of}
 use Rattle.sq_ranges.specs.OpeningValue.{OpeningValue}
 use Rattle.sq_ranges.specs.Opening.{IsOpening}
+use Rattle.sq_ranges.proofs.Bools.{same_test}
 use Rattle.sq_model.specs.Trace.{Trace, loads, load_count}
 use Rattle.sq_model.specs.Nodes.{items}
 use Rattle.sq_model.specs.Place.{extent_of, is_within, is_covered, is_begun_over}
@@ -27,13 +28,6 @@ use Rattle.sq_transition.proofs.Locations.{InSegment, InNone, RoutingFacts}
 use Rattle.sq_transition.proofs.Runs.{RunningFacts}
 use Rattle.sq_transition.proofs.Loads.{way_and_loads}
 use Rattle.sq_transition.proofs.LinkFacts.{on_its_way}
-
--- two tests are one that hold of the same
-same_test : (a b : Bool) → (a ≡ true → b ≡ true) → (b ≡ true → a ≡ true) → a ≡ b
-same_test true true there back = refl
-same_test false false there back = refl
-same_test true false there back = absurd (true≢false (sym (there refl)))
-same_test false true there back = absurd (true≢false (sym (back refl)))
 
 module _ (o : OpeningValue) (is : IsOpening o) (t : Trace) (legal : IsLegal o t) where
   module _ (root seg : ℕ) (range : Range) (found : segment_of o.recon.segments root ≡ Some seg) (at : IsIn o root seg range) where

@@ -1,11 +1,11 @@
--- Where the links of a run stand among those that are there for its ranges.
-use Rattle.std.proofs.Common.{◌≡◌, ℕ, ◌<◌, ◌≤◌, Bool, true, false, ◌&&◌, ◌==◌, List, length, get_or, map, Option, Some, None, refl, sym, ap, ◌∙◌, subst, ⊎_elim, arith}
+-- Where links stand among those that are there for ranges.
+use Rattle.std.proofs.Common.{◌≡◌, ℕ, ◌<◌, ◌≤◌, Bool, true, ◌&&◌, ◌==◌, List, length, get_or, map, Option, Some, None, refl, sym, ap, ◌∙◌, subst, ⊎_elim, arith}
 use Rattle.std.specs.Prelude.{slice_get, position, is_some, Contains}
 use Rattle.std.specs.Cmp.{nat_cmp_is}
 use Rattle.std.specs.declared.cmp.Ordering.{Ordering}
 use Rattle.std.specs.declared.cmp.Ordering.TheVariants.{Less, Equal}
 use Rattle.std.specs.Ordering.{nat_cmp, ordering_then}
-use Rattle.std.proofs.lemmas.Bool.{cases_lt, and_parts, and_from, eq-eqb, eqb-true}
+use Rattle.std.proofs.lemmas.Bool.{false_from_ne_true, cases_lt, and_parts, and_from, eq-eqb, eqb-true}
 use Rattle.std.proofs.lemmas.List.{length-map, get_or-map, get_or_default}
 use Rattle.std.proofs.lemmas.List.Elements.{Contains-get_or}
 use Rattle.std.proofs.lemmas.List.Quantifiers.{position-Some}
@@ -15,19 +15,10 @@ use Rattle.sq_ranges.specs.declared.recon.Range.{Range}
 use Rattle.sq_ranges.specs.declared.recon.Link.{Link}
 use Rattle.sq_ranges.specs.ReconValue.{is_link, link_cmp, AreLinks}
 use Rattle.sq_ranges.proofs.Found.{position_at}
+use Rattle.sq_ranges.proofs.Bools.{same_test}
 
 abbrev no_ends : Link
 no_ends = record { src = 0; dst = 0 }
-
-not_true : (b : Bool) → (b ≡ true → ⊥) → b ≡ false
-not_true true never = absurd (never refl)
-not_true false never = refl
-
-bools_same : (a b : Bool) → (a ≡ true → b ≡ true) → (b ≡ true → a ≡ true) → a ≡ b
-bools_same true true to from = refl
-bools_same true false to from = sym (to refl)
-bools_same false true to from = from refl
-bools_same false false to from = refl
 
 -- of things that have the ends of the ranges' links, in the links' order
 module _ {X : Type 0} (ends : X → Link) (ranges : List Range) (links : List X) (none : X) (are : AreLinks ranges (map ends links)) where
@@ -52,7 +43,7 @@ module _ {X : Type 0} (ends : X → Link) (ranges : List Range) (links : List X)
       apart : Less ≡ Equal → ⊥
       apart e = cc
 
-  one_at : (i j : ℕ) → i < length links → j < length links → (ends (get_or links i none)).src ≡ (ends (get_or links j none)).src → (ends (get_or links i none)).dst ≡ (ends (get_or links j none)).dst → i ≡ j
+  pub one_at : (i j : ℕ) → i < length links → j < length links → (ends (get_or links i none)).src ≡ (ends (get_or links j none)).src → (ends (get_or links i none)).dst ≡ (ends (get_or links j none)).dst → i ≡ j
   one_at i j low_i low_j same_src same_dst =
       ⊎_elim
       (λ (before : i < j). absurd (not_twice i j before low_j same_src same_dst))
@@ -78,7 +69,7 @@ module _ {X : Type 0} (ends : X → Link) (ranges : List Range) (links : List X)
       let is : get_or links i none ≡ link = get_or_from_slice_get links i link none there in
       position_at (joins (ends link).src (ends link).dst) links i none low
       (ap (joins (ends link).src (ends link).dst) is ∙ and_from ((ends link).src == (ends link).src) ((ends link).dst == (ends link).dst) (eq-eqb (ends link).src (ends link).src refl) (eq-eqb (ends link).dst (ends link).dst refl))
-      (λ k before. not_true (joins (ends link).src (ends link).dst (get_or links k none))
+      (λ k before. false_from_ne_true (joins (ends link).src (ends link).dst (get_or links k none))
       (λ passes.
       let parts = and_parts ((ends (get_or links k none)).src == (ends link).src) ((ends (get_or links k none)).dst == (ends link).dst) passes in
       not_twice k i before low (eqb-true (ends (get_or links k none)).src (ends link).src parts.0 ∙ ap (λ (x : X). (ends x).src) (sym is))
@@ -112,4 +103,4 @@ module _ {X : Type 0} (ends : X → Link) (ranges : List Range) (links : List X)
 
   -- it is found just where a range leads
   pub each_link : (src dst : ℕ) → is_some (position (joins src dst) links) ≡ is_link ranges src dst
-  each_link src dst = bools_same (is_some (position (joins src dst) links)) (is_link ranges src dst) (linked_at src dst (position (joins src dst) links) refl) (at_linked src dst)
+  each_link src dst = same_test (is_some (position (joins src dst) links)) (is_link ranges src dst) (linked_at src dst (position (joins src dst) links) refl) (at_linked src dst)
