@@ -26,12 +26,12 @@ use Rattle.sq_model.specs.declared.step.Step.TheVariants.{Prepare, Split, Claim,
 use Rattle.sq_model.specs.declared.answer.Answer.{Answer}
 use Rattle.sq_model.specs.declared.answer.Answer.TheVariants.{Done, WasCut, WasLoaded, Refused, Replied, Moved, Waits}
 use Rattle.sq_model.specs.declared.answer.Refusal.{Refusal}
-use Rattle.sq_model.specs.declared.answer.Refusal.TheVariants.{NotMoving, NoSuchLink, NoSuchPartition, OutboxFull, InboxEmpty, AlreadyMoving, NotFinished, LogFull}
+use Rattle.sq_model.specs.declared.answer.Refusal.TheVariants.{NotMoving, NoSuchSegment, NoSuchNode, NoSuchLink, NoSuchPartition, OutboxFull, InboxEmpty, AlreadyMoving, NotFinished, LogFull}
 use Rattle.sq_model.specs.Trace.{Trace, notes, loads, link, cut_count, push_count, pop_count, load_count}
 use Rattle.sq_model.specs.Leader.{is_moving, is_started}
 use Rattle.sq_model.specs.Nodes.{Item, status_of}
 use Rattle.sq_model.specs.Links.{has_last, open_items, next_item, next_note}
-use Rattle.sq_model.specs.Answers.{answer, partitions, has_all, counts_reported, split_answered, claim_answered, begin_answered, complete_answered, cut_for, load_of, wait_answer, run_answer, routed}
+use Rattle.sq_model.specs.Answers.{answer, while_moving, in_segment, at_node, partitions, has_all, counts_reported, split_answered, claim_answered, begin_answered, complete_answered, cut_for, load_of, wait_answer, run_answer, routed}
 use Rattle.sq_model.specs.Legal.{IsAnswer}
 use Rattle.sq_model.proofs.Lists.{found_in}
 use Rattle.sq_model.proofs.Link.{IsOf, link_has}
@@ -56,6 +56,19 @@ prepare_goes o t part given =
     let a = past (nat_le o.old.parts part) NoSuchPartition _ Done refl (answered o t (Prepare part) Done refl given) in
     (past (is_started t) AlreadyMoving Done Done refl a.1).0
 
+-- a step of a node of a tree that went, and what the tree answered it
+record NodeGoes (o : OpeningValue) (seg node : ℕ) (given : Answer) : Type 0 where
+  segment : seg < length o.recon.segments
+  exists : is_node node ≡ true
+  done : Done ≡ given
+
+node_goes : (o : OpeningValue) (t : Trace) (step : Step) (seg node : ℕ) (given : Answer) → answer o t step ≡ while_moving t (in_segment o seg (at_node node given)) → IsAnswer o t step Done → NodeGoes o seg node given
+node_goes o t step seg node given is went =
+    let a = past (not (is_moving t)) NotMoving (in_segment o seg (at_node node given)) Done refl (answered o t step Done refl went ∙ is) in
+    let b = past (nat_le (length o.recon.segments) seg) NoSuchSegment (at_node node given) Done refl a.1 in
+    let c = past (not (is_node node)) NoSuchNode given Done refl b.1 in
+    record { segment = leb-false (length o.recon.segments) seg b.0; exists = not-false (is_node node) c.0; done = c.1 }
+
 -- a Split that went
 pub record SplitGoes (o : OpeningValue) (t : Trace) (seg node : ℕ) : Type 0 where
   pub segment : seg < length o.recon.segments
@@ -70,14 +83,8 @@ split_done (Err (split.NotFree found)) e = absurd cc
 
 pub split_goes : (o : OpeningValue) (t : Trace) (seg node : ℕ) → IsAnswer o t (Split seg node) Done → SplitGoes o t seg node
 split_goes o t seg node given =
-    let a = past _ _ _ Done refl (answered o t (Split seg node) Done refl given) in
-    let b = past _ _ _ Done refl a.1 in
-    let c = past _ _ _ Done refl b.1 in
-    record {
-      segment = leb-false (length o.recon.segments) seg b.0;
-      exists = not-false (is_node node) c.0;
-      splits = split_went (status_of t seg) node (split_done (split_answer (status_of t seg) node) c.1);
-    }
+    let goes = node_goes o t (Split seg node) seg node (split_answered (split_answer (status_of t seg) node)) refl given in
+    record { segment = goes.segment; exists = goes.exists; splits = split_went (status_of t seg) node (split_done (split_answer (status_of t seg) node) goes.done) }
 
 -- a Claim that went
 pub record ClaimGoes (o : OpeningValue) (t : Trace) (seg node pull : ℕ) : Type 0 where
@@ -92,14 +99,8 @@ claim_done (Err (claim.NotFree found)) e = absurd cc
 
 pub claim_goes : (o : OpeningValue) (t : Trace) (seg node pull : ℕ) → IsAnswer o t (Claim seg node pull) Done → ClaimGoes o t seg node pull
 claim_goes o t seg node pull given =
-    let a = past _ _ _ Done refl (answered o t (Claim seg node pull) Done refl given) in
-    let b = past _ _ _ Done refl a.1 in
-    let c = past _ _ _ Done refl b.1 in
-    record {
-      segment = leb-false (length o.recon.segments) seg b.0;
-      exists = not-false (is_node node) c.0;
-      claims = claim_went (status_of t seg) node pull (claim_done (claim_answer (status_of t seg) node pull) c.1);
-    }
+    let goes = node_goes o t (Claim seg node pull) seg node (claim_answered (claim_answer (status_of t seg) node pull)) refl given in
+    record { segment = goes.segment; exists = goes.exists; claims = claim_went (status_of t seg) node pull (claim_done (claim_answer (status_of t seg) node pull) goes.done) }
 
 -- a Begin that went
 pub record BeginGoes (o : OpeningValue) (t : Trace) (seg node pull : ℕ) : Type 0 where
@@ -114,14 +115,8 @@ begin_done (Err begin.WrongPull) e = absurd cc
 
 pub begin_goes : (o : OpeningValue) (t : Trace) (seg node pull : ℕ) → IsAnswer o t (Begin seg node pull) Done → BeginGoes o t seg node pull
 begin_goes o t seg node pull given =
-    let a = past _ _ _ Done refl (answered o t (Begin seg node pull) Done refl given) in
-    let b = past _ _ _ Done refl a.1 in
-    let c = past _ _ _ Done refl b.1 in
-    record {
-      segment = leb-false (length o.recon.segments) seg b.0;
-      exists = not-false (is_node node) c.0;
-      begins = begin_went (status_of t seg) node pull (begin_done (begin_answer (status_of t seg) node pull) c.1);
-    }
+    let goes = node_goes o t (Begin seg node pull) seg node (begin_answered (begin_answer (status_of t seg) node pull)) refl given in
+    record { segment = goes.segment; exists = goes.exists; begins = begin_went (status_of t seg) node pull (begin_done (begin_answer (status_of t seg) node pull) goes.done) }
 
 -- a Complete that went
 pub record CompleteGoes (o : OpeningValue) (t : Trace) (seg node pull : ℕ) : Type 0 where
@@ -138,16 +133,9 @@ complete_done loaded (Err complete.WrongPull) e = absurd cc
 
 pub complete_goes : (o : OpeningValue) (t : Trace) (seg node pull : ℕ) → IsAnswer o t (Complete seg node pull) Done → CompleteGoes o t seg node pull
 complete_goes o t seg node pull given =
-    let a = past _ _ _ Done refl (answered o t (Complete seg node pull) Done refl given) in
-    let b = past _ _ _ Done refl a.1 in
-    let c = past _ _ _ Done refl b.1 in
-    let d = complete_done (has_last seg node (loads t)) (complete_answer (status_of t seg) node pull) c.1 in
-    record {
-      segment = leb-false (length o.recon.segments) seg b.0;
-      exists = not-false (is_node node) c.0;
-      completes = complete_went (status_of t seg) node pull d.1;
-      loaded = d.0;
-    }
+    let goes = node_goes o t (Complete seg node pull) seg node (complete_answered (has_last seg node (loads t)) (complete_answer (status_of t seg) node pull)) refl given in
+    let completes = complete_done (has_last seg node (loads t)) (complete_answer (status_of t seg) node pull) goes.done in
+    record { segment = goes.segment; exists = goes.exists; completes = complete_went (status_of t seg) node pull completes.1; loaded = completes.0 }
 
 -- a Cut that went
 pub record CutGoes (o : OpeningValue) (t : Trace) (src dst : ℕ) (note : Note) (families : ℕ) : Type 0 where
