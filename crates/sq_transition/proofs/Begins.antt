@@ -40,7 +40,7 @@ use Rattle.sq_transition.specs.Transition.{step_result}
 use Rattle.sq_transition.specs.Holds.{LinkHolds, LinksHold, CoreHolds, PartitionsHold, work_of, leaves_from, is_leaf_begun}
 use Rattle.sq_transition.proofs.Sets.{by_place, get_or-set}
 use Rattle.sq_transition.proofs.Changed.{PartsHold, segments_changed, partitions_changed, links_changed}
-use Rattle.sq_transition.proofs.Cores.{core_set, core_kept}
+use Rattle.sq_transition.proofs.Cores.{core_set, set_again, core_kept}
 use Rattle.sq_transition.proofs.Keeps.{Keeps, keeps_refused, keeps_moving}
 use Rattle.sq_transition.proofs.Links.{IsFrom, index_found, same_ends, link_set}
 use Rattle.sq_transition.proofs.LinkEnds.{EndsBelow, AllEndsBelow, out_of, out_set, out_stays}
@@ -152,17 +152,9 @@ module _ (o : OpeningValue) (t : Trace) (w : WorldValue) (seg node pull : ℕ) (
       let core = core_at w range.src in
       let was = source_before in
       record {
-        set = record {
-          part = was.set.part;
-          plan = was.set.plan;
-          recon = was.set.recon;
-          limit = was.set.limit;
-          started = was.set.started;
-          outs = length-set core.outs range.dst (with_work (out_at core range.dst) (whole_node core range seg node pull)) ∙ was.set.outs;
-          inboxes = was.set.inboxes;
-          given_up = length-set core.given_up seg (given_up_with (given_up_at core seg) node) ∙ was.set.given_up;
-          loaded = was.set.loaded;
-        };
+        set =
+            set_again o t ((Begin seg node pull, Done) ∷ t) range.src core core.started begun.outs core.inboxes begun.given_up core.loaded was.set was.set.started
+            (length-set core.outs range.dst (with_work (out_at core range.dst) (whole_node core range seg node pull))) refl (length-set core.given_up seg (given_up_with (given_up_at core seg) node)) refl;
         store = was.store;
         waiting = was.waiting;
         moves = record { given_up = leaves_begun; loaded = was.moves.loaded; whole = was.moves.whole };

@@ -1,8 +1,11 @@
 -- A world in which one partition changed.
-use Rattle.std.proofs.Common.{◌≡◌, ℕ, refl, sym, ap, ◌∙◌, arith, length}
-use Rattle.std.specs.Prelude.{◌<◌, ◌≢◌, ◌==◌, if◌then◌else◌}
+use Rattle.std.proofs.Common.{◌≡◌, ℕ, List, refl, sym, ap, ◌∙◌, arith, length}
+use Rattle.std.specs.Prelude.{◌<◌, ◌≢◌, ◌==◌, Bool, if◌then◌else◌, Option}
 use Rattle.std.proofs.lemmas.List.{length-set}
 use Rattle.sq_ranges.specs.OpeningValue.{OpeningValue}
+use Rattle.sq_chunk.specs.ChunkValue.{ChunkValue}
+use Rattle.sq_exec.specs.declared.run.Run.{Run}
+use Rattle.sq_exec.specs.OutLink.{OutLinkValue}
 use Rattle.sq_exec.specs.CoreValue.{CoreValue, out_at, inbox_at}
 use Rattle.sq_model.specs.Trace.{Trace, loads}
 use Rattle.sq_tree.specs.declared.node.TheConstants.{LEAVES}
@@ -72,19 +75,25 @@ SaySameOf o t after part =
       moves : SayTheSameMoves o t after part;
     }
 
--- then what is set of a partition stays as it is
-pub set_kept : (o : OpeningValue) (t after : Trace) (part : ℕ) (core : CoreValue) → IsSetFor o t part core → is_started after ≡ is_started t → IsSetFor o after part core
-set_kept o t after part core h same = record {
+-- a partition is set up after another history, with other ends of links and other keys given up and loaded, where there are as many of them
+pub set_again : (o : OpeningValue) (t after : Trace) (part : ℕ) (core : CoreValue) (started : Bool) (outs : List OutLinkValue) (inboxes : List (Option ChunkValue)) (given_up : List (List Bool)) (loaded : List (List Run))
+    → IsSetFor o t part core → started ≡ is_started after → length outs ≡ length core.outs → length inboxes ≡ length core.inboxes → length given_up ≡ length core.given_up → length loaded ≡ length core.loaded
+    → IsSetFor o after part (record core { started = started; outs = outs; inboxes = inboxes; given_up = given_up; loaded = loaded })
+set_again o t after part core started outs inboxes given_up loaded h start out_count inbox_count given_up_count loaded_count = record {
   part = h.part;
   plan = h.plan;
   recon = h.recon;
   limit = h.limit;
-  started = h.started ∙ sym same;
-  outs = h.outs;
-  inboxes = h.inboxes;
-  given_up = h.given_up;
-  loaded = h.loaded;
+  started = start;
+  outs = out_count ∙ h.outs;
+  inboxes = inbox_count ∙ h.inboxes;
+  given_up = given_up_count ∙ h.given_up;
+  loaded = loaded_count ∙ h.loaded;
 }
+
+-- what is set of a partition stays as it is where two histories say the same of the start
+pub set_kept : (o : OpeningValue) (t after : Trace) (part : ℕ) (core : CoreValue) → IsSetFor o t part core → is_started after ≡ is_started t → IsSetFor o after part core
+set_kept o t after part core h same = set_again o t after part core core.started core.outs core.inboxes core.given_up core.loaded h (h.started ∙ sym same) refl refl refl refl
 
 -- and so does what it gave up and loaded
 pub moves_kept : (o : OpeningValue) (t after : Trace) (part : ℕ) (core : CoreValue) → MovesHold o t part core → SayTheSameMoves o t after part → MovesHold o after part core

@@ -20,12 +20,12 @@ use Rattle.sq_model.specs.Trace.{Trace}
 use Rattle.sq_model.specs.Leader.{phase, is_started_phase, is_moving_phase, is_prepared}
 use Rattle.sq_model.specs.Answers.{answer, is_complete_reading, is_whole, is_into, has_all, goes_into, counts_reported, partitions, segment_numbers}
 use Rattle.sq_model.proofs.Lists.{list_all-Contains, row_has}
-use Rattle.sq_transition.specs.WorldValue.{WorldValue, no_core, queue_at, link_value}
+use Rattle.sq_transition.specs.WorldValue.{WorldValue, no_core, core_at, queue_at, link_value}
 use Rattle.sq_transition.specs.Leading.{parts_of, has_prepared, has_reported, after_prepare, after_start, after_report, after_finish}
 use Rattle.sq_transition.specs.LeaderResults.{started_core, is_segment_into, is_segment_whole, segment_range}
 use Rattle.sq_transition.specs.Transition.{step_result}
 use Rattle.sq_transition.specs.Holds.{CoreHolds, LeaderHolds, PartitionsHold, LinkHolds, LinksHold}
-use Rattle.sq_transition.proofs.Cores.{same_moves, cores_kept}
+use Rattle.sq_transition.proofs.Cores.{same_moves, set_again, cores_kept}
 use Rattle.sq_transition.proofs.Changed.{PartsHold, leader_changed, partitions_changed, links_changed}
 use Rattle.sq_transition.proofs.Keeps.{Keeps, keeps_if, keeps_refused, keeps_while_moving}
 use Rattle.sq_transition.proofs.Leading.{prepared_leader, start_reported, reported_leader, finished_leader}
@@ -66,17 +66,7 @@ cores_started o t w h =
           subst (CoreHolds o ((Start, Done) ∷ t) p) (sym (get_or-map started_core w.cores p no_core no_core (omega (arith, h.count, below))))
           (let was = h.each p below in
           record {
-            set = record {
-              part = was.set.part;
-              plan = was.set.plan;
-              recon = was.set.recon;
-              limit = was.set.limit;
-              started = refl;
-              outs = was.set.outs;
-              inboxes = was.set.inboxes;
-              given_up = was.set.given_up;
-              loaded = was.set.loaded;
-            };
+            set = let core = core_at w p in set_again o t ((Start, Done) ∷ t) p core true core.outs core.inboxes core.given_up core.loaded was.set refl refl refl refl refl;
             store = was.store;
             waiting = was.waiting;
             moves = was.moves;
