@@ -122,30 +122,45 @@ load_refused_by : (w : WorldValue) (src dst : ℕ) (box : Option ChunkValue) (fa
 load_refused_by w src dst None fault is = inl (ap (λ (f : LoadFault). (Refused (load_refused f), w)) is)
 load_refused_by w src dst (Some chunk) fault is = inr (ap (λ (f : LoadFault). Refused (load_refused f)) is, refl, refl)
 
+-- a link that a step found, and the partition at its near end, which reads so: a step that goes on while things move, the link's place, the partition's, and the number of the far end
+pub record AtEnd (w : WorldValue) (parts : List PartCoreValue) (src dst at near far from to : ℕ) (queue : QueueValue) (part : PartCoreValue) : Type 0 where
+  pub are : map core_of parts ≡ w.cores
+  pub sound : IsSound w
+  pub done : Unit {0}
+  pub moving : Ok done ≡ refuse_if (not (is_moving_phase (phase_of w.leader))) NotMoving
+  pub found : Some at ≡ link_index w src dst
+  pub queue_is : queue ≡ get_or w.queues at queue
+  pub from_is : from ≡ near
+  pub to_is : to ≡ far
+  pub part_is : part ≡ get_or parts from part
+
+pub at_end : {w : WorldValue} {parts : List PartCoreValue} {src dst at near far from to : ℕ} {queue : QueueValue} {part : PartCoreValue} {done : Unit {0}} → map core_of parts ≡ w.cores → IsSound w
+    → Ok done ≡ refuse_if (not (is_moving_phase (phase_of w.leader))) NotMoving → Some at ≡ link_index w src dst → queue ≡ get_or w.queues at queue → from ≡ near → to ≡ far → part ≡ get_or parts from part
+    → AtEnd w parts src dst at near far from to queue part
+at_end {done = done} are sound moving found queue_is from_is to_is part_is = record { done = done; are = are; sound = sound; moving = moving; found = found; queue_is = queue_is; from_is = from_is; to_is = to_is; part_is = part_is }
+
 -- a link, and the partition at its source
-module _ (w : WorldValue) (parts : List PartCoreValue) (src dst at from to : ℕ) (queue : QueueValue) (part : PartCoreValue) (done : Unit {0}) (are : map core_of parts ≡ w.cores) (sound : IsSound w)
-    (moving : Ok done ≡ refuse_if (not (is_moving_phase (phase_of w.leader))) NotMoving) (found : Some at ≡ link_index w src dst) (queue_is : queue ≡ get_or w.queues at queue)
-    (from_is : from ≡ queue.src) (to_is : to ≡ queue.dst) (part_is : part ≡ get_or parts from part) where
+module _ {w : WorldValue} {parts : List PartCoreValue} {src dst at from to : ℕ} {queue : QueueValue} {part : PartCoreValue} (end : AtEnd w parts src dst at queue.src queue.dst from to queue part) where
   source_there : IsLinkHere w src dst at queue
-  source_there = link_here w src dst at queue sound found queue_is
+  source_there = link_here w src dst at queue end.sound end.found end.queue_is
 
   source_core : part.core ≡ core_at w src
-  source_core = end_read w parts queue.src src from part are sound source_there.sound.source source_there.source from_is part_is
+  source_core = end_read w parts queue.src src from part end.are end.sound source_there.sound.source source_there.source end.from_is end.part_is
 
   pub source_exists : from < length parts
-  source_exists = partition_exists w parts queue.src from are sound source_there.sound.source from_is
+  source_exists = partition_exists w parts queue.src from end.are end.sound source_there.sound.source end.from_is
 
   source_number : from ≡ src
-  source_number = from_is ∙ source_there.source
+  source_number = end.from_is ∙ source_there.source
 
   out_there : (core : CoreValue) → out_at core to ≡ out_at core dst
-  out_there core = ap (out_at core) (to_is ∙ source_there.destination)
+  out_there core = ap (out_at core) (end.to_is ∙ source_there.destination)
 
   outbox_there : (out_at part.core to).outbox ≡ (out_at (core_at w src) dst).outbox
   outbox_there = ap (λ (core : CoreValue). (out_at core to).outbox) source_core ∙ ap (λ (out : OutLinkValue). out.outbox) (out_there (core_at w src))
 
   pushes : push_chunk w src dst at (out_at part.core to).outbox ≡ push_result w src dst
-  pushes = ap (push_chunk w src dst at) outbox_there ∙ at_link w src dst at done (λ i. push_chunk w src dst i (out_at (core_at w src) dst).outbox) moving found
+  pushes = ap (push_chunk w src dst at) outbox_there ∙ at_link w src dst at end.done (λ i. push_chunk w src dst i (out_at (core_at w src) dst).outbox) end.moving end.found
 
   pub push_empty : (read : Option (Bor ChunkValue)) → option_copied read ≡ (out_at part.core to).outbox → is_some read ≡ false → (Refused OutboxEmpty, w) ≡ push_result w src dst
   push_empty read is none = ap (push_chunk w src dst at) (sym (none_of (out_at part.core to).outbox (copied_some read (out_at part.core to).outbox false is none))) ∙ pushes
@@ -161,7 +176,7 @@ module _ (w : WorldValue) (parts : List PartCoreValue) (src dst at from to : ℕ
   pub push_has : (before : PartCoreValue) (read : Option (Bor ChunkValue)) → before ≡ get_or parts from before → option_copied read ≡ (out_at before.core to).outbox → is_some read ≡ true
       → None ≡ (out_at part.core to).outbox → ⊥
   push_has before read before_is is some none =
-      let same : before.core ≡ part.core = end_read w parts queue.src src from before are sound source_there.sound.source source_there.source from_is before_is ∙ sym source_core in
+      let same : before.core ≡ part.core = end_read w parts queue.src src from before end.are end.sound source_there.sound.source source_there.source end.from_is before_is ∙ sym source_core in
       let has : is_some (out_at part.core to).outbox ≡ true = ap (λ (core : CoreValue). is_some (out_at core to).outbox) (sym same) ∙ copied_some read (out_at before.core to).outbox true is some in
       true≢false (sym has ∙ ap is_some (sym none))
 
@@ -171,9 +186,9 @@ module _ (w : WorldValue) (parts : List PartCoreValue) (src dst at from to : ℕ
   push_done chunk after other queue_after has room after_is other_is queue_after_is =
       let core = core_at w src in
       let sent : after.core ≡ sent_core core dst =
-      after_is ∙ ap (λ (c : CoreValue). sent_core c to) source_core ∙ ap (sent_core core) (to_is ∙ source_there.destination) in
+      after_is ∙ ap (λ (c : CoreValue). sent_core c to) source_core ∙ ap (sent_core core) (end.to_is ∙ source_there.destination) in
       let cores : map core_of (set parts from after) ≡ slice_set w.cores src (sent_core core dst) =
-      core_written w parts are from after (sent_core core dst) sent ∙ ap (λ (n : ℕ). slice_set w.cores n (sent_core core dst)) source_number in
+      core_written w parts end.are from after (sent_core core dst) sent ∙ ap (λ (n : ℕ). slice_set w.cores n (sent_core core dst)) source_number in
       let queues : set w.queues at queue_after ≡ slice_set w.queues at (record (queue_at w at) { chunks = (queue_at w at).chunks ++ chunk ∷ [] }) =
       ap (set w.queues at) (queue_after_is ∙ ap (λ (q : QueueValue). record q { chunks = q.chunks ++ chunk ∷ [] }) (other_is ∙ get_or_default w.queues at other no_queue source_there.within)) in
       let has_room : nat_le w.config.capacity (length (queue_at w at).chunks) ≡ false = sym (ap (λ (q : QueueValue). nat_le w.config.capacity (length q.chunks)) source_there.here) ∙ lt-leb w.config.capacity (length queue.chunks) room in
@@ -183,16 +198,16 @@ module _ (w : WorldValue) (parts : List PartCoreValue) (src dst at from to : ℕ
       ∙ ap (push_chunk w src dst at) has ∙ pushes
 
   cuts : cut_at w src dst ≡ cut_result w src dst
-  cuts = at_link w src dst at done (λ _. cut_at w src dst) moving found
+  cuts = at_link w src dst at end.done (λ _. cut_at w src dst) end.moving end.found
 
   pub cut_done : (note : Note) (families : ℕ) (after : PartCoreValue) → CutsFor part.core to note after.core → families ≡ families_of (out_at after.core to).outbox
       → (WasCut note families, record w { cores = map core_of (set parts from after) }) ≡ cut_result w src dst
   cut_done note families after was_cut count =
       let core = core_at w src in
-      let dst_is : to ≡ dst = to_is ∙ source_there.destination in
+      let dst_is : to ≡ dst = end.to_is ∙ source_there.destination in
       let here : CutsFor core dst note after.core = subst (λ (both : CoreValue × ℕ). CutsFor both.0 both.1 note after.core) (λ k. (source_core k, dst_is k)) was_cut in
       let cores : map core_of (set parts from after) ≡ slice_set w.cores src after.core =
-      core_written w parts are from after after.core refl ∙ ap (λ (n : ℕ). slice_set w.cores n after.core) source_number in
+      core_written w parts end.are from after after.core refl ∙ ap (λ (n : ℕ). slice_set w.cores n after.core) source_number in
       let held : families ≡ length (families_between core.store note.lo note.hi) = count ∙ ap (λ (d : ℕ). families_of (out_at after.core d).outbox) dst_is ∙ families_cut core dst note after.core here in
       ap (λ (n : ℕ). (WasCut note n, record w { cores = map core_of (set parts from after) })) held
       ∙ ap (λ (v : WorldValue). (WasCut note (length (families_between core.store note.lo note.hi)), v)) (λ k. record w { cores = cores k })
@@ -202,38 +217,36 @@ module _ (w : WorldValue) (parts : List PartCoreValue) (src dst at from to : ℕ
       → IsResult (Cut src dst) w (cut_result w src dst) (Refused (cut_refused fault)) (record w { cores = map core_of (set parts from after) })
   cut_fails fault after why kept =
       let out = out_at (core_at w src) dst in
-      let same : record w { cores = map core_of (set parts from after) } ≡ w = λ k. record w { cores = core_kept w parts are from part after part_is kept k } in
+      let same : record w { cores = map core_of (set parts from after) } ≡ w = λ k. record w { cores = core_kept w parts end.are from part after end.part_is kept k } in
       let fault_is : fault ≡ cut_fault out = why ∙ ap (λ (core : CoreValue). cut_fault (out_at core to)) source_core ∙ ap cut_fault (out_there (core_at w src)) in
       subst (λ (v : WorldValue). IsResult (Cut src dst) w (cut_result w src dst) (Refused (cut_refused fault)) v) (sym same)
       (subst (λ (r : StepResult). IsResult (Cut src dst) w r (Refused (cut_refused fault)) w) cuts (cut_refused_by w src dst (is_some out.outbox) (next_work out.work) fault fault_is))
 
 -- a link, and the partition at its destination
-module _ (w : WorldValue) (parts : List PartCoreValue) (src dst at from to : ℕ) (queue : QueueValue) (part : PartCoreValue) (done : Unit {0}) (are : map core_of parts ≡ w.cores) (sound : IsSound w)
-    (moving : Ok done ≡ refuse_if (not (is_moving_phase (phase_of w.leader))) NotMoving) (found : Some at ≡ link_index w src dst) (queue_is : queue ≡ get_or w.queues at queue)
-    (from_is : from ≡ queue.dst) (to_is : to ≡ queue.src) (part_is : part ≡ get_or parts from part) where
+module _ {w : WorldValue} {parts : List PartCoreValue} {src dst at from to : ℕ} {queue : QueueValue} {part : PartCoreValue} (end : AtEnd w parts src dst at queue.dst queue.src from to queue part) where
   link_there : IsLinkHere w src dst at queue
-  link_there = link_here w src dst at queue sound found queue_is
+  link_there = link_here w src dst at queue end.sound end.found end.queue_is
 
   destination_read : (one : PartCoreValue) → one ≡ get_or parts from one → one.core ≡ core_at w dst
-  destination_read one one_is = end_read w parts queue.dst dst from one are sound link_there.sound.destination link_there.destination from_is one_is
+  destination_read one one_is = end_read w parts queue.dst dst from one end.are end.sound link_there.sound.destination link_there.destination end.from_is one_is
 
   destination_core : part.core ≡ core_at w dst
-  destination_core = destination_read part part_is
+  destination_core = destination_read part end.part_is
 
   pub destination_exists : from < length parts
-  destination_exists = partition_exists w parts queue.dst from are sound link_there.sound.destination from_is
+  destination_exists = partition_exists w parts queue.dst from end.are end.sound link_there.sound.destination end.from_is
 
   destination_number : from ≡ dst
-  destination_number = from_is ∙ link_there.destination
+  destination_number = end.from_is ∙ link_there.destination
 
   source_is : to ≡ src
-  source_is = to_is ∙ link_there.source
+  source_is = end.to_is ∙ link_there.source
 
   inbox_there : (core : CoreValue) → core ≡ core_at w dst → inbox_at core to ≡ inbox_at (core_at w dst) src
   inbox_there core is = ap (λ (c : CoreValue). inbox_at c to) is ∙ ap (inbox_at (core_at w dst)) source_is
 
   pops : (if is_some (inbox_at (core_at w dst) src) then refuse w InboxFull else pop_chunk w src dst at (queue_at w at).chunks) ≡ pop_result w src dst
-  pops = at_link w src dst at done (λ i. if is_some (inbox_at (core_at w dst) src) then refuse w InboxFull else pop_chunk w src dst i (queue_at w i).chunks) moving found
+  pops = at_link w src dst at end.done (λ i. if is_some (inbox_at (core_at w dst) src) then refuse w InboxFull else pop_chunk w src dst i (queue_at w i).chunks) end.moving end.found
 
   -- whether a chunk lies in the inbox, as it was read
   inbox_has : (before : PartCoreValue) (read : Option (Bor ChunkValue)) (b : Bool) → before ≡ get_or parts from before → option_copied read ≡ inbox_at before.core to → is_some read ≡ b
@@ -242,7 +255,7 @@ module _ (w : WorldValue) (parts : List PartCoreValue) (src dst at from to : ℕ
 
   pub pop_full : (read : Option (Bor ChunkValue)) → option_copied read ≡ inbox_at part.core to → is_some read ≡ true → (Refused InboxFull, w) ≡ pop_result w src dst
   pop_full read is full =
-      sym (ap (λ (b : Bool). if b then refuse w InboxFull else pop_chunk w src dst at (queue_at w at).chunks) (inbox_has part read true part_is is full)) ∙ pops
+      sym (ap (λ (b : Bool). if b then refuse w InboxFull else pop_chunk w src dst at (queue_at w at).chunks) (inbox_has part read true end.part_is is full)) ∙ pops
 
   pops_chunk : (chunks : List ChunkValue) (read : Option (Bor ChunkValue)) (before : PartCoreValue) → before ≡ get_or parts from before → option_copied read ≡ inbox_at before.core to → is_some read ≡ false
       → (queue_at w at).chunks ≡ chunks → pop_chunk w src dst at chunks ≡ pop_result w src dst
@@ -258,7 +271,7 @@ module _ (w : WorldValue) (parts : List PartCoreValue) (src dst at from to : ℕ
   pop_empty read other after is empty other_is popped =
       let none : (queue_at w at).chunks ≡ [] = ap (λ (q : QueueValue). q.chunks) (sym (queue_read other other_is)) ∙ popped.0 in
       let queues : set w.queues at after ≡ w.queues = ap (set w.queues at) (popped.1 ∙ queue_read other other_is) ∙ set-get_or w.queues at no_queue in
-      ap (λ (v : WorldValue). (Refused LinkEmpty, v)) (λ k. record w { queues = queues k }) ∙ pops_chunk [] read part part_is is empty none
+      ap (λ (v : WorldValue). (Refused LinkEmpty, v)) (λ k. record w { queues = queues k }) ∙ pops_chunk [] read part end.part_is is empty none
 
   -- there is a place for a chunk from the source
   pub inbox_exists : (before : PartCoreValue) → before ≡ get_or parts from before → length before.core.inboxes ≡ before.core.plan.parts → to < length part.core.inboxes
@@ -266,9 +279,9 @@ module _ (w : WorldValue) (parts : List PartCoreValue) (src dst at from to : ℕ
       let same : before.core ≡ part.core = destination_read before before_is ∙ sym destination_core in
       let places_here : length part.core.inboxes ≡ part.core.plan.parts = subst (λ (core : CoreValue). length core.inboxes ≡ core.plan.parts) same places in
       let below : dst < w.old.parts = omega (arith, link_there.sound.destination, link_there.destination) in
-      let plan : part.core.plan ≡ w.old = ap (λ (core : CoreValue). core.plan) destination_core ∙ (sound.parts dst below).plan in
+      let plan : part.core.plan ≡ w.old = ap (λ (core : CoreValue). core.plan) destination_core ∙ (end.sound.parts dst below).plan in
       let parts_are : part.core.plan.parts ≡ w.old.parts = ap (λ (p : PlanValue). p.parts) plan in
-      omega (arith, places_here, parts_are, link_there.sound.source, to_is)
+      omega (arith, places_here, parts_are, link_there.sound.source, end.to_is)
 
   -- the inbox isn't full that was read empty before
   pub inbox_empty : (before : PartCoreValue) (read : Option (Bor ChunkValue)) → before ≡ get_or parts from before → option_copied read ≡ inbox_at before.core to → is_some read ≡ false
@@ -284,7 +297,7 @@ module _ (w : WorldValue) (parts : List PartCoreValue) (src dst at from to : ℕ
       let filled : after.core ≡ with_inbox core src (Some chunk) =
       after_is ∙ ap (λ (c : CoreValue). with_inbox c to (Some chunk)) destination_core ∙ ap (λ (n : ℕ). with_inbox core n (Some chunk)) source_is in
       let cores : map core_of (set parts from after) ≡ slice_set w.cores dst (with_inbox core src (Some chunk)) =
-      core_written w parts are from after (with_inbox core src (Some chunk)) filled ∙ ap (λ (n : ℕ). slice_set w.cores n (with_inbox core src (Some chunk))) destination_number in
+      core_written w parts end.are from after (with_inbox core src (Some chunk)) filled ∙ ap (λ (n : ℕ). slice_set w.cores n (with_inbox core src (Some chunk))) destination_number in
       let queues : set w.queues at queue_after ≡ slice_set w.queues at (record (queue_at w at) { chunks = queue_after.chunks }) =
       ap (set w.queues at) (popped.1 ∙ ap (λ (q : QueueValue). record q { chunks = queue_after.chunks }) (queue_read other other_is)) in
       let chunks : (queue_at w at).chunks ≡ chunk ∷ queue_after.chunks = ap (λ (q : QueueValue). q.chunks) (sym (queue_read other other_is)) ∙ popped.0 in
@@ -292,14 +305,14 @@ module _ (w : WorldValue) (parts : List PartCoreValue) (src dst at from to : ℕ
       ∙ pops_chunk (chunk ∷ queue_after.chunks) read before before_is is empty chunks
 
   loads : load_chunk w src dst (inbox_at part.core to) ≡ load_result w src dst
-  loads = ap (load_chunk w src dst) (inbox_there part.core destination_core) ∙ at_link w src dst at done (λ _. load_chunk w src dst (inbox_at (core_at w dst) src)) moving found
+  loads = ap (load_chunk w src dst) (inbox_there part.core destination_core) ∙ at_link w src dst at end.done (λ _. load_chunk w src dst (inbox_at (core_at w dst) src)) end.moving end.found
 
   -- a chunk that came can be loaded
   pub may_be_loaded : (chunk : ChunkValue) → inbox_at part.core to ≡ Some chunk → IsTrue (can_load part.core to chunk)
   may_be_loaded chunk came =
       let core : part.core ≡ core_at w queue.dst = destination_core ∙ ap (core_at w) (sym link_there.destination) in
-      let came_there : inbox_at (core_at w queue.dst) queue.src ≡ Some chunk = sym (ap (λ (c : CoreValue). inbox_at c to) core ∙ ap (inbox_at (core_at w queue.dst)) to_is) ∙ came in
-      subst (λ (both : CoreValue × ℕ). IsTrue (can_load both.0 both.1 chunk)) (λ k. (sym core k, sym to_is k)) (link_there.sound.loads chunk came_there)
+      let came_there : inbox_at (core_at w queue.dst) queue.src ≡ Some chunk = sym (ap (λ (c : CoreValue). inbox_at c to) core ∙ ap (inbox_at (core_at w queue.dst)) end.to_is) ∙ came in
+      subst (λ (both : CoreValue × ℕ). IsTrue (can_load both.0 both.1 chunk)) (λ k. (sym core k, sym end.to_is k)) (link_there.sound.loads chunk came_there)
 
   pub load_done : (note : Note) (families : ℕ) (after : PartCoreValue) → LoadsFrom part.core to note after.core → families ≡ families_of (inbox_at part.core to)
       → (WasLoaded note families, record w { cores = map core_of (set parts from after) }) ≡ load_result w src dst
@@ -309,7 +322,7 @@ module _ (w : WorldValue) (parts : List PartCoreValue) (src dst at from to : ℕ
       let filled : after.core ≡ loaded_core core src chunk =
       loaded.after ∙ ap (λ (c : CoreValue). loaded_core c to chunk) destination_core ∙ ap (λ (n : ℕ). loaded_core core n chunk) source_is in
       let cores : map core_of (set parts from after) ≡ slice_set w.cores dst (loaded_core core src chunk) =
-      core_written w parts are from after (loaded_core core src chunk) filled ∙ ap (λ (n : ℕ). slice_set w.cores n (loaded_core core src chunk)) destination_number in
+      core_written w parts end.are from after (loaded_core core src chunk) filled ∙ ap (λ (n : ℕ). slice_set w.cores n (loaded_core core src chunk)) destination_number in
       let held : families ≡ length chunk.families = count ∙ ap families_of loaded.came in
       ap (λ (n : Note). (WasLoaded n families, record w { cores = map core_of (set parts from after) })) loaded.noted
       ∙ ap (λ (n : ℕ). (WasLoaded chunk.note n, record w { cores = map core_of (set parts from after) })) held
@@ -319,6 +332,6 @@ module _ (w : WorldValue) (parts : List PartCoreValue) (src dst at from to : ℕ
   pub load_fails : (fault : LoadFault) (after : PartCoreValue) → fault ≡ load_fault part.core to → after.core ≡ part.core
       → IsResult (Load src dst) w (load_result w src dst) (Refused (load_refused fault)) (record w { cores = map core_of (set parts from after) })
   load_fails fault after why kept =
-      let same : record w { cores = map core_of (set parts from after) } ≡ w = λ k. record w { cores = core_kept w parts are from part after part_is kept k } in
+      let same : record w { cores = map core_of (set parts from after) } ≡ w = λ k. record w { cores = core_kept w parts end.are from part after end.part_is kept k } in
       subst (λ (v : WorldValue). IsResult (Load src dst) w (load_result w src dst) (Refused (load_refused fault)) v) (sym same)
       (subst (λ (r : StepResult). IsResult (Load src dst) w r (Refused (load_refused fault)) w) loads (load_refused_by w src dst (inbox_at part.core to) fault why))
