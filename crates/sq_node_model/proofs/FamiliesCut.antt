@@ -1,5 +1,5 @@
 -- The families of a partition once a chunk of them was cut.
-use Rattle.std.proofs.Common.{◌≡◌, inl, inr, ⊎_elim, ℕ, Bool, true, false, if◌then◌else◌, List, Some, None, refl, sym, ap, ◌∙◌, subst}
+use Rattle.std.proofs.Common.{◌≡◌, inl, inr, ⊎_elim, ℕ, Bool, true, false, if◌then◌else◌, List, Option, Some, None, refl, sym, ap, ◌∙◌, subst}
 use Rattle.std.specs.Prelude.{◌≢◌, is_some}
 use Rattle.std.specs.FinMap.{get}
 use Rattle.std.proofs.lemmas.Bool.{cases_Bool}
@@ -19,6 +19,15 @@ use Rattle.sq_node_model.proofs.OneMore.{IsOneMore}
 pub rooted_store : (o : OpeningValue) (part : ℕ) (cut loaded : ChunkValue → Type 0) (store : StoreValue) → FamiliesHold o part cut loaded store → IsRooted store
 rooted_store o part cut loaded store f = record { root = λ key family e. (f.keyed key family (inl e)).same_root }
 
+-- what is found where a test holds, or where it doesn't, stands, and the test tells so
+read_where : {X : Type 0} (test : Bool) (found stands : Option X) (x : X) → found ≡ (if test then stands else None) → found ≡ Some x → (stands ≡ Some x) × (test ≡ true)
+read_where true found stands x is has = (sym is ∙ has, refl)
+read_where false found stands x is has = absurd cc
+
+read_elsewhere : {X : Type 0} (test : Bool) (found stands : Option X) (x : X) → found ≡ (if test then None else stands) → found ≡ Some x → (stands ≡ Some x) × (test ≡ false)
+read_elsewhere true found stands x is has = absurd cc
+read_elsewhere false found stands x is has = (sym is ∙ has, refl)
+
 module _ (o : OpeningValue) (part : ℕ) (cut now loaded : ChunkValue → Type 0) (store : StoreValue) (chunk : ChunkValue)
     (m : IsOneMore cut now chunk) (taken : chunk.families ≡ families_between store chunk.note.lo chunk.note.hi)
     (home : (root : ℕ) → covers chunk.note root ≡ true → IsHome o part cut root) (away : (root : ℕ) → IsCovered loaded root → source o root ≢ part)
@@ -34,21 +43,13 @@ module _ (o : OpeningValue) (part : ℕ) (cut now loaded : ChunkValue → Type 0
   is_taken root = ap (λ families. family_in families root) taken ∙ family_in-between chunk.note.lo chunk.note.hi store root (rooted_store o part cut loaded store f)
 
   carried_stored : (root : ℕ) (family : FamilyValue) → IsCarried chunk root family → IsStored store root family × (covers chunk.note root ≡ true)
-  carried_stored root family has = here (covers chunk.note root) refl
-    where
-      here : (b : Bool) → covers chunk.note root ≡ b → IsStored store root family × (covers chunk.note root ≡ true)
-      here true e = (sym (is_taken root ∙ ap (λ c. if c then get store root else None) e) ∙ has, e)
-      here false e = let none : None ≡ Some family = sym (is_taken root ∙ ap (λ c. if c then get store root else None) e) ∙ has in absurd cc
+  carried_stored root family has = read_where (covers chunk.note root) (family_in chunk.families root) (get store root) family (is_taken root) has
 
   stored_carried : (root : ℕ) (family : FamilyValue) → IsStored store root family → covers chunk.note root ≡ true → IsCarried chunk root family
   stored_carried root family has e = is_taken root ∙ ap (λ c. if c then get store root else None) e ∙ has
 
   stored_before : (root : ℕ) (family : FamilyValue) → IsStored left root family → IsStored store root family × (covers chunk.note root ≡ false)
-  stored_before root family has = here (covers chunk.note root) refl
-    where
-      here : (b : Bool) → covers chunk.note root ≡ b → IsStored store root family × (covers chunk.note root ≡ false)
-      here false e = (sym (is_left root ∙ ap (λ c. if c then None else get store root) e) ∙ has, e)
-      here true e = let none : None ≡ Some family = sym (is_left root ∙ ap (λ c. if c then None else get store root) e) ∙ has in absurd cc
+  stored_before root family has = read_elsewhere (covers chunk.note root) (get left root) (get store root) family (is_left root) has
 
   stored_after : (root : ℕ) (family : FamilyValue) → IsStored store root family → covers chunk.note root ≡ false → IsStored left root family
   stored_after root family has e = is_left root ∙ ap (λ c. if c then None else get store root) e ∙ has

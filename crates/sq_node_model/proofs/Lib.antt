@@ -12,6 +12,7 @@ pub mod FamiliesLoaded
 pub mod Told
 pub mod FamiliesAnswered
 pub mod Facts
+pub mod Changed
 pub mod NodeCut
 pub mod RunsLoaded
 pub mod NodeLoaded

@@ -15,13 +15,13 @@ use Rattle.sq_model.specs.Links.{is_on_link}
 use Rattle.sq_model.proofs.Lists.{Contains-first, Contains-later, Contains-cases}
 use Rattle.sq_node_model.specs.NodeValue.{NodeValue, put}
 use Rattle.sq_node_model.specs.Steps.{node_begun}
-use Rattle.sq_node_model.specs.Chunks.{IsInOne, cut_to, HasLoaded}
+use Rattle.sq_node_model.specs.Chunks.{cut_to}
 use Rattle.sq_node_model.specs.BegunHolds.{IsNamed, is_leaf_under, BegunHolds}
 use Rattle.sq_node_model.specs.OutHolds.{OutHolds}
-use Rattle.sq_node_model.specs.FamiliesHold.{StoreHolds, FamiliesHold, ReceiptsHold}
 use Rattle.sq_node_model.specs.NodeHolds.{NodeHolds}
 use Rattle.sq_node_model.proofs.Puts.{put_each, put_same, put_both}
 use Rattle.sq_node_model.proofs.Outs.{Begins, out_other, out_begun}
+use Rattle.sq_node_model.proofs.Changed.{keeps_outs}
 
 -- one more entry at one key
 pub begins : (begun : ℕ → List (ℕ × ℕ)) (seg n pull : ℕ) → Begins begun (put seg ((n, pull) ∷ begun seg) begun) seg n pull
@@ -108,18 +108,5 @@ module _ (o : OpeningValue) (node : NodeValue) (h : NodeHolds o node) (dst : ℕ
   same_cut : (k : ℕ) → cut_to after k ≡ cut_to node k
   same_cut = put_each (λ k (end : OutLinkValue). node.sent k ++ option_to_list end.outbox ≡ cut_to node k) dst (with_work (node.outs dst) work) node.outs refl (λ k apart. refl)
 
-  same_lists : cut_to after ≡ cut_to node
-  same_lists = λ i k. same_cut k i
-
   pub keeps_begun : NodeHolds o after
-  keeps_begun = record {
-    below = h.below;
-    begun = begun_after;
-    outs = outs_after;
-    ins = h.ins;
-    loaded = h.loaded;
-    completed = h.completed;
-    store = subst (λ lists. StoreHolds o node.part (IsInOne lists) (HasLoaded node) node.store) (sym same_lists) h.store;
-    families = subst (λ lists. FamiliesHold o node.part (IsInOne lists) (HasLoaded node) node.store) (sym same_lists) h.families;
-    receipts = subst (λ lists. ReceiptsHold o node.part (IsInOne lists) (HasLoaded node) node.store node.receipts) (sym same_lists) h.receipts;
-  }
+  keeps_begun = keeps_outs o node h after.begun after.given_up after.outs node.sent begun_after outs_after same_cut

@@ -12,13 +12,14 @@ use Rattle.sq_exec.specs.OutLink.{OutLinkValue}
 use Rattle.sq_model.proofs.Lists.{Contains-cases}
 use Rattle.sq_node_model.specs.NodeValue.{NodeValue}
 use Rattle.sq_node_model.specs.Steps.{node_sent, node_completed, receipt_of, node_answered}
-use Rattle.sq_node_model.specs.Chunks.{IsInOne, cut_to, HasCut, HasLoaded, IsCovered, HasLast}
+use Rattle.sq_node_model.specs.Chunks.{cut_to, HasCut, HasLoaded, IsCovered, HasLast}
 use Rattle.sq_node_model.specs.OutHolds.{OutHolds}
-use Rattle.sq_node_model.specs.FamiliesHold.{IsHome, StoreHolds, FamiliesHold, ReceiptsHold}
+use Rattle.sq_node_model.specs.FamiliesHold.{IsHome}
 use Rattle.sq_node_model.specs.NodeHolds.{NodeHolds}
 use Rattle.sq_node_model.proofs.Puts.{put_each, put_both}
 use Rattle.sq_node_model.proofs.Facts.{loaded_away, cut_carried}
 use Rattle.sq_node_model.proofs.FamiliesAnswered.{receipts_aborted, store_answered, families_answered, receipts_answered}
+use Rattle.sq_node_model.proofs.Changed.{keeps_outs, keeps_families}
 
 module _ (o : OpeningValue) (node : NodeValue) (h : NodeHolds o node) (dst : ℕ) (chunk : ChunkValue) (full : (node.outs dst).outbox ≡ Some chunk) where
   abbrev sent : NodeValue
@@ -36,9 +37,6 @@ module _ (o : OpeningValue) (node : NodeValue) (h : NodeHolds o node) (dst : ℕ
       put_both (λ k (end : OutLinkValue) list. list ++ option_to_list end.outbox ≡ cut_to node k) dst emptied (node.sent dst ++ chunk ∷ []) node.outs node.sent
       moved_over (λ k apart. refl)
 
-  same_lists : cut_to sent ≡ cut_to node
-  same_lists = λ i k. same_cut k i
-
   outs_sent : (k : ℕ) → OutHolds o node.part node.begun k (sent.outs k).notes (sent.outs k).work (cut_to sent k)
   outs_sent =
       put_both (λ k (end : OutLinkValue) list. OutHolds o node.part node.begun k end.notes end.work (list ++ option_to_list end.outbox)) dst emptied (node.sent dst ++ chunk ∷ []) node.outs node.sent
@@ -46,17 +44,7 @@ module _ (o : OpeningValue) (node : NodeValue) (h : NodeHolds o node) (dst : ℕ
       (λ k apart. h.outs k)
 
   pub keeps_sent : NodeHolds o sent
-  keeps_sent = record {
-    below = h.below;
-    begun = h.begun;
-    outs = outs_sent;
-    ins = h.ins;
-    loaded = h.loaded;
-    completed = h.completed;
-    store = subst (λ lists. StoreHolds o node.part (IsInOne lists) (HasLoaded node) node.store) (sym same_lists) h.store;
-    families = subst (λ lists. FamiliesHold o node.part (IsInOne lists) (HasLoaded node) node.store) (sym same_lists) h.families;
-    receipts = subst (λ lists. ReceiptsHold o node.part (IsInOne lists) (HasLoaded node) node.store node.receipts) (sym same_lists) h.receipts;
-  }
+  keeps_sent = keeps_outs o node h node.begun node.given_up sent.outs sent.sent h.begun outs_sent same_cut
 
 -- a tree node is completed whose last chunk was loaded
 pub keeps_completed : (o : OpeningValue) (node : NodeValue) (seg n pull : ℕ) → HasLast (HasLoaded node) seg n → NodeHolds o node → NodeHolds o (node_completed node seg n pull)
@@ -83,25 +71,14 @@ keeps_completed o node seg n pull last h = record {
 -- a transaction is answered whose root key is at home or was loaded
 pub keeps_answered : (o : OpeningValue) → IsOpening o → (node : NodeValue) (txn : TxnValue) (given : Reply) → IsHome o node.part (HasCut node) txn.root ⊎ IsCovered (HasLoaded node) txn.root → given ≡ store_reply node.store txn
     → NodeHolds o node → NodeHolds o (node_answered node txn given)
-keeps_answered o is node txn (Aborted at cause) here given_is h = record {
-  below = h.below;
-  begun = h.begun;
-  outs = h.outs;
-  ins = h.ins;
-  loaded = h.loaded;
-  completed = h.completed;
-  store = h.store;
-  families = h.families;
-  receipts = receipts_aborted o node.part (HasCut node) (HasLoaded node) node.store node.receipts (receipt_of node.store txn (Aborted at cause)) refl h.receipts;
-}
-keeps_answered o is node txn (Committed answers) here given_is h = record {
-  below = h.below;
-  begun = h.begun;
-  outs = h.outs;
-  ins = h.ins;
-  loaded = h.loaded;
-  completed = h.completed;
-  store = store_answered o node.part (HasCut node) (HasLoaded node) node.store txn here (loaded_away o is node h) (cut_carried o is node h) h.store h.families;
-  families = families_answered o node.part (HasCut node) (HasLoaded node) node.store txn here (loaded_away o is node h) (cut_carried o is node h) h.store h.families;
-  receipts = receipts_answered o node.part (HasCut node) (HasLoaded node) node.store txn here (loaded_away o is node h) (cut_carried o is node h) h.store h.families node.receipts h.receipts (Committed answers) refl given_is;
-}
+keeps_answered o is node txn (Aborted at cause) here given_is h =
+    let receipt = receipt_of node.store txn (Aborted at cause) in
+    keeps_families o node h node.store (node.receipts ++ receipt ∷ []) h.store h.families (receipts_aborted o node.part (HasCut node) (HasLoaded node) node.store node.receipts receipt refl h.receipts)
+keeps_answered o is node txn (Committed answers) here given_is h =
+    let answered = node_answered node txn (Committed answers) in
+    let away = loaded_away o is node h in
+    let carried = cut_carried o is node h in
+    keeps_families o node h answered.store answered.receipts
+    (store_answered o node.part (HasCut node) (HasLoaded node) node.store txn here away carried h.store h.families)
+    (families_answered o node.part (HasCut node) (HasLoaded node) node.store txn here away carried h.store h.families)
+    (receipts_answered o node.part (HasCut node) (HasLoaded node) node.store txn here away carried h.store h.families node.receipts h.receipts (Committed answers) refl given_is)
