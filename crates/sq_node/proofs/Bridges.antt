@@ -27,23 +27,24 @@ pub stands_below : {X : Type 0} (ends : List (Option X)) (at : ℕ) (end : X) �
 stands_below ends at end there =
     ⊎_elim (λ (low : at < length ends). low) (λ (past : length ends ≤ at). let none = sym (get_or-past ends at None past) ∙ there in cc) (cases_lt at (length ends))
 
+-- what is read of each end, once one of them has one more chunk
+chunk_more : {X : Type 0} (chunks : X → List ChunkValue) (ends : List (Option X)) (at : ℕ) (end now : X) (chunk : ChunkValue) → slice_index_or ends at None ≡ Some end → chunks now ≡ chunks end ++ chunk ∷ []
+    → (k : ℕ) → option_map_or chunks (slice_index_or (slice_set ends at (Some now)) k None) [] ≡ put at (option_map_or chunks (slice_index_or ends at None) [] ++ chunk ∷ []) (λ j. option_map_or chunks (slice_index_or ends j None) []) k
+chunk_more {X} chunks ends at end now chunk there more k =
+    let read = λ (found : Option X). option_map_or chunks found [] in
+    ap read (put_set ends at (Some now) None (stands_below ends at end there) k)
+    ∙ put_field read at (Some now) (λ j. slice_index_or ends j None) k
+    ∙ ap (λ (list : List ChunkValue). put at list (λ j. read (slice_index_or ends j None)) k) (more ∙ ap (λ (before : List ChunkValue). before ++ chunk ∷ []) (sym (ap read there)))
+
 -- what was sent by each end, once one of them sent one more chunk
 pub sent_one : (sends : List (Option SendEnd)) (dst : ℕ) (end : SendEnd) (chunk : ChunkValue) → send_end sends dst ≡ Some end
     → (k : ℕ) → sent_by (slice_set sends dst (Some (sent_on end chunk))) k ≡ put dst (sent_by sends dst ++ chunk ∷ []) (sent_by sends) k
-sent_one sends dst end chunk there k =
-    let sent = λ (found : Option SendEnd). option_map_or (λ (e : SendEnd). e.pass.sent) found [] in
-    ap sent (put_set sends dst (Some (sent_on end chunk)) None (stands_below sends dst end there) k)
-    ∙ put_field sent dst (Some (sent_on end chunk)) (send_end sends) k
-    ∙ ap (λ (before : List ChunkValue). put dst (before ++ chunk ∷ []) (sent_by sends) k) (sym (ap sent there))
+sent_one sends dst end chunk there = chunk_more (λ (e : SendEnd). e.pass.sent) sends dst end (sent_on end chunk) chunk there refl
 
 -- what was received by each end, once one of them received one more chunk
 pub received_one : (recvs : List (Option RecvEnd)) (src : ℕ) (end : RecvEnd) (chunk : ChunkValue) → recv_end recvs src ≡ Some end
     → (k : ℕ) → received_by (slice_set recvs src (Some (received_on end chunk))) k ≡ put src (received_by recvs src ++ chunk ∷ []) (received_by recvs) k
-received_one recvs src end chunk there k =
-    let received = λ (found : Option RecvEnd). option_map_or (λ (e : RecvEnd). e.pass.received) found [] in
-    ap received (put_set recvs src (Some (received_on end chunk)) None (stands_below recvs src end there) k)
-    ∙ put_field received src (Some (received_on end chunk)) (recv_end recvs) k
-    ∙ ap (λ (before : List ChunkValue). put src (before ++ chunk ∷ []) (received_by recvs) k) (sym (ap received there))
+received_one recvs src end chunk there = chunk_more (λ (e : RecvEnd). e.pass.received) recvs src end (received_on end chunk) chunk there refl
 
 -- the view of the seat that stands there, or of one that did nothing
 abbrev view_of : Option SeatValue → View

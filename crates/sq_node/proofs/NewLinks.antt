@@ -1,14 +1,14 @@
 -- Links that are opened one after another, with their ends.
-use Rattle.std.proofs.Common.{◌≡◌, ℕ, zero, suc, ◌+◌, ◌<◌, ◌≤◌, List, [], ◌∷◌, ◌++◌, length, get_or, map, take, Option, Some, None, refl, sym, ap, ◌∙◌, subst, ⊎_elim, length-append, arith}
+use Rattle.std.proofs.Common.{◌≡◌, ℕ, zero, suc, ◌+◌, ◌<◌, ◌≤◌, List, [], ◌∷◌, ◌++◌, length, get_or, map, take, Option, Some, None, refl, sym, ap, ◌∙◌, ⊎_elim, length-append, arith}
 use Rattle.std.proofs.lemmas.Bool.{cases_lt}
 use Rattle.std.proofs.lemmas.List.{length-map, length-take, map-append, take_more}
 use Rattle.sq_ranges.specs.declared.recon.Link.{Link}
 use Rattle.sq_link.specs.Values.{LinkValue, SendValue, RecvValue}
 use Rattle.sq_node.specs.declared.ends.SendEnd.{SendEnd}
 use Rattle.sq_node.specs.declared.ends.RecvEnd.{RecvEnd}
-use Rattle.sq_node.specs.Ends.{no_link, link_at, send_end, recv_end}
+use Rattle.sq_node.specs.Ends.{no_link, link_at}
 use Rattle.sq_node.specs.FabricValue.{ends_of}
-use Rattle.sq_node.specs.Opened.{HasAllEnds, new_send_end, new_recv_end}
+use Rattle.sq_node.specs.Opened.{HasAllEnds}
 
 before : {X : Type 0} (xs : List X) (x d : X) (k : ℕ) → k < length xs → get_or (xs ++ x ∷ []) k d ≡ get_or xs k d
 before [] x d k lt = absurd (omega (arith, lt))
@@ -28,35 +28,31 @@ links_more items links at end link are lt stands src dst =
 pub as_many : (items : List Link) (links : List LinkValue) (at : ℕ) → map ends_of links ≡ take at items → at ≤ length items → at ≡ length links
 as_many items links at are within = omega (arith, length-map links ends_of, ap length are, length-take at items)
 
+-- the ends of all links, once one more link has its end
+each_more : {X : Type 0} (end_of : LinkValue → ℕ → X) (links : List LinkValue) (ends : List (Option X)) (link : LinkValue) (end : X) → length ends ≡ length links → end ≡ end_of link (length links)
+    → ((i : ℕ) → i < length links → get_or ends i None ≡ Some (end_of (link_at links i) i))
+    → (i : ℕ) → i < length (links ++ link ∷ []) → get_or (ends ++ Some end ∷ []) i None ≡ Some (end_of (link_at (links ++ link ∷ []) i) i)
+each_more end_of links ends link end count is each i lt =
+    ⊎_elim
+    (λ (earlier : i < length links).
+    before ends (Some end) None i (omega (arith, count)) ∙ each i earlier
+    ∙ ap (λ (l : LinkValue). Some (end_of l i)) (sym (before links link no_link i earlier)))
+    (λ (past : length links ≤ i).
+    let same : i ≡ length links = omega (arith, length-append links (link ∷ [])) in
+    let there : link_at (links ++ link ∷ []) i ≡ link = ap (λ (k : ℕ). get_or (links ++ link ∷ []) k no_link) same ∙ last links link no_link in
+    ap (λ (k : ℕ). get_or (ends ++ Some end ∷ []) k None) (same ∙ sym count) ∙ last ends (Some end) None ∙ ap Some is
+    ∙ sym (λ k. Some (end_of (there k) (same k))))
+    (cases_lt i (length links))
+
 pub ends_more : (links : List LinkValue) (sends : List (Option SendEnd)) (recvs : List (Option RecvEnd)) (at : ℕ) (link : LinkValue) (send : SendValue) (recv : RecvValue) → HasAllEnds links sends recvs → at ≡ length links
     → send ≡ record { queue = link.queue; sent = [] } → recv ≡ record { queue = link.queue; received = [] }
     → HasAllEnds (links ++ link ∷ []) (sends ++ Some (record { link = at; pass = send }) ∷ []) (recvs ++ Some (record { link = at; pass = recv }) ∷ [])
 ends_more links sends recvs at link send recv are here send_is recv_is =
-    let out : Option SendEnd = Some (record { link = at; pass = send }) in
-    let into : Option RecvEnd = Some (record { link = at; pass = recv }) in
+    let out : SendEnd = record { link = at; pass = send } in
+    let into : RecvEnd = record { link = at; pass = recv } in
     record {
-      count_sends = length-append sends (out ∷ []) ∙ ap (λ (n : ℕ). n + 1) are.count_sends ∙ sym (length-append links (link ∷ []));
-      count_recvs = length-append recvs (into ∷ []) ∙ ap (λ (n : ℕ). n + 1) are.count_recvs ∙ sym (length-append links (link ∷ []));
-      each_send = λ i lt.
-          ⊎_elim
-          (λ (earlier : i < length links).
-          before sends out None i (omega (arith, are.count_sends)) ∙ are.each_send i earlier
-          ∙ ap (λ (l : LinkValue). Some (record { link = i; pass = record { queue = l.queue; sent = [] } })) (sym (before links link no_link i earlier)))
-          (λ (past : length links ≤ i).
-          let same : i ≡ length links = omega (arith, length-append links (link ∷ [])) in
-          ap (λ (k : ℕ). get_or (sends ++ out ∷ []) k None) (same ∙ sym are.count_sends) ∙ last sends out None
-          ∙ (λ k. Some (record { link = (here ∙ sym same) k; pass = send_is k }))
-          ∙ ap (λ (l : LinkValue). Some (record { link = i; pass = record { queue = l.queue; sent = [] } })) (sym (ap (λ (k : ℕ). get_or (links ++ link ∷ []) k no_link) same ∙ last links link no_link)))
-          (cases_lt i (length links));
-      each_recv = λ i lt.
-          ⊎_elim
-          (λ (earlier : i < length links).
-          before recvs into None i (omega (arith, are.count_recvs)) ∙ are.each_recv i earlier
-          ∙ ap (λ (l : LinkValue). Some (record { link = i; pass = record { queue = l.queue; received = [] } })) (sym (before links link no_link i earlier)))
-          (λ (past : length links ≤ i).
-          let same : i ≡ length links = omega (arith, length-append links (link ∷ [])) in
-          ap (λ (k : ℕ). get_or (recvs ++ into ∷ []) k None) (same ∙ sym are.count_recvs) ∙ last recvs into None
-          ∙ (λ k. Some (record { link = (here ∙ sym same) k; pass = recv_is k }))
-          ∙ ap (λ (l : LinkValue). Some (record { link = i; pass = record { queue = l.queue; received = [] } })) (sym (ap (λ (k : ℕ). get_or (links ++ link ∷ []) k no_link) same ∙ last links link no_link)))
-          (cases_lt i (length links));
+      count_sends = length-append sends (Some out ∷ []) ∙ ap (λ (n : ℕ). n + 1) are.count_sends ∙ sym (length-append links (link ∷ []));
+      count_recvs = length-append recvs (Some into ∷ []) ∙ ap (λ (n : ℕ). n + 1) are.count_recvs ∙ sym (length-append links (link ∷ []));
+      each_send = each_more {X = SendEnd} (λ l i. record { link = i; pass = record { queue = l.queue; sent = [] } }) links sends link out are.count_sends (λ k. record { link = here k; pass = send_is k }) are.each_send;
+      each_recv = each_more {X = RecvEnd} (λ l i. record { link = i; pass = record { queue = l.queue; received = [] } }) links recvs link into are.count_recvs (λ k. record { link = here k; pass = recv_is k }) are.each_recv;
     }

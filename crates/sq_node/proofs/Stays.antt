@@ -1,24 +1,23 @@
 -- A node stays one of its fabric.
-use Rattle.std.proofs.Common.{◌≡◌, ℕ, suc, ◌<◌, ◌≤◌, Bool, true, false, List, ◌++◌, ◌∷◌, [], length, get_or, set, map, Option, Some, None, refl, sym, ap, ◌∙◌, subst, inl, inr, ⊎_elim, arith}
-use Rattle.std.specs.Prelude.{◌⊎◌, ◌≢◌, ◌==◌, slice_get, option_map}
-use Rattle.std.proofs.lemmas.Bool.{cases_lt}
-use Rattle.std.proofs.lemmas.Bool.Decides.{eqb_tells}
-use Rattle.std.proofs.lemmas.List.{get_or-set_same, get_or-set_other, get_or_past, length-set, length-map}
-use Rattle.std.proofs.lemmas.Option.{same_Some, slice_get_within, slice_get-get_or, get_or_from_slice_get}
+use Rattle.std.proofs.Common.{◌≡◌, ℕ, suc, Bool, true, false, List, ◌∷◌, [], length, map, Option, Some, None, refl, sym, ap, ◌∙◌, subst, inl, inr, arith}
+use Rattle.std.specs.Prelude.{slice_get, slice_set, slice_index_or, option_map}
+use Rattle.std.proofs.lemmas.List.{length-set}
+use Rattle.std.proofs.lemmas.Option.{same_Some}
 use Rattle.sq_schema.specs.TxnValue.{TxnValue}
 use Rattle.atomic_table.specs.Seated.{TableId}
 use Rattle.sq_link.specs.Values.{LinkValue}
 use Rattle.sq_ranges.specs.declared.recon.Range.{Range}
-use Rattle.sq_ranges.specs.ReconValue.{ReconValue}
 use Rattle.sq_plan.specs.PlanValue.{PlanValue}
 use Rattle.sq_status.specs.Seat.{SeatValue}
 use Rattle.sq_exec.specs.declared.outcome.Outcome.{Outcome}
 use Rattle.sq_exec.specs.declared.outcome.Outcome.TheVariants.{Done, Moved, Waits}
 use Rattle.sq_exec.specs.CoreValue.{CoreValue}
-use Rattle.sq_exec.specs.Moving.{begun_core, begun_in}
+use Rattle.sq_exec.specs.Moving.{begun_in}
 use Rattle.sq_exec.specs.Serving.{IsTaken}
-use Rattle.sq_pull.specs.Seats.{AreSeatsOf, StepsAt}
+use Rattle.sq_pull.specs.Seats.{AreSeatsOf}
 use Rattle.sq_pull.proofs.Stepped.{seats_stay}
+use Rattle.sq_node_model.specs.NodeValue.{put}
+use Rattle.sq_node_model.proofs.Puts.{put_each, put_set, put_still}
 use Rattle.sq_node.specs.declared.ends.SendEnd.{SendEnd}
 use Rattle.sq_node.specs.declared.ends.RecvEnd.{RecvEnd}
 use Rattle.sq_node.specs.declared.stepped.Stepped.{Stepped}
@@ -27,16 +26,14 @@ use Rattle.sq_node.specs.FabricValue.{FabricValue}
 use Rattle.sq_node.specs.Ends.{link_at, send_end, recv_end, IsSendEnd, IsRecvEnd, AreSendEnds, AreRecvEnds}
 use Rattle.sq_node.specs.NodeState.{NodeState, IsNodeOf}
 use Rattle.sq_node.specs.Looks.{SeatsLooked}
-use Rattle.sq_node.specs.Steps.{ClaimsAt, ClaimsFor, JobStep, RequestStep, CutStep, SendStep, RecvStep, LoadStep, CompleteStep, ResumeStep}
+use Rattle.sq_node.specs.Steps.{ClaimsFor, JobStep, RequestStep, CutStep, SendStep, RecvStep, LoadStep, CompleteStep, ResumeStep}
+use Rattle.sq_node.proofs.Bridges.{stands_below}
 
 -- the partition is the same, with the same plan and the same moves
 pub record SamePart (old new : CoreValue) : Type 0 where
   pub part : new.part ≡ old.part
   pub plan : new.plan ≡ old.plan
   pub recon : new.recon ≡ old.recon
-
-stood : {X : Type 0} (ends : List (Option X)) (at : ℕ) (end : X) → get_or ends at None ≡ Some end → at < length ends
-stood ends at end there = ⊎_elim (λ (lt : at < length ends). lt) (λ (past : length ends ≤ at). let clash : None ≡ Some end = sym (get_or_past ends at None past) ∙ there in cc) (cases_lt at (length ends))
 
 stays : (fabric : FabricValue) (old new : NodeState) → SamePart old.core new.core → AreSeatsOf fabric.trees new.seats
     → AreSendEnds fabric.links old.core.part new.sends → AreRecvEnds fabric.links old.core.part new.recvs
@@ -68,75 +65,52 @@ same_part core = record { part = refl; plan = refl; recon = refl }
 
 pub cut_stays : (fabric : FabricValue) (old : NodeState) (answer : Stepped) (new : NodeState) → CutStep old answer new → IsNodeOf fabric old → IsNodeOf fabric new
 cut_stays fabric old Did new step of =
-    let cut = step.1.cut in
-    core_stays fabric old new (record old { core = new.core }) step.1.after refl refl
-    (record { part = ap (λ (c : CoreValue). c.part) cut.after; plan = ap (λ (c : CoreValue). c.plan) cut.after; recon = ap (λ (c : CoreValue). c.recon) cut.after }) of.seats of
+    core_stays fabric old new (record old { core = new.core }) step.1.after refl refl (subst (SamePart old.core) (sym step.1.cut.after) (record { part = refl; plan = refl; recon = refl })) of.seats of
 cut_stays fabric old Nothing new step of = same_node fabric old new step.0 of
 cut_stays fabric old Memory new step of = same_node fabric old new step of
 
 pub load_stays : (fabric : FabricValue) (old : NodeState) (answer : Stepped) (new : NodeState) → LoadStep old answer new → IsNodeOf fabric old → IsNodeOf fabric new
 load_stays fabric old Did new step of =
-    let load = step.1.load in
-    core_stays fabric old new (record old { core = new.core }) step.1.after refl refl
-    (record { part = ap (λ (c : CoreValue). c.part) load.after; plan = ap (λ (c : CoreValue). c.plan) load.after; recon = ap (λ (c : CoreValue). c.recon) load.after }) of.seats of
+    core_stays fabric old new (record old { core = new.core }) step.1.after refl refl (subst (SamePart old.core) (sym step.1.load.after) (record { part = refl; plan = refl; recon = refl })) of.seats of
 load_stays fabric old Nothing new step of = same_node fabric old new step.0 of
 load_stays fabric old Memory new step of = same_node fabric old new step of
 
+-- ends of which another stands in the place of one
+module _ {X : Type 0} (ends : List (Option X)) (at : ℕ) (end now : X) (there : slice_index_or ends at None ≡ Some end) where
+  set_there : (k : ℕ) → slice_index_or (slice_set ends at (Some now)) k None ≡ put at (Some now) (λ j. slice_index_or ends j None) k
+  set_there = put_set ends at (Some now) None (stands_below ends at end there)
+
+  -- what is read alike of both is read of each as before
+  read_alike : {Y : Type 0} (read : X → Y) → read now ≡ read end → (k : ℕ) → option_map read (slice_index_or (slice_set ends at (Some now)) k None) ≡ option_map read (slice_index_or ends k None)
+  read_alike read same k =
+      ap (option_map read) (set_there k)
+      ∙ put_still (option_map read) at (Some now) (λ j. slice_index_or ends j None) k (ap (λ y. Some y) same ∙ sym (ap (option_map read) there))
+
+  -- what is said of the other is said of each, where it was said of those before
+  said_of_each : (P : X → Type 0) → P now → ((k : ℕ) (e : X) → slice_index_or ends k None ≡ Some e → P e) → (k : ℕ) (e : X) → slice_index_or (slice_set ends at (Some now)) k None ≡ Some e → P e
+  said_of_each P mine before k e stands =
+      put_each (λ j found. found ≡ Some e → P e) at (Some now) (λ j. slice_index_or ends j None) (λ is. subst P (same_Some now e is) mine) (λ j apart is. before j e is) k
+      (sym (set_there k) ∙ stands)
+
 -- an end with the same link and queue in its place
 send_ends : (links : List LinkValue) (part : ℕ) (sends : List (Option SendEnd)) (at : ℕ) (end now : SendEnd) → send_end sends at ≡ Some end → now.link ≡ end.link → now.pass.queue ≡ end.pass.queue
-    → AreSendEnds links part sends → AreSendEnds links part (set sends at (Some now))
+    → AreSendEnds links part sends → AreSendEnds links part (slice_set sends at (Some now))
 send_ends links part sends at end now there link queue are =
+    let first = are.ends at end there in
+    let is : IsSendEnd links now = record { exists = omega (arith, first.exists, link); queue = queue ∙ first.queue ∙ ap (λ (i : ℕ). (link_at links i).queue) (sym link) } in
     record {
-      which = λ dst lt.
-          let within : dst < length sends = omega (arith, lt, length-set sends at (Some now)) in
-          ⊎_elim
-          (λ (same : ((dst == at) ≡ true) × (dst ≡ at)).
-          ap (λ (k : ℕ). option_map (λ (e : SendEnd). e.link) (get_or (set sends at (Some now)) k None)) same.1
-          ∙ ap (option_map (λ (e : SendEnd). e.link)) (get_or-set_same sends at (Some now) None (subst (λ (k : ℕ). k < length sends) same.1 within))
-          ∙ ap (λ (n : ℕ). Some n) link
-          ∙ sym (ap (option_map (λ (e : SendEnd). e.link)) (ap (λ (k : ℕ). get_or sends k None) same.1 ∙ there))
-          ∙ are.which dst within)
-          (λ (apart : ((dst == at) ≡ false) × (dst ≢ at)).
-          ap (option_map (λ (e : SendEnd). e.link)) (get_or-set_other sends at dst (Some now) None apart.1) ∙ are.which dst within)
-          (eqb_tells dst at);
-      ends = λ dst e stands.
-          ⊎_elim
-          (λ (same : ((dst == at) ≡ true) × (dst ≡ at)).
-          let within : at < length sends = stood sends at end there in
-          let is : now ≡ e = same_Some now e (sym (get_or-set_same sends at (Some now) None within) ∙ ap (λ (k : ℕ). get_or (set sends at (Some now)) k None) (sym same.1) ∙ stands) in
-          let first = are.ends at end there in
-          subst (IsSendEnd links) is
-          (record { exists = omega (arith, first.exists, link); queue = queue ∙ first.queue ∙ ap (λ (i : ℕ). (link_at links i).queue) (sym link) }))
-          (λ (apart : ((dst == at) ≡ false) × (dst ≢ at)). are.ends dst e (sym (get_or-set_other sends at dst (Some now) None apart.1) ∙ stands))
-          (eqb_tells dst at);
+      which = λ dst lt. read_alike sends at end now there (λ (e : SendEnd). e.link) link dst ∙ are.which dst (omega (arith, lt, length-set sends at (Some now)));
+      ends = said_of_each sends at end now there (IsSendEnd links) is are.ends;
     }
 
 recv_ends : (links : List LinkValue) (part : ℕ) (recvs : List (Option RecvEnd)) (at : ℕ) (end now : RecvEnd) → recv_end recvs at ≡ Some end → now.link ≡ end.link → now.pass.queue ≡ end.pass.queue
-    → AreRecvEnds links part recvs → AreRecvEnds links part (set recvs at (Some now))
+    → AreRecvEnds links part recvs → AreRecvEnds links part (slice_set recvs at (Some now))
 recv_ends links part recvs at end now there link queue are =
+    let first = are.ends at end there in
+    let is : IsRecvEnd links now = record { exists = omega (arith, first.exists, link); queue = queue ∙ first.queue ∙ ap (λ (i : ℕ). (link_at links i).queue) (sym link) } in
     record {
-      which = λ src lt.
-          let within : src < length recvs = omega (arith, lt, length-set recvs at (Some now)) in
-          ⊎_elim
-          (λ (same : ((src == at) ≡ true) × (src ≡ at)).
-          ap (λ (k : ℕ). option_map (λ (e : RecvEnd). e.link) (get_or (set recvs at (Some now)) k None)) same.1
-          ∙ ap (option_map (λ (e : RecvEnd). e.link)) (get_or-set_same recvs at (Some now) None (subst (λ (k : ℕ). k < length recvs) same.1 within))
-          ∙ ap (λ (n : ℕ). Some n) link
-          ∙ sym (ap (option_map (λ (e : RecvEnd). e.link)) (ap (λ (k : ℕ). get_or recvs k None) same.1 ∙ there))
-          ∙ are.which src within)
-          (λ (apart : ((src == at) ≡ false) × (src ≢ at)).
-          ap (option_map (λ (e : RecvEnd). e.link)) (get_or-set_other recvs at src (Some now) None apart.1) ∙ are.which src within)
-          (eqb_tells src at);
-      ends = λ src e stands.
-          ⊎_elim
-          (λ (same : ((src == at) ≡ true) × (src ≡ at)).
-          let within : at < length recvs = stood recvs at end there in
-          let is : now ≡ e = same_Some now e (sym (get_or-set_same recvs at (Some now) None within) ∙ ap (λ (k : ℕ). get_or (set recvs at (Some now)) k None) (sym same.1) ∙ stands) in
-          let first = are.ends at end there in
-          subst (IsRecvEnd links) is
-          (record { exists = omega (arith, first.exists, link); queue = queue ∙ first.queue ∙ ap (λ (i : ℕ). (link_at links i).queue) (sym link) }))
-          (λ (apart : ((src == at) ≡ false) × (src ≢ at)). are.ends src e (sym (get_or-set_other recvs at src (Some now) None apart.1) ∙ stands))
-          (eqb_tells src at);
+      which = λ src lt. read_alike recvs at end now there (λ (e : RecvEnd). e.link) link src ∙ are.which src (omega (arith, lt, length-set recvs at (Some now)));
+      ends = said_of_each recvs at end now there (IsRecvEnd links) is are.ends;
     }
 
 pub send_stays : (fabric : FabricValue) (old : NodeState) (answer : Stepped) (new : NodeState) → SendStep fabric old answer new → IsNodeOf fabric old → IsNodeOf fabric new
