@@ -1,5 +1,5 @@
 -- Ends of links that are put where their links stand, the last one first.
-use Rattle.std.proofs.Common.{◌≡◌, ℕ, ◌+◌, ◌<◌, ◌≤◌, List, [], ◌∷◌, ◌++◌, length, Option, Some, None, refl, sym, ap, ◌∙◌, ⊎_elim, inl, inr, arith}
+use Rattle.std.proofs.Common.{◌≡◌, ℕ, ◌+◌, ◌<◌, ◌≤◌, List, [], ◌∷◌, ◌++◌, length, Option, Some, None, refl, sym, ap, ◌∙◌, ⊎_elim, inl, inr, length-append, arith}
 use Rattle.std.specs.Prelude.{◌⊎◌, slice_get, slice_set, slice_index_or}
 use Rattle.std.proofs.lemmas.Bool.{cases_eq, cases_lt}
 use Rattle.std.proofs.lemmas.List.{length-set, get_or_past}
@@ -19,12 +19,35 @@ pub record AreFront {X : Type 0} (left all : List X) : Type 0 where
 pub front_all : {X : Type 0} (all : List X) → AreFront all all
 front_all all = record { each = λ k x there. there }
 
-pub front_fewer : {X : Type 0} (left rest all : List X) (x : X) → left ≡ rest ++ x ∷ [] → AreFront left all → AreFront rest all
+front_fewer : {X : Type 0} (left rest all : List X) (x : X) → left ≡ rest ++ x ∷ [] → AreFront left all → AreFront rest all
 front_fewer {X} left rest all x is front = record { each = λ k y there. front.each k y (ap (λ (list : List X). slice_get list k) is ∙ push_kept rest x k y there) }
 
 -- the last of them stands among all where it stood
-pub front_last : {X : Type 0} (left rest all : List X) (x : X) → left ≡ rest ++ x ∷ [] → AreFront left all → slice_get all (length rest) ≡ Some x
+front_last : {X : Type 0} (left rest all : List X) (x : X) → left ≡ rest ++ x ∷ [] → AreFront left all → slice_get all (length rest) ≡ Some x
 front_last {X} left rest all x is front = front.each (length rest) x (ap (λ (list : List X). slice_get list (length rest)) is ∙ push_new rest x)
+
+-- the last one that is left is taken, with what stands beside it
+pub record IsTaken {X Y : Type 0} (all left rest : List X) (beside left_beside rest_beside : List Y) (one : X) (its : Y) : Type 0 where
+  pub next : length left ≡ length rest + 1
+  pub there : slice_get all (length rest) ≡ Some one
+  pub stands : slice_get beside (length rest) ≡ Some its
+  pub pairs : length rest_beside ≡ length rest
+  pub fewer : AreFront rest all
+  pub fewer_beside : AreFront rest_beside beside
+
+pub taken : {X Y : Type 0} (all left rest : List X) (beside left_beside rest_beside : List Y) (one : X) (its : Y) → left ≡ rest ++ one ∷ [] → left_beside ≡ rest_beside ++ its ∷ []
+    → length left_beside ≡ length left → AreFront left all → AreFront left_beside beside → IsTaken all left rest beside left_beside rest_beside one its
+taken all left rest beside left_beside rest_beside one its is its_is paired front front_beside =
+    let next : length left ≡ length rest + 1 = ap length is ∙ length-append rest (one ∷ []) in
+    let pairs : length rest_beside ≡ length rest = omega (arith, next, paired, ap length its_is, length-append rest_beside (its ∷ [])) in
+    record {
+      next = next;
+      there = front_last left rest all one is front;
+      stands = ap (slice_get beside) (sym pairs) ∙ front_last left_beside rest_beside beside its its_is front_beside;
+      pairs = pairs;
+      fewer = front_fewer left rest all one is front;
+      fewer_beside = front_fewer left_beside rest_beside beside its its_is front_beside;
+    }
 
 module _ {X Y : Type 0} (link_of : X → ℕ) (put : LinkEndsValue → X → Y → LinkEndsValue) (ends : List (Option X)) (beside : List Y) (none : Y) where
   pub nothing_put : (old : List LinkEndsValue) → HavePut link_of put ends beside none (length ends) old old
