@@ -280,3 +280,10 @@ module _ (g : GatheredValue) where
 -- what an iteration reads
 pub item_at : {X : Type 0} (xs : List X) (i : ℕ) (x : X) → x ≡ get_or xs i x → i < length xs → slice_get xs i ≡ Some x
 item_at xs i x is within = slice_get-get_or xs i x within ∙ ap Some (sym is)
+
+-- the same where the list is read as another, whose length is the end
+pub item_of : {X : Type 0} (xs ys : List X) (i : ℕ) (x : X) → xs ≡ ys → x ≡ get_or xs i x → i < length xs → slice_get ys i ≡ Some x
+item_of {X} xs ys i x same is within = ap (λ (list : List X). slice_get list i) (sym same) ∙ item_at xs i x is within
+
+pub end_of : {X : Type 0} (xs ys : List X) (i : ℕ) → xs ≡ ys → i ≤ length xs → length xs ≤ i → i ≡ length ys
+end_of xs ys i same upto past = omega (arith, upto, past, ap length same)

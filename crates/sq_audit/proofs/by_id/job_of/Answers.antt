@@ -3,10 +3,18 @@ use Rattle.std.specs.Ordering.{nat_cmp}
 use Rattle.std.specs.BTreeMap.{get}
 use Rattle.sq_node_model.specs.NodeValue.{ReceiptValue}
 use Rattle.sq_audit.specs.declared.job.Job.{Job}
-use Rattle.sq_audit.specs.Told.{IsOneJob}
+use Rattle.sq_audit.specs.Index.{HasKeyAt}
+use Rattle.sq_audit.specs.Told.{id_of, IsOneJob}
 use Rattle.sq_audit.proofs.Each.{looked_up, some_same, no_some}
 use Rattle.sq_audit.proofs.Jobs.{of_parts, one_job, other_root}
 use Rattle.sq_audit.proofs.by_id.job_of.Goals as goal
+use Rattle.sq_audit.proofs.by_id.job_of.Goals.{In-Some}
+
+-- the place is that of a job with the receipt's id
+found_there : (c : In-Some) → HasKeyAt id_of c.args.jobs.now c.args.receipt.now.id c.in-Some.place.now
+found_there c =
+    let id = ap (λ (r : ReceiptValue). r.id) c.receipt.view_is in
+    c.requires.places.found c.args.receipt.now.id c.in-Some.place.now (ap (get nat_cmp c.args.places.now) (sym id) ∙ sym c.in-Some.ensures.value)
 
 pub returns-in_default-clause-none : goal.returns-in_default-clause-none
 returns-in_default-clause-none c job has is =
@@ -15,33 +23,24 @@ returns-in_default-clause-none c job has is =
 
 pub returns-in_default-get-clause-none : goal.returns-in_default-get-clause-none
 returns-in_default-get-clause-none c =
-    let jobs = c.args.jobs.now in
-    let place = c.in-Some.place.now in
-    let id = ap (λ (r : ReceiptValue). r.id) c.receipt.view_is in
-    let found = c.requires.places.found c.args.receipt.now.id place (ap (get nat_cmp c.args.places.now) (sym id) ∙ sym c.in-Some.ensures.value) in
-    absurd (no_some found.one (looked_up jobs place None c.in_default-get.ensures.lookup ∙ found.there))
+    let found = found_there (goal.at.returns-in_default-get-clause-none c).In-Some in
+    absurd (no_some found.one (looked_up c.args.jobs.now c.in-Some.place.now None c.in_default-get.ensures.lookup ∙ found.there))
 
 pub returns-then-eq-clause-one : goal.returns-then-eq-clause-one
 returns-then-eq-clause-one c =
     let jobs = c.args.jobs.now in
     let receipt = c.args.receipt.now in
-    let place = c.in-Some.place.now in
-    let id = ap (λ (r : ReceiptValue). r.id) c.receipt.view_is in
-    let found = c.requires.places.found receipt.id place (ap (get nat_cmp c.args.places.now) (sym id) ∙ sym c.in-Some.ensures.value) in
-    let same = some_same (looked_up jobs place (Some c.in-Some-get.job) c.in-Some-get.ensures.lookup ∙ found.there) in
+    let found = found_there (goal.at.returns-then-eq-clause-one c).In-Some in
+    let same = some_same (looked_up jobs c.in-Some.place.now (Some c.in-Some-get.job) c.in-Some-get.ensures.lookup ∙ found.there) in
     let root : found.one.txn.root ≡ receipt.root =
     ap (λ (j : Job). j.txn.root) (sym same) ∙ sym c.root.ensures ∙ eqb-true c.root.result c.receipt.inside.root (sym c.eq.ensures ∙ c.if-eq.true) ∙ ap (λ (r : ReceiptValue). r.root) c.receipt.view_is in
-    subst (λ (j : Job). IsOneJob jobs receipt j.txn) (sym same) (one_job jobs c.requires.ids receipt place found root)
+    subst (λ (j : Job). IsOneJob jobs receipt j.txn) (sym same) (one_job jobs c.requires.ids receipt c.in-Some.place.now found root)
 
 pub returns-else-eq-clause-none : goal.returns-else-eq-clause-none
 returns-else-eq-clause-none c =
-    let jobs = c.args.jobs.now in
-    let receipt = c.args.receipt.now in
-    let place = c.in-Some.place.now in
-    let id = ap (λ (r : ReceiptValue). r.id) c.receipt.view_is in
-    let found = c.requires.places.found receipt.id place (ap (get nat_cmp c.args.places.now) (sym id) ∙ sym c.in-Some.ensures.value) in
-    let same = some_same (looked_up jobs place (Some c.in-Some-get.job) c.in-Some-get.ensures.lookup ∙ found.there) in
-    other_root jobs c.requires.ids receipt place found
+    let found = found_there (goal.at.returns-else-eq-clause-none c).In-Some in
+    let same = some_same (looked_up c.args.jobs.now c.in-Some.place.now (Some c.in-Some-get.job) c.in-Some-get.ensures.lookup ∙ found.there) in
+    other_root c.args.jobs.now c.requires.ids c.args.receipt.now c.in-Some.place.now found
     (λ root.
     let equal = c.root.ensures ∙ ap (λ (j : Job). j.txn.root) same ∙ root ∙ ap (λ (r : ReceiptValue). r.root) (sym c.receipt.view_is) in
     true≢false (sym (eq-eqb c.root.result c.receipt.inside.root equal) ∙ sym c.eq.ensures ∙ c.if-eq.false))

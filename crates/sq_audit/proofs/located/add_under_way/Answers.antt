@@ -1,10 +1,9 @@
-use Rattle.std.proofs.Common.{◌≡◌, ◌≤◌, ◌++◌, [], List, length, slice_get, Some, sym, ap, ◌∙◌, subst, arith, append_assoc}
+use Rattle.std.proofs.Common.{◌++◌, [], List, sym, ap, ◌∙◌, subst, append_assoc}
 use Rattle.std.proofs.lemmas.List.{append-nil}
-use Rattle.sq_chunk.specs.ChunkValue.{ChunkValue}
 use Rattle.sq_node_model.specs.Gathered.{GatheredLink}
 use Rattle.sq_node_model.specs.declared.spot.Spot.TheVariants.{Chunk}
 use Rattle.sq_audit.specs.Located.{Entry, entries_of}
-use Rattle.sq_audit.proofs.Listing.{item_at, of_spot, carried_none, carried_next, carried_whole, CarriedTo}
+use Rattle.sq_audit.proofs.Listing.{item_of, end_of, of_spot, carried_none, carried_next, carried_whole, CarriedTo}
 use Rattle.sq_audit.proofs.located.add_under_way.Goals as goal
 
 pub loop-chunk-init : goal.loop-chunk-init
@@ -12,10 +11,9 @@ loop-chunk-init c = ([], sym (append-nil (entries_of c.args.all.now.items)), car
 
 pub loop-chunk-preserved : goal.loop-chunk-preserved
 loop-chunk-preserved c =
-    let chunks = c.deref-carried-items.result.now in
     let chunk = c.loop-chunk.chunk in
-    let here : chunks ≡ c.args.of.now.under_way = c.deref-carried-items.ensures.value ∙ ap (λ (l : GatheredLink). l.under_way) c.of.view_is in
-    let at : slice_get c.args.of.now.under_way chunk ≡ Some c.carried-item.result = ap (λ (cs : List ChunkValue). slice_get cs chunk) (sym here) ∙ item_at chunks chunk c.carried-item.result c.carried-item.is c.loop-chunk-test.true in
+    let here = c.deref-carried-items.ensures.value ∙ ap (λ (l : GatheredLink). l.under_way) c.of.view_is in
+    let at = item_of c.deref-carried-items.result.now c.args.of.now.under_way chunk c.carried-item.result here c.carried-item.is c.loop-chunk-test.true in
     let so_far = c.loop-chunk.invariant in
     let adds = c.in_ok-add_carried.ensures in
     let more = of_spot (Chunk c.args.link chunk) adds.families in (
@@ -26,12 +24,8 @@ loop-chunk-preserved c =
 
 pub returns : goal.returns
 returns c =
-    let chunks = c.deref-carried-items.result.now in
-    let here : chunks ≡ c.args.of.now.under_way = c.deref-carried-items.ensures.value ∙ ap (λ (l : GatheredLink). l.under_way) c.of.view_is in
-    let auto : c.loop-chunk.chunk ≤ length chunks = c.loop-chunk.auto.chunk-end in
-    let test : length chunks ≤ c.loop-chunk.chunk = c.loop-chunk-test.false in
-    let count : length chunks ≡ length c.args.of.now.under_way = ap (λ (cs : List ChunkValue). length cs) here in
-    let all : c.loop-chunk.chunk ≡ length c.args.of.now.under_way = omega (arith, auto, test, count) in
+    let here = c.deref-carried-items.ensures.value ∙ ap (λ (l : GatheredLink). l.under_way) c.of.view_is in
+    let all = end_of c.deref-carried-items.result.now c.args.of.now.under_way c.loop-chunk.chunk here c.loop-chunk.auto.chunk-end c.loop-chunk-test.false in
     let so_far = c.loop-chunk.invariant in
     carried_whole c.args.link c.args.of.now (entries_of c.args.all.now.items) (entries_of c.loop-chunk.all.items) so_far.0
     (subst (λ k. CarriedTo c.args.link c.args.of.now k so_far.0) all so_far.2) so_far.1

@@ -4,36 +4,32 @@ use Rattle.sq_audit.proofs.Listing.{item_at}
 use Rattle.sq_audit.proofs.Each.{each_more, each_done}
 use Rattle.sq_audit.proofs.Ways.{of_last, last_more, not_of_last}
 use Rattle.sq_audit.proofs.notes.are_of_last.Goals as goal
+use Rattle.sq_audit.proofs.notes.are_of_last.Goals.{After-ne}
+
+-- the chunk that is looked at, and the note that stands where its note is to stand
+chunk_there : (c : After-ne) → slice_get c.args.chunks.now c.loop-at.at ≡ Some c.index-chunks-at.result
+chunk_there c = item_at c.args.chunks.now c.loop-at.at c.index-chunks-at.result c.index-chunks-at.is c.loop-at-test.true
+
+note_there : (c : After-ne) → slice_get c.args.notes.now (c.in-Some.loaded + c.loop-at.at) ≡ Some c.index-notes-loaded.result
+note_there c = item_at c.args.notes.now (c.in-Some.loaded + c.loop-at.at) c.index-notes-loaded.result c.index-notes-loaded.is (search rules)
 
 pub returns-then-ne-clause-last : goal.returns-then-ne-clause-last
 returns-then-ne-clause-last c =
-    let chunks = c.args.chunks.now in
-    let notes = c.args.notes.now in
-    let at = c.loop-at.at in
-    let loaded = c.in-Some.loaded in
-    let chunk = c.index-chunks-at.result in
-    let note = c.index-notes-loaded.result in
-    let there : slice_get chunks at ≡ Some chunk = item_at chunks at chunk c.index-chunks-at.is c.loop-at-test.true in
-    let noted : slice_get notes (loaded + at) ≡ Some note = item_at notes (loaded + at) note c.index-notes-loaded.is (search rules) in
-    let differ : c.note.result ≡ note → ⊥ = search rules in (
+    let differ : c.note.result ≡ c.index-notes-loaded.result → ⊥ = search rules in
+    let at = (goal.at.returns-then-ne-clause-last c).After-ne in (
       (λ e. absurd (true≢false (sym e))),
-      (λ last. absurd (not_of_last chunks notes loaded at chunk note c.in-Some.ensures.1 there noted (λ same. differ (c.note.ensures ∙ same)) last)),
+      (λ last.
+          absurd (not_of_last c.args.chunks.now c.args.notes.now c.in-Some.loaded c.loop-at.at c.index-chunks-at.result c.index-notes-loaded.result c.in-Some.ensures.1 (chunk_there at) (note_there at)
+          (λ same. differ (c.note.ensures ∙ same)) last)),
     )
 
 pub loop-at-preserved : goal.loop-at-preserved
 loop-at-preserved c =
-    let chunks = c.args.chunks.now in
-    let notes = c.args.notes.now in
-    let at = c.loop-at.at in
-    let loaded = c.in-Some.loaded in
-    let chunk = c.index-chunks-at.result in
-    let note = c.index-notes-loaded.result in
-    let there : slice_get chunks at ≡ Some chunk = item_at chunks at chunk c.index-chunks-at.is c.loop-at-test.true in
-    let noted : slice_get notes (loaded + at) ≡ Some note = item_at notes (loaded + at) note c.index-notes-loaded.is (search rules) in
-    let same : c.note.result ≡ note = search rules in
+    let same : c.note.result ≡ c.index-notes-loaded.result = search rules in
+    let at = (goal.at.loop-at-preserved c).After-ne in
     record {
-      last = last_more chunks notes loaded at chunk note there noted (sym c.note.ensures ∙ same) c.loop-at.invariant.last;
-      within = each_more (λ (k : ChunkValue). are_within k.note.lo k.note.hi k.families ≡ true) chunks at chunk c.loop-at.invariant.within there c.families.ensures.within;
+      last = last_more c.args.chunks.now c.args.notes.now c.in-Some.loaded c.loop-at.at c.index-chunks-at.result c.index-notes-loaded.result (chunk_there at) (note_there at) (sym c.note.ensures ∙ same) c.loop-at.invariant.last;
+      within = each_more (λ (k : ChunkValue). are_within k.note.lo k.note.hi k.families ≡ true) c.args.chunks.now c.loop-at.at c.index-chunks-at.result c.loop-at.invariant.within (chunk_there at) c.families.ensures.within;
     }
 
 pub returns : goal.returns

@@ -1,17 +1,16 @@
-use Rattle.std.proofs.Common.{◌≡◌, ◌≤◌, List, length, slice_get, Some, refl, sym, ap, ◌∙◌, subst}
+use Rattle.std.proofs.Common.{◌≡◌, ◌≤◌, List, length, refl, ap, ◌∙◌, subst}
 use Rattle.sq_model.proofs.Lists.{Contains-slice_get}
 use Rattle.sq_node_model.specs.Gathered.{GatheredLink, GatheredValue}
 use Rattle.sq_node_model.specs.Placed.{IsLinkPlaced}
-use Rattle.sq_audit.proofs.Listing.{item_at}
+use Rattle.sq_audit.proofs.Listing.{item_of}
 use Rattle.sq_audit.proofs.Each.{each_more, each_done, shown}
 use Rattle.sq_audit.proofs.notes.links_fit.Goals as goal
 
 pub loop-link-preserved : goal.loop-link-preserved
 loop-link-preserved c =
-    let links = c.deref-link-items.result.now in
     let i = c.loop-link.link-index in
-    let here : links ≡ c.args.g.now.links = c.deref-link-items.ensures.value ∙ ap (λ (g : GatheredValue). g.links) c.g.view_is in
-    let at : slice_get c.args.g.now.links i ≡ Some c.link-item.result = ap (λ (ls : List GatheredLink). slice_get ls i) (sym here) ∙ item_at links i c.link-item.result c.link-item.is c.loop-link-test.true in
+    let here = c.deref-link-items.ensures.value ∙ ap (λ (g : GatheredValue). g.links) c.g.view_is in
+    let at = item_of c.deref-link-items.result.now c.args.g.now.links i c.link-item.result here c.link-item.is c.loop-link-test.true in
     each_more (IsLinkPlaced c.args.opening.now c.args.g.now) c.args.g.now.links i c.link-item.result c.loop-link.invariant at
     (shown c.in_ok-link_fits.field-0 c.in_ok-link_fits.ensures c.if-not-branch.false)
 

@@ -9,7 +9,21 @@ use Rattle.sq_audit.proofs.Listing.{item_at}
 use Rattle.sq_audit.proofs.Each.{looked_up, refuted, shown, by_cases}
 use Rattle.sq_audit.proofs.Walks.{WalkedTo, step_commit, step_abort, fails_position, fails_answer, walk_ends, fails_end}
 use Rattle.sq_audit.proofs.told.tells_log.Goals as goal
-use Rattle.sq_audit.proofs.told.tells_log.Goals.{then-commits, else-commits}
+use Rattle.sq_audit.proofs.told.tells_log.Goals.{In_ok-is_answered, then-commits, else-commits}
+
+-- the receipt that is looked at, and the transaction of the log that it may tell
+receipt_there : (c : In_ok-is_answered) → slice_get (values_of c.args.receipts.now) c.loop-receipt.receipt-index ≡ Some c.receipt-item.result.now
+receipt_there c =
+    let i = c.loop-receipt.receipt-index in
+    at_map (λ (x : Bor ReceiptValue). x.now) c.args.receipts.now i c.receipt-item.result (item_at c.args.receipts.now i c.receipt-item.result c.receipt-item.is c.loop-receipt-test.true)
+
+in_place : (c : In_ok-is_answered) → c.receipt-item.result.now.position ≡ c.loop-receipt.position
+in_place c = sym (ap (λ (x : Bor ReceiptValue). x.now.position) c.receipt.view_is) ∙ c.if-receipt-position.false
+
+next_there : (c : In_ok-is_answered) → option_copied c.get-next.result ≡ slice_get c.args.family.now.log c.loop-receipt.position
+next_there c =
+    let position = c.loop-receipt.position in
+    looked_up c.log.result.now position c.get-next.result c.get-next.ensures.lookup ∙ ap (λ (l : List TxnValue). slice_get l position) c.log.ensures.log
 
 pub returns-then-receipt-position : goal.returns-then-receipt-position
 returns-then-receipt-position c =
@@ -29,10 +43,10 @@ returns-then-not-branch c =
     let i = c.loop-receipt.receipt-index in
     let r = c.receipt-item.result.now in
     let position = c.loop-receipt.position in
-    let at : slice_get group i ≡ Some r = at_map (λ (x : Bor ReceiptValue). x.now) c.args.receipts.now i c.receipt-item.result (item_at c.args.receipts.now i c.receipt-item.result c.receipt-item.is c.loop-receipt-test.true) in
-    let here : r.position ≡ position = sym (ap (λ (x : Bor ReceiptValue). x.now.position) c.receipt.view_is) ∙ c.if-receipt-position.false in
-    let next : option_copied c.get-next.result ≡ slice_get c.args.family.now.log position =
-    looked_up c.log.result.now position c.get-next.result c.get-next.ensures.lookup ∙ ap (λ (l : List TxnValue). slice_get l position) c.log.ensures.log in (
+    let point = (goal.at.returns-then-not-branch c).In_ok-is_answered in
+    let at = receipt_there point in
+    let here = in_place point in
+    let next = next_there point in (
       (λ e. absurd (true≢false (sym e))),
       (λ tells.
           absurd (fails_answer c.args.jobs.now c.args.family.now group i position c.loop-receipt.rows c.loop-receipt.invariant r at here
@@ -45,10 +59,10 @@ loop-receipt-preserved c =
     let i = c.loop-receipt.receipt-index in
     let r = c.receipt-item.result.now in
     let position = c.loop-receipt.position in
-    let at : slice_get group i ≡ Some r = at_map (λ (x : Bor ReceiptValue). x.now) c.args.receipts.now i c.receipt-item.result (item_at c.args.receipts.now i c.receipt-item.result c.receipt-item.is c.loop-receipt-test.true) in
-    let here : r.position ≡ position = sym (ap (λ (x : Bor ReceiptValue). x.now.position) c.receipt.view_is) ∙ c.if-receipt-position.false in
-    let next : option_copied c.get-next.result ≡ slice_get c.args.family.now.log position =
-    looked_up c.log.result.now position c.get-next.result c.get-next.ensures.lookup ∙ ap (λ (l : List TxnValue). slice_get l position) c.log.ensures.log in
+    let point = (goal.at.loop-receipt-preserved c).In_ok-is_answered in
+    let at = receipt_there point in
+    let here = in_place point in
+    let next = next_there point in
     let rows = c.loop-receipt.rows in
     let told = subst (λ (o : Option TxnValue). IsAnswered c.args.jobs.now rows o r) next (shown c.in_ok-is_answered.field-0 c.in_ok-is_answered.ensures.answered c.if-not-branch.false) in
     let after = c.in_ok-is_answered.ensures.rows c.if-not-branch.false ∙ ap (λ (o : Option TxnValue). rows_then rows o r) next in
