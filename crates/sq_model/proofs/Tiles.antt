@@ -1,7 +1,7 @@
 -- Notes that tile the extents of their nodes.
 use Rattle.std.proofs.Common.{◌≡◌, inl, inr, ℕ, ◌+◌, ◌-◌, ◌*◌, ◌≤◌, min, Bool, true, false, ◌==◌, ◌&&◌, ◌||◌, nat_le, nat_lt, if◌then◌else◌, List, [], ◌∷◌, slice_get, find, Contains, Option, Some, None, refl, sym, ap, ◌∙◌, subst, subst₂, true≢false, mul-le-mul_right, le_of_eq, arith}
 use Rattle.std.specs.List.{list_any, range_with_len}
-use Rattle.std.proofs.lemmas.Bool.{cases_Bool, cond_both, and_parts, and_from, eqb-true, eq-eqb}
+use Rattle.std.proofs.lemmas.Bool.{cases_Bool, cond_both, eqb-true}
 use Rattle.std.proofs.lemmas.Bool.Decides.{nat_tests}
 use Rattle.sq_tree.specs.Node.{first_leaf, span}
 use Rattle.sq_chunk.specs.declared.chunk.Note.{Note}
@@ -9,6 +9,7 @@ use Rattle.sq_chunk.specs.ChunkValue.{covers}
 use Rattle.sq_ranges.specs.declared.recon.Range.{Range}
 use Rattle.sq_ranges.specs.CutEnd.{end_within, end_of}
 use Rattle.sq_ranges.specs.OpeningValue.{OpeningValue}
+use Rattle.sq_ranges.proofs.Bools.{both_equal, equal-both}
 use Rattle.sq_model.specs.Trace.{Trace}
 use Rattle.sq_model.specs.Tables.{stands, size_of}
 use Rattle.sq_model.specs.Place.{extent_in, extent_of}
@@ -31,12 +32,10 @@ extent_rises o seg node = extent_rises_in o.recon.width node (slice_get o.recon.
 
 -- a note is about a node where it names it
 pub about_is : (seg node : ℕ) (note : Note) → is_about seg node note ≡ true → (note.seg ≡ seg) × (note.node ≡ node)
-about_is seg node note about =
-    let parts = and_parts (note.seg == seg) (note.node == node) about in
-    (eqb-true note.seg seg parts.0, eqb-true note.node node parts.1)
+about_is seg node note about = both_equal note.seg seg note.node node about
 
 pub is_about-from : (seg node : ℕ) (note : Note) → note.seg ≡ seg → note.node ≡ node → is_about seg node note ≡ true
-is_about-from seg node note same there = and_from (note.seg == seg) (note.node == node) (eq-eqb note.seg seg same) (eq-eqb note.node node there)
+is_about-from seg node note = equal-both note.seg seg note.node node
 
 -- one more note goes on to its end, and may be the last one, if it is about the node
 pub node_at : (P : ℕ → Bool → Type 0) (o : OpeningValue) (seg node : ℕ) (note : Note) (ns : List Note) → (note.seg ≡ seg → note.node ≡ node → P note.hi (note.last || has_last seg node ns)) → P (reached o seg node ns) (has_last seg node ns) → P (reached o seg node (note ∷ ns)) (has_last seg node (note ∷ ns))

@@ -1,9 +1,10 @@
 -- What is left of the open work of a link after a chunk of it was cut.
 use Rattle.std.proofs.Common.{◌≡◌, ◌⊎◌, inl, inr, ⊎_elim, ℕ, true, false, ◌==◌, if◌then◌else◌, List, remove, slice_get, Contains, Some, refl, sym, ap, ◌∙◌, subst, true≢false}
 use Rattle.std.specs.Prelude.{◌≢◌, slice_set}
-use Rattle.std.proofs.lemmas.Bool.{cases_Bool, and_parts, and_from, eqb-true, eq-eqb}
+use Rattle.std.proofs.lemmas.Bool.{cases_Bool}
 use Rattle.std.proofs.lemmas.Bool.Decides.{eqb_tells}
 use Rattle.std.proofs.lemmas.Option.{same_Some, get_or_from_slice_get}
+use Rattle.sq_ranges.proofs.Bools.{both_equal, equal-both}
 use Rattle.sq_model.proofs.Lists.{Contains-slice_get, slice_get-Contains}
 use Rattle.sq_exec.specs.Work.{WorkValue, no_work, work_from, work_after}
 use Rattle.sq_node_model.specs.OutHolds.{is_work_on, NoneTwice}
@@ -11,12 +12,10 @@ use Rattle.sq_node_model.proofs.Members.{StoodAt, removed_stood, removed_once, r
 
 -- the nodes that work is on
 pub on_node : (seg n : ℕ) (work : WorkValue) → is_work_on seg n work ≡ true → (work.seg ≡ seg) × (work.node ≡ n)
-on_node seg n work on =
-    let parts = and_parts (work.seg == seg) (work.node == n) on in
-    (eqb-true work.seg seg parts.0, eqb-true work.node n parts.1)
+on_node seg n work on = both_equal work.seg seg work.node n on
 
 pub on_node-from : (seg n : ℕ) (work : WorkValue) → work.seg ≡ seg → work.node ≡ n → is_work_on seg n work ≡ true
-on_node-from seg n work same there = and_from (work.seg == seg) (work.node == n) (eq-eqb work.seg seg same) (eq-eqb work.node n there)
+on_node-from seg n work = equal-both work.seg seg work.node n
 
 -- the work on other nodes is left as it was, and the work itself goes on at the chunk's end unless that is its own
 pub record IsLeft (works left : List WorkValue) (work : WorkValue) (end : ℕ) : Type 0 where
