@@ -23,7 +23,7 @@ use Rattle.sq_exec.specs.declared.run.Run.{Run}
 use Rattle.sq_exec.specs.GivenUp.{is_given_up, none_given_up}
 use Rattle.sq_exec.specs.Runs.{is_loaded, is_whole}
 use Rattle.sq_exec.specs.OutLink.{new_out_link}
-use Rattle.sq_exec.specs.CoreValue.{out_at, inbox_at}
+use Rattle.sq_exec.specs.CoreValue.{CoreValue, out_at, inbox_at}
 use Rattle.sq_model.specs.Tables.{opening_rows, family_of}
 use Rattle.sq_model.specs.Place.{source}
 use Rattle.sq_transition.specs.WorldValue.{WorldValue, QueueValue, LinkValue, no_core, no_queue, core_at, queue_at, link_value}
@@ -131,21 +131,20 @@ module _ (o : OpeningValue) (w : WorldValue) (built : IsBuilt o w) where
       let count : length w.cores ≡ o.old.parts = ap length built.cores ∙ length-map-range_with_len (opened_part o) 0 o.old.parts in
       get_or_past w.cores part no_core (omega (arith, count, past))
 
-  -- nothing was begun for a partition at another
-  new_out : (src dst : ℕ) → out_at (core_at w src) dst ≡ new_out_link
-  new_out src dst =
+  -- what reads alike of each partition that was opened and past the last
+  new_read : {X : Type 0} (read : CoreValue → X) (value : X) → ((part : ℕ) → read (opened_part o part) ≡ value) → read no_core ≡ value → (part : ℕ) → read (core_at w part) ≡ value
+  new_read read value opened past part =
       ⊎_elim
-      (λ (low : src < o.old.parts). ap (λ core. out_at core dst) (core_is src low) ∙ alike o.old.parts dst new_out_link)
-      (λ (past : o.old.parts ≤ src). ap (λ core. out_at core dst) (no_core_past src past))
-      (cases_lt src o.old.parts)
+      (λ (low : part < o.old.parts). ap read (core_is part low) ∙ opened part)
+      (λ (high : o.old.parts ≤ part). ap read (no_core_past part high) ∙ past)
+      (cases_lt part o.old.parts)
 
-  -- nothing came to a partition from another
+  -- nothing was begun for a partition at another, and nothing came to one from another
+  new_out : (src dst : ℕ) → out_at (core_at w src) dst ≡ new_out_link
+  new_out src dst = new_read (λ core. out_at core dst) new_out_link (λ _. alike o.old.parts dst new_out_link) refl src
+
   new_inbox : (src dst : ℕ) → inbox_at (core_at w dst) src ≡ None
-  new_inbox src dst =
-      ⊎_elim
-      (λ (low : dst < o.old.parts). ap (λ core. inbox_at core src) (core_is dst low) ∙ alike o.old.parts src None)
-      (λ (past : o.old.parts ≤ dst). ap (λ core. inbox_at core src) (no_core_past dst past))
-      (cases_lt dst o.old.parts)
+  new_inbox src dst = new_read (λ core. inbox_at core src) None (λ _. alike o.old.parts src None) refl dst
 
   within : (i : ℕ) → i < length w.queues → i < length built.queues.links
   within i low =

@@ -13,6 +13,7 @@ use Rattle.sq_transition.specs.LeaderResults.{is_segment_whole}
 use Rattle.sq_state.specs.Results.{answer_of}
 use Rattle.sq_state.proofs.Leading.{report_went, report_fails}
 use Rattle.sq_state.proofs.state.State.report.Goals as goal
+use Rattle.sq_state.proofs.state.State.report.Goals.{After-made}
 
 -- what is told of each tree is told of each segment of the world whose trees they are
 told_of : (w : WorldValue) (trees : List (List Status)) (whole : List Bool) → trees ≡ w.trees
@@ -21,24 +22,29 @@ told_of : (w : WorldValue) (trees : List (List Status)) (whole : List Bool) → 
 told_of w trees whole same told =
     subst (λ (seen : List (List Status)). (seg : ℕ) → seg < length seen → is_whole whole seg ≡ is_complete_reading (reading (status_at (slice_index_or seen seg [])) 1)) same told
 
+told : (c : After-made) → let w = c.args.self.now in (seg : ℕ) → seg < length w.trees → is_whole c.whole_segments-whole.result seg ≡ is_segment_whole w seg
+told c =
+    let opened = c.self.view_is ∙ c.take_leader.ensures.after in
+    told_of c.args.self.now c.deref.result.now c.whole_segments-whole.result (c.deref.ensures.value ∙ ap (λ (v : WorldValue). v.trees) opened) c.whole_segments-whole.ensures
+
+-- so the report is made of the world
+made : (c : After-made) → let w = c.args.self.now in c.made.result ≡ made_answer w.old w.recon c.whole_segments-whole.result c.args.part
+made c = c.made.ensures.answer ∙ ap (λ (v : WorldValue). made_answer v.old v.recon c.whole_segments-whole.result c.args.part) (c.self.view_is ∙ c.take_leader.ensures.after)
+
 pub returns-in-Ok : goal.returns-in-Ok
 returns-in-Ok c =
     let w = c.args.self.now in
-    let opened = c.self.view_is ∙ c.take_leader.ensures.after in
-    let told = told_of w c.deref.result.now c.whole_segments-whole.result (c.deref.ensures.value ∙ ap (λ (v : WorldValue). v.trees) opened) c.whole_segments-whole.ensures in
+    let at = (goal.at.returns-in-Ok c).After-made in
     (λ i. (answer_of (c.go_on.ensures.answer i), c.go_on.ensures.after i))
     ∙ ap (λ (v : WorldValue). (Done, record v { leader = Moving c.report.result })) c.take_leader.ensures.after
     ∙ ap (λ (reported : List Bool). (Done, record w { leader = Moving reported })) c.report.ensures
-    ∙ report_went w c.requires c.whole_segments-whole.result told c.in-Moving.moving c.args.part c.in-Ok.report (sym c.in-Moving.ensures.leader)
-    (sym c.in-Ok.is ∙ c.made.ensures.answer ∙ ap (λ (v : WorldValue). made_answer v.old v.recon c.whole_segments-whole.result c.args.part) opened)
+    ∙ report_went w c.requires c.whole_segments-whole.result (told at) c.in-Moving.moving c.args.part c.in-Ok.report (sym c.in-Moving.ensures.leader) (sym c.in-Ok.is ∙ made at)
 
 pub returns-in-Err : goal.returns-in-Err
 returns-in-Err c =
     let w = c.args.self.now in
-    let opened = c.self.view_is ∙ c.take_leader.ensures.after in
-    let told = told_of w c.deref.result.now c.whole_segments-whole.result (c.deref.ensures.value ∙ ap (λ (v : WorldValue). v.trees) opened) c.whole_segments-whole.ensures in
+    let at = (goal.at.returns-in-Err c).After-made in
     (λ i. (answer_of (c.stay.ensures.answer i), c.stay.ensures.after i))
     ∙ ap (λ (v : WorldValue). (Refused c.report_refusal.result, record v { leader = Moving c.in-Moving.moving })) c.take_leader.ensures.after
     ∙ ap (λ refusal. (Refused refusal, record w { leader = Moving c.in-Moving.moving })) c.report_refusal.ensures
-    ∙ report_fails w c.requires c.whole_segments-whole.result told c.in-Moving.moving c.args.part c.in-Err.fault (sym c.in-Moving.ensures.leader)
-    (sym c.in-Err.is ∙ c.made.ensures.answer ∙ ap (λ (v : WorldValue). made_answer v.old v.recon c.whole_segments-whole.result c.args.part) opened)
+    ∙ report_fails w c.requires c.whole_segments-whole.result (told at) c.in-Moving.moving c.args.part c.in-Err.fault (sym c.in-Moving.ensures.leader) (sym c.in-Err.is ∙ made at)
