@@ -1,41 +1,32 @@
-use Rattle.std.proofs.Common.{◌≡◌, true, ◌++◌, ◌∷◌, [], length, sym, ap, ◌∙◌, subst}
+use Rattle.std.proofs.Common.{◌≡◌, ℕ, List, true, ◌++◌, ◌∷◌, [], length, sym, ap, ◌∙◌, subst}
 use Rattle.std.specs.Prelude.{Option, IfSome, Bool, if◌then◌else◌}
 use Rattle.sq_exec.specs.CoreValue.{CoreValue}
 use Rattle.sq_chunk.specs.ChunkValue.{ChunkValue, IsChunk}
 use Rattle.sq_exec.specs.Moving.{may_load, LoadsFrom}
 use Rattle.sq_node.specs.NodeState.{NodeState}
+use Rattle.sq_node.specs.Settled.{IsNode}
+use Rattle.sq_node.specs.Steps.{LoadStep}
 use Rattle.sq_node.specs.declared.stepped.Stepped.TheVariants.{Did}
 use Rattle.sq_node.proofs.Stays.{load_stays}
 use Rattle.sq_node.proofs.Keeps.{load_keeps, none_to_load}
 use Rattle.sq_node.proofs.Settles.{after_load}
 use Rattle.sq_node.proofs.node.Node.step_load.Goals as goal
+use Rattle.sq_node.proofs.node.Node.step_load.Goals.{In-Ok}
 
-pub invariant_of-self-then-note : goal.invariant_of-self-then-note
-invariant_of-self-then-note c =
+-- which nodes are to be completed once the chunk is loaded
+settles : (c : In-Ok) (more : List (ℕ × ℕ)) → let note = c.in-Ok.note in let pending = c.self.inside.to_complete.items in
+    more ≡ (if note.last then pending ++ (note.seg, note.node) ∷ [] else pending) → IsNode c.load.new.self.core c.self.inside.seats.items more c.self.inside.complete.items
+settles c more more_is =
     let inside = c.self.inside in
     let core_is = ap (λ (node : NodeState). node.core) c.self.view_is in
-    let note = c.in-Ok.note in
-    let pending = inside.to_complete.items in
-    after_load inside.core.core c.load.new.self.core c.in-Some.src note c.in-Ok.ensures.ok
+    after_load inside.core.core c.load.new.self.core c.in-Some.src c.in-Ok.note c.in-Ok.ensures.ok
     (subst (λ (core : CoreValue). length core.loaded ≡ length core.recon.segments) (sym core_is) c.in-Some.ensures.each) (subst (λ (core : CoreValue). may_load core c.in-Some.src ≡ true) (sym core_is) c.in-Some.ensures.some)
-    inside.seats.items pending c.push_reserved.new.self.items inside.complete.items
-    (c.push_reserved.ensures.items ∙ (λ k. c.reserve.ensures.items k ++ (note.seg, note.node) ∷ []) ∙ ap (λ (b : Bool). if b then pending ++ (note.seg, note.node) ∷ [] else pending) (sym c.if-note.true))
-    c.self.invariant
+    inside.seats.items inside.to_complete.items more inside.complete.items more_is c.self.invariant
 
-pub invariant_of-self-else-note : goal.invariant_of-self-else-note
-invariant_of-self-else-note c =
-    let inside = c.self.inside in
-    let core_is = ap (λ (node : NodeState). node.core) c.self.view_is in
-    let note = c.in-Ok.note in
-    let pending = inside.to_complete.items in
-    after_load inside.core.core c.load.new.self.core c.in-Some.src note c.in-Ok.ensures.ok
-    (subst (λ (core : CoreValue). length core.loaded ≡ length core.recon.segments) (sym core_is) c.in-Some.ensures.each) (subst (λ (core : CoreValue). may_load core c.in-Some.src ≡ true) (sym core_is) c.in-Some.ensures.some)
-    inside.seats.items pending c.reserve.new.self.items inside.complete.items
-    (c.reserve.ensures.items ∙ ap (λ (b : Bool). if b then pending ++ (note.seg, note.node) ∷ [] else pending) (sym c.if-note.false))
-    c.self.invariant
-
-pub returns-then-note-clause-step : goal.returns-then-note-clause-step
-returns-then-note-clause-step c =
+-- the node loaded the chunk
+loads : (c : In-Ok) → let inside = c.self.inside in
+    LoadStep c.args.self.now Did (record { core = c.load.new.self.core; seats = inside.seats.items; sends = inside.sends.items; recvs = inside.recvs.items; receipts = inside.desk.receipts })
+loads c =
     let src = c.in-Some.src in
     let note = c.in-Ok.note in
     let new = c.load.new.self.core in
@@ -49,25 +40,29 @@ returns-then-note-clause-step c =
         after = ap (λ (node : NodeState). record node { core = new }) c.self.view_is;
       },
     )
+
+pub invariant_of-self-then-note : goal.invariant_of-self-then-note
+invariant_of-self-then-note c =
+    let note = c.in-Ok.note in
+    let pending = c.self.inside.to_complete.items in
+    settles (goal.at.invariant_of-self-then-note c).In-Ok c.push_reserved.new.self.items
+    (c.push_reserved.ensures.items ∙ (λ k. c.reserve.ensures.items k ++ (note.seg, note.node) ∷ []) ∙ ap (λ (b : Bool). if b then pending ++ (note.seg, note.node) ∷ [] else pending) (sym c.if-note.true))
+
+pub invariant_of-self-else-note : goal.invariant_of-self-else-note
+invariant_of-self-else-note c =
+    let note = c.in-Ok.note in
+    let pending = c.self.inside.to_complete.items in
+    settles (goal.at.invariant_of-self-else-note c).In-Ok c.reserve.new.self.items
+    (c.reserve.ensures.items ∙ ap (λ (b : Bool). if b then pending ++ (note.seg, note.node) ∷ [] else pending) (sym c.if-note.false))
+
+pub returns-then-note-clause-step : goal.returns-then-note-clause-step
+returns-then-note-clause-step c = loads (goal.at.returns-then-note-clause-step c).In-Ok
 
 pub returns-then-note-clause-holds : goal.returns-then-note-clause-holds
 returns-then-note-clause-holds c = load_keeps c.args.self.now Did _ (returns-then-note-clause-step c)
 
 pub returns-else-note-clause-step : goal.returns-else-note-clause-step
-returns-else-note-clause-step c =
-    let src = c.in-Some.src in
-    let note = c.in-Ok.note in
-    let new = c.load.new.self.core in
-    let load : LoadsFrom c.args.self.now.core src note new = subst (λ (node : NodeState). LoadsFrom node.core src note new) c.self.view_is c.in-Ok.ensures.ok in (
-      src,
-      record {
-        note = note;
-        can = c.in-Some.ensures.some;
-        load = load;
-        sound = subst (λ (found : Option ChunkValue). IfSome found IsChunk) load.came c.in-Some.ensures.chunk;
-        after = ap (λ (node : NodeState). record node { core = new }) c.self.view_is;
-      },
-    )
+returns-else-note-clause-step c = loads (goal.at.returns-else-note-clause-step c).In-Ok
 
 pub returns-else-note-clause-holds : goal.returns-else-note-clause-holds
 returns-else-note-clause-holds c = load_keeps c.args.self.now Did _ (returns-else-note-clause-step c)
