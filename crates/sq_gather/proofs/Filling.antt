@@ -62,6 +62,12 @@ apart_by link_of ends links place_of found a b one other one_there other_there s
     let second = found b other other_there in
     sym first.2 ∙ ap place_of (same_Some first.0 second.0 (sym first.1 ∙ ap (slice_get links) same ∙ second.1)) ∙ second.2
 
+-- what reads alike of ends of a link where a node's end is put reads as before
+still : {X Y Z : Type 0} {link_of : X → ℕ} {put : LinkEndsValue → X → Y → LinkEndsValue} {ends : List (Option X)} {beside : List Y} {none : Y} {i : ℕ} {was now : LinkEndsValue} (read : LinkEndsValue → Z)
+    → ((e : LinkEndsValue) (end : X) (y : Y) → read (put e end y) ≡ read e) → WasPut link_of put ends beside none 0 i was now ⊎ (now ≡ was) → read now ≡ read was
+still {ends = ends} {beside = beside} {none = none} {was = was} read alike (inl put) = ap read put.is ∙ alike was put.end (slice_index_or beside put.other none)
+still read alike (inr same) = ap read same
+
 module _ (fabric : FabricValue) (is : IsFabric fabric) (node : NodeState) (of : IsNodeOf fabric node) where
   -- a node's end is of the link that leads from there to the end's partition
   pub sends_from : (dst : ℕ) (end : SendEnd) → send_end node.sends dst ≡ Some end → link_from fabric.links node.core.part dst ≡ Some end.link
@@ -109,33 +115,23 @@ module _ (fabric : FabricValue) (is : IsFabric fabric) (node : NodeState) (of : 
 
   -- a destination's end leaves the source's as it is, and the other way round
   keep_source : (other : NodeState) (dst i : ℕ) (was now : LinkEndsValue) → HasSource other dst i was → WasPut recv_link with_destination node.recvs node.core.inboxes None 0 i was now ⊎ (now ≡ was) → HasSource other dst i now
-  keep_source other dst i was now has (inl put) = record {
+  keep_source other dst i was now has by = record {
     end = has.end;
     there = has.there;
     here = has.here;
-    sender = ap (λ (e : LinkEndsValue). e.sender) put.is ∙ has.sender;
-    notes = ap (λ (e : LinkEndsValue). e.notes) put.is ∙ has.notes;
-    outbox = ap (λ (e : LinkEndsValue). e.outbox) put.is ∙ has.outbox;
+    sender = still (λ (e : LinkEndsValue). e.sender) (λ e end inbox. refl) by ∙ has.sender;
+    notes = still (λ (e : LinkEndsValue). e.notes) (λ e end inbox. refl) by ∙ has.notes;
+    outbox = still (λ (e : LinkEndsValue). e.outbox) (λ e end inbox. refl) by ∙ has.outbox;
   }
-  keep_source other dst i was now has (inr same) = subst (HasSource other dst i) (sym same) has
 
   keep_destination : (other : NodeState) (src i : ℕ) (was now : LinkEndsValue) → HasDestination other src i was → WasPut send_link with_source node.sends node.core.outs new_out_link 0 i was now ⊎ (now ≡ was) → HasDestination other src i now
-  keep_destination other src i was now has (inl put) = record {
+  keep_destination other src i was now has by = record {
     end = has.end;
     there = has.there;
     here = has.here;
-    receiver = ap (λ (e : LinkEndsValue). e.receiver) put.is ∙ has.receiver;
-    inbox = ap (λ (e : LinkEndsValue). e.inbox) put.is ∙ has.inbox;
+    receiver = still (λ (e : LinkEndsValue). e.receiver) (λ e end out. refl) by ∙ has.receiver;
+    inbox = still (λ (e : LinkEndsValue). e.inbox) (λ e end out. refl) by ∙ has.inbox;
   }
-  keep_destination other src i was now has (inr same) = subst (HasDestination other src i) (sym same) has
-
-  source_room : (i : ℕ) (was now : LinkEndsValue) → WasPut send_link with_source node.sends node.core.outs new_out_link 0 i was now ⊎ (now ≡ was) → now.room ≡ was.room
-  source_room i was now (inl put) = ap (λ (e : LinkEndsValue). e.room) put.is
-  source_room i was now (inr same) = ap (λ (e : LinkEndsValue). e.room) same
-
-  destination_room : (i : ℕ) (was now : LinkEndsValue) → WasPut recv_link with_destination node.recvs node.core.inboxes None 0 i was now ⊎ (now ≡ was) → now.room ≡ was.room
-  destination_room i was now (inl put) = ap (λ (e : LinkEndsValue). e.room) put.is
-  destination_room i was now (inr same) = ap (λ (e : LinkEndsValue). e.room) same
 
   -- one more node's ends are there
   module _ (nodes : List NodeState) (next : node.core.part ≡ length nodes) (below : (i : ℕ) (link : LinkValue) → slice_get fabric.links i ≡ Some link → (link.src < fabric.parts) × (link.dst < fabric.parts)) (old between new : List LinkEndsValue)
@@ -204,7 +200,7 @@ module _ (fabric : FabricValue) (is : IsFabric fabric) (node : NodeState) (of : 
       count = destinations.count ∙ sources.count ∙ so_far.count;
       room = λ i link left there left_there.
           let b = became i left left_there in
-          omega (arith, so_far.room i link b.was there b.was_there, source_room i b.was b.mid b.from, destination_room i b.mid left b.to);
+          omega (arith, so_far.room i link b.was there b.was_there, still (λ (e : LinkEndsValue). e.room) (λ e end out. refl) b.from, still (λ (e : LinkEndsValue). e.room) (λ e end inbox. refl) b.to);
       source = λ i link left other there left_there at.
           let b = became i left left_there in
           ⊎_elim (λ (before : slice_get nodes link.src ≡ Some other). source_old i link left other there b before)
