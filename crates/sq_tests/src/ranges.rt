@@ -163,6 +163,9 @@ fn segments(rt: HostRuntime) {
     }
 }
 
+// A plan to which all root keys move.
+const TO_OTHER: &str = r#"{"version":1,"partitions":2,"ranges":[[0,4294967296,1]]}"#;
+
 // Plans to which nothing moves with leaves of this many root keys, and the number of the fault.
 const REFUSED: [(&str, u64, u16); 4] = [
     (
@@ -170,21 +173,9 @@ const REFUSED: [(&str, u64, u16); 4] = [
         0,
         111,
     ),
-    (
-        r#"{"version":1,"partitions":2,"ranges":[[0,4294967296,1]]}"#,
-        0,
-        112,
-    ),
-    (
-        r#"{"version":1,"partitions":2,"ranges":[[0,4294967296,1]]}"#,
-        65_537,
-        112,
-    ),
-    (
-        r#"{"version":1,"partitions":2,"ranges":[[0,4294967296,1]]}"#,
-        65_536,
-        113,
-    ),
+    (TO_OTHER, 0, 112),
+    (TO_OTHER, 65_537, 112),
+    (TO_OTHER, 65_536, 113),
 ];
 
 #[test]

@@ -37,16 +37,24 @@ fn words(rt: HostRuntime) {
     }
 }
 
-// A call that changes a tree: the node, and the pull.
+// A call that changes a tree: the node, and the pull. A move is a claim, a begin and a complete.
 #[derive(Clone, Copy, Debug)]
 enum Call {
     Split(u64),
     Claim(u64, u32),
     Begin(u64, u32),
     Complete(u64, u32),
+    Move(u64, u32),
 }
 
-use Call::{Begin, Claim, Complete, Split};
+use Call::{Begin, Claim, Complete, Move, Split};
+
+// Claims, begins and completes a node; none where one of these is refused.
+fn move_whole(tree: &mut PlainTree, at: NodeId, pull: u32) -> Option<()> {
+    tree.claim(at, pull).ok()?;
+    tree.begin(at, pull).ok()?;
+    tree.complete(at, pull).ok()
+}
 
 // Makes a call, and gives what it answers as a text.
 fn answer(alloc: Global, tree: &mut PlainTree, call: Call) -> Result<String, Fail> {
@@ -55,6 +63,7 @@ fn answer(alloc: Global, tree: &mut PlainTree, call: Call) -> Result<String, Fai
         Claim(at, pull) => format!(in alloc; "{:?}", tree.claim(node(at)?, pull)),
         Begin(at, pull) => format!(in alloc; "{:?}", tree.begin(node(at)?, pull)),
         Complete(at, pull) => format!(in alloc; "{:?}", tree.complete(node(at)?, pull)),
+        Move(at, pull) => format!(in alloc; "{:?}", move_whole(tree, node(at)?, pull)),
     };
     Ok(text?)
 }
@@ -72,7 +81,10 @@ struct Story {
     is_complete: bool,
 }
 
+// What a call is answered that goes, and a move that does.
 const DONE: &str = "Ok(())";
+
+const MOVED: &str = "Some(())";
 
 const STORIES: [Story; 11] = [
     // A tree before any call.
@@ -150,9 +162,7 @@ const STORIES: [Story; 11] = [
             (Split(7), DONE),
             (Split(15), DONE),
             (Split(31), DONE),
-            (Claim(63, 2), DONE),
-            (Begin(63, 2), DONE),
-            (Complete(63, 2), DONE),
+            (Move(63, 2), MOVED),
         ],
         nodes: &[(63, Status::Complete(2), Reading::Complete)],
         leaves: &[(31, 63)],
@@ -160,27 +170,14 @@ const STORIES: [Story; 11] = [
     },
     // A segment isn't complete when one half is.
     Story {
-        calls: &[
-            (Split(1), DONE),
-            (Claim(2, 2), DONE),
-            (Begin(2, 2), DONE),
-            (Complete(2, 2), DONE),
-        ],
+        calls: &[(Split(1), DONE), (Move(2, 2), MOVED)],
         nodes: &[(1, Status::Split, Reading::Partial)],
         leaves: &[],
         is_complete: false,
     },
     // It is when both are.
     Story {
-        calls: &[
-            (Split(1), DONE),
-            (Claim(2, 2), DONE),
-            (Begin(2, 2), DONE),
-            (Complete(2, 2), DONE),
-            (Claim(3, 4), DONE),
-            (Begin(3, 4), DONE),
-            (Complete(3, 4), DONE),
-        ],
+        calls: &[(Split(1), DONE), (Move(2, 2), MOVED), (Move(3, 4), MOVED)],
         nodes: &[(1, Status::Split, Reading::Complete)],
         leaves: &[],
         is_complete: true,
@@ -204,12 +201,8 @@ const STORIES: [Story; 11] = [
             (Split(2), DONE),
             (Split(4), DONE),
             (Split(8), DONE),
-            (Claim(17, 3), DONE),
-            (Begin(17, 3), DONE),
-            (Complete(17, 3), DONE),
-            (Claim(16, 2), DONE),
-            (Begin(16, 2), DONE),
-            (Complete(16, 2), DONE),
+            (Move(17, 3), MOVED),
+            (Move(16, 2), MOVED),
         ],
         nodes: &[
             (8, Status::Split, Reading::Complete),
