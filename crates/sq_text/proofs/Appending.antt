@@ -13,8 +13,7 @@ use Rattle.sq_schema.specs.declared.txn.Reply.TheVariants.{Committed}
 use Rattle.sq_schema.specs.Values.{RowValue}
 use Rattle.sq_schema.specs.Family.{FamilyValue, rows_of}
 use Rattle.sq_chunk.specs.ChunkValue.{ChunkValue}
-use Rattle.sq_chunk.specs.declared.chunk.Note.{Note}
-use Rattle.sq_text.specs.Texts.{line, op_answer_text, reply_words, mark_text, note_words, entry_text, family_words, in_line, way_lines}
+use Rattle.sq_text.specs.Texts.{line, op_answer_text, reply_words, note_words, entry_text, family_words, at_line, in_line, way_lines}
 
 -- bytes, and then more
 pub both : (a b c : Option (List ℕ)) (xs ys zs : List ℕ) → Appends a b xs → Appends b c ys → xs ++ ys ≡ zs → Appends a c zs
@@ -63,27 +62,36 @@ line_from first second text xs =
 pub commit_line : (id : ℕ) (reply : Reply) (answers : List OpAnswer) (text : List ℕ) → reply ≡ Committed answers → text ≡ codes "commit" ++ (32 ∷ decimal id) → text ++ (flat_map (λ answer. 32 ∷ op_answer_text answer) answers ++ (10 ∷ [])) ≡ line (reply_words id reply)
 commit_line id reply answers text is e = rw (is, e) (line_from (codes "commit") (decimal id) op_answer_text answers)
 
+-- a line with more words in front
+line_behind : (word : List ℕ) (next : List ℕ) (words : List (List ℕ)) (text : List ℕ) → text ≡ line (next ∷ words) → word ++ (32 ∷ text) ≡ line (word ∷ next ∷ words)
+line_behind word next words text e = rw e (sym (append_assoc word (32 ∷ join_with_byte 32 (next ∷ words)) (10 ∷ [])))
+
 -- what a line says of a family
-pub family_line : (family : FamilyValue) (root size : ℕ) (entries : List (RowKey × RowValue)) (text : List ℕ) → root ≡ family.root → size ≡ length family.log → entries ≡ rows_of family → text ≡ decimal root ++ (32 ∷ decimal size) → text ++ (flat_map (λ entry. 32 ∷ entry_text entry) entries ++ (10 ∷ [])) ≡ line (family_words family)
-family_line family root size entries text at long all e = rw (e, at, long, all) (line_from (decimal family.root) (decimal (length family.log)) entry_text (rows_of family))
+family_line : (family : FamilyValue) → (decimal family.root ++ (32 ∷ decimal (length family.log))) ++ (flat_map (λ entry. 32 ∷ entry_text entry) (rows_of family) ++ (10 ∷ [])) ≡ line (family_words family)
+family_line family = line_from (decimal family.root) (decimal (length family.log)) entry_text (rows_of family)
 
--- what a line says of a note and of how many families its chunk holds
-pub note_line : (note : Note) (seg node families : ℕ) (mark : List ℕ) → seg ≡ note.seg → node ≡ note.node → mark ≡ 32 ∷ mark_text note.last ++ 32 ∷ []
-    → (((((decimal note.number ++ (32 ∷ decimal seg)) ++ (32 ∷ decimal node)) ++ (32 ∷ decimal note.lo)) ++ (32 ∷ decimal note.hi)) ++ mark) ++ (decimal families ++ (10 ∷ [])) ≡ line (note_words note families)
-note_line note seg node families mark of under is =
-    rw (of, under, is) (spaces (decimal note.number) (decimal note.seg) (decimal note.node) (decimal note.lo) (decimal note.hi) (mark_text note.last) (decimal families))
+-- the line of a family in a chunk
+pub line_in : (family : FamilyValue) (text : List ℕ) → text ≡ codes "in " ++ (decimal family.root ++ (32 ∷ decimal (length family.log))) → text ++ (flat_map (λ entry. 32 ∷ entry_text entry) (rows_of family) ++ (10 ∷ [])) ≡ in_line family
+line_in family text e =
+    let head = decimal family.root ++ (32 ∷ decimal (length family.log)) in
+    let rest = flat_map (λ entry. 32 ∷ entry_text entry) (rows_of family) ++ (10 ∷ []) in
+    ap (λ (t : List ℕ). t ++ rest) e
+    ∙ line_behind (codes "in") (decimal family.root) (decimal (length family.log) ∷ map entry_text (rows_of family)) (head ++ rest) (family_line family)
+
+-- the line of a family in a store
+pub line_at : (part : ℕ) (family : FamilyValue) (text : List ℕ) → text ≡ codes "at " ++ (decimal part ++ (32 ∷ (decimal family.root ++ (32 ∷ decimal (length family.log)))))
+    → text ++ (flat_map (λ entry. 32 ∷ entry_text entry) (rows_of family) ++ (10 ∷ [])) ≡ at_line part family
+line_at part family text e =
+    let head = decimal family.root ++ (32 ∷ decimal (length family.log)) in
+    let rest = flat_map (λ entry. 32 ∷ entry_text entry) (rows_of family) ++ (10 ∷ []) in
+    let words = decimal (length family.log) ∷ map entry_text (rows_of family) in
+    ap (λ (t : List ℕ). t ++ rest) e
+    ∙ ap (λ (t : List ℕ). codes "at " ++ t) (append_assoc (decimal part) (32 ∷ head) rest)
+    ∙ line_behind (codes "at") (decimal part) (decimal family.root ∷ words) _ (line_behind (decimal part) (decimal family.root) words (head ++ rest) (family_line family))
+
+-- the lines of a chunk under way
+pub lines_of_way : (chunk : ChunkValue) (text : List ℕ) → text ≡ codes "way " ++ (decimal chunk.note.src ++ (32 ∷ (decimal chunk.note.dst ++ (32 ∷ line (note_words chunk.note (length chunk.families)))))) → text ++ flat_map in_line chunk.families ≡ way_lines chunk
+lines_of_way chunk text e = ap (λ (t : List ℕ). t ++ flat_map in_line chunk.families) (e ∙ way_line (decimal chunk.note.src) (decimal chunk.note.dst) (join_with_byte 32 (note_words chunk.note (length chunk.families))))
   where
-    flat : (a b c d e f g : List ℕ) → (((((a ++ b) ++ c) ++ d) ++ e) ++ f) ++ g ≡ a ++ (b ++ (c ++ (d ++ (e ++ (f ++ g)))))
-    flat a b c d e f g = simp append_assoc
-
-    spaces : (number seg node lo hi mark families : List ℕ) → (((((number ++ (32 ∷ seg)) ++ (32 ∷ node)) ++ (32 ∷ lo)) ++ (32 ∷ hi)) ++ (32 ∷ mark ++ 32 ∷ [])) ++ (families ++ (10 ∷ [])) ≡ line (number ∷ seg ∷ node ∷ lo ∷ hi ∷ mark ∷ families ∷ [])
-    spaces number seg node lo hi mark families = flat number (32 ∷ seg) (32 ∷ node) (32 ∷ lo) (32 ∷ hi) (32 ∷ mark ++ 32 ∷ []) (families ++ (10 ∷ [])) ∙ simp append_assoc
-
--- what the lines of a chunk under way say of its note and of its families
-pub lines_of_way : (chunk : ChunkValue) (src dst : ℕ) (text : List ℕ) → src ≡ chunk.note.src → dst ≡ chunk.note.dst → text ≡ codes "way " ++ (decimal src ++ (32 ∷ (decimal dst ++ (32 ∷ [])))) → text ++ (line (note_words chunk.note (length chunk.families)) ++ flat_map in_line chunk.families) ≡ way_lines chunk
-lines_of_way chunk src dst text from to e =
-    let words = join_with_byte 32 (note_words chunk.note (length chunk.families)) in
-    rw (e, from, to) (way_before (decimal chunk.note.src) (decimal chunk.note.dst) words (flat_map in_line chunk.families))
-  where
-    way_before : (from to words families : List ℕ) → (codes "way " ++ (from ++ (32 ∷ (to ++ (32 ∷ []))))) ++ ((words ++ (10 ∷ [])) ++ families) ≡ ((codes "way" ++ (32 ∷ (from ++ (32 ∷ (to ++ (32 ∷ words)))))) ++ (10 ∷ [])) ++ families
-    way_before from to words families = simp append_assoc
+    way_line : (from to words : List ℕ) → codes "way " ++ (from ++ (32 ∷ (to ++ (32 ∷ (words ++ (10 ∷ [])))))) ≡ (codes "way" ++ (32 ∷ (from ++ (32 ∷ (to ++ (32 ∷ words)))))) ++ (10 ∷ [])
+    way_line from to words = simp append_assoc

@@ -1,11 +1,11 @@
 // The lines that steps are answered.
-ghost use Rattle.std.specs.Prelude.{◌≡◌, ◌∷◌, ◌++◌, [], OnOk};
+ghost use Rattle.std.specs.Prelude.{◌≡◌, ◌≤◌, ◌∷◌, ◌++◌, [], length, OnOk};
 ghost use Rattle.std.specs.List.{flat_map, join_with_byte};
 ghost use Rattle.std.specs.Io.KnownBytes.{Appends};
 ghost use Rattle.sq_text.specs.Texts.{line, op_answer_text, cause_text, mark_text, reply_words, note_words, status_text, reading_text, node_words, answer_line, refused_line, fault_line};
 
-use crate::number_text::{write_next_number, write_number};
 use crate::row_text::write_op_answer;
+use crate::text::Text;
 use sq_chunk::Note;
 use sq_model::Answer;
 use sq_schema::{Cause, OpAnswer, Reply};
@@ -30,7 +30,6 @@ fn write_op_answers<W: Write>(writer: &mut W, answers: &[OpAnswer]) -> io::Resul
     ensures { OnOk result (Appends (W.contents writer.old) (W.contents writer.new) (flat_map (λ answer. 32 ∷ op_answer_text answer) answers.now)) }
 {
     for answer in answers {
-        writer.write_all(b" ")?;
         write_op_answer(writer, answer)?;
     }
     Ok(())
@@ -42,8 +41,10 @@ fn write_reply<W: Write>(writer: &mut W, id: u64, reply: &Reply) -> io::Result<(
 {
     match reply {
         Reply::Committed(answers) => {
-            writer.write_all(b"commit")?;
-            write_next_number(writer, id)?;
+            let mut text = Text::new();
+            text.put_number(id);
+            text.put(b"commit ");
+            writer.write_all(text.as_bytes())?;
             write_op_answers(writer, answers.as_slice())?;
             writer.write_all(b"\n")
         }
@@ -56,23 +57,41 @@ fn write_reply<W: Write>(writer: &mut W, id: u64, reply: &Reply) -> io::Result<(
 
 // Whether a chunk is its node's last, between two spaces.
 fn mark_text(last: bool) -> &'static [u8]
-    ensures { result.now ≡ 32 ∷ mark_text last ++ 32 ∷ [] }
+    ensures text { result.now ≡ 32 ∷ mark_text last ++ 32 ∷ [] }
+    ensures size { length result.now ≡ 6 }
 {
     if last { b" last " } else { b" more " }
 }
 
-// Writes what a note says behind its link, with how many families its chunk holds, up to the end of the line.
-pub(crate) fn write_note<W: Write>(writer: &mut W, note: &Note, families: u64) -> io::Result<()>
-    ensures { OnOk result (Appends (W.contents writer.old) (W.contents writer.new) (line (note_words note.now families))) }
+// Puts together what a note says behind its link, with how many families its chunk holds, up to the end of the line.
+pub(crate) fn put_note(text: &mut Text, note: &Note, families: u64)
+    requires { text.old ≡ [] }
+    ensures text { text.new ≡ line (note_words note.now families) }
+    ensures size { length text.new ≤ 131 }
 {
-    write_number(writer, note.number)?;
-    write_next_number(writer, note.seg.number())?;
-    write_next_number(writer, note.node.number())?;
-    write_next_number(writer, note.lo)?;
-    write_next_number(writer, note.hi)?;
-    writer.write_all(mark_text(note.last))?;
-    write_number(writer, families)?;
-    writer.write_all(b"\n")
+    text.put_byte(b'\n');
+    text.put_number(families);
+    text.put(mark_text(note.last));
+    text.put_number(note.hi);
+    text.put_byte(b' ');
+    text.put_number(note.lo);
+    text.put_byte(b' ');
+    text.put_number(note.node.number());
+    text.put_byte(b' ');
+    text.put_number(note.seg.number());
+    text.put_byte(b' ');
+    text.put_number(note.number);
+}
+
+// Writes what a note says behind a first word, which comes with its space.
+fn write_note<W: Write>(writer: &mut W, front: &[u8], note: &Note, families: u64) -> io::Result<()>
+    requires { length front.now ≤ 5 }
+    ensures { OnOk result (Appends (W.contents writer.old) (W.contents writer.new) (front.now ++ line (note_words note.now families))) }
+{
+    let mut text = Text::new();
+    put_note(&mut text, note, families);
+    text.put(front);
+    writer.write_all(text.as_bytes())
 }
 
 // Writes the status of a node.
@@ -124,14 +143,8 @@ pub fn write_answer<W: Write>(writer: &mut W, answer: &Answer) -> io::Result<()>
             writeln!(writer, "waits {id} {seg} {leaf}")
         }
         Answer::Resumed { txn, reply } => write_reply(writer, txn.id(), reply),
-        Answer::WasCut { note, families } => {
-            writer.write_all(b"cut ")?;
-            write_note(writer, note, *families)
-        }
-        Answer::WasLoaded { note, families } => {
-            writer.write_all(b"load ")?;
-            write_note(writer, note, *families)
-        }
+        Answer::WasCut { note, families } => write_note(writer, b"cut ", note, *families),
+        Answer::WasLoaded { note, families } => write_note(writer, b"load ", note, *families),
         Answer::Reads { status, reading } => write_node(writer, *status, *reading),
         Answer::Refused(refusal) => write_refused(writer, refusal.number()),
     }
@@ -141,9 +154,11 @@ pub fn write_answer<W: Write>(writer: &mut W, answer: &Answer) -> io::Result<()>
 pub fn write_refused<W: Write>(writer: &mut W, number: u16) -> io::Result<()>
     ensures { OnOk result (Appends (W.contents writer.old) (W.contents writer.new) (refused_line number)) }
 {
-    writer.write_all(b"refused ")?;
-    write_number(writer, number)?;
-    writer.write_all(b"\n")
+    let mut text = Text::new();
+    text.put_byte(b'\n');
+    text.put_number(u64::from(number));
+    text.put(b"refused ");
+    writer.write_all(text.as_bytes())
 }
 
 /// Writes the line of a fault with this number. An error is the writer's.

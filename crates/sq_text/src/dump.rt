@@ -1,12 +1,13 @@
 // The lines of a dump.
-ghost use Rattle.std.specs.Prelude.{◌≡◌, ◌∷◌, ◌++◌, OnOk};
+ghost use Rattle.std.specs.Prelude.{◌≡◌, ◌≤◌, [], ◌∷◌, ◌++◌, length, decimal, OnOk};
 ghost use Rattle.std.specs.List.{flat_map};
 ghost use Rattle.std.specs.Io.KnownBytes.{Appends};
-ghost use Rattle.sq_text.specs.Texts.{line, entry_text, phase_text, family_words, end_line, at_line, in_line, way_lines};
+ghost use Rattle.sq_schema.specs.Family.{rows_of};
+ghost use Rattle.sq_text.specs.Texts.{entry_text, phase_text, end_line, at_line, in_line, way_lines};
 
-use crate::answer_text::write_note;
-use crate::number_text::{write_next_number, write_number};
+use crate::answer_text::put_note;
 use crate::row_text::write_entry;
+use crate::text::Text;
 use sq_chunk::Note;
 use sq_model::Phase;
 use sq_plan::PartId;
@@ -38,18 +39,27 @@ fn write_entries<W: Write>(writer: &mut W, entries: &[(RowKey, Row)]) -> io::Res
     ensures { OnOk result (Appends (W.contents writer.old) (W.contents writer.new) (flat_map (λ entry. 32 ∷ entry_text entry) entries.now)) }
 {
     for (key, row) in entries {
-        writer.write_all(b" ")?;
         write_entry(writer, *key, row)?;
     }
     Ok(())
 }
 
-// Writes a family, up to the end of the line.
-fn write_family<W: Write>(writer: &mut W, family: &Family) -> io::Result<()>
-    ensures { OnOk result (Appends (W.contents writer.old) (W.contents writer.new) (line (family_words family.now))) }
+// Puts together a family's root key and the length of its log.
+fn put_family(text: &mut Text, family: &Family)
+    requires { text.old ≡ [] }
+    ensures text { text.new ≡ decimal family.now.root ++ (32 ∷ decimal (length family.now.log)) }
+    ensures size { length text.new ≤ 41 }
 {
-    write_number(writer, family.root().number())?;
-    write_next_number(writer, family.log().len())?;
+    text.put_number(family.log().len() as u64);
+    text.put_byte(b' ');
+    text.put_number(family.root().number());
+}
+
+// Writes a text, and then the rows of a family up to the end of the line.
+fn write_before_rows<W: Write>(writer: &mut W, text: &Text, family: &Family) -> io::Result<()>
+    ensures { OnOk result (Appends (W.contents writer.old) (W.contents writer.new) (text.now ++ (flat_map (λ entry. 32 ∷ entry_text entry) (rows_of family.now) ++ (10 ∷ [])))) }
+{
+    writer.write_all(text.as_bytes())?;
     write_entries(writer, family.rows().as_slice())?;
     writer.write_all(b"\n")
 }
@@ -58,18 +68,22 @@ fn write_family<W: Write>(writer: &mut W, family: &Family) -> io::Result<()>
 pub fn write_at<W: Write>(writer: &mut W, part: PartId, family: &Family) -> io::Result<()>
     ensures { OnOk result (Appends (W.contents writer.old) (W.contents writer.new) (at_line part family.now)) }
 {
-    writer.write_all(b"at ")?;
-    write_number(writer, part.number())?;
-    writer.write_all(b" ")?;
-    write_family(writer, family)
+    let mut text = Text::new();
+    put_family(&mut text, family);
+    text.put_byte(b' ');
+    text.put_number(u64::from(part.number()));
+    text.put(b"at ");
+    write_before_rows(writer, &text, family)
 }
 
 // Writes the line of a family in a chunk.
 fn write_in<W: Write>(writer: &mut W, family: &Family) -> io::Result<()>
     ensures { OnOk result (Appends (W.contents writer.old) (W.contents writer.new) (in_line family.now)) }
 {
-    writer.write_all(b"in ")?;
-    write_family(writer, family)
+    let mut text = Text::new();
+    put_family(&mut text, family);
+    text.put(b"in ");
+    write_before_rows(writer, &text, family)
 }
 
 /// Writes the lines of a chunk that was cut and isn't loaded: its note, and then each of its families. An error is
@@ -77,10 +91,14 @@ fn write_in<W: Write>(writer: &mut W, family: &Family) -> io::Result<()>
 pub fn write_way<W: Write>(writer: &mut W, note: &Note, families: &[Family]) -> io::Result<()>
     ensures { OnOk result (Appends (W.contents writer.old) (W.contents writer.new) (way_lines (record { note = note.now; families = families.now }))) }
 {
-    let src = note.src.number();
-    let dst = note.dst.number();
-    write!(writer, "way {src} {dst} ")?;
-    write_note(writer, note, families.len() as u64)?;
+    let mut text = Text::new();
+    put_note(&mut text, note, families.len() as u64);
+    text.put_byte(b' ');
+    text.put_number(u64::from(note.dst.number()));
+    text.put_byte(b' ');
+    text.put_number(u64::from(note.src.number()));
+    text.put(b"way ");
+    writer.write_all(text.as_bytes())?;
     for family in families {
         write_in(writer, family)?;
     }

@@ -11,11 +11,11 @@ mod located;
 mod moves_text;
 mod note;
 mod number;
-mod number_text;
 mod op;
 mod row_text;
 mod split;
 mod step;
+mod text;
 mod verb;
 mod words;
 

@@ -1,11 +1,11 @@
 // The texts of rows and of what operations are answered.
-ghost use Rattle.std.specs.Prelude.{◌≡◌, ◌*◌, ◌<◌, ◌≤◌, false, length, take, OnOk};
-ghost use Rattle.std.specs.Fmt.{digit_glyph};
+ghost use Rattle.std.specs.Prelude.{◌≡◌, ◌*◌, ◌<◌, ◌≤◌, [], ◌∷◌, ◌++◌, false, length, take, OnOk};
+ghost use Rattle.std.specs.Fmt.{digit_glyph, signed_decimal};
 ghost use Rattle.std.specs.List.{flat_map};
 ghost use Rattle.std.specs.Io.KnownBytes.{Appends};
-ghost use Rattle.sq_text.specs.Texts.{hex_byte_text, note_text, row_text, op_answer_text, entry_text};
+ghost use Rattle.sq_text.specs.Texts.{hex_byte_text, row_text, op_answer_text, entry_text};
 
-use crate::number_text::write_number;
+use crate::text::Text;
 use sq_schema::{OpAnswer, Row, RowKey};
 use std::io;
 use std::io::Write;
@@ -51,45 +51,69 @@ fn write_hex<W: Write>(writer: &mut W, bytes: &[u8]) -> io::Result<()>
     Ok(())
 }
 
-// Writes a note.
-fn write_note<W: Write>(writer: &mut W, note: &[u8]) -> io::Result<()>
-    ensures { OnOk result (Appends (W.contents writer.old) (W.contents writer.new) (note_text note.now)) }
+// Puts a row together, but for the digits of its note.
+fn put_row(text: &mut Text, row: &Row)
+    requires { text.old ≡ [] }
+    ensures text { text.new ++ flat_map hex_byte_text row.now.note ≡ row_text row.now }
+    ensures size { length text.new ≤ 23 }
 {
-    if note.is_empty() {
-        writer.write_all(b"-")
-    } else {
-        write_hex(writer, note)
+    if row.note().is_empty() {
+        text.put_byte(b'-');
     }
+    text.put_byte(b'/');
+    text.put_signed(row.number());
 }
 
-// Writes a row.
-fn write_row<W: Write>(writer: &mut W, row: &Row) -> io::Result<()>
-    ensures { OnOk result (Appends (W.contents writer.old) (W.contents writer.new) (row_text row.now)) }
+// Writes a text, and then the digits of a note.
+fn write_before_note<W: Write>(writer: &mut W, text: &Text, note: &[u8]) -> io::Result<()>
+    ensures { OnOk result (Appends (W.contents writer.old) (W.contents writer.new) (text.now ++ flat_map hex_byte_text note.now)) }
 {
-    write_number(writer, row.number())?;
-    writer.write_all(b"/")?;
-    write_note(writer, row.note())
+    writer.write_all(text.as_bytes())?;
+    write_hex(writer, note)
 }
 
-// Writes what an operation is answered.
+// Writes a row behind a space.
+fn write_row<W: Write>(writer: &mut W, row: &Row) -> io::Result<()>
+    ensures { OnOk result (Appends (W.contents writer.old) (W.contents writer.new) (32 ∷ row_text row.now)) }
+{
+    let mut text = Text::new();
+    put_row(&mut text, row);
+    text.put_byte(b' ');
+    write_before_note(writer, &text, row.note())
+}
+
+// Writes a number behind a space.
+fn write_signed<W: Write>(writer: &mut W, number: i64) -> io::Result<()>
+    ensures { OnOk result (Appends (W.contents writer.old) (W.contents writer.new) (32 ∷ signed_decimal number)) }
+{
+    let mut text = Text::new();
+    text.put_signed(number);
+    text.put_byte(b' ');
+    writer.write_all(text.as_bytes())
+}
+
+// Writes what an operation is answered, behind a space.
 pub(crate) fn write_op_answer<W: Write>(writer: &mut W, answer: &OpAnswer) -> io::Result<()>
-    ensures { OnOk result (Appends (W.contents writer.old) (W.contents writer.new) (op_answer_text answer.now)) }
+    ensures { OnOk result (Appends (W.contents writer.old) (W.contents writer.new) (32 ∷ op_answer_text answer.now)) }
 {
     match answer {
-        OpAnswer::Found(None) => writer.write_all(b"none"),
+        OpAnswer::Found(None) => writer.write_all(b" none"),
         OpAnswer::Found(Some(row)) => write_row(writer, row),
-        OpAnswer::Number(number) => write_number(writer, *number),
-        OpAnswer::Done => writer.write_all(b"ok"),
+        OpAnswer::Number(number) => write_signed(writer, *number),
+        OpAnswer::Done => writer.write_all(b" ok"),
     }
 }
 
-// Writes a row with its key.
+// Writes a row with its key, behind a space.
 pub(crate) fn write_entry<W: Write>(writer: &mut W, key: RowKey, row: &Row) -> io::Result<()>
-    ensures { OnOk result (Appends (W.contents writer.old) (W.contents writer.new) (entry_text (key, row.now))) }
+    ensures { OnOk result (Appends (W.contents writer.old) (W.contents writer.new) (32 ∷ entry_text (key, row.now))) }
 {
-    write_number(writer, key.table)?;
-    writer.write_all(b".")?;
-    write_number(writer, key.sub)?;
-    writer.write_all(b"=")?;
-    write_row(writer, row)
+    let mut text = Text::new();
+    put_row(&mut text, row);
+    text.put_byte(b'=');
+    text.put_number(u64::from(key.sub));
+    text.put_byte(b'.');
+    text.put_number(u64::from(key.table));
+    text.put_byte(b' ');
+    write_before_note(writer, &text, row.note())
 }

@@ -1,0 +1,87 @@
+// Texts that are put together before they are written: each write costs more than the bytes that it writes.
+ghost use Rattle.std.specs.Prelude.{◌≡◌, ◌+◌, ◌<◌, ◌≤◌, [], ◌∷◌, ◌++◌, length, decimal};
+ghost use Rattle.std.specs.Fmt.{signed_decimal};
+ghost use Rattle.sq_text.specs.declared.text.TheConstants.{ROOM};
+
+use itoa::write_digits;
+use std::marker::Model;
+
+/// The most bytes that a text has.
+pub(crate) const ROOM: usize = 192;
+
+/// A text that is put together from its end. To a contract it is the list of its bytes.
+#[derive(Drop)]
+pub(crate) struct Text {
+    bytes: [u8; ROOM],
+    start: usize,
+}
+
+impl Model for Text {
+    ghost use Rattle.std.specs.Prelude.{◌≤◌, ℕ, List, drop};
+    ghost use Rattle.sq_text.specs.declared.text.TheConstants.{ROOM};
+
+    ghost Value = { List ℕ };
+
+    ghost view = { λ t. drop t.start t.bytes };
+
+    ghost invariant = { λ t. t.start ≤ ROOM };
+}
+
+impl Text {
+    /// A text without bytes.
+    pub(crate) fn new() -> Text
+        ensures { result ≡ [] }
+    {
+        Text {
+            bytes: [0; ROOM],
+            start: ROOM,
+        }
+    }
+
+    /// Puts a byte at its front.
+    pub(crate) fn put_byte(&mut self, byte: u8)
+        requires { length self.old < ROOM }
+        ensures { self.new ≡ byte ∷ self.old }
+    {
+        self.start -= 1;
+        self.bytes[self.start] = byte;
+    }
+
+    /// Puts bytes at its front.
+    pub(crate) fn put(&mut self, bytes: &[u8])
+        requires { length bytes.now + length self.old ≤ ROOM }
+        ensures { self.new ≡ bytes.now ++ self.old }
+    {
+        let start = self.start - bytes.len();
+        self.bytes[start..self.start].copy_from_slice(bytes);
+        self.start = start;
+    }
+
+    /// Puts a number in decimal at its front.
+    pub(crate) fn put_number(&mut self, number: u64)
+        requires { length self.old + 20 ≤ ROOM }
+        ensures text { self.new ≡ decimal number ++ self.old }
+        ensures size { length self.new ≤ length self.old + 20 }
+    {
+        self.start = write_digits(number, &mut self.bytes, self.start);
+    }
+
+    /// Puts a signed number in decimal at its front.
+    pub(crate) fn put_signed(&mut self, number: i64)
+        requires { length self.old + 21 ≤ ROOM }
+        ensures text { self.new ≡ signed_decimal number ++ self.old }
+        ensures size { length self.new ≤ length self.old + 21 }
+    {
+        self.put_number(number.unsigned_abs());
+        if number < 0 {
+            self.put_byte(b'-');
+        }
+    }
+
+    /// Its bytes.
+    pub(crate) fn as_bytes(&self) -> &[u8]
+        ensures { result.now ≡ self.now }
+    {
+        &self.bytes[self.start..]
+    }
+}
