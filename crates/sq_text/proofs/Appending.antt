@@ -6,14 +6,10 @@ use Rattle.std.proofs.lemmas.List.{append-nil, take_more, take_all}
 use Rattle.std.proofs.lemmas.Grind.{flat_map-append}
 use Rattle.std.proofs.lemmas.List.Folds.{flat_map-map}
 use Rattle.std.specs.Io.KnownBytes.{Appends}
-use Rattle.sq_schema.specs.declared.row.RowKey.{RowKey}
 use Rattle.sq_schema.specs.declared.txn.OpAnswer.{OpAnswer}
-use Rattle.sq_schema.specs.declared.txn.Reply.{Reply}
-use Rattle.sq_schema.specs.declared.txn.Reply.TheVariants.{Committed}
-use Rattle.sq_schema.specs.Values.{RowValue}
 use Rattle.sq_schema.specs.Family.{FamilyValue, rows_of}
 use Rattle.sq_chunk.specs.ChunkValue.{ChunkValue}
-use Rattle.sq_text.specs.Texts.{line, op_answer_text, reply_words, note_words, entry_text, family_words, at_line, in_line, way_lines}
+use Rattle.sq_text.specs.Texts.{line, op_answer_text, commit_words, note_words, entry_text, family_words, at_line, in_line, way_lines}
 
 -- bytes, and then more
 pub both : (a b c : Option (List ℕ)) (xs ys zs : List ℕ) → Appends a b xs → Appends b c ys → xs ++ ys ≡ zs → Appends a c zs
@@ -59,8 +55,8 @@ line_from first second text xs =
     ∙ ap (λ (t : List ℕ). first ++ (32 ∷ t)) (append_assoc second others (10 ∷ [])))
 
 -- the line of a commit
-pub commit_line : (id : ℕ) (reply : Reply) (answers : List OpAnswer) (text : List ℕ) → reply ≡ Committed answers → text ≡ codes "commit" ++ (32 ∷ decimal id) → text ++ (flat_map (λ answer. 32 ∷ op_answer_text answer) answers ++ (10 ∷ [])) ≡ line (reply_words id reply)
-commit_line id reply answers text is e = rw (is, e) (line_from (codes "commit") (decimal id) op_answer_text answers)
+pub commit_line : (id : ℕ) (answers : List OpAnswer) (text : List ℕ) → text ≡ codes "commit" ++ (32 ∷ decimal id) → text ++ (flat_map (λ answer. 32 ∷ op_answer_text answer) answers ++ (10 ∷ [])) ≡ line (commit_words id answers)
+commit_line id answers text e = rw e (line_from (codes "commit") (decimal id) op_answer_text answers)
 
 -- a line with more words in front
 line_behind : (word : List ℕ) (next : List ℕ) (words : List (List ℕ)) (text : List ℕ) → text ≡ line (next ∷ words) → word ++ (32 ∷ text) ≡ line (word ∷ next ∷ words)

@@ -1,5 +1,5 @@
 -- The lines that are written.
-use Rattle.std.specs.Prelude.{ℕ, Bool, true, false, ◌+◌, ◌/◌, ◌%◌, List, [], ◌∷◌, ◌++◌, length, map, Some, None, decimal, codes}
+use Rattle.std.specs.Prelude.{ℕ, Bool, true, false, not, ◌==◌, ◌+◌, ◌/◌, ◌%◌, List, [], ◌∷◌, ◌++◌, length, map, Some, None, decimal, codes}
 use Rattle.std.specs.List.{flat_map, join_with_byte}
 use Rattle.std.specs.Fmt.{signed_decimal, digit_glyph}
 use Rattle.sq_schema.specs.declared.row.RowKey.{RowKey}
@@ -50,6 +50,13 @@ op_answer_text (Found (Some row)) = row_text row
 op_answer_text (Number n) = signed_decimal n
 op_answer_text Done = codes "ok"
 
+-- whether what an operation is answered has a note
+abbrev pub has_note : OpAnswer → Bool
+has_note (Found None) = false
+has_note (Found (Some row)) = not (length row.note == 0)
+has_note (Number n) = false
+has_note Done = false
+
 -- why a transaction aborted
 abbrev pub cause_text : Cause → List ℕ
 cause_text Absent = codes "absent"
@@ -66,9 +73,13 @@ refused_line number = line (codes "refused" ∷ decimal number ∷ [])
 abbrev pub fault_line : ℕ → List ℕ
 fault_line number = line (codes "fault" ∷ decimal number ∷ [])
 
+-- the words of a commit
+abbrev pub commit_words : ℕ → List OpAnswer → List Word
+commit_words id answers = codes "commit" ∷ decimal id ∷ map op_answer_text answers
+
 -- the words of what a transaction is answered
 abbrev pub reply_words : ℕ → Reply → List Word
-reply_words id (Committed answers) = codes "commit" ∷ decimal id ∷ map op_answer_text answers
+reply_words id (Committed answers) = commit_words id answers
 reply_words id (Aborted at cause) = codes "abort" ∷ decimal id ∷ decimal at ∷ cause_text cause ∷ []
 
 -- whether a chunk is its node's last

@@ -1,10 +1,10 @@
 // The lines that steps are answered.
-ghost use Rattle.std.specs.Prelude.{◌≡◌, ◌≤◌, ◌∷◌, ◌++◌, [], length, OnOk};
+ghost use Rattle.std.specs.Prelude.{◌≡◌, ◌≤◌, ◌∷◌, ◌++◌, [], false, length, OnOk};
 ghost use Rattle.std.specs.List.{flat_map, join_with_byte};
 ghost use Rattle.std.specs.Io.KnownBytes.{Appends};
-ghost use Rattle.sq_text.specs.Texts.{line, op_answer_text, cause_text, mark_text, reply_words, note_words, status_text, reading_text, node_words, answer_line, refused_line, fault_line};
+ghost use Rattle.sq_text.specs.Texts.{line, op_answer_text, has_note, cause_text, mark_text, commit_words, reply_words, note_words, status_text, reading_text, node_words, answer_line, refused_line, fault_line};
 
-use crate::row_text::write_op_answer;
+use crate::row_text::{has_note, put_op_answer, write_op_answer};
 use crate::text::Text;
 use sq_chunk::Note;
 use sq_model::Answer;
@@ -35,19 +35,43 @@ fn write_op_answers<W: Write>(writer: &mut W, answers: &[OpAnswer]) -> io::Resul
     Ok(())
 }
 
+// Writes the line of a commit of one operation, whose answer has no note.
+fn write_short_commit<W: Write>(writer: &mut W, id: u64, answer: &OpAnswer) -> io::Result<()>
+    requires { has_note answer.now ≡ false }
+    ensures { OnOk result (Appends (W.contents writer.old) (W.contents writer.new) (line (commit_words id (answer.now ∷ [])))) }
+{
+    let mut text = Text::new();
+    text.put_byte(b'\n');
+    put_op_answer(&mut text, answer);
+    text.put_byte(b' ');
+    text.put_number(id);
+    text.put(b"commit ");
+    writer.write_all(text.as_bytes())
+}
+
+// Writes the line of a commit.
+fn write_commit<W: Write>(writer: &mut W, id: u64, answers: &[OpAnswer]) -> io::Result<()>
+    ensures { OnOk result (Appends (W.contents writer.old) (W.contents writer.new) (line (commit_words id answers.now))) }
+{
+    match answers {
+        [answer] if !has_note(answer) => write_short_commit(writer, id, answer),
+        _ => {
+            let mut text = Text::new();
+            text.put_number(id);
+            text.put(b"commit ");
+            writer.write_all(text.as_bytes())?;
+            write_op_answers(writer, answers)?;
+            writer.write_all(b"\n")
+        }
+    }
+}
+
 // Writes the line of what a transaction is answered.
 fn write_reply<W: Write>(writer: &mut W, id: u64, reply: &Reply) -> io::Result<()>
     ensures { OnOk result (Appends (W.contents writer.old) (W.contents writer.new) (line (reply_words id reply.now))) }
 {
     match reply {
-        Reply::Committed(answers) => {
-            let mut text = Text::new();
-            text.put_number(id);
-            text.put(b"commit ");
-            writer.write_all(text.as_bytes())?;
-            write_op_answers(writer, answers.as_slice())?;
-            writer.write_all(b"\n")
-        }
+        Reply::Committed(answers) => write_commit(writer, id, answers.as_slice()),
         Reply::Aborted { at, cause } => {
             let cause = cause_text(*cause);
             writeln!(writer, "abort {id} {at} {cause}")

@@ -1,9 +1,10 @@
 // The texts of rows and of what operations are answered.
-ghost use Rattle.std.specs.Prelude.{◌≡◌, ◌*◌, ◌<◌, ◌≤◌, [], ◌∷◌, ◌++◌, false, length, take, OnOk};
+ghost use Rattle.std.specs.Prelude.{◌≡◌, ◌*◌, ◌<◌, ◌≤◌, [], ◌∷◌, ◌++◌, ◌+◌, false, length, take, OnOk};
 ghost use Rattle.std.specs.Fmt.{digit_glyph, signed_decimal};
 ghost use Rattle.std.specs.List.{flat_map};
 ghost use Rattle.std.specs.Io.KnownBytes.{Appends};
-ghost use Rattle.sq_text.specs.Texts.{hex_byte_text, row_text, op_answer_text, entry_text};
+ghost use Rattle.sq_text.specs.declared.text.TheConstants.{ROOM};
+ghost use Rattle.sq_text.specs.Texts.{hex_byte_text, row_text, op_answer_text, has_note, entry_text};
 
 use crate::text::Text;
 use sq_schema::{OpAnswer, Row, RowKey};
@@ -51,11 +52,12 @@ fn write_hex<W: Write>(writer: &mut W, bytes: &[u8]) -> io::Result<()>
     Ok(())
 }
 
-// Puts a row together, but for the digits of its note.
+// Puts a row at the front of a text, but for the digits of its note.
 fn put_row(text: &mut Text, row: &Row)
-    requires { text.old ≡ [] }
-    ensures text { text.new ++ flat_map hex_byte_text row.now.note ≡ row_text row.now }
-    ensures size { length text.new ≤ 23 }
+    requires { length text.old + 23 ≤ ROOM }
+    ensures whole { row.now.note ≡ [] → text.new ≡ row_text row.now ++ text.old }
+    ensures before_note { text.old ≡ [] → text.new ++ flat_map hex_byte_text row.now.note ≡ row_text row.now }
+    ensures size { length text.new ≤ length text.old + 23 }
 {
     if row.note().is_empty() {
         text.put_byte(b'-');
@@ -101,6 +103,31 @@ pub(crate) fn write_op_answer<W: Write>(writer: &mut W, answer: &OpAnswer) -> io
         OpAnswer::Found(Some(row)) => write_row(writer, row),
         OpAnswer::Number(number) => write_signed(writer, *number),
         OpAnswer::Done => writer.write_all(b" ok"),
+    }
+}
+
+/// Whether what an operation is answered has a note.
+pub(crate) fn has_note(answer: &OpAnswer) -> bool
+    ensures { result ≡ has_note answer.now }
+{
+    match answer {
+        OpAnswer::Found(Some(row)) => !row.note().is_empty(),
+        OpAnswer::Found(None) | OpAnswer::Number(_) | OpAnswer::Done => false,
+    }
+}
+
+/// Puts what an operation is answered at the front of a text.
+pub(crate) fn put_op_answer(text: &mut Text, answer: &OpAnswer)
+    requires short { has_note answer.now ≡ false }
+    requires room { length text.old + 23 ≤ ROOM }
+    ensures text { text.new ≡ op_answer_text answer.now ++ text.old }
+    ensures size { length text.new ≤ length text.old + 23 }
+{
+    match answer {
+        OpAnswer::Found(None) => text.put(b"none"),
+        OpAnswer::Found(Some(row)) => put_row(text, row),
+        OpAnswer::Number(number) => text.put_signed(*number),
+        OpAnswer::Done => text.put(b"ok"),
     }
 }
 

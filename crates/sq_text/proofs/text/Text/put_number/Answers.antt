@@ -1,4 +1,4 @@
-use Rattle.std.proofs.Common.{◌≡◌, ◌+◌, ◌-◌, ◌≤◌, length, ap, sym, arith, length-append, length-drop}
+use Rattle.std.proofs.Common.{length, ap, arith, length-append, length-drop}
 use Rattle.std.proofs.lemmas.Fmt.{length-decimal-le}
 use Rattle.sq_text.proofs.text.Text.put_number.Goals as goal
 

@@ -1,9 +1,0 @@
-use Rattle.std.proofs.Common.{◌≡◌, ◌++◌, ap, ◌∙◌, append-nil, rules}
-use Rattle.std.specs.Prelude.{codes, decimal}
-use Rattle.sq_text.proofs.Appending.{three, commit_line}
-use Rattle.sq_text.proofs.answer_text.write_reply.Goals as goal
-
-pub returns-in_ok-write_op_answers-in-Committed : goal.returns-in_ok-write_op_answers-in-Committed
-returns-in_ok-write_op_answers-in-Committed g c =
-    let front = c.as_bytes.ensures ∙ c.put.ensures ∙ ap (λ text. codes "commit " ++ text) (c.put_number.ensures.text ∙ ap (λ text. decimal c.args.id ++ text) c.new-text.ensures ∙ append-nil (decimal c.args.id)) in
-    three c.write_all-in-Committed.result _ _ _ _ _ _ _ _ c.in_ok-write_all-in-Committed.ensures.bytes c.in_ok-write_op_answers-in-Committed.ensures c.write_all-in-Committed.ensures.bytes (commit_line c.args.id c.args.reply.now c.as_slice.result.now _ (search rules) front)
