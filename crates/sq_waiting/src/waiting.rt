@@ -74,7 +74,7 @@ impl Waiting {
     pub fn waits_for(&self, root: Root) -> bool
         ensures { result ≡ list_any (is_on root) self.now.arrivals }
     {
-        self.arrival(root).is_some()
+        !self.is_empty() && self.arrival(root).is_some()
     }
 
     /// The first that is due whose arrival number isn't below this one.

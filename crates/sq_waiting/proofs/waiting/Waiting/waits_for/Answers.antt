@@ -8,7 +8,7 @@ some_mapped : {X Y : Type 0} (f : X → Y) (read : Option X) → is_some (option
 some_mapped f None = refl
 some_mapped f (Some x) = refl
 
-pub returns : goal.returns
-returns c =
+pub returns-then-not-is_empty : goal.returns-then-not-is_empty
+returns-then-not-is_empty c =
     let arrivals = c.args.self.now.arrivals in
     c.is_some.ensures ∙ ap is_some c.arrival.ensures.number ∙ some_mapped (λ (a : Arrival). a.number) (find (is_on c.args.root) arrivals) ∙ sym (any_found (is_on c.args.root) arrivals)
