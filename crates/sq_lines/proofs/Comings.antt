@@ -65,15 +65,15 @@ too_many v none some =
 line_first : (end : InputEnd) (lines : ℕ) (line after : List ℕ) → cut_at_ends line ≡ line ∷ [] → pieces_in end lines (line ++ (10 ∷ after)) ≡ line_then lines line (pieces_in end (lines - 1) after)
 line_first end lines line after e = let next = has_first after in rw (line_then_parts line after e, next.are) refl
 
-some_line : (lines : ℕ) (line : List ℕ) (others : List PieceValue) (b : Bool) → eqb lines 0 ≡ false → nat_lt MAX_UNENDED (length line) ≡ b → line_then lines line others ≡ cond b (Endless (next_line_number lines) line ∷ []) (Line line ∷ others)
+some_line : (lines : ℕ) (line : List ℕ) (others : List PieceValue) (b : Bool) → eqb lines 0 ≡ false → nat_lt MAX_UNENDED (length line) ≡ b → line_then lines line others ≡ cond b (Endless (next_line_number lines) line ∷ []) (Line (next_line_number lines) line ∷ others)
 some_line lines line others b some short = rw (some, short) refl
 
-whole_line : (end : InputEnd) (lines : ℕ) (line after : List ℕ) → cut_at_ends line ≡ line ∷ [] → length line ≤ MAX_UNENDED → pieces_in end (lines + 1) (line ++ (10 ∷ after)) ≡ Line line ∷ pieces_in end lines after
+whole_line : (end : InputEnd) (lines : ℕ) (line after : List ℕ) → cut_at_ends line ≡ line ∷ [] → length line ≤ MAX_UNENDED → pieces_in end (lines + 1) (line ++ (10 ∷ after)) ≡ Line (next_line_number (lines + 1)) line ∷ pieces_in end lines after
 whole_line end lines line after e short =
     line_first end (lines + 1) line after e ∙ some_line (lines + 1) line (pieces_in end (lines + 1 - 1) after) false (grind (arith, nat_tests)) (le-ltb _ _ short)
-    ∙ ap (λ n. Line line ∷ pieces_in end n after) (omega arith)
+    ∙ ap (λ n. Line (next_line_number (lines + 1)) line ∷ pieces_in end n after) (omega arith)
 
-pub line_came : (old new : LinesValue) → new.reading ≡ old.reading → new.known ≡ old.known → old.lines ≡ new.lines + 1 → old.held ≡ new.piece ++ (10 ∷ new.held) → cut_at_ends new.piece ≡ new.piece ∷ [] → length new.piece ≤ MAX_UNENDED → CameBefore old (Line new.piece) new
+pub line_came : (old new : LinesValue) → new.reading ≡ old.reading → new.known ≡ old.known → old.lines ≡ new.lines + 1 → old.held ≡ new.piece ++ (10 ∷ new.held) → cut_at_ends new.piece ≡ new.piece ∷ [] → length new.piece ≤ MAX_UNENDED → CameBefore old (Line (next_line_number old.lines) new.piece) new
 line_came old new ended known lines held unended short = λ ps can. record {
   more = can.more;
   end = can.end;
@@ -85,14 +85,14 @@ line_came old new ended known lines held unended short = λ ps can. record {
 last_part : (end : InputEnd) (lines : ℕ) (bytes : List ℕ) → cut_at_ends bytes ≡ bytes ∷ [] → pieces_in end lines bytes ≡ last_piece end lines bytes
 last_part end lines bytes e = rw e refl
 
-rest_piece : (lines : ℕ) (bytes : List ℕ) → 0 < lines → 0 < length bytes → length bytes ≤ MAX_UNENDED → last_piece Whole lines bytes ≡ Rest bytes ∷ []
+rest_piece : (lines : ℕ) (bytes : List ℕ) → 0 < lines → 0 < length bytes → length bytes ≤ MAX_UNENDED → last_piece Whole lines bytes ≡ Rest (next_line_number lines) bytes ∷ []
 rest_piece lines [] some nonempty short = absurd (omega arith)
 rest_piece lines (x ∷ xs) some nonempty short =
     let positive : eqb lines 0 ≡ false = grind (arith, nat_tests) in
     let is : nat_lt MAX_UNENDED (length (x ∷ xs)) ≡ false = le-ltb _ _ short in
     rw (positive, is) refl
 
-pub rest_comes : (v : LinesValue) → v.reading ≡ Ended → cut_at_ends v.held ≡ v.held ∷ [] → 0 < v.lines → 0 < length v.held → length v.held ≤ MAX_UNENDED → CanCome v (Rest v.held ∷ [])
+pub rest_comes : (v : LinesValue) → v.reading ≡ Ended → cut_at_ends v.held ≡ v.held ∷ [] → 0 < v.lines → 0 < length v.held → length v.held ≤ MAX_UNENDED → CanCome v (Rest (next_line_number v.lines) v.held ∷ [])
 rest_comes v ended unended some nonempty short =
     record { more = []; end = Whole; comes = ended_comes v.reading v.known ended; are = rw append-nil (sym (last_part Whole v.lines v.held unended ∙ rest_piece v.lines v.held some nonempty short)) }
 
@@ -140,7 +140,7 @@ either_first false number bytes one first others e is = record { piece = first; 
 
 -- the piece of bytes that aren't ended
 ending_first : (end : InputEnd) (lines x : ℕ) (xs : List ℕ) → FirstPiece (ending_piece end lines (x ∷ xs)) (x ∷ xs)
-ending_first Whole lines x xs = record { piece = Rest (x ∷ xs); others = []; are = refl; of = refl }
+ending_first Whole lines x xs = record { piece = Rest (next_line_number lines) (x ∷ xs); others = []; are = refl; of = refl }
 ending_first Cut lines x xs = record { piece = Failed (next_line_number lines) (x ∷ xs); others = []; are = refl; of = refl }
 
 first_piece : (end : InputEnd) (lines : ℕ) (parts : List (List ℕ)) (x : ℕ) (first : List ℕ) (others : List (List ℕ)) → 0 < lines → parts ≡ (x ∷ first) ∷ others → FirstPiece (pieces_of end lines parts) (x ∷ first)
@@ -151,7 +151,7 @@ first_piece end lines parts x first [] some e =
 first_piece end lines parts x first (other ∷ others) some e =
     let positive : eqb lines 0 ≡ false = grind (arith, nat_tests) in
     let after = pieces_of end (lines - 1) (other ∷ others) in
-    rw (e, positive) (either_first (nat_lt MAX_UNENDED (length (x ∷ first))) (next_line_number lines) (x ∷ first) (Line (x ∷ first) ∷ after) (Line (x ∷ first)) after refl refl)
+    rw (e, positive) (either_first (nat_lt MAX_UNENDED (length (x ∷ first))) (next_line_number lines) (x ∷ first) (Line (next_line_number lines) (x ∷ first) ∷ after) (Line (next_line_number lines) (x ∷ first)) after refl refl)
 
 first_held : (end : InputEnd) (lines : ℕ) (held more : List ℕ) → 0 < lines → 0 < length held → cut_at_ends held ≡ held ∷ [] → (h : HasFirst more) → FirstPiece (pieces_in end lines (held ++ more)) (held ++ h.first)
 first_held end lines [] more some nonempty unended h = absurd (omega arith)
@@ -232,8 +232,9 @@ pub goes_further : (first old new : LinesValue) → GoesOn first old → ((ps : 
 goes_further first old new on before lines = ((λ ps can. on.0 ps (before ps can)), lines ∙ on.1)
 
 pub found : (most : ℕ) (first old new : LinesValue) (told_next : NextPiece) → GoesOn first old → Gives most old told_next new → (told_next ≡ next.Unread → ⊥) → Finds most first told_next new
-found most first old new next.Line on gives told = ((λ ps can. on.0 (Line new.piece ∷ ps) (gives.0 ps can)), sym on.1 ∙ gives.1, gives.2)
-found most first old new next.Rest on gives told = (on.0 _ gives.0, gives.2)
+found most first old new next.Line on gives told =
+    ((λ ps can. subst (λ n. CanCome first (Line (next_line_number n) new.piece ∷ ps)) on.1 (on.0 (Line (next_line_number old.lines) new.piece ∷ ps) (gives.0 ps can))), sym on.1 ∙ gives.1, gives.2)
+found most first old new next.Rest on gives told = (subst (λ n. CanCome first (Rest (next_line_number n) new.piece ∷ [])) on.1 (on.0 _ gives.0), gives.2)
 found most first old new next.Failed on gives told =
     (old.held, subst (λ n. CanCome first (Failed (next_line_number n) old.held ∷ [])) on.1 (on.0 _ gives.0), gives.1)
 found most first old new next.Long on gives told = record { piece = gives.0.piece; others = gives.0.others; can_come = on.0 _ gives.0.can_come; long = gives.0.long }

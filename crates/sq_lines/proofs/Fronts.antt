@@ -61,7 +61,7 @@ next_piece end lines parts f front (x ∷ xs) [] some e =
     rw (e, positive) (begins_either (nat_lt MAX_UNENDED (length (x ∷ xs))) (f ∷ front) (Endless (next_line_number lines) (x ∷ xs) ∷ []) (ending_piece end lines (x ∷ xs)) (starts_with nat_eq (x ∷ xs) (f ∷ front)) refl (ending_begins end lines (f ∷ front) x xs))
 next_piece end lines parts f front first (other ∷ others) some e =
     let positive : eqb lines 0 ≡ false = grind (arith, nat_tests) in
-    rw (e, positive) (begins_either (nat_lt MAX_UNENDED (length first)) (f ∷ front) (Endless (next_line_number lines) first ∷ []) (Line first ∷ pieces_of end (lines - 1) (other ∷ others)) (starts_with nat_eq first (f ∷ front)) refl refl)
+    rw (e, positive) (begins_either (nat_lt MAX_UNENDED (length first)) (f ∷ front) (Endless (next_line_number lines) first ∷ []) (Line (next_line_number lines) first ∷ pieces_of end (lines - 1) (other ∷ others)) (starts_with nat_eq first (f ∷ front)) refl refl)
 
 begins_so : (end : InputEnd) (lines : ℕ) (bytes : List ℕ) (f : ℕ) (front : List ℕ) → 0 < lines → unended (f ∷ front) ≡ true → next_begins (f ∷ front) (pieces_in end lines bytes) ≡ starts_with nat_eq bytes (f ∷ front)
 begins_so end lines bytes f front some apart = let h = has_first bytes in next_piece end lines (cut_at_ends bytes) f front h.first h.others some h.are ∙ same_front (f ∷ front) bytes h.first h.others apart h.are

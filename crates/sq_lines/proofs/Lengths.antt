@@ -35,7 +35,7 @@ either_long number false one other first second = second refl
 ending_long : (end : InputEnd) (lines : ℕ) (bytes : List ℕ) → length bytes ≤ MAX_UNENDED → FirstLong (next_line_number lines) (ending_piece end lines bytes)
 ending_long Cut lines bytes short = one_short (next_line_number lines) (Failed (next_line_number lines) bytes) [] short
 ending_long Whole lines [] short = nothing_long (next_line_number lines)
-ending_long Whole lines (x ∷ xs) short = one_short (next_line_number lines) (Rest (x ∷ xs)) [] short
+ending_long Whole lines (x ∷ xs) short = one_short (next_line_number lines) (Rest (next_line_number lines) (x ∷ xs)) [] short
 
 last_long : (end : InputEnd) (lines : ℕ) (bytes : List ℕ) → FirstLong (next_line_number lines) (last_piece end lines bytes)
 last_long end lines [] = ending_long end lines [] (omega arith)
@@ -50,7 +50,7 @@ pieces_long end lines (rest ∷ []) = last_long end lines rest
 pieces_long end lines (line ∷ next ∷ others) =
     let number = next_line_number lines in
     either_long number (eqb lines 0) (TooMany ∷ []) _ (λ e. one_short number TooMany [] (omega arith))
-    (λ e. either_long number (nat_lt MAX_UNENDED (length line)) (Endless number line ∷ []) (Line line ∷ pieces_of end (lines - 1) (next ∷ others)) (λ l. one_endless number line []) (λ s. one_short number (Line line) (pieces_of end (lines - 1) (next ∷ others)) (ltb-false _ _ s)))
+    (λ e. either_long number (nat_lt MAX_UNENDED (length line)) (Endless number line ∷ []) (Line number line ∷ pieces_of end (lines - 1) (next ∷ others)) (λ l. one_endless number line []) (λ s. one_short number (Line number line) (pieces_of end (lines - 1) (next ∷ others)) (ltb-false _ _ s)))
 
 pub record IsEndless (v : LinesValue) : Type 0 where
   pub bytes : List ℕ

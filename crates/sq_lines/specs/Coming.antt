@@ -50,8 +50,8 @@ pub record IsLong (most : ℕ) (v : LinesValue) : Type 0 where
 
 -- what a reader of lines gives next, where it looks for the end of a line in this many bytes
 abbrev pub Gives : ℕ → LinesValue → NextPiece → LinesValue → Type 0
-Gives most old next.Line new = CameBefore old (Line new.piece) new × (old.lines ≡ new.lines + 1) × (length new.piece ≤ MAX_UNENDED)
-Gives most old next.Rest new = CanCome old (Rest new.piece ∷ []) × (new.lines ≡ old.lines) × (length new.piece ≤ most)
+Gives most old next.Line new = CameBefore old (Line (next_line_number old.lines) new.piece) new × (old.lines ≡ new.lines + 1) × (length new.piece ≤ MAX_UNENDED)
+Gives most old next.Rest new = CanCome old (Rest (next_line_number old.lines) new.piece ∷ []) × (new.lines ≡ old.lines) × (length new.piece ≤ most)
 Gives most old next.Failed new = CanCome old (Failed (next_line_number old.lines) old.held ∷ []) × (length old.held ≤ most) × (new ≡ old)
 Gives most old next.Long new = IsLong most old × (new ≡ old)
 Gives most old next.TooMany new = CanCome old (TooMany ∷ []) × (new ≡ old)
@@ -74,8 +74,8 @@ GoesOn old new = ((ps : List PieceValue) → CanCome new ps → CanCome old ps) 
 
 -- what a reader of lines gives next, where it reads as much as it needs to tell
 abbrev pub Finds : ℕ → LinesValue → NextPiece → LinesValue → Type 0
-Finds most old next.Line new = CameBefore old (Line new.piece) new × (old.lines ≡ new.lines + 1) × (length new.piece ≤ MAX_UNENDED)
-Finds most old next.Rest new = CanCome old (Rest new.piece ∷ []) × (length new.piece ≤ most)
+Finds most old next.Line new = CameBefore old (Line (next_line_number old.lines) new.piece) new × (old.lines ≡ new.lines + 1) × (length new.piece ≤ MAX_UNENDED)
+Finds most old next.Rest new = CanCome old (Rest (next_line_number old.lines) new.piece ∷ []) × (length new.piece ≤ most)
 Finds most old next.Failed new = (bytes : List ℕ) × CanCome old (Failed (next_line_number old.lines) bytes ∷ []) × (length bytes ≤ most)
 Finds most old next.Long new = IsLong most old
 Finds most old next.TooMany new = CanCome old (TooMany ∷ [])

@@ -12,16 +12,16 @@ cut_at_ends bytes = slice_split (λ byte. byte == 10) bytes
 abbrev pub next_line_number : ℕ → ℕ
 next_line_number lines = MAX_LINES - lines + 1
 
--- what comes next of an input; where it can't be read further, the number of that line is told
+-- what comes next of an input, with the number of the line that it is, or in which the reading ends
 pub data PieceValue : Type 0 where
   -- the bytes of a line, without its end
-  Line : (bytes : List ℕ) → PieceValue
+  Line : (number : ℕ) (bytes : List ℕ) → PieceValue
   -- the bytes after the last line end
-  Rest : (bytes : List ℕ) → PieceValue
+  Rest : (number : ℕ) (bytes : List ℕ) → PieceValue
   -- the bytes after the last line end, behind which a read failed
-  Failed : (line : ℕ) (bytes : List ℕ) → PieceValue
+  Failed : (number : ℕ) (bytes : List ℕ) → PieceValue
   -- more bytes than may come without a line end
-  Endless : (line : ℕ) (bytes : List ℕ) → PieceValue
+  Endless : (number : ℕ) (bytes : List ℕ) → PieceValue
   -- a byte after the last line that may come
   TooMany : PieceValue
 
@@ -34,7 +34,7 @@ pub data InputEnd : Type 0 where
 abbrev pub ending_piece : InputEnd → ℕ → List ℕ → List PieceValue
 ending_piece Cut lines bytes = Failed (next_line_number lines) bytes ∷ []
 ending_piece Whole lines [] = []
-ending_piece Whole lines (byte ∷ bytes) = Rest (byte ∷ bytes) ∷ []
+ending_piece Whole lines (byte ∷ bytes) = Rest (next_line_number lines) (byte ∷ bytes) ∷ []
 
 -- what stands after the last line end, where at most this many lines may come
 abbrev pub last_piece : InputEnd → ℕ → List ℕ → List PieceValue
@@ -49,7 +49,7 @@ abbrev pub line_then : ℕ → List ℕ → List PieceValue → List PieceValue
 line_then lines line others =
     if lines == 0 then TooMany ∷ []
     else if nat_lt MAX_UNENDED (length line) then Endless (next_line_number lines) line ∷ []
-    else Line line ∷ others
+    else Line (next_line_number lines) line ∷ others
 
 -- the pieces of an input, given what stands between its line ends, where at most this many lines may come
 abbrev pub pieces_of : InputEnd → ℕ → List (List ℕ) → List PieceValue
@@ -67,10 +67,10 @@ pieces end input = pieces_in end MAX_LINES input
 
 -- the bytes of a piece
 abbrev pub bytes_of : PieceValue → List ℕ
-bytes_of (Line bytes) = bytes
-bytes_of (Rest bytes) = bytes
-bytes_of (Failed line bytes) = bytes
-bytes_of (Endless line bytes) = bytes
+bytes_of (Line number bytes) = bytes
+bytes_of (Rest number bytes) = bytes
+bytes_of (Failed number bytes) = bytes
+bytes_of (Endless number bytes) = bytes
 bytes_of TooMany = []
 
 -- the next piece begins so

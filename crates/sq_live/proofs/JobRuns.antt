@@ -1,5 +1,5 @@
 -- The jobs of lines, read one after another.
-use Rattle.std.proofs.Common.{◌≡◌, ◌≢◌, ℕ, ◌+◌, ◌-◌, ◌<◌, ◌==◌, Bool, true, false, List, [], ◌∷◌, ◌++◌, length, refl, sym, ap, ◌∙◌, subst, ltb-true, arith, Some}
+use Rattle.std.proofs.Common.{◌≡◌, ◌≢◌, ℕ, ◌+◌, ◌<◌, ◌==◌, Bool, true, false, List, [], ◌∷◌, ◌++◌, length, refl, sym, ap, ◌∙◌, subst, ltb-true, Some}
 use Rattle.std.specs.Prelude.{Result, Ok, Err, All, nat_lt, if◌then◌else◌}
 use Rattle.std.proofs.lemmas.List.Elements.{All-append, All-nil, All-cons}
 use Rattle.sq_audit.specs.declared.job.Job.{Job}
@@ -53,21 +53,14 @@ within_by parts jobs (Ok _) job e = absurd cc
 module _ (tables parts : ℕ) where
   -- whatever comes now, the jobs of all of it are those so far and then its own
   abbrev pub JobsSoFar : LinesValue → LinesValue → List Job → Type 0
-  JobsSoFar first now jobs = Leaves first now (λ all left. jobs_in tables parts first.lines [] all ≡ jobs_in tables parts now.lines jobs left)
+  JobsSoFar first now jobs = Leaves first now (λ all left. jobs_in tables parts [] all ≡ jobs_in tables parts jobs left)
 
   module _ (first now : LinesValue) (jobs : List Job) (so_far : JobsSoFar first now jobs) where
     -- a line with a job
-    pub job_more : (new : LinesValue) (bytes : List ℕ) (more : List Job) → CameBefore now (Line bytes) new → now.lines ≡ new.lines + 1 → (job : Job) × (job_of tables parts jobs bytes ≡ Ok job) × (more ≡ jobs ++ job ∷ []) → JobsSoFar first new more
-    job_more new bytes more came fewer adds = λ left can.
-        let all = so_far (Line bytes ∷ left) (came left can) in
-        let lines : now.lines - 1 ≡ new.lines = omega (arith, fewer) in (
-          all.0,
-          all.1,
-          all.2
-              ∙ ap (λ told. jobs_then (next_line_number now.lines) jobs told (λ others. jobs_in tables parts (now.lines - 1) others left)) adds.1
-              ∙ ap (λ (others : List Job). jobs_in tables parts (now.lines - 1) others left) (sym adds.2)
-              ∙ ap (λ n. jobs_in tables parts n more left) lines,
-        )
+    pub job_more : (new : LinesValue) (number : ℕ) (bytes : List ℕ) (more : List Job) → CameBefore now (Line number bytes) new → (job : Job) × (job_of tables parts jobs bytes ≡ Ok job) × (more ≡ jobs ++ job ∷ []) → JobsSoFar first new more
+    job_more new number bytes more came adds = λ left can.
+        let all = so_far (Line number bytes ∷ left) (came left can) in
+        (all.0, all.1, all.2 ∙ ap (λ told. jobs_then number jobs told (λ others. jobs_in tables parts others left)) adds.1 ∙ ap (λ (others : List Job). jobs_in tables parts others left) (sym adds.2))
 
     -- the job is of a partition, as those before it
     pub parts_more : (bytes : List ℕ) (more : List Job) → HavePartitions parts jobs → (job : Job) × (job_of tables parts jobs bytes ≡ Ok job) × (more ≡ jobs ++ job ∷ []) → HavePartitions parts more
@@ -77,21 +70,21 @@ module _ (tables parts : ℕ) where
         subst (All P) (sym adds.2) (All-append P jobs (adds.0 ∷ []) all (All-cons P adds.0 [] within (All-nil P)))
 
     -- what can come has this fault
-    ends_by : (fault : LiveFault) (left : List PieceValue) → CanCome now left → (fault ≢ out_of_memory → jobs_in tables parts now.lines jobs left ≡ Err fault) → IsFirstFault tables parts first fault
+    ends_by : (fault : LiveFault) (left : List PieceValue) → CanCome now left → (fault ≢ out_of_memory → jobs_in tables parts jobs left ≡ Err fault) → IsFirstFault tables parts first fault
     ends_by fault left can is = let all = so_far left can in (all.0, all.1, λ told. all.2 ∙ is told)
 
     -- a line that spells no job
-    bad_line : (fault : JobFault) (bytes : List ℕ) (left : List PieceValue) (told : LiveFault) → job_of tables parts jobs bytes ≡ Err fault → told ≡ fault_at (next_line_number now.lines) fault → jobs_in tables parts now.lines jobs (Line bytes ∷ left) ≡ Err told
-    bad_line fault bytes left told is says = ap (λ r. jobs_then (next_line_number now.lines) jobs r (λ others. jobs_in tables parts (now.lines - 1) others left)) is ∙ ap Err (sym says)
+    bad_line : (fault : JobFault) (number : ℕ) (bytes : List ℕ) (left : List PieceValue) (told : LiveFault) → job_of tables parts jobs bytes ≡ Err fault → told ≡ fault_at number fault → jobs_in tables parts jobs (Line number bytes ∷ left) ≡ Err told
+    bad_line fault number bytes left told is says = ap (λ r. jobs_then number jobs r (λ others. jobs_in tables parts others left)) is ∙ ap Err (sym says)
 
-    pub at_line : (fault : JobFault) (told : LiveFault) (bytes : List ℕ) (more : List Job) (left : List PieceValue) → CanCome now (Line bytes ∷ left) → AddsJob tables parts jobs bytes (Err fault) more → told ≡ fault_at (next_line_number now.lines) fault → IsFirstFault tables parts first told
-    at_line faults.Memory told bytes more left can adds says = ends_by told (Line bytes ∷ left) can (λ apart. absurd (apart says))
-    at_line faults.TooMany told bytes more left can adds says = ends_by told (Line bytes ∷ left) can (λ apart. bad_line faults.TooMany bytes left told adds.0 says)
-    at_line faults.NotAJob told bytes more left can adds says = ends_by told (Line bytes ∷ left) can (λ apart. bad_line faults.NotAJob bytes left told adds.0 says)
-    at_line faults.RepeatedId told bytes more left can adds says = ends_by told (Line bytes ∷ left) can (λ apart. bad_line faults.RepeatedId bytes left told adds.0 says)
-    at_line (faults.Txn fault) told bytes more left can adds says = ends_by told (Line bytes ∷ left) can (λ apart. bad_line (faults.Txn fault) bytes left told adds.0 says)
-    at_line faults.NoSuchPartition told bytes more left can adds says = ends_by told (Line bytes ∷ left) can (λ apart. bad_line faults.NoSuchPartition bytes left told adds.0 says)
-    at_line faults.LineTooLong told bytes more left can adds says = ends_by told (Line bytes ∷ left) can (λ apart. bad_line faults.LineTooLong bytes left told adds.0 says)
+    pub at_line : (fault : JobFault) (told : LiveFault) (number : ℕ) (bytes : List ℕ) (more : List Job) (left : List PieceValue) → CanCome now (Line number bytes ∷ left) → AddsJob tables parts jobs bytes (Err fault) more → told ≡ fault_at number fault → IsFirstFault tables parts first told
+    at_line faults.Memory told number bytes more left can adds says = ends_by told (Line number bytes ∷ left) can (λ apart. absurd (apart says))
+    at_line faults.TooMany told number bytes more left can adds says = ends_by told (Line number bytes ∷ left) can (λ apart. bad_line faults.TooMany number bytes left told adds.0 says)
+    at_line faults.NotAJob told number bytes more left can adds says = ends_by told (Line number bytes ∷ left) can (λ apart. bad_line faults.NotAJob number bytes left told adds.0 says)
+    at_line faults.RepeatedId told number bytes more left can adds says = ends_by told (Line number bytes ∷ left) can (λ apart. bad_line faults.RepeatedId number bytes left told adds.0 says)
+    at_line (faults.Txn fault) told number bytes more left can adds says = ends_by told (Line number bytes ∷ left) can (λ apart. bad_line (faults.Txn fault) number bytes left told adds.0 says)
+    at_line faults.NoSuchPartition told number bytes more left can adds says = ends_by told (Line number bytes ∷ left) can (λ apart. bad_line faults.NoSuchPartition number bytes left told adds.0 says)
+    at_line faults.LineTooLong told number bytes more left can adds says = ends_by told (Line number bytes ∷ left) can (λ apart. bad_line faults.LineTooLong number bytes left told adds.0 says)
 
     pub at_failed : (told : LiveFault) (number : ℕ) (bytes : List ℕ) → CanCome now (Failed number bytes ∷ []) → told ≡ Input (located input.ReadFailed (Some (Later number))) → IsFirstFault tables parts first told
     at_failed told number bytes can says = ends_by told (Failed number bytes ∷ []) can (λ apart. ap Err (sym says))

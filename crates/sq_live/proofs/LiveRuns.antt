@@ -30,8 +30,7 @@ module _ (tables parts : ℕ) (begin lines : LinesValue) (o : OpeningValue) wher
         record {
           left = spelled.0;
           opens = subst (λ n. Opens n (Ok o) spelled.0 (header_of all.0)) eight all.2;
-          lines = lines.lines;
-          spelled = subst (λ n. jobs_in n o.old.parts lines.lines [] spelled.0 ≡ Ok jobs) eight (subst (λ n. jobs_in tables n lines.lines [] spelled.0 ≡ Ok jobs) are spelled.2);
+          spelled = subst (λ n. jobs_in n o.old.parts [] spelled.0 ≡ Ok jobs) eight (subst (λ n. jobs_in tables n [] spelled.0 ≡ Ok jobs) are spelled.2);
         },
       )
 
@@ -46,8 +45,7 @@ module _ (tables parts : ℕ) (begin lines : LinesValue) (o : OpeningValue) wher
           opening = o;
           left = first.0;
           opens = subst (λ n. Opens n (Ok o) first.0 (header_of all.0)) eight all.2;
-          lines = lines.lines;
-          first = λ apart. subst (λ n. jobs_in n o.old.parts lines.lines [] first.0 ≡ Err fault) eight (subst (λ n. jobs_in tables n lines.lines [] first.0 ≡ Err fault) are (first.2 apart));
+          first = λ apart. subst (λ n. jobs_in n o.old.parts [] first.0 ≡ Err fault) eight (subst (λ n. jobs_in tables n [] first.0 ≡ Err fault) are (first.2 apart));
         }),
       )
 

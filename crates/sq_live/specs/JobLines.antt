@@ -1,9 +1,9 @@
 -- The jobs that lines spell.
-use Rattle.std.specs.Prelude.{◌≡◌, ◌≢◌, ℕ, ◌+◌, ◌-◌, ◌==◌, nat_lt, if◌then◌else◌, List, [], ◌∷◌, ◌++◌, length, Some, Result, Ok, Err}
+use Rattle.std.specs.Prelude.{◌≡◌, ◌≢◌, ℕ, ◌+◌, ◌==◌, nat_lt, if◌then◌else◌, List, [], ◌∷◌, ◌++◌, length, Some, Result, Ok, Err}
 use Rattle.sq_schema.specs.TxnValue.{TxnValue}
 use Rattle.sq_audit.specs.declared.job.Job.{Job}
 use Rattle.sq_lines.specs.declared.reader.TheConstants.{MAX_LINES}
-use Rattle.sq_lines.specs.Pieces.{PieceValue, Line, Rest, Failed, Endless, TooMany as TooManyLines, next_line_number}
+use Rattle.sq_lines.specs.Pieces.{PieceValue, Line, Rest, Failed, Endless, TooMany as TooManyLines}
 use Rattle.sq_lines.specs.Coming.{LinesValue, CanCome}
 use Rattle.sq_model.specs.declared.step.Step.{Step}
 use Rattle.sq_model.specs.declared.step.Step.TheVariants.{Submit}
@@ -48,15 +48,14 @@ abbrev pub jobs_then : ℕ → List Job → Result Job JobFault → (List Job �
 jobs_then number jobs (Ok job) others = others (jobs ++ job ∷ [])
 jobs_then number jobs (Err fault) others = Err (fault_at number fault)
 
--- the jobs that pieces spell, behind these, where this many lines may still come, or the first fault
-abbrev pub jobs_in : ℕ → ℕ → ℕ → List Job → List PieceValue → Result (List Job) LiveFault
-jobs_in tables parts lines jobs [] = Ok jobs
-jobs_in tables parts lines jobs (Line bytes ∷ pieces) =
-    jobs_then (next_line_number lines) jobs (job_of tables parts jobs bytes) (λ more. jobs_in tables parts (lines - 1) more pieces)
-jobs_in tables parts lines jobs (Rest bytes ∷ pieces) = Err (fault_at (next_line_number lines) NotAJob)
-jobs_in tables parts lines jobs (Failed number bytes ∷ pieces) = Err (Input (located input.ReadFailed (Some (Later number))))
-jobs_in tables parts lines jobs (Endless number bytes ∷ pieces) = Err (Input (located input.TooLong (Some (Later number))))
-jobs_in tables parts lines jobs (TooManyLines ∷ pieces) = Err (Input (located input.TooLong (Some (Later (MAX_LINES + 1)))))
+-- the jobs that pieces spell, behind these, or the first fault
+abbrev pub jobs_in : ℕ → ℕ → List Job → List PieceValue → Result (List Job) LiveFault
+jobs_in tables parts jobs [] = Ok jobs
+jobs_in tables parts jobs (Line number bytes ∷ pieces) = jobs_then number jobs (job_of tables parts jobs bytes) (λ more. jobs_in tables parts more pieces)
+jobs_in tables parts jobs (Rest number bytes ∷ pieces) = Err (fault_at number NotAJob)
+jobs_in tables parts jobs (Failed number bytes ∷ pieces) = Err (Input (located input.ReadFailed (Some (Later number))))
+jobs_in tables parts jobs (Endless number bytes ∷ pieces) = Err (Input (located input.TooLong (Some (Later number))))
+jobs_in tables parts jobs (TooManyLines ∷ pieces) = Err (Input (located input.TooLong (Some (Later (MAX_LINES + 1)))))
 
 -- the transaction gave one job more, or the fault that it has, unless memory ran out, and then the jobs stay as they were
 abbrev pub AddsFresh : ℕ → List Job → ℕ → TxnValue → Result Unit JobFault → List Job → Type 0
@@ -72,9 +71,9 @@ AddsJob tables parts old line (Err fault) new = (job_of tables parts old line �
 
 -- these are the jobs that what comes of a reader of lines spells
 abbrev pub AreJobs : ℕ → ℕ → LinesValue → List Job → Type 0
-AreJobs tables parts lines jobs = (pieces : List PieceValue) × CanCome lines pieces × (jobs_in tables parts lines.lines [] pieces ≡ Ok jobs)
+AreJobs tables parts lines jobs = (pieces : List PieceValue) × CanCome lines pieces × (jobs_in tables parts [] pieces ≡ Ok jobs)
 
 -- this is the first fault of what comes of a reader of lines, unless memory ran out
 abbrev pub IsFirstFault : ℕ → ℕ → LinesValue → LiveFault → Type 0
 IsFirstFault tables parts lines fault =
-    (pieces : List PieceValue) × CanCome lines pieces × (fault ≢ out_of_memory → jobs_in tables parts lines.lines [] pieces ≡ Err fault)
+    (pieces : List PieceValue) × CanCome lines pieces × (fault ≢ out_of_memory → jobs_in tables parts [] pieces ≡ Err fault)

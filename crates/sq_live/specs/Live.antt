@@ -24,9 +24,7 @@ use Rattle.sq_live.specs.Outcome.{outcome_line, outcome_status, CameTo}
 pub record SpellJobs (tables : ℕ) (given : List PieceValue) (o : OpeningValue) (jobs : List Job) : Type 0 where
   pub left : List PieceValue
   pub opens : Opens tables (Ok o) left (header_of given)
-  -- how many lines may still come behind the header
-  pub lines : ℕ
-  pub spelled : jobs_in tables o.old.parts lines [] left ≡ Ok jobs
+  pub spelled : jobs_in tables o.old.parts [] left ≡ Ok jobs
 
 -- the header has this fault
 pub record HasHeaderFault (tables : ℕ) (given : List PieceValue) (fault : LiveFault) : Type 0 where
@@ -40,8 +38,7 @@ pub record HasJobFault (tables : ℕ) (given : List PieceValue) (fault : LiveFau
   pub opening : OpeningValue
   pub left : List PieceValue
   pub opens : Opens tables (Ok opening) left (header_of given)
-  pub lines : ℕ
-  pub first : fault ≢ out_of_memory → jobs_in tables opening.old.parts lines [] left ≡ Err fault
+  pub first : fault ≢ out_of_memory → jobs_in tables opening.old.parts [] left ≡ Err fault
 
 -- the pieces spell no jobs, for this fault, which is their first, or memory ran out
 abbrev pub HaveFault : ℕ → List PieceValue → LiveFault → Type 0

@@ -25,14 +25,14 @@ use Rattle.sq_text.specs.HeaderFields.{GivenValue, value_of}
 use Rattle.sq_text.specs.Header.{line_in, next_line, line_as, plan_of, config_of, row_of, RowsValue, row_lines, AreRows, first_lines, AreFirstLines, no_rows, header_with, Opens}
 
 -- a line that isn't too long
-pub short_line : (line : List ℕ) (others : List PieceValue) → length line ≤ MAX_LINE → next_line (Line line ∷ others) ≡ Ok (line, others)
-short_line line others short = let is : nat_lt MAX_LINE (length line) ≡ false = le-ltb _ _ short in rw is refl
+pub short_line : (number : ℕ) (line : List ℕ) (others : List PieceValue) → length line ≤ MAX_LINE → next_line (Line number line ∷ others) ≡ Ok (line, others)
+short_line number line others short = let is : nat_lt MAX_LINE (length line) ≡ false = le-ltb _ _ short in rw is refl
 
 long_in : (piece : PieceValue) → MAX_LINE < length (bytes_of piece) → line_in piece ≡ Err fault.LineTooLong
-long_in (Line bytes) long = let is : nat_lt MAX_LINE (length bytes) ≡ true = grind (arith, nat_tests) in rw is refl
-long_in (Rest bytes) long = let is : nat_lt MAX_LINE (length bytes) ≡ true = grind (arith, nat_tests) in rw is refl
-long_in (Failed line bytes) long = let is : nat_lt MAX_LINE (length bytes) ≡ true = grind (arith, nat_tests) in rw is refl
-long_in (Endless line bytes) long = refl
+long_in (Line number bytes) long = let is : nat_lt MAX_LINE (length bytes) ≡ true = grind (arith, nat_tests) in rw is refl
+long_in (Rest number bytes) long = let is : nat_lt MAX_LINE (length bytes) ≡ true = grind (arith, nat_tests) in rw is refl
+long_in (Failed number bytes) long = let is : nat_lt MAX_LINE (length bytes) ≡ true = grind (arith, nat_tests) in rw is refl
+long_in (Endless number bytes) long = refl
 long_in TooMany long = absurd (omega arith)
 
 pub long_piece : (piece : PieceValue) (others : List PieceValue) → MAX_LINE < length (bytes_of piece) → next_line (piece ∷ others) ≡ Err fault.LineTooLong

@@ -25,10 +25,10 @@ use Rattle.sq_text.specs.HeaderFields.{GivenValue, value_of, config_in, given_in
 
 -- the bytes of a line of the header, or why it is none: it has too many bytes, or no end, or a read failed
 abbrev pub line_in : PieceValue → Result (List ℕ) InputFault
-line_in (Line bytes) = if nat_lt MAX_LINE (length bytes) then Err LineTooLong else Ok bytes
-line_in (Rest bytes) = if nat_lt MAX_LINE (length bytes) then Err LineTooLong else Err BadHeader
-line_in (Failed line bytes) = if nat_lt MAX_LINE (length bytes) then Err LineTooLong else Err ReadFailed
-line_in (Endless line bytes) = Err LineTooLong
+line_in (Line number bytes) = if nat_lt MAX_LINE (length bytes) then Err LineTooLong else Ok bytes
+line_in (Rest number bytes) = if nat_lt MAX_LINE (length bytes) then Err LineTooLong else Err BadHeader
+line_in (Failed number bytes) = if nat_lt MAX_LINE (length bytes) then Err LineTooLong else Err ReadFailed
+line_in (Endless number bytes) = Err LineTooLong
 line_in TooMany = Err TooLong
 
 -- the next line, and what comes after it

@@ -57,7 +57,7 @@ pub begun : (o : OpeningValue) (t : Trace) (begin : LinesValue) (first : Option 
 begun o t begin first w leads = record { so_far = []; here = t; leads = leads; written = nothing first; goes_on = λ left later ending can writes. (left, can, writes) }
 
 -- a line more
-pub on_line : (o : OpeningValue) (t : Trace) (begin was lines : LinesValue) (first mid now : Option (List ℕ)) (w new : WorldValue) (b : Before o t begin was first mid w) → CameBefore was (Line lines.piece) lines
+pub on_line : (o : OpeningValue) (t : Trace) (begin was lines : LinesValue) (first mid now : Option (List ℕ)) (w new : WorldValue) (b : Before o t begin was first mid w) → CameBefore was (Line (next_line_number was.lines) lines.piece) lines
     → IsAnswered o b.here lines.piece mid now new → Before o t begin lines first now new
 on_line o t begin was lines first mid now w new b came answered =
     record {
@@ -66,7 +66,7 @@ on_line o t begin was lines first mid now w new b came answered =
       leads = answered.leads;
       written = both first mid now b.so_far answered.text _ b.written answered.written refl;
       goes_on = λ left later ending can writes.
-          let all = b.goes_on (Line lines.piece ∷ left) (answered.text ++ later) ending (came left can) (answered.after, answered.text, later, answered.answers_line, refl, writes) in
+          let all = b.goes_on (Line (next_line_number was.lines) lines.piece ∷ left) (answered.text ++ later) ending (came left can) (answered.after, answered.text, later, answered.answers_line, refl, writes) in
           (all.0, all.1, subst (λ out. Writes o t all.0 out ending) (sym (append_assoc b.so_far answered.text later)) all.2);
     }
 
@@ -95,14 +95,14 @@ at_end (Ok ending) tables begin was first mid now start w before none is written
     λ o t leads same. let b = before o t leads same in ended_by o t begin was [] (dump w) ending first mid now w b none (record { world = w; holds = b.leads.holds; says = refl }, is) written
 
 -- a rest, and then the end of the script
-pub at_rest : {E : Type 0} (r : Result Ending E) (tables : ℕ) (begin was : LinesValue) (bytes : List ℕ) (number : ℕ) (first mid said now : Option (List ℕ)) (start w : WorldValue) → AllBefore tables begin was first mid start w → CanCome was (Rest bytes ∷ [])
+pub at_rest : {E : Type 0} (r : Result Ending E) (tables : ℕ) (begin was : LinesValue) (line : ℕ) (bytes : List ℕ) (number : ℕ) (first mid said now : Option (List ℕ)) (start w : WorldValue) → AllBefore tables begin was first mid start w → CanCome was (Rest line bytes ∷ [])
     → number ≡ line_fault_number faults.NotAStep → Appends mid said (refused_line number) → IfOk r (λ ending. ending ≡ Done) → OnOk r (Appends said now (dump w)) → IfOk r (AllWritten tables begin first now start)
-at_rest (Err e) tables begin was bytes number first mid said now start w before rest says told is written = tt
-at_rest (Ok ending) tables begin was bytes number first mid said now start w before rest says told is written =
+at_rest (Err e) tables begin was line bytes number first mid said now start w before rest says told is written = tt
+at_rest (Ok ending) tables begin was line bytes number first mid said now start w before rest says told is written =
     λ o t leads same.
     let b = before o t leads same in
     let refused : Appends mid said (refused_line (line_fault_number faults.NotAStep)) = subst (λ n. Appends mid said (refused_line n)) says told in
-    ended_by o t begin was (Rest bytes ∷ []) (refused_line (line_fault_number faults.NotAStep) ++ dump w) ending first mid now w b rest (dump w, refl, (record { world = w; holds = b.leads.holds; says = refl }, is))
+    ended_by o t begin was (Rest line bytes ∷ []) (refused_line (line_fault_number faults.NotAStep) ++ dump w) ending first mid now w b rest (dump w, refl, (record { world = w; holds = b.leads.holds; says = refl }, is))
     (both mid said now (refused_line (line_fault_number faults.NotAStep)) (dump w) _ refused written refl)
 
 -- a fault, which ends the run

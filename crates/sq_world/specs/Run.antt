@@ -68,11 +68,11 @@ pub record IsFault (located : LocatedFault) (out : List ℕ) (ending : Ending) :
 -- what is written for the pieces of a script after this history, and how the run ends
 abbrev pub Writes : OpeningValue → Trace → List PieceValue → List ℕ → Ending → Type 0
 Writes o t [] out ending = IsDumped o t out × (ending ≡ Done)
-Writes o t (Line line ∷ others) out ending =
+Writes o t (Line number line ∷ others) out ending =
     (after : Trace) × (text : List ℕ) × (later : List ℕ) × AnswersLine o t line after text × (out ≡ text ++ later) × Writes o after others later ending
-Writes o t (Rest bytes ∷ others) out ending = (later : List ℕ) × (out ≡ refused_line (line_fault_number line_fault.NotAStep) ++ later) × Writes o t others later ending
-Writes o t (Failed line bytes ∷ others) out ending = IsFault (located ReadFailed (Some (Later line))) out ending
-Writes o t (Endless line bytes ∷ others) out ending = IsFault (located TooLong (Some (Later line))) out ending
+Writes o t (Rest number bytes ∷ others) out ending = (later : List ℕ) × (out ≡ refused_line (line_fault_number line_fault.NotAStep) ++ later) × Writes o t others later ending
+Writes o t (Failed number bytes ∷ others) out ending = IsFault (located ReadFailed (Some (Later number))) out ending
+Writes o t (Endless number bytes ∷ others) out ending = IsFault (located TooLong (Some (Later number))) out ending
 Writes o t (TooMany ∷ others) out ending = IsFault (located TooLong (Some (Later (MAX_LINES + 1)))) out ending
 
 -- the header is read to this opening, and then the script is run from it

@@ -25,7 +25,7 @@ loop-world-preserved g c = λ o t leads same.
 
 pub returns-in-Rest : goal.returns-in-Rest
 returns-in-Rest g c =
-    at_rest c.end.result c.args.schema.now c.args.lines.now c.loop-world.lines c.next.new.self.piece c.number.result (g.W.Write.contents c.args.writer.now) (g.W.Write.contents c.loop-world.writer) (g.W.Write.contents c.write_refused.new.writer) (g.W.Write.contents c.end.new.writer) c.args.world.now c.loop-world.world
+    at_rest c.end.result c.args.schema.now c.args.lines.now c.loop-world.lines (next_line_number c.loop-world.lines.lines) c.next.new.self.piece c.number.result (g.W.Write.contents c.args.writer.now) (g.W.Write.contents c.loop-world.writer) (g.W.Write.contents c.write_refused.new.writer) (g.W.Write.contents c.end.new.writer) c.args.world.now c.loop-world.world
     c.loop-world.invariant c.in-Rest.ensures.0 c.number.ensures c.in_ok-write_refused-in-Rest.ensures c.end.ensures.done c.end.ensures.dumped
 
 pub returns-in-End : goal.returns-in-End

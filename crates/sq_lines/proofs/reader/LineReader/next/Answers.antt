@@ -64,7 +64,7 @@ returns-in-Ended-reading g c =
     let unended = found_none s.buffer.items s.start s.searched s.end c.self.invariant.searched_after c.self.invariant.searched_before c.self.invariant.unended none in
     let count = length_range s.buffer.items s.start s.end (omega (arith, c.self.invariant.within, c.self.invariant.room)) in
     let short : length (slice_range s.buffer.items s.start s.end) ≤ c.args.most = omega (arith, count, c.if-self-most.false) in (
-      subst (λ v. CanCome v (Rest (slice_range s.buffer.items s.start s.end) ∷ [])) c.self.view_is (rest_comes _ c.in-Ended-reading.is unended (omega (arith, c.if-self-eq0.false)) (omega (arith, count, c.if-self.false, c.self.invariant.searched_after, c.self.invariant.searched_before)) (omega (arith, short, c.requires))),
+      subst (λ (v : LinesValue). CanCome v (Rest (next_line_number v.lines) (slice_range s.buffer.items s.start s.end) ∷ [])) c.self.view_is (rest_comes _ c.in-Ended-reading.is unended (omega (arith, c.if-self-eq0.false)) (omega (arith, count, c.if-self.false, c.self.invariant.searched_after, c.self.invariant.searched_before)) (omega (arith, short, c.requires))),
       ap (λ (v : LinesValue). v.lines) c.self.view_is,
       short,
     )
