@@ -5,3 +5,5 @@ mod ReceiptIds
 mod NodeReads
 mod Counts
 mod LiveRuns
+mod Leading
+mod Moved

@@ -1,6 +1,6 @@
 -- What live runs come to, by what was gathered of them.
-use Rattle.std.specs.Prelude.{◌≡◌, ◌⊎◌, ℕ, ◌^◌, ◌<◌, ◌==◌, Bool, true, false, List, [], ◌∷◌, length, sum_by, count_by, codes, decimal}
-use Rattle.std.specs.List.{list_any}
+use Rattle.std.specs.Prelude.{◌≡◌, ◌⊎◌, ℕ, ◌^◌, ◌<◌, ◌==◌, Bool, true, false, List, [], ◌∷◌, length, slice_index_or, sum_by, count_by, codes, decimal}
+use Rattle.std.specs.List.{list_any, range_with_len}
 use Rattle.std.specs.FinMap.{len}
 use Rattle.sq_tree.specs.declared.status.Status.{Status}
 use Rattle.sq_tree.specs.declared.status.Reading.{Reading}
@@ -17,6 +17,7 @@ use Rattle.sq_audit.specs.Defects.{defect_number, IsFirst}
 use Rattle.sq_audit.specs.Sound.{IsSound}
 use Rattle.sq_live.specs.declared.outcome.Outcome.{Outcome}
 use Rattle.sq_live.specs.declared.outcome.Outcome.TheVariants.{Sound, Stopped, Unsound}
+use Rattle.sq_live.specs.Leading.{HasEnded}
 
 -- the line of an outcome
 abbrev pub outcome_line : Outcome → List ℕ
@@ -42,13 +43,13 @@ abbrev pub is_complete_reading : Reading → Bool
 is_complete_reading reads.Complete = true
 is_complete_reading _ = false
 
--- the segment with these statuses is complete: its node 1 reads complete
-abbrev pub is_moved : List Status → Bool
-is_moved words = is_complete_reading (reading (status_at words) 1)
+-- the segment of this number is complete: its node 1 reads complete. One of which no statuses were gathered isn't
+abbrev pub is_moved : List (List Status) → ℕ → Bool
+is_moved words seg = is_complete_reading (reading (status_at (slice_index_or words seg [])) 1)
 
--- how many segments are complete
-abbrev pub moved_count : List (List Status) → ℕ
-moved_count words = count_by is_moved words
+-- how many of this many segments are complete
+abbrev pub moved_count : ℕ → List (List Status) → ℕ
+moved_count segments words = count_by (is_moved words) (range_with_len 0 segments)
 
 -- how many receipts are of commits
 abbrev pub commit_count : List ReceiptValue → ℕ
@@ -58,22 +59,25 @@ commit_count receipts = count_by (λ receipt. is_commit receipt.reply) receipts
 abbrev pub family_count : GatheredValue → ℕ
 family_count g = sum_by (λ store. len store) g.stores
 
--- each job is answered, and each segment is complete
-pub record IsDone (g : GatheredValue) (jobs : List Job) : Type 0 where
+-- each job is answered, each segment is complete, and the leader ended the move
+pub record IsDone (o : OpeningValue) (g : GatheredValue) (jobs : List Job) : Type 0 where
   pub answered : answered_count g.receipts jobs ≡ length jobs
-  pub moved : moved_count g.words ≡ length g.words
+  pub moved : moved_count (length o.recon.segments) g.words ≡ length o.recon.segments
+  -- whom the leader heard
+  pub reported : List Bool
+  pub ended : HasEnded o (is_moved g.words) reported
 
 -- a job isn't answered, or a segment isn't complete: there are so many of each
-pub record HasStopped (g : GatheredValue) (jobs : List Job) (answered posted complete segments : ℕ) : Type 0 where
+pub record HasStopped (o : OpeningValue) (g : GatheredValue) (jobs : List Job) (answered posted complete segments : ℕ) : Type 0 where
   pub answered_is : answered ≡ answered_count g.receipts jobs
   pub posted_is : posted ≡ length jobs
-  pub complete_is : complete ≡ moved_count g.words
-  pub segments_are : segments ≡ length g.words
+  pub complete_is : complete ≡ moved_count (length o.recon.segments) g.words
+  pub segments_are : segments ≡ length o.recon.segments
   pub stopped : (answered < posted) ⊎ (complete < segments)
 
 -- a run is sound, and has so many families and receipts of commits
 pub record IsFoundSound (o : OpeningValue) (g : GatheredValue) (jobs : List Job) (families committed : ℕ) : Type 0 where
-  pub is_done : IsDone g jobs
+  pub is_done : IsDone o g jobs
   pub sound : IsSound o g jobs
   pub families_are : family_count g < 2 ^ 64 → families ≡ family_count g
   pub committed_are : committed ≡ commit_count g.receipts
@@ -81,5 +85,5 @@ pub record IsFoundSound (o : OpeningValue) (g : GatheredValue) (jobs : List Job)
 -- this is what a run of these jobs comes to, of which this was gathered
 abbrev pub CameTo : OpeningValue → GatheredValue → List Job → Outcome → Type 0
 CameTo o g jobs (Sound families committed) = IsFoundSound o g jobs families committed
-CameTo o g jobs (Stopped answered posted complete segments) = HasStopped g jobs answered posted complete segments
-CameTo o g jobs (Unsound defect) = IsDone g jobs × IsFirst o g jobs defect
+CameTo o g jobs (Stopped answered posted complete segments) = HasStopped o g jobs answered posted complete segments
+CameTo o g jobs (Unsound defect) = IsDone o g jobs × IsFirst o g jobs defect

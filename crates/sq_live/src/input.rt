@@ -12,6 +12,7 @@ use crate::ending::LiveEnding;
 use crate::fault::LiveFault;
 use crate::job_list::{JobList, read_jobs};
 use crate::judging::judge;
+use crate::leader::start_move;
 use crate::outcome::{Outcome, write_outcome};
 use crate::run::run_jobs;
 use crate::watch::Watch;
@@ -119,7 +120,8 @@ fn read_input<R: Read>(
     Ok((opening, jobs))
 }
 
-// What a run of jobs from an opening comes to.
+// What a run of jobs from an opening comes to. The move starts before the first thread does; once the last has ended, the
+// leader hears the reports, and ends the move where each segment is complete.
 fn run_input<T: Threads + Wait + Sync, G: Watch>(
     rt: &T,
     alloc: Global,
@@ -133,9 +135,10 @@ fn run_input<T: Threads + Wait + Sync, G: Watch>(
     requires partitions { HavePartitions opening.now.old.parts jobs.now }
     ensures { IfOk result (WereRun opening.now jobs.now) }
 {
+    let moving = start_move(opening);
     let segments = opening.recon().segments().len();
     watch.begins(jobs.as_slice().len() as u64, segments as u64);
     let ran = run_jobs(rt, alloc, opening, jobs.as_slice(), turns, pumps, watch);
     watch.ends();
-    judge(alloc, opening, &ran?, jobs.as_slice())
+    judge(alloc, opening, moving, &ran?, jobs.as_slice())
 }

@@ -1,15 +1,20 @@
 // What a live run came to, by what was gathered of it.
-ghost use Rattle.std.specs.Prelude.{◌≡◌, ◌≤◌, ◌<◌, ◌*◌, ◌^◌, ℕ, length, sum_by, IfOk};
+ghost use Rattle.std.specs.Prelude.{◌≡◌, ◌≤◌, ◌<◌, ◌*◌, ◌^◌, ℕ, length, sum_by, count_by, IfOk};
 ghost use Rattle.std.specs.FinMap.{len};
 ghost use Rattle.sq_tree.specs.Status.{reading_within};
 ghost use Rattle.sq_tree.specs.Tree.{status_at, IsGrown};
+ghost use Rattle.sq_ranges.specs.declared.segment.TheConstants.{SEGMENT_LIMIT};
+ghost use Rattle.sq_leader.specs.Marks.{none_marked};
+ghost use Rattle.sq_leader.specs.Segments.{is_whole};
 ghost use Rattle.sq_audit.specs.Answers.{IdsDiffer};
-ghost use Rattle.sq_live.specs.Outcome.{answered_count, is_complete_reading, moved_count, commit_count, CameTo};
+ghost use Rattle.sq_live.specs.Outcome.{answered_count, is_complete_reading, is_moved, commit_count, CameTo};
 ghost use Rattle.sq_live.specs.Judged.{HasIdsOf, AreGrown};
 
+use crate::leader::end_move;
 use crate::outcome::Outcome;
 use sq_audit::{Job, Verdict, audit};
 use sq_gather::Gathered;
+use sq_leader::Moving;
 use sq_node::Receipt;
 use sq_ranges::Opening;
 use sq_schema::Reply;
@@ -18,26 +23,32 @@ use sq_tree::{NODES, NodeId, Status};
 use std::alloc::{AllocError, Global};
 use std::collections::BTreeSet;
 
-/// What a run of these jobs came to, of which this was gathered. It is audited only where each job is answered and each
-/// segment is complete, and it is sound only where the audit found it so.
+/// What a run of these jobs came to, of which this was gathered. `moving` is the leader of its move, to which nobody has
+/// reported: each partition reports now into which all segments that move are complete. The run is audited only where each
+/// job is answered and the leader ends the move, which it does just where each segment is complete; and it is sound only
+/// where the audit found it so.
 pub fn judge(
     alloc: Global,
     opening: &Opening,
+    moving: Moving,
     g: &Gathered,
     jobs: &[Job],
 ) -> Result<Outcome, AllocError>
+    requires moving { moving ≡ none_marked opening.now.old.parts }
     requires ids { IdsDiffer jobs.now }
     requires grown { AreGrown g.now.words }
     ensures { IfOk result (CameTo opening.now g.now jobs.now) }
 {
     let answered = count_answered(alloc, &g.receipts, jobs)?;
-    let complete = count_moved(&g.words);
-    if answered < jobs.len() || complete < g.words.len() {
+    let segments = opening.recon().segments().len();
+    let moved = moved_segments(&g.words);
+    let leader = end_move(moving, opening, &moved);
+    if answered < jobs.len() || leader.is_err() {
         return Ok(Outcome::Stopped {
             answered: answered as u64,
             jobs: jobs.len() as u64,
-            complete: complete as u64,
-            segments: g.words.len() as u64,
+            complete: count_complete(&moved[..segments]) as u64,
+            segments: segments as u64,
         });
     }
     match audit(opening, g, jobs)? {
@@ -75,19 +86,23 @@ fn ids_of(alloc: Global, receipts: &[Receipt]) -> Result<BTreeSet<u64>, AllocErr
     Ok(ids)
 }
 
-// How many segments are complete.
-fn count_moved(words: &[[Status; NODES]]) -> usize
+// Which segments are complete. One without statuses isn't.
+fn moved_segments(words: &[[Status; NODES]]) -> [bool; 256]
     requires { AreGrown words.now }
-    ensures moved { result ≡ moved_count words.now }
-    ensures most { result ≤ length words.now }
+    ensures { (seg : ℕ) → seg < SEGMENT_LIMIT → is_whole result seg ≡ is_moved words.now seg }
 {
-    let mut count = 0;
-    for statuses in words {
-        if reads_complete(statuses, NodeId::WHOLE) {
-            count += 1;
-        }
+    let mut moved = [false; 256];
+    for seg in 0..words.len().min(256) {
+        moved[seg] = reads_complete(&words[seg], NodeId::WHOLE);
     }
-    count
+    moved
+}
+
+// How many of these are complete.
+fn count_complete(moved: &[bool]) -> usize
+    ensures { result ≡ count_by (λ is_complete. is_complete) moved.now }
+{
+    moved.iter().filter(|is_complete| **is_complete).count()
 }
 
 // Whether a live node reads complete, looked for at any depth that reaches the leaves: it is complete, or it is split and both

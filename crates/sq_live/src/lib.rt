@@ -7,6 +7,7 @@ mod fault;
 mod input;
 mod job_list;
 mod judging;
+mod leader;
 mod outcome;
 mod run;
 mod watch;

@@ -1,0 +1,6 @@
+use Rattle.sq_live.proofs.Leading.{ArePrepared}
+use Rattle.sq_live.proofs.leader.prepare_all.Given as goal
+
+-- the partitions so far have prepared
+abbrev pub invariant-loop-part : goal.invariant-loop-part
+invariant-loop-part l = ArePrepared l.parts l.part l.preparing
