@@ -94,13 +94,6 @@ impl<R: Read> LineReader<R> {
         })
     }
 
-    /// How many lines may still come.
-    pub fn lines_left(&self) -> u32
-        ensures { result ≡ self.now.lines }
-    {
-        self.lines
-    }
-
     /// The number of the line that comes next, or in which the input ends; that of the first is 1.
     pub fn next_line_number(&self) -> u32
         ensures { result ≡ next_line_number self.now.lines }
