@@ -26,7 +26,15 @@ pub fn live_run<T: Threads + Wait + Sync + Eprint + AllocGlobal, R: Read, W: Wri
     ensures { EndsLiveRun (R.remaining reader.old) (W.contents writer.old) (W.contents writer.new) result }
 {
     let ran = if shows_progress {
-        live(rt, rt.alloc(), reader, writer, turns, pumps, &Progress::new(rt))
+        live(
+            rt,
+            rt.alloc(),
+            reader,
+            writer,
+            turns,
+            pumps,
+            &Progress::new(rt),
+        )
     } else {
         live(rt, rt.alloc(), reader, writer, turns, pumps, &OpenGate)
     };

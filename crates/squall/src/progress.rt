@@ -41,9 +41,7 @@ impl<'a, E: Eprint> Progress<'a, E> {
         let jobs = self.jobs.load(Ordering::SeqCst);
         let complete = self.complete.load(Ordering::SeqCst);
         let segments = self.segments.load(Ordering::SeqCst);
-        let _ = eprint!(self.to;
-            "\r{answered} of {jobs} jobs, {complete} of {segments} segments"
-        );
+        let _ = eprint!(self.to; "\r{answered} of {jobs} jobs, {complete} of {segments} segments");
     }
 }
 

@@ -22,7 +22,13 @@ impl<'a> Write for Closed<'a> {
 fn writes_no_more_after_a_failed_write(rt: HostRuntime) -> Result<(), Fail> {
     let mut writes = 0;
     let mut input: &[u8] = b"x\n";
-    let status = obey_buffered(&rt, &["squall", "run"], &mut input, Closed(&mut writes), false);
+    let status = obey_buffered(
+        &rt,
+        &["squall", "run"],
+        &mut input,
+        Closed(&mut writes),
+        false,
+    );
     assert!(rt; status == 2);
     assert!(rt; writes == 1);
     Ok(())
