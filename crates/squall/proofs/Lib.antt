@@ -1,3 +1,2 @@
 mod Subcommands
-pub mod Endings
 pub mod Options

@@ -1,7 +1,9 @@
 // Live runs, what is said of them, and their exit status.
 ghost use Rattle.std.specs.Prelude.{◌≡◌, ◌≤◌};
 ghost use Rattle.sq_pull.specs.declared.numbers.TheConstants.{MAX_OWNERS};
-ghost use Rattle.squall.specs.Session.{live_status, EndsLiveRun};
+ghost use Rattle.sq_schema.specs.declared.schema.TheConstants.{MAX_TABLES};
+ghost use Rattle.sq_live.specs.Live.{RunsLive};
+ghost use Rattle.squall.specs.Session.{live_status, EndsAs};
 
 use crate::progress::Progress;
 use crate::session::{REFUSED, explain_write};
@@ -23,7 +25,7 @@ pub fn live_run<T: Threads + Wait + Sync + Eprint + AllocGlobal, R: Read, W: Wri
     shows_progress: bool,
 ) -> u8
     requires { pumps ≤ MAX_OWNERS }
-    ensures { EndsLiveRun (R.remaining reader.old) (W.contents writer.old) (W.contents writer.new) result }
+    ensures { EndsAs (RunsLive MAX_TABLES (R.remaining reader.old) (W.contents writer.old) (W.contents writer.new)) live_status result }
 {
     let ran = if shows_progress {
         live(

@@ -5,7 +5,7 @@ ghost use Rattle.std.specs.Prelude.{◌≡◌, map};
 ghost use Rattle.clap.specs.Words.{fault_of};
 ghost use Rattle.clap.specs.Simple.{subcommand_of};
 ghost use Rattle.squall.specs.Line.{squall};
-ghost use Rattle.squall.specs.Session.{IsExitStatus, EndsWell};
+ghost use Rattle.squall.specs.Session.{EndsWith, EndsBuffered};
 
 mod help;
 mod line;
@@ -39,8 +39,7 @@ fn obey<T: Threads + Wait + Sync + Print + Eprint + AllocGlobal, S: AsStr, R: Re
     writer: &mut W,
     at_terminal: bool,
 ) -> u8
-    ensures status { IsExitStatus result }
-    ensures well { result ≡ 0 → EndsWell (subcommand_of squall (map S.text words.now)) (fault_of squall (map S.text words.now)) (R.remaining reader.old) (W.contents writer.old) (W.contents writer.new) }
+    ensures { EndsWith (subcommand_of squall (map S.text words.now)) (fault_of squall (map S.text words.now)) (R.remaining reader.old) (W.contents writer.old) (W.contents writer.new) result }
 {
     match line_of(rt.alloc(), words) {
         Ok(Line::Run) => script(rt, reader, writer),
@@ -59,7 +58,7 @@ fn obey_buffered<
     R: Read,
     W: Write + Drop,
 >(rt: &T, words: &[S], reader: &mut R, writer: W, at_terminal: bool) -> u8
-    ensures { IsExitStatus result }
+    ensures { EndsBuffered (subcommand_of squall (map S.text words.now)) (fault_of squall (map S.text words.now)) (R.remaining reader.old) (W.contents writer) result }
 {
     let Ok(mut writer) = BufWriter::new(rt.alloc(), writer) else {
         return refuse_for_memory(rt);

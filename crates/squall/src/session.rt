@@ -1,10 +1,10 @@
 // Runs, what is said of their faults, and the exit status.
-ghost use Rattle.std.specs.Prelude.{◌≡◌, ◌⊎◌};
+ghost use Rattle.std.specs.Prelude.{◌≡◌};
 ghost use Rattle.clap.specs.Values.{kind_of};
 ghost use Rattle.sq_schema.specs.declared.schema.TheConstants.{MAX_TABLES};
 ghost use Rattle.sq_world.specs.Run.{Runs};
 ghost use Rattle.sq_world.specs.Listing.{Lists};
-ghost use Rattle.squall.specs.Session.{exit_status};
+ghost use Rattle.squall.specs.Session.{exit_status, EndsAs, IsUsageStatus};
 
 use clap::Error;
 use clap::error::ErrorKind;
@@ -23,8 +23,7 @@ pub fn script<R: Read, W: Write>(
     reader: &mut R,
     writer: &mut W,
 ) -> u8
-    ensures status { (result ≡ 0) ⊎ (result ≡ 2) }
-    ensures dumped { result ≡ 0 → Runs MAX_TABLES (R.remaining reader.old) (W.contents writer.old) (W.contents writer.new) Ending.Done }
+    ensures { EndsAs (Runs MAX_TABLES (R.remaining reader.old) (W.contents writer.old) (W.contents writer.new)) exit_status result }
 {
     let ran = run(rt.alloc(), reader, writer);
     explain_end(rt, ran);
@@ -38,8 +37,7 @@ pub fn listing<R: Read, W: Write>(
     reader: &mut R,
     writer: &mut W,
 ) -> u8
-    ensures status { (result ≡ 0) ⊎ (result ≡ 2) }
-    ensures listed { result ≡ 0 → Lists MAX_TABLES (R.remaining reader.old) (W.contents writer.old) (W.contents writer.new) Ending.Done }
+    ensures { EndsAs (Lists MAX_TABLES (R.remaining reader.old) (W.contents writer.old) (W.contents writer.new)) exit_status result }
 {
     let listed = ranges(rt.alloc(), reader, writer);
     explain_end(rt, listed);
@@ -89,8 +87,7 @@ fn explain(rt: &impl Eprint, located: &LocatedFault) {
 /// Prints what `clap` says of a command line: a help text that was asked for to standard output, anything else to
 /// standard error. Gives the exit status, 0 after a help text that was printed.
 pub fn print_usage<R: Print + Eprint>(rt: &R, error: &Error) -> u8
-    ensures status { (result ≡ 0) ⊎ (result ≡ 2) }
-    ensures asked { result ≡ 0 → (kind_of error.now ≡ ErrorKind.DisplayHelp) ⊎ (kind_of error.now ≡ ErrorKind.DisplayVersion) }
+    ensures { IsUsageStatus (kind_of error.now) result }
 {
     match error.print(rt) {
         Ok(()) if !error.use_stderr() => 0,
