@@ -29,7 +29,7 @@ use Rattle.sq_status.proofs.Totals.{own_le_total}
 pub grown_tree : (statuses : List Status) (views : List View) → IsTreeOf statuses views → IsGrown (status_at statuses)
 grown_tree statuses views tree = record {
   live = λ n touched. live n touched;
-  leaves = λ n leaf. not_split (status_at statuses n) (tree.leaves n (leb-true LEAVES n leaf));
+  leaves = λ n leaf. not_split (status_at statuses n) (tree.shape.leaves n (leb-true LEAVES n leaf));
 }
   where
     not_split : (st : Status) → st ≢ Split → is_split st ≡ false
@@ -45,7 +45,7 @@ grown_tree statuses views tree = record {
     live (suc zero) touched = refl
     live (suc (suc n)) touched =
         ap (λ b. b || is_split (status_at statuses (parent (suc (suc n))))) (ne_eqb (suc (suc n)) 1 (λ e. omega (arith, e)))
-        ∙ ap is_split (tree.above (suc (suc n)) (omega arith) (not_free (status_at statuses (suc (suc n))) touched))
+        ∙ ap is_split (tree.shape.above (suc (suc n)) (omega arith) (not_free (status_at statuses (suc (suc n))) touched))
 
 -- a node that stands in a list with its pull is counted
 times-Contains : (n pull : ℕ) (entries : List (ℕ × ℕ)) → Contains entries (n, pull) → 0 < times_with n pull entries

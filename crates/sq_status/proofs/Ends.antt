@@ -37,10 +37,12 @@ pub opens : IsTreeOf (replicate 63 Free) (fresh true false ∷ [])
 opens =
     let first = fresh true false in
     record {
-      count = length-replicate 63 Free;
-      pulls = λ n. subst (λ (st : Status). pull_of st < 2 ^ 32) (sym (all_free n)) (lit< tt);
-      leaves = λ n leaf e. let none = all_free n in cc;
-      above = λ n inner ne. absurd (ne (all_free n));
+      shape = record {
+        count = length-replicate 63 Free;
+        pulls = λ n. subst (λ (st : Status). pull_of st < 2 ^ 32) (sym (all_free n)) (lit< tt);
+        leaves = λ n leaf e. let none = all_free n in cc;
+        above = λ n inner ne. absurd (ne (all_free n));
+      };
       once = λ n st ne.
           let none = times_won-fresh n st true false in
           let status = ap (λ (x : Status). one_if (is_past st x)) (all_free n) ∙ free_past st ne in
@@ -77,10 +79,7 @@ alone statuses views tree id v at first live all =
     tree.joined seat u at' (is_spent u.spent (omega (arith, two, count.1, mine)))
     in
     record {
-      count = tree.count;
-      pulls = tree.pulls;
-      leaves = tree.leaves;
-      above = tree.above;
+      shape = tree.shape;
       once = λ n st ne.
           let sum = only_total (times_won n st) views id v at (λ seat u apart at'. no_counts n st u (others seat u apart at')) in
           let old = tree.once n st ne in
@@ -116,7 +115,7 @@ pub word_fits : (words : List ℕ) (views : List View) → Kept words views → 
 word_fits words views kept i word at =
     let statuses = kept.0 in (
       get_or statuses i Free,
-      subst (λ (st : Status). pull_of st < 2 ^ 32) (ap (λ (n : ℕ). status_at statuses n) (let next : i + 1 ≡ suc i = omega arith in next)) (kept.2.pulls (i + 1)),
+      subst (λ (st : Status). pull_of st < 2 ^ 32) (ap (λ (n : ℕ). status_at statuses n) (let next : i + 1 ≡ suc i = omega arith in next)) (kept.2.shape.pulls (i + 1)),
       sym (read_at words i word 0 at) ∙ ap (λ (l : List ℕ). get_or l i 0) kept.1 ∙ get_or-map word_of statuses i Free,
     )
 
@@ -124,7 +123,7 @@ word_fits words views kept i word at =
 pub same_words : (words : List ℕ) (views : List View) → Kept words views → (read : List Status) → length read ≡ 63 → ((k : ℕ) → k < 63 → word_of (get_or read k Free) ≡ get_or words k 0)
     → words ≡ map word_of read
 same_words words views kept read long each =
-    let count : length words ≡ 63 = ap length kept.1 ∙ length-map kept.0 word_of ∙ kept.2.count in
+    let count : length words ≡ 63 = ap length kept.1 ∙ length-map kept.0 word_of ∙ kept.2.shape.count in
     fill_by_all (λ k. get_or words k 0) words 63 0 count (λ k h. refl)
     ∙ sym (fill_by_all (λ k. get_or words k 0) (map word_of read) 63 0 (length-map read word_of ∙ long) (λ k h. get_or-map word_of read k Free ∙ each k h))
 

@@ -39,7 +39,7 @@ module _ (s : State (Unit {0}) View) (statuses : List Status) (words : s.words �
   status = status_at statuses (i + 1)
 
   word_is : slice_index s.words i ≡ word_of status
-  word_is = ap (λ (l : List ℕ). slice_index l i) words ∙ word_at statuses i (let count = tree.count in omega arith)
+  word_is = ap (λ (l : List ℕ). slice_index l i) words ∙ word_at statuses i (let count = tree.shape.count in omega arith)
 
   seen_after : Kept (set s.words i (slice_index s.words i)) (set s.views id (saw v (i + 1) status))
   seen_after = (statuses, set-get_or s.words i 0 ∙ words, look_kept statuses s.views tree id v at live (i + 1))
@@ -70,7 +70,7 @@ module _ (s : State (Unit {0}) View) (statuses : List Status) (words : s.words �
         id,
         win_kept statuses s.views tree id v at live i (i + 1) new refl within may was,
         there s.views id v (won v (i + 1) new) at,
-        sym (status_at-set statuses i (i + 1) new refl (let count = tree.count in omega arith)),
+        sym (status_at-set statuses i (i + 1) new refl (let count = tree.shape.count in omega arith)),
       );
     }
 

@@ -63,10 +63,7 @@ module _ (statuses : List Status) (views : List View) (tree : IsTreeOf statuses 
       let views' = set views id (gave v) in
       let new = fresh false false in
       record {
-        count = tree.count;
-        pulls = tree.pulls;
-        leaves = tree.leaves;
-        above = tree.above;
+        shape = tree.shape;
         once = λ n st ne.
             let changed = total_set (times_won n st) views id v (gave v) at in
             let longer = total_snoc (times_won n st) views' new in
@@ -123,10 +120,7 @@ module _ (statuses : List Status) (views : List View) (tree : IsTreeOf statuses 
         let views' = set views id (took v w) in
         let gone = fresh false true in
         record {
-          count = tree.count;
-          pulls = tree.pulls;
-          leaves = tree.leaves;
-          above = tree.above;
+          shape = tree.shape;
           once = λ n st ne.
               let changed = total_set (times_won n st) views id v (took v w) at in
               let then = total_set (times_won n st) views' other w gone at_other in

@@ -42,7 +42,7 @@ module _ (statuses : List Status) (views : List View) (tree : IsTreeOf statuses 
   is_later seat v at n = (λ st seen. tree.looks seat v at n st seen, λ st some_won. won_past seat v at n st some_won)
 
   pub fits : (n : ℕ) → IsStatusOf n (status_at statuses n)
-  fits n = (tree.pulls n, λ e. dite (dec_le 32 n) (λ h. absurd (tree.leaves n h e)) (λ h. lt_of_not-le h))
+  fits n = (tree.shape.pulls n, λ e. dite (dec_le 32 n) (λ h. absurd (tree.shape.leaves n h e)) (λ h. lt_of_not-le h))
 
   -- a node that a seat knows to be split is split
   pub is_split : (seat : ℕ) (v : View) → get_elem? views seat ≡ some v → (n : ℕ) → KnowsSplit v n → status_at statuses n ≡ Split
@@ -87,10 +87,7 @@ look_kept statuses views tree id v at live n =
     let w = saw v n found in
     let role : SameRole v w = record { first = refl; spent = refl; given = refl; taken = refl } in
     record {
-      count = tree.count;
-      pulls = tree.pulls;
-      leaves = tree.leaves;
-      above = tree.above;
+      shape = tree.shape;
       once = λ m st ne.
           let changed = total_set (times_won m st) views id v w at in
           let same = times_won-saw m n st found v in
@@ -128,7 +125,7 @@ module _ (statuses : List Status) (views : List View) (tree : IsTreeOf statuses 
 
   at_node : status_at after n ≡ new
   unfolding after
-  at_node = status_at-set statuses i n new here_n (let count = tree.count in omega arith)
+  at_node = status_at-set statuses i n new here_n (let count = tree.shape.count in omega arith)
 
   at_other : (m : ℕ) → m ≢ n → status_at after m ≡ status_at statuses m
   unfolding after
@@ -146,27 +143,27 @@ module _ (statuses : List Status) (views : List View) (tree : IsTreeOf statuses 
   pulls_kept m =
       dite (ℕ_discrete m n)
       (λ e. subst (λ (x : Status). pull_of x < 2 ^ 32) (sym (ap (status_at after) e ∙ at_node)) may.fits.0)
-      (λ ne. subst (λ (x : Status). pull_of x < 2 ^ 32) (sym (at_other m ne)) (tree.pulls m))
+      (λ ne. subst (λ (x : Status). pull_of x < 2 ^ 32) (sym (at_other m ne)) (tree.shape.pulls m))
 
   leaves_kept : (m : ℕ) → 32 ≤ m → status_at after m ≢ Split
   leaves_kept m leaf e =
       dite (ℕ_discrete m n)
       (λ same. let inner = may.fits.1 (sym at_node ∙ ap (status_at after) (sym same) ∙ e) in absurd (omega arith))
-      (λ ne. tree.leaves m leaf (sym (at_other m ne) ∙ e))
+      (λ ne. tree.shape.leaves m leaf (sym (at_other m ne) ∙ e))
 
   -- the parent of the node is split, whichever step it is
   parent_split : 1 < n → status_at statuses (parent n) ≡ Split
   parent_split h =
       from_free (status_at statuses (parent n) ≡ Split) new
       (λ free. is_split statuses views tree id v at (parent n) (may.under free h))
-      (λ taken. tree.above n h (λ e. taken (sym was ∙ e)))
+      (λ taken. tree.shape.above n h (λ e. taken (sym was ∙ e)))
 
   above_kept : (m : ℕ) → 1 < m → status_at after m ≢ Free → status_at after (parent m) ≡ Split
   above_kept m h taken =
       dite (ℕ_discrete m n)
       (λ same. let h' : 1 < n = omega arith in ap (λ (k : ℕ). status_at after (parent k)) same ∙ at_other (parent n) (half_below n h') ∙ parent_split h')
       (λ ne.
-      let up = tree.above m h (λ e. taken (at_other m ne ∙ e)) in
+      let up = tree.shape.above m h (λ e. taken (at_other m ne ∙ e)) in
       dite (ℕ_discrete (parent m) n)
       (λ same. absurd (before-split new (sym was ∙ ap (status_at statuses) (sym same) ∙ up)))
       (λ ne'. at_other (parent m) ne' ∙ up))
@@ -206,10 +203,7 @@ module _ (statuses : List Status) (views : List View) (tree : IsTreeOf statuses 
   pub win_kept : IsTreeOf (set statuses i new) (set views id (won v n new))
   unfolding after
   win_kept = record {
-    count = length-set statuses i new ∙ tree.count;
-    pulls = pulls_kept;
-    leaves = leaves_kept;
-    above = above_kept;
+    shape = record { count = length-set statuses i new ∙ tree.shape.count; pulls = pulls_kept; leaves = leaves_kept; above = above_kept };
     once = once_kept;
     looks = looks_kept;
     joined = joined_kept statuses views tree id v (won v n new) live role;

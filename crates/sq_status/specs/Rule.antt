@@ -15,14 +15,18 @@ use Rattle.sq_status.specs.View.{one_if, times_won, HasSeen, HasNoLists, alive, 
 abbrev pub IsPast : Status → Status → Type 0
 IsPast earlier later = is_past earlier later ≡ true
 
--- the statuses are those of a split tree, and they are what the seats made of it and saw of it
-pub record IsTreeOf (statuses : List Status) (views : List View) : Type 0 where
+-- the statuses are those of a split tree
+pub record IsSplitTree (statuses : List Status) : Type 0 where
   pub count : length statuses ≡ NODES
   -- the pulls have numbers of 32 bits
   pub pulls : (n : ℕ) → pull_of (status_at statuses n) < 2 ^ 32
   pub leaves : (n : ℕ) → LEAVES ≤ n → status_at statuses n ≢ Split
   -- a node that isn't free has a split parent
   pub above : (n : ℕ) → 1 < n → status_at statuses n ≢ Free → status_at statuses (parent n) ≡ Split
+
+-- the statuses are those of a split tree, and they are what the seats made of it and saw of it
+pub record IsTreeOf (statuses : List Status) (views : List View) : Type 0 where
+  pub shape : IsSplitTree statuses
   -- over all seats a node was brought to a status once where it has that status or a later one, and else never
   pub once : (n : ℕ) (st : Status) → st ≢ Free → total (times_won n st) views ≡ one_if (is_past st (status_at statuses n))
   -- a node is at or past all that a seat found there
