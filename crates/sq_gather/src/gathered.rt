@@ -19,15 +19,12 @@ pub struct Gathered {
 }
 
 impl Model for Gathered {
-    ghost use Rattle.std.specs.Coded.{Coded, coded_ℕ, codes};
-    ghost use Rattle.std.specs.Ordering.{nat_cmp};
-    ghost use Rattle.std.specs.FinMap as fin;
-    ghost use Rattle.sq_schema.specs.Family.{FamilyValue};
+    ghost use Rattle.sq_node_model.specs.StoreCode.{store_codes};
     ghost use Rattle.sq_node_model.specs.Gathered.{GatheredValue};
 
     ghost Value = { GatheredValue };
 
-    ghost coded = { let family : Coded FamilyValue = Prim.hlevel codes in let store : Coded (fin.FinMap nat_cmp FamilyValue) = fin.code coded_ℕ family in Prim.hlevel (codes, store) };
+    ghost coded = { Prim.hlevel store_codes };
 
     ghost view = { λ g. record { stores = g.stores.items; links = g.links.items; words = g.words.items; receipts = g.receipts.items } };
 }

@@ -42,16 +42,13 @@ pub struct Node {
 }
 
 impl Model for Node {
-    ghost use Rattle.std.specs.Coded.{Coded, coded_ℕ, codes};
-    ghost use Rattle.std.specs.Ordering.{nat_cmp};
-    ghost use Rattle.std.specs.FinMap as fin;
-    ghost use Rattle.sq_schema.specs.Family.{FamilyValue};
+    ghost use Rattle.sq_node_model.specs.StoreCode.{store_codes};
     ghost use Rattle.sq_node.specs.NodeState.{NodeState};
     ghost use Rattle.sq_node.specs.Settled.{IsNode};
 
     ghost Value = { NodeState };
 
-    ghost coded = { let family : Coded FamilyValue = Prim.hlevel codes in let store : Coded (fin.FinMap nat_cmp FamilyValue) = fin.code coded_ℕ family in Prim.hlevel (codes, store) };
+    ghost coded = { Prim.hlevel store_codes };
 
     ghost view = { λ n. record {
       core = n.core.core;

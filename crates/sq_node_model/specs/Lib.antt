@@ -12,3 +12,4 @@ pub mod Cores
 pub mod Gathered
 pub mod Spots
 pub mod Placed
+pub mod StoreCode
