@@ -10,3 +10,4 @@ pub mod NewLinks
 pub mod NewNodes
 pub mod Bridges
 pub mod Keeps
+pub mod Told

@@ -9,7 +9,7 @@ use Rattle.sq_node.specs.Looks.{OnlyLooked, SeatsLooked, HasNoneToComplete}
 use Rattle.sq_node.specs.Steps.{Completes}
 use Rattle.sq_node.specs.declared.stepped.Stepped.TheVariants.{Did, Nothing}
 use Rattle.sq_node.proofs.Stays.{complete_stays}
-use Rattle.sq_node.proofs.Keeps.{complete_keeps}
+use Rattle.sq_node.proofs.Told.{complete_told}
 use Rattle.sq_node.proofs.Looked.{no_looks, seats_looked_at, settled_seats}
 use Rattle.sq_node.proofs.Settles.{other_seats}
 use Rattle.sq_node.proofs.Completing.{after_one, after_none, one_exists, completed_between, none_of_all}
@@ -27,11 +27,12 @@ invariant_of-self c =
     let inside = c.self.inside in
     after_none inside.core.core inside.seats.items c.complete_first.new.seats.items inside.to_complete.items c.complete_first.new.nodes.items inside.complete.items c.in_default.ensures c.self.invariant
 
-pub returns-in_default-clause-step : goal.returns-in_default-clause-step
-returns-in_default-clause-step c =
+pub returns-in_default : goal.returns-in_default
+returns-in_default c =
     let inside = c.self.inside in
     let none = c.in_default.ensures in
-    let new = c.complete_first.new.seats.items in (
+    let new = c.complete_first.new.seats.items in
+    complete_told c.args.fabric.now c.args.self.now Nothing _ c.requires (
       record {
         seats = subst (λ (node : NodeState). SeatsLooked node.seats new) c.self.view_is none.looked;
         after = ap (λ (node : NodeState). record node { seats = new }) c.self.view_is;
@@ -41,12 +42,6 @@ returns-in_default-clause-step c =
           (none_of_all inside.core.core inside.seats.items new inside.to_complete.items c.complete_first.new.nodes.items inside.complete.items none c.self.invariant seg n
           (subst (λ (node : NodeState). is_whole (loaded_at node.core seg) n ≡ true) (sym c.self.view_is) whole)),
     )
-
-pub returns-in_default-clause-of : goal.returns-in_default-clause-of
-returns-in_default-clause-of c = complete_stays c.args.fabric.now c.args.self.now Nothing _ (returns-in_default-clause-step c) c.requires
-
-pub returns-in_default-clause-holds : goal.returns-in_default-clause-holds
-returns-in_default-clause-holds c = complete_keeps c.args.self.now Nothing _ (returns-in_default-clause-step c)
 
 pub read_complete_at-self-inside-requires-clause-seats : goal.read_complete_at-self-inside-requires-clause-seats
 read_complete_at-self-inside-requires-clause-seats c =
@@ -73,14 +68,12 @@ invariant_of-self-2 c =
     (settled_seats new last (seats_looked_at _ OnlyLooked new new last (λ v w looked. looked) (no_looks new) c.read_complete_at-self-inside.ensures.looked))
     (after_one inside.core.core inside.seats.items new inside.to_complete.items c.complete_first.new.nodes.items c.in-Some.seg inside.complete.items c.in-Some.ensures c.self.invariant)
 
-pub returns-clause-step : goal.returns-clause-step
-returns-clause-step c =
+pub returns : goal.returns
+returns c =
     let inside = c.self.inside in
     let new = c.complete_first.new.seats.items in
     let last = c.read_complete_at-self-inside.new.seats.items in
-    completed_between inside.core.core inside.seats.items new inside.to_complete.items c.complete_first.new.nodes.items c.in-Some.seg inside.complete.items c.in-Some.ensures c.self.invariant
+    complete_told c.args.fabric.now c.args.self.now Did _ c.requires
+    (completed_between inside.core.core inside.seats.items new inside.to_complete.items c.complete_first.new.nodes.items c.in-Some.seg inside.complete.items c.in-Some.ensures c.self.invariant
     last (seats_looked_at _ OnlyLooked new new last (λ v w looked. looked) (no_looks new) c.read_complete_at-self-inside.ensures.looked) c.args.self.now _
-    (ap (λ (node : NodeState). node.core) (sym c.self.view_is)) (ap (λ (node : NodeState). node.seats) (sym c.self.view_is)) (ap (λ (node : NodeState). record node { seats = last }) c.self.view_is)
-
-pub returns-clause-holds : goal.returns-clause-holds
-returns-clause-holds c = complete_keeps c.args.self.now Did _ (returns-clause-step c)
+    (ap (λ (node : NodeState). node.core) (sym c.self.view_is)) (ap (λ (node : NodeState). node.seats) (sym c.self.view_is)) (ap (λ (node : NodeState). record node { seats = last }) c.self.view_is))

@@ -6,27 +6,31 @@ use Rattle.sq_exec.specs.Serving.{must_wait, IsTaken}
 use Rattle.sq_store.specs.StoreValue.{log_length}
 use Rattle.sq_node_model.specs.Steps.{receipt_of, receipts_after}
 use Rattle.sq_node.specs.NodeState.{NodeState}
+use Rattle.sq_node.specs.Settled.{IsNode}
 use Rattle.sq_node.specs.Steps.{ClaimsAt}
 use Rattle.sq_node.specs.declared.stepped.Stepped.TheVariants.{Did}
-use Rattle.sq_node.proofs.Stays.{job_stays}
-use Rattle.sq_node.proofs.Keeps.{job_keeps}
+use Rattle.sq_node.proofs.Told.{job_told}
 use Rattle.sq_node.proofs.Settles.{other_seats}
 use Rattle.sq_node.proofs.Served.{after_taken, submitted_position, receipt_same, settled_claims, pulled_claims}
 use Rattle.sq_node.proofs.node.Node.step_job.Goals as goal
+use Rattle.sq_node.proofs.node.Node.step_job.Goals.{In-Ok}
+use Rattle.sq_node.proofs.node.Node.step_job.Given.{Over}
 
 pub reactive-requires-clause-trees : goal.reactive-requires-clause-trees
 reactive-requires-clause-trees g c =
     ap length c.shared-shared.ensures.trees ∙ c.shared-shared.ensures.fabric.trees ∙ ap (λ (recon : ReconValue). length recon.segments) (sym c.shared-shared.ensures.recon)
 
-pub invariant_of-self-in-Done : goal.invariant_of-self-in-Done
-invariant_of-self-in-Done g c =
+-- what the node keeps, once the partition took the job
+job_taken : (g : Over) (c : In-Ok g) → let inside = c.self.inside in IsNode c.submit.new.self.core inside.seats.items inside.to_complete.items inside.complete.items
+job_taken g c =
     let inside = c.self.inside in
     after_taken (must_wait inside.core.core c.in-Some.job.root) inside.core.core c.submit.new.self.core c.in-Some.job c.in-Ok.outcome inside.seats.items inside.to_complete.items inside.complete.items c.in-Ok.ensures.ok c.self.invariant
 
+pub invariant_of-self-in-Done : goal.invariant_of-self-in-Done
+invariant_of-self-in-Done g c = job_taken g (goal.at.invariant_of-self-in-Done g c).In-Ok
+
 pub invariant_of-self-in-Moved : goal.invariant_of-self-in-Moved
-invariant_of-self-in-Moved g c =
-    let inside = c.self.inside in
-    after_taken (must_wait inside.core.core c.in-Some.job.root) inside.core.core c.submit.new.self.core c.in-Some.job c.in-Ok.outcome inside.seats.items inside.to_complete.items inside.complete.items c.in-Ok.ensures.ok c.self.invariant
+invariant_of-self-in-Moved g c = job_taken g (goal.at.invariant_of-self-in-Moved g c).In-Ok
 
 pub invariant_of-self-in-Waits : goal.invariant_of-self-in-Waits
 invariant_of-self-in-Waits g c =
@@ -35,10 +39,10 @@ invariant_of-self-in-Waits g c =
     let after = c.reactive.new.seats.items in
     let claims : ClaimsAt c.in-Waits.seg c.in-Waits.leaf inside.seats.items after = pulled_claims _ c.in-Waits.seg c.in-Waits.leaf _ _ inside.seats.items after c.reactive.result _ _ c.reactive.ensures.pulled c.reactive.ensures.err in
     other_seats new inside.seats.items after inside.to_complete.items inside.complete.items (settled_claims c.in-Waits.seg c.in-Waits.leaf inside.seats.items after claims)
-    (after_taken (must_wait inside.core.core c.in-Some.job.root) inside.core.core new c.in-Some.job c.in-Ok.outcome inside.seats.items inside.to_complete.items inside.complete.items c.in-Ok.ensures.ok c.self.invariant)
+    (job_taken g (goal.at.invariant_of-self-in-Waits g c).In-Ok)
 
-pub returns-in-Done-clause-step : goal.returns-in-Done-clause-step
-returns-in-Done-clause-step g c =
+pub returns-in-Done : goal.returns-in-Done
+returns-in-Done g c =
     let inside = c.self.inside in
     let job = c.in-Some.job in
     let reply = c.in-Done.reply in
@@ -50,17 +54,18 @@ returns-in-Done-clause-step g c =
     receipt_same old.store job reply (log_length new.store job.root) c.receipt.result c.receipt.ensures (submitted_position waits old new job reply taken) in
     let receipts : c.add.new.self.receipts ≡ inside.desk.receipts ++ receipt_of old.store job reply ∷ [] = c.add.ensures.receipts ∙ (λ k. c.reserve.ensures.receipts k ++ receipt k ∷ []) in
     let seats = inside.seats.items in
-    record {
+    job_told c.args.fabric.now c.args.self.now Did _ c.requires
+    (record {
       txn = job;
       outcome = Done reply;
       taken = subst (λ (node : NodeState). IsTaken (must_wait node.core job.root) node.core job (Done reply) new) c.self.view_is taken;
       claims = ap (λ (node : NodeState). node.seats) c.self.view_is;
       after = (λ k. record { core = new; seats = seats; sends = inside.sends.items; recvs = inside.recvs.items; receipts = receipts k })
           ∙ ap (λ (node : NodeState). record node { core = new; seats = seats; receipts = receipts_after node.core.store job (Done reply) node.receipts }) c.self.view_is;
-    }
+    })
 
-pub returns-in-Waits-clause-step : goal.returns-in-Waits-clause-step
-returns-in-Waits-clause-step g c =
+pub returns-in-Waits : goal.returns-in-Waits
+returns-in-Waits g c =
     let inside = c.self.inside in
     let job = c.in-Some.job in
     let seg = c.in-Waits.seg in
@@ -71,32 +76,15 @@ returns-in-Waits-clause-step g c =
     let taken : IsTaken waits old job (Waits seg leaf) new = subst (λ (o : Outcome). IsTaken waits old job o new) c.in-Waits.is c.in-Ok.ensures.ok in
     let after = c.reactive.new.seats.items in
     let claims : ClaimsAt seg leaf inside.seats.items after = pulled_claims _ seg leaf _ _ inside.seats.items after c.reactive.result _ _ c.reactive.ensures.pulled c.reactive.ensures.err in
-    record {
+    job_told c.args.fabric.now c.args.self.now Did _ c.requires
+    (record {
       txn = job;
       outcome = Waits seg leaf;
       taken = subst (λ (node : NodeState). IsTaken (must_wait node.core job.root) node.core job (Waits seg leaf) new) c.self.view_is taken;
       claims = subst (λ (node : NodeState). ClaimsAt seg leaf node.seats after) c.self.view_is claims;
       after = (λ k. record { core = new; seats = after; sends = inside.sends.items; recvs = inside.recvs.items; receipts = c.reserve.ensures.receipts k })
           ∙ ap (λ (node : NodeState). record node { core = new; seats = after }) c.self.view_is;
-    }
+    })
 
-pub returns-in-Done-clause-holds : goal.returns-in-Done-clause-holds
-returns-in-Done-clause-holds g c = job_keeps c.args.self.now Did _ (returns-in-Done-clause-step g c)
-
-pub returns-in-Waits-clause-holds : goal.returns-in-Waits-clause-holds
-returns-in-Waits-clause-holds g c = job_keeps c.args.self.now Did _ (returns-in-Waits-clause-step g c)
-
-pub returns-in-Moved-clause-step : goal.returns-in-Moved-clause-step
-returns-in-Moved-clause-step g c = search rules
-
-pub returns-in-Moved-clause-holds : goal.returns-in-Moved-clause-holds
-returns-in-Moved-clause-holds g c = job_keeps c.args.self.now Did _ (returns-in-Moved-clause-step g c)
-
-pub returns-in-Done-clause-of : goal.returns-in-Done-clause-of
-returns-in-Done-clause-of g c = job_stays c.args.fabric.now c.args.self.now Did _ (returns-in-Done-clause-step g c) c.requires
-
-pub returns-in-Waits-clause-of : goal.returns-in-Waits-clause-of
-returns-in-Waits-clause-of g c = job_stays c.args.fabric.now c.args.self.now Did _ (returns-in-Waits-clause-step g c) c.requires
-
-pub returns-in-Moved-clause-of : goal.returns-in-Moved-clause-of
-returns-in-Moved-clause-of g c = job_stays c.args.fabric.now c.args.self.now Did _ (returns-in-Moved-clause-step g c) c.requires
+pub returns-in-Moved : goal.returns-in-Moved
+returns-in-Moved g c = job_told c.args.fabric.now c.args.self.now Did _ c.requires (search rules)

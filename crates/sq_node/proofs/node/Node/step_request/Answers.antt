@@ -7,8 +7,7 @@ use Rattle.sq_exec.specs.Moving.{begun_core}
 use Rattle.sq_node.specs.NodeState.{NodeState}
 use Rattle.sq_node.specs.Looks.{OnlyLooked, SeatsLooked}
 use Rattle.sq_node.specs.declared.stepped.Stepped.TheVariants.{Did, Nothing}
-use Rattle.sq_node.proofs.Stays.{request_stays}
-use Rattle.sq_node.proofs.Keeps.{request_keeps}
+use Rattle.sq_node.proofs.Told.{request_told}
 use Rattle.sq_node.proofs.Settles.{after_begun, same_loads, other_seats}
 use Rattle.sq_node.proofs.Looked.{settled_at, settled_begun, settled_looked, seats_looked_at, no_looks}
 use Rattle.sq_node.proofs.node.Node.step_request.Goals as goal
@@ -37,31 +36,20 @@ invariant_of-self-3 g c =
     (settled_at named.seg OnlyLooked old new (λ v w looked n settled. settled_looked v w n looked settled) c.if-begin.ensures.0)
     (same_loads inside.core.core c.begin.new.core.core old inside.to_complete.items inside.complete.items (ap (λ (core : CoreValue). core.recon) same) (ap (λ (core : CoreValue). core.loaded) same) c.self.invariant)
 
-pub returns-clause-step : goal.returns-clause-step
-returns-clause-step g c =
+pub returns : goal.returns
+returns g c =
     let inside = c.self.inside in
     let named = c.in-Some-named.named in
     let old = inside.seats.items in
     let new = c.begin.new.seats.items in
     let same : c.begin.new.core.core ≡ inside.core.core = c.if-begin.ensures.1 ∙ c.reserve_begin.ensures.same in
     let looked : SeatsLooked old new = seats_looked_at named.seg OnlyLooked old old new (λ v w looks. looks) (no_looks old) c.if-begin.ensures.0 in
-    record {
+    request_told c.args.fabric.now c.args.self.now Nothing _ c.requires
+    (record {
       seats = subst (λ (node : NodeState). SeatsLooked node.seats new) c.self.view_is looked;
       after = (λ k. record { core = same k; seats = new; sends = inside.sends.items; recvs = inside.recvs.items; receipts = inside.desk.receipts })
           ∙ ap (λ (node : NodeState). record node { seats = new }) c.self.view_is;
-    }
+    })
 
-pub returns-clause-holds : goal.returns-clause-holds
-returns-clause-holds g c = request_keeps c.args.self.now Nothing _ (returns-clause-step g c)
-
-pub returns-then-begin-clause-step : goal.returns-then-begin-clause-step
-returns-then-begin-clause-step g c = search rules
-
-pub returns-then-begin-clause-holds : goal.returns-then-begin-clause-holds
-returns-then-begin-clause-holds g c = request_keeps c.args.self.now Did _ (returns-then-begin-clause-step g c)
-
-pub returns-then-begin-clause-of : goal.returns-then-begin-clause-of
-returns-then-begin-clause-of g c = request_stays c.args.fabric.now c.args.self.now Did _ (returns-then-begin-clause-step g c) c.requires
-
-pub returns-clause-of : goal.returns-clause-of
-returns-clause-of g c = request_stays c.args.fabric.now c.args.self.now Nothing _ (returns-clause-step g c) c.requires
+pub returns-then-begin : goal.returns-then-begin
+returns-then-begin g c = request_told c.args.fabric.now c.args.self.now Did _ c.requires (search rules)
