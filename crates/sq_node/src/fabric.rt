@@ -142,22 +142,13 @@ impl Fabric {
         ensures links { result.links.items ≡ self.links }
         ensures fabric { IsFabric self }
     {
-        let Fabric {
-            recon,
-            trees,
-            seats,
-            links,
-            requests,
-            jobs,
-            ..
-        } = self;
         FabricParts {
-            recon,
-            trees,
-            seats,
-            links,
-            requests,
-            jobs,
+            recon: self.recon,
+            trees: self.trees,
+            seats: self.seats,
+            links: self.links,
+            requests: self.requests,
+            jobs: self.jobs,
         }
     }
 
