@@ -14,25 +14,28 @@ use Rattle.sq_node.specs.declared.ends.RecvEnd.{RecvEnd}
 use Rattle.sq_node.specs.Ends.{no_link, link_from, send_end, recv_end}
 use Rattle.sq_node.specs.FabricValue.{FabricValue, IsFabric, ends_of}
 use Rattle.sq_node.specs.NodeState.{NodeState, IsNodeOf}
+use Rattle.sq_node.proofs.Bridges.{stands_below}
 use Rattle.sq_gather.specs.LinkEnds.{LinkEndsValue}
 use Rattle.sq_gather.specs.Ends.{WasPut, AreApart, SourcesPut, DestinationsPut, send_link, recv_link, with_source, with_destination}
 use Rattle.sq_ranges.proofs.LinksFrom.{stands_from, found_from}
 
+-- a node's end for the other partition stands among its ends, and it is of this link
+pub record StandsFor {X : Type 0} (link_of : X → ℕ) (ends : List (Option X)) (other i : ℕ) : Type 0 where
+  pub end : X
+  pub there : slice_index_or ends other None ≡ Some end
+  pub here : link_of end ≡ i
+
 -- the node's end of the link to this partition is there
 pub record HasSource (node : NodeState) (dst i : ℕ) (left : LinkEndsValue) : Type 0 where
-  pub end : SendEnd
-  pub there : send_end node.sends dst ≡ Some end
-  pub here : end.link ≡ i
-  pub sender : left.sender ≡ Some end.pass
+  pub own : StandsFor send_link node.sends dst i
+  pub sender : left.sender ≡ Some own.end.pass
   pub notes : left.notes ≡ (out_at node.core dst).notes
   pub outbox : left.outbox ≡ (out_at node.core dst).outbox
 
 -- the node's end of the link from this partition is there
 pub record HasDestination (node : NodeState) (src i : ℕ) (left : LinkEndsValue) : Type 0 where
-  pub end : RecvEnd
-  pub there : recv_end node.recvs src ≡ Some end
-  pub here : end.link ≡ i
-  pub receiver : left.receiver ≡ Some end.pass
+  pub own : StandsFor recv_link node.recvs src i
+  pub receiver : left.receiver ≡ Some own.end.pass
   pub inbox : left.inbox ≡ inbox_at node.core src
 
 -- the ends of these nodes are there
@@ -42,17 +45,12 @@ pub record AreFilled (links : List LinkValue) (nodes : List NodeState) (ends : L
   pub source : (i : ℕ) (link : LinkValue) (left : LinkEndsValue) (node : NodeState) → slice_get links i ≡ Some link → slice_get ends i ≡ Some left → slice_get nodes link.src ≡ Some node → HasSource node link.dst i left
   pub destination : (i : ℕ) (link : LinkValue) (left : LinkEndsValue) (node : NodeState) → slice_get links i ≡ Some link → slice_get ends i ≡ Some left → slice_get nodes link.dst ≡ Some node → HasDestination node link.src i left
 
-none_or_some : {X : Type 0} (found : Option X) (x : X) → found ≡ None → found ≡ Some x → ⊥
-none_or_some found x none some = cc
-
--- what reads as something stands within the list
-within : {X : Type 0} (xs : List (Option X)) (k : ℕ) (x : X) → slice_index_or xs k None ≡ Some x → k < length xs
-within xs k x there =
-    ⊎_elim (λ (low : k < length xs). low) (λ (past : length xs ≤ k). absurd (none_or_some (slice_index_or xs k None) x (get_or_past xs k None past) there)) (cases_lt k (length xs))
-
-end_of : {X : Type 0} (link_of : X → ℕ) (found : Option X) (i : ℕ) → option_map link_of found ≡ Some i → (end : X) × (found ≡ Some end) × (link_of end ≡ i)
-end_of link_of None i is = absurd cc
-end_of link_of (Some end) i is = (end, refl, same_Some (link_of end) i is)
+end_of : {X : Type 0} (link_of : X → ℕ) (ends : List (Option X)) (other i : ℕ) → option_map link_of (slice_index_or ends other None) ≡ Some i → StandsFor link_of ends other i
+end_of {X} link_of ends other i is = by (slice_index_or ends other None) refl is
+  where
+    by : (found : Option X) → slice_index_or ends other None ≡ found → option_map link_of found ≡ Some i → StandsFor link_of ends other i
+    by None there is = absurd cc
+    by (Some end) there is = record { end = end; there = there; here = same_Some (link_of end) i is }
 
 -- ends are apart whose links each tell the place of their end
 apart_by : {X : Type 0} (link_of : X → ℕ) (ends : List (Option X)) (links : List LinkValue) (place_of : LinkValue → ℕ)
@@ -71,10 +69,10 @@ still read alike (inr same) = ap read same
 module _ (fabric : FabricValue) (is : IsFabric fabric) (node : NodeState) (of : IsNodeOf fabric node) where
   -- a node's end is of the link that leads from there to the end's partition
   pub sends_from : (dst : ℕ) (end : SendEnd) → send_end node.sends dst ≡ Some end → link_from fabric.links node.core.part dst ≡ Some end.link
-  sends_from dst end there = sym (of.sends.which dst (within node.sends dst end there)) ∙ ap (option_map send_link) there
+  sends_from dst end there = sym (of.sends.which dst (stands_below node.sends dst end there)) ∙ ap (option_map send_link) there
 
   pub recvs_from : (src : ℕ) (end : RecvEnd) → recv_end node.recvs src ≡ Some end → link_from fabric.links src node.core.part ≡ Some end.link
-  recvs_from src end there = sym (of.recvs.which src (within node.recvs src end there)) ∙ ap (option_map recv_link) there
+  recvs_from src end there = sym (of.recvs.which src (stands_below node.recvs src end there)) ∙ ap (option_map recv_link) there
 
   -- it leads between these partitions
   sent_over : (dst : ℕ) (end : SendEnd) → send_end node.sends dst ≡ Some end → (link : LinkValue) × (slice_get fabric.links end.link ≡ Some link) × (link.src ≡ node.core.part) × (link.dst ≡ dst)
@@ -90,15 +88,15 @@ module _ (fabric : FabricValue) (is : IsFabric fabric) (node : NodeState) (of : 
   recvs_apart = apart_by recv_link node.recvs fabric.links (λ (l : LinkValue). l.src) (λ src end there. let over = received_over src end there in (over.0, over.1, over.2))
 
   -- the end of a link that leads from there is there
-  pub send_there : (i : ℕ) (link : LinkValue) → slice_get fabric.links i ≡ Some link → link.src ≡ node.core.part → link.dst < fabric.parts → (end : SendEnd) × (send_end node.sends link.dst ≡ Some end) × (end.link ≡ i)
+  pub send_there : (i : ℕ) (link : LinkValue) → slice_get fabric.links i ≡ Some link → link.src ≡ node.core.part → link.dst < fabric.parts → StandsFor send_link node.sends link.dst i
   send_there i link there src below =
-      end_of send_link (send_end node.sends link.dst) i
+      end_of send_link node.sends link.dst i
       (of.sends.which link.dst (let count = of.all_sends in omega arith) ∙ ap (λ (src : ℕ). link_from fabric.links src link.dst) (sym src)
       ∙ stands_from ends_of fabric.recon.ranges fabric.links no_link is.links i link there)
 
-  pub recv_there : (i : ℕ) (link : LinkValue) → slice_get fabric.links i ≡ Some link → link.dst ≡ node.core.part → link.src < fabric.parts → (end : RecvEnd) × (recv_end node.recvs link.src ≡ Some end) × (end.link ≡ i)
+  pub recv_there : (i : ℕ) (link : LinkValue) → slice_get fabric.links i ≡ Some link → link.dst ≡ node.core.part → link.src < fabric.parts → StandsFor recv_link node.recvs link.src i
   recv_there i link there dst below =
-      end_of recv_link (recv_end node.recvs link.src) i
+      end_of recv_link node.recvs link.src i
       (of.recvs.which link.src (let count = of.all_recvs in omega arith) ∙ ap (λ (dst : ℕ). link_from fabric.links link.src dst) (sym dst)
       ∙ stands_from ends_of fabric.recon.ranges fabric.links no_link is.links i link there)
 
@@ -116,9 +114,7 @@ module _ (fabric : FabricValue) (is : IsFabric fabric) (node : NodeState) (of : 
   -- a destination's end leaves the source's as it is, and the other way round
   keep_source : (other : NodeState) (dst i : ℕ) (was now : LinkEndsValue) → HasSource other dst i was → WasPut recv_link with_destination node.recvs node.core.inboxes None 0 i was now ⊎ (now ≡ was) → HasSource other dst i now
   keep_source other dst i was now has by = record {
-    end = has.end;
-    there = has.there;
-    here = has.here;
+    own = has.own;
     sender = still (λ (e : LinkEndsValue). e.sender) (λ e end inbox. refl) by ∙ has.sender;
     notes = still (λ (e : LinkEndsValue). e.notes) (λ e end inbox. refl) by ∙ has.notes;
     outbox = still (λ (e : LinkEndsValue). e.outbox) (λ e end inbox. refl) by ∙ has.outbox;
@@ -126,9 +122,7 @@ module _ (fabric : FabricValue) (is : IsFabric fabric) (node : NodeState) (of : 
 
   keep_destination : (other : NodeState) (src i : ℕ) (was now : LinkEndsValue) → HasDestination other src i was → WasPut send_link with_source node.sends node.core.outs new_out_link 0 i was now ⊎ (now ≡ was) → HasDestination other src i now
   keep_destination other src i was now has by = record {
-    end = has.end;
-    there = has.there;
-    here = has.here;
+    own = has.own;
     receiver = still (λ (e : LinkEndsValue). e.receiver) (λ e end out. refl) by ∙ has.receiver;
     inbox = still (λ (e : LinkEndsValue). e.inbox) (λ e end out. refl) by ∙ has.inbox;
   }
@@ -163,11 +157,11 @@ module _ (fabric : FabricValue) (is : IsFabric fabric) (node : NodeState) (of : 
 
     source_new : (i : ℕ) (link : LinkValue) (left : LinkEndsValue) → slice_get fabric.links i ≡ Some link → Became i left → link.src ≡ length nodes → HasSource node link.dst i left
     source_new i link left there b src =
-        let end = send_there i link there (src ∙ sym next) (below i link there).1 in
-        let all = sources.all link.dst end.0 b.was (omega arith) end.1 (ap (slice_get old) end.2 ∙ b.was_there) in
-        let is : b.mid ≡ with_source b.was end.0 (out_at node.core link.dst) = same_Some b.mid (with_source b.was end.0 (out_at node.core link.dst)) (sym b.mid_there ∙ ap (slice_get between) (sym end.2) ∙ all) in
+        let own = send_there i link there (src ∙ sym next) (below i link there).1 in
+        let all = sources.all link.dst own.end b.was (omega arith) own.there (ap (slice_get old) own.here ∙ b.was_there) in
+        let is : b.mid ≡ with_source b.was own.end (out_at node.core link.dst) = same_Some b.mid (with_source b.was own.end (out_at node.core link.dst)) (sym b.mid_there ∙ ap (slice_get between) (sym own.here) ∙ all) in
         keep_source node link.dst i b.mid left
-        (record { end = end.0; there = end.1; here = end.2; sender = ap (λ (e : LinkEndsValue). e.sender) is; notes = ap (λ (e : LinkEndsValue). e.notes) is; outbox = ap (λ (e : LinkEndsValue). e.outbox) is })
+        (record { own = own; sender = ap (λ (e : LinkEndsValue). e.sender) is; notes = ap (λ (e : LinkEndsValue). e.notes) is; outbox = ap (λ (e : LinkEndsValue). e.outbox) is })
         b.to
 
     source_old : (i : ℕ) (link : LinkValue) (left : LinkEndsValue) (other : NodeState) → slice_get fabric.links i ≡ Some link → Became i left → slice_get nodes link.src ≡ Some other → HasSource other link.dst i left
@@ -181,10 +175,10 @@ module _ (fabric : FabricValue) (is : IsFabric fabric) (node : NodeState) (of : 
 
     destination_new : (i : ℕ) (link : LinkValue) (left : LinkEndsValue) → slice_get fabric.links i ≡ Some link → slice_get new i ≡ Some left → Became i left → link.dst ≡ length nodes → HasDestination node link.src i left
     destination_new i link left there left_there b dst =
-        let end = recv_there i link there (dst ∙ sym next) (below i link there).0 in
-        let all = destinations.all link.src end.0 b.mid (omega arith) end.1 (ap (slice_get between) end.2 ∙ b.mid_there) in
-        let is : left ≡ with_destination b.mid end.0 (inbox_at node.core link.src) = same_Some left (with_destination b.mid end.0 (inbox_at node.core link.src)) (sym left_there ∙ ap (slice_get new) (sym end.2) ∙ all) in
-        record { end = end.0; there = end.1; here = end.2; receiver = ap (λ (e : LinkEndsValue). e.receiver) is; inbox = ap (λ (e : LinkEndsValue). e.inbox) is }
+        let own = recv_there i link there (dst ∙ sym next) (below i link there).0 in
+        let all = destinations.all link.src own.end b.mid (omega arith) own.there (ap (slice_get between) own.here ∙ b.mid_there) in
+        let is : left ≡ with_destination b.mid own.end (inbox_at node.core link.src) = same_Some left (with_destination b.mid own.end (inbox_at node.core link.src)) (sym left_there ∙ ap (slice_get new) (sym own.here) ∙ all) in
+        record { own = own; receiver = ap (λ (e : LinkEndsValue). e.receiver) is; inbox = ap (λ (e : LinkEndsValue). e.inbox) is }
 
     destination_old : (i : ℕ) (link : LinkValue) (left : LinkEndsValue) (other : NodeState) → slice_get fabric.links i ≡ Some link → Became i left → slice_get nodes link.dst ≡ Some other → HasDestination other link.src i left
     destination_old i link left other there b at =

@@ -5,6 +5,7 @@ use Rattle.std.specs.List.{flat_map}
 use Rattle.std.specs.Option.{option_map_or}
 use Rattle.std.proofs.lemmas.List.{length-map}
 use Rattle.std.proofs.lemmas.Option.{same_Some, slice_get_within, get_or_from_slice_get}
+use Rattle.atomic_table.specs.Seated.{TableId}
 use Rattle.sq_chunk.specs.ChunkValue.{ChunkValue}
 use Rattle.sq_store.specs.StoreValue.{StoreValue}
 use Rattle.sq_exec.specs.CoreValue.{out_at, inbox_at}
@@ -26,7 +27,7 @@ use Rattle.sq_gather.specs.Links.{IsClosed, HaveEnds}
 use Rattle.sq_gather.specs.Links.{AreClosed as AreClosedLinks}
 use Rattle.sq_gather.specs.Trees.{AllAreSeatsOf, AwaitOwners}
 use Rattle.sq_gather.specs.Trees.{AreClosed as AreClosedTrees}
-use Rattle.sq_gather.specs.GatheringValue.{GatheringValue, IsReserved, IsAddable, AddsNodes}
+use Rattle.sq_gather.specs.GatheringValue.{GatheringValue, IsReserved, IsAddable, AddsNodes, IsClosable}
 use Rattle.sq_gather.specs.Gathered.{AreAllOf, IsGathered, owners_of, closed_ends}
 use Rattle.sq_gather.proofs.Lists.{maps_same}
 use Rattle.sq_gather.proofs.Filling.{HasSource, HasDestination, AreFilled}
@@ -69,7 +70,7 @@ module _ (fabric : FabricValue) (nodes : List NodeState) (pumps : List PumpValue
       filled = subst (λ (g : GatheringValue). AreFilled fabric.links nodes g.ends) (sym pumped)
           (all_filled fabric is all.ends [] nodes (λ k node there. (let at = all.each_node k node there in (at.0, omega (arith, at.1)))) none added adds none_filled)
 
-      pub owners_seats : AllAreSeatsOf fabric.trees whole.owners
+      owners_seats : AllAreSeatsOf fabric.trees whole.owners
       owners_seats i seats there =
           ⊎_elim
           (λ (one : slice_get (map (λ (node : NodeState). node.seats) nodes) i ≡ Some seats).
@@ -80,7 +81,7 @@ module _ (fabric : FabricValue) (nodes : List NodeState) (pumps : List PumpValue
           subst (AreSeatsOf fabric.trees) pump.2 (all.each_pump one.0 pump.0 pump.1).seats)
           (append_at (map (λ (node : NodeState). node.seats) nodes) (map (λ (pump : PumpValue). pump.seats) pumps) i seats (ap (λ (list : List (List SeatValue)). slice_get list i) (sym owners_are) ∙ there))
 
-      pub seats_given : AwaitOwners (length whole.owners) fabric.seats
+      seats_given : AwaitOwners (length whole.owners) fabric.seats
       seats_given seg seat there =
           let view = all.seats.each seg seat there in
           omega (
@@ -92,12 +93,6 @@ module _ (fabric : FabricValue) (nodes : List NodeState) (pumps : List PumpValue
             length-map nodes (λ (node : NodeState). node.seats),
             length-map pumps (λ (pump : PumpValue). pump.seats),
           )
-
-      pub trees_room : whole.room.trees ≡ length fabric.trees
-      trees_room = ap (λ (g : GatheringValue). g.room.trees) pumped ∙ has.room.trees ∙ reserved.room.trees ∙ sym is.trees
-
-      pub links_room : length fabric.links ≤ whole.room.links
-      links_room = omega (arith, ap (λ (g : GatheringValue). g.room.links) pumped, has.room.links, reserved.room.links)
 
       -- the nodes at the two ends of a link, with what they left of it
       record HasNodes (i : ℕ) (link : LinkValue) (left : LinkEndsValue) : Type 0 where
@@ -122,34 +117,52 @@ module _ (fabric : FabricValue) (nodes : List NodeState) (pumps : List PumpValue
             destination = filled.destination i link left to.0 there left_there to.1;
           }
 
-      pub have_ends : HaveEnds fabric.links whole.ends
+      have_ends : HaveEnds fabric.links whole.ends
       have_ends = record {
         count = filled.count;
         each = λ i link left there left_there.
             let has = has_nodes i link left there left_there in
             let here : link_at fabric.links i ≡ link = get_or_from_slice_get fabric.links i link no_link there in
-            let out = ((all.each_node link.src has.from has.from_there).0.sends.ends link.dst has.source.end has.source.there).queue in
-            let into = ((all.each_node link.dst has.to has.to_there).0.recvs.ends link.src has.destination.end has.destination.there).queue in
+            let out = ((all.each_node link.src has.from has.from_there).0.sends.ends link.dst has.source.own.end has.source.own.there).queue in
+            let into = ((all.each_node link.dst has.to has.to_there).0.recvs.ends link.src has.destination.own.end has.destination.own.there).queue in
             record {
-              sender = has.source.end.pass;
+              sender = has.source.own.end.pass;
               sends = has.source.sender;
-              sends_on = out ∙ ap (λ (k : ℕ). (link_at fabric.links k).queue) has.source.here ∙ ap (λ (l : LinkValue). l.queue) here;
-              receiver = has.destination.end.pass;
+              sends_on = out ∙ ap (λ (k : ℕ). (link_at fabric.links k).queue) has.source.own.here ∙ ap (λ (l : LinkValue). l.queue) here;
+              receiver = has.destination.own.end.pass;
               receives = has.destination.receiver;
-              receives_on = into ∙ ap (λ (k : ℕ). (link_at fabric.links k).queue) has.destination.here ∙ ap (λ (l : LinkValue). l.queue) here;
+              receives_on = into ∙ ap (λ (k : ℕ). (link_at fabric.links k).queue) has.destination.own.here ∙ ap (λ (l : LinkValue). l.queue) here;
               room = filled.room i link left there left_there;
             };
       }
 
+      -- all can be closed with what the fabric shared
+      closable : IsClosable fabric.trees fabric.seats fabric.links whole
+      closable = record {
+        first_seats = is.seats;
+        opened = is.first;
+        owners = owners_seats;
+        given = seats_given;
+        tree_room = ap (λ (g : GatheringValue). g.room.trees) pumped ∙ has.room.trees ∙ reserved.room.trees ∙ sym is.trees;
+        ends = have_ends;
+        link_room = omega (arith, ap (λ (g : GatheringValue). g.room.links) pumped, has.room.links, reserved.room.links);
+      }
+
+      pub closable_with : (trees : List TableId) (first : List SeatValue) (links : List LinkValue) → trees ≡ fabric.trees → first ≡ fabric.seats → links ≡ fabric.links → IsClosable trees first links whole
+      closable_with trees first links trees_are first_are links_are =
+          subst (λ (trees : List TableId). IsClosable trees first links whole) (sym trees_are)
+          (subst (λ (first : List SeatValue). IsClosable fabric.trees first links whole) (sym first_are)
+          (subst (λ (links : List LinkValue). IsClosable fabric.trees fabric.seats links whole) (sym links_are) closable))
+
       -- a link is closed with what its nodes left of it
       closed_link : (i : ℕ) (link : LinkValue) (left : LinkEndsValue) (closed : GatheredLink) → HasNodes i link left → IsClosed link left closed → IsClosedLink (map node_value nodes) closed
       closed_link i link left closed has closes =
-          let sender : closes.sender ≡ has.source.end.pass = same_Some closes.sender has.source.end.pass (sym closes.sends ∙ has.source.sender) in
-          let receiver : closes.receiver ≡ has.destination.end.pass = same_Some closes.receiver has.destination.end.pass (sym closes.receives ∙ has.destination.receiver) in
+          let sender : closes.sender ≡ has.source.own.end.pass = same_Some closes.sender has.source.own.end.pass (sym closes.sends ∙ has.source.sender) in
+          let receiver : closes.receiver ≡ has.destination.own.end.pass = same_Some closes.receiver has.destination.own.end.pass (sym closes.receives ∙ has.destination.receiver) in
           let sent : (node_value has.from).sent link.dst ≡ closes.sender.sent
-          = ap (λ (end : Option SendEnd). option_map_or (λ (e : SendEnd). e.pass.sent) end []) has.source.there ∙ ap (λ (pass : SendValue). pass.sent) (sym sender) in
+          = ap (λ (end : Option SendEnd). option_map_or (λ (e : SendEnd). e.pass.sent) end []) has.source.own.there ∙ ap (λ (pass : SendValue). pass.sent) (sym sender) in
           let received : (node_value has.to).received link.src ≡ closes.receiver.received
-          = ap (λ (end : Option RecvEnd). option_map_or (λ (e : RecvEnd). e.pass.received) end []) has.destination.there ∙ ap (λ (pass : RecvValue). pass.received) (sym receiver) in
+          = ap (λ (end : Option RecvEnd). option_map_or (λ (e : RecvEnd). e.pass.received) end []) has.destination.own.there ∙ ap (λ (pass : RecvValue). pass.received) (sym receiver) in
           record {
             from = node_value has.from;
             from_there = ap (slice_get (map node_value nodes)) closes.src ∙ at_map node_value nodes link.src has.from has.from_there;

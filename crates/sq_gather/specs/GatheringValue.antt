@@ -1,13 +1,16 @@
 -- What is gathered so far, and the room for the rest.
 use Rattle.std.specs.Prelude.{◌≡◌, ℕ, ◌+◌, ◌≤◌, List, [], ◌∷◌, ◌++◌, length, sum_by, slice_get, Some}
+use Rattle.atomic_table.specs.Seated.{TableId}
 use Rattle.sq_store.specs.StoreValue.{StoreValue}
 use Rattle.sq_link.specs.Values.{LinkValue}
 use Rattle.sq_status.specs.Seat.{SeatValue}
 use Rattle.sq_node_model.specs.NodeValue.{ReceiptValue}
-use Rattle.sq_node.specs.FabricValue.{FabricValue}
+use Rattle.sq_pull.specs.Seats.{AreSeatsOf}
+use Rattle.sq_node.specs.FabricValue.{FabricValue, AreFirst}
 use Rattle.sq_node.specs.NodeState.{NodeState}
 use Rattle.sq_gather.specs.LinkEnds.{LinkEndsValue}
-use Rattle.sq_gather.specs.Links.{no_ends}
+use Rattle.sq_gather.specs.Links.{no_ends, HaveEnds}
+use Rattle.sq_gather.specs.Trees.{AllAreSeatsOf, AwaitOwners}
 use Rattle.sq_gather.specs.Ends.{AreApart, AreAmong, send_link, recv_link, SourcesPut, DestinationsPut}
 
 -- for how many stores, receipts, owners of seats and links there is room, and for how many trees
@@ -84,3 +87,13 @@ pub record AddsNode (old : GatheringValue) (node : NodeState) (new : GatheringVa
 abbrev pub AddsNodes : GatheringValue → List NodeState → GatheringValue → Type 0
 AddsNodes old [] new = new ≡ old
 AddsNodes old (node ∷ nodes) new = (between : GatheringValue) × AddsNode old node between × AddsNodes between nodes new
+
+-- these trees and links can be closed: the trees' first seats await the owners' seats, each link has both of its ends, and there is room for all
+pub record IsClosable (trees : List TableId) (first : List SeatValue) (links : List LinkValue) (gathering : GatheringValue) : Type 0 where
+  pub first_seats : AreSeatsOf trees first
+  pub opened : AreFirst first
+  pub owners : AllAreSeatsOf trees gathering.owners
+  pub given : AwaitOwners (length gathering.owners) first
+  pub tree_room : gathering.room.trees ≡ length trees
+  pub ends : HaveEnds links gathering.ends
+  pub link_room : length links ≤ gathering.room.links

@@ -1,11 +1,9 @@
 // What is gathered of a run, node by node.
 ghost use Rattle.std.specs.Prelude.{◌≡◌, ℕ, ◌+◌, ◌<◌, ◌≤◌, ◌∷◌, [], ◌++◌, length, map, sum_by, slice_get, Some, IfOk, IfSome};
-ghost use Rattle.sq_pull.specs.Seats.{AreSeatsOf};
-ghost use Rattle.sq_node.specs.FabricValue.{AreFirst};
 ghost use Rattle.sq_node.specs.NodeState.{NodeState};
-ghost use Rattle.sq_gather.specs.Links.{HaveEnds, AreClosed as AreClosedLinks};
-ghost use Rattle.sq_gather.specs.Trees.{AllAreSeatsOf, AwaitOwners, AreClosed as AreClosedTrees};
-ghost use Rattle.sq_gather.specs.GatheringValue.{IsAddable, HasRoomFor, AreReserved, IsReserved, AddsNode, AddsNodes};
+ghost use Rattle.sq_gather.specs.Links.{AreClosed as AreClosedLinks};
+ghost use Rattle.sq_gather.specs.Trees.{AreClosed as AreClosedTrees};
+ghost use Rattle.sq_gather.specs.GatheringValue.{IsAddable, HasRoomFor, AreReserved, IsReserved, AddsNode, AddsNodes, IsClosable};
 
 use crate::ends::{put_destinations, put_sources};
 use crate::gathered::Gathered;
@@ -36,15 +34,12 @@ pub(crate) struct Gathering {
 
 impl Model for Gathering {
     ghost use Rattle.std.specs.Prelude.{◌≡◌, map, length, vec_len, vec_capacity};
-    ghost use Rattle.std.specs.Coded.{Coded, coded_ℕ, codes};
-    ghost use Rattle.std.specs.Ordering.{nat_cmp};
-    ghost use Rattle.std.specs.FinMap as fin;
-    ghost use Rattle.sq_schema.specs.Family.{FamilyValue};
+    ghost use Rattle.sq_node_model.specs.StoreCode.{store_codes};
     ghost use Rattle.sq_gather.specs.GatheringValue.{GatheringValue};
 
     ghost Value = { GatheringValue };
 
-    ghost coded = { let family : Coded FamilyValue = Prim.hlevel codes in let store : Coded (fin.FinMap nat_cmp FamilyValue) = fin.code coded_ℕ family in Prim.hlevel (codes, store) };
+    ghost coded = { Prim.hlevel store_codes };
 
     ghost view = { λ g. record {
       stores = g.stores.items;
@@ -155,13 +150,7 @@ impl Gathering {
         first: Vec<TreeSeat>,
         links: Vec<Link>,
     ) -> Gathered
-        requires first { AreSeatsOf trees.items first.items }
-        requires opened { AreFirst first.items }
-        requires owners { AllAreSeatsOf trees.items self.owners }
-        requires given { AwaitOwners (length self.owners) first.items }
-        requires trees { self.room.trees ≡ length trees.items }
-        requires ends { HaveEnds links.items self.ends }
-        requires links { length links.items ≤ self.room.links }
+        requires { IsClosable trees.items first.items links.items self }
         ensures stores { result.stores ≡ self.stores }
         ensures receipts { result.receipts ≡ self.receipts }
         ensures links { AreClosedLinks links.items self.ends result.links }

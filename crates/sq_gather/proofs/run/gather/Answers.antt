@@ -1,17 +1,12 @@
 use Rattle.std.proofs.Common.{◌≡◌, ℕ, List, length, sym, ap, ◌∙◌, subst, rules}
-use Rattle.std.specs.Prelude.{◌≤◌}
-use Rattle.atomic_table.specs.Seated.{TableId}
 use Rattle.sq_link.specs.Values.{LinkValue}
 use Rattle.sq_status.specs.Seat.{SeatValue}
-use Rattle.sq_node.specs.FabricValue.{AreFirst}
 use Rattle.sq_node.specs.NodeState.{NodeState}
-use Rattle.sq_gather.specs.Links.{HaveEnds}
 use Rattle.sq_gather.specs.Links.{AreClosed as AreClosedLinks}
-use Rattle.sq_gather.specs.Trees.{AllAreSeatsOf, AwaitOwners}
 use Rattle.sq_gather.specs.Trees.{AreClosed as AreClosedTrees}
 use Rattle.sq_gather.specs.GatheringValue.{IsReserved}
 use Rattle.sq_gather.specs.Gathered.{IsGathered}
-use Rattle.sq_gather.proofs.Whole.{each_addable, room_for_pumps, owners_seats, seats_given, trees_room, links_room, have_ends, is_gathered}
+use Rattle.sq_gather.proofs.Whole.{each_addable, room_for_pumps, closable_with, is_gathered}
 use Rattle.sq_gather.proofs.Placing.{placed}
 use Rattle.sq_gather.proofs.run.gather.Goals as goal
 use Rattle.sq_gather.proofs.run.gather.Goals.{In-Ok}
@@ -33,43 +28,11 @@ add_pumps-requires g c =
     room_for_pumps c.args.fabric c.args.nodes.items c.args.pumps.items c.into_parts-trees.ensures.fabric c.requires c.in-Ok.gathering
     (reserved g (goal.at.add_pumps-requires g c).In-Ok) c.add_nodes.new.self c.add_nodes.ensures
 
-pub close-requires-clause-opened : goal.close-requires-clause-opened
-close-requires-clause-opened g c = subst (λ (seats : List SeatValue). AreFirst seats) (sym c.into_parts-trees.ensures.seats) c.into_parts-trees.ensures.fabric.first
-
-pub close-requires-clause-owners : goal.close-requires-clause-owners
-close-requires-clause-owners g c =
-    subst (λ (trees : List TableId). AllAreSeatsOf trees c.add_pumps.new.self.owners) (sym c.into_parts-trees.ensures.trees)
-    (owners_seats c.args.fabric c.args.nodes.items c.args.pumps.items c.into_parts-trees.ensures.fabric c.requires c.in-Ok.gathering
-    (reserved g (goal.at.close-requires-clause-owners g c).In-Ok) c.add_nodes.new.self c.add_nodes.ensures
-    c.add_pumps.new.self c.add_pumps.ensures)
-
-pub close-requires-clause-given : goal.close-requires-clause-given
-close-requires-clause-given g c =
-    subst (λ (seats : List SeatValue). AwaitOwners (length c.add_pumps.new.self.owners) seats) (sym c.into_parts-trees.ensures.seats)
-    (seats_given c.args.fabric c.args.nodes.items c.args.pumps.items c.into_parts-trees.ensures.fabric c.requires c.in-Ok.gathering
-    (reserved g (goal.at.close-requires-clause-given g c).In-Ok) c.add_nodes.new.self c.add_nodes.ensures
-    c.add_pumps.new.self c.add_pumps.ensures)
-
-pub close-requires-clause-trees : goal.close-requires-clause-trees
-close-requires-clause-trees g c =
-    trees_room c.args.fabric c.args.nodes.items c.args.pumps.items c.into_parts-trees.ensures.fabric c.requires c.in-Ok.gathering
-    (reserved g (goal.at.close-requires-clause-trees g c).In-Ok) c.add_nodes.new.self c.add_nodes.ensures
-    c.add_pumps.new.self c.add_pumps.ensures
-    ∙ ap length (sym c.into_parts-trees.ensures.trees)
-
-pub close-requires-clause-ends : goal.close-requires-clause-ends
-close-requires-clause-ends g c =
-    subst (λ (links : List LinkValue). HaveEnds links c.add_pumps.new.self.ends) (sym c.into_parts-trees.ensures.links)
-    (have_ends c.args.fabric c.args.nodes.items c.args.pumps.items c.into_parts-trees.ensures.fabric c.requires c.in-Ok.gathering
-    (reserved g (goal.at.close-requires-clause-ends g c).In-Ok) c.add_nodes.new.self c.add_nodes.ensures
-    c.add_pumps.new.self c.add_pumps.ensures)
-
-pub close-requires-clause-links : goal.close-requires-clause-links
-close-requires-clause-links g c =
-    subst (λ (links : List LinkValue). length links ≤ c.add_pumps.new.self.room.links) (sym c.into_parts-trees.ensures.links)
-    (links_room c.args.fabric c.args.nodes.items c.args.pumps.items c.into_parts-trees.ensures.fabric c.requires c.in-Ok.gathering
-    (reserved g (goal.at.close-requires-clause-links g c).In-Ok) c.add_nodes.new.self c.add_nodes.ensures
-    c.add_pumps.new.self c.add_pumps.ensures)
+pub close-requires : goal.close-requires
+close-requires g c =
+    closable_with c.args.fabric c.args.nodes.items c.args.pumps.items c.into_parts-trees.ensures.fabric c.requires c.in-Ok.gathering
+    (reserved g (goal.at.close-requires g c).In-Ok) c.add_nodes.new.self c.add_nodes.ensures c.add_pumps.new.self c.add_pumps.ensures
+    _ _ _ c.into_parts-trees.ensures.trees c.into_parts-trees.ensures.seats c.into_parts-trees.ensures.links
 
 pub returns-clause-gathered : goal.returns-clause-gathered
 returns-clause-gathered g c =
