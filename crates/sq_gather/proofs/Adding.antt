@@ -12,9 +12,6 @@ use Rattle.sq_node.specs.NodeState.{NodeState, IsNodeOf}
 use Rattle.sq_gather.specs.GatheringValue.{GatheringValue, KeepsRoom, IsAddable, HasRoomFor, AddsNode, AddsNodes}
 use Rattle.sq_gather.proofs.Filling.{AreFilled, sends_apart, recvs_apart, filled_more}
 
-pub adds_none : (old : GatheringValue) → AddsNodes old [] old
-adds_none old = refl
-
 pub adds_more : (old mid new : GatheringValue) (nodes : List NodeState) (node : NodeState) → AddsNodes old nodes mid → AddsNode mid node new → AddsNodes old (nodes ++ node ∷ []) new
 adds_more old mid new [] node before more = (new, subst (λ (g : GatheringValue). AddsNode g node new) before more, refl)
 adds_more old mid new (first ∷ nodes) node before more = (before.0, before.1, adds_more before.0 mid new nodes node before.2 more)

@@ -10,7 +10,8 @@ use Rattle.sq_status.specs.Seat.{SeatValue}
 use Rattle.sq_status.specs.Rule.{IsTreeOf}
 use Rattle.sq_pull.specs.Seats.{AreSeatsOf}
 use Rattle.sq_gather.specs.Trees.{AreTreesOf}
-use Rattle.sq_gather.proofs.Lists.{push_kept, push_new, push_same}
+use Rattle.sq_node_model.proofs.Members.{slice_get-front, slice_get-pushed}
+use Rattle.sq_gather.proofs.Lists.{push_same}
 
 -- of these seats, those that aren't left were closed with their trees
 pub record Closes (all : List SeatValue) (trees : List TableId) (seats : List SeatValue) (words : List (List Status)) : Type 0 where
@@ -28,13 +29,10 @@ module _ (all : List SeatValue) (trees : List TableId) (seats : List SeatValue) 
   same : (map tree_of rest ≡ fewer) × (seat.tree ≡ tree)
   same = push_same (map tree_of rest) fewer seat.tree tree (sym (map-append tree_of rest (seat ∷ [])) ∙ ap (map tree_of) (sym taken) ∙ so_far.of ∙ tree_taken)
 
-  pub seat_is : seat.tree ≡ tree
-  seat_is = same.1
-
   pub last_stands : slice_get all (length fewer) ≡ Some seat
   last_stands =
       so_far.front (length fewer) seat
-      (ap (slice_get seats) (sym (ap length same.0) ∙ length-map rest tree_of) ∙ ap (λ (all : List SeatValue). slice_get all (length rest)) taken ∙ push_new rest seat)
+      (ap (slice_get seats) (sym (ap length same.0) ∙ length-map rest tree_of) ∙ ap (λ (all : List SeatValue). slice_get all (length rest)) taken ∙ slice_get-pushed rest seat)
 
   pub closes_more : (at : ℕ) (statuses : List Status) → at ≡ length fewer → IsTreeOf statuses (seat.view ∷ []) → Closes all fewer rest (slice_set words at statuses)
   closes_more at statuses place is =
@@ -44,7 +42,7 @@ module _ (all : List SeatValue) (trees : List TableId) (seats : List SeatValue) 
       record {
         of = same.0;
         count = length-set words at statuses ∙ so_far.count;
-        front = λ k one there. so_far.front k one (ap (λ (seats : List SeatValue). slice_get seats k) taken ∙ push_kept rest seat k one there);
+        front = λ k one there. so_far.front k one (ap (λ (seats : List SeatValue). slice_get seats k) taken ∙ slice_get-front rest (seat ∷ []) k one there);
         closed = λ k one past there.
             ⊎_elim
             (λ (here : k < length seats).

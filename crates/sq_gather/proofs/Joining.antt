@@ -12,12 +12,11 @@ use Rattle.sq_status.specs.declared.view.View.{View}
 use Rattle.sq_status.specs.View.{fresh, took}
 use Rattle.sq_status.specs.Seat.{SeatValue}
 use Rattle.sq_pull.specs.Seats.{AreSeatsOf}
-use Rattle.sq_node_model.proofs.Members.{set_stood, set_kept, set_new}
+use Rattle.sq_node_model.proofs.Members.{set_stood, set_kept, set_new, slice_get-front, slice_get-pushed}
 use Rattle.sq_placed.proofs.Lists.{stands_at}
 use Rattle.sq_node.specs.FabricValue.{AreFirst}
 use Rattle.sq_node.specs.NodeState.{views_of}
 use Rattle.sq_gather.specs.Trees.{AreJoined, view_with}
-use Rattle.sq_gather.proofs.Lists.{push_kept, push_new}
 
 abbrev with_seat : SeatValue → SeatValue → SeatValue
 with_seat seat other = record { tree = seat.tree; view = took seat.view other.view }
@@ -39,7 +38,7 @@ module _ (trees : List TableId) (old others seats left rest : List SeatValue) (s
     (taken : left ≡ rest ++ other ∷ []) (place : at ≡ length rest) (others_of : AreSeatsOf trees others) (tree_is : tree ≡ get_or trees at tree) (read : seat ≡ get_or seats at seat) (same : after.tree ≡ tree)
     (joins : after.view ≡ took seat.view other.view) where
   was_left : slice_get left at ≡ Some other
-  was_left = ap (slice_get left) place ∙ ap (λ (seats : List SeatValue). slice_get seats (length rest)) taken ∙ push_new rest other
+  was_left = ap (slice_get left) place ∙ ap (λ (seats : List SeatValue). slice_get seats (length rest)) taken ∙ slice_get-pushed rest other
 
   within : at < length trees
   within = let lt = slice_get_within others at other (so_far.front at other was_left) in omega (arith, length-map others tree_of, ap length others_of)
@@ -74,7 +73,7 @@ module _ (trees : List TableId) (old others seats left rest : List SeatValue) (s
     of = joined_of;
     first = joined_first;
     count = length-set seats at after ∙ so_far.count;
-    front = λ k one there. so_far.front k one (ap (λ (seats : List SeatValue). slice_get seats k) taken ∙ push_kept rest other k one there);
+    front = λ k one there. so_far.front k one (ap (λ (seats : List SeatValue). slice_get seats k) taken ∙ slice_get-front rest (other ∷ []) k one there);
     before = λ k one lt there. set_kept seats at k after one (so_far.before k one (omega (arith, longer)) there) (λ same. absurd (omega arith));
     after = λ k one another past there taken_there.
         ⊎_elim
@@ -86,17 +85,6 @@ module _ (trees : List TableId) (old others seats left rest : List SeatValue) (s
         (λ (later : length left ≤ k). set_kept seats at k after (with_seat one another) (so_far.after k one another later there taken_there) (λ same. absurd (omega (arith, longer))))
         (cases_lt k (length left));
   }
-
-pub no_seat_joined : (trees : List TableId) (seats others : List SeatValue) → AreSeatsOf trees seats → AreFirst seats → AreSeatsOf trees others → Joins trees seats others seats others
-no_seat_joined trees seats others of first same =
-    record {
-      of = of;
-      first = first;
-      count = refl;
-      front = λ k seat there. there;
-      before = λ k seat lt there. there;
-      after = λ k seat other past there taken. absurd (let lt = slice_get_within others k other taken in omega arith);
-    }
 
 abbrev with_view : SeatValue → View → SeatValue
 with_view seat view = record { tree = seat.tree; view = took seat.view view }
@@ -123,6 +111,3 @@ joined_more old mid new owners seats before more =
           = ap (fold took seat.view) (map-append f owners (seats ∷ [])) ∙ fold-append took seat.view (map f owners) (f seats ∷ []) in
           more.each seg (record { tree = seat.tree; view = view_with seat.view owners seg }) (before.each seg seat there) ∙ (λ k. Some (record { tree = seat.tree; view = sym views k }));
     }
-
-pub none_joined : (seats : List SeatValue) → AreJoined seats [] seats
-none_joined seats = record { count = refl; each = λ seg seat there. there }

@@ -3,15 +3,6 @@ use Rattle.std.proofs.Common.{◌≡◌, ℕ, zero, suc, List, [], ◌∷◌, �
 use Rattle.std.specs.List.{flat_map}
 use Rattle.std.specs.Prelude.{slice_get}
 
-pub push_kept : {X : Type 0} (xs : List X) (x : X) (k : ℕ) (y : X) → slice_get xs k ≡ Some y → slice_get (xs ++ x ∷ []) k ≡ Some y
-push_kept [] x k y at = absurd cc
-push_kept (z ∷ xs) x zero y at = at
-push_kept (z ∷ xs) x (suc k) y at = push_kept xs x k y at
-
-pub push_new : {X : Type 0} (xs : List X) (x : X) → slice_get (xs ++ x ∷ []) (length xs) ≡ Some x
-push_new [] x = refl
-push_new (z ∷ xs) x = push_new xs x
-
 -- the first of the items that are left stands behind those that were taken
 pub stands_after : {X : Type 0} (xs : List X) (x : X) (rest left : List X) → left ≡ x ∷ rest → slice_get (xs ++ left) (length xs) ≡ Some x
 stands_after {X} [] x rest left is = ap (λ (all : List X). slice_get all 0) is

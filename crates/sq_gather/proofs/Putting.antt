@@ -1,13 +1,12 @@
 -- Ends of links that are put where their links stand, the last one first.
-use Rattle.std.proofs.Common.{◌≡◌, ℕ, ◌+◌, ◌<◌, ◌≤◌, List, [], ◌∷◌, ◌++◌, length, Option, Some, None, refl, sym, ap, ◌∙◌, ⊎_elim, inl, inr, length-append, arith}
+use Rattle.std.proofs.Common.{◌≡◌, ℕ, ◌+◌, ◌<◌, ◌≤◌, List, [], ◌∷◌, ◌++◌, length, Option, Some, None, refl, sym, ap, ◌∙◌, subst, ⊎_elim, inl, inr, length-append, arith}
 use Rattle.std.specs.Prelude.{◌⊎◌, slice_get, slice_set, slice_index_or}
 use Rattle.std.proofs.lemmas.Bool.{cases_eq, cases_lt}
 use Rattle.std.proofs.lemmas.List.{length-set, get_or_past}
-use Rattle.std.proofs.lemmas.Option.{same_Some}
-use Rattle.sq_node_model.proofs.Members.{set_kept, set_new}
+use Rattle.std.proofs.lemmas.Option.{same_Some, slice_get_read, get_or_from_slice_get}
+use Rattle.sq_node_model.proofs.Members.{set_kept, set_new, slice_get-front, slice_get-pushed}
 use Rattle.sq_gather.specs.LinkEnds.{LinkEndsValue}
-use Rattle.sq_gather.specs.Ends.{WasPut, HavePut, AreApart}
-use Rattle.sq_gather.proofs.Lists.{push_kept, push_new}
+use Rattle.sq_gather.specs.Ends.{WasPut, HavePut, AreApart, AreAmong}
 
 none_or_some : {X : Type 0} (found : Option X) (x : X) → found ≡ None → found ≡ Some x → ⊥
 none_or_some found x none some = cc
@@ -16,47 +15,14 @@ none_or_some found x none some = cc
 pub record AreFront {X : Type 0} (left all : List X) : Type 0 where
   pub each : (k : ℕ) (x : X) → slice_get left k ≡ Some x → slice_get all k ≡ Some x
 
-pub front_all : {X : Type 0} (all : List X) → AreFront all all
-front_all all = record { each = λ k x there. there }
-
 front_fewer : {X : Type 0} (left rest all : List X) (x : X) → left ≡ rest ++ x ∷ [] → AreFront left all → AreFront rest all
-front_fewer {X} left rest all x is front = record { each = λ k y there. front.each k y (ap (λ (list : List X). slice_get list k) is ∙ push_kept rest x k y there) }
+front_fewer {X} left rest all x is front = record { each = λ k y there. front.each k y (ap (λ (list : List X). slice_get list k) is ∙ slice_get-front rest (x ∷ []) k y there) }
 
 -- the last of them stands among all where it stood
 front_last : {X : Type 0} (left rest all : List X) (x : X) → left ≡ rest ++ x ∷ [] → AreFront left all → slice_get all (length rest) ≡ Some x
-front_last {X} left rest all x is front = front.each (length rest) x (ap (λ (list : List X). slice_get list (length rest)) is ∙ push_new rest x)
-
--- the last one that is left is taken, with what stands beside it
-pub record IsTaken {X Y : Type 0} (all left rest : List X) (beside left_beside rest_beside : List Y) (one : X) (its : Y) : Type 0 where
-  pub next : length left ≡ length rest + 1
-  pub there : slice_get all (length rest) ≡ Some one
-  pub stands : slice_get beside (length rest) ≡ Some its
-  pub pairs : length rest_beside ≡ length rest
-  pub fewer : AreFront rest all
-  pub fewer_beside : AreFront rest_beside beside
-
-pub taken : {X Y : Type 0} (all left rest : List X) (beside left_beside rest_beside : List Y) (one : X) (its : Y) → left ≡ rest ++ one ∷ [] → left_beside ≡ rest_beside ++ its ∷ []
-    → length left_beside ≡ length left → AreFront left all → AreFront left_beside beside → IsTaken all left rest beside left_beside rest_beside one its
-taken all left rest beside left_beside rest_beside one its is its_is paired front front_beside =
-    let next : length left ≡ length rest + 1 = ap length is ∙ length-append rest (one ∷ []) in
-    let pairs : length rest_beside ≡ length rest = omega (arith, next, paired, ap length its_is, length-append rest_beside (its ∷ [])) in
-    record {
-      next = next;
-      there = front_last left rest all one is front;
-      stands = ap (slice_get beside) (sym pairs) ∙ front_last left_beside rest_beside beside its its_is front_beside;
-      pairs = pairs;
-      fewer = front_fewer left rest all one is front;
-      fewer_beside = front_fewer left_beside rest_beside beside its its_is front_beside;
-    }
+front_last {X} left rest all x is front = front.each (length rest) x (ap (λ (list : List X). slice_get list (length rest)) is ∙ slice_get-pushed rest x)
 
 module _ {X Y : Type 0} (link_of : X → ℕ) (put : LinkEndsValue → X → Y → LinkEndsValue) (ends : List (Option X)) (beside : List Y) (none : Y) where
-  pub nothing_put : (old : List LinkEndsValue) → HavePut link_of put ends beside none (length ends) old old
-  nothing_put old = record {
-    count = refl;
-    all = λ other end was past there. absurd (none_or_some (slice_index_or ends other None) end (get_or_past ends other None past) there);
-    each = λ i was there. (was, there, inr refl);
-  }
-
   -- nothing is put where the node has no end
   pub put_none : (old now : List LinkEndsValue) (at from : ℕ) → from ≡ at + 1 → slice_index_or ends at None ≡ None → HavePut link_of put ends beside none from old now → HavePut link_of put ends beside none at old now
   put_none old now at from next no_end so_far = record {
@@ -131,3 +97,52 @@ module _ {X Y : Type 0} (link_of : X → ℕ) (put : LinkEndsValue → X → Y �
               }),
         )
         here_or_there i was was_there kept kept_there same (inr other) = (kept, set_kept now (link_of end) i after kept kept_there other, inr same)
+
+-- the first ends are left, with what stands beside them, and the others were put
+pub record AreLeft {X W Y : Type 0} (link_of : X → ℕ) (put : LinkEndsValue → X → Y → LinkEndsValue) (none : Y) (all : List (Option X)) (beside : List W) (listed : List Y) (old : List LinkEndsValue) (left : List (Option X)) (left_beside : List W)
+    (now : List LinkEndsValue) : Type 0 where
+  pub others : HavePut link_of put all listed none (length left) old now
+  pub pairs : length left_beside ≡ length left
+  pub front : AreFront left all
+  pub front_beside : AreFront left_beside beside
+
+-- the last of those that are left is taken, with what stands beside it
+pub record IsTaken {X W Y : Type 0} (link_of : X → ℕ) (put : LinkEndsValue → X → Y → LinkEndsValue) (none : Y) (all : List (Option X)) (beside : List W) (listed : List Y) (old : List LinkEndsValue) (rest : List (Option X)) (rest_beside : List W)
+    (now : List LinkEndsValue) (one : Option X) (its : W) : Type 0 where
+  pub left : List (Option X)
+  pub left_beside : List W
+  pub so_far : AreLeft link_of put none all beside listed old left left_beside now
+  pub is : left ≡ rest ++ one ∷ []
+  pub its_is : left_beside ≡ rest_beside ++ its ∷ []
+
+module _ {X W Y : Type 0} {link_of : X → ℕ} {put : LinkEndsValue → X → Y → LinkEndsValue} {none : Y} {all : List (Option X)} {beside : List W} {listed : List Y} {old : List LinkEndsValue} {rest : List (Option X)} {rest_beside : List W} {now : List LinkEndsValue}
+    {one : Option X} {its : W} (taken : IsTaken link_of put none all beside listed old rest rest_beside now one its) where
+  next : length taken.left ≡ length rest + 1
+  next = ap length taken.is ∙ length-append rest (one ∷ [])
+
+  pairs : length rest_beside ≡ length rest
+  pairs = omega (arith, next, taken.so_far.pairs, ap length taken.its_is, length-append rest_beside (its ∷ []))
+
+  there : slice_index_or all (length rest) None ≡ one
+  there = get_or_from_slice_get all (length rest) one None (front_last taken.left rest all one taken.is taken.so_far.front)
+
+  left_now : (new : List LinkEndsValue) → HavePut link_of put all listed none (length rest) old new → AreLeft link_of put none all beside listed old rest rest_beside new
+  left_now new are =
+      record { others = are; pairs = pairs; front = front_fewer taken.left rest all one taken.is taken.so_far.front; front_beside = front_fewer taken.left_beside rest_beside beside its taken.its_is taken.so_far.front_beside }
+
+  -- nothing is put where the node has no end
+  pub none_put : one ≡ None → AreLeft link_of put none all beside listed old rest rest_beside now
+  none_put no_end = left_now now (put_none link_of put all listed none old now (length rest) (length taken.left) next (there ∙ no_end) taken.so_far.others)
+
+  module _ (among : AreAmong link_of (length old) all) (end : X) (end_is : one ≡ Some end) where
+    -- there is a link for the end
+    pub link_below : link_of end < length now
+    link_below = subst (λ (n : ℕ). link_of end < n) (sym taken.so_far.others.count) (among (length rest) end (there ∙ end_is))
+
+    -- the end is put there with what stands beside it
+    pub end_put : AreApart link_of all → (value : Y) → ((k : ℕ) → slice_get beside k ≡ Some its → slice_index_or listed k none ≡ value) → (cur : LinkEndsValue) → cur ≡ slice_index_or now (link_of end) cur
+        → AreLeft link_of put none all beside listed old rest rest_beside (slice_set now (link_of end) (put cur end value))
+    end_put apart value reads cur read =
+        let stands = ap (slice_get beside) (sym pairs) ∙ front_last taken.left_beside rest_beside beside its taken.its_is taken.so_far.front_beside in
+        subst (λ (y : Y). AreLeft link_of put none all beside listed old rest rest_beside (slice_set now (link_of end) (put cur end y))) (reads (length rest) stands)
+        (left_now _ (put_one link_of put all listed none apart old now (length rest) (length taken.left) next end (there ∙ end_is) taken.so_far.others cur (slice_get_read now (length now) (link_of end) cur refl link_below read)))
