@@ -32,6 +32,7 @@ use Rattle.sq_audit.specs.Index.{IsIndex, root_of, AgreeOnSpots, HaveFamilies, S
 use Rattle.sq_audit.specs.Told.{KnowsAll, is_named, receipts_of}
 use Rattle.sq_audit.proofs.Each.{some_same, no_some}
 use Rattle.sq_audit.proofs.Jobs.{of_parts, of_from}
+use Rattle.sq_audit.proofs.Lists.{nothing_there}
 use Rattle.sq_audit.proofs.Knowing.{count_kept}
 
 -- what is found in a table is an entry of it
@@ -79,10 +80,6 @@ opening_at (first ∷ table) entry all has =
 nothing_taken : {X : Type 0} (n : ℕ) → take n (let none : List X = [] in none) ≡ []
 nothing_taken zero = refl
 nothing_taken (suc n) = refl
-
-nothing_there : {X : Type 0} (n : ℕ) (x : X) → slice_get [] n ≡ Some x → ⊥
-nothing_there zero x e = cc
-nothing_there (suc n) x e = cc
 
 swapped : (a b c : Bool) → (a && (b && c)) ≡ (b && (a && c))
 swapped true true c = refl

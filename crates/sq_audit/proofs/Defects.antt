@@ -13,10 +13,7 @@ use Rattle.sq_audit.specs.declared.verdict.Verdict.TheVariants.{Sound, Unsound}
 use Rattle.sq_audit.specs.Answers.{AreKnown}
 use Rattle.sq_audit.specs.Sound.{IsSound}
 use Rattle.sq_audit.specs.Defects.{defect_number, Clears, IsFirst, IsVerdict}
-
-none_at : {X : Type 0} (n : ℕ) (x : X) → slice_get [] n ≡ Some x → ⊥
-none_at zero x at = cc
-none_at (suc n) x at = cc
+use Rattle.sq_audit.proofs.Lists.{nothing_there}
 
 module _ (o : OpeningValue) (g : GatheredValue) (jobs : List Job) where
   -- known receipts of commits tell what the logs have
@@ -26,7 +23,7 @@ module _ (o : OpeningValue) (g : GatheredValue) (jobs : List Job) where
       let told = answer.4 in
       ⊎_elim
       (λ stands. (stands.0, answer.1, stands.1, record { txn = answer.0.txn; there = told.there commits; id = told.id; told = told.told }))
-      (λ none. absurd (let at = told.there commits in let log = ap (λ (family : FamilyValue). family.log) none.1 in none_at receipt.position answer.0.txn (rw log at at)))
+      (λ none. absurd (let at = told.there commits in let log = ap (λ (family : FamilyValue). family.log) none.1 in nothing_there receipt.position answer.0.txn (rw log at at)))
       answer.3
 
   pub each_clear : IsSound o g jobs → (defect : Defect) → Clears o g jobs defect

@@ -13,11 +13,8 @@ use Rattle.sq_audit.specs.declared.located.Site.TheVariants.{Store, Chunk}
 use Rattle.sq_audit.specs.contracts.located.SitePartialEq.TheImpl as site
 use Rattle.sq_audit.specs.Located.{Entry, spot_of}
 use Rattle.sq_audit.specs.Index.{IsIndexTo, IsIndex, root_of, IsThere, AgreeTo, AgreeOnSpots}
-use Rattle.sq_audit.proofs.Each.{same_of}
+use Rattle.sq_audit.proofs.Each.{same_of, no_some}
 use Rattle.std.specs.Cmp.{unsigned_Decides}
-
-no_some : {X : Type 0} (x : X) → None ≡ Some x → ⊥
-no_some x e = cc
 
 -- sites are equal that are one spot
 pub site_same : (one other : Site) → Decides ((site.ghosts).eq one other) (spot_of one ≡ spot_of other)

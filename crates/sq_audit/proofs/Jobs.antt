@@ -10,12 +10,12 @@ use Rattle.sq_audit.specs.Index.{HasKeyAt}
 use Rattle.sq_audit.specs.Told.{id_of, IsOneJob}
 use Rattle.sq_audit.proofs.Each.{same_of}
 
--- what a job has in common with a receipt that is of it
-pub record IsOf (txn : TxnValue) (receipt : ReceiptValue) : Type 0 where
+-- the receipt has the id and the root key of the transaction
+pub record HasIdAndRootOf (txn : TxnValue) (receipt : ReceiptValue) : Type 0 where
   pub id : receipt.id ≡ txn.id
   pub root : receipt.root ≡ txn.root
 
-pub of_parts : (txn : TxnValue) (receipt : ReceiptValue) → is_of txn receipt ≡ true → IsOf txn receipt
+pub of_parts : (txn : TxnValue) (receipt : ReceiptValue) → is_of txn receipt ≡ true → HasIdAndRootOf txn receipt
 of_parts txn receipt is =
     let parts = and_parts (receipt.id == txn.id) (receipt.root == txn.root) is in
     record { id = eqb-true receipt.id txn.id parts.0; root = eqb-true receipt.root txn.root parts.1 }

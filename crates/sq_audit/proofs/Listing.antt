@@ -12,22 +12,17 @@ use Rattle.sq_store.specs.InOrder.{family_from, HoldsByRoot, are_within, AreKeye
 use Rattle.sq_store.proofs.Rising.{rises}
 use Rattle.sq_store.proofs.Firsts.{first_is, first_none, none_between}
 use Rattle.sq_chunk.specs.ChunkValue.{ChunkValue}
-use Rattle.sq_model.proofs.Lists.{Contains-nothing, Contains-cases, Contains-slice_get, slice_get-Contains, found_in}
+use Rattle.sq_model.proofs.Lists.{Contains-nothing, Contains-cases, Contains-slice_get, slice_get-Contains, found_in, map_in}
 use Rattle.sq_node_model.specs.declared.spot.Spot.{Spot}
 use Rattle.sq_node_model.specs.declared.spot.Spot.TheVariants.{Store, Chunk}
 use Rattle.sq_node_model.specs.FamiliesHold.{IsOf}
 use Rattle.sq_node_model.specs.Gathered.{GatheredLink, GatheredValue}
 use Rattle.sq_node_model.specs.Spots.{StandsAt}
 use Rattle.sq_node_model.proofs.Members.{Contains-map}
-use Rattle.sq_placed.proofs.Lists.{map_at}
+use Rattle.sq_placed.proofs.Stands.{of_some}
 use Rattle.sq_audit.specs.declared.located.Located.{Located}
 use Rattle.sq_audit.specs.Located.{Entry, entry_of, entries_of, AreAllOf, AddsAll, AddsLink, ListsAll}
-
-no_some : {X : Type 0} (x : X) → None ≡ Some x → ⊥
-no_some x e = cc
-
-pub mapped_in : {X Y : Type 0} (f : X → Y) (xs : List X) (y : Y) → Contains (map f xs) y → (x : X) × Contains xs x × (f x ≡ y)
-mapped_in f xs y has = let at = map_at f xs has.0 y (slice_get-Contains (map f xs) y has) in (at.0, Contains-slice_get xs has.0 at.0 at.1, at.2)
+use Rattle.sq_audit.proofs.Each.{same_of, no_some}
 
 -- a family whose log is its own is that of its root key
 of_root : (root : ℕ) (family : FamilyValue) → family.root ≡ root → All (λ txn. txn.root ≡ family.root) family.log → IsOf root family
@@ -153,9 +148,6 @@ carried_none link of = record { here = λ entry has. absurd (Contains-nothing en
 abbrev pub of_spot : Spot → List FamilyValue → List Entry
 of_spot spot families = map (λ family. (spot, family)) families
 
-same_of : {X : Type 0} (xs : List X) (i j : ℕ) (x y : X) → slice_get xs i ≡ Some x → slice_get xs j ≡ Some y → j ≡ i → y ≡ x
-same_of xs i j x y at also same = let here = subst (λ k. slice_get xs k ≡ Some y) same also in cc
-
 module _ (link : ℕ) (of : GatheredLink) (chunk : ℕ) (found : ChunkValue) (there : slice_get of.under_way chunk ≡ Some found) where
   pub carried_next : (entries : List Entry) (families : List FamilyValue) → CarriedTo link of chunk entries → AreAllOf (family_in found.families) families
       → CarriedTo link of (chunk + 1) (entries ++ of_spot (Chunk link chunk) families)
@@ -165,7 +157,7 @@ module _ (link : ℕ) (of : GatheredLink) (chunk : ℕ) (found : ChunkValue) (th
         here = λ entry has.
             ⊎_elim (so_far.here entry)
             (λ last.
-            let at = mapped_in (λ family. (Chunk link chunk, family)) families entry last in
+            let at = map_in (λ family. (Chunk link chunk, family)) families entry last in
             (chunk, found, ap (λ (e : Entry). e.0) (sym at.2), there, subst (λ (f : FamilyValue). family_in found.families f.root ≡ Some f) (ap (λ (e : Entry). e.1) at.2) (all.here at.0 at.1)))
             (Contains-append_cases entries more entry has);
         each = λ other root again family below also stands.
@@ -200,10 +192,6 @@ pub record LinkedTo (g : GatheredValue) (upto : ℕ) (entries : List Entry) : Ty
   pub stores : (part root : ℕ) (family : FamilyValue) → StandsAt g (Store part) root family → Contains entries (Store part, family) × IsOf root family
   pub links : (link chunk root : ℕ) (family : FamilyValue) → link < upto → StandsAt g (Chunk link chunk) root family → Contains entries (Chunk link chunk, family) × IsOf root family
 
-pub of_some : {X Y : Type 0} (f : X → Option Y) (found : Option X) (y : Y) → option_and_then f found ≡ Some y → (x : X) × (found ≡ Some x) × (f x ≡ Some y)
-of_some f None y at = absurd (no_some y at)
-of_some f (Some x) y at = (x, refl, at)
-
 module _ (g : GatheredValue) where
   pub stored_none : StoredTo g 0 []
   stored_none = record { here = λ entry has. absurd (Contains-nothing entry has); stores = λ part root family below stands. absurd (omega (arith, below)) }
@@ -216,7 +204,7 @@ module _ (g : GatheredValue) where
         here = λ entry has.
             ⊎_elim (so_far.here entry)
             (λ last.
-            let at = mapped_in (λ family. (Store part, family)) adds.families entry last in
+            let at = map_in (λ family. (Store part, family)) adds.families entry last in
             subst (λ (e : Entry). StandsAt g e.0 e.1.root e.1) at.2
             (ap (option_and_then (λ (s : StoreValue). get s at.0.root)) there ∙ adds.all.here at.0 at.1))
             (Contains-append_cases old more entry has);

@@ -44,11 +44,11 @@ dropped_at [] (suc i) k x at = absurd cc
 dropped_at (y ∷ xs) zero k x at = subst (λ n. slice_get (y ∷ xs) n ≡ Some x) (let e : k ≡ zero + k = omega arith in e) at
 dropped_at (y ∷ xs) (suc i) k x at = subst (λ n. slice_get (y ∷ xs) n ≡ Some x) (let e : suc (i + k) ≡ suc i + k = omega arith in e) (dropped_at xs i k x at)
 
-nothing : {X : Type 0} (n : ℕ) (x : X) → slice_get [] n ≡ Some x → ⊥
-nothing zero x at = cc
-nothing (suc n) x at = cc
+pub nothing_there : {X : Type 0} (n : ℕ) (x : X) → slice_get [] n ≡ Some x → ⊥
+nothing_there zero x at = cc
+nothing_there (suc n) x at = cc
 
 pub at_dropped : {X : Type 0} (xs : List X) (i k : ℕ) (x : X) → slice_get xs (i + k) ≡ Some x → slice_get (drop i xs) k ≡ Some x
-at_dropped [] i k x at = absurd (nothing (i + k) x at)
+at_dropped [] i k x at = absurd (nothing_there (i + k) x at)
 at_dropped (y ∷ xs) zero k x at = subst (λ n. slice_get (y ∷ xs) n ≡ Some x) (let e : zero + k ≡ k = omega arith in e) at
 at_dropped (y ∷ xs) (suc i) k x at = at_dropped xs i k x (subst (λ n. slice_get (y ∷ xs) n ≡ Some x) (let e : suc i + k ≡ suc (i + k) = omega arith in e) at)

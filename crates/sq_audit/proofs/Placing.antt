@@ -34,7 +34,7 @@ use Rattle.sq_audit.specs.Spans.{Marked, has_keys, marked, notes_of, first_key, 
 use Rattle.sq_audit.specs.Fits.{ArePlaced}
 use Rattle.sq_audit.proofs.Lists.{taken_at, dropped_at, at_dropped}
 use Rattle.sq_audit.proofs.Parts.{at_taken}
-use Rattle.sq_audit.proofs.Listing.{of_some}
+use Rattle.sq_placed.proofs.Stands.{of_some}
 
 -- a note at its place of a link
 pub record IsNoteAt (g : GatheredValue) (i p : ℕ) (link : GatheredLink) (note : Note) : Type 0 where

@@ -3,6 +3,7 @@ use Rattle.std.proofs.Common.{◌≡◌, ⊎_elim, ℕ, suc, zero, false, ◌<�
 use Rattle.std.specs.Prelude.{◌≢◌, slice_get, slice_set, slice_index_or}
 use Rattle.std.specs.Option.{option_map_or}
 use Rattle.std.proofs.lemmas.Bool.{cases_lt}
+use Rattle.std.proofs.lemmas.List.{get_or_past}
 use Rattle.std.proofs.lemmas.Option.{slice_get_within, slice_get-get_or}
 use Rattle.sq_chunk.specs.ChunkValue.{ChunkValue}
 use Rattle.sq_status.specs.declared.view.View.{View}
@@ -14,7 +15,6 @@ use Rattle.sq_pull.specs.Seats.{StepsAt}
 use Rattle.sq_node_model.specs.NodeValue.{put}
 use Rattle.sq_node_model.proofs.Members.{set_new}
 use Rattle.sq_node_model.proofs.Puts.{put_each, put_set, put_field}
-use Rattle.sq_node_model.proofs.CoreCut.{get_or-past}
 use Rattle.sq_node.specs.declared.ends.SendEnd.{SendEnd}
 use Rattle.sq_node.specs.declared.ends.RecvEnd.{RecvEnd}
 use Rattle.sq_node.specs.Ends.{send_end, recv_end, sent_on, received_on}
@@ -25,7 +25,7 @@ use Rattle.sq_node.specs.Steps.{ClaimsFor}
 -- an end stands at a place that there is
 pub stands_below : {X : Type 0} (ends : List (Option X)) (at : ℕ) (end : X) → slice_index_or ends at None ≡ Some end → at < length ends
 stands_below ends at end there =
-    ⊎_elim (λ (low : at < length ends). low) (λ (past : length ends ≤ at). let none = sym (get_or-past ends at None past) ∙ there in cc) (cases_lt at (length ends))
+    ⊎_elim (λ (low : at < length ends). low) (λ (past : length ends ≤ at). let none = sym (get_or_past ends at None past) ∙ there in cc) (cases_lt at (length ends))
 
 -- what is read of each end, once one of them has one more chunk
 chunk_more : {X : Type 0} (chunks : X → List ChunkValue) (ends : List (Option X)) (at : ℕ) (end now : X) (chunk : ChunkValue) → slice_index_or ends at None ≡ Some end → chunks now ≡ chunks end ++ chunk ∷ []

@@ -3,7 +3,7 @@ use Rattle.std.proofs.Common.{◌≡◌, ℕ, ◌<◌, Bool, true, false, List, 
 use Rattle.std.specs.Prelude.{◌⊎◌, ◌≢◌, ◌==◌, Contains, remove, slice_get}
 use Rattle.std.proofs.lemmas.Bool.Decides.{eqb_tells}
 use Rattle.std.proofs.lemmas.Option.{same_Some, slice_get_read}
-use Rattle.sq_model.proofs.Lists.{Contains-slice_get}
+use Rattle.sq_model.proofs.Lists.{Contains-slice_get, slice_get-Contains}
 use Rattle.sq_status.specs.declared.view.View.{View}
 use Rattle.sq_status.specs.Seat.{SeatValue}
 use Rattle.sq_exec.specs.Runs.{is_whole}
@@ -15,10 +15,6 @@ use Rattle.sq_node.specs.NodeState.{NodeState}
 use Rattle.sq_node.specs.Steps.{Completes}
 use Rattle.sq_node.specs.Looks.{SeatsLooked, HasNoneToComplete, LooksAndCompletes, CompletesOne, CompletesNone}
 use Rattle.sq_node.proofs.Looked.{settled_at, settled_seats, settled_completed, settled_none, completes_settles}
-
--- the entry that a list has, where it stands
-stands_at : {X : Type 0} (xs : List X) (x : X) (there : Contains xs x) → slice_get xs there.0 ≡ Some x
-stands_at xs x there = slice_get_read xs (length xs) there.0 x refl there.1 (sym there.2)
 
 pub after_none : (core : CoreValue) (old new : List SeatValue) (nodes left : List (ℕ × ℕ)) (complete : List Bool) → CompletesNone old nodes new left → IsNode core old nodes complete → IsNode core new left complete
 after_none core old new nodes left complete none is =
@@ -34,14 +30,14 @@ after_none core old new nodes left complete none is =
 pub none_of_all : (core : CoreValue) (old new : List SeatValue) (nodes left : List (ℕ × ℕ)) (complete : List Bool) → CompletesNone old nodes new left → IsNode core old nodes complete
     → (seg n : ℕ) → is_whole (loaded_at core seg) n ≡ true → HasNoneToComplete old new seg n
 none_of_all core old new nodes left complete none is seg n whole =
-    ⊎_elim (λ (there : Contains nodes (seg, n)). none.none there.0 seg n (stands_at nodes (seg, n) there)) (λ (settled : HasSettled old seg n). settled_none old new none.looked seg n settled) (is.each seg n whole)
+    ⊎_elim (λ (there : Contains nodes (seg, n)). none.none there.0 seg n (slice_get-Contains nodes (seg, n) there)) (λ (settled : HasSettled old seg n). settled_none old new none.looked seg n settled) (is.each seg n whole)
 
 module _ (core : CoreValue) (old new : List SeatValue) (nodes left : List (ℕ × ℕ)) (at : ℕ) (complete : List Bool) (one : CompletesOne old nodes at new left) (is : IsNode core old nodes complete) where
   -- what is left stood there
   was_there : (seg n : ℕ) → Contains left (seg, n) → Contains nodes (seg, n)
   was_there seg n there =
       let among : Contains (remove nodes one.place) (seg, n) = subst (λ (xs : List (ℕ × ℕ)). Contains xs (seg, n)) one.rest there in
-      let stood = removed_stood nodes one.place among.0 (seg, n) (stands_at (remove nodes one.place) (seg, n) among) in
+      let stood = removed_stood nodes one.place among.0 (seg, n) (slice_get-Contains (remove nodes one.place) (seg, n) among) in
       Contains-slice_get nodes stood.place (seg, n) stood.there
 
   settles : (v w : View) → LooksAndCompletes v one.node w → (n : ℕ) → IsSettled v n → IsSettled w n
@@ -61,7 +57,7 @@ module _ (core : CoreValue) (old new : List SeatValue) (nodes left : List (ℕ �
 
   left_or_settled : (seg n : ℕ) → Contains nodes (seg, n) → Contains left (seg, n) ⊎ HasSettled new seg n
   left_or_settled seg n there =
-      let stands = stands_at nodes (seg, n) there in
+      let stands = slice_get-Contains nodes (seg, n) there in
       ⊎_elim
       (λ (same : ((there.0 == one.place) ≡ true) × (there.0 ≡ one.place)).
       let pair : (at, one.node) ≡ (seg, n) = same_Some (at, one.node) (seg, n) (sym one.there ∙ ap (slice_get nodes) (sym same.1) ∙ stands) in

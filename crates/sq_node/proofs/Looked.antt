@@ -13,7 +13,7 @@ use Rattle.sq_tree.specs.declared.fault.BeginFault.TheVariants as begin
 use Rattle.sq_tree.specs.declared.fault.CompleteFault.{CompleteFault}
 use Rattle.sq_tree.specs.declared.fault.CompleteFault.TheVariants as complete
 use Rattle.sq_tree.specs.Status.{is_past}
-use Rattle.sq_model.proofs.Lists.{Contains-slice_get}
+use Rattle.sq_model.proofs.Lists.{Contains-first}
 use Rattle.sq_status.specs.declared.view.View.{View}
 use Rattle.sq_status.specs.View.{HasSeen}
 use Rattle.sq_status.specs.Plays.{Found, Won}
@@ -28,9 +28,6 @@ use Rattle.sq_node.specs.Looks.{OnlyLooked, SeatsLooked, FoundElse, HasNoneToCom
 
 eq_or_not : (a b : ℕ) → (a ≡ b) ⊎ (a ≢ b)
 eq_or_not a b = ⊎_elim (λ (same : ((a == b) ≡ true) × (a ≡ b)). inl same.1) (λ (apart : ((a == b) ≡ false) × (a ≢ b)). inr apart.1) (eqb_tells a b)
-
-head_there : {X : Type 0} (x : X) (xs : List X) → Contains (x ∷ xs) x
-head_there x xs = Contains-slice_get (x ∷ xs) 0 x refl
 
 -- a look is only a look
 pub found_looks : (v : View) (n : ℕ) (st : Status) (w : View) → Found v n st w → OnlyLooked v w
@@ -55,16 +52,16 @@ no_looks seats =
     }
 
 seen_then : (v : View) (n : ℕ) (st : Status) (w : View) → Found v n st w → HasSeen w n st
-seen_then v n st w found = subst (λ (u : View). HasSeen u n st) (sym found.after) (head_there (n, st) v.looked)
+seen_then v n st w found = subst (λ (u : View). HasSeen u n st) (sym found.after) (Contains-first (n, st) v.looked)
 
 -- a node that isn't found partial is settled, or was found to be neither
 pub not_partial : (v : View) (n : ℕ) (st : Status) (w : View) → Found v n st w → ((pull : ℕ) → st ≡ Partial pull → ⊥) → LooksOnly v n w
 not_partial v n Free w found other =
-    (found_looks v n Free w found, inr (record { looks = (n, Free) ∷ []; since = ap (λ (u : View). u.looked) found.after; status = Free; found = head_there (n, Free) []; else = refl }))
+    (found_looks v n Free w found, inr (record { looks = (n, Free) ∷ []; since = ap (λ (u : View). u.looked) found.after; status = Free; found = Contains-first (n, Free) []; else = refl }))
 not_partial v n Split w found other = (found_looks v n Split w found, inl (inr (inl (seen_then v n Split w found))))
 not_partial v n (Claimed pull) w found other = (
   found_looks v n (Claimed pull) w found,
-  inr (record { looks = (n, Claimed pull) ∷ []; since = ap (λ (u : View). u.looked) found.after; status = Claimed pull; found = head_there (n, Claimed pull) []; else = refl }),
+  inr (record { looks = (n, Claimed pull) ∷ []; since = ap (λ (u : View). u.looked) found.after; status = Claimed pull; found = Contains-first (n, Claimed pull) []; else = refl }),
 )
 not_partial v n (Partial pull) w found other = absurd (other pull refl)
 not_partial v n (Complete pull) w found other = (found_looks v n (Complete pull) w found, inl (inr (inr (pull, seen_then v n (Complete pull) w found))))
@@ -129,7 +126,7 @@ settled_completed v w n m told settled =
     by_kind (inr seen) = inr seen
 
 pub completes_settles : (v w : View) (n : ℕ) → LooksAndCompletes v n w → IsSettled w n
-completes_settles v w n told = subst (λ (u : View). IsSettled u n) (sym told.3.after) (inl (told.0, head_there (n, told.0) told.1.completed))
+completes_settles v w n told = subst (λ (u : View). IsSettled u n) (sym told.3.after) (inl (told.0, Contains-first (n, told.0) told.1.completed))
 
 -- and at each seat
 pub settled_at : (seg : ℕ) (steps : View → View → Type 0) (old new : List SeatValue) → ((v w : View) → steps v w → (n : ℕ) → IsSettled v n → IsSettled w n) → StepsAt seg steps old new

@@ -20,26 +20,20 @@ use Rattle.sq_exec.specs.CoreValue.{CoreValue, loaded_at}
 use Rattle.sq_opened.specs.Opened.{opened_part, HasOwned}
 use Rattle.sq_pull.specs.Seats.{AreSeatsOf}
 use Rattle.sq_node_model.specs.Cores.{IsUnused}
-use Rattle.sq_node_model.proofs.CoreNew.{core_new}
+use Rattle.sq_node_model.proofs.CoreNew.{core_new, get_or-same}
 use Rattle.sq_node_model.proofs.Members.{push_stood}
 use Rattle.sq_node.specs.declared.ends.SendEnd.{SendEnd}
 use Rattle.sq_node.specs.declared.ends.RecvEnd.{RecvEnd}
 use Rattle.sq_node.specs.Ends.{link_at, send_end, recv_end, AreSendEnds, AreRecvEnds}
 use Rattle.sq_node.specs.FabricValue.{FabricValue}
-use Rattle.sq_node.specs.NodeState.{NodeState, views_of, sent_by, received_by}
+use Rattle.sq_node.specs.NodeState.{NodeState, IsNodeOf, views_of, sent_by, received_by}
 use Rattle.sq_pull.specs.Pump.{PumpValue}
 use Rattle.sq_node.specs.Opened.{IsNewPump, AreNewPumps, AreFirstSeats, AreNewSeats, GaveEach, HasSendEnds, HasRecvEnds, LeavesSendEnds, LeavesRecvEnds, HaveSentNothing, HaveReceivedNothing, IsFabricOf, IsNewNode, AreNewNodes, first_view, started_part}
-
-all_same : {X : Type 0} (n i : ℕ) (x : X) → get_or (replicate n x) i x ≡ x
-all_same n i x =
-    ⊎_elim (λ (within : i < n). get_or-replicate n i x x within)
-    (λ (past : n ≤ i). get_or_past (replicate n x) i x (omega (arith, length-replicate n x)))
-    (cases_lt i n)
 
 -- nothing is loaded at a partition that opens
 pub not_whole : (o : OpeningValue) (part : ℕ) (core : CoreValue) → core ≡ opened_part o part → (seg n : ℕ) → is_whole (loaded_at core seg) n ≡ false
 not_whole o part core is seg n =
-    ap (λ (opened : CoreValue). is_whole (loaded_at opened seg) n) is ∙ ap (λ (runs : List Run). is_whole runs n) (all_same (length o.recon.segments) seg [])
+    ap (λ (opened : CoreValue). is_whole (loaded_at opened seg) n) is ∙ ap (λ (runs : List Run). is_whole runs n) (get_or-same (length o.recon.segments) seg [])
 
 unused : (trees : List TableId) (seats : List SeatValue) (sends : List (Option SendEnd)) (recvs : List (Option RecvEnd)) → AreNewSeats trees seats → HaveSentNothing sends → HaveReceivedNothing recvs
     → IsUnused (views_of seats) (sent_by sends) (received_by recvs)
@@ -99,24 +93,10 @@ new_node o fabric part core seats sends recvs node shared below opened owned new
 -- it is new whatever seats the fabric keeps
 same_node : (o : OpeningValue) (fabric : FabricValue) (seats : List SeatValue) (part : ℕ) (node : NodeState) → IsNewNode o fabric part node → IsNewNode o (record fabric { seats = seats }) part node
 same_node o fabric seats part node new =
-    record {
-      of = record {
-        recon = new.of.recon;
-        parts = new.of.parts;
-        below = new.of.below;
-        seats = new.of.seats;
-        sends = new.of.sends;
-        recvs = new.of.recvs;
-        all_sends = new.of.all_sends;
-        all_recvs = new.of.all_recvs;
-      };
-      core = new.core;
-      seats = new.seats;
-      sends = new.sends;
-      recvs = new.recvs;
-      receipts = new.receipts;
-      holds = new.holds;
-    }
+    let of = new.of in
+    let still : IsNodeOf (record fabric { seats = seats }) node =
+    record { recon = of.recon; parts = of.parts; below = of.below; seats = of.seats; sends = of.sends; recvs = of.recvs; all_sends = of.all_sends; all_recvs = of.all_recvs } in
+    record { of = still; core = new.core; seats = new.seats; sends = new.sends; recvs = new.recvs; receipts = new.receipts; holds = new.holds }
 
 pub same_nodes : (o : OpeningValue) (old new : FabricValue) (count : ℕ) (nodes : List NodeState) → new ≡ record old { seats = new.seats } → AreNewNodes o old count nodes → AreNewNodes o new count nodes
 same_nodes o old new count nodes same are =

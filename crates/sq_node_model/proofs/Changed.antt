@@ -36,14 +36,5 @@ module _ (o : OpeningValue) (node : NodeValue) (h : NodeHolds o node) where
   -- the families and the receipts are others
   pub keeps_families : (store : StoreValue) (receipts : List ReceiptValue) → StoreHolds o node.part (HasCut node) (HasLoaded node) store → FamiliesHold o node.part (HasCut node) (HasLoaded node) store
       → ReceiptsHold o node.part (HasCut node) (HasLoaded node) store receipts → NodeHolds o (record node { store = store; receipts = receipts })
-  keeps_families store receipts kept families told = record {
-    below = h.below;
-    begun = h.begun;
-    outs = h.outs;
-    ins = h.ins;
-    loaded = h.loaded;
-    completed = h.completed;
-    store = kept;
-    families = families;
-    receipts = told;
-  }
+  keeps_families store receipts kept families told =
+      record { below = h.below; begun = h.begun; outs = h.outs; ins = h.ins; loaded = h.loaded; completed = h.completed; store = kept; families = families; receipts = told }

@@ -1,5 +1,6 @@
 -- The cut of a partition by itself is a cut of its node.
 use Rattle.std.proofs.Common.{◌≡◌, ℕ, ◌≤◌, ◌<◌, false, List, [], ◌∷◌, ◌++◌, length, Option, Some, None, refl, sym, ap, ◌∙◌, subst, ⊎_elim, true≢false, arith}
+use Rattle.std.proofs.lemmas.List.{get_or_past}
 use Rattle.std.specs.Prelude.{is_some, slice_index_or, unwrap_or}
 use Rattle.std.proofs.lemmas.Bool.{cases_lt}
 use Rattle.std.proofs.lemmas.Option.{slice_get_past, slice_get-get_or, unwrap_or-slice_get}
@@ -22,13 +23,10 @@ use Rattle.sq_node_model.proofs.Outs.{IsNoteOf}
 use Rattle.sq_node_model.proofs.NodeCut.{keeps_cut}
 
 -- what stands past the end of a list
-pub get_or-past : {X : Type 0} (xs : List X) (i : ℕ) (d : X) → length xs ≤ i → slice_index_or xs i d ≡ d
-get_or-past xs i d past = sym (unwrap_or-slice_get xs i d) ∙ ap (λ found. unwrap_or found d) (slice_get_past xs i past)
-
 -- an end that isn't new is the end of a link to a partition
 pub out_below : (core : CoreValue) (dst : ℕ) → (out_at core dst ≡ new_out_link → ⊥) → dst < length core.outs
 out_below core dst used =
-    ⊎_elim (λ (below : dst < length core.outs). below) (λ past. absurd (used (get_or-past core.outs dst new_out_link past))) (cases_lt dst (length core.outs))
+    ⊎_elim (λ (below : dst < length core.outs). below) (λ past. absurd (used (get_or_past core.outs dst new_out_link past))) (cases_lt dst (length core.outs))
 
 none_there : (box : Option ChunkValue) → is_some box ≡ false → box ≡ None
 none_there None e = refl

@@ -1,5 +1,6 @@
 -- The load of a partition by itself is a load of its node.
 use Rattle.std.proofs.Common.{◌≡◌, ⊎_elim, ℕ, ◌<◌, max, min, true, false, ◌==◌, ◌&&◌, nat_le, nat_lt, List, [], length, slice_get, Option, Some, None, refl, sym, ap, ◌∙◌, subst, true≢false, arith}
+use Rattle.std.proofs.lemmas.List.{get_or_past}
 use Rattle.std.specs.Prelude.{not, All}
 use Rattle.std.proofs.lemmas.Bool.{cases_lt, and_parts, eqb-true, not-true, leb-true, lt-ltb, ltb-true, and_from, eq-eqb}
 use Rattle.std.proofs.lemmas.Option.{slice_get_within}
@@ -33,7 +34,6 @@ use Rattle.sq_node_model.proofs.Puts.{put_set}
 use Rattle.sq_node_model.proofs.Keys.{arrived_within, one_segment}
 use Rattle.sq_node_model.proofs.Facts.{loaded_within}
 use Rattle.sq_node_model.proofs.NodeLoaded.{keeps_loaded}
-use Rattle.sq_node_model.proofs.CoreCut.{get_or-past}
 
 -- what is known of a chunk that can be loaded
 record Fits (core : CoreValue) (src : ℕ) (chunk : ChunkValue) : Type 0 where
@@ -122,7 +122,7 @@ module _ (o : OpeningValue) (old new : CoreValue) (views : ℕ → View) (sent r
   below =
       ⊎_elim
       (λ (low : src < length old.inboxes). low)
-      (λ past. absurd (let none = sym (get_or-past old.inboxes src None past) ∙ l.came in cc))
+      (λ past. absurd (let none = sym (get_or_past old.inboxes src None past) ∙ l.came in cc))
       (cases_lt src (length old.inboxes))
 
   seg_below : chunk.note.seg < length old.loaded

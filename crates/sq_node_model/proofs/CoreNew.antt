@@ -1,7 +1,7 @@
 -- A new node, which did nothing yet.
 use Rattle.std.proofs.Common.{◌≡◌, inl, ⊎_elim, ℕ, ◌<◌, Bool, true, false, ◌==◌, ◌&&◌, nat_lt, if◌then◌else◌, List, [], length, replicate, get_or, Option, Some, None, refl, sym, ap, ◌∙◌, subst, true≢false, arith}
 use Rattle.std.proofs.lemmas.Bool.{cases_lt, eqb-true, eq-eqb}
-use Rattle.std.proofs.lemmas.List.{get_or-replicate, length-replicate}
+use Rattle.std.proofs.lemmas.List.{get_or-replicate, length-replicate, get_or_past}
 use Rattle.std.proofs.lemmas.List.Elements.{All-nil}
 use Rattle.sq_schema.specs.TxnValue.{TxnValue}
 use Rattle.sq_schema.specs.Family.{FamilyValue}
@@ -23,15 +23,14 @@ use Rattle.sq_node_model.specs.OutHolds.{is_opened}
 use Rattle.sq_node_model.specs.FamiliesHold.{IsStored, IsKept, IsOf}
 use Rattle.sq_node_model.specs.NodeHolds.{NodeHolds}
 use Rattle.sq_node_model.specs.Cores.{opening_family, OpensWith, IsUnused}
-use Rattle.sq_node_model.proofs.CoreCut.{get_or-past}
 use Rattle.sq_node_model.proofs.Told.{from_zero, none_before}
 
 -- a list of one value has that everywhere
-get_or-same : {X : Type 0} (n i : ℕ) (x : X) → get_or (replicate n x) i x ≡ x
+pub get_or-same : {X : Type 0} (n i : ℕ) (x : X) → get_or (replicate n x) i x ≡ x
 get_or-same n i x =
     ⊎_elim
     (λ below. get_or-replicate n i x x below)
-    (λ past. get_or-past (replicate n x) i x (let len = length-replicate n x in omega (arith, past, len)))
+    (λ past. get_or_past (replicate n x) i x (let len = length-replicate n x in omega (arith, past, len)))
     (cases_lt i n)
 
 module _ (o : OpeningValue) (part : ℕ) (store : StoreValue) (below : part < o.old.parts) (opens : OpensWith o part store) where

@@ -27,7 +27,7 @@ use Rattle.sq_node_model.proofs.Named.{unnamed, named_more}
 use Rattle.sq_node_model.proofs.Told.{told_more, told_new, one_more_position, from_zero, none_before}
 
 -- a root key without opening rows
-not_opened : (o : OpeningValue) (root : ℕ) → is_opened o root ≡ false → opening_rows o root ≡ []
+pub not_opened : (o : OpeningValue) (root : ℕ) → is_opened o root ≡ false → opening_rows o root ≡ []
 not_opened o root none = here (opening_rows o root) none
   where
     here : (rows : RowList) → not (length rows == 0) ≡ false → rows ≡ []

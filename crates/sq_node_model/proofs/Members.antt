@@ -95,6 +95,15 @@ set_new [] i v x at = absurd cc
 set_new (y ∷ xs) zero v x at = refl
 set_new (y ∷ xs) (suc i) v x at = set_new xs i v x at
 
+pub slice_get-front : {X : Type 0} (xs ys : List X) (i : ℕ) (x : X) → slice_get xs i ≡ Some x → slice_get (xs ++ ys) i ≡ Some x
+slice_get-front [] ys i x at = absurd cc
+slice_get-front (y ∷ xs) ys zero x at = at
+slice_get-front (y ∷ xs) ys (suc i) x at = slice_get-front xs ys i x at
+
+pub slice_get-pushed : {X : Type 0} (xs : List X) (x : X) → slice_get (xs ++ x ∷ []) (length xs) ≡ Some x
+slice_get-pushed [] x = refl
+slice_get-pushed (y ∷ xs) x = slice_get-pushed xs x
+
 pub push_stood : {X : Type 0} (xs : List X) (x : X) (i : ℕ) (y : X) → slice_get (xs ++ x ∷ []) i ≡ Some y → (slice_get xs i ≡ Some y) ⊎ ((i ≡ length xs) × (x ≡ y))
 push_stood [] x zero y at = inr (refl, same_Some x y at)
 push_stood [] x (suc i) y at = absurd cc

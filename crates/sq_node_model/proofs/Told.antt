@@ -11,15 +11,7 @@ use Rattle.sq_store.specs.StoreValue.{with_txn}
 use Rattle.sq_status.specs.View.{one_if}
 use Rattle.sq_node_model.specs.NodeValue.{ReceiptValue}
 use Rattle.sq_node_model.specs.Receipts.{IsToldBy}
-
-pub slice_get-front : {X : Type 0} (xs ys : List X) (i : ℕ) (x : X) → slice_get xs i ≡ Some x → slice_get (xs ++ ys) i ≡ Some x
-slice_get-front [] ys i x at = absurd cc
-slice_get-front (y ∷ xs) ys zero x at = at
-slice_get-front (y ∷ xs) ys (suc i) x at = slice_get-front xs ys i x at
-
-slice_get-pushed : {X : Type 0} (xs : List X) (x : X) → slice_get (xs ++ x ∷ []) (length xs) ≡ Some x
-slice_get-pushed [] x = refl
-slice_get-pushed (y ∷ xs) x = slice_get-pushed xs x
+use Rattle.sq_node_model.proofs.Members.{slice_get-front, slice_get-pushed}
 
 -- a receipt of an earlier position stays right
 pub told_more : (family : FamilyValue) (txn : TxnValue) (receipt : ReceiptValue) → IsToldBy family receipt → IsToldBy (with_txn family txn) receipt

@@ -17,6 +17,7 @@ use Rattle.sq_schema.specs.Table.{TableValue, rows_in, is_opening}
 use Rattle.sq_plan.specs.PlanValue.{PlanValue, owner}
 use Rattle.sq_chunk.specs.ChunkValue.{are_within}
 use Rattle.sq_store.specs.StoreValue.{family_in, with_families}
+use Rattle.sq_store.proofs.Order.{less_from_cmp}
 use Rattle.sq_store.proofs.Rising.{get-with_families}
 use Rattle.sq_opened.specs.Opened.{opened_family, opened_families}
 
@@ -24,18 +25,10 @@ use Rattle.sq_opened.specs.Opened.{opened_family, opened_families}
 abbrev from_key : ℕ → TableValue → Bool
 from_key lo table = list_all (λ entry. nat_le lo entry.0) table
 
-less_than : (x y : ℕ) → is_lt (nat_cmp x y) ≡ true → x < y
-less_than x y e = by_order (nat_lt x y) (x == y) (ltb-true x y) e
-  where
-    by_order : (lt eq : Bool) → (lt ≡ true → x < y) → is_lt (if lt then Less else if eq then Equal else Greater) ≡ true → x < y
-    by_order true eq less e = less refl
-    by_order false true less e = absurd (true≢false (sym e))
-    by_order false false less e = absurd (true≢false (sym e))
-
 later : (x : ℕ) (table : TableValue) → below_all nat_cmp x table ≡ true → from_key (x + 1) table ≡ true
 later x [] e = refl
 later x (entry ∷ table) e =
-    let first : x < entry.0 = less_than x entry.0 (and_parts (is_lt (nat_cmp x entry.0)) (below_all nat_cmp x table) e).0 in
+    let first : x < entry.0 = less_from_cmp x entry.0 (and_parts (is_lt (nat_cmp x entry.0)) (below_all nat_cmp x table) e).0 in
     and_from (nat_le (x + 1) entry.0) (from_key (x + 1) table) (le-leb (x + 1) entry.0 (omega (arith, first)))
     (later x table (and_parts (is_lt (nat_cmp x entry.0)) (below_all nat_cmp x table) e).1)
 

@@ -24,7 +24,7 @@ use Rattle.sq_node_model.specs.Gathered.{GatheredLink, GatheredValue, Gathers}
 use Rattle.sq_node_model.specs.Spots.{word_in}
 use Rattle.sq_node_model.proofs.Keys.{IsMovedFrom, moved_from}
 use Rattle.sq_node_model.proofs.Facts.{own_note, own_within, cut_carried}
-use Rattle.sq_node_model.proofs.Told.{slice_get-front}
+use Rattle.sq_node_model.proofs.Members.{slice_get-front}
 use Rattle.sq_placed.proofs.Lists.{at_map}
 use Rattle.sq_placed.proofs.Ends.{HasEnds, ends, cut_notes_are}
 use Rattle.sq_placed.proofs.Words.{begun}

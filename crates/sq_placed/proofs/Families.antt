@@ -25,7 +25,8 @@ use Rattle.sq_node_model.specs.declared.spot.Spot.TheVariants.{Store, Chunk}
 use Rattle.sq_node_model.specs.Gathered.{GatheredValue, Gathers}
 use Rattle.sq_node_model.specs.Spots.{cut_notes, StandsAt}
 use Rattle.sq_node_model.specs.Placed.{AllStand, KeepBases}
-use Rattle.sq_node_model.proofs.Told.{slice_get-front}
+use Rattle.sq_node_model.proofs.Members.{slice_get-front}
+use Rattle.sq_node_model.proofs.FamiliesAnswered.{not_opened}
 use Rattle.sq_placed.proofs.Lists.{stands_at}
 use Rattle.sq_placed.proofs.Ends.{out}
 use Rattle.sq_placed.proofs.Cuts.{IsCutAt, cut_at, loaded_at, has_cut}
@@ -36,16 +37,6 @@ use Rattle.sq_placed.proofs.Places.{cut_among}
 some_is : {X : Type 0} (found : Option X) → is_some found ≡ true → (x : X) × (found ≡ Some x)
 some_is None e = absurd (true≢false (sym e))
 some_is (Some x) e = (x, refl)
-
-no_rows : (o : OpeningValue) (root : ℕ) → is_opened o root ≡ false → opening_rows o root ≡ []
-no_rows o root none = nil_from_length (opening_rows o root) (is_zero (length (opening_rows o root)) none)
-  where
-    is_zero : (n : ℕ) → not (n == 0) ≡ false → n ≡ 0
-    is_zero n none =
-        elim (cases_Bool (n == 0)) [
-          | inl zero ↦ eqb-true n 0 zero
-          | inr other ↦ absurd (true≢false (sym (ap not other) ∙ none))
-        ]
 
 -- the family that a chunk has stands somewhere, perhaps with a longer log
 pub record IsCarriedOn (g : GatheredValue) (root : ℕ) (family : FamilyValue) : Type 0 where
@@ -92,7 +83,7 @@ module _ (o : OpeningValue) (is : IsOpening o) (nodes : List NodeValue) (g : Gat
       here None e =
           elim (cases_Bool (is_opened o root)) [
             | inl opened ↦ absurd (true≢false (sym (sym (ap is_some e) ∙ (whole chunk c).opening root covered opened)))
-            | inr none ↦ ap (λ found. (unwrap_or found (absent root)).base) e ∙ sym (no_rows o root none)
+            | inr none ↦ ap (λ found. (unwrap_or found (absent root)).base) e ∙ sym (not_opened o root none)
           ]
 
   pub base : KeepBases o g

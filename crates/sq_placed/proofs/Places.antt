@@ -16,7 +16,7 @@ use Rattle.sq_node_model.specs.declared.spot.Spot.TheVariants.{Store, Chunk}
 use Rattle.sq_node_model.specs.Gathered.{GatheredLink, GatheredValue, Gathers}
 use Rattle.sq_node_model.specs.Spots.{cut_notes, loaded_notes, loads_of, place_in, StandsAt, IsSpotOf}
 use Rattle.sq_node_model.specs.Placed.{StandOnce}
-use Rattle.sq_node_model.proofs.Told.{slice_get-front}
+use Rattle.sq_node_model.proofs.Members.{slice_get-front}
 use Rattle.sq_placed.proofs.Lists.{Contains-flat_map, at_map, some_found, none_found}
 use Rattle.sq_placed.proofs.Ends.{notes_of, loads_are}
 use Rattle.sq_placed.proofs.Cuts.{IsCutAt, loaded_at, has_cut, noted_at, to_is, moved, carried}

@@ -18,7 +18,7 @@ use Rattle.sq_placed.proofs.Lists.{map_at, at_map, append_at, after_append}
 use Rattle.sq_placed.proofs.Ends.{ends}
 use Rattle.sq_placed.proofs.Cuts.{IsCutAt}
 
-of_some : {X Y : Type 0} (f : X → Option Y) (found : Option X) (y : Y) → option_and_then f found ≡ Some y → (x : X) × (found ≡ Some x) × (f x ≡ Some y)
+pub of_some : {X Y : Type 0} (f : X → Option Y) (found : Option X) (y : Y) → option_and_then f found ≡ Some y → (x : X) × (found ≡ Some x) × (f x ≡ Some y)
 of_some f found y at = option_and_then_some f found y at (λ x there e. (x, there, e))
 
 -- the node of a partition has the family

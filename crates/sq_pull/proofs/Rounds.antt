@@ -2,7 +2,7 @@
 use Rattle.std.proofs.Common.{◌≡◌, ℕ, zero, suc, ◌+◌, ◌<◌, ◌≤◌, Bool, true, false, List, [], ◌∷◌, ◌++◌, length, Some, None, refl, sym, ap, ◌∙◌, subst, arith}
 use Rattle.std.specs.Prelude.{nat_lt, ◌&&◌}
 use Rattle.std.specs.List.{list_all, range_with_len}
-use Rattle.std.proofs.lemmas.Bool.{lt-ltb}
+use Rattle.std.proofs.lemmas.Bool.{lt-ltb, and_parts}
 use Rattle.std.proofs.lemmas.List.{length-set}
 use Rattle.std.proofs.lemmas.List.Folds.{list_all-append}
 use Rattle.sq_status.specs.declared.view.View.{View}
@@ -24,16 +24,12 @@ and_true true true both = refl
 and_true true false both = both
 and_true false b both = cc
 
-and_right : (a b : Bool) → (a && b) ≡ true → b ≡ true
-and_right true b both = both
-and_right false b both = cc
-
 have_seats-turned : (count seg : ℕ) (rest : List ℕ) → have_seats count (seg ∷ rest) ≡ true → have_seats count (rest ++ seg ∷ []) ≡ true
 have_seats-turned count seg rest all =
     list_all-append (λ (k : ℕ). nat_lt k count) rest (seg ∷ []) ∙ and_true (nat_lt seg count) (have_seats count rest) all
 
 have_seats-rest : (count seg : ℕ) (rest : List ℕ) → have_seats count (seg ∷ rest) ≡ true → have_seats count rest ≡ true
-have_seats-rest count seg rest all = and_right (nat_lt seg count) (have_seats count rest) all
+have_seats-rest count seg rest all = (and_parts (nat_lt seg count) (have_seats count rest) all).1
 
 have_seats-range : (count first n : ℕ) → first + n ≤ count → have_seats count (range_with_len first n) ≡ true
 have_seats-range count first zero few = refl
