@@ -28,7 +28,7 @@ use Rattle.sq_node.specs.Ends.{link_at, send_end, recv_end, AreSendEnds, AreRecv
 use Rattle.sq_node.specs.FabricValue.{FabricValue}
 use Rattle.sq_node.specs.NodeState.{NodeState, IsNodeOf, views_of, sent_by, received_by}
 use Rattle.sq_pull.specs.Pump.{PumpValue}
-use Rattle.sq_node.specs.Opened.{IsNewPump, AreNewPumps, AreFirstSeats, AreNewSeats, GaveEach, HasSendEnds, HasRecvEnds, LeavesSendEnds, LeavesRecvEnds, HaveSentNothing, HaveReceivedNothing, IsFabricOf, IsNewNode, AreNewNodes, first_view, started_part}
+use Rattle.sq_node.specs.Opened.{IsNewPump, AreNewPumps, AreFirstSeats, AreNewSeats, GaveEach, HasEnds, LeavesEnds, HaveSentNothing, HaveReceivedNothing, IsFabricOf, IsNewNode, AreNewNodes, first_view, started_part}
 
 -- nothing is loaded at a partition that opens
 pub not_whole : (o : OpeningValue) (part : ℕ) (core : CoreValue) → core ≡ opened_part o part → (seg n : ℕ) → is_whole (loaded_at core seg) n ≡ false
@@ -138,18 +138,12 @@ gave_one_more given trees old new are gives =
     }
 
 -- the ends for another partition are left
-pub left_sends : (links : List LinkValue) (old new : List (Option SendEnd)) (part other : ℕ) → LeavesSendEnds links old part new → part ≢ other → HasSendEnds links old other → HasSendEnds links new other
-left_sends links old new part other leaves apart has =
+pub left_ends : {X : Type 0} (links : List LinkValue) (part_of : LinkValue → ℕ) (end_of : ℕ → X) (old new : List (Option X)) (part other : ℕ) → LeavesEnds links part_of old part new → part ≢ other → HasEnds links part_of end_of old other
+    → HasEnds links part_of end_of new other
+left_ends links part_of end_of old new part other leaves apart has =
     record {
       count = leaves.count ∙ has.count;
-      each = λ i lt src. leaves.each i (λ same. apart (sym same ∙ src)) ∙ has.each i lt src;
-    }
-
-pub left_recvs : (links : List LinkValue) (old new : List (Option RecvEnd)) (part other : ℕ) → LeavesRecvEnds links old part new → part ≢ other → HasRecvEnds links old other → HasRecvEnds links new other
-left_recvs links old new part other leaves apart has =
-    record {
-      count = leaves.count ∙ has.count;
-      each = λ i lt dst. leaves.each i (λ same. apart (sym same ∙ dst)) ∙ has.each i lt dst;
+      each = λ i lt own. leaves.each i (λ same. apart (sym same ∙ own)) ∙ has.each i lt own;
     }
 
 -- a node that is opened with these is new, where there is memory for it

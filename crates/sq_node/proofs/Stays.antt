@@ -23,7 +23,7 @@ use Rattle.sq_node.specs.declared.ends.RecvEnd.{RecvEnd}
 use Rattle.sq_node.specs.declared.stepped.Stepped.{Stepped}
 use Rattle.sq_node.specs.declared.stepped.Stepped.TheVariants.{Did, Nothing, Memory}
 use Rattle.sq_node.specs.FabricValue.{FabricValue}
-use Rattle.sq_node.specs.Ends.{link_at, send_end, recv_end, IsSendEnd, IsRecvEnd, AreSendEnds, AreRecvEnds}
+use Rattle.sq_node.specs.Ends.{link_at, IsPassOf, AreEnds, AreSendEnds, AreRecvEnds}
 use Rattle.sq_node.specs.NodeState.{NodeState, IsNodeOf}
 use Rattle.sq_node.specs.Looks.{SeatsLooked}
 use Rattle.sq_node.specs.Steps.{ClaimsFor, JobStep, RequestStep, CutStep, SendStep, RecvStep, LoadStep, CompleteStep, ResumeStep}
@@ -92,26 +92,16 @@ module _ {X : Type 0} (ends : List (Option X)) (at : ℕ) (end now : X) (there :
       put_each (λ j found. found ≡ Some e → P e) at (Some now) (λ j. slice_index_or ends j None) (λ is. subst P (same_Some now e is) mine) (λ j apart is. before j e is) k
       (sym (set_there k) ∙ stands)
 
--- an end with the same link and queue in its place
-send_ends : (links : List LinkValue) (part : ℕ) (sends : List (Option SendEnd)) (at : ℕ) (end now : SendEnd) → send_end sends at ≡ Some end → now.link ≡ end.link → now.pass.queue ≡ end.pass.queue
-    → AreSendEnds links part sends → AreSendEnds links part (slice_set sends at (Some now))
-send_ends links part sends at end now there link queue are =
-    let first = are.ends at end there in
-    let is : IsSendEnd links now = record { exists = omega (arith, first.exists, link); queue = queue ∙ first.queue ∙ ap (λ (i : ℕ). (link_at links i).queue) (sym link) } in
-    record {
-      which = λ dst lt. read_alike sends at end now there (λ (e : SendEnd). e.link) link dst ∙ are.which dst (omega (arith, lt, length-set sends at (Some now)));
-      ends = said_of_each sends at end now there (IsSendEnd links) is are.ends;
-    }
-
-recv_ends : (links : List LinkValue) (part : ℕ) (recvs : List (Option RecvEnd)) (at : ℕ) (end now : RecvEnd) → recv_end recvs at ≡ Some end → now.link ≡ end.link → now.pass.queue ≡ end.pass.queue
-    → AreRecvEnds links part recvs → AreRecvEnds links part (slice_set recvs at (Some now))
-recv_ends links part recvs at end now there link queue are =
-    let first = are.ends at end there in
-    let is : IsRecvEnd links now = record { exists = omega (arith, first.exists, link); queue = queue ∙ first.queue ∙ ap (λ (i : ℕ). (link_at links i).queue) (sym link) } in
-    record {
-      which = λ src lt. read_alike recvs at end now there (λ (e : RecvEnd). e.link) link src ∙ are.which src (omega (arith, lt, length-set recvs at (Some now)));
-      ends = said_of_each recvs at end now there (IsRecvEnd links) is are.ends;
-    }
+  -- they are a partition's ends still, where the other is of the same link
+  ends_stay : {links : List LinkValue} {link_of : X → ℕ} {queue_of : X → TableId} {between : ℕ → Option ℕ} → AreEnds links link_of queue_of between ends → link_of now ≡ link_of end → queue_of now ≡ queue_of end
+      → AreEnds links link_of queue_of between (slice_set ends at (Some now))
+  ends_stay {links} {link_of} {queue_of} are link queue =
+      let first = are.ends at end there in
+      let is : IsPassOf links (link_of now) (queue_of now) = record { exists = omega (arith, first.exists, link); queue = queue ∙ first.queue ∙ ap (λ (i : ℕ). (link_at links i).queue) (sym link) } in
+      record {
+        which = λ other lt. read_alike link_of link other ∙ are.which other (omega (arith, lt, length-set ends at (Some now)));
+        ends = said_of_each (λ (e : X). IsPassOf links (link_of e) (queue_of e)) is are.ends;
+      }
 
 pub send_stays : (fabric : FabricValue) (old : NodeState) (answer : Stepped) (new : NodeState) → SendStep fabric old answer new → IsNodeOf fabric old → IsNodeOf fabric new
 send_stays fabric old Did new step of =
@@ -119,7 +109,7 @@ send_stays fabric old Did new step of =
     let dst = step.0 in
     subst (IsNodeOf fabric) (sym sends.after)
     (stays fabric old _ (record { part = refl; plan = refl; recon = refl }) of.seats
-    (send_ends fabric.links old.core.part old.sends dst sends.end _ sends.there refl refl of.sends) of.recvs (length-set old.sends dst _) refl of)
+    (ends_stay old.sends dst sends.end _ sends.there of.sends refl refl) of.recvs (length-set old.sends dst _) refl of)
 send_stays fabric old Nothing new step of = same_node fabric old new step.0 of
 send_stays fabric old Memory new step of = absurd step
 
@@ -129,7 +119,7 @@ recv_stays fabric old Did new step of =
     let src = step.0 in
     subst (IsNodeOf fabric) (sym receives.after)
     (stays fabric old _ (record { part = refl; plan = refl; recon = refl }) of.seats of.sends
-    (recv_ends fabric.links old.core.part old.recvs src receives.end _ receives.there refl refl of.recvs) refl (length-set old.recvs src _) of)
+    (ends_stay old.recvs src receives.end _ receives.there of.recvs refl refl) refl (length-set old.recvs src _) of)
 recv_stays fabric old Nothing new step of = same_node fabric old new step.0 of
 recv_stays fabric old Memory new step of = absurd step
 

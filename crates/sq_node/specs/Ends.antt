@@ -16,14 +16,17 @@ link_at links i = slice_index_or links i no_link
 abbrev pub link_from : List LinkValue → ℕ → ℕ → Option ℕ
 link_from links src dst = position (λ link. (link.src == src) && (link.dst == dst)) links
 
--- the end is of the link that it names
-pub record IsSendEnd (links : List LinkValue) (end : SendEnd) : Type 0 where
-  pub exists : end.link < length links
-  pub queue : end.pass.queue ≡ (link_at links end.link).queue
+-- a pass for this queue is of the link that stands here
+pub record IsPassOf (links : List LinkValue) (link : ℕ) (passes : TableId) : Type 0 where
+  pub exists : link < length links
+  pub queue : passes ≡ (link_at links link).queue
 
-pub record IsRecvEnd (links : List LinkValue) (end : RecvEnd) : Type 0 where
-  pub exists : end.link < length links
-  pub queue : end.pass.queue ≡ (link_at links end.link).queue
+-- the end is of the link that it names
+abbrev pub IsSendEnd : List LinkValue → SendEnd → Type 0
+IsSendEnd links end = IsPassOf links end.link end.pass.queue
+
+abbrev pub IsRecvEnd : List LinkValue → RecvEnd → Type 0
+IsRecvEnd links end = IsPassOf links end.link end.pass.queue
 
 -- the end once it sent one more chunk
 abbrev pub sent_on : SendEnd → ChunkValue → SendEnd
@@ -39,12 +42,15 @@ send_end sends dst = slice_index_or sends dst None
 abbrev pub recv_end : List (Option RecvEnd) → ℕ → Option RecvEnd
 recv_end recvs src = slice_index_or recvs src None
 
--- a partition's sending ends, by the partition that each sends to: one of each link that leads there
-pub record AreSendEnds (links : List LinkValue) (part : ℕ) (sends : List (Option SendEnd)) : Type 0 where
-  pub which : (dst : ℕ) → dst < length sends → option_map (λ end. end.link) (send_end sends dst) ≡ link_from links part dst
-  pub ends : (dst : ℕ) (end : SendEnd) → send_end sends dst ≡ Some end → IsSendEnd links end
+-- a partition's ends by the other partition: one of each link that there is between them, this way
+pub record AreEnds {X : Type 0} (links : List LinkValue) (link_of : X → ℕ) (queue_of : X → TableId) (between : ℕ → Option ℕ) (all : List (Option X)) : Type 0 where
+  pub which : (other : ℕ) → other < length all → option_map link_of (slice_index_or all other None) ≡ between other
+  pub ends : (other : ℕ) (end : X) → slice_index_or all other None ≡ Some end → IsPassOf links (link_of end) (queue_of end)
 
--- a partition's receiving ends, by the partition that each receives from: one of each link that leads from there
-pub record AreRecvEnds (links : List LinkValue) (part : ℕ) (recvs : List (Option RecvEnd)) : Type 0 where
-  pub which : (src : ℕ) → src < length recvs → option_map (λ end. end.link) (recv_end recvs src) ≡ link_from links src part
-  pub ends : (src : ℕ) (end : RecvEnd) → recv_end recvs src ≡ Some end → IsRecvEnd links end
+-- its sending ends, by the partition that each sends to
+abbrev pub AreSendEnds : List LinkValue → ℕ → List (Option SendEnd) → Type 0
+AreSendEnds links part sends = AreEnds links (λ end. end.link) (λ end. end.pass.queue) (link_from links part) sends
+
+-- its receiving ends, by the partition that each receives from
+abbrev pub AreRecvEnds : List LinkValue → ℕ → List (Option RecvEnd) → Type 0
+AreRecvEnds links part recvs = AreEnds links (λ end. end.link) (λ end. end.pass.queue) (λ src. link_from links src part) recvs

@@ -1,5 +1,5 @@
 -- What a run opens with.
-use Rattle.std.specs.Prelude.{◌≡◌, ◌≢◌, ℕ, ◌+◌, ◌<◌, true, false, List, [], length, map, slice_get, slice_index_or, Option, Some}
+use Rattle.std.specs.Prelude.{◌≡◌, ◌≢◌, ℕ, ◌+◌, ◌<◌, true, false, List, [], length, map, slice_get, slice_index_or, Option, Some, None}
 use Rattle.atomic_table.specs.Seated.{TableId}
 use Rattle.sq_ranges.specs.declared.recon.Range.{Range}
 use Rattle.sq_ranges.specs.ReconValue.{AreLinks}
@@ -62,24 +62,29 @@ pub record HasAllEnds (links : List LinkValue) (sends : List (Option SendEnd)) (
   pub each_send : (i : ℕ) → i < length links → send_end sends i ≡ Some (new_send_end links i)
   pub each_recv : (i : ℕ) → i < length links → recv_end recvs i ≡ Some (new_recv_end links i)
 
--- the ends that a partition is to send by stand here, each where its link stands
-pub record HasSendEnds (links : List LinkValue) (ends : List (Option SendEnd)) (part : ℕ) : Type 0 where
+-- the ends of a partition's links stand here, each where its link stands
+pub record HasEnds {X : Type 0} (links : List LinkValue) (part_of : LinkValue → ℕ) (end_of : ℕ → X) (ends : List (Option X)) (part : ℕ) : Type 0 where
   pub count : length ends ≡ length links
-  pub each : (i : ℕ) → i < length links → (link_at links i).src ≡ part → send_end ends i ≡ Some (new_send_end links i)
+  pub each : (i : ℕ) → i < length links → part_of (link_at links i) ≡ part → slice_index_or ends i None ≡ Some (end_of i)
 
-pub record HasRecvEnds (links : List LinkValue) (ends : List (Option RecvEnd)) (part : ℕ) : Type 0 where
-  pub count : length ends ≡ length links
-  pub each : (i : ℕ) → i < length links → (link_at links i).dst ≡ part → recv_end ends i ≡ Some (new_recv_end links i)
+-- those that it is to send by, and those that it is to receive by
+abbrev pub HasSendEnds : List LinkValue → List (Option SendEnd) → ℕ → Type 0
+HasSendEnds links ends part = HasEnds links (λ link. link.src) (new_send_end links) ends part
 
--- the ends of links from other partitions stay
-pub record LeavesSendEnds (links : List LinkValue) (old : List (Option SendEnd)) (part : ℕ) (new : List (Option SendEnd)) : Type 0 where
+abbrev pub HasRecvEnds : List LinkValue → List (Option RecvEnd) → ℕ → Type 0
+HasRecvEnds links ends part = HasEnds links (λ link. link.dst) (new_recv_end links) ends part
+
+-- the ends of other partitions' links stay
+pub record LeavesEnds {X : Type 0} (links : List LinkValue) (part_of : LinkValue → ℕ) (old : List (Option X)) (part : ℕ) (new : List (Option X)) : Type 0 where
   pub count : length new ≡ length old
-  pub each : (i : ℕ) → (link_at links i).src ≢ part → send_end new i ≡ send_end old i
+  pub each : (i : ℕ) → part_of (link_at links i) ≢ part → slice_index_or new i None ≡ slice_index_or old i None
 
--- the ends of links to other partitions stay
-pub record LeavesRecvEnds (links : List LinkValue) (old : List (Option RecvEnd)) (part : ℕ) (new : List (Option RecvEnd)) : Type 0 where
-  pub count : length new ≡ length old
-  pub each : (i : ℕ) → (link_at links i).dst ≢ part → recv_end new i ≡ recv_end old i
+-- those that others are to send by, and those that others are to receive by
+abbrev pub LeavesSendEnds : List LinkValue → List (Option SendEnd) → ℕ → List (Option SendEnd) → Type 0
+LeavesSendEnds links old part new = LeavesEnds links (λ link. link.src) old part new
+
+abbrev pub LeavesRecvEnds : List LinkValue → List (Option RecvEnd) → ℕ → List (Option RecvEnd) → Type 0
+LeavesRecvEnds links old part new = LeavesEnds links (λ link. link.dst) old part new
 
 -- nothing was sent by these ends
 abbrev pub HaveSentNothing : List (Option SendEnd) → Type 0
