@@ -18,7 +18,7 @@ use Rattle.sq_node_model.proofs.Puts.{put_each, put_set, put_field}
 use Rattle.sq_node.specs.declared.ends.SendEnd.{SendEnd}
 use Rattle.sq_node.specs.declared.ends.RecvEnd.{RecvEnd}
 use Rattle.sq_node.specs.Ends.{send_end, recv_end, sent_on, received_on}
-use Rattle.sq_node.specs.NodeState.{views_of, sent_by, received_by}
+use Rattle.sq_node.specs.NodeState.{NodeState, views_of, sent_by, received_by}
 use Rattle.sq_node.specs.Looks.{OnlyLooked, SeatsLooked}
 use Rattle.sq_node.specs.Steps.{ClaimsFor}
 
@@ -108,9 +108,9 @@ kept_same : (old new : List SeatValue) → new ≡ old → (k : ℕ) → SameDon
 kept_same old new same k = subst (λ seats. SameDone (views_of old k) (views_of seats k)) (sym same) (record { begun = refl; completed = refl })
 
 -- seats of which one may have claimed a leaf
-pub claimed_same : (outcome : Outcome) (old new : List SeatValue) → ClaimsFor outcome old new → (k : ℕ) → SameDone (views_of old k) (views_of new k)
-claimed_same (Done reply) old new same k = kept_same old new same k
-claimed_same (Moved to) old new same k = kept_same old new same k
-claimed_same (Waits seg leaf) old new (inl claims) k =
-    let only = claims.2.told.claims in step_same seg _ old new claims.2 (record { begun = only.begun; completed = only.completed }) k
-claimed_same (Waits seg leaf) old new (inr same) k = kept_same old new same k
+pub claimed_same : (outcome : Outcome) (old new : NodeState) → ClaimsFor outcome old new → (k : ℕ) → SameDone (views_of old.seats k) (views_of new.seats k)
+claimed_same (Done reply) old new none k = kept_same old.seats new.seats none.0 k
+claimed_same (Moved to) old new none k = kept_same old.seats new.seats none.0 k
+claimed_same (Waits seg leaf) old new (inl one) k =
+    let only = one.seats.told.claims in step_same seg _ old.seats new.seats one.seats (record { begun = only.begun; completed = only.completed }) k
+claimed_same (Waits seg leaf) old new (inr spent) k = kept_same old.seats new.seats spent.1.0 k

@@ -193,7 +193,7 @@ job_keeps old Did new step o is h =
     subst (HoldsUnder o) (sym step.after)
     (record {
       core = taken_core_of o (must_wait old.core step.txn.root) old.core new.core step.txn step.outcome step.taken h.core;
-      holds = seats_keep o new.core old.seats new.seats (sent_by old.sends) (received_by old.recvs) receipts (claimed_same step.outcome old.seats new.seats step.claims)
+      holds = seats_keep o new.core old.seats new.seats (sent_by old.sends) (received_by old.recvs) receipts (claimed_same step.outcome old new step.claims)
           (core_submitted (views_of old.seats) (sent_by old.sends) (received_by old.recvs) old.receipts o is old.core new.core (must_wait old.core step.txn.root) step.txn step.outcome h.core step.taken h.holds);
     })
 job_keeps old Nothing new step o is h = same_keeps old new step o is h

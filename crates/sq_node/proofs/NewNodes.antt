@@ -65,9 +65,9 @@ unused trees seats sends recvs new unsent unreceived =
 pub new_node : (o : OpeningValue) (fabric : FabricValue) (part : ℕ) (core : CoreValue) (seats : List SeatValue) (sends : List (Option SendEnd)) (recvs : List (Option RecvEnd)) (node : NodeState)
     → IsFabricOf o fabric → part < o.old.parts → core ≡ opened_part o part → HasOwned o part core.store → AreNewSeats fabric.trees seats
     → AreSendEnds fabric.links part sends × HaveSentNothing sends × (length sends ≡ fabric.parts) → AreRecvEnds fabric.links part recvs × HaveReceivedNothing recvs × (length recvs ≡ fabric.parts)
-    → node ≡ record { core = record core { started = true }; seats = seats; sends = sends; recvs = recvs; receipts = [] } → IsNewNode o fabric part node
+    → node ≡ record { core = record core { started = true }; seats = seats; sends = sends; recvs = recvs; receipts = []; claims = 0 } → IsNewNode o fabric part node
 new_node o fabric part core seats sends recvs node shared below opened owned new out into is =
-    subst (IsNewNode o fabric part) (sym (is ∙ ap (λ (c : CoreValue). record { core = record c { started = true }; seats = seats; sends = sends; recvs = recvs; receipts = [] }) opened))
+    subst (IsNewNode o fabric part) (sym (is ∙ ap (λ (c : CoreValue). record { core = record c { started = true }; seats = seats; sends = sends; recvs = recvs; receipts = []; claims = 0 }) opened))
     (record {
       of = record {
         recon = sym shared.recon;
@@ -84,6 +84,7 @@ new_node o fabric part core seats sends recvs node shared below opened owned new
       sends = out.1;
       recvs = into.1;
       receipts = refl;
+      claims = refl;
       holds = record {
         core = record { plan = refl; recon = refl; outs = length-replicate o.old.parts new_out_link; given_up = length-replicate (length o.recon.segments) none_given_up; loaded = length-replicate (length o.recon.segments) [] };
         holds = core_new o part (opened_part o part).store below (subst (λ (c : CoreValue). HasOwned o part c.store) opened owned) (views_of seats) (sent_by sends) (received_by recvs) (unused fabric.trees seats sends recvs new out.1 into.1);
@@ -96,7 +97,7 @@ same_node o fabric seats part node new =
     let of = new.of in
     let still : IsNodeOf (record fabric { seats = seats }) node =
     record { recon = of.recon; parts = of.parts; below = of.below; seats = of.seats; sends = of.sends; recvs = of.recvs; all_sends = of.all_sends; all_recvs = of.all_recvs } in
-    record { of = still; core = new.core; seats = new.seats; sends = new.sends; recvs = new.recvs; receipts = new.receipts; holds = new.holds }
+    record { of = still; core = new.core; seats = new.seats; sends = new.sends; recvs = new.recvs; receipts = new.receipts; claims = new.claims; holds = new.holds }
 
 pub same_nodes : (o : OpeningValue) (old new : FabricValue) (count : ℕ) (nodes : List NodeState) → new ≡ record old { seats = new.seats } → AreNewNodes o old count nodes → AreNewNodes o new count nodes
 same_nodes o old new count nodes same are =
@@ -151,11 +152,11 @@ pub opened_node : {E : Type 0} (o : OpeningValue) (fabric : FabricValue) (part :
     → IsFabricOf o fabric → part < o.old.parts → core ≡ opened_part o part → HasOwned o part core.store → AreNewSeats fabric.trees seats
     → AreSendEnds fabric.links part sends × HaveSentNothing sends × (length sends ≡ fabric.parts) → AreRecvEnds fabric.links part recvs × HaveReceivedNothing recvs × (length recvs ≡ fabric.parts)
     → IfOk result (λ node. node.core ≡ record core { started = true }) → IfOk result (λ node. node.seats ≡ seats) → IfOk result (λ node. node.sends ≡ sends) → IfOk result (λ node. node.recvs ≡ recvs)
-    → IfOk result (λ node. node.receipts ≡ []) → IfOk result (IsNewNode o fabric part)
-opened_node o fabric part core seats sends recvs (Ok node) shared below opened owned new out into is_core is_seats is_sends is_recvs is_receipts =
+    → IfOk result (λ node. node.receipts ≡ []) → IfOk result (λ node. node.claims ≡ 0) → IfOk result (IsNewNode o fabric part)
+opened_node o fabric part core seats sends recvs (Ok node) shared below opened owned new out into is_core is_seats is_sends is_recvs is_receipts is_claims =
     new_node o fabric part core seats sends recvs node shared below opened owned new out into
-    (λ k. record { core = is_core k; seats = is_seats k; sends = is_sends k; recvs = is_recvs k; receipts = is_receipts k })
-opened_node o fabric part core seats sends recvs (Err fault) shared below opened owned new out into is_core is_seats is_sends is_recvs is_receipts = tt
+    (λ k. record { core = is_core k; seats = is_seats k; sends = is_sends k; recvs = is_recvs k; receipts = is_receipts k; claims = is_claims k })
+opened_node o fabric part core seats sends recvs (Err fault) shared below opened owned new out into is_core is_seats is_sends is_recvs is_receipts is_claims = tt
 
 -- what is shared fits an opening whatever seats it keeps
 pub same_shared : (o : OpeningValue) (old new : FabricValue) → new ≡ record old { seats = new.seats } → IsFabricOf o old → IsFabricOf o new

@@ -1,5 +1,5 @@
 -- Transactions that a partition took, and their receipts.
-use Rattle.std.proofs.Common.{◌≡◌, ℕ, ◌+◌, ◌-◌, ◌<◌, ◌≤◌, Bool, true, false, List, [], ◌∷◌, ◌++◌, length, get_or, Option, Some, None, Result, Ok, Err, refl, sym, ap, ◌∙◌, subst, inl, inr, arith}
+use Rattle.std.proofs.Common.{◌≡◌, ℕ, ◌+◌, ◌-◌, ◌<◌, ◌≤◌, Bool, true, false, List, [], ◌∷◌, ◌++◌, length, get_or, Option, Some, None, Result, Ok, Err, refl, sym, ap, ◌∙◌, subst, inl, inr, true≢false, arith}
 use Rattle.std.specs.Prelude.{◌⊎◌, ◌==◌, if◌then◌else◌, unwrap_or, remove, slice_get, IfOk, OnErr}
 use Rattle.std.specs.FinMap.{get, insert}
 use Rattle.sq_schema.specs.TxnValue.{TxnValue}
@@ -22,13 +22,14 @@ use Rattle.sq_status.specs.declared.tree.walks.LeafClaim.{LeafClaim}
 use Rattle.sq_status.specs.declared.tree.walks.LeafClaim.TheVariants as at
 use Rattle.sq_status.specs.Walks.{WalkedTo}
 use Rattle.sq_status.specs.Seat.{SeatValue}
-use Rattle.sq_pull.specs.Seats.{ClaimsLeaf}
+use Rattle.sq_pull.specs.declared.numbers.TheConstants.{MAX_CLAIMS}
+use Rattle.sq_pull.specs.Seats.{StepsAt, ClaimsLeaf}
 use Rattle.sq_pull.specs.Puller.{PullerValue, HasPulled, next_reactive}
 use Rattle.sq_pull.specs.declared.puller.ReactivePull.{ReactivePull}
 use Rattle.sq_pull.specs.declared.puller.ReactivePull.TheVariants as pull
 use Rattle.sq_node_model.specs.NodeValue.{ReceiptValue}
 use Rattle.sq_node_model.specs.Steps.{receipt_of}
-use Rattle.sq_node.specs.NodeState.{position_before}
+use Rattle.sq_node.specs.NodeState.{NodeState, position_before}
 use Rattle.sq_node.specs.Settled.{IsSettled, HasSettled, IsNode}
 use Rattle.sq_node.specs.Steps.{ClaimsAt}
 use Rattle.sq_node.proofs.Settles.{same_loads}
@@ -117,15 +118,42 @@ claims_settle leaf pull (at.Held m st) v w told n settled =
     let walk = told.walk.2 in
     settled_looked walk.1 w n (found_looks walk.1 m st w walk.4) (walked leaf walk.0 v walk.1 n walk.3 settled)
 
-pub settled_claims : (seg leaf : ℕ) (old new : List SeatValue) → ClaimsAt seg leaf old new → (s n : ℕ) → HasSettled old s n → HasSettled new s n
-settled_claims seg leaf old new (inl claims) s n settled =
-    settled_at seg (ClaimsLeaf leaf claims.0 claims.1) old new (λ v w told m is. claims_settle leaf claims.0 claims.1 v w told m is) claims.2 s n settled
-settled_claims seg leaf old new (inr same) s n settled = subst (λ (seats : List SeatValue). HasSettled seats s n) (sym same) settled
+settled_claim : (seg leaf pull : ℕ) (claim : LeafClaim) (old new : List SeatValue) → StepsAt seg (ClaimsLeaf leaf pull claim) old new → (s n : ℕ) → HasSettled old s n → HasSettled new s n
+settled_claim seg leaf pull claim old new steps = settled_at seg (ClaimsLeaf leaf pull claim) old new (λ v w told m is. claims_settle leaf pull claim v w told m is) steps
 
--- what a reactive pull did to the seats
-pub pulled_claims : {E : Type 0} (recon : ReconValue) (seg leaf : ℕ) (old new : PullerValue) (seats after : List SeatValue) (result : Result ReactivePull E) (P Q : Type 0)
-    → IfOk result (HasPulled recon seg leaf old seats new after) → OnErr result (P × Q × (after ≡ seats)) → ClaimsAt seg leaf seats after
-pulled_claims recon seg leaf old new seats after (Ok (pull.Won n)) P Q told err = inl (next_reactive old, at.Claimed n, told.1)
-pulled_claims recon seg leaf old new seats after (Ok (pull.Held n st)) P Q told err = inl (next_reactive old, at.Held n st, told.1)
-pulled_claims recon seg leaf old new seats after (Ok pull.Spent) P Q told err = inr told.2
-pulled_claims recon seg leaf old new seats after (Err fault) P Q told err = inr err.2
+settled_still : (old new : List SeatValue) → new ≡ old → (s n : ℕ) → HasSettled old s n → HasSettled new s n
+settled_still old new same s n settled = subst (λ (seats : List SeatValue). HasSettled seats s n) (sym same) settled
+
+-- what is settled stays so with a reactive pull
+pub settled_pulled : {E : Type 0} (recon : ReconValue) (seg leaf : ℕ) (old new : PullerValue) (seats after : List SeatValue) (result : Result ReactivePull E) (P Q : Type 0)
+    → IfOk result (HasPulled recon seg leaf old seats new after) → OnErr result (P × Q × (after ≡ seats)) → (s n : ℕ) → HasSettled seats s n → HasSettled after s n
+settled_pulled recon seg leaf old new seats after (Ok (pull.Won m)) P Q told err = settled_claim seg leaf (next_reactive old) (at.Claimed m) seats after told.1
+settled_pulled recon seg leaf old new seats after (Ok (pull.Held m st)) P Q told err = settled_claim seg leaf (next_reactive old) (at.Held m st) seats after told.1
+settled_pulled recon seg leaf old new seats after (Ok pull.Spent) P Q told err = settled_still seats after told.2
+settled_pulled recon seg leaf old new seats after (Err fault) P Q told err = settled_still seats after err.2
+
+-- what a reactive pull claims for a node, where there is room for its request
+pub pulled_claims : {E : Type 0} (recon : ReconValue) (seg leaf : ℕ) (old new : PullerValue) (before after : NodeState) (result : Result ReactivePull E) (has_room : Bool)
+    → before.claims ≡ old.wins.count → after.claims ≡ new.wins.count → has_room ≡ true
+    → IfOk result (HasPulled recon seg leaf old before.seats new after.seats) → OnErr result (has_room ≡ false) → ClaimsAt seg leaf before after
+pulled_claims recon seg leaf old new before after (Ok (pull.Won m)) has_room was is room told err =
+    inl
+    (record {
+      pull = next_reactive old;
+      claim = at.Claimed m;
+      few = subst (λ (count : ℕ). count < MAX_CLAIMS) (sym was) told.0;
+      seats = told.1;
+      counts = is ∙ told.3.2.count ∙ told.3.1.count ∙ ap (λ (count : ℕ). count + 1) (sym was);
+    })
+pulled_claims recon seg leaf old new before after (Ok (pull.Held m st)) has_room was is room told err =
+    inl
+    (record {
+      pull = next_reactive old;
+      claim = at.Held m st;
+      few = subst (λ (count : ℕ). count < MAX_CLAIMS) (sym was) told.0;
+      seats = told.1;
+      counts = is ∙ ap (λ (puller : PullerValue). puller.wins.count) told.2 ∙ sym was;
+    })
+pulled_claims recon seg leaf old new before after (Ok pull.Spent) has_room was is room told err =
+    inr (was ∙ told.0, (told.2, is ∙ ap (λ (puller : PullerValue). puller.wins.count) told.1 ∙ sym was))
+pulled_claims recon seg leaf old new before after (Err fault) has_room was is room told err = absurd (true≢false (sym room ∙ err))

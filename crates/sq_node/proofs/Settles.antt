@@ -34,6 +34,10 @@ same_loads old new seats pending complete recon loads is =
     runs : ℕ → ℕ → List (List Run) → Bool
     runs seg n loaded = is_whole (loaded_at (record old { loaded = loaded }) seg) n
 
+-- and with as many flags
+pub other_flags : (core : CoreValue) (seats : List SeatValue) (pending : List (ℕ × ℕ)) (old new : List Bool) → length new ≡ length old → IsNode core seats pending old → IsNode core seats pending new
+other_flags core seats pending old new same is = record { flags = same ∙ is.flags; exists = is.exists; whole = is.whole; each = is.each }
+
 -- and where the seats know no less
 pub other_seats : (core : CoreValue) (seats more : List SeatValue) (pending : List (ℕ × ℕ)) (complete : List Bool) → ((s n : ℕ) → HasSettled seats s n → HasSettled more s n)
     → IsNode core seats pending complete → IsNode core more pending complete

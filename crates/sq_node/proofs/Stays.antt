@@ -163,16 +163,16 @@ taken_part true old new txn outcome taken =
 taken_part false old new txn outcome taken =
     record { part = ap (λ (c : CoreValue). c.part) taken.after; plan = ap (λ (c : CoreValue). c.plan) taken.after; recon = ap (λ (c : CoreValue). c.recon) taken.after }
 
-claimed_seats : (trees : List TableId) (outcome : Outcome) (old new : List SeatValue) → ClaimsFor outcome old new → AreSeatsOf trees old → AreSeatsOf trees new
-claimed_seats trees (Done reply) old new same of = subst (AreSeatsOf trees) (sym same) of
-claimed_seats trees (Moved to) old new same of = subst (AreSeatsOf trees) (sym same) of
-claimed_seats trees (Waits seg leaf) old new (inl claims) of = seats_stay trees seg _ old new claims.2 of
-claimed_seats trees (Waits seg leaf) old new (inr same) of = subst (AreSeatsOf trees) (sym same) of
+claimed_seats : (trees : List TableId) (outcome : Outcome) (old new : NodeState) → ClaimsFor outcome old new → AreSeatsOf trees old.seats → AreSeatsOf trees new.seats
+claimed_seats trees (Done reply) old new none of = subst (AreSeatsOf trees) (sym none.0) of
+claimed_seats trees (Moved to) old new none of = subst (AreSeatsOf trees) (sym none.0) of
+claimed_seats trees (Waits seg leaf) old new (inl one) of = seats_stay trees seg _ old.seats new.seats one.seats of
+claimed_seats trees (Waits seg leaf) old new (inr spent) of = subst (AreSeatsOf trees) (sym spent.1.0) of
 
 pub job_stays : (fabric : FabricValue) (old : NodeState) (answer : Stepped) (new : NodeState) → JobStep old answer new → IsNodeOf fabric old → IsNodeOf fabric new
 job_stays fabric old Did new step of =
     core_stays fabric old new _ step.after refl refl (taken_part _ old.core new.core step.txn step.outcome step.taken)
-    (claimed_seats fabric.trees step.outcome old.seats new.seats step.claims of.seats) of
+    (claimed_seats fabric.trees step.outcome old new step.claims of.seats) of
 job_stays fabric old Nothing new step of = same_node fabric old new step of
 job_stays fabric old Memory new step of = same_node fabric old new step of
 

@@ -15,13 +15,14 @@ use Rattle.sq_node_model.specs.NodeValue.{ReceiptValue, NodeValue, node_of}
 use Rattle.sq_node.specs.FabricValue.{FabricValue}
 use Rattle.sq_node.specs.Ends.{send_end, recv_end, AreSendEnds, AreRecvEnds}
 
--- a partition, for each segment its seat at the segment's tree, for each partition its ends of the links to it and from it, and its receipts
+-- a partition, for each segment its seat at the segment's tree, for each partition its ends of the links to it and from it, its receipts, and how many claims it has won
 pub record NodeState : Type 0 where
   pub core : CoreValue
   pub seats : List SeatValue
   pub sends : List (Option SendEnd)
   pub recvs : List (Option RecvEnd)
   pub receipts : List ReceiptValue
+  pub claims : ℕ
 
 -- the node is one of those that the fabric was opened with
 pub record IsNodeOf (fabric : FabricValue) (node : NodeState) : Type 0 where

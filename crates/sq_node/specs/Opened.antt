@@ -102,6 +102,7 @@ pub record IsNewNode (o : OpeningValue) (fabric : FabricValue) (part : ℕ) (nod
   pub sends : HaveSentNothing node.sends
   pub recvs : HaveReceivedNothing node.recvs
   pub receipts : node.receipts ≡ []
+  pub claims : node.claims ≡ 0
   pub holds : HoldsUnder o node
 
 -- what a run shares fits an opening: what moves, how many partitions there are, and how many chunks a link holds

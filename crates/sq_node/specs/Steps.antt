@@ -1,5 +1,5 @@
 -- What each step of a node does to it.
-use Rattle.std.specs.Prelude.{◌≡◌, ℕ, ◌<◌, ◌⊎◌, true, false, List, [], ◌∷◌, ◌++◌, length, slice_get, slice_set, slice_index_or, Option, Some, None, IsSome, is_some, Contains}
+use Rattle.std.specs.Prelude.{◌≡◌, ℕ, ◌+◌, ◌<◌, ◌⊎◌, true, false, List, [], ◌∷◌, ◌++◌, length, slice_get, slice_set, slice_index_or, Option, Some, None, IsSome, is_some, Contains}
 use Rattle.crossbeam_queue.specs.Fifo.{Held}
 use Rattle.sq_schema.specs.TxnValue.{TxnValue}
 use Rattle.sq_schema.specs.declared.txn.Reply.{Reply}
@@ -23,6 +23,8 @@ use Rattle.sq_exec.specs.declared.outcome.Outcome.{Outcome}
 use Rattle.sq_exec.specs.declared.outcome.Outcome.TheVariants.{Done, Moved, Waits}
 use Rattle.sq_exec.specs.declared.outcome.Resumed.{Resumed}
 use Rattle.sq_status.specs.declared.tree.walks.LeafClaim.{LeafClaim}
+use Rattle.sq_status.specs.declared.tree.walks.LeafClaim.TheVariants as leaf_claim
+use Rattle.sq_pull.specs.declared.numbers.TheConstants.{MAX_CLAIMS}
 use Rattle.sq_pull.specs.Seats.{StepsAt, ClaimsLeaf}
 use Rattle.sq_node.specs.declared.ends.SendEnd.{SendEnd}
 use Rattle.sq_node.specs.declared.ends.RecvEnd.{RecvEnd}
@@ -142,15 +144,31 @@ CompleteStep old Did new = Completes old new
 CompleteStep old Nothing new = Looks old new × ((seg n : ℕ) → is_whole (loaded_at old.core seg) n ≡ true → HasNoneToComplete old.seats new.seats seg n)
 CompleteStep old Memory new = ⊥
 
--- the leaf of a segment was claimed for some pull, or found to have one; or the node has won all claims that it may
-abbrev pub ClaimsAt : ℕ → ℕ → List SeatValue → List SeatValue → Type 0
-ClaimsAt seg leaf old new =
-    ((pull : ℕ) × (claim : LeafClaim) × StepsAt seg (ClaimsLeaf leaf pull claim) old new) ⊎ (new ≡ old)
+-- how many claims a node has won after it claimed a leaf: one more where it won this one
+abbrev pub claims_after : LeafClaim → ℕ → ℕ
+claims_after (leaf_claim.Claimed n) claims = claims + 1
+claims_after (leaf_claim.Held n st) claims = claims
 
--- what becomes of the seats with a transaction that a partition took: the leaf is claimed where it waits, and else nothing
-abbrev pub ClaimsFor : Outcome → List SeatValue → List SeatValue → Type 0
-ClaimsFor (Done reply) old new = new ≡ old
-ClaimsFor (Moved to) old new = new ≡ old
+-- the leaf of a segment was claimed for some pull, or found to have one
+pub record ClaimsOne (seg leaf : ℕ) (old new : NodeState) : Type 0 where
+  pub pull : ℕ
+  pub claim : LeafClaim
+  pub few : old.claims < MAX_CLAIMS
+  pub seats : StepsAt seg (ClaimsLeaf leaf pull claim) old.seats new.seats
+  pub counts : new.claims ≡ claims_after claim old.claims
+
+-- the seats are as they were, and so is what they won
+abbrev pub ClaimsNone : NodeState → NodeState → Type 0
+ClaimsNone old new = (new.seats ≡ old.seats) × (new.claims ≡ old.claims)
+
+-- the leaf of a segment was claimed, unless the node has won all claims that it may
+abbrev pub ClaimsAt : ℕ → ℕ → NodeState → NodeState → Type 0
+ClaimsAt seg leaf old new = ClaimsOne seg leaf old new ⊎ ((old.claims ≡ MAX_CLAIMS) × ClaimsNone old new)
+
+-- what is claimed for a transaction that a partition took: the leaf where it waits, and else nothing
+abbrev pub ClaimsFor : Outcome → NodeState → NodeState → Type 0
+ClaimsFor (Done reply) old new = ClaimsNone old new
+ClaimsFor (Moved to) old new = ClaimsNone old new
 ClaimsFor (Waits seg leaf) old new = ClaimsAt seg leaf old new
 
 -- a job was submitted, and has its receipt if it ran
@@ -158,8 +176,8 @@ pub record Submits (old new : NodeState) : Type 0 where
   pub txn : TxnValue
   pub outcome : Outcome
   pub taken : IsTaken (must_wait old.core txn.root) old.core txn outcome new.core
-  pub claims : ClaimsFor outcome old.seats new.seats
-  pub after : new ≡ record old { core = new.core; seats = new.seats; receipts = receipts_after old.core.store txn outcome old.receipts }
+  pub claims : ClaimsFor outcome old new
+  pub after : new ≡ record old { core = new.core; seats = new.seats; claims = new.claims; receipts = receipts_after old.core.store txn outcome old.receipts }
 
 abbrev pub JobStep : NodeState → Stepped → NodeState → Type 0
 JobStep old Did new = Submits old new

@@ -112,9 +112,13 @@ impl Fabric {
         requires { part < self.now.parts }
         ensures { IfErr result (λ back. back ≡ job) }
     {
-        self.put_job(rt, part, job)?;
+        // It counts before it can be taken: nobody sees all jobs answered while this one isn't.
         self.posted.fetch_add(1, Ordering::SeqCst);
-        Ok(())
+        let put = self.put_job(rt, part, job);
+        if put.is_err() {
+            self.posted.fetch_sub(1, Ordering::SeqCst);
+        }
+        put
     }
 
     /// Asks a partition to begin a node. The request comes back where that queue was full at one moment of the call.

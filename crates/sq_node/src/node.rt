@@ -56,6 +56,7 @@ impl Model for Node {
       sends = n.sends.items;
       recvs = n.recvs.items;
       receipts = n.desk.receipts;
+      claims = n.puller.puller.wins.count;
     } };
 
     ghost invariant = { λ n. IsNode n.core.core n.seats.items n.to_complete.items n.complete.items };
@@ -78,6 +79,7 @@ impl Node {
         ensures sends { IfOk result (λ node. node.sends ≡ sends.items) }
         ensures recvs { IfOk result (λ node. node.recvs ≡ recvs.items) }
         ensures receipts { IfOk result (λ node. node.receipts ≡ []) }
+        ensures claims { IfOk result (λ node. node.claims ≡ 0) }
     {
         let complete = vec![in alloc; false; seats.len()]?;
         let puller = Puller::new(alloc, core.part());

@@ -11,7 +11,7 @@ ghost use Rattle.sq_node.specs.Looks.{OnlyLooked, LooksOnly, LooksAndCompletes, 
 ghost use Rattle.sq_node.specs.Steps.{IsOutward, RequestStep, CompleteStep};
 
 use super::Node;
-use super::turn::read_complete_at;
+use super::turn::see_complete_at;
 use crate::fabric::Fabric;
 use crate::stepped::Stepped;
 use sq_exec::PartCore;
@@ -83,7 +83,8 @@ impl Node {
         let Some(seg) = complete_first(trees, &mut self.seats, &mut self.to_complete) else {
             return Stepped::Nothing;
         };
-        self.completes_segment = read_complete_at(trees, &mut self.seats, seg.index());
+        self.completes_segment =
+            see_complete_at(trees, &mut self.seats, &mut self.complete, seg.index());
         Stepped::Did
     }
 

@@ -139,16 +139,36 @@ fn see_all_complete(
         if complete[at] || (segment.src != part && segment.dst != part) {
             continue;
         }
-        if !read_complete_at(trees, seats, at) {
+        if !see_complete_at(trees, seats, complete, at) {
             return false;
         }
-        complete[at] = true;
     }
     true
 }
 
+// Whether the whole of a segment reads complete. Where it does, its flag tells so from then on.
+pub(super) fn see_complete_at(
+    trees: &[StatusTree],
+    seats: &mut Vec<TreeSeat>,
+    complete: &mut Vec<bool>,
+    at: usize,
+) -> bool
+    requires seats { AreSeatsOf trees.now seats.old.items }
+    requires segment { at < length trees.now }
+    requires flag { at < length complete.old.items }
+    ensures seats { AreSeatsOf trees.now seats.new.items }
+    ensures looked { StepsAt at OnlyLooked seats.old.items seats.new.items }
+    ensures flags { length complete.new.items ≡ length complete.old.items }
+{
+    let reads = read_complete_at(trees, seats, at);
+    if reads {
+        complete[at] = true;
+    }
+    reads
+}
+
 // Whether the whole of a segment reads complete.
-pub(super) fn read_complete_at(trees: &[StatusTree], seats: &mut Vec<TreeSeat>, at: usize) -> bool
+fn read_complete_at(trees: &[StatusTree], seats: &mut Vec<TreeSeat>, at: usize) -> bool
     requires seats { AreSeatsOf trees.now seats.old.items }
     requires segment { at < length trees.now }
     ensures seats { AreSeatsOf trees.now seats.new.items }

@@ -23,4 +23,4 @@ returns-clause-node c =
     c.requires.fabric c.requires.part c.in_ok-core.ensures.core c.in_ok-core.ensures.families c.in_ok-seats.ensures.own
     (subst (λ (ls : List LinkValue). AreSendEnds ls part sends) links out.0, out.1, out.2 ∙ parts)
     (subst (λ (ls : List LinkValue). AreRecvEnds ls part recvs) links_too into.0, into.1, into.2 ∙ parts)
-    c.open.ensures.core c.open.ensures.seats c.open.ensures.sends c.open.ensures.recvs c.open.ensures.receipts
+    c.open.ensures.core c.open.ensures.seats c.open.ensures.sends c.open.ensures.recvs c.open.ensures.receipts c.open.ensures.claims

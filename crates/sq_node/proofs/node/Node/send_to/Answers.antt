@@ -46,7 +46,7 @@ returns-in-Err g c =
     let within : c.args.dst < length sends = omega (arith, ap length sends_are, c.requires.node.all_sends, c.requires.part) in
     let stands : get_or c.args.self.now.sends c.args.dst None ≡ read =
     ap (λ (ends : List (Option SendEnd)). get_or ends c.args.dst None) (sym sends_are) ∙ read_end sends at c.args.dst read place within c.index_mut.ensures.value in (
-      (λ k. record { core = same k; seats = inside.seats.items; sends = end_same k; recvs = inside.recvs.items; receipts = inside.desk.receipts }) ∙ c.self.view_is,
+      (λ k. record { core = same k; seats = inside.seats.items; sends = end_same k; recvs = inside.recvs.items; receipts = inside.desk.receipts; claims = inside.puller.puller.wins.count }) ∙ c.self.view_is,
       none_to_send c.args.fabric.now c.args.self.now c.args.dst (λ end there.
           subst (λ (links : List LinkValue). Held (link_at links end.link).capacity (IsEndOf end.pass.sent)) c.links.ensures.links
           (c.in-Err.ensures.full end (sym stands ∙ there))),

@@ -11,7 +11,7 @@ use Rattle.sq_node.specs.declared.stepped.Stepped.TheVariants.{Did, Nothing}
 use Rattle.sq_node.proofs.Stays.{complete_stays}
 use Rattle.sq_node.proofs.Told.{complete_told}
 use Rattle.sq_node.proofs.Looked.{no_looks, seats_looked_at, settled_seats}
-use Rattle.sq_node.proofs.Settles.{other_seats}
+use Rattle.sq_node.proofs.Settles.{other_seats, other_flags}
 use Rattle.sq_node.proofs.Completing.{after_one, after_none, one_exists, completed_between, none_of_all}
 use Rattle.sq_node.proofs.node.Node.step_complete.Goals as goal
 
@@ -43,8 +43,8 @@ returns-in_default c =
           (subst (λ (node : NodeState). is_whole (loaded_at node.core seg) n ≡ true) (sym c.self.view_is) whole)),
     )
 
-pub read_complete_at-self-inside-requires-clause-seats : goal.read_complete_at-self-inside-requires-clause-seats
-read_complete_at-self-inside-requires-clause-seats c =
+pub see_complete_at-self-inside-requires-clause-seats : goal.see_complete_at-self-inside-requires-clause-seats
+see_complete_at-self-inside-requires-clause-seats c =
     let inside = c.self.inside in
     let new = c.complete_first.new.seats.items in
     let done : Completes c.args.self.now (record c.args.self.now { seats = new }) =
@@ -52,28 +52,35 @@ read_complete_at-self-inside-requires-clause-seats c =
     new (no_looks new) c.args.self.now _ (ap (λ (node : NodeState). node.core) (sym c.self.view_is)) (ap (λ (node : NodeState). node.seats) (sym c.self.view_is)) refl in
     subst (λ (trees : List StatusTree). AreSeatsOf trees new) (sym c.trees-trees.ensures.trees) (complete_stays c.args.fabric.now c.args.self.now Did _ done c.requires).seats
 
-pub read_complete_at-self-inside-requires-clause-segment : goal.read_complete_at-self-inside-requires-clause-segment
-read_complete_at-self-inside-requires-clause-segment c =
+pub see_complete_at-self-inside-requires-clause-segment : goal.see_complete_at-self-inside-requires-clause-segment
+see_complete_at-self-inside-requires-clause-segment c =
     let inside = c.self.inside in
     let within = one_exists inside.core.core inside.seats.items c.complete_first.new.seats.items inside.to_complete.items c.complete_first.new.nodes.items c.in-Some.seg inside.complete.items c.in-Some.ensures c.self.invariant in
     let recon : inside.core.core.recon ≡ c.args.fabric.now.recon = ap (λ (node : NodeState). node.core.recon) c.self.view_is ∙ c.requires.recon in
     omega (arith, within, c.index.ensures.place, ap (λ (r : ReconValue). length r.segments) recon, c.trees-trees.ensures.fabric.trees, ap length c.trees-trees.ensures.trees)
 
+pub see_complete_at-self-inside-requires-clause-flag : goal.see_complete_at-self-inside-requires-clause-flag
+see_complete_at-self-inside-requires-clause-flag c =
+    let inside = c.self.inside in
+    let within = one_exists inside.core.core inside.seats.items c.complete_first.new.seats.items inside.to_complete.items c.complete_first.new.nodes.items c.in-Some.seg inside.complete.items c.in-Some.ensures c.self.invariant in
+    omega (arith, within, c.index.ensures.place, c.self.invariant.flags)
+
 pub invariant_of-self-2 : goal.invariant_of-self-2
 invariant_of-self-2 c =
     let inside = c.self.inside in
     let new = c.complete_first.new.seats.items in
-    let last = c.read_complete_at-self-inside.new.seats.items in
-    other_seats inside.core.core new last c.complete_first.new.nodes.items inside.complete.items
-    (settled_seats new last (seats_looked_at _ OnlyLooked new new last (λ v w looked. looked) (no_looks new) c.read_complete_at-self-inside.ensures.looked))
-    (after_one inside.core.core inside.seats.items new inside.to_complete.items c.complete_first.new.nodes.items c.in-Some.seg inside.complete.items c.in-Some.ensures c.self.invariant)
+    let last = c.see_complete_at-self-inside.new.seats.items in
+    other_flags inside.core.core last c.complete_first.new.nodes.items inside.complete.items c.see_complete_at-self-inside.new.complete.items c.see_complete_at-self-inside.ensures.flags
+    (other_seats inside.core.core new last c.complete_first.new.nodes.items inside.complete.items
+    (settled_seats new last (seats_looked_at _ OnlyLooked new new last (λ v w looked. looked) (no_looks new) c.see_complete_at-self-inside.ensures.looked))
+    (after_one inside.core.core inside.seats.items new inside.to_complete.items c.complete_first.new.nodes.items c.in-Some.seg inside.complete.items c.in-Some.ensures c.self.invariant))
 
 pub returns : goal.returns
 returns c =
     let inside = c.self.inside in
     let new = c.complete_first.new.seats.items in
-    let last = c.read_complete_at-self-inside.new.seats.items in
+    let last = c.see_complete_at-self-inside.new.seats.items in
     complete_told c.args.fabric.now c.args.self.now Did _ c.requires
     (completed_between inside.core.core inside.seats.items new inside.to_complete.items c.complete_first.new.nodes.items c.in-Some.seg inside.complete.items c.in-Some.ensures c.self.invariant
-    last (seats_looked_at _ OnlyLooked new new last (λ v w looked. looked) (no_looks new) c.read_complete_at-self-inside.ensures.looked) c.args.self.now _
+    last (seats_looked_at _ OnlyLooked new new last (λ v w looked. looked) (no_looks new) c.see_complete_at-self-inside.ensures.looked) c.args.self.now _
     (ap (λ (node : NodeState). node.core) (sym c.self.view_is)) (ap (λ (node : NodeState). node.seats) (sym c.self.view_is)) (ap (λ (node : NodeState). record node { seats = last }) c.self.view_is))

@@ -1,9 +1,10 @@
-use Rattle.std.proofs.Common.{rules, ◌≡◌, [], ◌∷◌, ◌++◌, length, sym, ap, ◌∙◌, subst}
+use Rattle.std.proofs.Common.{rules, ◌≡◌, refl, true, [], ◌∷◌, ◌++◌, length, sym, ap, ◌∙◌, subst}
 use Rattle.sq_ranges.specs.ReconValue.{ReconValue}
 use Rattle.sq_exec.specs.declared.outcome.Outcome.{Outcome}
 use Rattle.sq_exec.specs.declared.outcome.Outcome.TheVariants.{Done, Waits}
 use Rattle.sq_exec.specs.Serving.{must_wait, IsTaken}
 use Rattle.sq_store.specs.StoreValue.{log_length}
+use Rattle.sq_pull.specs.Puller.{PullerValue}
 use Rattle.sq_node_model.specs.Steps.{receipt_of, receipts_after}
 use Rattle.sq_node.specs.NodeState.{NodeState}
 use Rattle.sq_node.specs.Settled.{IsNode}
@@ -11,9 +12,9 @@ use Rattle.sq_node.specs.Steps.{ClaimsAt}
 use Rattle.sq_node.specs.declared.stepped.Stepped.TheVariants.{Did}
 use Rattle.sq_node.proofs.Told.{job_told}
 use Rattle.sq_node.proofs.Settles.{other_seats}
-use Rattle.sq_node.proofs.Served.{after_taken, submitted_position, receipt_same, settled_claims, pulled_claims}
+use Rattle.sq_node.proofs.Served.{after_taken, submitted_position, receipt_same, settled_pulled, pulled_claims}
 use Rattle.sq_node.proofs.node.Node.step_job.Goals as goal
-use Rattle.sq_node.proofs.node.Node.step_job.Goals.{In-Ok}
+use Rattle.sq_node.proofs.node.Node.step_job.Goals.{In-Ok, In-Waits}
 use Rattle.sq_node.proofs.node.Node.step_job.Given.{Over}
 
 pub reactive-requires-clause-trees : goal.reactive-requires-clause-trees
@@ -37,8 +38,8 @@ invariant_of-self-in-Waits g c =
     let inside = c.self.inside in
     let new = c.submit.new.self.core in
     let after = c.reactive.new.seats.items in
-    let claims : ClaimsAt c.in-Waits.seg c.in-Waits.leaf inside.seats.items after = pulled_claims _ c.in-Waits.seg c.in-Waits.leaf _ _ inside.seats.items after c.reactive.result _ _ c.reactive.ensures.pulled c.reactive.ensures.err in
-    other_seats new inside.seats.items after inside.to_complete.items inside.complete.items (settled_claims c.in-Waits.seg c.in-Waits.leaf inside.seats.items after claims)
+    other_seats new inside.seats.items after inside.to_complete.items inside.complete.items
+    (settled_pulled _ c.in-Waits.seg c.in-Waits.leaf _ _ inside.seats.items after c.reactive.result _ _ c.reactive.ensures.pulled c.reactive.ensures.err)
     (job_taken g (goal.at.invariant_of-self-in-Waits g c).In-Ok)
 
 pub returns-in-Done : goal.returns-in-Done
@@ -54,15 +55,19 @@ returns-in-Done g c =
     receipt_same old.store job reply (log_length new.store job.root) c.receipt.result c.receipt.ensures (submitted_position waits old new job reply taken) in
     let receipts : c.add.new.self.receipts ≡ inside.desk.receipts ++ receipt_of old.store job reply ∷ [] = c.add.ensures.receipts ∙ (λ k. c.reserve.ensures.receipts k ++ receipt k ∷ []) in
     let seats = inside.seats.items in
+    let claims = ap (λ (puller : PullerValue). puller.wins.count) c.reserve-else-is_err.ensures.same in
     job_told c.args.fabric.now c.args.self.now Did _ c.requires
     (record {
       txn = job;
       outcome = Done reply;
       taken = subst (λ (node : NodeState). IsTaken (must_wait node.core job.root) node.core job (Done reply) new) c.self.view_is taken;
-      claims = ap (λ (node : NodeState). node.seats) c.self.view_is;
-      after = (λ k. record { core = new; seats = seats; sends = inside.sends.items; recvs = inside.recvs.items; receipts = receipts k })
-          ∙ ap (λ (node : NodeState). record node { core = new; seats = seats; receipts = receipts_after node.core.store job (Done reply) node.receipts }) c.self.view_is;
+      claims = (ap (λ (node : NodeState). node.seats) c.self.view_is, claims ∙ ap (λ (node : NodeState). node.claims) c.self.view_is);
+      after = (λ k. record { core = new; seats = seats; sends = inside.sends.items; recvs = inside.recvs.items; receipts = receipts k; claims = c.reserve-else-is_err.new.self.puller.wins.count })
+          ∙ ap (λ (node : NodeState). record node { core = new; seats = seats; claims = c.reserve-else-is_err.new.self.puller.wins.count; receipts = receipts_after node.core.store job (Done reply) node.receipts }) c.self.view_is;
     })
+
+has_room : (g : Over) (c : In-Waits g) → c.reserve-else-is_err.new.self.has_room ≡ true
+has_room g c = search rules
 
 pub returns-in-Waits : goal.returns-in-Waits
 returns-in-Waits g c =
@@ -75,15 +80,20 @@ returns-in-Waits g c =
     let waits = must_wait old job.root in
     let taken : IsTaken waits old job (Waits seg leaf) new = subst (λ (o : Outcome). IsTaken waits old job o new) c.in-Waits.is c.in-Ok.ensures.ok in
     let after = c.reactive.new.seats.items in
-    let claims : ClaimsAt seg leaf inside.seats.items after = pulled_claims _ seg leaf _ _ inside.seats.items after c.reactive.result _ _ c.reactive.ensures.pulled c.reactive.ensures.err in
+    let count = c.reactive.new.self.puller.wins.count in
+    let before : NodeState = record { core = old; seats = inside.seats.items; sends = inside.sends.items; recvs = inside.recvs.items; receipts = inside.desk.receipts; claims = inside.puller.puller.wins.count } in
+    let now : NodeState = record { core = new; seats = after; sends = inside.sends.items; recvs = inside.recvs.items; receipts = c.reserve.new.self.receipts; claims = count } in
+    let claims : ClaimsAt seg leaf before now =
+    pulled_claims _ seg leaf _ _ before now c.reactive.result _
+    (sym (ap (λ (puller : PullerValue). puller.wins.count) c.reserve-else-is_err.ensures.same)) refl (has_room g (goal.at.returns-in-Waits g c).In-Waits) c.reactive.ensures.pulled c.reactive.ensures.memory in
     job_told c.args.fabric.now c.args.self.now Did _ c.requires
     (record {
       txn = job;
       outcome = Waits seg leaf;
       taken = subst (λ (node : NodeState). IsTaken (must_wait node.core job.root) node.core job (Waits seg leaf) new) c.self.view_is taken;
-      claims = subst (λ (node : NodeState). ClaimsAt seg leaf node.seats after) c.self.view_is claims;
-      after = (λ k. record { core = new; seats = after; sends = inside.sends.items; recvs = inside.recvs.items; receipts = c.reserve.ensures.receipts k })
-          ∙ ap (λ (node : NodeState). record node { core = new; seats = after }) c.self.view_is;
+      claims = subst (λ (node : NodeState). ClaimsAt seg leaf node now) c.self.view_is claims;
+      after = (λ k. record { core = new; seats = after; sends = inside.sends.items; recvs = inside.recvs.items; receipts = c.reserve.ensures.receipts k; claims = count })
+          ∙ ap (λ (node : NodeState). record node { core = new; seats = after; claims = count }) c.self.view_is;
     })
 
 pub returns-in-Moved : goal.returns-in-Moved

@@ -25,7 +25,7 @@ settles c more more_is =
 
 -- the node loaded the chunk
 loads : (c : In-Ok) → let inside = c.self.inside in
-    LoadStep c.args.self.now Did (record { core = c.load.new.self.core; seats = inside.seats.items; sends = inside.sends.items; recvs = inside.recvs.items; receipts = inside.desk.receipts })
+    LoadStep c.args.self.now Did (record { core = c.load.new.self.core; seats = inside.seats.items; sends = inside.sends.items; recvs = inside.recvs.items; receipts = inside.desk.receipts; claims = inside.puller.puller.wins.count })
 loads c =
     let src = c.in-Some.src in
     let note = c.in-Ok.note in

@@ -47,7 +47,7 @@ returns g c =
     request_told c.args.fabric.now c.args.self.now Nothing _ c.requires
     (record {
       seats = subst (λ (node : NodeState). SeatsLooked node.seats new) c.self.view_is looked;
-      after = (λ k. record { core = same k; seats = new; sends = inside.sends.items; recvs = inside.recvs.items; receipts = inside.desk.receipts })
+      after = (λ k. record { core = same k; seats = new; sends = inside.sends.items; recvs = inside.recvs.items; receipts = inside.desk.receipts; claims = inside.puller.puller.wins.count })
           ∙ ap (λ (node : NodeState). record node { seats = new }) c.self.view_is;
     })
 

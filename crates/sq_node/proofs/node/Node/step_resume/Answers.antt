@@ -42,7 +42,7 @@ returns-in-Done g c =
     (record {
       resumed = resumed;
       taken = subst (λ (node : NodeState). IsResumed node.core resumed new) c.self.view_is c.in-Ok.ensures.ok;
-      after = (λ k. record { core = new; seats = inside.seats.items; sends = inside.sends.items; recvs = inside.recvs.items; receipts = receipts k })
+      after = (λ k. record { core = new; seats = inside.seats.items; sends = inside.sends.items; recvs = inside.recvs.items; receipts = receipts k; claims = inside.puller.puller.wins.count })
           ∙ ap (λ (node : NodeState). record node { core = new; receipts = receipts_after node.core.store txn resumed.outcome node.receipts }) c.self.view_is;
     })
 
