@@ -199,6 +199,9 @@ try_streams() {
     ended=0
     timeout 120 "$squall" live < "$tests/lives/move_without_jobs.in" > /dev/full 2> "$room/errors" || ended=$?
     judge live_that_is_not_written 2 /dev/null "$room/said"
+    ended=0
+    timeout 120 "$squall" --help > /dev/full 2> "$room/errors" || ended=$?
+    judge help_that_is_not_written 2 /dev/null "$room/said"
 }
 
 # An input that ends within its first three lines has a fault of the line where it ends, and behind them none, unless it

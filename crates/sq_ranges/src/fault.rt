@@ -16,7 +16,7 @@ pub enum ReconFault {
     PartitionsDiffer = 111,
     #[error("the width of a leaf isn't from 1 to {MAX_WIDTH}")]
     Width = 112,
-    #[error("the move would have more than {SEGMENT_LIMIT} segments")]
+    #[error("the move would have more than {SEGMENT_LIMIT} segments: wider leaves make fewer")]
     TooManySegments = 113,
     #[error("{}", AllocError)]
     Memory = OUT_OF_MEMORY as isize,

@@ -20,7 +20,8 @@ pub enum InputFault {
     #[error(transparent)]
     Opening(OpeningFault),
     /// 121.
-    #[error("a line of the header is missing or malformed")]
+    #[error("a line of the header is missing or isn't of its form: 'old PLAN', 'new PLAN', 'config W L C' and lines \
+         'row ROOT T S N NOTE', in this order, each ended by a line feed alone")]
     BadHeader,
     /// 122.
     #[error("the input is too long, or a line of it has no end")]

@@ -23,6 +23,8 @@ chunks on a link), and the rows that there are. A line of the script is a step:
 of a client, a partition, a pull or the leader of the move.
 
 Standard output gets one line for each step, and at the end where all rows are.
+A step that is refused changes nothing. Its line is 'refused' and a number, which
+docs/formats.md explains.
 
 Example:
 

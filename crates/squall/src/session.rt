@@ -85,13 +85,18 @@ fn explain(rt: &impl Eprint, located: &LocatedFault) {
 }
 
 /// Prints what `clap` says of a command line: a help text that was asked for to standard output, anything else to
-/// standard error. Gives the exit status, 0 after a help text that was printed.
+/// standard error. Gives the exit status, 0 after a help text that was printed, and 2 where it can't be, which standard
+/// error then tells.
 pub fn print_usage<R: Print + Eprint>(rt: &R, error: &Error) -> u8
     ensures { IsUsageStatus (kind_of error.now) result }
 {
     match error.print(rt) {
         Ok(()) if !error.use_stderr() => 0,
-        _ => REFUSED,
+        Ok(()) => REFUSED,
+        Err(_) => {
+            explain_write(rt, WriteFault);
+            REFUSED
+        }
     }
 }
 

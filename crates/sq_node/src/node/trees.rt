@@ -83,8 +83,12 @@ impl Node {
         let Some(seg) = complete_first(trees, &mut self.seats, &mut self.to_complete) else {
             return Stepped::Nothing;
         };
-        self.completes_segment =
-            see_complete_at(trees, &mut self.seats, &mut self.complete, seg.index());
+        self.completes_segment = see_complete_at(
+            trees,
+            &mut self.seats,
+            &mut self.complete,
+            seg.index(),
+        );
         Stepped::Did
     }
 
