@@ -1,4 +1,4 @@
--- What is told of root keys and their families.
+-- An index from keys to places in a list, and what one of root keys and their families tells.
 use Rattle.std.specs.Prelude.{◌≡◌, ◌<◌, ⊤, ℕ, List, slice_get, Option, Some, None, IsSome, Contains}
 use Rattle.std.specs.Ordering.{nat_cmp}
 use Rattle.std.specs.BTreeMap.{BTreeMap, get}

@@ -9,7 +9,7 @@ pub record WorkValue : Type 0 where
   pub rest : ℕ
   pub hi : ℕ
 
--- a transaction waits for it
+-- its pull is odd: a transaction waits for it
 abbrev pub is_reactive : WorkValue → Bool
 is_reactive work = work.pull % 2 == 1
 

@@ -10,7 +10,7 @@ use Rattle.sq_schema.specs.TxnValue.{TxnValue}
 use Rattle.sq_waiting.specs.Index.{has_entry}
 use Rattle.sq_waiting.specs.Waiting.{Arrival, no_number}
 
--- the transaction of an entry of the map
+-- the waiting transaction that an entry of the map is, by the set of the numbers that are due
 abbrev pub arrival_of : BTreeSet ℕ → ℕ × TxnValue → Arrival
 arrival_of due entry = record { number = entry.0; txn = entry.1; is_due = set.contains nat_cmp due entry.0 }
 
