@@ -1,7 +1,7 @@
 -- Edits of rows keep them sound.
-use Rattle.std.proofs.Common.{◌≡◌, Bool, true, false, not, T, [], ◌∷◌, Some, None, Option, refl, subst}
+use Rattle.std.proofs.Common.{◌≡◌, Bool, true, false, not, T, List, [], ◌∷◌, Some, None, Option, refl, subst}
 use Rattle.std.specs.declared.cmp.Ordering.TheVariants.{Less, Equal, Greater}
-use Rattle.std.specs.List.{All}
+use Rattle.std.specs.List.{All, AllPass}
 use Rattle.std.specs.Ordering.{eq_by_cmp}
 use Rattle.std.specs.FinMap.Entries.{by_order, is_sorted, is_sorted-put, is_sorted-where_key}
 use Rattle.std.proofs.lemmas.List.Elements.{All-nil, All-cons, All-head, All-tail, All-filter}
@@ -10,7 +10,7 @@ use Rattle.sq_schema.specs.Values.{RowValue}
 use Rattle.sq_schema.specs.Keys.{key_cmp}
 use Rattle.sq_schema.specs.Effect.{RowList, with_row, without_row}
 use Rattle.sq_schema.specs.Rows.{is_entry, IsRowList}
-use Rattle.sq_schema.specs.Writes.{is_sound, with_write}
+use Rattle.sq_schema.specs.Writes.{Write, is_sound, is_write, with_write, with_writes}
 use Rattle.sq_schema.proofs.KeyOrder.{key_cmp_total, same_key}
 
 -- the two forms of a test that is true
@@ -55,3 +55,13 @@ IsRowList-without_row rows key sound =
 pub IsRowList-with_write : (rows : RowList) (key : RowKey) (row : Option RowValue) → is_sound key row ≡ true → IsRowList rows → IsRowList (with_write rows key row)
 IsRowList-with_write rows key None new sound = IsRowList-without_row rows key sound
 IsRowList-with_write rows key (Some row) new sound = IsRowList-with_row rows key row new sound
+
+pub is_sorted-with_write : (rows : RowList) (key : RowKey) (row : Option RowValue) → is_sorted key_cmp rows ≡ true → is_sorted key_cmp (with_write rows key row) ≡ true
+is_sorted-with_write rows key None rising = is_sorted-without_row rows key rising
+is_sorted-with_write rows key (Some row) rising = is_sorted-with_row rows key row rising
+
+pub IsRowList-with_writes : (rows : RowList) (writes : List Write) → AllPass is_write writes → IsRowList rows → IsRowList (with_writes rows writes)
+IsRowList-with_writes rows [] new sound = sound
+IsRowList-with_writes rows (write ∷ writes) new sound =
+    let passes : Write → Type 0 = λ write. is_write write ≡ true in
+    IsRowList-with_writes (with_write rows write.0 write.1) writes (All-tail passes write writes new) (IsRowList-with_write rows write.0 write.1 (All-head passes write writes new) sound)

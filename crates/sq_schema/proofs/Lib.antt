@@ -1,5 +1,6 @@
 pub mod Entries
 pub mod Kept
+pub mod Room
 pub mod KeyOrder
 pub mod Places
 pub mod Sizes

@@ -2,6 +2,7 @@ pub mod Values
 pub mod Keys
 pub mod TxnValue
 pub mod OpList
+pub mod EntryList
 pub mod Effect
 pub mod Family
 pub mod Refusals

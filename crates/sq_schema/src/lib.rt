@@ -1,6 +1,7 @@
 //! Rows, families and transactions of one root key, and what a transaction does to them.
 #![tactic(auto)]
 
+mod entry_list;
 mod family;
 mod fault;
 pub mod laws;

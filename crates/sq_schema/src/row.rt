@@ -1,7 +1,7 @@
 // Rows, by table and sub key.
 ghost use Rattle.std.specs.Prelude.{◌≡◌, IfOk};
 
-use std::alloc::AllocError;
+use std::alloc::{AllocError, Global};
 use std::marker::Model;
 
 /// Where a row stands within its root key. Table 0 is the root table, and its only sub key is 0.
@@ -56,6 +56,11 @@ impl Row {
 
 impl Row {
     ghost use Rattle.sq_schema.specs.Family.{row_size};
+
+    // Where its note is allocated.
+    pub(crate) fn alloc(&self) -> Global {
+        *self.note.allocator()
+    }
 
     // Its size in bytes in its family.
     pub(crate) fn size(&self) -> u64

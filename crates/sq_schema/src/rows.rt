@@ -11,6 +11,7 @@ ghost use Rattle.sq_schema.specs.Family.{row_size, rows_size};
 ghost use Rattle.sq_schema.specs.Rows.{IsRowList, IsRowPlace};
 ghost use Rattle.sq_schema.specs.Writes.{is_write, with_write, with_writes};
 
+use crate::entry_list::EntryList;
 use crate::pending::{RunOutcome, run};
 use crate::row::{Row, RowKey};
 use crate::txn::{Reply, Txn};
@@ -20,7 +21,7 @@ use std::marker::Model;
 /// The rows of one root key, by key in rising order. To a contract they are the list of key and row.
 #[derive(Debug, Drop)]
 pub struct Rows {
-    rows: Vec<(RowKey, Row)>,
+    rows: EntryList,
     size: u64,
 }
 
@@ -28,14 +29,15 @@ impl Model for Rows {
     ghost use Rattle.std.specs.Prelude.{◌≡◌, List};
     ghost use Rattle.sq_schema.specs.Values.{RowValue};
     ghost use Rattle.sq_schema.specs.declared.row.RowKey.{RowKey};
+    ghost use Rattle.sq_schema.specs.EntryList.{entries_of};
     ghost use Rattle.sq_schema.specs.Family.{rows_size};
     ghost use Rattle.sq_schema.specs.Rows.{IsRowList};
 
     ghost Value = { List (RowKey × RowValue) };
 
-    ghost view = { λ r. r.rows.items };
+    ghost view = { λ r. entries_of r.rows };
 
-    ghost invariant = { λ r. IsRowList r.rows.items × (r.size ≡ rows_size r.rows.items) };
+    ghost invariant = { λ r. IsRowList (entries_of r.rows) × (r.size ≡ rows_size (entries_of r.rows)) };
 }
 
 impl Rows {
@@ -44,7 +46,7 @@ impl Rows {
         ensures { result ≡ [] }
     {
         Rows {
-            rows: Vec::new(alloc),
+            rows: EntryList::new(alloc),
             size: 32,
         }
     }
@@ -54,14 +56,14 @@ impl Rows {
         ensures count { result ≡ length self.now }
         ensures sound { IsRowList self.now }
     {
-        self.rows.len()
+        self.as_slice().len()
     }
 
     /// Whether there are none.
     pub fn is_empty(&self) -> bool
         ensures { result ≡ (length self.now == 0) }
     {
-        self.rows.is_empty()
+        self.as_slice().is_empty()
     }
 
     /// The rows with their keys, in rising order.
@@ -69,15 +71,16 @@ impl Rows {
         ensures all { result.now ≡ self.now }
         ensures sound { IsRowList self.now }
     {
-        &self.rows
+        self.rows.as_slice()
     }
 
     /// The row of a key.
     pub fn get(&self, key: RowKey) -> Option<&Row>
         ensures { option_copied result ≡ row_at self.now key }
     {
-        match place(&self.rows, key) {
-            Ok(at) => Some(&self.rows[at].1),
+        let rows = self.rows.as_slice();
+        match place(rows, key) {
+            Ok(at) => Some(&rows[at].1),
             Err(_) => None,
         }
     }
@@ -96,12 +99,10 @@ impl Rows {
         ensures err { OnErr result (self.new ≡ self.old) }
         ensures row_returned { IfErr result (λ failed. failed.value ≡ row) }
     {
-        if reserve(&mut self.rows, 1).is_err() {
-            return Err(AllocFailed { value: row });
-        }
         let (_, old_size) = weight(self.get(key));
-        self.size = self.size + row.size() - old_size;
-        write(&mut self.rows, key, Some(row));
+        let size = self.size + row.size() - old_size;
+        self.rows.insert(key, row)?;
+        self.size = size;
         Ok(())
     }
 
@@ -110,8 +111,8 @@ impl Rows {
         requires { 0 < length self }
         ensures { (key : RowKey) × (rest : RowList) × (self ≡ (key, result) ∷ rest) }
     {
-        let Rows { mut rows, size: _ } = self;
-        rows.remove(0).1
+        let Rows { rows, size: _ } = self;
+        rows.into_first()
     }
 
     /// Runs a transaction on the rows, and answers it. Where it aborts, and where there is no memory, they stay.
@@ -153,10 +154,7 @@ impl Rows {
         ensures ok { OnOk result (self.new ≡ with_writes self.old writes.items) }
         ensures err { OnErr result (self.new ≡ self.old) }
     {
-        reserve(&mut self.rows, writes.len())?;
-        for (key, row) in writes {
-            write(&mut self.rows, key, row);
-        }
+        self.rows.write_all(writes)?;
         self.size = size;
         Ok(())
     }
@@ -174,7 +172,7 @@ impl PartialEq for Rows {
     ghost laws = { lists_per (and_per (on_per (λ entry. entry.0) key.laws-law) (on_per (λ entry. entry.1) row.laws-law)) };
 
     fn eq(&self, other: &Rows) -> bool {
-        self.rows == other.rows
+        self.as_slice() == other.as_slice()
     }
 }
 
@@ -199,46 +197,11 @@ impl Clone for Rows {
 }
 
 // Where the row of a key is, or where it would go.
-fn place(rows: &[(RowKey, Row)], key: RowKey) -> Result<usize, usize>
+pub(crate) fn place(rows: &[(RowKey, Row)], key: RowKey) -> Result<usize, usize>
     requires { is_sorted key_cmp rows.now ≡ true }
     ensures { IsRowPlace rows.now key result }
 {
     rows.binary_search_by_key(&key, |(key, _)| *key)
-}
-
-// Takes room for this many rows more. The first are given no room to grow, since most root keys have few.
-fn reserve(rows: &mut Vec<(RowKey, Row)>, more: usize) -> Result<(), AllocError>
-    ensures items { rows.new.items ≡ rows.old.items }
-    ensures len { vec_len rows.new ≡ vec_len rows.old }
-    ensures room { OnOk result (vec_len rows.new + more ≤ vec_capacity rows.new) }
-{
-    if rows.is_empty() {
-        rows.reserve_exact(more)
-    } else {
-        rows.reserve(more)
-    }
-}
-
-// Makes a write, for which there is room.
-fn write(rows: &mut Vec<(RowKey, Row)>, key: RowKey, row: Option<Row>)
-    requires rising { is_sorted key_cmp rows.old.items ≡ true }
-    requires room { vec_len rows.old < vec_capacity rows.old }
-    ensures rows { rows.new.items ≡ with_write rows.old.items key row }
-    ensures room { vec_capacity rows.new ≡ vec_capacity rows.old }
-    ensures len { vec_len rows.new ≤ vec_len rows.old + 1 }
-{
-    match (place(rows, key), row) {
-        (Ok(at), Some(row)) => rows[at].1 = row,
-        (Ok(at), None) => {
-            rows.remove(at);
-        }
-        (Err(at), Some(row)) => {
-            let Ok(()) = rows.insert(at, (key, row)) else {
-                unreachable!()
-            };
-        }
-        (Err(_), None) => {}
-    }
 }
 
 // How many rows this is, and their size.

@@ -169,6 +169,8 @@ impl Table {
         rows.run(self.alloc, txn)?;
         if !rows.is_empty() {
             drop(self.rows.insert(root, rows)?);
+        } else {
+            drop(rows);
         }
         Ok(())
     }

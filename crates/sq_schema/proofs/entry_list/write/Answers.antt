@@ -2,7 +2,7 @@
 use Rattle.std.proofs.Common.{set, sym, ap, ◌∙◌}
 use Rattle.sq_schema.specs.declared.row.RowKey.{RowKey}
 use Rattle.sq_schema.specs.Values.{RowValue}
-use Rattle.sq_schema.proofs.rows.write.Goals as goal
+use Rattle.sq_schema.proofs.entry_list.write.Goals as goal
 
 pub returns-in-Ok-Some-clause-rows : goal.returns-in-Ok-Some-clause-rows
 returns-in-Ok-Some-clause-rows c =

@@ -1,0 +1,27 @@
+-- The rows of one root key, however they lie in memory.
+use Rattle.std.specs.Prelude.{◌≡◌, ℕ, ◌+◌, ◌≤◌, [], ◌∷◌, vec_len, vec_capacity}
+use Rattle.sq_schema.specs.declared.row.RowKey.{RowKey}
+use Rattle.sq_schema.specs.declared.entry_list.EntryList.{EntryList}
+use Rattle.sq_schema.specs.declared.entry_list.EntryList.TheVariants.{One, Many}
+use Rattle.sq_schema.specs.Effect.{RowList}
+
+-- the rows with their keys
+abbrev pub entries_of : EntryList → RowList
+entries_of (One entry) = entry ∷ []
+entries_of (Many entries) = entries.items
+
+-- one row is kept without memory of its own
+abbrev pub IsOne : EntryList → Type 0
+IsOne (One entry) = Unit {0}
+IsOne (Many entries) = ⊥
+
+-- there is memory for this many rows more
+abbrev pub HasRoom : EntryList → ℕ → Type 0
+HasRoom (One entry) more = ⊥
+HasRoom (Many entries) more = vec_len entries + more ≤ vec_capacity entries
+
+-- no row stands, or that of this key alone
+abbrev pub StandsAlone : RowList → RowKey → Type 0
+StandsAlone [] key = Unit {0}
+StandsAlone (entry ∷ []) key = entry.0 ≡ key
+StandsAlone (entry ∷ other ∷ entries) key = ⊥
