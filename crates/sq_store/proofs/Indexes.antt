@@ -20,6 +20,7 @@ use Rattle.std.proofs.lemmas.List.Elements.{All-head, All-tail}
 use Rattle.std.proofs.lemmas.Map.Views.{All-found}
 use Rattle.slab.specs.Slab as slab
 use Rattle.slab.specs.Slab.{Slab, Updates}
+use Rattle.sq_schema.specs.declared.root.TheConstants.{ROOT_END}
 use Rattle.sq_schema.specs.Family.{FamilyValue}
 use Rattle.sq_store.specs.StoreValue.{StoreValue, absent}
 use Rattle.sq_store.specs.InOrder.{family_from, HoldsByRoot}
@@ -108,6 +109,7 @@ index_same families now index next slots es is =
           let led = is.leads root key (ap (lookup (is_at (nat_cmp root))) (sym es) ∙ found) in
           record { family = led.family; stands = ap (λ s. slab.get (record families { slots = s }) key) slots ∙ led.stands; own = led.own };
       has = λ key family stands. ap (lookup (is_at (nat_cmp family.root))) es ∙ is.has key family (ap (λ s. slab.get (record families { slots = s }) key) (sym slots) ∙ stands);
+      bound = λ root key found. is.bound root key (ap (lookup (is_at (nat_cmp root))) (sym es) ∙ found);
       ordered = subst (λ entries. IsStrictlySortedBy nat_cmp (keys_of entries)) (sym es) is.ordered;
     }
 
@@ -156,8 +158,15 @@ module _ (families now : Slab FamilyValue) (index next : BTreeMap ℕ ℕ) (key 
       put_other other.root (λ same. off (one k (ap (tree.get nat_cmp index) (sym same) ∙ before))) ∙ before)
       (cases_eq k key)
 
-  pub index_put : IsOrdered nat_cmp next → IsIndex now next
-  index_put ordered = record { leads = put_leads; has = put_has; ordered = ordered }
+  put_bound : family.root < ROOT_END → (root k : ℕ) → tree.get nat_cmp next root ≡ Some k → root < ROOT_END
+  put_bound within root k at =
+      ⊎_elim
+      (λ (same : root ≡ family.root). omega (arith, same, within))
+      (λ (apart : root ≢ family.root). is.bound root k (sym (put_other root apart) ∙ at))
+      (cases_eq root family.root)
+
+  pub index_put : family.root < ROOT_END → IsOrdered nat_cmp next → IsIndex now next
+  index_put within ordered = record { leads = put_leads; has = put_has; bound = put_bound within; ordered = ordered }
 
   kept_under : (root : ℕ) → root ≢ family.root → (found : Option ℕ) → tree.get nat_cmp index root ≡ found → option_map (family_under now) found ≡ option_map (family_under families) found
   kept_under root apart None found = refl
@@ -209,8 +218,15 @@ module _ (families now : Slab FamilyValue) (index next : BTreeMap ℕ ℕ) (key 
       off at) ∙ before)
       (cases_eq k key)
 
+  out_bound : (other k : ℕ) → tree.get nat_cmp next other ≡ Some k → other < ROOT_END
+  out_bound other k at =
+      ⊎_elim
+      (λ (same : other ≡ root). let both : None ≡ Some k = sym (out_here other same) ∙ at in absurd (cc))
+      (λ (apart : other ≢ root). is.bound other k (sym (out_other other apart) ∙ at))
+      (cases_eq other root)
+
   pub index_out : IsOrdered nat_cmp next → IsIndex now next
-  index_out ordered = record { leads = out_leads; has = out_has; ordered = ordered }
+  index_out ordered = record { leads = out_leads; has = out_has; bound = out_bound; ordered = ordered }
 
   left_under : (other : ℕ) → other ≢ root → (at : Option ℕ) → tree.get nat_cmp index other ≡ at → option_map (family_under now) at ≡ option_map (family_under families) at
   left_under other apart None at = refl
@@ -237,9 +253,9 @@ holds_same families now index next store holds slots es =
 
 -- a family of a root key that has none is put in under a key that has none
 pub put_new : (families now : Slab FamilyValue) (index next : BTreeMap ℕ ℕ) (store : StoreValue) (key root : ℕ) (family : FamilyValue) → Holds families index store
-    → root ≡ family.root → get store family.root ≡ None → slab.get families key ≡ None → Updates families now key (Some family)
+    → root ≡ family.root → family.root < ROOT_END → get store family.root ≡ None → slab.get families key ≡ None → Updates families now key (Some family)
     → ((q : ℕ) → tree.get nat_cmp next q ≡ cond (is_at (nat_cmp root) q) (Some key) (tree.get nat_cmp index q)) → IsOrdered nat_cmp next → Holds now next (insert store family.root family)
-put_new families now index next store key root family holds at none vacant written led ordered =
+put_new families now index next store key root family holds at within none vacant written led ordered =
     let is = holds.linked in
     let led_at = λ (q : ℕ). led q ∙ ap (λ r. cond (is_at (nat_cmp r) q) (Some key) (tree.get nat_cmp index q)) at in
     let own : (q : ℕ) → tree.get nat_cmp index q ≡ Some key → q ≡ family.root = λ q found.
@@ -251,7 +267,7 @@ put_new families now index next store key root family holds at none vacant writt
     let both : None ≡ Some k = sym out ∙ found in
     absurd (cc) in
     record {
-      linked = index_put families now index next key family is written led_at own one ordered;
+      linked = index_put families now index next key family is written led_at own one within ordered;
       view = indexed_put families now index next key family is written led_at own one ∙ ap (λ s. insert s family.root family) holds.view;
     }
 
@@ -270,7 +286,7 @@ put_over families now index store key family holds found written =
     let both : Some key ≡ Some k = sym found ∙ also in
     cc in
     record {
-      linked = index_put families now index index key family is written led own one is.ordered;
+      linked = index_put families now index index key family is written led own one (is.bound family.root key found) is.ordered;
       view = indexed_put families now index index key family is written led own one ∙ ap (λ s. insert s family.root family) holds.view;
     }
 
@@ -333,3 +349,22 @@ module _ (families : Slab FamilyValue) (index : BTreeMap ℕ ℕ) (is : IsIndex 
 
   pub walked_none : filter (λ e. range_contains nat_cmp (Included at) Unbounded e.0) index.entries ≡ [] → family_from (indexed families index) at ≡ None
   walked_none none = walked ∙ ap (λ es. option_map (λ (e : ℕ × ℕ). family_under families e.1) (slice_get es 0)) none
+
+-- no family is found from a root key on to which none leads
+found_none : (f : ℕ → FamilyValue) (at : ℕ) (es : List (ℕ × ℕ)) → All (λ e. (f e.1).root < at) es → find_in (λ family. nat_le at family.root) (map (λ e. f e.1) es) ≡ None
+found_none f at [] below = refl
+found_none f at (e ∷ es) below =
+    let low : (f e.1).root < at = All-head (λ (x : ℕ × ℕ). (f x.1).root < at) e es below in
+    let later = find_in (λ (family : FamilyValue). nat_le at family.root) (map (λ x. f x.1) es) in
+    ap (λ b. cond b (Some (f e.1)) later) (lt-leb at (f e.1).root low) ∙ found_none f at es (All-tail (λ (x : ℕ × ℕ). (f x.1).root < at) e es below)
+
+-- no family is found from the end of the root keys on
+pub walked_beyond : (families : Slab FamilyValue) (index : BTreeMap ℕ ℕ) (is : IsIndex families index) (at : ℕ) → ROOT_END ≤ at → family_from (indexed families index) at ≡ None
+walked_beyond families index is at beyond =
+    let below : All (λ e. (family_under families e.1).root < at) index.entries = λ k d within.
+    let found = All-found nat_cmp_total index is.ordered k d within in
+    let led = is.leads _ _ found in
+    let own = ap (λ o. (unwrap_or o (absent 0)).root) led.stands ∙ led.own in
+    omega (arith, own, beyond, is.bound _ _ found) in
+    ap (find_in (λ family. nat_le at family.root)) (ap (map (λ (entry : ℕ × FamilyValue). entry.1)) (entries-indexed families index is.ordered) ∙ families_through (family_under families) index.entries)
+    ∙ found_none (family_under families) at index.entries below

@@ -1,11 +1,12 @@
 -- A store as a slab of families with an index from root keys to keys of the slab.
-use Rattle.std.specs.Prelude.{◌≡◌, ℕ, map, unwrap_or, Some}
+use Rattle.std.specs.Prelude.{◌≡◌, ◌<◌, ℕ, map, unwrap_or, Some}
 use Rattle.std.specs.Ordering.{nat_cmp}
 use Rattle.std.specs.FinMap.{from_entries}
 use Rattle.std.specs.BTreeMap as tree
 use Rattle.std.specs.BTreeMap.{BTreeMap, IsOrdered}
 use Rattle.slab.specs.Slab as slab
 use Rattle.slab.specs.Slab.{Slab}
+use Rattle.sq_schema.specs.declared.root.TheConstants.{ROOT_END}
 use Rattle.sq_schema.specs.Family.{FamilyValue}
 use Rattle.sq_store.specs.StoreValue.{StoreValue, absent}
 
@@ -27,4 +28,5 @@ pub record IsLed (families : Slab FamilyValue) (root key : ℕ) : Type 0 where
 pub record IsIndex (families : Slab FamilyValue) (index : BTreeMap ℕ ℕ) : Type 0 where
   pub leads : (root key : ℕ) → tree.get nat_cmp index root ≡ Some key → IsLed families root key
   pub has : (key : ℕ) (family : FamilyValue) → slab.get families key ≡ Some family → tree.get nat_cmp index family.root ≡ Some key
+  pub bound : (root key : ℕ) → tree.get nat_cmp index root ≡ Some key → root < ROOT_END
   pub ordered : IsOrdered nat_cmp index

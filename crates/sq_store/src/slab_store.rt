@@ -26,7 +26,7 @@ use std::marker::Model;
 pub struct SlabStore {
     alloc: Global,
     families: Slab<Family>,
-    index: BTreeMap<u64, usize>,
+    index: BTreeMap<Root, usize>,
 }
 
 impl Model for SlabStore {
@@ -82,7 +82,9 @@ impl SlabStore {
         if self.families.reserve(1).is_err() {
             return Err(family);
         }
-        let root = family.root().number();
+        let root = family.root();
+        // Called for what it ensures, that the number is below `ROOT_END`.
+        let _ = root.number();
         match self.index.insert(root, self.families.vacant_key()) {
             Ok(_) => {
                 self.families.insert_reserved(family);
@@ -97,7 +99,7 @@ impl SlabStore {
         ensures family { result ≡ get self.old root }
         ensures store { self.new ≡ remove self.old root }
     {
-        match self.index.remove(&root.number()) {
+        match self.index.remove(&root) {
             Some(key) => Some(self.families.remove(key)),
             None => None,
         }
@@ -239,21 +241,23 @@ impl FamilyStore for SlabStore {
     ghost contents = { λ store. store };
 
     fn get(&self, root: Root) -> Option<&Family> {
-        match self.index.get(&root.number()) {
+        match self.index.get(&root) {
             Some(key) => self.families.get(*key),
             None => None,
         }
     }
 
     fn walk(&self, at: u64) -> Option<&Family> {
-        match self.index.range(at..).next() {
+        let index = &self.index;
+        let from = Root::new(at)?;
+        match index.range(from..).next() {
             Some((_, key)) => self.families.get(*key),
             None => None,
         }
     }
 
     fn apply(&mut self, txn: &Txn) -> Result<Reply, ApplyFault> {
-        match self.index.get(&txn.root().number()) {
+        match self.index.get(&txn.root()) {
             Some(key) => self.families[*key].apply(txn),
             None => self.open(txn),
         }

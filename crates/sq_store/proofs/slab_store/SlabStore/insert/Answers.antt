@@ -1,4 +1,4 @@
-use Rattle.std.proofs.Common.{◌≡◌, Some, refl, sym, ap, subst, ◌∙◌}
+use Rattle.std.proofs.Common.{◌≡◌, Some, refl, sym, ap, subst, ◌∙◌, arith}
 use Rattle.slab.specs.Slab.{Updates}
 use Rattle.sq_store.proofs.Indexes.{Holds, holds_same, index_same, put_new}
 use Rattle.sq_store.proofs.slab_store.SlabStore.insert.Goals as goal
@@ -10,8 +10,8 @@ put c =
     let key : c.insert_reserved.result ≡ c.vacant_key.result = c.insert_reserved.ensures.key ∙ sym c.vacant_key.ensures.value in
     let before = holds_same c.self.inside.families c.reserve.new.self c.self.inside.index c.self.inside.index c.args.self.now
     (record { linked = c.self.invariant; view = c.self.view_is }) (ap (λ s. s.slots) c.reserve.ensures.rest_kept) refl in
-    put_new c.reserve.new.self c.insert_reserved.new.self c.self.inside.index c.insert.new.self c.args.self.now c.vacant_key.result c.number-root.result c.args.family
-    before (c.number-root.ensures.number ∙ c.root.ensures) c.requires c.vacant_key.ensures.vacant
+    put_new c.reserve.new.self c.insert_reserved.new.self c.self.inside.index c.insert.new.self c.args.self.now c.vacant_key.result c.root-root.result c.args.family
+    before c.root-root.ensures (omega (arith, c.root-root.ensures, c.number.ensures.number, c.number.ensures.bound)) c.requires c.vacant_key.ensures.vacant
     (subst (λ k. Updates c.reserve.new.self c.insert_reserved.new.self k (Some c.args.family)) key c.insert_reserved.ensures.updates)
     c.in-Ok.ensures.updates.0 c.in-Ok.ensures.ordered
 

@@ -9,17 +9,16 @@ use Rattle.sq_store.proofs.slab_store.SlabStore.remove.Goals as goal
 use Rattle.sq_store.proofs.slab_store.SlabStore.remove.Goals.{After-remove-in-Some, In-None}
 
 pub remove-requires-in-Some : goal.remove-requires-in-Some
-remove-requires-in-Some c = subst IsSome (sym (c.self.invariant.leads c.number.result c.in-Some.key (sym c.in-Some.ensures.value)).stands) refl
+remove-requires-in-Some c = subst IsSome (sym (c.self.invariant.leads c.args.root c.in-Some.key (sym c.in-Some.ensures.value)).stands) refl
 
 -- the index led from the root key to the key
 led : (c : After-remove-in-Some) → tree.get nat_cmp c.self.inside.index c.args.root ≡ Some c.in-Some.key
-led c = ap (tree.get nat_cmp c.self.inside.index) (sym c.number.ensures.number) ∙ sym c.in-Some.ensures.value
+led c = sym c.in-Some.ensures.value
 
 out : (c : After-remove-in-Some) → Holds c.remove-in-Some.new.self c.remove.new.self (remove c.args.self.now c.args.root)
 out c =
-    subst (λ root. Holds c.remove-in-Some.new.self c.remove.new.self (remove c.args.self.now root)) c.number.ensures.number
-    (taken_out c.self.inside.families c.remove-in-Some.new.self c.self.inside.index c.remove.new.self c.args.self.now c.in-Some.key c.number.result
-    (record { linked = c.self.invariant; view = c.self.view_is }) (sym c.in-Some.ensures.value) c.remove-in-Some.ensures.updates c.in-Some.ensures.updates.0 c.in-Some.ensures.ordered)
+    taken_out c.self.inside.families c.remove-in-Some.new.self c.self.inside.index c.remove.new.self c.args.self.now c.in-Some.key c.args.root
+    (record { linked = c.self.invariant; view = c.self.view_is }) (sym c.in-Some.ensures.value) c.remove-in-Some.ensures.updates c.in-Some.ensures.updates.0 c.in-Some.ensures.ordered
 
 pub invariant_of-self : goal.invariant_of-self
 invariant_of-self c = (out (goal.at.invariant_of-self c).After-remove-in-Some).linked
@@ -37,7 +36,7 @@ returns-in-Some-clause-store c = (out (goal.at.returns-in-Some-clause-store c).A
 none : (c : In-None) → get c.args.self.now c.args.root ≡ None
 none c =
     ap (λ store. get store c.args.root) (sym c.self.view_is)
-    ∙ get_unled c.self.inside.families c.self.inside.index c.self.invariant c.args.root (ap (tree.get nat_cmp c.self.inside.index) (sym c.number.ensures.number) ∙ sym c.in-None.ensures.value)
+    ∙ get_unled c.self.inside.families c.self.inside.index c.self.invariant c.args.root (sym c.in-None.ensures.value)
 
 pub returns-in-None-clause-family : goal.returns-in-None-clause-family
 returns-in-None-clause-family c = sym (none (goal.at.returns-in-None-clause-family c).In-None)

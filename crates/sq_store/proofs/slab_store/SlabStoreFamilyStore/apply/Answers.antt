@@ -16,7 +16,7 @@ use Rattle.sq_store.proofs.slab_store.SlabStoreFamilyStore.apply.Goals.{In-Some,
 
 -- the index leads from the root key to the key
 led : (c : In-Some) → tree.get nat_cmp c.self.inside.index c.args.txn.now.root ≡ Some c.in-Some.key.now
-led c = ap (tree.get nat_cmp c.self.inside.index) (sym (c.number.ensures.number ∙ c.root.ensures)) ∙ sym c.in-Some.ensures.value
+led c = ap (tree.get nat_cmp c.self.inside.index) (sym c.root.ensures) ∙ sym c.in-Some.ensures.value
 
 held : (c : In-Some) → Holds c.self.inside.families c.self.inside.index c.args.self.now
 held c = record { linked = c.self.invariant; view = c.self.view_is }
@@ -32,10 +32,10 @@ none : (c : In-None) → get c.args.self.now c.args.txn.now.root ≡ None
 none c =
     ap (λ store. get store c.args.txn.now.root) (sym c.self.view_is)
     ∙ get_unled c.self.inside.families c.self.inside.index c.self.invariant c.args.txn.now.root
-    (ap (tree.get nat_cmp c.self.inside.index) (sym (c.number.ensures.number ∙ c.root.ensures)) ∙ sym c.in-None.ensures.value)
+    (ap (tree.get nat_cmp c.self.inside.index) (sym c.root.ensures) ∙ sym c.in-None.ensures.value)
 
 pub index_mut-requires : goal.index_mut-requires
-index_mut-requires c = subst IsSome (sym (c.self.invariant.leads c.number.result c.in-Some.key.now (sym c.in-Some.ensures.value)).stands) refl
+index_mut-requires c = subst IsSome (sym (c.self.invariant.leads c.root.result c.in-Some.key.now (sym c.in-Some.ensures.value)).stands) refl
 
 pub apply-requires : goal.apply-requires
 apply-requires c =

@@ -12,7 +12,7 @@ use Rattle.sq_store.proofs.slab_store.SlabStoreFamilyStore.get.Goals.{After-get-
 
 -- the index leads from the root key to the key
 led : (c : After-get-in-Some) → tree.get nat_cmp c.self.inside.index c.args.root ≡ Some c.in-Some.key.now
-led c = ap (tree.get nat_cmp c.self.inside.index) (sym c.number.ensures.number) ∙ sym c.in-Some.ensures.value
+led c = sym c.in-Some.ensures.value
 
 -- what is found has the root key
 own : (root : ℕ) (found : Option (Bor FamilyValue)) (family : FamilyValue) → option_copied found ≡ Some family → family.root ≡ root → IfSome found (λ f. f.now.root ≡ root)
@@ -35,7 +35,7 @@ returns-in-Some-clause-rooted c = subst HoldsByRoot c.self.view_is (rooted-index
 
 pub returns-in-None-clause-family : goal.returns-in-None-clause-family
 returns-in-None-clause-family c =
-    sym (get_unled c.self.inside.families c.self.inside.index c.self.invariant c.args.root (ap (tree.get nat_cmp c.self.inside.index) (sym c.number.ensures.number) ∙ sym c.in-None.ensures.value))
+    sym (get_unled c.self.inside.families c.self.inside.index c.self.invariant c.args.root (sym c.in-None.ensures.value))
     ∙ ap (λ store. get store c.args.root) c.self.view_is
 
 pub returns-in-None-clause-rooted : goal.returns-in-None-clause-rooted
