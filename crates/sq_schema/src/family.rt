@@ -18,12 +18,13 @@ use std::marker::Model;
 pub const MAX_LOG: usize = 4096;
 
 /// A family: a root key with its rows, the rows that its log starts from, and its log. The rows are the replay of the
-/// log on those. To a contract it is a `FamilyValue`.
+/// log on those. The log and the rows lie side by side, since each transaction touches both. To a contract it is a
+/// `FamilyValue`.
 #[derive(Debug, Drop)]
 pub struct Family {
     root: Root,
-    rows: LoggedRows,
     log: Vec<Txn>,
+    rows: LoggedRows,
 }
 
 impl Model for Family {

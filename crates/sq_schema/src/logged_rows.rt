@@ -13,8 +13,8 @@ use std::marker::Model;
 /// contract it is a `LoggedValue`.
 #[derive(Debug, Drop)]
 pub(crate) struct LoggedRows {
-    base: Option<Rows>,
     rows: Rows,
+    base: Option<Rows>,
 }
 
 impl Model for LoggedRows {
