@@ -10,7 +10,7 @@ use sq_exec::PartCore;
 use sq_plan::{PartId, Plan};
 use sq_ranges::Opening;
 use sq_schema::{Family, Table};
-use sq_store::{FamilyStore, SlabStore};
+use sq_store::SlabStore;
 use std::alloc::{AllocError, Global};
 
 /// The partitions of the plan before the move, which hasn't started.
@@ -70,9 +70,5 @@ fn store(alloc: Global, families: Vec<Family>) -> Result<SlabStore, AllocError>
     requires { (lo : ℕ) × (hi : ℕ) × IsTrue (are_within lo hi families.items) }
     ensures { IfOk result (λ store. store ≡ with_families empty families.items) }
 {
-    let mut store = SlabStore::new(alloc);
-    match store.give(families) {
-        Ok(()) => Ok(store),
-        Err(_) => Err(AllocError),
-    }
+    SlabStore::from_families(alloc, families)
 }

@@ -37,7 +37,7 @@ found_through f (e ∷ es) root =
       | false ↦ found_through f es root
     ]
 
-get-indexed : (families : Slab FamilyValue) (index : BTreeMap ℕ ℕ) (root : ℕ) → get (indexed families index) root ≡ option_map (family_under families) (tree.get nat_cmp index root)
+pub get-indexed : (families : Slab FamilyValue) (index : BTreeMap ℕ ℕ) (root : ℕ) → get (indexed families index) root ≡ option_map (family_under families) (tree.get nat_cmp index root)
 get-indexed families index root = get-from_entries nat_cmp_total (map (λ e. (e.0, family_under families e.1)) index.entries) root ∙ found_through (family_under families) index.entries root
 
 module _ (families : Slab FamilyValue) (index : BTreeMap ℕ ℕ) (is : IsIndex families index) where
@@ -116,7 +116,7 @@ index_same families now index next slots es is =
 pub indexed_same : (families now : Slab FamilyValue) (index next : BTreeMap ℕ ℕ) → now.slots ≡ families.slots → next.entries ≡ index.entries → indexed now next ≡ indexed families index
 indexed_same families now index next slots es = (λ i. from_entries (map (λ e. (e.0, family_under (record families { slots = slots i }) e.1)) (es i)))
 
-tied_here : (key root : ℕ) → root ≡ key → is_at (nat_cmp key) root ≡ true
+pub tied_here : (key root : ℕ) → root ≡ key → is_at (nat_cmp key) root ≡ true
 tied_here key root same = unsigned_tied key root ∙ eq-eqb key root (sym same)
 
 apart_here : (key root : ℕ) → root ≢ key → is_at (nat_cmp key) root ≡ false

@@ -16,5 +16,6 @@ pub mod Fullest
 pub mod Keys
 pub mod Firsts
 pub mod Indexes
+pub mod Filled
 pub mod Writes
 pub mod PutsIn

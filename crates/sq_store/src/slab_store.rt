@@ -1,10 +1,12 @@
 // Families in a slab, with an index by root key.
 ghost use Rattle.std.specs.Prelude.{◌≡◌, ◌==◌, ◌+◌, ◌++◌, ◌<◌, ◌≤◌, ℕ, List, [], length, map, vec_len, vec_capacity, None, option_copied, IsTrue, IfOk, IfErr, OnOk, OnErr};
 ghost use Rattle.std.specs.FinMap.{get, insert, remove, len, empty};
+ghost use Rattle.std.specs.Ordering.{nat_cmp};
+ghost use Rattle.std.specs.BTreeMap.{IsFromIterResult};
 ghost use Rattle.sq_schema.specs.Family.{FamilyValue};
 ghost use Rattle.sq_schema.specs.declared.root.TheConstants.{ROOT_END};
 ghost use Rattle.sq_ranges.specs.CutEnd.{end_within};
-ghost use Rattle.sq_store.specs.StoreValue.{StoreValue, store_reply, store_after, stored_size, take_end, families_between, without_between, roots_differ, has_none_of};
+ghost use Rattle.sq_store.specs.StoreValue.{StoreValue, store_reply, store_after, stored_size, take_end, families_between, without_between, with_families, roots_differ, has_none_of};
 ghost use Rattle.sq_store.specs.InOrder.{AreKeyed, HoldsByRoot};
 ghost use Rattle.sq_store.specs.Merging.{IsPopped};
 ghost use Rattle.sq_store.specs.First.{FirstIs};
@@ -56,6 +58,29 @@ impl SlabStore {
             families: Slab::new(alloc),
             index: BTreeMap::new(alloc),
         }
+    }
+
+    /// A store of these families. Its index is made of all their root keys at once, which leaves no room in its nodes
+    /// unused.
+    pub fn from_families(alloc: Global, mut families: Vec<Family>) -> Result<SlabStore, AllocError>
+        requires { IsTrue (roots_differ families.items) }
+        ensures { IfOk result (λ store. store ≡ with_families empty families.items) }
+    {
+        let mut slab = Slab::with_capacity(alloc, families.len())?;
+        let mut keys = Vec::with_capacity(alloc, families.len())?;
+        while let Some(family) = families.pop() {
+            let root = family.root();
+            // Called for what it ensures, that the number is below `ROOT_END`.
+            let _ = root.number();
+            let key = slab.insert_reserved(family);
+            keys.push_reserved((root, key));
+        }
+        let index = index_of(alloc, keys)?;
+        Ok(SlabStore {
+            alloc,
+            families: slab,
+            index,
+        })
     }
 
     /// How many families there are.
@@ -235,6 +260,13 @@ impl SlabStore {
             }
         }
     }
+}
+
+// The index of these entries.
+fn index_of(alloc: Global, keys: Vec<(Root, usize)>) -> Result<BTreeMap<Root, usize>, AllocError>
+    ensures { IfOk result (IsFromIterResult nat_cmp keys.items) }
+{
+    keys.into_iter().collect(alloc)
 }
 
 impl FamilyStore for SlabStore {
