@@ -1,6 +1,7 @@
 -- All workers of a run, once each was driven.
-use Rattle.std.proofs.Common.{◌<◌, List, length, arith}
-use Rattle.std.specs.Prelude.{All}
+use Rattle.std.proofs.Common.{◌≡◌, ℕ, ◌<◌, List, length, get_or, Some, subst, arith}
+use Rattle.std.specs.Prelude.{All, slice_get}
+use Rattle.std.proofs.lemmas.Option.{slice_get_within, slice_get-get_or, get_or_from_slice_get}
 use Rattle.sq_ranges.specs.OpeningValue.{OpeningValue}
 use Rattle.sq_ranges.specs.Opening.{IsOpening}
 use Rattle.sq_node.specs.FabricValue.{FabricValue}
@@ -21,3 +22,11 @@ all_stay fabric old new driven = λ i d lt. let within : i < length old = omega 
 
 pub all_pumps_stay : (fabric : FabricValue) (old new : List PumpValue) → AllPumpsDriven fabric old new → All (IsPumpOf fabric) new
 all_pumps_stay fabric old new driven = λ i d lt. let within : i < length old = omega (arith, lt, driven.count) in (driven.each i d within).stays
+
+-- each worker that there is now was one before, and was driven from there
+pub was_driven : {X : Type 0} (goes : X → X → Type 0) (old new : List X) → length new ≡ length old → ((i : ℕ) (d : X) → i < length old → goes (get_or old i d) (get_or new i d))
+    → (i : ℕ) (now : X) → slice_get new i ≡ Some now → (was : X) × (slice_get old i ≡ Some was) × goes was now
+was_driven goes old new count each i now there =
+    let within = slice_get_within new i now there in
+    let was : i < length old = omega (arith, within, count) in
+    (get_or old i now, slice_get-get_or old i now was, subst (goes (get_or old i now)) (get_or_from_slice_get new i now now there) (each i now was))

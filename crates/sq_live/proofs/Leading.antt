@@ -27,18 +27,6 @@ pub record ArePrepared (parts part : ℕ) (prepared : List Bool) : Type 0 where
   pub parts_are : length prepared ≡ parts
   pub each : (k : ℕ) → k < part → is_marked prepared k ≡ true
 
--- one more has
-pub prepared_more : (parts part : ℕ) (prepared : List Bool) → part < parts → ArePrepared parts part prepared → ArePrepared parts (part + 1) (with_mark prepared part)
-prepared_more parts part prepared lt so_far =
-    let many = so_far.parts_are in
-    record {
-      parts_are = length-set prepared part true ∙ many;
-      each =
-          below_more (λ k. is_marked (with_mark prepared part) k ≡ true) part
-          (λ k low. get_or-set_other prepared part k true false (omega (arith, low)) ∙ so_far.each k low)
-          (get_or-set_same prepared part true false (omega (arith, many)));
-    }
-
 -- once they all have, all are marked
 pub all_prepared : (parts part : ℕ) (prepared : List Bool) → parts ≤ part → ArePrepared parts part prepared → all_marked prepared ≡ true
 all_prepared parts part prepared past are =
@@ -78,18 +66,6 @@ module _ (many : ℕ) (holds : ℕ → Bool) where
               get_or-set_other marks next k b false other ∙ so_far.each k ∙ ap (λ low. low && holds k) (one_more next k other)
         ];
       }
-
-  -- one of which it doesn't hold stays unmarked
-  pub skip_next : (next : ℕ) (marks : List Bool) → AreMarked many next holds marks → holds next ≡ false → AreMarked many (next + 1) holds marks
-  skip_next next marks so_far fails = record {
-    length_is = so_far.length_is;
-    each = λ k. elim (cases_eq k next) [
-      | inl same ↦
-          let here : holds k ≡ false = ap holds same ∙ fails in
-          so_far.each k ∙ and_right (nat_lt k next) (holds k) here ∙ sym (and_right (nat_lt k (next + 1)) (holds k) here)
-      | inr other ↦ so_far.each k ∙ ap (λ low. low && holds k) (one_more next k other)
-    ];
-  }
 
 abbrev no_range : Range
 no_range = record { lo = 0; hi = 0; src = 0; dst = 0 }

@@ -1,5 +1,4 @@
 use Rattle.std.proofs.Common.{◌≡◌, ℕ, List, ◌++◌, length, take, drop, ap, ◌∙◌, sym, subst, arith}
-use Rattle.std.proofs.Math.Seq.{take-append_seam}
 use Rattle.std.specs.Prelude.{All}
 use Rattle.sq_pull.specs.Pump.{PumpValue}
 use Rattle.sq_node.specs.NodeState.{NodeState, IsNodeOf}
@@ -8,7 +7,8 @@ use Rattle.sq_driver.specs.Nodes.{AllDriven}
 use Rattle.sq_driver.specs.Pumps.{IsPumpOf, AllPumpsDriven}
 use Rattle.sq_driver.proofs.Opening.{opened_nodes, opened_pumps}
 use Rattle.sq_gather.specs.Gathered.{AreAllOf, AllHold}
-use Rattle.sq_live.proofs.Driven.{all_driven, hold_driven}
+use Rattle.sq_gather.proofs.AllOf.{all_of_opened}
+use Rattle.sq_live.proofs.Driven.{written, all_driven, hold_driven}
 use Rattle.sq_live.proofs.run.run_jobs.Goals as goal
 
 pub run_workers-requires-clause-nodes : goal.run_workers-requires-clause-nodes
@@ -19,17 +19,14 @@ pub run_workers-requires-clause-pumps : goal.run_workers-requires-clause-pumps
 run_workers-requires-clause-pumps g c = λ κs within.
     subst (All (IsPumpOf c.in_ok-fabric.fabric)) (sym c.deref_mut-2.ensures.value) (opened_pumps c.args.opening.now c.args.pumps c.in_ok-fabric.fabric c.in_ok-fabric.nodes.items c.in_ok-fabric.pumps.items c.in_ok-fabric.ensures)
 
--- what a vector has once all its elements were written through a slice of it
-written : {X : Type 0} (old new : List X) (len : ℕ) → len ≡ length new → take len (new ++ drop (length new) old) ≡ new
-written old new len whole = ap (λ n. take n (new ++ drop (length new) old)) whole ∙ take-append_seam new (drop (length new) old)
-
 pub gather-requires : goal.gather-requires
 gather-requires g c =
     let fabric = c.in_ok-fabric.fabric in
     let is_fabric : IsFabric fabric = subst IsFabric c.fabric.view_is c.fabric.invariant in
     let nodes = subst (λ old. AllDriven fabric old c.run_workers.new.nodes) c.deref_mut.ensures.value c.run_workers.ensures.nodes in
     let pumps = subst (λ old. AllPumpsDriven fabric old c.run_workers.new.pumps) c.deref_mut-2.ensures.value c.run_workers.ensures.pumps in
-    let whole = all_driven c.args.opening.now c.args.pumps fabric c.in_ok-fabric.nodes.items c.run_workers.new.nodes c.in_ok-fabric.pumps.items c.run_workers.new.pumps c.recon-recon.ensures.set_up.opening is_fabric c.in_ok-fabric.ensures nodes pumps in
+    let opened = all_of_opened c.args.opening.now c.args.pumps fabric c.in_ok-fabric.nodes.items c.in_ok-fabric.pumps.items c.recon-recon.ensures.set_up.opening is_fabric c.in_ok-fabric.ensures in
+    let whole = all_driven fabric c.in_ok-fabric.nodes.items c.run_workers.new.nodes c.in_ok-fabric.pumps.items c.run_workers.new.pumps opened nodes pumps in
     let node_count = c.run_workers.ensures.nodes.count in
     let pump_count = c.run_workers.ensures.pumps.count in
     let all_nodes = written c.in_ok-fabric.nodes.items c.run_workers.new.nodes c.in_ok-fabric.nodes.len (omega (arith, node_count, c.deref_mut.ensures.len)) in
@@ -39,11 +36,9 @@ gather-requires g c =
 pub returns-in-Ok : goal.returns-in-Ok
 returns-in-Ok g c =
     let fabric = c.in_ok-fabric.fabric in
-    let is_fabric : IsFabric fabric = subst IsFabric c.fabric.view_is c.fabric.invariant in
     let nodes = subst (λ old. AllDriven fabric old c.run_workers.new.nodes) c.deref_mut.ensures.value c.run_workers.ensures.nodes in
-    let pumps = subst (λ old. AllPumpsDriven fabric old c.run_workers.new.pumps) c.deref_mut-2.ensures.value c.run_workers.ensures.pumps in
     let is = c.recon-recon.ensures.set_up.opening in
     let node_count = c.run_workers.ensures.nodes.count in
     let all_nodes = written c.in_ok-fabric.nodes.items c.run_workers.new.nodes c.in_ok-fabric.nodes.len (omega (arith, node_count, c.deref_mut.ensures.len)) in
-    let hold = hold_driven c.args.opening.now c.args.pumps fabric c.in_ok-fabric.nodes.items c.run_workers.new.nodes c.in_ok-fabric.pumps.items c.run_workers.new.pumps is is_fabric c.in_ok-fabric.ensures nodes pumps in
+    let hold = hold_driven c.args.opening.now c.args.pumps fabric c.in_ok-fabric.nodes.items c.run_workers.new.nodes c.in_ok-fabric.pumps.items is c.in_ok-fabric.ensures nodes in
     c.in-Ok.ensures.placed c.args.opening.now is c.in_ok-fabric.ensures.shared (subst (λ (l : List NodeState). AllHold c.args.opening.now l) (sym all_nodes) hold)
