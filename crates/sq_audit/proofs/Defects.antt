@@ -1,5 +1,5 @@
 -- The six clauses together, and the one verdict.
-use Rattle.std.proofs.Common.{◌≡◌, ⊎_elim, ℕ, zero, suc, List, [], slice_get, Some, refl, ap, arith}
+use Rattle.std.proofs.Common.{◌≡◌, ⊎_elim, List, refl, ap, arith}
 use Rattle.std.proofs.lemmas.Bool.{cases_lt}
 use Rattle.sq_ranges.specs.OpeningValue.{OpeningValue}
 use Rattle.sq_schema.specs.Family.{FamilyValue}

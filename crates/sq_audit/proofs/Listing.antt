@@ -1,5 +1,5 @@
 -- That all families of what was gathered are listed: those of a store by a walk, those of a chunk in their order.
-use Rattle.std.proofs.Common.{◌≡◌, ⊎_elim, ℕ, ◌+◌, ◌<◌, ◌≤◌, ◌==◌, get_or, true, nat_le, nat_lt, if◌then◌else◌, List, [], ◌∷◌, ◌++◌, map, length, slice_get, Contains, Option, Some, None, refl, sym, ap, ◌∙◌, subst, arith, append_assoc, eqb-true, eq-eqb}
+use Rattle.std.proofs.Common.{◌≡◌, ⊎_elim, ℕ, ◌+◌, ◌<◌, ◌≤◌, ◌==◌, get_or, true, nat_le, nat_lt, if◌then◌else◌, List, [], ◌∷◌, ◌++◌, map, length, slice_get, Contains, Some, None, sym, ap, ◌∙◌, subst, arith, append_assoc, eqb-true, eq-eqb}
 use Rattle.std.specs.Prelude.{option_and_then, All}
 use Rattle.std.specs.FinMap.{get}
 use Rattle.std.proofs.lemmas.Bool.{cases_lt, and_from, le-leb, lt-ltb, ne_eqb}
@@ -12,7 +12,7 @@ use Rattle.sq_store.specs.InOrder.{family_from, HoldsByRoot, are_within, AreKeye
 use Rattle.sq_store.proofs.Rising.{rises}
 use Rattle.sq_store.proofs.Firsts.{first_is, first_none, none_between}
 use Rattle.sq_chunk.specs.ChunkValue.{ChunkValue}
-use Rattle.sq_model.proofs.Lists.{Contains-nothing, Contains-cases, Contains-slice_get, slice_get-Contains, found_in, map_in}
+use Rattle.sq_model.proofs.Lists.{Contains-nothing, Contains-cases, found_in, map_in}
 use Rattle.sq_node_model.specs.declared.spot.Spot.{Spot}
 use Rattle.sq_node_model.specs.declared.spot.Spot.TheVariants.{Store, Chunk}
 use Rattle.sq_node_model.specs.FamiliesHold.{IsOf}

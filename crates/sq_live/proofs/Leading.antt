@@ -1,10 +1,10 @@
 -- Which partitions have told the leader, and when it ends the move.
-use Rattle.std.proofs.Common.{◌≡◌, inl, inr, ℕ, ◌+◌, ◌<◌, ◌≤◌, Bool, true, false, List, length, get_or, refl, sym, ap, ◌∙◌, arith, below_more, get_or-set_same, get_or-set_other, eq-eqb}
+use Rattle.std.proofs.Common.{◌≡◌, inl, inr, ℕ, ◌+◌, ◌<◌, ◌≤◌, Bool, true, false, List, length, get_or, refl, sym, ap, ◌∙◌, arith, get_or-set_same, get_or-set_other, eq-eqb}
 use Rattle.std.specs.Prelude.{◌&&◌, ◌||◌, not, nat_lt, slice_set, Ok, Err, if◌then◌else◌, unwrap_or}
 use Rattle.std.specs.Result.{is_ok, result_ok}
 use Rattle.std.specs.List.{range_with_len}
 use Rattle.std.specs.Cmp.{both_ways}
-use Rattle.std.proofs.lemmas.Bool.{and_from, and_parts, and_right, lt-ltb, le-ltb, ltb-true, true≢false, cases_eq}
+use Rattle.std.proofs.lemmas.Bool.{and_from, and_parts, lt-ltb, le-ltb, ltb-true, true≢false, cases_eq}
 use Rattle.std.proofs.lemmas.List.{length-set, length-replicate}
 use Rattle.std.proofs.lemmas.List.FromFn.{length-range_with_len, get_or-range_with_len}
 use Rattle.std.proofs.lemmas.List.Sums.{AllPass-from_list_all, list_all-from_AllPass}
@@ -12,7 +12,7 @@ use Rattle.std.proofs.lemmas.Option.{slice_get-get_or}
 use Rattle.sq_ranges.specs.declared.recon.Range.{Range}
 use Rattle.sq_ranges.specs.OpeningValue.{OpeningValue}
 use Rattle.sq_ranges.specs.Opening.{IsOpening}
-use Rattle.sq_leader.specs.Marks.{none_marked, is_marked, with_mark, all_marked}
+use Rattle.sq_leader.specs.Marks.{none_marked, is_marked, all_marked}
 use Rattle.sq_leader.specs.Segments.{is_into, is_whole, has_all, have_reported}
 use Rattle.sq_leader.specs.declared.fault.FinishFault.{FinishFault}
 use Rattle.sq_leader.specs.declared.leader.Refused.{Refused}

@@ -1,6 +1,6 @@
 mod JobIds
 mod JobRuns
-mod Driven
+pub mod Driven
 mod ReceiptIds
 mod NodeReads
 mod Counts

@@ -1,14 +1,13 @@
 -- The nodes of trees that are to be completed, once one of them was, or none.
-use Rattle.std.proofs.Common.{◌≡◌, ℕ, ◌<◌, Bool, true, false, List, length, get_or, set, Some, refl, sym, ap, ◌∙◌, subst, inl, inr, ⊎_elim, arith}
+use Rattle.std.proofs.Common.{◌≡◌, ℕ, ◌<◌, Bool, true, false, List, length, refl, sym, ap, ◌∙◌, subst, inl, inr, ⊎_elim}
 use Rattle.std.specs.Prelude.{◌⊎◌, ◌≢◌, ◌==◌, Contains, remove, slice_get}
 use Rattle.std.proofs.lemmas.Bool.Decides.{eqb_tells}
-use Rattle.std.proofs.lemmas.Option.{same_Some, slice_get_read}
+use Rattle.std.proofs.lemmas.Option.{same_Some}
 use Rattle.sq_model.proofs.Lists.{Contains-slice_get, slice_get-Contains}
 use Rattle.sq_status.specs.declared.view.View.{View}
 use Rattle.sq_status.specs.Seat.{SeatValue}
 use Rattle.sq_exec.specs.Runs.{is_whole}
 use Rattle.sq_exec.specs.CoreValue.{CoreValue, loaded_at}
-use Rattle.sq_pull.specs.Seats.{StepsAt}
 use Rattle.sq_node_model.proofs.Members.{set_new, removed_stood, removed_kept}
 use Rattle.sq_node.specs.Settled.{IsSettled, HasSettled, IsNode}
 use Rattle.sq_node.specs.NodeState.{NodeState}

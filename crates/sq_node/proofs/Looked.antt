@@ -1,11 +1,11 @@
 -- Looks at nodes, and what they leave as it was.
-use Rattle.std.proofs.Common.{◌≡◌, ℕ, ◌+◌, ◌<◌, ◌≤◌, Bool, true, false, List, [], ◌∷◌, ◌++◌, length, get_or, set, Option, Some, None, refl, sym, ap, ◌∙◌, subst, inl, inr, ⊎_elim, append_assoc, arith, below_more}
-use Rattle.std.specs.Prelude.{◌⊎◌, ◌≢◌, ◌==◌, Contains, remove, slice_get, slice_set, Result, Ok, Err, is_ok, is_err, MatchResult, MatchBool}
+use Rattle.std.proofs.Common.{◌≡◌, ℕ, ◌+◌, ◌<◌, Bool, true, false, List, [], ◌∷◌, ◌++◌, length, get_or, Some, refl, sym, ap, ◌∙◌, subst, inl, inr, ⊎_elim, append_assoc, arith}
+use Rattle.std.specs.Prelude.{◌⊎◌, ◌≢◌, ◌==◌, slice_get, slice_set, Result, Ok, Err, is_ok, MatchResult, MatchBool}
 use Rattle.std.proofs.lemmas.Bool.{eqb-true}
 use Rattle.std.proofs.lemmas.Bool.Decides.{eqb_tells}
-use Rattle.std.proofs.lemmas.List.{length-map, length-set}
+use Rattle.std.proofs.lemmas.List.{length-set}
 use Rattle.std.proofs.lemmas.List.Elements.{Contains-append_right, Contains-append_left}
-use Rattle.std.proofs.lemmas.Option.{same_Some, slice_get_within, slice_get-get_or, slice_get_read}
+use Rattle.std.proofs.lemmas.Option.{same_Some, slice_get_within, slice_get-get_or}
 use Rattle.sq_tree.specs.declared.status.Status.{Status}
 use Rattle.sq_tree.specs.declared.status.Status.TheVariants.{Free, Split, Claimed, Partial, Complete}
 use Rattle.sq_tree.specs.declared.fault.BeginFault.{BeginFault}
@@ -22,9 +22,9 @@ use Rattle.atomic_table.specs.Seated.{TableId}
 use Rattle.sq_status.specs.Seat.{SeatValue, IsSameSeat}
 use Rattle.sq_pull.specs.Seats.{AreSeatsOf, StepsAt}
 use Rattle.sq_pull.proofs.Stepped.{steps_at, seats_stay}
-use Rattle.sq_node_model.proofs.Members.{set_stood, set_kept, set_new, removed_kept}
+use Rattle.sq_node_model.proofs.Members.{set_stood, set_kept, set_new}
 use Rattle.sq_node.specs.Settled.{IsSettled, HasSettled}
-use Rattle.sq_node.specs.Looks.{OnlyLooked, SeatsLooked, FoundElse, HasNoneToComplete, LooksOnly, LooksAndCompletes, CompletesOne, CompletesNone}
+use Rattle.sq_node.specs.Looks.{OnlyLooked, SeatsLooked, FoundElse, HasNoneToComplete, LooksOnly, LooksAndCompletes}
 
 eq_or_not : (a b : ℕ) → (a ≡ b) ⊎ (a ≢ b)
 eq_or_not a b = ⊎_elim (λ (same : ((a == b) ≡ true) × (a ≡ b)). inl same.1) (λ (apart : ((a == b) ≡ false) × (a ≢ b)). inr apart.1) (eqb_tells a b)

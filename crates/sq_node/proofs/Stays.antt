@@ -18,8 +18,6 @@ use Rattle.sq_pull.specs.Seats.{AreSeatsOf}
 use Rattle.sq_pull.proofs.Stepped.{seats_stay}
 use Rattle.sq_node_model.specs.NodeValue.{put}
 use Rattle.sq_node_model.proofs.Puts.{put_each, put_set, put_still}
-use Rattle.sq_node.specs.declared.ends.SendEnd.{SendEnd}
-use Rattle.sq_node.specs.declared.ends.RecvEnd.{RecvEnd}
 use Rattle.sq_node.specs.declared.stepped.Stepped.{Stepped}
 use Rattle.sq_node.specs.declared.stepped.Stepped.TheVariants.{Did, Nothing, Memory}
 use Rattle.sq_node.specs.FabricValue.{FabricValue}

@@ -2,7 +2,7 @@
 use Rattle.std.specs.Prelude.{◌≡◌, ℕ, ◌<◌, ◌==◌, ◌&&◌, List, [], ◌∷◌, ◌++◌, length, position, slice_index_or, Option, Some, None, option_map}
 use Rattle.atomic_table.specs.Seated.{TableId}
 use Rattle.sq_chunk.specs.ChunkValue.{ChunkValue}
-use Rattle.sq_link.specs.Values.{LinkValue, SendValue, RecvValue}
+use Rattle.sq_link.specs.Values.{LinkValue}
 use Rattle.sq_node.specs.declared.ends.SendEnd.{SendEnd}
 use Rattle.sq_node.specs.declared.ends.RecvEnd.{RecvEnd}
 

@@ -1,4 +1,4 @@
-use Rattle.std.proofs.Common.{◌≡◌, ℕ, List, length, sym, ap, ◌∙◌, subst, rules}
+use Rattle.std.proofs.Common.{◌≡◌, ℕ, List, length, subst, rules}
 use Rattle.sq_link.specs.Values.{LinkValue}
 use Rattle.sq_status.specs.Seat.{SeatValue}
 use Rattle.sq_node.specs.NodeState.{NodeState}

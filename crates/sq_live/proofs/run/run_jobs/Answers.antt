@@ -1,4 +1,4 @@
-use Rattle.std.proofs.Common.{◌≡◌, ℕ, List, ◌++◌, length, take, drop, ap, ◌∙◌, sym, subst, arith}
+use Rattle.std.proofs.Common.{List, sym, subst, arith}
 use Rattle.std.specs.Prelude.{All}
 use Rattle.sq_pull.specs.Pump.{PumpValue}
 use Rattle.sq_node.specs.NodeState.{NodeState, IsNodeOf}

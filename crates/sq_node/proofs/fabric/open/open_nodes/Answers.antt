@@ -1,9 +1,7 @@
-use Rattle.std.proofs.Common.{◌≡◌, ℕ, ◌+◌, ◌<◌, ◌≤◌, List, ◌∷◌, [], ◌++◌, sym, ap, ◌∙◌, subst, arith}
-use Rattle.std.specs.Prelude.{◌≢◌}
+use Rattle.std.proofs.Common.{◌≡◌, ℕ, ◌+◌, ◌≤◌, List, sym, ap, ◌∙◌, subst, arith}
 use Rattle.atomic_table.specs.Seated.{TableId}
 use Rattle.sq_link.specs.Values.{LinkValue}
 use Rattle.sq_node.specs.FabricValue.{FabricValue}
-use Rattle.sq_node.specs.NodeState.{NodeState}
 use Rattle.sq_node.specs.Opened.{AreFirstSeats, HasSendEnds, HasRecvEnds, IsNewNode, AreNewNodes, new_send_end, new_recv_end}
 use Rattle.sq_node.proofs.NewNodes.{gave_one_more, left_ends, more_nodes}
 use Rattle.sq_node.proofs.fabric.open.open_nodes.Goals as goal
