@@ -1,9 +1,8 @@
 -- What becomes of a run: all nodes and all pumps are its nodes and its pumps still.
-use Rattle.std.proofs.Common.{◌≡◌, ℕ, ◌+◌, ◌<◌, List, length, get_or, take, drop, ◌++◌, Some, refl, sym, ap, ◌∙◌, subst, ⊎_elim, arith}
+use Rattle.std.proofs.Common.{◌≡◌, ℕ, ◌+◌, ◌<◌, List, length, get_or, Some, refl, sym, ap, ◌∙◌, subst, ⊎_elim}
 use Rattle.std.specs.Prelude.{◌≢◌, slice_get, slice_set, All}
-use Rattle.std.proofs.Math.Seq.{take-append_seam}
 use Rattle.std.proofs.lemmas.List.{length-set}
-use Rattle.std.proofs.lemmas.Option.{same_Some, slice_get_within, slice_get-get_or, slice_get_read}
+use Rattle.std.proofs.lemmas.Option.{slice_get-get_or, slice_get_read}
 use Rattle.sq_pull.specs.Seats.{AreSeatsOf, OnlyClaimed}
 use Rattle.sq_pull.specs.Pump.{PumpValue}
 use Rattle.sq_node_model.proofs.Members.{set_stood}
@@ -12,8 +11,6 @@ use Rattle.sq_node.specs.NodeState.{NodeState, IsNodeOf}
 use Rattle.sq_node.specs.Opened.{AreFirstSeats}
 use Rattle.sq_node.specs.Steps.{Turns}
 use Rattle.sq_driver.specs.declared.gate.NodeStep.TheVariants.{Job, Request, Cut, Send, Recv, Load, Complete, Resume}
-use Rattle.sq_driver.specs.Nodes.{AllDriven}
-use Rattle.sq_driver.specs.Pumps.{AllPumpsDriven}
 use Rattle.sq_driver.proofs.Parts.{step_part}
 use Rattle.sq_gather.specs.Gathered.{AreAllOf, IsPumpOf}
 use Rattle.sq_gather.proofs.AllOf.{pump_claimed}
@@ -33,9 +30,6 @@ turn_part fabric old new turns =
 -- the node of a place is one of the run
 pub node_at : (fabric : FabricValue) (nodes : List NodeState) (pumps : List PumpValue) (i : ℕ) (node : NodeState) → AreAllOf fabric nodes pumps → i < length nodes → node ≡ get_or nodes i node → IsNodeOf fabric node
 node_at fabric nodes pumps i node whole within read = (whole.each_node i node (slice_get_read nodes (length nodes) i node refl within read)).0
-
-pub pump_at : (fabric : FabricValue) (nodes : List NodeState) (pumps : List PumpValue) (i : ℕ) (pump : PumpValue) → AreAllOf fabric nodes pumps → i < length pumps → pump ≡ get_or pumps i pump → AreSeatsOf fabric.trees pump.seats
-pump_at fabric nodes pumps i pump whole within read = (whole.each_pump i pump (slice_get_read pumps (length pumps) i pump refl within read)).seats
 
 pub all_nodes : (fabric : FabricValue) (nodes : List NodeState) (pumps : List PumpValue) → AreAllOf fabric nodes pumps → All (IsNodeOf fabric) nodes
 all_nodes fabric nodes pumps whole = λ i d within. (whole.each_node i (get_or nodes i d) (slice_get-get_or nodes i d within)).0
@@ -78,30 +72,3 @@ with_pump fabric nodes pumps i old new whole within read of claims =
           (λ (apart : (k ≢ i) × (slice_get pumps k ≡ Some pump)). whole.each_pump k pump apart.1)
           (set_stood pumps i k new pump there);
     }
-
--- all were driven
-pub all_driven : (fabric : FabricValue) (nodes driven : List NodeState) (pumps claimed : List PumpValue) → AreAllOf fabric nodes pumps → AllDriven fabric nodes driven → AllPumpsDriven fabric pumps claimed → AreAllOf fabric driven claimed
-all_driven fabric nodes driven pumps claimed whole by_nodes by_pumps =
-    record {
-      seats = subst (λ (given : ℕ). AreFirstSeats given fabric.trees fabric.seats) (λ k. sym by_nodes.count k + sym by_pumps.count k) whole.seats;
-      count = by_nodes.count ∙ whole.count;
-      ends = whole.ends;
-      each_node = λ k node there.
-          let within : k < length nodes = omega (arith, slice_get_within driven k node there, by_nodes.count) in
-          let is : get_or driven k node ≡ node = same_Some _ _ (sym (slice_get-get_or driven k node (slice_get_within driven k node there)) ∙ there) in
-          let old = whole.each_node k (get_or nodes k node) (slice_get-get_or nodes k node within) in
-          let by = by_nodes.each k node within in (
-            subst (IsNodeOf fabric) is by.stays,
-            ap (λ (n : NodeState). n.core.part) (sym is) ∙ by.part ∙ old.1,
-          );
-      each_pump = λ k pump there.
-          let within : k < length pumps = omega (arith, slice_get_within claimed k pump there, by_pumps.count) in
-          let is : get_or claimed k pump ≡ pump = same_Some _ _ (sym (slice_get-get_or claimed k pump (slice_get_within claimed k pump there)) ∙ there) in
-          let old = whole.each_pump k (get_or pumps k pump) (slice_get-get_or pumps k pump within) in
-          let by = by_pumps.each k pump within in
-          subst (IsPumpOf fabric) is (pump_claimed fabric (get_or pumps k pump) (get_or claimed k pump) old by.stays by.claims);
-    }
-
--- what stands in a vector once another list was written over all of it
-pub written : {X : Type 0} (n : ℕ) (new old : List X) → n ≡ length old → length new ≡ length old → take n (new ++ drop (length new) old) ≡ new
-written n new old all same = ap (λ (k : ℕ). take k (new ++ drop (length new) old)) (all ∙ sym same) ∙ take-append_seam new (drop (length new) old)

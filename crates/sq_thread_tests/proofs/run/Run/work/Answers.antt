@@ -6,7 +6,8 @@ use Rattle.sq_pull.specs.Seats.{AreSeatsOf}
 use Rattle.sq_gather.specs.Gathered.{AreAllOf}
 use Rattle.sq_driver.specs.Nodes.{AllDriven}
 use Rattle.sq_driver.specs.Pumps.{AllPumpsDriven}
-use Rattle.sq_thread_tests.proofs.Whole.{all_nodes, all_pumps, all_driven, written}
+use Rattle.sq_live.proofs.Driven.{written, all_driven}
+use Rattle.sq_thread_tests.proofs.Whole.{all_nodes, all_pumps}
 use Rattle.sq_thread_tests.proofs.run.Run.work.Goals as goal
 
 pub run_workers-requires-clause-nodes : goal.run_workers-requires-clause-nodes
@@ -28,8 +29,8 @@ invariant_of-self g c =
     subst (λ (old : List NodeState). AllDriven run.fabric old nodes) c.deref_mut.ensures.value c.run_workers.ensures.nodes in
     let by_pumps : AllPumpsDriven run.fabric run.pumps.items pumps =
     subst (λ (old : List PumpValue). AllPumpsDriven run.fabric old pumps) c.deref_mut-2.ensures.value c.run_workers.ensures.pumps in
-    let all_nodes_are = written run.nodes.len nodes run.nodes.items (omega (arith, run.nodes.ok.0)) by_nodes.count in
-    let all_pumps_are = written run.pumps.len pumps run.pumps.items (omega (arith, run.pumps.ok.0)) by_pumps.count in
+    let all_nodes_are = written run.nodes.items nodes run.nodes.len (omega (arith, run.nodes.ok.0, by_nodes.count)) in
+    let all_pumps_are = written run.pumps.items pumps run.pumps.len (omega (arith, run.pumps.ok.0, by_pumps.count)) in
     record {
       whole = subst₂ (AreAllOf run.fabric) (sym all_nodes_are) (sym all_pumps_are) (all_driven run.fabric run.nodes.items nodes run.pumps.items pumps run.whole by_nodes by_pumps);
     }
