@@ -1,5 +1,5 @@
 -- The families of the root keys that a partition owns.
-use Rattle.std.proofs.Common.{⊎_elim, ◌≡◌, ℕ, Bool, true, false, [], ◌∷◌, refl, sym, ap, ◌∙◌, arith, true≢false, length}
+use Rattle.std.proofs.Common.{⊎_elim, ◌≡◌, ℕ, Bool, true, false, [], ◌∷◌, refl, sym, ap, ◌∙◌, arith, true≢false, length, List, ◌++◌, append_assoc}
 use Rattle.std.specs.Prelude.{◌+◌, ◌<◌, ◌≢◌, ◌==◌, ◌&&◌, if◌then◌else◌, not, nat_le, nat_lt, map, filter, Option, Some, None, is_some, unwrap_or}
 use Rattle.std.specs.List.{list_all}
 use Rattle.std.specs.Ordering.{nat_cmp, is_lt, eq_by_cmp}
@@ -145,3 +145,16 @@ pub left_out : (plan : PlanValue) (part : ℕ) (entry : ℕ × RowList) (table :
 left_out plan part entry table other =
     ap (λ b. map opened_family (if b then entry ∷ filter (λ (e : ℕ × RowList). owner plan e.0 == part) table else filter (λ (e : ℕ × RowList). owner plan e.0 == part) table))
     other
+
+-- the families so far, with those of the root keys that are left, once the first of these is taken: it is one more, or it is left out
+module _ (plan : PlanValue) (part : ℕ) (entry : ℕ × RowList) (table left : TableValue) (next : left ≡ entry ∷ table) (before all : List FamilyValue) (so_far : before ++ opened_families plan part left ≡ all) where
+  pub next_kept : (owner plan entry.0 == part) ≡ true → (family : FamilyValue) → family ≡ opened_family entry → (pushed : List FamilyValue) → pushed ≡ before ++ family ∷ [] → pushed ++ opened_families plan part table ≡ all
+  next_kept owned family is pushed push =
+      ap (λ xs. xs ++ opened_families plan part table) push
+      ∙ append_assoc before (family ∷ []) (opened_families plan part table)
+      ∙ ap (λ (x : FamilyValue). before ++ (x ∷ opened_families plan part table)) is
+      ∙ ap (λ xs. before ++ xs) (sym (ap (opened_families plan part) next ∙ kept plan part entry table owned))
+      ∙ so_far
+
+  pub next_left_out : (owner plan entry.0 == part) ≡ false → before ++ opened_families plan part table ≡ all
+  next_left_out other = ap (λ xs. before ++ xs) (sym (ap (opened_families plan part) next ∙ left_out plan part entry table other)) ∙ so_far

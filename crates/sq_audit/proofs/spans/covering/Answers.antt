@@ -1,28 +1,29 @@
-use Rattle.std.proofs.Common.{rules, nat_le, sym, ap, ◌∙◌}
+use Rattle.std.proofs.Common.{rules, ◌≡◌, nat_le, true, false, sym, ap, ◌∙◌}
+use Rattle.std.specs.List.Sorted.{IsPartitionedBy, IsPartitionPoint}
 use Rattle.std.specs.Prelude.{option_map}
 use Rattle.std.proofs.lemmas.Fn.{always_returns_same}
 use Rattle.sq_audit.specs.Spans.{marked_of}
 use Rattle.sq_audit.proofs.Spanning.{nothing_covers, last_covers, last_ends}
 use Rattle.sq_audit.proofs.spans.covering.Goals as goal
+use Rattle.sq_audit.proofs.spans.covering.Goals.{After-partition_point-count}
+
+-- the spans that begin at the key or before it stand before the others, where they stand by key
+parted : (c : After-partition_point-count) → let spans = c.args.spans.now in
+    IsPartitionedBy (λ span. nat_le span.note.now.lo c.args.key) spans
+    → IsPartitionPoint (λ span. nat_le span.note.now.lo c.args.key ≡ true) (λ span. nat_le span.note.now.lo c.args.key ≡ false) spans c.partition_point-count.result
+parted c = c.partition_point-count.ensures.partitioned (λ span. nat_le span.note.now.lo c.args.key) (always_returns_same _ _ _ (λ a r f k. search rules))
 
 pub returns-in_err-last : goal.returns-in_err-last
 returns-in_err-last c =
-    let point = c.partition_point-count.ensures in
     ap (option_map marked_of) c.from_residual.ensures
-    ∙ sym (nothing_covers c.args.spans.now c.requires c.args.key c.partition_point-count.result point.bound
-    (point.partitioned (λ span. nat_le span.note.now.lo c.args.key) (always_returns_same _ _ _ (λ a r f k. search rules)))
-    c.in_err-last.ensures.value)
+    ∙ sym (nothing_covers c.args.spans.now c.requires c.args.key c.partition_point-count.result c.partition_point-count.ensures.bound (parted (goal.at.returns-in_err-last c).After-partition_point-count) c.in_err-last.ensures.value)
 
 pub returns-then-key-last : goal.returns-then-key-last
 returns-then-key-last c =
-    let point = c.partition_point-count.ensures in
-    sym (last_covers c.args.spans.now c.requires c.args.key c.partition_point-count.result point.bound
-    (point.partitioned (λ span. nat_le span.note.now.lo c.args.key) (always_returns_same _ _ _ (λ a r f k. search rules)))
+    sym (last_covers c.args.spans.now c.requires c.args.key c.partition_point-count.result c.partition_point-count.ensures.bound (parted (goal.at.returns-then-key-last c).After-partition_point-count)
     c.in_ok-last.last.now c.in_ok-last.ensures.value c.if-key-last.true)
 
 pub returns-else-key-last : goal.returns-else-key-last
 returns-else-key-last c =
-    let point = c.partition_point-count.ensures in
-    sym (last_ends c.args.spans.now c.requires c.args.key c.partition_point-count.result point.bound
-    (point.partitioned (λ span. nat_le span.note.now.lo c.args.key) (always_returns_same _ _ _ (λ a r f k. search rules)))
+    sym (last_ends c.args.spans.now c.requires c.args.key c.partition_point-count.result c.partition_point-count.ensures.bound (parted (goal.at.returns-else-key-last c).After-partition_point-count)
     c.in_ok-last.last.now c.in_ok-last.ensures.value c.if-key-last.false)

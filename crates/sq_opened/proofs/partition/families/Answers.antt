@@ -10,7 +10,7 @@ use Rattle.sq_schema.specs.Rows.{is_rooted}
 use Rattle.sq_schema.specs.Table.{is_opening}
 use Rattle.std.proofs.lemmas.Bool.{and_parts}
 use Rattle.sq_opened.specs.Opened.{opened_family, opened_families}
-use Rattle.sq_opened.proofs.Families.{kept, left_out}
+use Rattle.sq_opened.proofs.Families.{next_kept, next_left_out}
 use Rattle.sq_opened.proofs.partition.families.Goals as goal
 
 abbrev has_rows : ℕ × RowList → Type 0
@@ -33,38 +33,23 @@ opened-requires c =
 
 pub loop-root-preserved-in_ok-push : goal.loop-root-preserved-in_ok-push
 loop-root-preserved-in_ok-push c =
-    let plan = c.args.plan.now in
-    let part = c.args.part in
-    let before = c.loop-root.families.items in
-    let rest = c.next.new.self in
-    let root = c.in-Some.root.now in
-    let rows = c.in-Some.rows.now in
-    let family : c.in-Ok.family ≡ opened_family (root, rows) = c.in-Ok.ensures.ok ∙ ap (λ (given : RowList). opened_family (root, given)) c.in_ok-clone.ensures.cases in
-    let owned : (owner plan root == part) ≡ true = ap (λ (k : ℕ). k == part) (sym c.owner.ensures.owner) ∙ sym c.eq.ensures ∙ c.if-eq.true in (
+    let entry : ℕ × RowList = (c.in-Some.root.now, c.in-Some.rows.now) in
+    let family : c.in-Ok.family ≡ opened_family entry = c.in-Ok.ensures.ok ∙ ap (λ (given : RowList). opened_family (entry.0, given)) c.in_ok-clone.ensures.cases in
+    let owned : (owner c.args.plan.now entry.0 == c.args.part) ≡ true = ap (λ (k : ℕ). k == c.args.part) (sym c.owner.ensures.owner) ∙ sym c.eq.ensures ∙ c.if-eq.true in (
       tt,
       tt,
-      ap (λ xs. xs ++ opened_families plan part rest) c.in_ok-push.ensures.items
-          ∙ append_assoc before (c.in-Ok.family ∷ []) (opened_families plan part rest)
-          ∙ ap (λ (x : FamilyValue). before ++ (x ∷ opened_families plan part rest)) family
-          ∙ ap (λ xs. before ++ xs) (sym (ap (opened_families plan part) c.in-Some.ensures.steps ∙ kept plan part (root, rows) rest owned))
-          ∙ c.loop-root.invariant.2,
-      All-tail has_rows (root, rows) rest (subst (AllPass (λ (entry : ℕ × RowList). is_opening entry.1)) c.in-Some.ensures.steps c.loop-root.invariant.3),
+      next_kept c.args.plan.now c.args.part entry c.next.new.self _ c.in-Some.ensures.steps c.loop-root.families.items _ c.loop-root.invariant.2 owned c.in-Ok.family family _ c.in_ok-push.ensures.items,
+      All-tail has_rows entry c.next.new.self (subst (AllPass (λ (entry : ℕ × RowList). is_opening entry.1)) c.in-Some.ensures.steps c.loop-root.invariant.3),
     )
 
 pub loop-root-preserved : goal.loop-root-preserved
 loop-root-preserved c =
-    let plan = c.args.plan.now in
-    let part = c.args.part in
-    let before = c.loop-root.families.items in
-    let rest = c.next.new.self in
-    let root = c.in-Some.root.now in
-    let rows = c.in-Some.rows.now in
-    let other : (owner plan root == part) ≡ false = ap (λ (k : ℕ). k == part) (sym c.owner.ensures.owner) ∙ sym c.eq.ensures ∙ c.if-eq.false in (
+    let entry : ℕ × RowList = (c.in-Some.root.now, c.in-Some.rows.now) in
+    let other : (owner c.args.plan.now entry.0 == c.args.part) ≡ false = ap (λ (k : ℕ). k == c.args.part) (sym c.owner.ensures.owner) ∙ sym c.eq.ensures ∙ c.if-eq.false in (
       tt,
       tt,
-      ap (λ xs. before ++ xs) (sym (ap (opened_families plan part) c.in-Some.ensures.steps ∙ left_out plan part (root, rows) rest other))
-          ∙ c.loop-root.invariant.2,
-      All-tail has_rows (root, rows) rest (subst (AllPass (λ (entry : ℕ × RowList). is_opening entry.1)) c.in-Some.ensures.steps c.loop-root.invariant.3),
+      next_left_out c.args.plan.now c.args.part entry c.next.new.self _ c.in-Some.ensures.steps c.loop-root.families.items _ c.loop-root.invariant.2 other,
+      All-tail has_rows entry c.next.new.self (subst (AllPass (λ (entry : ℕ × RowList). is_opening entry.1)) c.in-Some.ensures.steps c.loop-root.invariant.3),
     )
 
 pub returns : goal.returns
