@@ -290,7 +290,7 @@ complete_loaded o ((Begin seg node pull, Done) ∷ t) legal g n complete =
     (λ same there is. absurd (true≢false (sym is))) (complete_loaded o t legal.1 g n) complete
 complete_loaded o ((Complete_step seg node pull, Done) ∷ t) legal g n complete =
     set_if_at (λ st. is_complete st ≡ true → has_last g n (loads t) ≡ true) seg node (Complete pull) g n (status_of t g n)
-    (λ same there is. subst₂ (λ a b. has_last a b (loads t) ≡ true) same there (complete_goes o t seg node pull legal.0).loaded) (complete_loaded o t legal.1 g n) complete
+    (λ same there is. subst₂ (λ a b. has_last a b (loads t) ≡ true) same there (complete_goes o t seg node pull legal.0).held.0) (complete_loaded o t legal.1 g n) complete
 complete_loaded o ((Load src dst, WasLoaded note families) ∷ t) legal g n complete =
     or_right (is_about g n note && note.last) (has_last g n (loads t)) (complete_loaded o t legal.1 g n complete)
 complete_loaded o ((step, given) ∷ t) legal g n complete = complete_loaded o t legal.1 g n complete

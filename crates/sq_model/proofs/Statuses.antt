@@ -8,8 +8,8 @@ use Rattle.std.proofs.lemmas.List.Elements.{Contains-push, Contains-push_cases, 
 use Rattle.std.proofs.lemmas.Map.Keys.{IsDistinct-push}
 use Rattle.sq_tree.specs.declared.status.Status.{Status}
 use Rattle.sq_tree.specs.declared.status.Status.TheVariants.{Free, Split, Claimed, Partial, Complete}
-use Rattle.sq_tree.specs.Node.{is_node}
-use Rattle.sq_tree.specs.Status.{is_free, is_split, is_begun, is_past, pull_of}
+use Rattle.sq_tree.specs.Node.{is_node, is_leaf}
+use Rattle.sq_tree.specs.Status.{is_free, is_split, is_live, is_begun, is_past, pull_of}
 use Rattle.sq_tree.specs.Tree.{IsGrown}
 use Rattle.sq_tree.proofs.Changed.{set_at}
 use Rattle.sq_tree.proofs.Grown.{grown-free, grown-set_at}
@@ -28,11 +28,13 @@ use Rattle.sq_model.proofs.Steps.{split_goes, claim_goes, begin_goes, complete_g
 set_if-set_at : (sts : ℕ → ℕ → Status) (seg node g : ℕ) (st : Status) (n : ℕ) → set_if seg node st g n (sts g n) ≡ (if seg == g then set_at (sts seg) node st n else sts g n)
 set_if-set_at sts seg node g st n = grind (arith, nat_tests)
 
-grown-set_if : (sts : ℕ → ℕ → Status) (seg node g : ℕ) (st : Status) → IsGrown (sts g) → IsGrown (set_at (sts seg) node st) → IsGrown (λ n. set_if seg node st g n (sts g n))
-grown-set_if sts seg node g st other here =
+-- so they are grown as before, where a live node that isn't split is set
+grown-set_if : (sts : ℕ → ℕ → Status) (seg node g : ℕ) (st : Status) → IsGrown (sts g) → IsGrown (sts seg) → IsTrue (is_node node) → is_live (sts seg) node ≡ true → is_split (sts seg node) ≡ false → (is_leaf node ≡ true → is_split st ≡ false)
+    → IsGrown (λ n. set_if seg node st g n (sts g n))
+grown-set_if sts seg node g st other before exists live whole leaf =
     subst IsGrown (λ i n. sym (set_if-set_at sts seg node g st n) i)
     (elim (cases_Bool (seg == g)) [
-      | inl same ↦ subst (λ b. IsGrown (λ n. if b then set_at (sts seg) node st n else sts g n)) (sym same) here
+      | inl same ↦ subst (λ b. IsGrown (λ n. if b then set_at (sts seg) node st n else sts g n)) (sym same) (grown-set_at (sts seg) node st before exists live whole leaf)
       | inr apart ↦ subst (λ b. IsGrown (λ n. if b then set_at (sts seg) node st n else sts g n)) (sym apart) other
     ])
 
@@ -41,26 +43,19 @@ pub grown : (o : OpeningValue) (t : Trace) → IsLegal o t → (g : ℕ) → IsG
 grown o [] legal g = grown-free (λ n. Free) (λ n. refl)
 grown o ((Split_step seg node, Done) ∷ t) legal g =
     let goes = split_goes o t seg node legal.0 in
-    let was = goes.splits in
-    grown-set_if (status_of t) seg node g Split (grown o t legal.1 g)
-    (grown-set_at (status_of t seg) node Split (grown o t legal.1 seg) goes.exists was.live (ap is_split was.free) (λ leaf. absurd (true≢false (sym leaf ∙ was.inner))))
+    let was = goes.held in
+    grown-set_if (status_of t) seg node g Split (grown o t legal.1 g) (grown o t legal.1 seg) goes.exists was.live (ap is_split was.free) (λ leaf. absurd (true≢false (sym leaf ∙ was.inner)))
 grown o ((Claim seg node pull, Done) ∷ t) legal g =
     let goes = claim_goes o t seg node pull legal.0 in
-    let was = goes.claims in
-    grown-set_if (status_of t) seg node g (Claimed pull) (grown o t legal.1 g)
-    (grown-set_at (status_of t seg) node (Claimed pull) (grown o t legal.1 seg) goes.exists was.live (ap is_split was.free) (λ leaf. refl))
+    grown-set_if (status_of t) seg node g (Claimed pull) (grown o t legal.1 g) (grown o t legal.1 seg) goes.exists goes.held.live (ap is_split goes.held.free) (λ leaf. refl)
 grown o ((Begin seg node pull, Done) ∷ t) legal g =
     let goes = begin_goes o t seg node pull legal.0 in
-    let was = goes.begins in
     let before = grown o t legal.1 seg in
-    grown-set_if (status_of t) seg node g (Partial pull) (grown o t legal.1 g)
-    (grown-set_at (status_of t seg) node (Partial pull) before goes.exists (before.live node (ap is_free was.claimed)) (ap is_split was.claimed) (λ leaf. refl))
+    grown-set_if (status_of t) seg node g (Partial pull) (grown o t legal.1 g) before goes.exists (before.live node (ap is_free goes.held)) (ap is_split goes.held) (λ leaf. refl)
 grown o ((Complete_step seg node pull, Done) ∷ t) legal g =
     let goes = complete_goes o t seg node pull legal.0 in
-    let was = goes.completes in
     let before = grown o t legal.1 seg in
-    grown-set_if (status_of t) seg node g (Complete pull) (grown o t legal.1 g)
-    (grown-set_at (status_of t seg) node (Complete pull) before goes.exists (before.live node (ap is_free was.begun)) (ap is_split was.begun) (λ leaf. refl))
+    grown-set_if (status_of t) seg node g (Complete pull) (grown o t legal.1 g) before goes.exists (before.live node (ap is_free goes.held.1)) (ap is_split goes.held.1) (λ leaf. refl)
 grown o ((step, given) ∷ t) legal g = grown o t legal.1 g
 
 -- what is set at a node is there, and the others keep what they have
@@ -84,19 +79,19 @@ is_past-same (Complete p) = eq-eqb p p refl
 pub later : (o : OpeningValue) (t : Trace) (step : Step) (given : Answer) → IsLegal o ((step, given) ∷ t) → (g n : ℕ) → is_past (status_of t g n) (status_of ((step, given) ∷ t) g n) ≡ true
 later o t (Split_step seg node) Done legal g n =
     set_if_at (λ st. is_past (status_of t g n) st ≡ true) seg node Split g n (status_of t g n)
-    (λ same there. let was = (split_goes o t seg node legal.0).splits.free in let e : status_of t g n ≡ Free = cc in subst (λ st. is_past st Split ≡ true) (sym e) refl)
+    (λ same there. let was = (split_goes o t seg node legal.0).held.free in let e : status_of t g n ≡ Free = cc in subst (λ st. is_past st Split ≡ true) (sym e) refl)
     (is_past-same (status_of t g n))
 later o t (Claim seg node pull) Done legal g n =
     set_if_at (λ st. is_past (status_of t g n) st ≡ true) seg node (Claimed pull) g n (status_of t g n)
-    (λ same there. let was = (claim_goes o t seg node pull legal.0).claims.free in let e : status_of t g n ≡ Free = cc in subst (λ st. is_past st (Claimed pull) ≡ true) (sym e) refl)
+    (λ same there. let was = (claim_goes o t seg node pull legal.0).held.free in let e : status_of t g n ≡ Free = cc in subst (λ st. is_past st (Claimed pull) ≡ true) (sym e) refl)
     (is_past-same (status_of t g n))
 later o t (Begin seg node pull) Done legal g n =
     set_if_at (λ st. is_past (status_of t g n) st ≡ true) seg node (Partial pull) g n (status_of t g n)
-    (λ same there. let was = (begin_goes o t seg node pull legal.0).begins.claimed in let e : status_of t g n ≡ Claimed pull = cc in subst (λ st. is_past st (Partial pull) ≡ true) (sym e) (eq-eqb pull pull refl))
+    (λ same there. let was = (begin_goes o t seg node pull legal.0).held in let e : status_of t g n ≡ Claimed pull = cc in subst (λ st. is_past st (Partial pull) ≡ true) (sym e) (eq-eqb pull pull refl))
     (is_past-same (status_of t g n))
 later o t (Complete_step seg node pull) Done legal g n =
     set_if_at (λ st. is_past (status_of t g n) st ≡ true) seg node (Complete pull) g n (status_of t g n)
-    (λ same there. let was = (complete_goes o t seg node pull legal.0).completes.begun in let e : status_of t g n ≡ Partial pull = cc in subst (λ st. is_past st (Complete pull) ≡ true) (sym e) (eq-eqb pull pull refl))
+    (λ same there. let was = (complete_goes o t seg node pull legal.0).held.1 in let e : status_of t g n ≡ Partial pull = cc in subst (λ st. is_past st (Complete pull) ≡ true) (sym e) (eq-eqb pull pull refl))
     (is_past-same (status_of t g n))
 later o t step given legal g n = is_past-same (status_of t g n)
 
@@ -177,7 +172,7 @@ begun_item o ((Begin seg node pull, Done) ∷ t) legal g n begun =
 begun_item o ((Complete_step seg node pull, Done) ∷ t) legal g n begun =
     set_if_at (λ st. is_begun st ≡ true → Contains (items t) (item_for g n st)) seg node (Complete pull) g n (status_of t g n)
     (λ same there is.
-    let was = (complete_goes o t seg node pull legal.0).completes.begun in
+    let was = (complete_goes o t seg node pull legal.0).held.1 in
     let e : status_of t g n ≡ Partial pull = cc in
     subst (λ p. Contains (items t) (record { seg = g; node = n; pull = p })) (ap pull_of e) (begun_item o t legal.1 g n (ap is_begun e)))
     (begun_item o t legal.1 g n) begun
@@ -206,7 +201,7 @@ distinct_items o ((Begin seg node pull, Done) ∷ t) legal =
     let same = eqb-true seg other.0.seg parts.0 in
     let there = eqb-true node other.0.node parts.1 in
     let begun = item_begun o t legal.1 other.0 other.1 in
-    let was = (begin_goes o t seg node pull legal.0).begins.claimed in
+    let was = (begin_goes o t seg node pull legal.0).held in
     let e : status_of t other.0.seg other.0.node ≡ Claimed pull = cc in
     true≢false (sym begun ∙ ap is_begun e)))
 distinct_items o ((step, given) ∷ t) legal = distinct_items o t legal.1

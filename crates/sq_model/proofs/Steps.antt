@@ -12,7 +12,8 @@ use Rattle.sq_tree.specs.declared.fault.CompleteFault.{CompleteFault}
 use Rattle.sq_tree.specs.declared.fault.CompleteFault.TheVariants as complete
 use Rattle.sq_tree.specs.Node.{is_node}
 use Rattle.sq_tree.specs.Answer.{split_answer, claim_answer, begin_answer, complete_answer}
-use Rattle.sq_tree.proofs.Went.{SplitWent, split_went, ClaimWent, claim_went, BeginWent, begin_went, CompleteWent, complete_went}
+use Rattle.sq_tree.specs.declared.status.Status.TheVariants.{Claimed, Partial}
+use Rattle.sq_tree.proofs.Went.{SplitWent, split_went, ClaimWent, claim_went, begin_went, complete_went}
 use Rattle.sq_chunk.specs.declared.chunk.Note.{Note}
 use Rattle.sq_ranges.specs.ReconValue.{is_link}
 use Rattle.sq_ranges.specs.OpeningValue.{OpeningValue}
@@ -56,24 +57,19 @@ prepare_goes o t part given =
     let a = past (nat_le o.old.parts part) NoSuchPartition _ Done refl (answered o t (Prepare part) Done refl given) in
     (past (is_started t) AlreadyMoving Done Done refl a.1).0
 
--- a step of a node of a tree that went, and what the tree answered it
-record NodeGoes (o : OpeningValue) (seg node : ℕ) (given : Answer) : Type 0 where
-  segment : seg < length o.recon.segments
-  exists : is_node node ≡ true
-  done : Done ≡ given
+-- a step of a node of a tree that went, and what held before it
+pub record NodeGoes (o : OpeningValue) (seg node : ℕ) (Held : Type 0) : Type 0 where
+  pub segment : seg < length o.recon.segments
+  pub exists : is_node node ≡ true
+  pub held : Held
 
-node_goes : (o : OpeningValue) (t : Trace) (step : Step) (seg node : ℕ) (given : Answer) → answer o t step ≡ while_moving t (in_segment o seg (at_node node given)) → IsAnswer o t step Done → NodeGoes o seg node given
-node_goes o t step seg node given is went =
+node_goes : {Held : Type 0} (o : OpeningValue) (t : Trace) (step : Step) (seg node : ℕ) (given : Answer) → answer o t step ≡ while_moving t (in_segment o seg (at_node node given)) → (Done ≡ given → Held) → IsAnswer o t step Done
+    → NodeGoes o seg node Held
+node_goes o t step seg node given is held went =
     let a = past (not (is_moving t)) NotMoving (in_segment o seg (at_node node given)) Done refl (answered o t step Done refl went ∙ is) in
     let b = past (nat_le (length o.recon.segments) seg) NoSuchSegment (at_node node given) Done refl a.1 in
     let c = past (not (is_node node)) NoSuchNode given Done refl b.1 in
-    record { segment = leb-false (length o.recon.segments) seg b.0; exists = not-false (is_node node) c.0; done = c.1 }
-
--- a Split that went
-pub record SplitGoes (o : OpeningValue) (t : Trace) (seg node : ℕ) : Type 0 where
-  pub segment : seg < length o.recon.segments
-  pub exists : is_node node ≡ true
-  pub splits : SplitWent (status_of t seg) node
+    record { segment = leb-false (length o.recon.segments) seg b.0; exists = not-false (is_node node) c.0; held = held c.1 }
 
 split_done : (result : Result (Unit {0}) SplitFault) → Done ≡ split_answered result → result ≡ Ok tt
 split_done (Ok done) e = refl
@@ -81,49 +77,33 @@ split_done (Err split.IsLeaf) e = absurd cc
 split_done (Err split.NotLive) e = absurd cc
 split_done (Err (split.NotFree found)) e = absurd cc
 
-pub split_goes : (o : OpeningValue) (t : Trace) (seg node : ℕ) → IsAnswer o t (Split seg node) Done → SplitGoes o t seg node
+-- a Split that went
+pub split_goes : (o : OpeningValue) (t : Trace) (seg node : ℕ) → IsAnswer o t (Split seg node) Done → NodeGoes o seg node (SplitWent (status_of t seg) node)
 split_goes o t seg node given =
-    let goes = node_goes o t (Split seg node) seg node (split_answered (split_answer (status_of t seg) node)) refl given in
-    record { segment = goes.segment; exists = goes.exists; splits = split_went (status_of t seg) node (split_done (split_answer (status_of t seg) node) goes.done) }
-
--- a Claim that went
-pub record ClaimGoes (o : OpeningValue) (t : Trace) (seg node pull : ℕ) : Type 0 where
-  pub segment : seg < length o.recon.segments
-  pub exists : is_node node ≡ true
-  pub claims : ClaimWent (status_of t seg) node
+    let result = split_answer (status_of t seg) node in
+    node_goes o t (Split seg node) seg node (split_answered result) refl (λ done. split_went (status_of t seg) node (split_done result done)) given
 
 claim_done : (result : Result (Unit {0}) ClaimFault) → Done ≡ claim_answered result → result ≡ Ok tt
 claim_done (Ok done) e = refl
 claim_done (Err claim.NotLive) e = absurd cc
 claim_done (Err (claim.NotFree found)) e = absurd cc
 
-pub claim_goes : (o : OpeningValue) (t : Trace) (seg node pull : ℕ) → IsAnswer o t (Claim seg node pull) Done → ClaimGoes o t seg node pull
+-- a Claim that went
+pub claim_goes : (o : OpeningValue) (t : Trace) (seg node pull : ℕ) → IsAnswer o t (Claim seg node pull) Done → NodeGoes o seg node (ClaimWent (status_of t seg) node)
 claim_goes o t seg node pull given =
-    let goes = node_goes o t (Claim seg node pull) seg node (claim_answered (claim_answer (status_of t seg) node pull)) refl given in
-    record { segment = goes.segment; exists = goes.exists; claims = claim_went (status_of t seg) node pull (claim_done (claim_answer (status_of t seg) node pull) goes.done) }
-
--- a Begin that went
-pub record BeginGoes (o : OpeningValue) (t : Trace) (seg node pull : ℕ) : Type 0 where
-  pub segment : seg < length o.recon.segments
-  pub exists : is_node node ≡ true
-  pub begins : BeginWent (status_of t seg) node pull
+    let result = claim_answer (status_of t seg) node pull in
+    node_goes o t (Claim seg node pull) seg node (claim_answered result) refl (λ done. claim_went (status_of t seg) node pull (claim_done result done)) given
 
 begin_done : (result : Result (Unit {0}) BeginFault) → Done ≡ begin_answered result → result ≡ Ok tt
 begin_done (Ok done) e = refl
 begin_done (Err (begin.NotClaimed found)) e = absurd cc
 begin_done (Err begin.WrongPull) e = absurd cc
 
-pub begin_goes : (o : OpeningValue) (t : Trace) (seg node pull : ℕ) → IsAnswer o t (Begin seg node pull) Done → BeginGoes o t seg node pull
+-- a Begin that went: the pull had claimed the node
+pub begin_goes : (o : OpeningValue) (t : Trace) (seg node pull : ℕ) → IsAnswer o t (Begin seg node pull) Done → NodeGoes o seg node (status_of t seg node ≡ Claimed pull)
 begin_goes o t seg node pull given =
-    let goes = node_goes o t (Begin seg node pull) seg node (begin_answered (begin_answer (status_of t seg) node pull)) refl given in
-    record { segment = goes.segment; exists = goes.exists; begins = begin_went (status_of t seg) node pull (begin_done (begin_answer (status_of t seg) node pull) goes.done) }
-
--- a Complete that went
-pub record CompleteGoes (o : OpeningValue) (t : Trace) (seg node pull : ℕ) : Type 0 where
-  pub segment : seg < length o.recon.segments
-  pub exists : is_node node ≡ true
-  pub completes : CompleteWent (status_of t seg) node pull
-  pub loaded : has_last seg node (loads t) ≡ true
+    let result = begin_answer (status_of t seg) node pull in
+    node_goes o t (Begin seg node pull) seg node (begin_answered result) refl (λ done. begin_went (status_of t seg) node pull (begin_done result done)) given
 
 complete_done : (loaded : Bool) (result : Result (Unit {0}) CompleteFault) → Done ≡ complete_answered loaded result → (loaded ≡ true) × (result ≡ Ok tt)
 complete_done true (Ok done) e = (refl, refl)
@@ -131,11 +111,12 @@ complete_done false (Ok done) e = absurd cc
 complete_done loaded (Err (complete.NotPartial found)) e = absurd cc
 complete_done loaded (Err complete.WrongPull) e = absurd cc
 
-pub complete_goes : (o : OpeningValue) (t : Trace) (seg node pull : ℕ) → IsAnswer o t (Complete seg node pull) Done → CompleteGoes o t seg node pull
+-- a Complete that went: the node's last chunk was loaded, and the pull had begun the node
+pub complete_goes : (o : OpeningValue) (t : Trace) (seg node pull : ℕ) → IsAnswer o t (Complete seg node pull) Done → NodeGoes o seg node ((has_last seg node (loads t) ≡ true) × (status_of t seg node ≡ Partial pull))
 complete_goes o t seg node pull given =
-    let goes = node_goes o t (Complete seg node pull) seg node (complete_answered (has_last seg node (loads t)) (complete_answer (status_of t seg) node pull)) refl given in
-    let completes = complete_done (has_last seg node (loads t)) (complete_answer (status_of t seg) node pull) goes.done in
-    record { segment = goes.segment; exists = goes.exists; completes = complete_went (status_of t seg) node pull completes.1; loaded = completes.0 }
+    let result = complete_answer (status_of t seg) node pull in
+    node_goes o t (Complete seg node pull) seg node (complete_answered (has_last seg node (loads t)) result) refl
+    (λ done. let completes = complete_done (has_last seg node (loads t)) result done in (completes.0, complete_went (status_of t seg) node pull completes.1)) given
 
 -- a Cut that went
 pub record CutGoes (o : OpeningValue) (t : Trace) (src dst : ℕ) (note : Note) (families : ℕ) : Type 0 where

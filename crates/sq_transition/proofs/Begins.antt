@@ -257,6 +257,6 @@ begin_keeps o t w seg node pull facts h =
     subst (λ sts. Keeps o t (Begin seg node pull) (if_done (begin_answered (begin_answer (status_in w seg) node pull)) w (with_begun w seg node pull)) (begin_answered (begin_answer sts node pull)))
     (statuses_same o t w seg h below)
     (begin_kept o t w (with_begun w seg node pull) (Begin seg node pull) (begin_answer (status_in w seg) node pull) h (λ went.
-    let claimed = subst (λ (sts : ℕ → Status). is_claimed (sts node) ≡ true) (statuses_same o t w seg h below) (ap is_claimed (begin_went (status_in w seg) node pull went).claimed) in
+    let claimed = subst (λ (sts : ℕ → Status). is_claimed (sts node) ≡ true) (statuses_same o t w seg h below) (ap is_claimed (begin_went (status_in w seg) node pull went)) in
     let added : Added o t seg node found.0 = record { there = found.1; fresh = facts.fresh seg node claimed; ends = facts.ends seg found.0 found.1 } in
     begun_holds o t w seg node pull found.0 h below added is (facts.linked seg found.0 found.1))))))

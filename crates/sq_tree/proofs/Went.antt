@@ -17,6 +17,13 @@ holds : (b : Bool) → not b ≡ false → b ≡ true
 holds true e = refl
 holds false e = absurd cc
 
+-- a step of a node that asks for a status, and for the pull that the node is of, went
+of_pull : {F : Type 0} (is : Bool) (by p : ℕ) (other wrong : F) → ◌≡◌ {A = Result (Unit {0}) F} (if not is then Err other else if not (by == p) then Err wrong else Ok tt) (Ok tt) → (is ≡ true) × (by ≡ p)
+of_pull is by p other wrong went =
+    let a = past _ _ _ went in
+    let b = past _ _ _ a.1 in
+    (holds is a.0, eqb-true by p (holds (by == p) b.0))
+
 -- a node was split
 pub record SplitWent (status : ℕ → Status) (n : ℕ) : Type 0 where
   pub inner : is_leaf n ≡ false
@@ -42,23 +49,13 @@ claim_went status n p went =
     record { live = holds (is_live status n) a.0; free = free_is (status n) (holds (is_free (status n)) b.0) }
 
 -- a node was begun
-pub record BeginWent (status : ℕ → Status) (n p : ℕ) : Type 0 where
-  pub claimed : status n ≡ Claimed p
-
-pub begin_went : (status : ℕ → Status) (n p : ℕ) → begin_answer status n p ≡ Ok tt → BeginWent status n p
+pub begin_went : (status : ℕ → Status) (n p : ℕ) → begin_answer status n p ≡ Ok tt → status n ≡ Claimed p
 begin_went status n p went =
-    let a = past _ _ _ went in
-    let b = past _ _ _ a.1 in
-    let pull = eqb-true (pull_of (status n)) p (holds (pull_of (status n) == p) b.0) in
-    record { claimed = claimed_is (status n) (holds (is_claimed (status n)) a.0) ∙ ap Claimed pull }
+    let own = of_pull (is_claimed (status n)) (pull_of (status n)) p _ _ went in
+    claimed_is (status n) own.0 ∙ ap Claimed own.1
 
 -- a node was completed
-pub record CompleteWent (status : ℕ → Status) (n p : ℕ) : Type 0 where
-  pub begun : status n ≡ Partial p
-
-pub complete_went : (status : ℕ → Status) (n p : ℕ) → complete_answer status n p ≡ Ok tt → CompleteWent status n p
+pub complete_went : (status : ℕ → Status) (n p : ℕ) → complete_answer status n p ≡ Ok tt → status n ≡ Partial p
 complete_went status n p went =
-    let a = past _ _ _ went in
-    let b = past _ _ _ a.1 in
-    let pull = eqb-true (pull_of (status n)) p (holds (pull_of (status n) == p) b.0) in
-    record { begun = partial_is (status n) (holds (is_partial (status n)) a.0) ∙ ap Partial pull }
+    let own = of_pull (is_partial (status n)) (pull_of (status n)) p _ _ went in
+    partial_is (status n) own.0 ∙ ap Partial own.1
