@@ -1,6 +1,6 @@
 -- Waiting transactions as a map with its indexes, and the list that they are.
-use Rattle.std.proofs.Common.{⊎_elim, ◌≡◌, ◌≢◌, ℕ, ◌+◌, ◌<◌, ◌≤◌, Bool, true, false, ◌||◌, List, [], ◌∷◌, ◌++◌, map, length, refl, sym, ap, subst, ◌∙◌, arith}
-use Rattle.std.specs.Prelude.{cond, ◌==◌, ◌&&◌, nat_le, find, is_some, IsSome, Option, Some, None, option_map}
+use Rattle.std.proofs.Common.{⊎_elim, ◌≡◌, ◌≢◌, ℕ, ◌+◌, ◌≤◌, Bool, true, false, ◌||◌, List, [], ◌∷◌, ◌++◌, map, length, refl, sym, ap, subst, ◌∙◌, arith}
+use Rattle.std.specs.Prelude.{cond, ◌==◌, ◌&&◌, nat_le, find, is_some, Option, Some, None, option_map}
 use Rattle.std.specs.Option.{option_map_or}
 use Rattle.std.specs.Ordering.{nat_cmp}
 use Rattle.std.specs.Cmp.{unsigned_tied}
@@ -15,7 +15,7 @@ use Rattle.std.proofs.lemmas.List.{map-append, length-map}
 use Rattle.std.proofs.lemmas.Map.Keys.{sorted_tail, IsStrictlyIncreasing-from_sorted}
 use Rattle.sq_schema.specs.TxnValue.{TxnValue}
 use Rattle.sq_waiting.specs.Index.{has_entry, is_between, FirstOf, SetsEntry, HasSameEntries, AddsBetween, HasAllBetween, IsNumberedBetween}
-use Rattle.sq_waiting.specs.Waiting.{Arrival, WaitingValue, numbers_of, is_on, is_numbered, is_due_from, no_number, txn_at, without, numbered_from, with_last, due_if, with_due, IsMoreDue}
+use Rattle.sq_waiting.specs.Waiting.{Arrival, WaitingValue, numbers_of, is_on, is_numbered, is_due_from, txn_at, without, numbered_from, with_last, due_if, with_due, IsMoreDue}
 use Rattle.sq_waiting.specs.Indexed.{arrival_of, arrivals_of, IsIndexed}
 use Rattle.sq_waiting.proofs.Entries.{value_at, at_same, at_other, at_head, at_later, absent_later, find_least, find_none, insert_last}
 use Rattle.sq_waiting.proofs.Arrivals.{find-map, numbered_from-append}
@@ -182,20 +182,6 @@ module _ (txns : BTreeMap ℕ TxnValue) (by_root : BTreeSet (ℕ × ℕ)) (due :
     pub adds_all : HasAllBetween by_root lo hi now → record { arrivals = arrivals_of txns.entries now; next = next } ≡ with_due (λ a. is_between lo hi a.txn.root) (record { arrivals = seen; next = next })
     adds_all all = ap (λ arrivals. record { arrivals = arrivals; next = next }) (more_due txns.entries due now (λ a. is_between lo hi (a.txn).root) is.ordered (λ q txn at. between_due all q txn at))
 
-  -- a number that isn't below the next is nowhere
-  no_txn : (number : ℕ) → next ≤ number → (read : Option TxnValue) → tree.get nat_cmp txns number ≡ read → read ≡ None
-  no_txn number past None at = refl
-  no_txn number past (Some txn) at = absurd (omega (arith, is.below number (ap is_some at), past))
-
-  pub none_next : tree.get nat_cmp txns next ≡ None
-  none_next = no_txn next (omega arith) (tree.get nat_cmp txns next) refl
-
-  pub not_due_next : set.contains nat_cmp due next ≡ false
-  not_due_next = false_from_ne_true (set.contains nat_cmp due next) (λ here. true≢false (sym (is.due next here) ∙ ap is_some none_next))
-
-  pub none_indexed_next : (root : ℕ) → has_entry by_root root next ≡ false
-  none_indexed_next root = is.by_root root next ∙ ap (λ read. option_map_or (λ (t : TxnValue). t.root == root) read false) none_next
-
   -- sets that have what these have
   module _ (again : BTreeSet (ℕ × ℕ)) (now : BTreeSet ℕ) (has : HasSameEntries by_root due again now) (same : BTreeMap ℕ TxnValue) (es : same.entries ≡ txns.entries) where
     pub index_same : IsIndexed same again now next
@@ -207,141 +193,93 @@ module _ (txns : BTreeMap ℕ TxnValue) (by_root : BTreeSet (ℕ × ℕ)) (due :
       due = λ number here. ap (λ es. is_some (value_at es number)) es ∙ is.due number (sym (has.due number) ∙ here);
     }
 
-    pub arrivals_same : arrivals_of same.entries now ≡ seen
-    arrivals_same = ap (λ es. arrivals_of es now) es ∙ same_due txns.entries due now is.ordered (λ q txn at. has.due q)
+  -- one number has this transaction, or none, in the map and in both sets, and the others stay
+  record IsPut (number root : ℕ) (value : Option TxnValue) (stands is_due : Bool) (others : BTreeMap ℕ TxnValue) (indexes : BTreeSet (ℕ × ℕ)) (now : BTreeSet ℕ) : Type 0 where
+    txns_are : (q : ℕ) → tree.get nat_cmp others q ≡ cond (is_at (nat_cmp number) q) value (tree.get nat_cmp txns q)
+    sets : SetsEntry root number stands is_due by_root due indexes now
+
+  module _ {number root : ℕ} {value : Option TxnValue} {stands is_due : Bool} {others : BTreeMap ℕ TxnValue} {indexes : BTreeSet (ℕ × ℕ)} {now : BTreeSet ℕ}
+      (put : IsPut number root value stands is_due others indexes now) where
+    value_here : (q : ℕ) → number ≡ q → tree.get nat_cmp others q ≡ value
+    value_here q same = put.txns_are q ∙ ap (λ b. cond b value (tree.get nat_cmp txns q)) (at_same number q same)
+
+    value_other : (q : ℕ) → number ≢ q → tree.get nat_cmp others q ≡ tree.get nat_cmp txns q
+    value_other q apart = put.txns_are q ∙ ap (λ b. cond b value (tree.get nat_cmp txns q)) (at_other number q apart)
+
+    due_here : (q : ℕ) → number ≡ q → set.contains nat_cmp now q ≡ is_due
+    due_here q same = put.sets.due q ∙ ap (λ b. cond b is_due (set.contains nat_cmp due q)) (eq-eqb number q same)
+
+    due_other : (q : ℕ) → number ≢ q → set.contains nat_cmp now q ≡ set.contains nat_cmp due q
+    due_other q apart = put.sets.due q ∙ ap (λ b. cond b is_due (set.contains nat_cmp due q)) (ne_eqb number q apart)
+
+    put_indexed : ((r : ℕ) → cond (root == r) stands (has_entry by_root r number) ≡ option_map_or (λ t. t.root == r) value false) → (r q : ℕ) → has_entry indexes r q ≡ option_map_or (λ t. t.root == r) (tree.get nat_cmp others q) false
+    put_indexed here r q =
+        ⊎_elim
+        (λ (same : number ≡ q).
+        put.sets.entries r q ∙ ap (λ b. cond ((root == r) && b) stands (has_entry by_root r q)) (eq-eqb number q same)
+        ∙ at_number (root == r) stands (has_entry by_root r q)
+        ∙ ap (λ n. cond (root == r) stands (has_entry by_root r n)) (sym same)
+        ∙ here r
+        ∙ sym (ap (λ read. option_map_or (λ (t : TxnValue). t.root == r) read false) (value_here q same)))
+        (λ (apart : number ≢ q).
+        put.sets.entries r q ∙ ap (λ b. cond ((root == r) && b) stands (has_entry by_root r q)) (ne_eqb number q apart)
+        ∙ elsewhere (root == r) stands (has_entry by_root r q)
+        ∙ is.by_root r q ∙ sym (ap (λ read. option_map_or (λ (t : TxnValue). t.root == r) read false) (value_other q apart)))
+        (cases_eq number q)
+      where
+        at_number : (b c d : Bool) → cond (b && true) c d ≡ cond b c d
+        at_number true c d = refl
+        at_number false c d = refl
+
+        elsewhere : (b c d : Bool) → cond (b && false) c d ≡ d
+        elsewhere true c d = refl
+        elsewhere false c d = refl
 
   -- one more waits
   module _ (txn : TxnValue) (is_due : Bool) (more : BTreeMap ℕ TxnValue) (indexes : BTreeSet (ℕ × ℕ)) (now : BTreeSet ℕ)
       (txns_are : (q : ℕ) → tree.get nat_cmp more q ≡ cond (is_at (nat_cmp next) q) (Some txn) (tree.get nat_cmp txns q))
       (sets : SetsEntry txn.root next true is_due by_root due indexes now) where
-    last_here : (q : ℕ) → next ≡ q → tree.get nat_cmp more q ≡ Some txn
-    last_here q same = txns_are q ∙ ap (λ b. cond b (Some txn) (tree.get nat_cmp txns q)) (at_same next q same)
-
-    last_other : (q : ℕ) → next ≢ q → tree.get nat_cmp more q ≡ tree.get nat_cmp txns q
-    last_other q apart = txns_are q ∙ ap (λ b. cond b (Some txn) (tree.get nat_cmp txns q)) (at_other next q apart)
-
-    due_other : (q : ℕ) → next ≢ q → set.contains nat_cmp now q ≡ set.contains nat_cmp due q
-    due_other q apart = sets.due q ∙ ap (λ b. cond b is_due (set.contains nat_cmp due q)) (ne_eqb next q apart)
-
-    last_indexed : (root number : ℕ) → has_entry indexes root number ≡ option_map_or (λ t. t.root == root) (tree.get nat_cmp more number) false
-    last_indexed root number =
-        ⊎_elim
-        (λ (same : next ≡ number).
-        sets.entries root number ∙ ap (λ b. cond ((txn.root == root) && b) true (has_entry by_root root number)) (eq-eqb next number same)
-        ∙ ap (λ b. cond ((txn.root == root) && true) true b) (ap (has_entry by_root root) (sym same) ∙ none_indexed_next root)
-        ∙ whole (txn.root == root)
-        ∙ sym (ap (λ read. option_map_or (λ (t : TxnValue). t.root == root) read false) (last_here number same)))
-        (λ (apart : next ≢ number).
-        sets.entries root number ∙ ap (λ b. cond ((txn.root == root) && b) true (has_entry by_root root number)) (ne_eqb next number apart)
-        ∙ other (txn.root == root) (has_entry by_root root number)
-        ∙ is.by_root root number ∙ sym (ap (λ read. option_map_or (λ (t : TxnValue). t.root == root) read false) (last_other number apart)))
-        (cases_eq next number)
-      where
-        whole : (b : Bool) → cond (b && true) true false ≡ b
-        whole true = refl
-        whole false = refl
-
-        other : (b c : Bool) → cond (b && false) true c ≡ c
-        other true c = refl
-        other false c = refl
-
-    some_last : (number : ℕ) → IsSome (tree.get nat_cmp txns number) → IsSome (tree.get nat_cmp more number)
-    some_last number there =
-        ⊎_elim (λ (same : next ≡ number). ap is_some (last_here number same)) (λ (apart : next ≢ number). ap is_some (last_other number apart) ∙ there) (cases_eq next number)
-
-    pub index_last : tree.IsOrdered nat_cmp more → next < no_number → IsIndexed more indexes now (next + 1)
-    index_last ordered left = record {
-      ordered = ordered;
-      left = omega (arith, left);
-      below = λ number there.
-          ⊎_elim (λ (same : next ≡ number). omega (arith, same)) (λ (apart : next ≢ number). omega (arith, is.below number (sym (ap is_some (last_other number apart)) ∙ there))) (cases_eq next number);
-      by_root = last_indexed;
-      due = λ number here.
-          ⊎_elim (λ (same : next ≡ number). ap is_some (last_here number same))
-          (λ (apart : next ≢ number). some_last number (is.due number (sym (due_other number apart) ∙ here))) (cases_eq next number);
-    }
+    abbrev last_put : IsPut next txn.root (Some txn) true is_due more indexes now
+    last_put = record { txns_are = txns_are; sets = sets }
 
     pub arrivals_last : more.entries ≡ insert_entry nat_cmp txns.entries next txn
         → record { arrivals = arrivals_of more.entries now; next = next + 1 } ≡ with_last (record { arrivals = seen; next = next }) txn is_due
     arrivals_last es =
-        let here : set.contains nat_cmp now next ≡ is_due = sets.due next ∙ ap (λ b. cond b is_due (set.contains nat_cmp due next)) (eq-eqb next next refl) in
+        let here : set.contains nat_cmp now next ≡ is_due = due_here last_put next refl in
         let kept : arrivals_of txns.entries now ≡ seen =
-        same_due txns.entries due now is.ordered (λ q other at. due_other q (λ same. absurd (omega (arith, same, is.below q (ap is_some at))))) in
+        same_due txns.entries due now is.ordered (λ q other at. due_other last_put q (λ same. absurd (omega (arith, same, is.below q (ap is_some at))))) in
         let entries : more.entries ≡ txns.entries ++ (next, txn) ∷ [] = es ∙ insert_last txns.entries next txn is.ordered is.below in
         ap (λ arrivals. record { arrivals = arrivals; next = next + 1 })
         (ap (λ es. arrivals_of es now) entries ∙ map-append (arrival_of now) txns.entries ((next, txn) ∷ [])
         ∙ (λ k. kept k ++ record { number = next; txn = txn; is_due = here k } ∷ []))
 
-  -- it is struck out again
-  pub struck_same : (root : ℕ) (is_due : Bool) (indexes again : BTreeSet (ℕ × ℕ)) (now back : BTreeSet ℕ) → SetsEntry root next true is_due by_root due indexes now → SetsEntry root next false false indexes now again back
-      → HasSameEntries by_root due again back
-  struck_same root is_due indexes again now back sets strikes = record {
-    entries = λ r n.
-        ⊎_elim
-        (λ (here : ((root == r) && (next == n)) ≡ true).
-        let parts = and_parts (root == r) (next == n) here in
-        strikes.entries r n ∙ ap (λ b. cond b false (has_entry indexes r n)) here
-        ∙ sym (ap (has_entry by_root r) (sym (eqb-true next n parts.1)) ∙ none_indexed_next r))
-        (λ (other : ((root == r) && (next == n)) ≡ false).
-        strikes.entries r n ∙ ap (λ b. cond b false (has_entry indexes r n)) other ∙ sets.entries r n ∙ ap (λ b. cond b true (has_entry by_root r n)) other)
-        (cases_Bool ((root == r) && (next == n)));
-    due = λ n.
-        ⊎_elim
-        (λ (here : (next == n) ≡ true).
-        strikes.due n ∙ ap (λ b. cond b false (set.contains nat_cmp now n)) here ∙ sym (ap (set.contains nat_cmp due) (sym (eqb-true next n here)) ∙ not_due_next))
-        (λ (other : (next == n) ≡ false).
-        strikes.due n ∙ ap (λ b. cond b false (set.contains nat_cmp now n)) other ∙ sets.due n ∙ ap (λ b. cond b is_due (set.contains nat_cmp due n)) other)
-        (cases_Bool (next == n));
-  }
-
   -- one is taken out
   module _ (number : ℕ) (txn : TxnValue) (found : tree.get nat_cmp txns number ≡ Some txn) (left : BTreeMap ℕ TxnValue) (indexes : BTreeSet (ℕ × ℕ)) (now : BTreeSet ℕ)
       (txns_are : (q : ℕ) → tree.get nat_cmp left q ≡ cond (is_at (nat_cmp number) q) None (tree.get nat_cmp txns q))
       (strikes : SetsEntry txn.root number false false by_root due indexes now) where
-    gone_here : (q : ℕ) → number ≡ q → tree.get nat_cmp left q ≡ None
-    gone_here q same = txns_are q ∙ ap (λ b. cond b None (tree.get nat_cmp txns q)) (at_same number q same)
+    abbrev gone_put : IsPut number txn.root None false false left indexes now
+    gone_put = record { txns_are = txns_are; sets = strikes }
 
-    gone_other : (q : ℕ) → number ≢ q → tree.get nat_cmp left q ≡ tree.get nat_cmp txns q
-    gone_other q apart = txns_are q ∙ ap (λ b. cond b None (tree.get nat_cmp txns q)) (at_other number q apart)
-
-    kept_due : (q : ℕ) → number ≢ q → set.contains nat_cmp now q ≡ set.contains nat_cmp due q
-    kept_due q apart = strikes.due q ∙ ap (λ b. cond b false (set.contains nat_cmp due q)) (ne_eqb number q apart)
-
-    gone_indexed : (root q : ℕ) → has_entry indexes root q ≡ option_map_or (λ t. t.root == root) (tree.get nat_cmp left q) false
-    gone_indexed root q =
-        ⊎_elim
-        (λ (same : number ≡ q).
-        strikes.entries root q ∙ ap (λ b. cond ((txn.root == root) && b) false (has_entry by_root root q)) (eq-eqb number q same)
-        ∙ ap (λ b. cond ((txn.root == root) && true) false b) (indexed q txn (ap (tree.get nat_cmp txns) (sym same) ∙ found) root)
-        ∙ nothing (txn.root == root)
-        ∙ sym (ap (λ read. option_map_or (λ (t : TxnValue). t.root == root) read false) (gone_here q same)))
-        (λ (apart : number ≢ q).
-        strikes.entries root q ∙ ap (λ b. cond ((txn.root == root) && b) false (has_entry by_root root q)) (ne_eqb number q apart)
-        ∙ other (txn.root == root) (has_entry by_root root q)
-        ∙ is.by_root root q ∙ sym (ap (λ read. option_map_or (λ (t : TxnValue). t.root == root) read false) (gone_other q apart)))
-        (cases_eq number q)
+    gone_indexed : (root : ℕ) → cond (txn.root == root) false (has_entry by_root root number) ≡ false
+    gone_indexed root = ap (λ b. cond (txn.root == root) false b) (indexed number txn found root) ∙ nothing (txn.root == root)
       where
-        nothing : (b : Bool) → cond (b && true) false b ≡ false
+        nothing : (b : Bool) → cond b false b ≡ false
         nothing true = refl
         nothing false = refl
-
-        other : (b c : Bool) → cond (b && false) false c ≡ c
-        other true c = refl
-        other false c = refl
 
     pub index_gone : tree.IsOrdered nat_cmp left → IsIndexed left indexes now next
     index_gone ordered = record {
       ordered = ordered;
       left = is.left;
       below = λ q there.
-          ⊎_elim (λ (same : number ≡ q). absurd (true≢false (sym there ∙ ap is_some (gone_here q same)))) (λ (apart : number ≢ q). is.below q (sym (ap is_some (gone_other q apart)) ∙ there)) (cases_eq number q);
-      by_root = gone_indexed;
+          ⊎_elim (λ (same : number ≡ q). absurd (true≢false (sym there ∙ ap is_some (value_here gone_put q same)))) (λ (apart : number ≢ q). is.below q (sym (ap is_some (value_other gone_put q apart)) ∙ there)) (cases_eq number q);
+      by_root = put_indexed gone_put gone_indexed;
       due = λ q here.
-          ⊎_elim (λ (same : number ≡ q). absurd (true≢false (sym here ∙ strikes.due q ∙ ap (λ b. cond b false (set.contains nat_cmp due q)) (eq-eqb number q same))))
-          (λ (apart : number ≢ q). ap is_some (gone_other q apart) ∙ is.due q (sym (kept_due q apart) ∙ here)) (cases_eq number q);
+          ⊎_elim (λ (same : number ≡ q). absurd (true≢false (sym here ∙ due_here gone_put q same)))
+          (λ (apart : number ≢ q). ap is_some (value_other gone_put q apart) ∙ is.due q (sym (due_other gone_put q apart) ∙ here)) (cases_eq number q);
     }
 
     pub arrivals_gone : left.entries ≡ remove_entry (is_at (nat_cmp number)) txns.entries → ◌≡◌ {A = WaitingValue} (record { arrivals = arrivals_of left.entries now; next = next }) (record { arrivals = without number seen; next = next })
     arrivals_gone es =
         ap (λ arrivals. record { arrivals = arrivals; next = next })
-        (ap (λ es. arrivals_of es now) es ∙ without_key txns.entries due now number is.ordered (λ q apart. kept_due q (λ back. apart (sym back))))
+        (ap (λ es. arrivals_of es now) es ∙ without_key txns.entries due now number is.ordered (λ q apart. due_other gone_put q (λ back. apart (sym back))))

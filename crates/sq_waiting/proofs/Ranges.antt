@@ -43,9 +43,6 @@ start_below lo root number from =
         (λ (apart : 0 ≢ n). ap is_gt (cmp_less 0 n (omega (arith, apart))))
         (cases_eq 0 n)
 
-pub starts_before : (lo hi : ℕ) → lo ≤ hi → IsLeBy entry_cmp (lo, 0) (hi, 0)
-starts_before lo hi upto = start_below lo hi 0 upto
-
 end_above : (hi root number : ℕ) → root < hi → IsLtBy entry_cmp (root, number) (hi, 0)
 end_above hi root number below = ap (λ o. ordering_then o (nat_cmp number 0)) (cmp_less root hi below)
 
