@@ -1,15 +1,29 @@
 -- The buffer of a reader of lines, as it goes on.
-use Rattle.std.proofs.Common.{◌≡◌, ℕ, ◌+◌, ◌-◌, ◌<◌, ◌≤◌, List, [], ◌∷◌, ◌++◌, length, take, Option, None, refl, sym, ap, ◌∙◌, arith}
-use Rattle.std.specs.Prelude.{slice_range, position, ◌==◌}
+use Rattle.std.proofs.Common.{◌≡◌, ℕ, ◌+◌, ◌-◌, ◌≤◌, List, [], ◌∷◌, ◌++◌, length, take, Option, None, sym, ap, ◌∙◌, arith}
+use Rattle.std.specs.Prelude.{slice_range, position, Some, ◌==◌}
 use Rattle.std.specs.Io.KnownBytes.{IsAtEnd}
 use Rattle.sq_lines.specs.declared.reader.Reading.{Reading}
 use Rattle.sq_lines.specs.declared.reader.Reading.TheVariants.{Ended}
 use Rattle.sq_lines.specs.Pieces.{cut_at_ends}
 use Rattle.sq_lines.specs.Buffered.{IsBuffered}
-use Rattle.sq_lines.proofs.Ranges.{empty_range, found_none, split_range, take_range}
+use Rattle.sq_lines.proofs.Ranges.{FoundLine, length_range, found_line, found_none, split_range, take_range}
 
-nothing_searched : (xs : List ℕ) (at : ℕ) → cut_at_ends (slice_range xs at at) ≡ slice_range xs at at ∷ []
-nothing_searched xs at = rw (empty_range xs at at (omega arith)) refl
+-- what is held, which has no line end
+pub record HeldUnended (xs : List ℕ) (start end : ℕ) : Type 0 where
+  pub unended : cut_at_ends (slice_range xs start end) ≡ slice_range xs start end ∷ []
+  pub count : length (slice_range xs start end) ≡ end - start
+
+pub none_held : {xs : List ℕ} {ps pe start searched end : ℕ} {status : Reading} {known : Option (List ℕ)} → IsBuffered xs ps pe start searched end status known → position (λ b. b == 10) (slice_range xs searched end) ≡ None
+    → HeldUnended xs start end
+none_held {xs} {ps} {pe} {start} {searched} {end} is none = record {
+  unended = found_none xs start searched end is.searched_after is.searched_before is.unended none;
+  count = length_range xs start end (omega (arith, is.within, is.room));
+}
+
+-- a line of it that ends
+pub line_held : {xs : List ℕ} {ps pe start searched end : ℕ} {status : Reading} {known : Option (List ℕ)} → IsBuffered xs ps pe start searched end status known → (at : ℕ) → position (λ b. b == 10) (slice_range xs searched end) ≡ Some at
+    → FoundLine xs start (searched + at) end
+line_held {xs} {ps} {pe} {start} {searched} {end} is at some = found_line xs start searched end at is.searched_after is.searched_before (omega (arith, is.within, is.room)) is.unended some
 
 -- all that is held was searched
 pub all_searched : (xs : List ℕ) (ps pe start searched end : ℕ) (status : Reading) (known : Option (List ℕ)) → IsBuffered xs ps pe start searched end status known
@@ -21,33 +35,7 @@ all_searched xs ps pe start searched end status known is none = record {
   searched_after = omega (arith, is.searched_after, is.searched_before);
   searched_before = omega arith;
   within = is.within;
-  unended = found_none xs start searched end is.searched_after is.searched_before is.unended none;
-  at_end = is.at_end;
-}
-
--- the rest was given
-pub given_rest : (xs : List ℕ) (ps pe start searched end : ℕ) (status : Reading) (known : Option (List ℕ)) → IsBuffered xs ps pe start searched end status known → IsBuffered xs start end end end end status known
-given_rest xs ps pe start searched end status known is = record {
-  room = is.room;
-  piece = omega (arith, is.searched_after, is.searched_before);
-  piece_within = is.within;
-  searched_after = omega arith;
-  searched_before = omega arith;
-  within = is.within;
-  unended = nothing_searched xs end;
-  at_end = is.at_end;
-}
-
--- a line was given
-pub given_line : (xs : List ℕ) (ps pe start searched end at : ℕ) (status : Reading) (known : Option (List ℕ)) → IsBuffered xs ps pe start searched end status known → start ≤ at → at < end → IsBuffered xs start at (at + 1) (at + 1) end status known
-given_line xs ps pe start searched end at reading known is after before = record {
-  room = is.room;
-  piece = after;
-  piece_within = omega (arith, before, is.within);
-  searched_after = omega arith;
-  searched_before = omega (arith, before);
-  within = is.within;
-  unended = nothing_searched xs (at + 1);
+  unended = (none_held is none).unended;
   at_end = is.at_end;
 }
 

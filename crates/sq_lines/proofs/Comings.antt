@@ -1,7 +1,7 @@
 -- What can come of a reader of lines.
 use Rattle.std.proofs.Common.{◌≡◌, ℕ, ◌+◌, ◌-◌, ◌<◌, ◌≤◌, Bool, true, false, cond, eqb, List, [], ◌∷◌, ◌++◌, length, Option, Some, None, inl, inr, refl, sym, ap, ◌∙◌, subst, append_assoc, arith}
 use Rattle.std.specs.Prelude.{nat_lt, ◌⊎◌}
-use Rattle.std.specs.Io.KnownBytes.{Consumes, IsAtEnd}
+use Rattle.std.specs.Io.KnownBytes.{Consumes}
 use Rattle.std.proofs.lemmas.Bool.{le-ltb}
 use Rattle.std.proofs.lemmas.Bool.Decides.{nat_tests}
 use Rattle.std.proofs.lemmas.List.{append-nil, length-append}
@@ -12,7 +12,7 @@ use Rattle.sq_lines.specs.declared.reader.Reading.{Reading}
 use Rattle.sq_lines.specs.declared.reader.Reading.TheVariants.{Open, Ended}
 use Rattle.sq_lines.specs.declared.reader.Reading.TheVariants as reading
 use Rattle.sq_lines.specs.Pieces.{cut_at_ends, PieceValue, Line, Rest, Failed, Endless, TooMany, InputEnd, Whole, Cut, last_piece, ending_piece, line_then, pieces_of, pieces_in, next_line_number, bytes_of}
-use Rattle.sq_lines.specs.Coming.{LinesValue, Comes, CanCome, CameBefore, IsUndecided, IsLong, Gives, Finds, GoesOn}
+use Rattle.sq_lines.specs.Coming.{LinesValue, Comes, CanCome, CameBefore, IsLong, Gives, Finds, GoesOn}
 use Rattle.sq_lines.proofs.Ends.{HasFirst, has_first, unended_then, line_then_parts}
 
 -- some bytes can come, and then the reading ends somehow
@@ -188,11 +188,6 @@ read_before old new bytes ps was_open still lines held took can = record {
   are = can.are ∙ (rw (lines, held) (ap (λ l. pieces_in can.end old.lines l) (append_assoc old.held bytes can.more)));
 }
 
-open_end : (old new : Option (List ℕ)) → Consumes old new [] → IsAtEnd new → Comes Open old Whole []
-open_end None new took ended = tt
-open_end (Some xs) None took ended = absurd took
-open_end (Some xs) (Some ys) took ended = took ∙ ended
-
 open_cut : (known : Option (List ℕ)) → Comes Open known Cut []
 open_cut None = tt
 open_cut (Some left) = (left, refl)
@@ -202,16 +197,6 @@ pub nothing_comes : (now : Reading) (known : Option (List ℕ)) (end : InputEnd)
 nothing_comes Open known end more closed comes = absurd (closed refl)
 nothing_comes Ended known end more closed comes = comes.1
 nothing_comes reading.Failed known end more closed comes = comes.1
-
-pub end_before : (old new : LinesValue) (ps : List PieceValue) → old.reading ≡ Open → new.reading ≡ Ended → new.lines ≡ old.lines → new.held ≡ old.held → Consumes old.known new.known [] → IsAtEnd new.known → CanCome new ps → CanCome old ps
-end_before old new ps was_open ended lines held took none can =
-    let is = subst (λ r. Comes r new.known can.end can.more) ended can.comes in
-    record {
-      more = [];
-      end = Whole;
-      comes = subst (λ r. Comes r old.known Whole []) (sym was_open) (open_end old.known new.known took none);
-      are = can.are ∙ rw (lines, held, is.0, is.1) refl;
-    }
 
 pub fail_before : (old new : LinesValue) (ps : List PieceValue) → old.reading ≡ Open → new.reading ≡ reading.Failed → new.lines ≡ old.lines → new.held ≡ old.held → CanCome new ps → CanCome old ps
 fail_before old new ps was_open failed lines held can =
@@ -225,12 +210,6 @@ fail_before old new ps was_open failed lines held can =
 
 -- ---- as much as is needed to tell what comes next
 
-pub goes_nowhere : (v : LinesValue) → GoesOn v v
-goes_nowhere v = ((λ ps can. can), refl)
-
-pub goes_further : (first old new : LinesValue) → GoesOn first old → ((ps : List PieceValue) → CanCome new ps → CanCome old ps) → new.lines ≡ old.lines → GoesOn first new
-goes_further first old new on before lines = ((λ ps can. on.0 ps (before ps can)), lines ∙ on.1)
-
 pub found : (most : ℕ) (first old new : LinesValue) (told_next : NextPiece) → GoesOn first old → Gives most old told_next new → (told_next ≡ next.Unread → ⊥) → Finds most first told_next new
 found most first old new next.Line on gives told =
     ((λ ps can. subst (λ n. CanCome first (Line (next_line_number n) new.piece ∷ ps)) on.1 (on.0 (Line (next_line_number old.lines) new.piece ∷ ps) (gives.0 ps can))), sym on.1 ∙ gives.1, gives.2)
@@ -241,6 +220,3 @@ found most first old new next.Long on gives told = record { piece = gives.0.piec
 found most first old new next.TooMany on gives told = on.0 _ gives.0
 found most first old new next.End on gives told = on.0 _ gives.0
 found most first old new next.Unread on gives told = absurd (told refl)
-
-pub wider : (few most : ℕ) (v : LinesValue) → few ≤ most → IsUndecided few v → IsUndecided most v
-wider few most v less is = record { unended = is.unended; short = omega (arith, is.short, less); goes_on = is.goes_on; some_line = is.some_line }

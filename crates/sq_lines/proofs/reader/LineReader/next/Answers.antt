@@ -1,10 +1,10 @@
 use Rattle.std.proofs.Common.{◌≡◌, ◌<◌, ◌≤◌, ◌+◌, ◌-◌, length, [], ◌∷◌, inl, inr, refl, sym, ap, ◌∙◌, subst, arith}
-use Rattle.std.specs.Prelude.{◌==◌, position, slice_range, Some, None}
+use Rattle.std.specs.Prelude.{slice_range}
 use Rattle.sq_lines.specs.Pieces.{Rest, Failed, next_line_number}
 use Rattle.sq_lines.specs.Coming.{LinesValue, CanCome, IsLong, IsUndecided}
-use Rattle.sq_lines.proofs.Ranges.{empty_range, length_range, found_line, found_none}
+use Rattle.sq_lines.proofs.Ranges.{empty_range, length_range}
 use Rattle.sq_lines.proofs.Comings.{at_end, too_many, line_came, rest_comes, failed_comes, long_line, long_unended}
-use Rattle.sq_lines.proofs.Buffers.{all_searched}
+use Rattle.sq_lines.proofs.Buffers.{all_searched, none_held, line_held}
 use Rattle.sq_lines.proofs.reader.LineReader.next.Goals as goal
 
 pub returns-in-Ended : goal.returns-in-Ended
@@ -29,42 +29,31 @@ invariant_of-self g c = all_searched _ _ _ _ c.self.inside.searched _ _ _ c.self
 
 pub returns-then-self-most : goal.returns-then-self-most
 returns-then-self-most g c =
-    let s = c.self.inside in
-    let none : position (λ b. b == 10) (slice_range s.buffer.items s.searched s.end) ≡ None = rw (← c.deref.ensures.value) (sym c.place_of.ensures ∙ c.in_default.is) in
-    let unended = found_none s.buffer.items s.start s.searched s.end c.self.invariant.searched_after c.self.invariant.searched_before c.self.invariant.unended none in
-    let count = length_range s.buffer.items s.start s.end (omega (arith, c.self.invariant.within, c.self.invariant.room)) in
-    (subst (λ v. IsLong c.args.most v) c.self.view_is (long_unended _ c.args.most (omega (arith, c.if-self-eq0.false)) unended (omega (arith, count, c.if-self-most.true))), c.self.view_is)
+    let held = none_held c.self.invariant (rw (← c.deref.ensures.value) (sym c.place_of.ensures ∙ c.in_default.is)) in
+    (subst (λ v. IsLong c.args.most v) c.self.view_is (long_unended _ c.args.most (omega (arith, c.if-self-eq0.false)) held.unended (omega (arith, held.count, c.if-self-most.true))), c.self.view_is)
 
 pub invariant_of-self-in-Open-reading : goal.invariant_of-self-in-Open-reading
 invariant_of-self-in-Open-reading g c = all_searched _ _ _ _ c.self.inside.searched _ _ _ c.self.invariant (rw (← c.deref.ensures.value) (sym c.place_of.ensures ∙ c.in_default.is))
 
 pub returns-in-Open-reading : goal.returns-in-Open-reading
 returns-in-Open-reading g c =
-    let s = c.self.inside in
-    let none : position (λ b. b == 10) (slice_range s.buffer.items s.searched s.end) ≡ None = rw (← c.deref.ensures.value) (sym c.place_of.ensures ∙ c.in_default.is) in
-    let unended = found_none s.buffer.items s.start s.searched s.end c.self.invariant.searched_after c.self.invariant.searched_before c.self.invariant.unended none in
-    let count = length_range s.buffer.items s.start s.end (omega (arith, c.self.invariant.within, c.self.invariant.room)) in
-    (subst (λ v. IsUndecided c.args.most v) c.self.view_is (record { unended = unended; short = omega (arith, count, c.if-self-most.false); goes_on = c.in-Open-reading.is; some_line = inr (omega (arith, c.if-self-eq0.false)) }), c.self.view_is)
+    let held = none_held c.self.invariant (rw (← c.deref.ensures.value) (sym c.place_of.ensures ∙ c.in_default.is)) in
+    (subst (λ v. IsUndecided c.args.most v) c.self.view_is (record { unended = held.unended; short = omega (arith, held.count, c.if-self-most.false); goes_on = c.in-Open-reading.is; some_line = inr (omega (arith, c.if-self-eq0.false)) }), c.self.view_is)
 
 pub invariant_of-self-in-Failed-reading : goal.invariant_of-self-in-Failed-reading
 invariant_of-self-in-Failed-reading g c = all_searched _ _ _ _ c.self.inside.searched _ _ _ c.self.invariant (rw (← c.deref.ensures.value) (sym c.place_of.ensures ∙ c.in_default.is))
 
 pub returns-in-Failed-reading : goal.returns-in-Failed-reading
 returns-in-Failed-reading g c =
-    let s = c.self.inside in
-    let none : position (λ b. b == 10) (slice_range s.buffer.items s.searched s.end) ≡ None = rw (← c.deref.ensures.value) (sym c.place_of.ensures ∙ c.in_default.is) in
-    let unended = found_none s.buffer.items s.start s.searched s.end c.self.invariant.searched_after c.self.invariant.searched_before c.self.invariant.unended none in
-    let count = length_range s.buffer.items s.start s.end (omega (arith, c.self.invariant.within, c.self.invariant.room)) in
-    (subst (λ (v : LinesValue). CanCome v (Failed (next_line_number v.lines) v.held ∷ [])) c.self.view_is (failed_comes _ c.in-Failed-reading.is unended (inr (omega (arith, c.if-self-eq0.false))) (omega (arith, count, c.if-self-most.false, c.requires))), omega (arith, count, c.if-self-most.false, ap (λ (v : LinesValue). length v.held) c.self.view_is), c.self.view_is)
+    let held = none_held c.self.invariant (rw (← c.deref.ensures.value) (sym c.place_of.ensures ∙ c.in_default.is)) in
+    (subst (λ (v : LinesValue). CanCome v (Failed (next_line_number v.lines) v.held ∷ [])) c.self.view_is (failed_comes _ c.in-Failed-reading.is held.unended (inr (omega (arith, c.if-self-eq0.false))) (omega (arith, held.count, c.if-self-most.false, c.requires))), omega (arith, held.count, c.if-self-most.false, ap (λ (v : LinesValue). length v.held) c.self.view_is), c.self.view_is)
 
 pub returns-in-Ended-reading : goal.returns-in-Ended-reading
 returns-in-Ended-reading g c =
     let s = c.self.inside in
-    let none : position (λ b. b == 10) (slice_range s.buffer.items s.searched s.end) ≡ None = rw (← c.deref.ensures.value) (sym c.place_of.ensures ∙ c.in_default.is) in
-    let unended = found_none s.buffer.items s.start s.searched s.end c.self.invariant.searched_after c.self.invariant.searched_before c.self.invariant.unended none in
-    let count = length_range s.buffer.items s.start s.end (omega (arith, c.self.invariant.within, c.self.invariant.room)) in
-    let short : length (slice_range s.buffer.items s.start s.end) ≤ c.args.most = omega (arith, count, c.if-self-most.false) in (
-      subst (λ (v : LinesValue). CanCome v (Rest (next_line_number v.lines) (slice_range s.buffer.items s.start s.end) ∷ [])) c.self.view_is (rest_comes _ c.in-Ended-reading.is unended (omega (arith, c.if-self-eq0.false)) (omega (arith, count, c.if-self.false, c.self.invariant.searched_after, c.self.invariant.searched_before)) (omega (arith, short, c.requires))),
+    let held = none_held c.self.invariant (rw (← c.deref.ensures.value) (sym c.place_of.ensures ∙ c.in_default.is)) in
+    let short : length (slice_range s.buffer.items s.start s.end) ≤ c.args.most = omega (arith, held.count, c.if-self-most.false) in (
+      subst (λ (v : LinesValue). CanCome v (Rest (next_line_number v.lines) (slice_range s.buffer.items s.start s.end) ∷ [])) c.self.view_is (rest_comes _ c.in-Ended-reading.is held.unended (omega (arith, c.if-self-eq0.false)) (omega (arith, held.count, c.if-self.false, c.self.invariant.searched_after, c.self.invariant.searched_before)) (omega (arith, short, c.requires))),
       ap (λ (v : LinesValue). v.lines) c.self.view_is,
       short,
     )
@@ -73,16 +62,14 @@ pub returns-then-line_end-self-gt-MAX_UNENDED : goal.returns-then-line_end-self-
 returns-then-line_end-self-gt-MAX_UNENDED g c =
     let s = c.self.inside in
     let at = c.in-Some.at in
-    let some : position (λ b. b == 10) (slice_range s.buffer.items s.searched s.end) ≡ Some at = rw (← c.deref.ensures.value) (sym c.place_of.ensures ∙ c.in-Some.is) in
-    let found = found_line s.buffer.items s.start s.searched s.end at c.self.invariant.searched_after c.self.invariant.searched_before (omega (arith, c.self.invariant.within, c.self.invariant.room)) c.self.invariant.unended some in
+    let found = line_held c.self.invariant at (rw (← c.deref.ensures.value) (sym c.place_of.ensures ∙ c.in-Some.is)) in
     (subst (λ v. IsLong c.args.most v) c.self.view_is (long_line _ c.args.most (slice_range s.buffer.items s.start (s.searched + at)) (slice_range s.buffer.items (s.searched + at + 1) s.end) c.requires (omega (arith, c.if-self-eq0.false)) found.held found.unended (omega (arith, found.count, c.if-line_end-self-gt-MAX_UNENDED.true))), refl)
 
 pub returns : goal.returns
 returns g c =
     let s = c.self.inside in
     let at = c.in-Some.at in
-    let some : position (λ b. b == 10) (slice_range s.buffer.items s.searched s.end) ≡ Some at = rw (← c.deref.ensures.value) (sym c.place_of.ensures ∙ c.in-Some.is) in
-    let found = found_line s.buffer.items s.start s.searched s.end at c.self.invariant.searched_after c.self.invariant.searched_before (omega (arith, c.self.invariant.within, c.self.invariant.room)) c.self.invariant.unended some in
+    let found = line_held c.self.invariant at (rw (← c.deref.ensures.value) (sym c.place_of.ensures ∙ c.in-Some.is)) in
     let lines : c.args.self.now.lines ≡ s.lines - 1 + 1 = sym (ap (λ (v : LinesValue). v.lines) c.self.view_is) ∙ omega (arith, c.if-self-eq0.false) in
     let short : length (slice_range s.buffer.items s.start (s.searched + at)) ≤ 1048576 = omega (arith, found.count, c.if-line_end-self-gt-MAX_UNENDED.false) in (
       line_came c.args.self.now _ (ap (λ (v : LinesValue). v.reading) c.self.view_is) (ap (λ (v : LinesValue). v.known) c.self.view_is) lines (sym (ap (λ (v : LinesValue). v.held) c.self.view_is) ∙ found.held) found.unended short,
