@@ -14,19 +14,13 @@ index-requires c =
     let e = ap length c.as_slice.ensures.value in
     omega (arith, found.0)
 
-pub returns-clause-owner : goal.returns-clause-owner
-returns-clause-owner c =
+pub returns : goal.returns
+returns c =
     let plan : PlanValue = record { parts = c.self.inside.parts; ranges = c.self.inside.ranges.items } in
     let found = find_at_point plan c.as_slice.result.now c.number-key.result c.partition_point-at.result c.index.result.now c.self.invariant c.as_slice.ensures.value c.number-key.ensures.bound c.partition_point-at.ensures.bound
     (c.partition_point-at.ensures.partitioned (λ range. leb range.hi c.number-key.result) (always_returns_same _ _ _ (λ a r f k. search rules))) in
-    let is = found.1 ∙ ap Some (sym c.index.ensures) in
-    let owns = (owner_found plan c.number-key.result c.index.result.now c.self.invariant is).0 in
-    rw (← c.self.view_is, ← c.number-key.ensures.number) owns
-
-pub returns-clause-exists : goal.returns-clause-exists
-returns-clause-exists c =
-    let plan : PlanValue = record { parts = c.self.inside.parts; ranges = c.self.inside.ranges.items } in
-    let found = find_at_point plan c.as_slice.result.now c.number-key.result c.partition_point-at.result c.index.result.now c.self.invariant c.as_slice.ensures.value c.number-key.ensures.bound c.partition_point-at.ensures.bound
-    (c.partition_point-at.ensures.partitioned (λ range. leb range.hi c.number-key.result) (always_returns_same _ _ _ (λ a r f k. search rules))) in
-    let is = found.1 ∙ ap Some (sym c.index.ensures) in
-    rw (← c.self.view_is) (owner_found plan c.number-key.result c.index.result.now c.self.invariant is).1
+    let owns = owner_found plan c.number-key.result c.index.result.now c.self.invariant (found.1 ∙ ap Some (sym c.index.ensures)) in
+    record {
+      owner = rw (← c.self.view_is, ← c.number-key.ensures.number) owns.0;
+      exists = rw (← c.self.view_is) owns.1;
+    }
