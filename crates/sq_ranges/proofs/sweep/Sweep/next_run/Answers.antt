@@ -2,11 +2,16 @@ use Rattle.std.proofs.Common.{◌==◌, sym, arith}
 use Rattle.std.proofs.lemmas.Bool.{not-true, not-false, eqb-true, eqb-false}
 use Rattle.sq_ranges.proofs.Sweeps.{Went, runs_past, runs_first, runs_none, went_fewer}
 use Rattle.sq_ranges.proofs.sweep.Sweep.next_run.Goals as goal
+use Rattle.sq_ranges.proofs.sweep.Sweep.next_run.Goals.{After-skip_to}
+
+-- the sweep went past a piece
+piece_went : (c : After-skip_to) → Went c.loop-piece.self c.skip_to.new.self c.in-Some.piece
+piece_went c = record { found = sym c.in-Some.ensures; at = c.skip_to.ensures.at; olds = c.skip_to.ensures.olds; news = c.skip_to.ensures.news }
 
 pub returns-then-ne : goal.returns-then-ne
 returns-then-ne c =
     let piece = c.in-Some.piece in
-    let went : Went c.loop-piece.self c.skip_to.new.self piece = record { found = sym c.in-Some.ensures; at = c.skip_to.ensures.at; olds = c.skip_to.ensures.olds; news = c.skip_to.ensures.news } in
+    let went = piece_went (goal.at.returns-then-ne c).After-skip_to in
     record {
       next = λ runs has.
           runs_first c.loop-piece.self c.skip_to.new.self c.extended.new.self piece c.extended.result runs (c.loop-piece.invariant.has runs has) went
@@ -18,7 +23,7 @@ returns-then-ne c =
 pub loop-piece-preserved : goal.loop-piece-preserved
 loop-piece-preserved c =
     let piece = c.in-Some.piece in
-    let went : Went c.loop-piece.self c.skip_to.new.self piece = record { found = sym c.in-Some.ensures; at = c.skip_to.ensures.at; olds = c.skip_to.ensures.olds; news = c.skip_to.ensures.news } in
+    let went = piece_went (goal.at.loop-piece-preserved c).After-skip_to in
     record {
       has = λ runs has.
           runs_past c.loop-piece.self c.skip_to.new.self piece runs (c.loop-piece.invariant.has runs has) went
