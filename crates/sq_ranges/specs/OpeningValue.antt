@@ -3,6 +3,7 @@ use Rattle.std.specs.Prelude.{ℕ}
 use Rattle.sq_schema.specs.Table.{TableValue}
 use Rattle.sq_plan.specs.PlanValue.{PlanValue}
 use Rattle.sq_ranges.specs.declared.opening.Config.{Config}
+use Rattle.sq_ranges.specs.declared.opening.OpeningParts.{OpeningParts}
 use Rattle.sq_ranges.specs.ReconValue.{ReconValue}
 
 pub record OpeningValue : Type 0 where
@@ -12,3 +13,7 @@ pub record OpeningValue : Type 0 where
   pub recon : ReconValue
   pub config : Config
   pub table : TableValue
+
+-- the opening with these parts
+abbrev pub opening_of : OpeningParts → OpeningValue
+opening_of parts = record { tables = parts.schema; old = parts.old; new = parts.new; recon = parts.recon; config = parts.config; table = parts.table }

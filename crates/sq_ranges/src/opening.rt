@@ -51,12 +51,7 @@ pub struct GivenRow {
 /// an `OpeningValue`.
 #[derive(Debug, Drop)]
 pub struct Opening {
-    schema: Schema,
-    old: Plan,
-    new: Plan,
-    recon: Recon,
-    config: Config,
-    table: Table,
+    parts: OpeningParts,
 }
 
 /// The parts of an opening.
@@ -90,14 +85,14 @@ pub struct RefusedOpening {
 }
 
 impl Model for Opening {
-    ghost use Rattle.sq_ranges.specs.OpeningValue.{OpeningValue};
+    ghost use Rattle.sq_ranges.specs.OpeningValue.{OpeningValue, opening_of};
     ghost use Rattle.sq_ranges.specs.SetUp.{IsSetUp};
 
     ghost Value = { OpeningValue };
 
-    ghost view = { λ o. record { tables = o.schema; old = o.old; new = o.new; recon = o.recon; config = o.config; table = o.table } };
+    ghost view = { λ o. opening_of o.parts };
 
-    ghost invariant = { λ o. IsSetUp (record { tables = o.schema; old = o.old; new = o.new; recon = o.recon; config = o.config; table = o.table }) };
+    ghost invariant = { λ o. IsSetUp (opening_of o.parts) };
 }
 
 impl Opening {
@@ -129,12 +124,14 @@ impl Opening {
     {
         match moves_and_table(alloc, schema.tables(), &old, &new, config, &rows) {
             Ok((recon, table)) => Ok(Opening {
-                schema,
-                old,
-                new,
-                recon,
-                config,
-                table,
+                parts: OpeningParts {
+                    schema,
+                    old,
+                    new,
+                    recon,
+                    config,
+                    table,
+                },
             }),
             Err(fault) => Err(RefusedOpening {
                 fault,
@@ -149,7 +146,7 @@ impl Opening {
     pub fn schema(&self) -> Schema
         ensures { result ≡ self.now.tables }
     {
-        self.schema
+        self.parts.schema
     }
 
     /// The plan before the move.
@@ -157,7 +154,7 @@ impl Opening {
         ensures plan { result.now ≡ self.now.old }
         ensures set_up { IsSetUp self.now }
     {
-        &self.old
+        &self.parts.old
     }
 
     /// The plan after the move.
@@ -165,7 +162,7 @@ impl Opening {
         ensures plan { result.now ≡ self.now.new }
         ensures set_up { IsSetUp self.now }
     {
-        &self.new
+        &self.parts.new
     }
 
     /// What moves between the plans.
@@ -173,7 +170,7 @@ impl Opening {
         ensures recon { result.now ≡ self.now.recon }
         ensures set_up { IsSetUp self.now }
     {
-        &self.recon
+        &self.parts.recon
     }
 
     /// The sizes.
@@ -181,7 +178,7 @@ impl Opening {
         ensures config { result ≡ self.now.config }
         ensures set_up { IsSetUp self.now }
     {
-        self.config
+        self.parts.config
     }
 
     /// The opening rows.
@@ -189,7 +186,7 @@ impl Opening {
         ensures table { result.now ≡ self.now.table }
         ensures set_up { IsSetUp self.now }
     {
-        &self.table
+        &self.parts.table
     }
 
     /// Its parts, without a copy.
@@ -202,22 +199,7 @@ impl Opening {
         ensures table { result.table ≡ self.table }
         ensures set_up { IsSetUp self }
     {
-        let Opening {
-            schema,
-            old,
-            new,
-            recon,
-            config,
-            table,
-        } = self;
-        OpeningParts {
-            schema,
-            old,
-            new,
-            recon,
-            config,
-            table,
-        }
+        self.parts
     }
 }
 

@@ -11,7 +11,7 @@ use crate::state::State;
 use sq_exec::PartCore;
 use sq_leader::{Idle, Leader};
 use sq_opened::open_partitions;
-use sq_ranges::{Opening, OpeningParts, Range, Recon};
+use sq_ranges::{Opening, Range, Recon};
 use sq_store::SlabStore;
 use sq_tree::PlainTree;
 use std::alloc::{AllocError, Global};
@@ -34,32 +34,19 @@ impl State {
         let Ok(fresh) = fresh_state(alloc, &opening) else {
             return Err(opening);
         };
-        let OpeningParts {
-            schema,
-            old,
-            new,
-            recon,
-            config,
-            table,
-        } = opening.into_parts();
-        drop(table);
-        let Fresh {
-            cores,
-            trees,
-            queues,
-        } = fresh;
-        let leader = Leader::Idle(Idle::new(&old));
+        let parts = opening.into_parts();
+        let leader = Leader::Idle(Idle::new(&parts.old));
         Ok(State {
             alloc,
-            tables: schema.tables(),
-            old_plan: old,
-            new_plan: new,
-            recon,
-            config,
+            tables: parts.schema.tables(),
+            old_plan: parts.old,
+            new_plan: parts.new,
+            recon: parts.recon,
+            config: parts.config,
             leader,
-            cores,
-            trees,
-            queues,
+            cores: fresh.cores,
+            trees: fresh.trees,
+            queues: fresh.queues,
         })
     }
 }

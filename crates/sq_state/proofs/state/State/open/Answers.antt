@@ -6,7 +6,7 @@ use Rattle.sq_state.proofs.state.State.open.Goals as goal
 
 pub returns-clause-opened : goal.returns-clause-opened
 returns-clause-opened c =
-    let moved = c.into_parts-schema.ensures in
+    let moved = c.into_parts-parts.ensures in
     let fresh = c.in-Ok.ensures in
     opened_holds c.args.opening _
     (record {
