@@ -19,6 +19,7 @@ use Rattle.sq_exec.specs.Moving.{loaded_core}
 use Rattle.sq_exec.specs.Location.{location_in, is_coming, is_coming_from}
 use Rattle.sq_exec.specs.Kept.{is_due_here, IsCore}
 use Rattle.sq_exec.proofs.Runs.{loaded-runs_with}
+use Rattle.sq_exec.proofs.Kept.{still_core}
 
 -- what passes one test passes another that follows from it
 pub all_follow : {X Y : Type 0} (p : X → Bool) (q : Y → Bool) (f : X → Y) → ((x : X) → p x ≡ true → q (f x) ≡ true) → (xs : List X) → list_all p xs ≡ true → list_all (λ x. q (f x)) xs ≡ true
@@ -144,31 +145,16 @@ module _ (part : ℕ) (recon : ReconValue) where
 pub started_kept : {seen now : PartCoreValue} → seen ≡ now → (arrivals : List Arrival) → IsCore seen.core arrivals → IsCore (record seen.core { started = true }) arrivals
 started_kept {seen} view_is arrivals is =
     let core = seen.core in
-    record {
-      outs = is.outs;
-      inboxes = is.inboxes;
-      given_up = is.given_up;
-      loaded = is.loaded;
-      ends = is.ends;
-      moving = is.moving;
-      due = all_due_by (record core { started = true }) arrivals ∙ started_due core.part core.recon core.started core.loaded arrivals (sym (all_due_by core arrivals) ∙ is.due);
-    }
+    still_core is true core.store core.waiting arrivals is.moving
+    (all_due_by (record core { started = true }) arrivals ∙ started_due core.part core.recon core.started core.loaded arrivals (sym (all_due_by core arrivals) ∙ is.due))
 
 -- when more are due
 pub more_kept : (core : CoreValue) (old new : WaitingValue) → IsMoreDue old new → IsCore core old.arrivals → IsCore core new.arrivals
 more_kept core old new more is =
-    record {
-      outs = is.outs;
-      inboxes = is.inboxes;
-      given_up = is.given_up;
-      loaded = is.loaded;
-      ends = is.ends;
-      moving = is.moving;
-      due =
-          ap (λ (w : WaitingValue). list_all (is_due_here core) w.arrivals) more.more ∙ all_due_by core (map (due_if more.passes) old.arrivals)
-          ∙ list_all-map (due_by core.started core.part core.recon core.loaded) (due_if more.passes) old.arrivals
-          ∙ all_more_due core.part core.recon core.started core.loaded more.passes old.arrivals (sym (all_due_by core old.arrivals) ∙ is.due);
-    }
+    still_core is core.started core.store core.waiting new.arrivals is.moving
+    (ap (λ (w : WaitingValue). list_all (is_due_here core) w.arrivals) more.more ∙ all_due_by core (map (due_if more.passes) old.arrivals)
+    ∙ list_all-map (due_by core.started core.part core.recon core.loaded) (due_if more.passes) old.arrivals
+    ∙ all_more_due core.part core.recon core.started core.loaded more.passes old.arrivals (sym (all_due_by core old.arrivals) ∙ is.due))
 
 -- and when a chunk is loaded, whose root keys' transactions are due
 pub loaded_kept : (core : CoreValue) (src : ℕ) (chunk : ChunkValue) (arrivals : List Arrival) → IsCore core arrivals → IsCore (loaded_core core src chunk) (map (due_if (λ a. is_between chunk.note.lo chunk.note.hi (a.txn).root)) arrivals)

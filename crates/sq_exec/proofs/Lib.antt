@@ -1,4 +1,5 @@
 pub mod Runs
+pub mod Kept
 pub mod Works
 pub mod GivenUp
 pub mod Seen

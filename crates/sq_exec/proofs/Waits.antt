@@ -16,6 +16,7 @@ use Rattle.sq_exec.specs.Kept.{is_due_here, IsCore}
 use Rattle.sq_exec.specs.Numbering.{counted_from, with_arrival}
 use Rattle.sq_exec.specs.Location.{location, location_in, is_coming, is_coming_from, waits_for}
 use Rattle.sq_exec.specs.Serving.{must_wait}
+use Rattle.sq_exec.proofs.Kept.{still_core}
 
 module _ (core : CoreValue) (root : ℕ) where
   in_segment : (i : ℕ) (read : Option Range) → slice_get core.recon.segments i ≡ read
@@ -127,14 +128,7 @@ waits_kept {seen} {now} view_is w more txn is_due at is waiting_is more_is moves
     let core = seen.core in
     let leaf : is_some (leaf_at core.recon txn.root) ≡ true = ap (λ (v : PartCoreValue). is_some (leaf_at v.core.recon txn.root)) view_is ∙ has_leaf now.core txn.root at moves in
     let here : (is_due || is_coming core txn.root) ≡ true = ap (λ (v : PartCoreValue). is_due || is_coming v.core txn.root) view_is ∙ due in
-    record {
-      outs = is.outs;
-      inboxes = is.inboxes;
-      given_up = is.given_up;
-      loaded = is.loaded;
-      ends = is.ends;
-      moving =
-          ap (λ (v : WaitingValue). list_all (λ t. is_some (leaf_at core.recon t.root)) (txns_of v.arrivals)) more_is ∙ ap (list_all (λ t. is_some (leaf_at core.recon t.root))) (txns_pushed w txn is_due ∙ ap (λ ts. ts ++ txn ∷ []) waiting_is)
-          ∙ list_all-append (λ (t : TxnValue). is_some (leaf_at core.recon t.root)) core.waiting (txn ∷ []) ∙ (λ k. is.moving k && (leaf k && true));
-      due = ap (λ (v : WaitingValue). list_all (is_due_here core) v.arrivals) more_is ∙ due_pushed w txn is_due core is.due here;
-    }
+    still_core is core.started core.store (txns_of more.arrivals) more.arrivals
+    (ap (λ (v : WaitingValue). list_all (λ t. is_some (leaf_at core.recon t.root)) (txns_of v.arrivals)) more_is ∙ ap (list_all (λ t. is_some (leaf_at core.recon t.root))) (txns_pushed w txn is_due ∙ ap (λ ts. ts ++ txn ∷ []) waiting_is)
+    ∙ list_all-append (λ (t : TxnValue). is_some (leaf_at core.recon t.root)) core.waiting (txn ∷ []) ∙ (λ k. is.moving k && (leaf k && true)))
+    (ap (λ (v : WaitingValue). list_all (is_due_here core) v.arrivals) more_is ∙ due_pushed w txn is_due core is.due here)

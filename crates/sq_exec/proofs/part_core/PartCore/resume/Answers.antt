@@ -4,6 +4,7 @@ use Rattle.std.specs.List.{list_all}
 use Rattle.sq_ranges.specs.ReconValue.{leaf_at}
 use Rattle.sq_waiting.specs.Waiting.{WaitingValue, txns_of}
 use Rattle.sq_exec.specs.declared.fault.ResumeFault.TheVariants.{Memory}
+use Rattle.sq_exec.proofs.Kept.{still_core}
 use Rattle.sq_exec.proofs.Resumes.{nothing_refuses, stands, rest_due, rest_moves, was_resumed, number_taken, memory_here}
 use Rattle.sq_exec.proofs.part_core.PartCore.resume.Goals as goal
 
@@ -28,17 +29,10 @@ pub invariant_of-self-2 : goal.invariant_of-self-2
 invariant_of-self-2 g c =
     let arrivals = c.self.inside.waiting.arrivals in
     let left = ap (λ (w : WaitingValue). w.arrivals) (sym c.remove-txn.ensures.rest) in
-    record {
-      outs = c.self.invariant.outs;
-      inboxes = c.self.invariant.inboxes;
-      given_up = c.self.invariant.given_up;
-      loaded = c.self.invariant.loaded;
-      ends = c.self.invariant.ends;
-      moving =
-          subst (λ xs. list_all (λ txn. is_some (leaf_at c.self.inside.recon txn.root)) (txns_of xs) ≡ true) left
-          (rest_moves c.self.view_is c.in_ok-number.number c.in_ok-number.ensures.ok arrivals refl refl c.txn.ensures.rises (λ txn. is_some (leaf_at c.self.inside.recon txn.root)) c.self.invariant.moving);
-      due = rest_due c.self.view_is c.in_ok-number.number c.in_ok-number.ensures.ok arrivals refl refl c.txn.ensures.rises c.remove-txn.new.self.arrivals (sym left) c.self.invariant.due;
-    }
+    still_core c.self.invariant c.self.inside.started (g.S.FamilyStore.contents c.serve.new.store) (txns_of c.remove-txn.new.self.arrivals) c.remove-txn.new.self.arrivals
+    (subst (λ xs. list_all (λ txn. is_some (leaf_at c.self.inside.recon txn.root)) (txns_of xs) ≡ true) left
+    (rest_moves c.self.view_is c.in_ok-number.number c.in_ok-number.ensures.ok arrivals refl refl c.txn.ensures.rises (λ txn. is_some (leaf_at c.self.inside.recon txn.root)) c.self.invariant.moving))
+    (rest_due c.self.view_is c.in_ok-number.number c.in_ok-number.ensures.ok arrivals refl refl c.txn.ensures.rises c.remove-txn.new.self.arrivals (sym left) c.self.invariant.due)
 
 pub returns-clause-refused : goal.returns-clause-refused
 returns-clause-refused g c = nothing_refuses c.args.self.now.core c.in_ok-number.ensures.ok.place c.in_ok-number.ensures.ok.first
