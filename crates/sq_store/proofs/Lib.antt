@@ -15,7 +15,9 @@ pub mod Taken
 pub mod Fullest
 pub mod Keys
 pub mod Firsts
+pub mod Walks
 pub mod Indexes
 pub mod Filled
 pub mod Writes
 pub mod PutsIn
+pub mod Codes

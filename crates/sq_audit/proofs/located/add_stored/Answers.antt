@@ -1,9 +1,9 @@
-use Rattle.std.proofs.Common.{◌≡◌, ◌+◌, ◌<◌, ◌≤◌, ◌++◌, ◌∷◌, [], sym, ap, ◌∙◌, refl, subst, arith}
+use Rattle.std.proofs.Common.{◌≡◌, ◌+◌, ◌<◌, ◌++◌, ◌∷◌, [], sym, ap, ◌∙◌, refl, subst, arith}
 use Rattle.std.specs.Prelude.{All}
 use Rattle.std.proofs.lemmas.List.{append-nil}
 use Rattle.sq_schema.specs.TxnValue.{TxnValue}
 use Rattle.sq_schema.specs.declared.root.TheConstants.{ROOT_END}
-use Rattle.sq_store.proofs.Firsts.{first_is}
+use Rattle.sq_store.proofs.Walks.{walk_ends}
 use Rattle.sq_audit.specs.declared.located.Located.{Located}
 use Rattle.sq_audit.specs.Located.{spot_of, entries_of}
 use Rattle.sq_audit.proofs.Listing.{pushed, walked_none, walked_next, walked_all}
@@ -14,12 +14,7 @@ loop-family-init c = ([], sym (append-nil (entries_of c.args.all.now.items)), wa
 
 pub loop-family-smaller : goal.loop-family-smaller
 loop-family-smaller c =
-    let family = c.in-Some.family.now in
-    let first = first_is c.args.store.now c.loop-family.at c.walk.ensures.rooted (family.root + 1) family (sym c.in-Some.ensures.family) (omega arith) in
-    let from : c.loop-family.at ≤ family.root = first.from in
-    let number : c.number-at.result ≡ family.root = c.number-at.ensures.number ∙ c.root.ensures in
-    let bound : c.number-at.result < ROOT_END = c.number-at.ensures.bound in
-    omega (arith, from, number, bound)
+    walk_ends c.args.store.now c.loop-family.at c.number-at.result c.in-Some.family.now c.walk.ensures.rooted (sym c.in-Some.ensures.family) (c.number-at.ensures.number ∙ c.root.ensures) c.number-at.ensures.bound
 
 pub loop-family-preserved : goal.loop-family-preserved
 loop-family-preserved c =

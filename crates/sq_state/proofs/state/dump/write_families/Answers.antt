@@ -1,7 +1,7 @@
-use Rattle.std.proofs.Common.{◌≡◌, ◌+◌, ◌<◌, ◌≤◌, sym, ap, ◌∙◌, arith}
+use Rattle.std.proofs.Common.{◌≡◌, ◌+◌, ◌<◌, sym, ap, ◌∙◌, arith}
 use Rattle.sq_schema.specs.declared.root.TheConstants.{ROOT_END}
 use Rattle.sq_text.specs.Texts.{at_line}
-use Rattle.sq_store.proofs.Firsts.{first_is}
+use Rattle.sq_store.proofs.Walks.{walk_ends}
 use Rattle.sq_state.proofs.Said.{said_none, said_next, said_all}
 use Rattle.sq_state.proofs.state.dump.write_families.Goals as goal
 
@@ -13,12 +13,7 @@ loop-family-init g c = record {
 
 pub loop-family-smaller : goal.loop-family-smaller
 loop-family-smaller g c =
-    let family = c.in-Some.family.now in
-    let first = first_is c.args.store.now c.loop-family.at c.walk.ensures.rooted (family.root + 1) family (sym c.in-Some.ensures.family) (omega arith) in
-    let from : c.loop-family.at ≤ family.root = first.from in
-    let number : c.number-at.result ≡ family.root = c.number-at.ensures.number ∙ c.root.ensures in
-    let bound : c.number-at.result < ROOT_END = c.number-at.ensures.bound in
-    omega (arith, from, number, bound)
+    walk_ends c.args.store.now c.loop-family.at c.number-at.result c.in-Some.family.now c.walk.ensures.rooted (sym c.in-Some.ensures.family) (c.number-at.ensures.number ∙ c.root.ensures) c.number-at.ensures.bound
 
 pub loop-family-preserved : goal.loop-family-preserved
 loop-family-preserved g c =
