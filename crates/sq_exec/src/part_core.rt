@@ -39,17 +39,15 @@ pub struct PartCore<S: FamilyStore> {
 impl<S: FamilyStore> Model for PartCore<S> {
     ghost use Rattle.std.specs.Prelude.{map};
     ghost use Rattle.std.specs.List.{list_all};
-    ghost use Rattle.std.specs.Coded.{Coded, coded_ℕ, codes};
-    ghost use Rattle.std.specs.Ordering.{nat_cmp};
-    ghost use Rattle.std.specs.FinMap as fin;
-    ghost use Rattle.sq_schema.specs.Family.{FamilyValue};
+    ghost use Rattle.std.specs.Coded.{codes};
+    ghost use Rattle.sq_store.proofs.Codes.{store_coded};
     ghost use Rattle.sq_waiting.specs.Waiting.{txns_of, numbers_of};
     ghost use Rattle.sq_exec.specs.CoreValue.{CoreValue, PartCoreValue};
     ghost use Rattle.sq_exec.specs.Kept.{IsCore};
 
     ghost Value = { PartCoreValue };
 
-    ghost coded = { let family : Coded FamilyValue = Prim.hlevel codes in let store : Coded (fin.FinMap nat_cmp FamilyValue) = fin.code coded_ℕ family in Prim.hlevel (codes, store) };
+    ghost coded = { Prim.hlevel (codes, store_coded) };
 
     ghost view = { λ p. record {
       core = record {

@@ -44,15 +44,13 @@ pub struct State {
 
 impl Model for State {
     ghost use Rattle.std.specs.Prelude.{map};
-    ghost use Rattle.std.specs.Coded.{Coded, coded_ℕ, codes};
-    ghost use Rattle.std.specs.Ordering.{nat_cmp};
-    ghost use Rattle.std.specs.FinMap as fin;
-    ghost use Rattle.sq_schema.specs.Family.{FamilyValue};
+    ghost use Rattle.std.specs.Coded.{codes};
+    ghost use Rattle.sq_store.proofs.Codes.{store_coded};
     ghost use Rattle.sq_transition.specs.WorldValue.{WorldValue};
 
     ghost Value = { WorldValue };
 
-    ghost coded = { let family : Coded FamilyValue = Prim.hlevel codes in let store : Coded (fin.FinMap nat_cmp FamilyValue) = fin.code coded_ℕ family in Prim.hlevel (codes, store) };
+    ghost coded = { Prim.hlevel (codes, store_coded) };
 
     ghost view = { λ s. record {
       tables = s.tables;
