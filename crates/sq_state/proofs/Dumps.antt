@@ -9,10 +9,9 @@ use Rattle.sq_store.specs.StoreValue.{StoreValue}
 use Rattle.sq_store.specs.InOrder.{families_in}
 use Rattle.sq_exec.specs.CoreValue.{CoreValue, PartCoreValue}
 use Rattle.sq_exec.proofs.Seen.{seen_read}
-use Rattle.sq_transition.specs.WorldValue.{WorldValue, QueueValue, no_core, core_at, no_queue, queue_at, link_index, under_way}
+use Rattle.sq_transition.specs.WorldValue.{WorldValue, QueueValue, no_core, core_at, no_queue, queue_at, link_index, link_of, under_way}
 use Rattle.sq_text.specs.Texts.{at_line, way_lines}
 use Rattle.sq_text.proofs.Appending.{both}
-use Rattle.sq_state.specs.Queue.{link_of}
 use Rattle.sq_state.specs.Dump.{part_lines, link_lines}
 
 -- what is said of one more number goes to the end

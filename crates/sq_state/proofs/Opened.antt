@@ -26,10 +26,10 @@ use Rattle.sq_exec.specs.OutLink.{new_out_link}
 use Rattle.sq_exec.specs.CoreValue.{CoreValue, out_at, inbox_at}
 use Rattle.sq_model.specs.Tables.{opening_rows, family_of}
 use Rattle.sq_model.specs.Place.{source}
-use Rattle.sq_transition.specs.WorldValue.{WorldValue, QueueValue, LinkValue, no_core, no_queue, core_at, queue_at, link_value}
+use Rattle.sq_transition.specs.WorldValue.{WorldValue, QueueValue, LinkValue, no_core, no_queue, core_at, queue_at, link_of, link_value}
 use Rattle.sq_transition.specs.Leading.{phase_of, parts_of, has_prepared, has_reported}
 use Rattle.sq_transition.specs.Holds.{share_at, LinkHolds, MovesHold, IsSetFor, CoreHolds, Holds}
-use Rattle.sq_state.specs.Queue.{opened_queue, link_of}
+use Rattle.sq_state.specs.Queue.{opened_queue}
 use Rattle.sq_opened.specs.Opened.{opened_part}
 use Rattle.sq_opened.proofs.Families.{get_opened}
 use Rattle.sq_state.specs.Openings.{AreNewTrees, AreNewQueues}

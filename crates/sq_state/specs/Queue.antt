@@ -2,8 +2,7 @@
 use Rattle.std.specs.Prelude.{◌≡◌, [], ◌∷◌, Option, Some, None}
 use Rattle.sq_chunk.specs.ChunkValue.{ChunkValue}
 use Rattle.sq_ranges.specs.declared.recon.Link.{Link}
-use Rattle.sq_exec.specs.CoreValue.{out_at, inbox_at}
-use Rattle.sq_transition.specs.WorldValue.{WorldValue, QueueValue, LinkValue, core_at}
+use Rattle.sq_transition.specs.WorldValue.{QueueValue}
 
 -- a queue that nothing went onto
 abbrev pub opened_queue : Link → QueueValue
@@ -13,14 +12,3 @@ opened_queue link = record { src = link.src; dst = link.dst; chunks = [] }
 abbrev pub IsPopped : QueueValue → Option ChunkValue → QueueValue → Type 0
 IsPopped old None new = (old.chunks ≡ []) × (new ≡ old)
 IsPopped old (Some chunk) new = (old.chunks ≡ chunk ∷ new.chunks) × (new ≡ record old { chunks = new.chunks })
-
--- the link of a queue, with its ends at the partitions
-abbrev pub link_of : WorldValue → QueueValue → LinkValue
-link_of w queue =
-    record {
-      src = queue.src;
-      dst = queue.dst;
-      out = out_at (core_at w queue.src) queue.dst;
-      queue = queue.chunks;
-      inbox = inbox_at (core_at w queue.dst) queue.src;
-    }

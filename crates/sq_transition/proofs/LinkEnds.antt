@@ -10,7 +10,7 @@ use Rattle.sq_exec.specs.declared.run.Run.{Run}
 use Rattle.sq_exec.specs.OutLink.{OutLinkValue, new_out_link}
 use Rattle.sq_exec.specs.CoreValue.{CoreValue, out_at, with_out, inbox_at, with_inbox}
 use Rattle.sq_model.specs.Trace.{Trace, load_count}
-use Rattle.sq_transition.specs.WorldValue.{WorldValue, QueueValue, LinkValue, no_core, core_at, with_core, queue_at, with_queue, link_value, under_way}
+use Rattle.sq_transition.specs.WorldValue.{WorldValue, no_core, core_at, with_core, queue_at, with_queue, link_of, link_value, under_way}
 use Rattle.sq_transition.specs.Holds.{IsSetFor, LinksHold}
 use Rattle.sq_transition.proofs.Sets.{by_place}
 use Rattle.sq_transition.proofs.Changed.{PartsHold}
@@ -47,43 +47,36 @@ module _ {A : Type 0} (read : CoreValue → A) (w : WorldValue) (part p : ℕ) (
       ap read (core_after w part p core there)
       ∙ by_place part p (λ b. read (if b then core else core_at w p) ≡ read (core_at w p)) (λ one. same ∙ ap (λ q. read (core_at w q)) one) (λ _. refl)
 
+-- a link in a world of the same queues, by its ends there
+link_again : (w new : WorldValue) (i : ℕ) {out : OutLinkValue} {inbox : Option ChunkValue} → out_at (core_at new (queue_at w i).src) (queue_at w i).dst ≡ out → inbox_at (core_at new (queue_at w i).dst) (queue_at w i).src ≡ inbox
+    → link_of new (queue_at w i) ≡ record (link_value w i) { out = out; inbox = inbox }
+link_again w new i outs inboxes = λ k. record { src = (queue_at w i).src; dst = (queue_at w i).dst; out = outs k; queue = (queue_at w i).chunks; inbox = inboxes k }
+
 -- the link once its source has another end of it
 pub out_set : (w : WorldValue) (i src dst : ℕ) (core : CoreValue) → IsFrom w i src dst → src < length w.cores → core.inboxes ≡ (core_at w src).inboxes
     → link_value (with_core w src core) i ≡ record (link_value w i) { out = out_at core dst }
 out_set w i src dst core from there same =
     let q = queue_at w i in
-    let out = read_set (λ c. out_at c q.dst) w src q.src core there (sym from.starts) ∙ ap (out_at core) from.ends in
-    let inbox = read_stays (λ c. inbox_at c q.src) w src q.dst core there (ap (λ inboxes. slice_index_or inboxes q.src None) same) in
-    λ k. record { src = q.src; dst = q.dst; out = out k; queue = q.chunks; inbox = inbox k }
+    link_again w (with_core w src core) i (read_set (λ c. out_at c q.dst) w src q.src core there (sym from.starts) ∙ ap (out_at core) from.ends)
+    (read_stays (λ c. inbox_at c q.src) w src q.dst core there (ap (λ inboxes. slice_index_or inboxes q.src None) same))
 
 -- the link once another chunk, or none, stands at its destination
 pub inbox_set : (w : WorldValue) (i src dst : ℕ) (core : CoreValue) → IsFrom w i src dst → dst < length w.cores → core.outs ≡ (core_at w dst).outs
     → link_value (with_core w dst core) i ≡ record (link_value w i) { inbox = inbox_at core src }
 inbox_set w i src dst core from there same =
     let q = queue_at w i in
-    let inbox = read_set (λ c. inbox_at c q.src) w dst q.dst core there (sym from.ends) ∙ ap (inbox_at core) from.starts in
-    let out = read_stays (λ c. out_at c q.dst) w dst q.src core there (ap (λ outs. slice_index_or outs q.dst new_out_link) same) in
-    λ k. record { src = q.src; dst = q.dst; out = out k; queue = q.chunks; inbox = inbox k }
-
--- a link by the queue of it
-abbrev link_by : WorldValue → QueueValue → LinkValue
-link_by w queue = record {
-  src = queue.src;
-  dst = queue.dst;
-  out = out_at (core_at w queue.src) queue.dst;
-  queue = queue.chunks;
-  inbox = inbox_at (core_at w queue.dst) queue.src;
-}
+    link_again w (with_core w dst core) i (read_stays (λ c. out_at c q.dst) w dst q.src core there (ap (λ outs. slice_index_or outs q.dst new_out_link) same))
+    (read_set (λ c. inbox_at c q.src) w dst q.dst core there (sym from.ends) ∙ ap (inbox_at core) from.starts)
 
 -- the link once its queue holds other chunks
 pub queue_set : (w : WorldValue) (i : ℕ) (chunks : List ChunkValue) → i < length w.queues → link_value (with_queue w i chunks) i ≡ record (link_value w i) { queue = chunks }
 queue_set w i chunks within =
-    ap (link_by w) (queue_after w i i chunks within ∙ ap (λ b. if b then record (queue_at w i) { chunks = chunks } else queue_at w i) (eq-eqb i i refl))
+    ap (link_of w) (queue_after w i i chunks within ∙ ap (λ b. if b then record (queue_at w i) { chunks = chunks } else queue_at w i) (eq-eqb i i refl))
 
 -- another link stays
 pub queue_stays : (w : WorldValue) (i j : ℕ) (chunks : List ChunkValue) → i < length w.queues → i ≢ j → link_value (with_queue w i chunks) j ≡ link_value w j
 queue_stays w i j chunks within apart =
-    ap (link_by w) (queue_after w i j chunks within ∙ ap (λ b. if b then record (queue_at w i) { chunks = chunks } else queue_at w j) (ne_eqb i j apart))
+    ap (link_of w) (queue_after w i j chunks within ∙ ap (λ b. if b then record (queue_at w i) { chunks = chunks } else queue_at w j) (ne_eqb i j apart))
 
 module _ (o : OpeningValue) (t : Trace) (w : WorldValue) (i src dst : ℕ) (h : LinksHold o t w) (from : IsFrom w i src dst) (core : CoreValue) where
   -- another link than the one whose source has another end of it

@@ -97,10 +97,9 @@ pub record LinkValue : Type 0 where
   pub queue : List ChunkValue
   pub inbox : Option ChunkValue
 
--- the link whose queue stands at this place, with its ends at the partitions
-abbrev pub link_value : WorldValue → ℕ → LinkValue
-link_value w i =
-    let queue = queue_at w i in
+-- the link of a queue, with its ends at the partitions
+abbrev pub link_of : WorldValue → QueueValue → LinkValue
+link_of w queue =
     record {
       src = queue.src;
       dst = queue.dst;
@@ -108,6 +107,10 @@ link_value w i =
       queue = queue.chunks;
       inbox = inbox_at (core_at w queue.dst) queue.src;
     }
+
+-- the link whose queue stands at this place
+abbrev pub link_value : WorldValue → ℕ → LinkValue
+link_value w i = link_of w (queue_at w i)
 
 -- a chunk as a list, which is empty where there is none
 abbrev pub option_list : Option ChunkValue → List ChunkValue

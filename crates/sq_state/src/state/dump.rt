@@ -5,8 +5,7 @@ ghost use Rattle.std.specs.Option.{option_copied};
 ghost use Rattle.std.specs.Io.KnownBytes.{Appends};
 ghost use Rattle.sq_store.specs.InOrder.{families_in};
 ghost use Rattle.sq_text.specs.Texts.{at_line, way_lines};
-ghost use Rattle.sq_transition.specs.WorldValue.{link_index, option_list, under_way};
-ghost use Rattle.sq_state.specs.Queue.{link_of};
+ghost use Rattle.sq_transition.specs.WorldValue.{link_index, link_of, option_list, under_way};
 ghost use Rattle.sq_state.specs.Sound.{IsSound};
 ghost use Rattle.sq_state.specs.Dump.{part_lines, link_lines, source_lines, dump};
 

@@ -1,9 +1,8 @@
 // What is read of a world.
 ghost use Rattle.std.specs.Prelude.{◌≡◌, slice_get};
 ghost use Rattle.std.specs.Option.{option_copied};
-ghost use Rattle.sq_transition.specs.WorldValue.{under_way};
+ghost use Rattle.sq_transition.specs.WorldValue.{link_of, under_way};
 ghost use Rattle.sq_transition.specs.Leading.{phase_of};
-ghost use Rattle.sq_state.specs.Queue.{link_of};
 ghost use Rattle.sq_state.specs.Readers.{store_at, chunk_at, status_there};
 
 use crate::queue::Queue;
