@@ -1,13 +1,15 @@
 -- What reads the front of the words leaves fewer of them.
 use Rattle.std.proofs.Common.{◌≡◌, ℕ, ◌^◌, ◌<◌, Bool, true, false, cond, List, [], ◌∷◌, length, Option, Some, None, refl, ap, arith}
 use Rattle.std.specs.Prelude.{option_map, nat_lt}
+use Rattle.sq_schema.specs.declared.row.RowKey.{RowKey}
+use Rattle.sq_schema.specs.declared.txn.Op.{Op}
 use Rattle.sq_schema.specs.declared.txn.Op.TheVariants as op
 use Rattle.sq_schema.specs.Values.{RowValue}
 use Rattle.sq_text.specs.declared.verb.OpName.{OpName}
 use Rattle.sq_text.specs.declared.verb.OpName.TheVariants.{Get, Put, Add, Del, Check}
 use Rattle.sq_text.specs.Words.{Word, ◌>>=◌}
 use Rattle.sq_text.specs.Fields.{word_field, number_field, number_below, signed_field, note_field, key_field, row_field}
-use Rattle.sq_text.specs.Ops.{op_with}
+use Rattle.sq_text.specs.Ops.{op_at_key, op_with}
 
 -- the value of a step that found one
 pub bind_some : {A B : Type 0} (r : Option A) (f : A → Option B) (y : B) → (r >>= f) ≡ Some y → (x : A) × (r ≡ Some x) × (f x ≡ Some y)
@@ -60,19 +62,16 @@ row_shrinks words x e =
     let first = word_shrinks _ words a.0 a.1 in
     made_shrinks (λ (t : List ℕ). record { number = a.0.0; note = t }) (note_field a.0.1) (length words) x (λ y f. omega (arith, first, word_shrinks _ a.0.1 y f)) a.2
 
+-- so does an operation, which goes on behind its key
+goes_on : (name : OpName) (key : RowKey) (n : ℕ) (words : List Word) (x : Op × List Word) → length words < n → op_at_key name key words ≡ Some x → length x.1 < n
+goes_on Get key n words x less e = omega (arith, less, ap (λ (p : Op × List Word). length p.1) (some_is (op.Get key, words) x e))
+goes_on Del key n words x less e = omega (arith, less, ap (λ (p : Op × List Word). length p.1) (some_is (op.Del key, words) x e))
+goes_on Put key n words x less e = made_shrinks (λ (r : RowValue). op.Put key r) (row_field words) n x (λ y f. omega (arith, less, row_shrinks words y f)) e
+goes_on Add key n words x less e = made_shrinks (λ m. op.Add key m) (signed_field words) n x (λ y f. omega (arith, less, word_shrinks _ words y f)) e
+goes_on Check key n words x less e = made_shrinks (λ m. op.Check key m) (signed_field words) n x (λ y f. omega (arith, less, word_shrinks _ words y f)) e
+
 pub op_shrinks : (name : OpName) → Shrinks (op_with name)
 unfolding op_with
-op_shrinks Get words x e = made_shrinks op.Get (key_field words) (length words) x (key_shrinks words) e
-op_shrinks Del words x e = made_shrinks op.Del (key_field words) (length words) x (key_shrinks words) e
-op_shrinks Put words x e =
-    let a = bind_some (key_field words) (λ k. row_field k.1 >>= λ r. Some (op.Put k.0 r.0, r.1)) x e in
-    let first = key_shrinks words a.0 a.1 in
-    made_shrinks (λ (r : RowValue). op.Put a.0.0 r) (row_field a.0.1) (length words) x (λ y f. omega (arith, first, row_shrinks a.0.1 y f)) a.2
-op_shrinks Add words x e =
-    let a = bind_some (key_field words) (λ k. signed_field k.1 >>= λ n. Some (op.Add k.0 n.0, n.1)) x e in
-    let first = key_shrinks words a.0 a.1 in
-    made_shrinks (λ n. op.Add a.0.0 n) (signed_field a.0.1) (length words) x (λ y f. omega (arith, first, word_shrinks _ a.0.1 y f)) a.2
-op_shrinks Check words x e =
-    let a = bind_some (key_field words) (λ k. signed_field k.1 >>= λ n. Some (op.Check k.0 n.0, n.1)) x e in
-    let first = key_shrinks words a.0 a.1 in
-    made_shrinks (λ n. op.Check a.0.0 n) (signed_field a.0.1) (length words) x (λ y f. omega (arith, first, word_shrinks _ a.0.1 y f)) a.2
+op_shrinks name words x e =
+    let a = bind_some (key_field words) (λ k. op_at_key name k.0 k.1) x e in
+    goes_on name a.0.0 (length words) a.0.1 x (key_shrinks words a.0 a.1) a.2

@@ -1,5 +1,6 @@
 -- The operations of a transaction, as the words of its line spell them.
 use Rattle.std.specs.Prelude.{ℕ, zero, suc, List, [], ◌∷◌, length, Option, Some, None}
+use Rattle.sq_schema.specs.declared.row.RowKey.{RowKey}
 use Rattle.sq_schema.specs.declared.txn.Op.{Op}
 use Rattle.sq_schema.specs.declared.txn.Op.TheVariants as op
 use Rattle.sq_text.specs.declared.verb.OpName.{OpName}
@@ -8,26 +9,25 @@ use Rattle.sq_text.specs.Words.{Word, ◌>>=◌}
 use Rattle.sq_text.specs.Fields.{word_field, key_field, signed_field, row_field}
 use Rattle.sq_text.specs.Verbs.{op_name_in}
 
--- the operation of this name: get T S, put T S N NOTE, add T S N, del T S, check T S N
+-- the operation of this name on a key, as the words behind the key go on: get T S, put T S N NOTE, add T S N, del T S, check T S N
+abbrev pub op_at_key : OpName → RowKey → List Word → Option (Op × List Word)
+op_at_key Get key words = Some (op.Get key, words)
+op_at_key Put key words = do
+  row ← row_field words
+  Some (op.Put key row.0, row.1)
+op_at_key Add key words = do
+  by ← signed_field words
+  Some (op.Add key by.0, by.1)
+op_at_key Del key words = Some (op.Del key, words)
+op_at_key Check key words = do
+  least ← signed_field words
+  Some (op.Check key least.0, least.1)
+
+-- the operation of this name
 unfoldable pub op_with : OpName → List Word → Option (Op × List Word)
-op_with Get words = do
+op_with name words = do
   key ← key_field words
-  Some (op.Get key.0, key.1)
-op_with Put words = do
-  key ← key_field words
-  row ← row_field key.1
-  Some (op.Put key.0 row.0, row.1)
-op_with Add words = do
-  key ← key_field words
-  by ← signed_field key.1
-  Some (op.Add key.0 by.0, by.1)
-op_with Del words = do
-  key ← key_field words
-  Some (op.Del key.0, key.1)
-op_with Check words = do
-  key ← key_field words
-  least ← signed_field key.1
-  Some (op.Check key.0 least.0, least.1)
+  op_at_key name key.0 key.1
 
 -- the next operation
 abbrev pub op_field : List Word → Option (Op × List Word)

@@ -15,12 +15,12 @@ use Rattle.sq_text.specs.Fields.{number_field, number_below, value_at_end}
 use Rattle.sq_text.specs.Verbs.{verb_in}
 use Rattle.sq_text.specs.Ops.{ops_in}
 
--- a segment and a node
-unfoldable pub node_field : List Word → Option ((ℕ × ℕ) × List Word)
-node_field words = do
-  seg ← number_field words
-  node ← number_field seg.1
-  Some ((seg.0, node.0), node.1)
+-- two numbers: a segment and a node, or a source and a destination
+unfoldable pub pair_field : List Word → Option ((ℕ × ℕ) × List Word)
+pair_field words = do
+  first ← number_field words
+  second ← number_field first.1
+  Some ((first.0, second.0), second.1)
 
 -- a segment, a node and a pull
 unfoldable pub pull_field : List Word → Option ((ℕ × ℕ × ℕ) × List Word)
@@ -30,53 +30,28 @@ pull_field words = do
   pull ← number_below (2 ^ 32) node.1
   Some ((seg.0, node.0, pull.0), pull.1)
 
--- a source and a destination
-unfoldable pub link_field : List Word → Option ((ℕ × ℕ) × List Word)
-link_field words = do
-  src ← number_field words
-  dst ← number_field src.1
-  Some ((src.0, dst.0), dst.1)
+-- the step that is made of what words spell
+abbrev pub step_of_field : {A : Type 0} → (List Word → Option (A × List Word)) → (A → Step) → List Word → Option (Step × List Word)
+step_of_field field made words = do
+  found ← field words
+  Some (made found.0, found.1)
 
 -- the step of this verb
 unfoldable pub step_with : Verb → List Word → Option (Step × List Word)
-step_with Prepare words = do
-  part ← number_field words
-  Some (step.Prepare part.0, part.1)
+step_with Prepare words = step_of_field number_field (λ part. step.Prepare part) words
 step_with Start words = Some (step.Start, words)
-step_with Resume words = do
-  part ← number_field words
-  Some (step.Resume part.0, part.1)
-step_with Split words = do
-  at ← node_field words
-  Some (step.Split at.0.0 at.0.1, at.1)
-step_with Claim words = do
-  at ← pull_field words
-  Some (step.Claim at.0.0 at.0.1 at.0.2, at.1)
-step_with Begin words = do
-  at ← pull_field words
-  Some (step.Begin at.0.0 at.0.1 at.0.2, at.1)
-step_with Cut words = do
-  link ← link_field words
-  Some (step.Cut link.0.0 link.0.1, link.1)
-step_with Push words = do
-  link ← link_field words
-  Some (step.Push link.0.0 link.0.1, link.1)
-step_with Pop words = do
-  link ← link_field words
-  Some (step.Pop link.0.0 link.0.1, link.1)
-step_with Load words = do
-  link ← link_field words
-  Some (step.Load link.0.0 link.0.1, link.1)
-step_with Complete words = do
-  at ← pull_field words
-  Some (step.Complete at.0.0 at.0.1 at.0.2, at.1)
-step_with Report words = do
-  part ← number_field words
-  Some (step.Report part.0, part.1)
+step_with Resume words = step_of_field number_field (λ part. step.Resume part) words
+step_with Split words = step_of_field pair_field (λ at. step.Split at.0 at.1) words
+step_with Claim words = step_of_field pull_field (λ at. step.Claim at.0 at.1 at.2) words
+step_with Begin words = step_of_field pull_field (λ at. step.Begin at.0 at.1 at.2) words
+step_with Cut words = step_of_field pair_field (λ link. step.Cut link.0 link.1) words
+step_with Push words = step_of_field pair_field (λ link. step.Push link.0 link.1) words
+step_with Pop words = step_of_field pair_field (λ link. step.Pop link.0 link.1) words
+step_with Load words = step_of_field pair_field (λ link. step.Load link.0 link.1) words
+step_with Complete words = step_of_field pull_field (λ at. step.Complete at.0 at.1 at.2) words
+step_with Report words = step_of_field number_field (λ part. step.Report part) words
 step_with Finish words = Some (step.Finish, words)
-step_with Status words = do
-  at ← node_field words
-  Some (step.Status at.0.0 at.0.1, at.1)
+step_with Status words = step_of_field pair_field (λ at. step.Status at.0 at.1) words
 
 -- the step of a line that begins with a verb, and has no word past the step's
 abbrev pub verb_step : Word → List Word → Option Step

@@ -1,6 +1,6 @@
 // The steps that lines of the script spell.
 ghost use Rattle.std.specs.Prelude.{◌≡◌, true, Err};
-ghost use Rattle.sq_text.specs.Steps.{node_field, pull_field, link_field, step_with, verb_step, txn_in, submitted, step_in, step_of, begins_txn};
+ghost use Rattle.sq_text.specs.Steps.{pair_field, pull_field, step_with, verb_step, txn_in, submitted, step_in, step_of, begins_txn};
 ghost use Rattle.sq_text.specs.Words.{words_of};
 ghost use Rattle.sq_text.specs.Faults.{IsParsed, IsParsedGivenMemory, IsStep};
 
@@ -15,10 +15,10 @@ use std::alloc::Global;
 /// The most bytes that a line has, without its end.
 pub const MAX_LINE: usize = 65_536;
 
-// A segment and a node.
-#[tactic(auto, unfolding(crate::specs::Steps::node_field))]
-fn node(words: &mut Words<'_>) -> Result<(u64, u64), Malformed>
-    ensures { IsParsed (λ at. (at, words.new)) result (node_field words.old) }
+// Two numbers: a segment and a node, or a source and a destination.
+#[tactic(auto, unfolding(crate::specs::Steps::pair_field))]
+fn pair(words: &mut Words<'_>) -> Result<(u64, u64), Malformed>
+    ensures { IsParsed (λ pair. (pair, words.new)) result (pair_field words.old) }
 {
     Ok((words.number()?, words.number()?))
 }
@@ -31,14 +31,6 @@ fn pull(words: &mut Words<'_>) -> Result<(u64, u64, u32), Malformed>
     Ok((words.number()?, words.number()?, words.small()?))
 }
 
-// A source and a destination.
-#[tactic(auto, unfolding(crate::specs::Steps::link_field))]
-fn link(words: &mut Words<'_>) -> Result<(u64, u64), Malformed>
-    ensures { IsParsed (λ link. (link, words.new)) result (link_field words.old) }
-{
-    Ok((words.number()?, words.number()?))
-}
-
 // The step of this verb.
 #[tactic(auto, unfolding(crate::specs::Steps::step_with))]
 fn step(verb: Verb, words: &mut Words<'_>) -> Result<Step, Malformed>
@@ -49,7 +41,7 @@ fn step(verb: Verb, words: &mut Words<'_>) -> Result<Step, Malformed>
         Verb::Start => Ok(Step::Start),
         Verb::Resume => Ok(Step::Resume(words.number()?)),
         Verb::Split => {
-            let (seg, node) = node(words)?;
+            let (seg, node) = pair(words)?;
             Ok(Step::Split { seg, node })
         }
         Verb::Claim => {
@@ -61,19 +53,19 @@ fn step(verb: Verb, words: &mut Words<'_>) -> Result<Step, Malformed>
             Ok(Step::Begin { seg, node, pull })
         }
         Verb::Cut => {
-            let (src, dst) = link(words)?;
+            let (src, dst) = pair(words)?;
             Ok(Step::Cut { src, dst })
         }
         Verb::Push => {
-            let (src, dst) = link(words)?;
+            let (src, dst) = pair(words)?;
             Ok(Step::Push { src, dst })
         }
         Verb::Pop => {
-            let (src, dst) = link(words)?;
+            let (src, dst) = pair(words)?;
             Ok(Step::Pop { src, dst })
         }
         Verb::Load => {
-            let (src, dst) = link(words)?;
+            let (src, dst) = pair(words)?;
             Ok(Step::Load { src, dst })
         }
         Verb::Complete => {
@@ -83,7 +75,7 @@ fn step(verb: Verb, words: &mut Words<'_>) -> Result<Step, Malformed>
         Verb::Report => Ok(Step::Report(words.number()?)),
         Verb::Finish => Ok(Step::Finish),
         Verb::Status => {
-            let (seg, node) = node(words)?;
+            let (seg, node) = pair(words)?;
             Ok(Step::Status { seg, node })
         }
     }
