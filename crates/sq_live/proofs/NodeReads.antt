@@ -10,7 +10,7 @@ use Rattle.sq_tree.specs.Node.{is_leaf}
 use Rattle.sq_tree.specs.Status.{is_split, both, reading_of, reading_within}
 use Rattle.sq_tree.specs.Tree.{status_at}
 use Rattle.sq_tree.proofs.Readings.{reads_whole}
-use Rattle.sq_live.specs.Outcome.{is_complete_reading}
+use Rattle.sq_tree.specs.Reading.{is_complete_reading}
 
 -- the status that stands at a place is that of the node behind it
 pub stands_at : (statuses : List Status) (node place : ℕ) (status : Status) → place + 1 ≡ node → slice_index_or statuses place Free ≡ status → status_at statuses node ≡ status

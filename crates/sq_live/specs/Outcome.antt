@@ -1,10 +1,9 @@
 -- What live runs come to, by what was gathered of them.
-use Rattle.std.specs.Prelude.{◌≡◌, ◌⊎◌, ℕ, ◌^◌, ◌<◌, ◌==◌, Bool, true, false, List, [], ◌∷◌, length, slice_index_or, sum_by, count_by, codes, decimal}
+use Rattle.std.specs.Prelude.{◌≡◌, ◌⊎◌, ℕ, ◌^◌, ◌<◌, ◌==◌, Bool, List, [], ◌∷◌, length, slice_index_or, sum_by, count_by, codes, decimal}
 use Rattle.std.specs.List.{list_any, range_with_len}
 use Rattle.std.specs.FinMap.{len}
 use Rattle.sq_tree.specs.declared.status.Status.{Status}
-use Rattle.sq_tree.specs.declared.status.Reading.{Reading}
-use Rattle.sq_tree.specs.declared.status.Reading.TheVariants as reads
+use Rattle.sq_tree.specs.Reading.{is_complete_reading}
 use Rattle.sq_tree.specs.Status.{reading}
 use Rattle.sq_tree.specs.Tree.{status_at}
 use Rattle.sq_ranges.specs.OpeningValue.{OpeningValue}
@@ -38,10 +37,6 @@ is_answered receipts job = list_any (λ receipt. receipt.id == job.txn.id) recei
 -- how many of the jobs are answered
 abbrev pub answered_count : List ReceiptValue → List Job → ℕ
 answered_count receipts jobs = count_by (is_answered receipts) jobs
-
-abbrev pub is_complete_reading : Reading → Bool
-is_complete_reading reads.Complete = true
-is_complete_reading _ = false
 
 -- the segment of this number is complete: its node 1 reads complete. One of which no statuses were gathered isn't
 abbrev pub is_moved : List (List Status) → ℕ → Bool

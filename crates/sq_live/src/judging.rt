@@ -7,7 +7,8 @@ ghost use Rattle.sq_ranges.specs.declared.segment.TheConstants.{SEGMENT_LIMIT};
 ghost use Rattle.sq_leader.specs.Marks.{none_marked};
 ghost use Rattle.sq_leader.specs.Segments.{is_whole};
 ghost use Rattle.sq_audit.specs.Answers.{IdsDiffer};
-ghost use Rattle.sq_live.specs.Outcome.{answered_count, is_complete_reading, is_moved, commit_count, CameTo};
+ghost use Rattle.sq_tree.specs.Reading.{is_complete_reading};
+ghost use Rattle.sq_live.specs.Outcome.{answered_count, is_moved, commit_count, CameTo};
 ghost use Rattle.sq_live.specs.Judged.{HasIdsOf, AreGrown};
 
 use crate::leader::end_move;

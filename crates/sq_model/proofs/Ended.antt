@@ -26,7 +26,8 @@ use Rattle.sq_model.specs.Leader.{phase, is_moving_phase, is_reported}
 use Rattle.sq_model.specs.Nodes.{status_of}
 use Rattle.sq_model.specs.Place.{At, place, destination, is_covered, extent_of, is_within}
 use Rattle.sq_model.specs.Links.{reached}
-use Rattle.sq_model.specs.Answers.{is_complete_reading, is_whole, is_into, goes_into, segment_numbers, has_all, partitions, counts_reported}
+use Rattle.sq_tree.specs.Reading.{is_complete_reading}
+use Rattle.sq_model.specs.Answers.{is_whole, is_into, goes_into, segment_numbers, has_all, partitions, counts_reported}
 use Rattle.sq_model.specs.Legal.{IsLegal}
 use Rattle.sq_model.proofs.Lists.{list_any-Contains, list_all-Contains, row_has}
 use Rattle.sq_model.proofs.Steps.{finish_goes, report_goes, cut_goes, load_goes}

@@ -1,10 +1,8 @@
 -- The answer to each step, as the trace before it determines it.
-use Rattle.std.specs.Prelude.{ℕ, Bool, true, false, ◌-◌, ◌==◌, ◌||◌, not, nat_le, nat_lt, if◌then◌else◌, List, find, length, Option, Some, None, Result, Ok, Err, slice_get, unwrap_or}
+use Rattle.std.specs.Prelude.{ℕ, Bool, false, ◌-◌, ◌==◌, ◌||◌, not, nat_le, nat_lt, if◌then◌else◌, List, find, length, Option, Some, None, Result, Ok, Err, slice_get, unwrap_or}
 use Rattle.std.specs.List.{list_any, list_all, range_with_len}
 use Rattle.sq_schema.specs.TxnValue.{TxnValue}
 use Rattle.sq_schema.specs.Effect.{reply}
-use Rattle.sq_tree.specs.declared.status.Reading.{Reading}
-use Rattle.sq_tree.specs.declared.status.Reading.TheVariants as reads
 use Rattle.sq_tree.specs.declared.fault.SplitFault.{SplitFault}
 use Rattle.sq_tree.specs.declared.fault.SplitFault.TheVariants as split
 use Rattle.sq_tree.specs.declared.fault.ClaimFault.{ClaimFault}
@@ -14,6 +12,7 @@ use Rattle.sq_tree.specs.declared.fault.BeginFault.TheVariants as begin
 use Rattle.sq_tree.specs.declared.fault.CompleteFault.{CompleteFault}
 use Rattle.sq_tree.specs.declared.fault.CompleteFault.TheVariants as complete
 use Rattle.sq_tree.specs.Node.{is_node}
+use Rattle.sq_tree.specs.Reading.{is_complete_reading}
 use Rattle.sq_tree.specs.Status.{reading}
 use Rattle.sq_tree.specs.Answer.{split_answer, claim_answer, begin_answer, complete_answer}
 use Rattle.sq_chunk.specs.declared.chunk.Note.{Note}
@@ -176,10 +175,6 @@ load_answer o t src dst =
     if load_count t src dst == pop_count t src dst then Refused InboxEmpty
     else load_of o t (find (λ note. note.number == load_count t src dst) (link src dst (notes t)))
     ))
-
-abbrev pub is_complete_reading : Reading → Bool
-is_complete_reading reads.Complete = true
-is_complete_reading _ = false
 
 -- the segment of this number is whole at its destination
 abbrev pub is_whole : Trace → ℕ → Bool

@@ -18,7 +18,8 @@ use Rattle.sq_model.specs.declared.answer.Answer.TheVariants.{Done}
 use Rattle.sq_model.specs.declared.answer.Refusal.TheVariants.{AlreadyMoving, NotPrepared, NotFinished, NoSuchPartition}
 use Rattle.sq_model.specs.Trace.{Trace}
 use Rattle.sq_model.specs.Leader.{phase, is_started_phase, is_moving_phase, is_prepared}
-use Rattle.sq_model.specs.Answers.{answer, is_complete_reading, is_whole, is_into, has_all, goes_into, counts_reported, partitions, segment_numbers}
+use Rattle.sq_tree.specs.Reading.{is_complete_reading}
+use Rattle.sq_model.specs.Answers.{answer, is_whole, is_into, has_all, goes_into, counts_reported, partitions, segment_numbers}
 use Rattle.sq_model.proofs.Lists.{list_all-Contains, row_has}
 use Rattle.sq_transition.specs.WorldValue.{WorldValue, no_core, core_at, queue_at, link_value}
 use Rattle.sq_transition.specs.Leading.{parts_of, has_prepared, has_reported, after_prepare, after_start, after_report, after_finish}

@@ -8,7 +8,8 @@ use Rattle.sq_model.specs.declared.answer.Answer.TheVariants.{Done, Refused}
 use Rattle.sq_model.specs.declared.answer.Refusal.{Refusal}
 use Rattle.sq_model.specs.declared.answer.Refusal.TheVariants.{NotMoving, AlreadyMoving, NotPrepared, NotFinished, NoSuchPartition}
 use Rattle.sq_model.specs.Leader.{is_moving_phase, is_started_phase}
-use Rattle.sq_model.specs.Answers.{goes_into, is_complete_reading}
+use Rattle.sq_tree.specs.Reading.{is_complete_reading}
+use Rattle.sq_model.specs.Answers.{goes_into}
 use Rattle.sq_transition.specs.WorldValue.{WorldValue, range_of, status_in}
 use Rattle.sq_transition.specs.Leading.{phase_of, has_prepared, has_reported, after_prepare, after_start, after_report, after_finish}
 

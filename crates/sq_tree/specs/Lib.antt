@@ -1,4 +1,5 @@
 pub mod Answer
 pub mod Node
+pub mod Reading
 pub mod Status
 pub mod Tree

@@ -5,7 +5,7 @@ ghost use Rattle.sq_leader.specs.declared.leader.Leader.{Leader};
 ghost use Rattle.sq_ranges.specs.declared.segment.TheConstants.{SEGMENT_LIMIT};
 ghost use Rattle.sq_tree.specs.Status.{reading};
 ghost use Rattle.sq_tree.specs.Tree.{status_at};
-ghost use Rattle.sq_model.specs.Answers.{is_complete_reading};
+ghost use Rattle.sq_tree.specs.Reading.{is_complete_reading};
 ghost use Rattle.sq_transition.specs.LeaderResults.{prepare_result, start_result, report_result, finish_result, started_core};
 ghost use Rattle.sq_state.specs.Results.{answer_of, report_refused};
 ghost use Rattle.sq_state.specs.Sound.{IsSound};

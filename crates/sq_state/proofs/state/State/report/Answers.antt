@@ -6,7 +6,7 @@ use Rattle.sq_leader.specs.declared.leader.Leader.TheVariants.{Moving}
 use Rattle.sq_tree.specs.declared.status.Status.{Status}
 use Rattle.sq_tree.specs.Status.{reading}
 use Rattle.sq_tree.specs.Tree.{status_at}
-use Rattle.sq_model.specs.Answers.{is_complete_reading}
+use Rattle.sq_tree.specs.Reading.{is_complete_reading}
 use Rattle.sq_model.specs.declared.answer.Answer.TheVariants.{Done, Refused}
 use Rattle.sq_transition.specs.WorldValue.{WorldValue}
 use Rattle.sq_transition.specs.LeaderResults.{is_segment_whole}

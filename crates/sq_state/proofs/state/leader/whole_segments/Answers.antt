@@ -7,7 +7,7 @@ use Rattle.sq_tree.specs.declared.status.Reading.TheVariants.{NotStarted, Partia
 use Rattle.sq_tree.specs.declared.status.Status.{Status}
 use Rattle.sq_tree.specs.Status.{reading}
 use Rattle.sq_tree.specs.Tree.{status_at}
-use Rattle.sq_model.specs.Answers.{is_complete_reading}
+use Rattle.sq_tree.specs.Reading.{is_complete_reading}
 use Rattle.sq_state.proofs.state.leader.whole_segments.Goals as goal
 
 -- what reads complete is whole

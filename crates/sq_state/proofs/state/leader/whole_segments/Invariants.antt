@@ -3,7 +3,7 @@ use Rattle.std.specs.Prelude.{slice_index_or}
 use Rattle.sq_leader.specs.Segments.{is_whole}
 use Rattle.sq_tree.specs.Status.{reading}
 use Rattle.sq_tree.specs.Tree.{status_at}
-use Rattle.sq_model.specs.Answers.{is_complete_reading}
+use Rattle.sq_tree.specs.Reading.{is_complete_reading}
 use Rattle.sq_state.proofs.state.leader.whole_segments.Given as goal
 
 -- each segment so far is told
