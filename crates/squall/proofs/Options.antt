@@ -9,23 +9,28 @@ use Rattle.squall.specs.Line.{NumberOf}
 abbrev pub SpellsNumber : Text → Type 0
 SpellsNumber text = IsNumeral 10 (without_leading_plus text) × (digits_value 10 (without_leading_plus text) < 2 ^ 64)
 
+-- an option with this text is read as this number
+pub record ReadsNumber (n : ℕ) (text : Option Text) : Type 0 where
+  pub given : text ≡ None → Some n ≡ None
+  pub spelled : (t : Text) → text ≡ Some t → SpellsNumber t × (n ≡ digits_value 10 (without_leading_plus t))
+
 no_some : (n : ℕ) → Some n ≡ None → ⊥
 no_some n e = cc
 
 module _ (most default : ℕ) where
   -- an option whose text spells a number from 1 up to the most that it may be
-  pub number_read : (n : ℕ) (text : Option Text) → (text ≡ None → Some n ≡ None) → ((t : Text) → text ≡ Some t → SpellsNumber t × (n ≡ digits_value 10 (without_leading_plus t))) → 1 ≤ n → n ≤ most → NumberOf most default text n
-  number_read n None none spells some within = absurd (no_some n (none refl))
-  number_read n (Some t) none spells some within =
-      let told = spells t refl in
+  pub number_read : (n : ℕ) (text : Option Text) → ReadsNumber n text → 1 ≤ n → n ≤ most → NumberOf most default text n
+  number_read n None reads some within = absurd (no_some n (reads.given refl))
+  number_read n (Some t) reads some within =
+      let told = reads.spelled t refl in
       let is = told.1 in
       inl ((told.0.0, told.0.1, omega (arith, is, some), omega (arith, is, within)), is)
 
   -- one whose text spells another number
-  pub number_out : (n : ℕ) (text : Option Text) → (text ≡ None → Some n ≡ None) → ((t : Text) → text ≡ Some t → SpellsNumber t × (n ≡ digits_value 10 (without_leading_plus t))) → (1 ≤ n → n ≤ most → ⊥) → NumberOf most default text default
-  number_out n None none spells out = absurd (no_some n (none refl))
-  number_out n (Some t) none spells out =
-      let is = (spells t refl).1 in
+  pub number_out : (n : ℕ) (text : Option Text) → ReadsNumber n text → (1 ≤ n → n ≤ most → ⊥) → NumberOf most default text default
+  number_out n None reads out = absurd (no_some n (reads.given refl))
+  number_out n (Some t) reads out =
+      let is = (reads.spelled t refl).1 in
       inr ((λ within. let low = within.2 in let high = within.3 in out (omega (arith, is, low)) (omega (arith, is, high))), refl)
 
   -- one that isn't given, or whose text spells no number
