@@ -1,11 +1,11 @@
 -- What layers above use of nodes: which keys of a segment they cover.
-use Rattle.std.proofs.Common.{◌≡◌, ◌⊎◌, ⊎_elim, ℕ, ◌+◌, ◌-◌, ◌*◌, ◌/◌, ◌<◌, ◌≤◌, true, false, ap, arith, nat_le, nat_lt, IsTrue}
+use Rattle.std.proofs.Common.{◌≡◌, ◌⊎◌, ⊎_elim, ℕ, ◌+◌, ◌-◌, ◌*◌, ◌/◌, ◌<◌, ◌≤◌, true, false, arith, nat_le, nat_lt, IsTrue}
 use Rattle.std.proofs.Math.Nat.{div-mul-le_self, lt-div-mul-add}
 use Rattle.std.proofs.lemmas.Nat.{div_below}
-use Rattle.std.proofs.lemmas.Bool.{and_parts, and_from, leb-true, le-leb, lt-ltb, cases_lt}
+use Rattle.std.proofs.lemmas.Bool.{and_from, le-leb, lt-ltb, cases_lt}
 use Rattle.sq_tree.specs.declared.node.TheConstants.{LEAVES}
-use Rattle.sq_tree.specs.Node.{is_node, is_leaf, span, first_leaf, is_above, is_under}
-use Rattle.sq_tree.proofs.Nested.{apart, above_bounds, halves_of}
+use Rattle.sq_tree.specs.Node.{is_node, span, first_leaf, is_above, is_under}
+use Rattle.sq_tree.proofs.Nested.{apart, above_bounds}
 use Rattle.sq_ranges.specs.declared.recon.Range.{Range}
 use Rattle.sq_ranges.specs.ReconValue.{has_key, segment_width, leaf_of, leaf_start, extent}
 pub use Rattle.sq_ranges.specs.Laws.{Covers}
@@ -36,14 +36,6 @@ module _ (width : ℕ) (segment : Range) where
   pub extent_whole : segment.lo ≤ segment.hi → segment.hi ≤ segment.lo + segment_width width → ((extent width segment 1).lo ≡ segment.lo) × ((extent width segment 1).hi ≡ segment.hi)
   extent_whole some short = (omega arith, omega arith)
 
-  -- the two halves of a node tile it
-  pub extent_halves : (n : ℕ) → IsTrue (is_node n) → is_leaf n ≡ false → ((extent width segment (2 * n)).lo ≡ (extent width segment n).lo) × ((extent width segment (2 * n)).hi ≡ (extent width segment (2 * n + 1)).lo) × ((extent width segment (2 * n + 1)).hi ≡ (extent width segment n).hi)
-  extent_halves n node inner =
-      let leaves = halves_of n node inner in
-      let middle : first_leaf (2 * n) + span (2 * n) ≡ first_leaf (2 * n + 1) = omega (arith, leaves.low, leaves.high) in
-      let end : first_leaf (2 * n + 1) + span (2 * n + 1) ≡ first_leaf n + span n = omega (arith, leaves.high, leaves.same, leaves.whole) in
-      (ap (leaf_start width segment) leaves.low, ap (leaf_start width segment) middle, ap (leaf_start width segment) end)
-
   -- a node whose leaves come before another's ends before the other begins
   pub extent_before : (n m : ℕ) → first_leaf n + span n ≤ first_leaf m → (extent width segment n).hi ≤ (extent width segment m).lo
   extent_before n m before = leaf_start_rises (first_leaf n + span n) (first_leaf m) before
@@ -58,14 +50,6 @@ module _ (width : ℕ) (segment : Range) where
   -- as two that aren't nested have
   pub extents_disjoint : (n m key : ℕ) → IsTrue (is_node n) → IsTrue (is_node m) → is_under n m ≡ false → is_under m n ≡ false → Covers (extent width segment n) key → Covers (extent width segment m) key → ⊥
   extents_disjoint n m key node other not_under not_above = extents_apart n m key (apart n m node other not_under not_above)
-
-  -- what is under a node lies in it
-  pub extent_under : (n m : ℕ) → is_under n m ≡ true → ((extent width segment n).lo ≤ (extent width segment m).lo) × ((extent width segment m).hi ≤ (extent width segment n).hi)
-  extent_under n m under =
-      let parts = and_parts (nat_le (first_leaf n) (first_leaf m)) (nat_le (first_leaf m + span m) (first_leaf n + span n)) under in (
-        leaf_start_rises (first_leaf n) (first_leaf m) (leb-true (first_leaf n) (first_leaf m) parts.0),
-        leaf_start_rises (first_leaf m + span m) (first_leaf n + span n) (leb-true (first_leaf m + span m) (first_leaf n + span n) parts.1),
-      )
 
   module _ (some : 1 ≤ width) (key : ℕ) (held : has_key segment key ≡ true) where
     -- a leaf begins at a key or before it where the key's leaf doesn't come before it

@@ -1,5 +1,5 @@
 -- The segment of a key.
-use Rattle.std.proofs.Common.{◌≡◌, ◌⊎◌, ⊎_elim, ℕ, ◌<◌, Bool, true, false, true≢false, cond, List, [], ◌∷◌, length, get_or, Option, Some, None, refl, sym, ap, ◌∙◌, arith, not, nat_lt}
+use Rattle.std.proofs.Common.{◌≡◌, ◌⊎◌, ⊎_elim, ℕ, ◌<◌, Bool, true, false, cond, List, [], ◌∷◌, length, get_or, Some, None, refl, sym, ap, ◌∙◌, arith, not, nat_lt}
 use Rattle.std.specs.Prelude.{slice_get, position}
 use Rattle.std.specs.List.{list_any, position_or_len}
 use Rattle.std.proofs.lemmas.Bool.{lt-ltb, le-ltb, ltb-false, cond-true, cond-false, cases_order, false_from_ne_true, not-true}
@@ -68,11 +68,3 @@ segment_of-has_key segments key i e = holder segments e
 
 pub segment_of-none : (segments : List Range) (key : ℕ) → segment_of segments key ≡ None → any_has_key segments key ≡ false
 segment_of-none segments key e = none_passes (λ r. has_key r key) segments e
-
--- a key of some segment has one
-pub segment_of-any : (segments : List Range) (key : ℕ) → any_has_key segments key ≡ true → (i : ℕ) × (segment_of segments key ≡ Some i)
-segment_of-any segments key held = told (segment_of segments key) refl
-  where
-    told : (found : Option ℕ) → segment_of segments key ≡ found → (i : ℕ) × (segment_of segments key ≡ Some i)
-    told None e = absurd (true≢false (sym held ∙ segment_of-none segments key e))
-    told (Some i) e = (i, e)

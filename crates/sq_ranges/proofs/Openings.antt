@@ -37,9 +37,6 @@ pub record IsSoFar (tables : ℕ) (rows : List GivenRow) (at : ℕ) (rest : List
   pub early : first_fault tables (rows_in table) at rest ≡ None → first_fault tables no_rows 0 rows ≡ None
   pub below : (root : ℕ) → ROOT_END ≤ root → rows_in table root ≡ []
 
-pub so_far-start : (tables : ℕ) (rows : List GivenRow) (table : TableValue) → table ≡ [] → IsSoFar tables rows 0 rows table
-so_far-start tables rows table empty = rw empty (record { fault = refl; given = refl; early = λ none. none; below = λ root high. refl })
-
 -- a row that isn't refused has a root key
 shape-root : (tables : ℕ) (given : GivenRow) → shape_fault tables given ≡ None → given.root < ROOT_END
 shape-root tables given none = ltb-true given.root ROOT_END (from_if _ (nat_lt given.root ROOT_END) none)

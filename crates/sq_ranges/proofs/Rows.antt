@@ -27,10 +27,6 @@ module _ (P : Range → Type 0) where
   row_lower lo lo' hi [] le row = omega arith
   row_lower lo lo' hi (range ∷ ranges) le row = (omega arith, row.1, row.2, row.3)
 
-  pub row_higher : (lo hi hi' : ℕ) (ranges : List Range) → hi ≤ hi' → Row P lo hi ranges → Row P lo hi' ranges
-  row_higher lo hi hi' [] le row = omega arith
-  row_higher lo hi hi' (range ∷ ranges) le row = (row.0, row.1, row.2, row_higher range.hi hi hi' ranges le row.3)
-
   -- one row after another
   pub row-append : (lo mid hi : ℕ) (ones others : List Range) → Row P lo mid ones → Row P mid hi others → Row P lo hi (ones ++ others)
   row-append lo mid hi [] others row rest = row_lower mid lo hi others row rest
@@ -62,8 +58,3 @@ module _ (P : Range → Type 0) where
       omega (arith, stands.low)
   row_apart lo hi (first ∷ ranges) (suc i) zero one other row e e' less = absurd (omega arith)
   row_apart lo hi (first ∷ ranges) (suc i) (suc j) one other row e e' less = row_apart first.hi hi ranges i j one other row.3 e e' (omega arith)
-
--- another fact of each
-pub row-map : (P Q : Range → Type 0) → ((range : Range) → P range → Q range) → (lo hi : ℕ) (ranges : List Range) → Row P lo hi ranges → Row Q lo hi ranges
-row-map P Q f lo hi [] row = row
-row-map P Q f lo hi (range ∷ ranges) row = (row.0, row.1, f range row.2, row-map P Q f range.hi hi ranges row.3)

@@ -9,11 +9,11 @@ use Rattle.sq_ranges.specs.declared.recon.TheConstants.{MAX_WIDTH}
 use Rattle.sq_ranges.specs.ReconValue.{ReconValue, IsRecon, has_key, segment_of, is_width, are_in_key_order}
 use Rattle.sq_ranges.specs.Moves.{IsMovingRun, AreMoves}
 use Rattle.sq_ranges.specs.Sweep.{AreMovesFrom}
-use Rattle.sq_ranges.proofs.Rows.{Row, Stands, row_at, row_apart}
+use Rattle.sq_ranges.proofs.Rows.{Row, Stands, row_at}
 use Rattle.sq_ranges.proofs.Runs.{moves_from_first}
 use Rattle.sq_ranges.proofs.Joins.{any_has_key, has_key-bounds}
 use Rattle.sq_ranges.proofs.Cuts.{IsSegment, Moves, segments_of-row, segments_of-cover, row_from_rising, rising_from_row, segment_parts, run_parts}
-use Rattle.sq_ranges.proofs.Found.{segment_of-some, segment_of-has_key, segment_of-none, segment_of-any, one_holder}
+use Rattle.sq_ranges.proofs.Found.{segment_of-some, segment_of-has_key, segment_of-none, one_holder}
 
 -- the bounds of a width
 pub width_bounds : (width : ℕ) → is_width width ≡ true → (1 ≤ width) × (width ≤ MAX_WIDTH)
@@ -54,10 +54,6 @@ module _ (recon : ReconValue) (is : IsRecon recon) where
   pub segment_stands : (i : ℕ) (segment : Range) → slice_get recon.segments i ≡ Some segment → Stands (IsSegment recon.width) 0 ROOT_END segment
   segment_stands i segment at = row_at (IsSegment recon.width) 0 ROOT_END recon.segments i segment segments_row at
 
-  -- an earlier one ends before a later one begins
-  pub segments_apart : (i j : ℕ) (one other : Range) → slice_get recon.segments i ≡ Some one → slice_get recon.segments j ≡ Some other → i < j → one.hi ≤ other.lo
-  segments_apart i j one other at at' less = row_apart (IsSegment recon.width) 0 ROOT_END recon.segments i j one other segments_row at at' less
-
   -- the segment of a key is the one that holds it
   pub segment_of_held : (key i : ℕ) (segment : Range) → slice_get recon.segments i ≡ Some segment → has_key segment key ≡ true → segment_of recon.segments key ≡ Some i
   segment_of_held key i segment at held = segment_of-some (IsSegment recon.width) 0 ROOT_END recon.segments key i segment segments_row at held
@@ -91,9 +87,6 @@ module _ (recon : ReconValue) (is : IsRecon recon) where
     pub moved_in_segment : (key : ℕ) → key < ROOT_END → owner old key ≢ owner new key → any_has_key recon.segments key ≡ true
     moved_in_segment key within differ =
         ap (λ (segments : List Range). any_has_key segments key) is.cut ∙ segments_of-cover recon.width some_width recon.ranges key (moves.each key within differ)
-
-    pub moved_found : (key : ℕ) → key < ROOT_END → owner old key ≢ owner new key → (i : ℕ) × (segment_of recon.segments key ≡ Some i)
-    moved_found key within differ = segment_of-any recon.segments key (moved_in_segment key within differ)
 
     -- a key without one keeps its owner
     pub unfound_owner : (key : ℕ) → key < ROOT_END → segment_of recon.segments key ≡ None → owner old key ≡ owner new key

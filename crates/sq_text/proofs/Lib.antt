@@ -2,7 +2,6 @@ pub mod Splits
 pub mod DigitRun
 pub mod Onto
 pub mod HexRun
-pub mod HexText
 pub mod Shrinks
 pub mod OpRun
 pub mod Appending

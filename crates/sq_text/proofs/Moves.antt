@@ -1,6 +1,6 @@
 -- What a writer got of segments, one after another.
-use Rattle.std.proofs.Common.{◌≡◌, ℕ, ◌+◌, ◌<◌, ◌≤◌, List, [], ◌∷◌, ◌++◌, length, get_or, take, Option, sym, ap, ◌∙◌, append_assoc, arith}
-use Rattle.std.proofs.lemmas.List.{append-nil, take_more, take_all, length-take-le}
+use Rattle.std.proofs.Common.{◌≡◌, ℕ, ◌+◌, ◌<◌, List, [], ◌∷◌, ◌++◌, length, get_or, take, Option, sym, ap, ◌∙◌, append_assoc, arith}
+use Rattle.std.proofs.lemmas.List.{append-nil, take_more, length-take-le}
 use Rattle.std.specs.Io.KnownBytes.{Appends}
 use Rattle.sq_ranges.specs.declared.recon.Range.{Range}
 use Rattle.sq_text.specs.Texts.{segment_line, segment_lines}
@@ -20,7 +20,3 @@ segments_next xs i x a b c within is before here =
     let count : 0 + length (take i xs) ≡ i = omega (arith, length-take-le i xs (omega (arith, within))) in
     both a b c (segment_lines 0 (take i xs)) (segment_line i x) (segment_lines 0 (take (i + 1) xs)) before here
     (rw (take_more xs i x within, ← is, lines_behind 0 (take i xs) (x ∷ []), count) (ap (λ (t : List ℕ). segment_lines 0 (take i xs) ++ t) (sym (append-nil (segment_line i x)))))
-
--- the lines of all segments
-pub segments_all : (xs : List Range) (i : ℕ) (a b : Option (List ℕ)) → length xs ≤ i → Appends a b (segment_lines 0 (take i xs)) → Appends a b (segment_lines 0 xs)
-segments_all xs i a b end all = rw take_all at all
