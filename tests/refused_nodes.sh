@@ -1,5 +1,5 @@
 #!/usr/bin/env bash
-# Refused growths of nodes and of a gathering: runs in one thread, in each of which one allocation fails.
+# Refused growths of what a run opens with, of nodes and of a gathering: runs in one thread, in each of which one allocation fails.
 #
 #   tests/refused_nodes.sh
 #
@@ -7,7 +7,8 @@
 # a proof, and gives it one input after another. In each run the allocation of the same number fails. The program makes
 # as many allocations of its own as its input has bytes, so that it is another one of the run that fails each time.
 #
-# A step whose growth is refused answers so, and its work is done at a later turn. A gathering whose growth is refused
+# Where a growth of what a run opens with (its trees, links, queues, nodes and pumps) is refused, it is opened once more. A
+# step whose growth is refused answers so, and its work is done at a later turn. A gathering whose growth is refused
 # hands all back, and what came back is gathered. So what is gathered in the end is always the same.
 set -eu
 export LC_ALL=C
@@ -15,11 +16,11 @@ top=$(dirname "$(cd "$(dirname "$0")" && pwd)")
 room=$(mktemp -d)
 trap 'rm -r "$room"' EXIT
 
-# The allocation that fails, and how many bytes the first and the last input have: the growths of the steps and of the
-# gathering lie between them.
+# The allocation that fails, and how many bytes the first and the last input have: the growths of the opening, of the
+# steps and of the gathering lie between them.
 failing=300
 fewest=165
-most=215
+most=299
 
 # A repository of the same crates and the program.
 make_program() {
@@ -31,7 +32,7 @@ make_program() {
 mod run;
 mod text;
 
-use run::Run;
+use run::{Run, read_opening};
 use sq_node::Stepped;
 use std::alloc::Global;
 use std::io::Read;
@@ -59,7 +60,14 @@ fn allocate<R: Read>(alloc: Global, reader: &mut R) {
 fn main(rt: HostRuntime) -> Result<(), Fail> {
     let alloc = rt.alloc();
     allocate(alloc, &mut rt.reader());
-    let mut run = Run::opened(alloc, HEADER, 1)?;
+    let opening = read_opening(alloc, HEADER)?;
+    let mut run = match Run::of(alloc, &opening, 1) {
+        Ok(run) => run,
+        Err(_) => {
+            println!(rt; "refused open")?;
+            Run::of(alloc, &opening, 1)?
+        }
+    };
     run.post(&rt, alloc, "txn 1 9 5 get 0 0")?;
     println!(rt; "opened")?;
     for _turn in 0..8 {
@@ -134,7 +142,7 @@ for bytes in $(seq "$fewest" "$most"); do
 done
 
 # What takes memory: a growth of each was refused in some run, and of nothing else.
-for what in job request cut load resume gather none; do
+for what in open job request cut load resume gather none; do
     if [ -z "${met[$what]:-}" ]; then
         failed=$((failed + 1))
         echo "no growth of $what was refused"

@@ -16,7 +16,7 @@ use sq_pull::{Pump, PumpTurn, Request};
 use sq_ranges::Opening;
 use sq_schema::{Reply, Schema};
 use sq_text::{read_header, read_step};
-use std::alloc::Global;
+use std::alloc::{AllocError, Global};
 use std::sync::Wait;
 use std::test::Fail;
 use std::thread::Threads;
@@ -55,7 +55,14 @@ impl Run {
         requires { pumps ≤ MAX_OWNERS }
     {
         let opening = read_opening(alloc, header)?;
-        let (fabric, nodes, pumps) = Fabric::open(alloc, &opening, pumps)?;
+        Ok(Run::of(alloc, &opening, pumps)?)
+    }
+
+    /// The run of an opening, with this many pumps.
+    pub fn of(alloc: Global, opening: &Opening, pumps: u32) -> Result<Run, AllocError>
+        requires { pumps ≤ MAX_OWNERS }
+    {
+        let (fabric, nodes, pumps) = Fabric::open(alloc, opening, pumps)?;
         // For the proof: what holds of each fabric, which `links` says.
         let _links = fabric.links();
         Ok(Run {
