@@ -19,12 +19,13 @@ pub struct Gathered {
 }
 
 impl Model for Gathered {
-    ghost use Rattle.sq_node_model.specs.StoreCode.{store_codes};
+    ghost use Rattle.std.specs.Coded.{codes};
+    ghost use Rattle.sq_store.proofs.Codes.{store_coded};
     ghost use Rattle.sq_node_model.specs.Gathered.{GatheredValue};
 
     ghost Value = { GatheredValue };
 
-    ghost coded = { Prim.hlevel store_codes };
+    ghost coded = { Prim.hlevel (codes, store_coded) };
 
     ghost view = { λ g. record { stores = g.stores.items; links = g.links.items; words = g.words.items; receipts = g.receipts.items } };
 }

@@ -34,12 +34,13 @@ pub(crate) struct Gathering {
 
 impl Model for Gathering {
     ghost use Rattle.std.specs.Prelude.{◌≡◌, map, length, vec_len, vec_capacity};
-    ghost use Rattle.sq_node_model.specs.StoreCode.{store_codes};
+    ghost use Rattle.std.specs.Coded.{codes};
+    ghost use Rattle.sq_store.proofs.Codes.{store_coded};
     ghost use Rattle.sq_gather.specs.GatheringValue.{GatheringValue};
 
     ghost Value = { GatheringValue };
 
-    ghost coded = { Prim.hlevel store_codes };
+    ghost coded = { Prim.hlevel (codes, store_coded) };
 
     ghost view = { λ g. record {
       stores = g.stores.items;

@@ -42,13 +42,14 @@ pub struct Node {
 }
 
 impl Model for Node {
-    ghost use Rattle.sq_node_model.specs.StoreCode.{store_codes};
+    ghost use Rattle.std.specs.Coded.{codes};
+    ghost use Rattle.sq_store.proofs.Codes.{store_coded};
     ghost use Rattle.sq_node.specs.NodeState.{NodeState};
     ghost use Rattle.sq_node.specs.Settled.{IsNode};
 
     ghost Value = { NodeState };
 
-    ghost coded = { Prim.hlevel store_codes };
+    ghost coded = { Prim.hlevel (codes, store_coded) };
 
     ghost view = { λ n. record {
       core = n.core.core;

@@ -12,4 +12,3 @@ pub mod Cores
 pub mod Gathered
 pub mod Spots
 pub mod Placed
-pub mod StoreCode
