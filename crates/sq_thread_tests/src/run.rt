@@ -63,7 +63,8 @@ impl Run {
         requires { pumps ≤ MAX_OWNERS }
     {
         let (fabric, nodes, pumps) = Fabric::open(alloc, opening, pumps)?;
-        // For the proof: what holds of each fabric, which `links` says.
+        // For the proof: what holds of each opening and each fabric, which these say.
+        let _recon = opening.recon();
         let _links = fabric.links();
         Ok(Run {
             fabric,
