@@ -336,11 +336,17 @@ try_tour() {
     count tour_as_it_is_told "$(difference "$tests/runs/tour.in" "$room/input"; difference "$tests/runs/tour.out" "$room/output")"
 }
 
-# The code in the README is that of the caller of the library: its first block stands there, line by line.
-try_readme() {
-    sed -n '/^```rust$/,/^```$/p' "$top/README.md" | sed '1d;$d' > "$room/told"
+# The code in docs/library.md is that of the caller of the library: its first block stands there, line by line.
+try_library() {
+    sed -n '/^```rust$/,/^```$/p' "$top/docs/library.md" | sed '1d;$d' > "$room/told"
     sed -n "/^use sq_world/,/^}\$/p" "$top/crates/sq_example/src/lib.rt" > "$room/code"
     count code_as_it_is_told "$(difference "$room/code" "$room/told")"
+}
+
+# The answers in the README are those of its first example.
+try_readme() {
+    sed -n '/^    ok$/,/^    at /s/^    //p' "$top/README.md" > "$room/told"
+    count answers_as_they_are_told "$(difference "$examples/first-move.out" "$room/told")"
 }
 
 programs=("${SQUALL:-$built}")
@@ -351,6 +357,7 @@ mkdir "$room/limits"
 bash "$tests/limits.sh" "$room/limits"
 try_tour
 try_readme
+try_library
 for program in "${programs[@]}"; do
     if [ ! -x "$program" ]; then
         echo "tests: no program at $program: run 'rt ci' at the top first" >&2
