@@ -7,8 +7,8 @@
 # Prints for each script the seconds, the lines a second, the most memory that the program took, and the multiple of the
 # time that `LC_ALL=C wc -lw` takes on the same input, which is a measure that stands on every machine. Then it prints
 # how the time of a transaction and of a chunk grows with the database: the ratio of the time at 400,000 families to that
-# at 1,000. The time of a script is the difference of an input with it and one without it. Each of these times is
-# processor time. At last come live runs with 4,096 jobs, whose partitions each give all their root keys to the next one:
+# at 1,000, and what a fold of nearly 100,000 families takes. These are differences of an input with the steps and one
+# without them. Each of these times is processor time. At last come live runs with 4,096 jobs, whose partitions each give all their root keys to the next one:
 # how many jobs are answered in a second that passes, and the ratio to a run of one partition. Each time is the best of
 # several (RUNS=COUNT, 5 if left out).
 #
@@ -27,7 +27,7 @@ room=$(mktemp -d)
 trap 'rm -r "$room"' EXIT
 
 # What the inputs share. The numbers are those of Park and Miller: the next one is 16807 times the one before, modulo
-# 2^31 - 1. The root keys below `moved` go from partition 0 to partition 1.
+# 2^31 - 1. The root keys below `moved` go from partition 0 to partition 1; where that is 0 nothing moves.
 shared='
 function random(below) { state = (state * 16807) % 2147483647; return state % below }
 function step(line, answer) {
@@ -37,7 +37,10 @@ function step(line, answer) {
 function header(moved, sizes,   end) {
     end = "4294967296"
     print "old {\"version\":1,\"partitions\":2,\"ranges\":[[0," end ",0]]}" > input
-    print "new {\"version\":1,\"partitions\":2,\"ranges\":[[0," moved ",1],[" moved "," end ",0]]}" > input
+    if (moved > 0)
+        print "new {\"version\":1,\"partitions\":2,\"ranges\":[[0," moved ",1],[" moved "," end ",0]]}" > input
+    else
+        print "new {\"version\":1,\"partitions\":2,\"ranges\":[[0," end ",0]]}" > input
     print "config " sizes > input
 }
 function rows(roots,   root) {
@@ -211,6 +214,30 @@ BEGIN {
     dump(1, 0, roots)
 }'
 
+# As many families as an input has lines for, each made by one transaction and changed by nine more. Their logs are
+# folded, or an empty line stands there.
+folds='
+BEGIN {
+    roots = 99999
+    header(0, "65536 1048576 8")
+    start()
+    step("finish", "ok")
+    for (id = 0; id < roots; id++) {
+        number[id] = random(most_number)
+        step("txn 0 " id " " id " put 0 0 " number[id] " -", "commit " id " ok")
+    }
+    for (; id < 10 * roots; id++) {
+        root = id % roots
+        number[root] += id % 7
+        step("txn 0 " id " " root " add 0 0 " id % 7, "commit " id " " number[root])
+    }
+    if (fold) step("fold 0", "ok")
+    else step("", "refused 230")
+    print "end ended" > wanted
+    for (root = 0; root < roots; root++)
+        print "at 0 " root " " (fold ? 0 : 10) " 0.0=" number[root] "/-" > wanted
+}'
+
 # Empty lines, up to the most lines that an input has.
 empty_lines='
 BEGIN {
@@ -351,6 +378,21 @@ grows() {
 }'
 }
 
+# What a fold takes, as the difference of a script with it and one without it.
+folding() {
+    local without with yardstick
+    generate "$folds" fold=0
+    check "a script without a fold"
+    without=$(best 1 "$squall" run)
+    generate "$folds" fold=1
+    check "a fold"
+    with=$(best 1 "$squall" run)
+    yardstick=$(best 10 wc -lw)
+    awk -v without="$without" -v with="$with" -v yardstick="$yardstick" 'BEGIN {
+    printf "a fold of 99999 families with 10 transactions each: %.3f seconds, %.2f times wc -lw on its script\n", (with - without) / 1000000, (with - without) / yardstick
+}'
+}
+
 # lively PARTITIONS [RATE]: times a live run. Leaves how many jobs it answers a second in `rate`, and prints the ratio to
 # another rate, where one is named.
 lively() {
@@ -369,6 +411,7 @@ measure "resumed transactions" "$resumes"
 measure "empty lines" "$empty_lines"
 grows "a transaction" "$transactions" 2000 250000
 grows "a chunk" "$growing_chunks" 500 100000
+folding
 lively 1
 one=$rate
 lively 4 "$one"

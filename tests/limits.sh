@@ -99,6 +99,22 @@ fault plan_of_17_partitions_and_257_ranges 104 1
 echo "old $(plan 0 1)" > plan_of_0_partitions_and_a_range.in
 fault plan_of_0_partitions_and_a_range 104 1
 
+# So has one of version 2, but for its 64 partitions; its ranges are looked at before its text for stages, and behind the
+# form of all fields: second PARTITIONS RANGES FIELDS.
+second() { plan "$1" "$2" | sed "s/\"version\":1/\"version\":2/; s/\\]}\$/]$3}/"; }
+{
+    echo "old $(second 64 256 ',"stages":"auto"')"
+    echo "new $(second 64 1 ',"stages":"one"')"
+    echo 'config 1 64 1'
+} > plan_of_64_partitions_and_256_ranges.in
+echo 'end idle' > plan_of_64_partitions_and_256_ranges.out
+echo "old $(second 64 257 ',"stages":"both"')" > plan_of_257_ranges_before_its_stages.in
+fault plan_of_257_ranges_before_its_stages 107 1
+echo "old $(second 65 257 ',"stages":"both"')" > plan_of_65_partitions_and_257_ranges.in
+fault plan_of_65_partitions_and_257_ranges 104 1
+echo "old $(second 64 257 '')" > plan_of_257_ranges_without_stages.in
+fault plan_of_257_ranges_without_stages 102 1
+
 # JSON's arrays stand in one another at most 127 times. Those here are no plan.
 nested() { yes "$1" | head -n "$2" | tr -d '\n'; }
 echo "old $(nested '[' 127)$(nested ']' 127)" > arrays_in_127_arrays.in
@@ -117,6 +133,48 @@ fault arrays_in_128_arrays 101 1
     printf '%s\n' 'refused 221' 'refused 221' 'commit 4 none' 'moved 5 0' 'refused 133'
     printf '%s\n' 'end idle' 'at 0 5 4096 0.0=10/-' 'at 0 6 1'
 } > full_log.out
+
+# The steps that move the whole segment, and their answers.
+move() { printf '%s\n' 'claim 0 1 2' 'begin 0 1 2' 'cut 0 1' 'push 0 1' 'pop 0 1' 'load 0 1' 'complete 0 1 2' 'report 1' 'finish'; }
+is_moved() { printf '%s\n' ok ok 'cut 0 0 1 4 8 last 1' ok ok 'load 0 0 1 4 8 last 1' ok ok ok; }
+
+# A full log that is folded has room for as many again.
+{
+    header
+    start
+    move
+    repeat 4096 'txn 1 9 5 get 0 0'
+    printf '%s\n' 'txn 1 9 5 get 0 0' 'fold 1'
+    repeat 4096 'txn 1 9 5 get 0 0'
+    printf '%s\n' 'txn 1 9 5 get 0 0' 'fold 0' 'txn 1 9 5 get 0 0' 'fold 1' 'txn 1 9 5 get 0 0'
+} > full_log_that_is_folded.in
+{
+    started
+    is_moved
+    repeat 4096 'commit 9 10/-'
+    printf '%s\n' 'refused 221' ok
+    repeat 4096 'commit 9 10/-'
+    printf '%s\n' 'refused 221' ok 'refused 221' ok 'commit 9 10/-' 'end ended' 'at 1 5 1 0.0=10/-'
+} > full_log_that_is_folded.out
+
+# A transaction that waits with a full log can be resumed once the log is folded, and those behind it.
+{
+    header
+    repeat 4096 'txn 0 1 5 get 0 0'
+    start
+    echo 'txn 1 2 5 add 0 0 1'
+    move
+    printf '%s\n' 'resume 1' 'txn 1 3 5 get 0 0' 'fold 0' 'resume 1' 'fold 1' 'resume 1' 'txn 1 4 5 get 0 0'
+    repeat 3 'resume 1'
+} > resumes_once_a_full_log_is_folded.in
+{
+    repeat 4096 'commit 1 10/-'
+    started
+    echo 'waits 2 0 1'
+    is_moved
+    printf '%s\n' 'refused 221' 'waits 3 0 1' ok 'refused 221' ok 'commit 2 11' 'waits 4 0 1'
+    printf '%s\n' 'commit 3 11/-' 'commit 4 11/-' 'refused 223' 'end ended' 'at 1 5 3 0.0=11/-'
+} > resumes_once_a_full_log_is_folded.out
 
 # At most 1,024 transactions wait at a partition.
 {
@@ -189,3 +247,97 @@ families=$(seq 0 65)
         printf '%s\n' "way 0 1 $chunk 0 1 $chunk $((chunk + 1)) more 1" "in $chunk 0 0.0=1/-"
     done
 } > queue_of_64_chunks.out
+
+# The steps that move a whole segment, which has one family, and their answers: pass SEG SRC DST, and
+# is_passed SEG SRC DST NUMBER LO HI FAMILIES.
+pass() {
+    printf '%s\n' "claim $1 1 2" "begin $1 1 2" "cut $2 $3" "push $2 $3" "pop $2 $3" "load $2 $3" "complete $1 1 2"
+}
+is_passed() {
+    printf '%s\n' ok ok "cut $4 $1 1 $5 $6 last $7" ok ok "load $4 $1 1 $5 $6 last $7" ok
+}
+prepare() { for part in $(seq 0 $(($1 - 1))); do echo "prepare $part"; done; }
+
+# Of 64 partitions each gives four root keys to the one behind it, and the last one to the first. Each of them gives keys
+# to one other, so there is one stage.
+owned=
+given=
+for part in $(seq 0 63); do
+    owned+="[$((4 * part)),$((4 * part + 4)),$part],"
+    given+="[$((4 * part)),$((4 * part + 4)),$(((part + 1) % 64))],"
+done
+{
+    echo "old {\"version\":2,\"partitions\":64,\"ranges\":[$owned[256,4294967296,0]],\"stages\":\"one\"}"
+    echo "new {\"version\":2,\"partitions\":64,\"ranges\":[$given[256,4294967296,0]],\"stages\":\"auto\"}"
+    echo 'config 1 64 1'
+    for part in $(seq 0 63); do echo "row $((4 * part + 1)) 0 0 $part -"; done
+    prepare 64
+    echo start
+    for part in $(seq 0 63); do
+        pass "$part" "$part" $(((part + 1) % 64))
+        echo "report $(((part + 1) % 64))"
+    done
+    printf '%s\n' next finish
+} > moves_round_64_partitions.in
+{
+    repeat 65 ok
+    for part in $(seq 0 63); do
+        is_passed "$part" "$part" $(((part + 1) % 64)) 0 $((4 * part)) $((4 * part + 4)) 1
+        echo ok
+    done
+    printf '%s\n' 'refused 225' ok 'end ended' 'at 0 253 0 0.0=63/-'
+    for part in $(seq 1 63); do echo "at $part $((4 * part - 3)) 0 0.0=$((part - 1))/-"; done
+} > moves_round_64_partitions.out
+
+# One partition gives four root keys to each of 63 others, one after another in 63 stages. A transaction on a key of a
+# stage that is still to come runs at the source.
+given=
+for stage in $(seq 0 62); do given+="[$((4 * stage)),$((4 * stage + 4)),$((stage + 1))],"; done
+{
+    echo 'old {"version":2,"partitions":64,"ranges":[[0,4294967296,0]],"stages":"one"}'
+    echo "new {\"version\":2,\"partitions\":64,\"ranges\":[$given[252,4294967296,0]],\"stages\":\"auto\"}"
+    echo 'config 1 64 1'
+    for stage in $(seq 0 62); do echo "row $((4 * stage)) 0 0 $stage -"; done
+    prepare 64
+    echo start
+    for stage in $(seq 0 62); do
+        echo "txn $((stage + 1)) 1 $((4 * stage)) get 0 0"
+        pass "$stage" 0 $((stage + 1))
+        printf '%s\n' "resume $((stage + 1))" 'txn 63 2 248 get 0 0' next "report $((stage + 1))" finish next
+    done
+    printf '%s\n' 'resume 63' finish next
+} > moves_in_63_stages.in
+{
+    repeat 65 ok
+    for stage in $(seq 0 61); do
+        echo "waits 1 $stage 0"
+        is_passed "$stage" 0 $((stage + 1)) 0 $((4 * stage)) $((4 * stage + 4)) 1
+        printf '%s\n' "commit 1 $stage/-" 'moved 2 0' 'refused 218' ok 'refused 218' ok
+    done
+    echo 'waits 1 62 0'
+    is_passed 62 0 63 0 248 252 1
+    printf '%s\n' 'commit 1 62/-' 'commit 2 62/-' 'refused 225' ok ok 'refused 201'
+    printf '%s\n' 'refused 223' 'refused 201' 'refused 201' 'end ended'
+    for part in $(seq 1 62); do echo "at $part $((4 * part - 4)) 1 0.0=$((part - 1))/-"; done
+    echo 'at 63 248 2 0.0=62/-'
+} > moves_in_63_stages.out
+
+# All of 1,024 segments move.
+{
+    echo "$old"
+    echo 'new {"version":2,"partitions":2,"ranges":[[0,2147483648,1],[2147483648,4294967296,0]],"stages":"one"}'
+    printf '%s\n' 'config 65536 64 1' 'row 0 0 0 1 -' 'row 2147483647 0 0 2 -' 'row 2147483648 0 0 3 -'
+    start
+    for seg in $(seq 0 1023); do pass "$seg" 0 1; done
+    printf '%s\n' 'claim 1024 1 2' 'report 1' 'finish' 'status 1023 1' 'status 1024 1'
+} > moves_1024_segments.in
+{
+    started
+    for seg in $(seq 0 1023); do
+        families=0
+        if [ "$seg" = 0 ] || [ "$seg" = 1023 ]; then families=1; fi
+        is_passed "$seg" 0 1 "$seg" $((2097152 * seg)) $((2097152 * seg + 2097152)) "$families"
+    done
+    printf '%s\n' 'refused 202' ok ok 'is complete 2 complete' 'refused 202' 'end ended'
+    printf '%s\n' 'at 0 2147483648 0 0.0=3/-' 'at 1 0 0 0.0=1/-' 'at 1 2147483647 0 0.0=2/-'
+} > moves_1024_segments.out

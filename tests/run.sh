@@ -326,14 +326,19 @@ try_command_lines() {
     answer version_of_run 2 run --version
 }
 
-# The tour in the docs is a stored run: the lines of its blocks that begin with '> ' are the input, and the others the
-# output.
+# walk NAME TEXT: a walk of the tour is a stored run: the lines of its blocks that begin with '> ' are the input, and the
+# others the output.
+walk() {
+    sed -n 's/^    > //p' <<< "$2" > "$room/input"
+    sed -n '/^    > /d; s/^    //p' <<< "$2" > "$room/output"
+    count "$1_as_it_is_told" "$(difference "$tests/runs/$1.in" "$room/input"; difference "$tests/runs/$1.out" "$room/output")"
+}
+
+# The tour in the docs has two walks.
 try_tour() {
-    local page
-    page=$top/docs/tour.md
-    sed -n 's/^    > //p' "$page" > "$room/input"
-    sed -n '/^    > /d; s/^    //p' "$page" > "$room/output"
-    count tour_as_it_is_told "$(difference "$tests/runs/tour.in" "$room/input"; difference "$tests/runs/tour.out" "$room/output")"
+    local page=$top/docs/tour.md
+    walk tour "$(sed '/^## A second walk/,$d' "$page")"
+    walk tour_in_stages "$(sed -n '/^## A second walk/,$p' "$page")"
 }
 
 # The code in docs/library.md is that of the caller of the library: its first block stands there, line by line.

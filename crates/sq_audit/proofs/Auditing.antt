@@ -19,7 +19,7 @@ use Rattle.sq_store.proofs.Order.{less_from_cmp}
 use Rattle.sq_ranges.specs.OpeningValue.{OpeningValue}
 use Rattle.sq_model.proofs.Lists.{Contains-nothing, Contains-cases, Contains-first, Contains-later, Contains-slice_get, Contains-filter, kept_in}
 use Rattle.sq_node_model.specs.NodeValue.{ReceiptValue}
-use Rattle.sq_node_model.specs.OutHolds.{is_opened}
+use Rattle.sq_node_model.specs.BeganWith.{is_opened}
 use Rattle.sq_node_model.specs.Receipts.{is_commit, times_named}
 use Rattle.sq_node_model.specs.declared.spot.Spot.{Spot}
 use Rattle.sq_node_model.specs.Gathered.{GatheredValue}

@@ -17,7 +17,9 @@ use Rattle.sq_ranges.specs.declared.recon.Range.{Range}
 use Rattle.sq_ranges.specs.OpeningValue.{OpeningValue}
 use Rattle.sq_model.specs.Links.{goes, is_on_link}
 use Rattle.sq_model.specs.Orderly.{AreDisjoint}
-use Rattle.sq_model.specs.Place.{Place, At, Under_way, source, cut_place, loaded_place}
+use Rattle.sq_model.specs.Place.{Place, At, Under_way, loaded_place}
+use Rattle.sq_model.specs.Staged.{owner_in}
+use Rattle.sq_node_model.specs.Stages.{cut_place, runs_in}
 use Rattle.sq_model.proofs.Apart.{covers_bounds, cover_once}
 use Rattle.sq_model.proofs.Lists.{Contains-slice_get, slice_get-Contains, Contains-filter, kept_in, map_in, flat_map_in, found_in, not_found}
 use Rattle.sq_node_model.specs.declared.spot.Spot.{Spot}
@@ -135,15 +137,15 @@ same_marked : (one other : Marked) → one.0 ≡ other.0 → one.1 ≡ other.1 �
 same_marked one other note mark = λ k. (note k, mark k)
 
 -- a place by the note of a root key, if there is one
-abbrev pub place_by : OpeningValue → ℕ → Option Marked → Place
-place_by o root None = At (source o root)
-place_by o root (Some one) = if one.1 then At one.0.dst else Under_way one.0
+abbrev pub place_by : OpeningValue → ℕ → ℕ → Option Marked → Place
+place_by o i root None = At (owner_in o i root)
+place_by o i root (Some one) = if one.1 then At one.0.dst else Under_way one.0
 
-part_to_place : (o : OpeningValue) (root part : ℕ) (found : Option Marked) → part_by o root found ≡ Some part → place_by o root found ≡ At part
-part_to_place o root part None e = ap At (same_Some (source o root) part e)
-part_to_place o root part (Some one) e = go one.1 refl
+part_to_place : (o : OpeningValue) (i root part : ℕ) (found : Option Marked) → part_by o i root found ≡ Some part → place_by o i root found ≡ At part
+part_to_place o i root part None e = ap At (same_Some (owner_in o i root) part e)
+part_to_place o i root part (Some one) e = go one.1 refl
   where
-    go : (b : Bool) → one.1 ≡ b → place_by o root (Some one) ≡ At part
+    go : (b : Bool) → one.1 ≡ b → place_by o i root (Some one) ≡ At part
     go true is = ap (λ (b : Bool). if b then At one.0.dst else Under_way one.0) is ∙ ap At (same_Some one.0.dst part (sym (ap (λ (b : Bool). if b then Some one.0.dst else None) is) ∙ e))
     go false is = absurd (let none = sym (ap (λ (b : Bool). if b then Some one.0.dst else None) is) ∙ e in cc)
 
@@ -153,11 +155,11 @@ at_same a b e = cc
 way_not_at : (note : Note) (part : ℕ) → Under_way note ≡ At part → ⊥
 way_not_at note part e = cc
 
-place_to_part : (o : OpeningValue) (root part : ℕ) (found : Option Marked) → place_by o root found ≡ At part → part_by o root found ≡ Some part
-place_to_part o root part None e = ap Some (at_same (source o root) part e)
-place_to_part o root part (Some one) e = go one.1 refl
+place_to_part : (o : OpeningValue) (i root part : ℕ) (found : Option Marked) → place_by o i root found ≡ At part → part_by o i root found ≡ Some part
+place_to_part o i root part None e = ap Some (at_same (owner_in o i root) part e)
+place_to_part o i root part (Some one) e = go one.1 refl
   where
-    go : (b : Bool) → one.1 ≡ b → part_by o root (Some one) ≡ Some part
+    go : (b : Bool) → one.1 ≡ b → part_by o i root (Some one) ≡ Some part
     go true is =
         ap (λ (b : Bool). if b then Some one.0.dst else None) is
         ∙ ap Some (at_same one.0.dst part (sym (ap (λ (b : Bool). if b then At one.0.dst else Under_way one.0) is) ∙ e))
@@ -178,8 +180,8 @@ module _ (o : OpeningValue) (g : GatheredValue) (parts : HasEachPart o g) (links
       let has = among_cut g i p one note n in
       let has' = among_cut g j q two other m in
       let same = apart has.0 has'.0 note other root (slice_get-Contains (cut_notes g) note has) (slice_get-Contains (cut_notes g) other has') covered covered' in
-      let along = ((links i one n.there).about note (Contains-slice_get one.notes p note n.at)).segment in
-      let along' = subst (λ seg. is_on_link o two.src two.dst seg ≡ true) (sym same.0) ((links j two m.there).about other (Contains-slice_get two.notes q other m.at)).segment in
+      let along = (and_parts (is_on_link o one.src one.dst note.seg) (runs_in o g.stage one.src one.dst) ((links i one n.there).about note (Contains-slice_get one.notes p note n.at)).segment).0 in
+      let along' = subst (λ seg. is_on_link o two.src two.dst seg ≡ true) (sym same.0) (and_parts (is_on_link o two.src two.dst other.seg) (runs_in o g.stage two.src two.dst) ((links j two m.there).about other (Contains-slice_get two.notes q other m.at)).segment).0 in
       let ends = goes_both (slice_get o.recon.segments note.seg) one.src one.dst two.src two.dst along along' in
       let place = parts.each_link.one_each i j one two n.there m.there ends.0 ends.1 in
       let link : two ≡ one = same_Some two one (sym m.there ∙ subst (λ k. slice_get g.links k ≡ Some one) place n.there) in
@@ -234,12 +236,12 @@ module _ (o : OpeningValue) (g : GatheredValue) (parts : HasEachPart o g) (links
         }
 
     module _ (root : ℕ) where
-      none_there : find (is_over root) notes ≡ None → place_in o g root ≡ At (source o root)
+      none_there : find (is_over root) notes ≡ None → place_in o g root ≡ At (owner_in o g.stage root)
       none_there none =
           let fails = not_found (is_over root) notes none in
           let cut = none_found (λ note. covers note root) (cut_notes g) (λ note has covered. let m = of_cut note root has covered in true≢false (sym covered ∙ fails (note, m.0) (from_all (note, m.0) m.1))) in
           let loaded = none_found (λ note. covers note root) (loaded_notes g) (λ note has covered. true≢false (sym covered ∙ fails (note, true) (from_all (note, true) (of_loaded note root has covered)))) in
-          ap₂ (λ c l. loaded_place (cut_place o root c) l) cut loaded
+          ap₂ (λ c l. loaded_place (cut_place o g.stage root c) l) cut loaded
 
       module _ (one : Marked) (has : Contains (all_marked g) one) (covered : is_over root one ≡ true) where
         loaded_there : one.1 ≡ true → place_in o g root ≡ At one.0.dst
@@ -250,7 +252,7 @@ module _ (o : OpeningValue) (g : GatheredValue) (parts : HasEachPart o g) (links
             (Contains-slice_get (loads_of m.link) m.place one.0 (at_taken m.link.notes (loaded_count m.link) m.place one.0 m.note.at before)) in
             let found = some_found (λ note. covers note root) (loaded_notes g) one.0 among covered in
             let same = one_marked (found.one, true) one root (of_loaded found.one root found.among found.passes) has found.passes covered in
-            ap (loaded_place (cut_place o root (find (λ note. covers note root) (cut_notes g)))) (found.found ∙ ap (λ (x : Marked). Some x.0) same)
+            ap (loaded_place (cut_place o g.stage root (find (λ note. covers note root) (cut_notes g)))) (found.found ∙ ap (λ (x : Marked). Some x.0) same)
 
         cut_there : one.1 ≡ false → place_in o g root ≡ Under_way one.0
         cut_there mark =
@@ -263,22 +265,22 @@ module _ (o : OpeningValue) (g : GatheredValue) (parts : HasEachPart o g) (links
             (λ note among' covered'.
             let other = one_marked (note, true) one root (of_loaded note root among' covered') has covered' covered in
             true≢false (ap (λ (x : Marked). x.1) other ∙ mark)) in
-            ap₂ (λ c l. loaded_place (cut_place o root c) l) (found.found ∙ ap (λ (x : Marked). Some x.0) same) loaded
+            ap₂ (λ c l. loaded_place (cut_place o g.stage root c) l) (found.found ∙ ap (λ (x : Marked). Some x.0) same) loaded
 
-        marked_there : place_in o g root ≡ place_by o root (Some one)
+        marked_there : place_in o g root ≡ place_by o g.stage root (Some one)
         marked_there = go one.1 refl
           where
-            go : (b : Bool) → one.1 ≡ b → place_in o g root ≡ place_by o root (Some one)
+            go : (b : Bool) → one.1 ≡ b → place_in o g root ≡ place_by o g.stage root (Some one)
             go true is = loaded_there is ∙ sym (ap (λ (b : Bool). if b then At one.0.dst else Under_way one.0) is)
             go false is = cut_there is ∙ sym (ap (λ (b : Bool). if b then At one.0.dst else Under_way one.0) is)
 
       -- the note that is found to cover a root key tells its place
-      place_is : place_in o g root ≡ place_by o root (find (is_over root) notes)
+      place_is : place_in o g root ≡ place_by o g.stage root (find (is_over root) notes)
       place_is = go (find (is_over root) notes) refl
         where
-          go : (found : Option Marked) → find (is_over root) notes ≡ found → place_in o g root ≡ place_by o root (find (is_over root) notes)
-          go None e = none_there e ∙ sym (ap (place_by o root) e)
-          go (Some one) e = let is = found_in (is_over root) notes one e in marked_there one (to_all one is.0) is.1 ∙ sym (ap (place_by o root) e)
+          go : (found : Option Marked) → find (is_over root) notes ≡ found → place_in o g root ≡ place_by o g.stage root (find (is_over root) notes)
+          go None e = none_there e ∙ sym (ap (place_by o g.stage root) e)
+          go (Some one) e = let is = found_in (is_over root) notes one e in marked_there one (to_all one is.0) is.1 ∙ sym (ap (place_by o g.stage root) e)
 
     -- a family of a chunk is where it belongs
     chunk_placed : (i j root : ℕ) (family : FamilyValue) → StandsAt g (Chunk i j) root family → IsSpotOf g (Chunk i j) (place_in o g root)
@@ -297,20 +299,20 @@ module _ (o : OpeningValue) (g : GatheredValue) (parts : HasEachPart o g) (links
 
     module _ (entries : List Entry) (lists : ListsAll g entries) where
       abbrev IsRight : Entry → Type 0
-      IsRight entry = IsAtPart entry.0 (part_by o entry.1.root (find (is_over entry.1.root) notes))
+      IsRight entry = IsAtPart entry.0 (part_by o g.stage entry.1.root (find (is_over entry.1.root) notes))
 
       placed_from : ((entry : Entry) → Contains entries entry → IsRight entry) → ArePlaced o g
       placed_from right (Store part) root family stands =
           let same = (lists.keyed (Store part) root family stands).same_root in
-          let at = subst (λ k. part_by o k (find (is_over k) notes) ≡ Some part) same (right (Store part, family) (lists.each (Store part) root family stands)) in
-          place_is root ∙ part_to_place o root part (find (is_over root) notes) at
+          let at = subst (λ k. part_by o g.stage k (find (is_over k) notes) ≡ Some part) same (right (Store part, family) (lists.each (Store part) root family stands)) in
+          place_is root ∙ part_to_place o g.stage root part (find (is_over root) notes) at
       placed_from right (Chunk i j) root family stands = chunk_placed i j root family stands
 
       right_from : ArePlaced o g → (spot : Spot) (family : FamilyValue) → Contains entries (spot, family) → IsRight (spot, family)
       right_from placed (Store part) family has =
           let root = family.root in
-          place_to_part o root part (find (is_over root) notes) (sym (place_is root) ∙ placed (Store part) root family (lists.here (Store part, family) has))
+          place_to_part o g.stage root part (find (is_over root) notes) (sym (place_is root) ∙ placed (Store part) root family (lists.here (Store part, family) has))
       right_from placed (Chunk i j) family has = tt
 
-      pub placed_are : (b : Bool) → Decides b ((entry : Entry) → Contains entries entry → IsAtPart entry.0 (part_by o entry.1.root (find (is_over entry.1.root) notes))) → Decides b (ArePlaced o g)
+      pub placed_are : (b : Bool) → Decides b ((entry : Entry) → Contains entries entry → IsAtPart entry.0 (part_by o g.stage entry.1.root (find (is_over entry.1.root) notes))) → Decides b (ArePlaced o g)
       placed_are b decides = Decides-like b placed_from (λ placed entry has. right_from placed entry.0 entry.1 has) decides

@@ -1,6 +1,7 @@
 -- Which links are there, and whether all families are where they should be.
 use Rattle.std.specs.Prelude.{◌≡◌, ℕ, Bool, ◌==◌, ◌&&◌, List, count_by, Contains}
 use Rattle.sq_ranges.specs.declared.recon.Link.{Link}
+use Rattle.sq_ranges.specs.ReconValue.{ReconValue, stage_on}
 use Rattle.sq_schema.specs.Family.{FamilyValue}
 use Rattle.sq_ranges.specs.OpeningValue.{OpeningValue}
 use Rattle.sq_node_model.specs.declared.spot.Spot.{Spot}
@@ -14,13 +15,21 @@ is_between link at = (at.src == link.src) && (at.dst == link.dst)
 abbrev pub ends_of : GatheredLink → Link
 ends_of at = record { src = at.src; dst = at.dst }
 
--- each of what was gathered is of one of these links
-abbrev pub AreKnownLinks : List Link → List GatheredLink → Type 0
-AreKnownLinks links gathered = (at : GatheredLink) → Contains gathered at → Contains links (ends_of at)
+-- what was gathered is of one of these links, and of the stage
+abbrev pub IsKnownLink : ReconValue → ℕ → List Link → GatheredLink → Type 0
+IsKnownLink recon stage links at = Contains links (ends_of at) × (stage_on recon at.src at.dst ≡ stage)
 
--- each of these links was gathered once
-abbrev pub HaveOneEach : List Link → List GatheredLink → Type 0
-HaveOneEach links gathered = (link : Link) → Contains links link → count_by (is_between link) gathered ≡ 1
+-- each of what was gathered is of one of these links, and of the stage
+abbrev pub AreKnownLinks : ReconValue → ℕ → List Link → List GatheredLink → Type 0
+AreKnownLinks recon stage links gathered = (at : GatheredLink) → Contains gathered at → IsKnownLink recon stage links at
+
+-- the link, if it is of the stage, was gathered once
+abbrev pub HasOne : ReconValue → ℕ → List GatheredLink → Link → Type 0
+HasOne recon stage gathered link = stage_on recon link.src link.dst ≡ stage → count_by (is_between link) gathered ≡ 1
+
+-- each of these links that is of the stage was gathered once
+abbrev pub HaveOneEach : ReconValue → ℕ → List Link → List GatheredLink → Type 0
+HaveOneEach recon stage links gathered = (link : Link) → Contains links link → HasOne recon stage gathered link
 
 -- each family is where the notes place its root key
 abbrev pub ArePlaced : OpeningValue → GatheredValue → Type 0

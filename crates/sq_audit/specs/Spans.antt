@@ -4,7 +4,7 @@ use Rattle.std.specs.List.Sorted.{IsNonDecreasingBy}
 use Rattle.sq_chunk.specs.declared.chunk.Note.{Note}
 use Rattle.sq_chunk.specs.ChunkValue.{covers}
 use Rattle.sq_ranges.specs.OpeningValue.{OpeningValue}
-use Rattle.sq_model.specs.Place.{source}
+use Rattle.sq_model.specs.Staged.{owner_in}
 use Rattle.sq_node_model.specs.declared.spot.Spot.{Spot}
 use Rattle.sq_node_model.specs.declared.spot.Spot.TheVariants.{Store, Chunk}
 use Rattle.sq_node_model.specs.Gathered.{GatheredLink}
@@ -44,10 +44,10 @@ pub record AreByKey (notes : List Marked) : Type 0 where
   pub some : (one : Marked) → Contains notes one → has_keys one.0 ≡ true
   pub apart : (one other : Marked) (key : ℕ) → Contains notes one → Contains notes other → is_over key one ≡ true → is_over key other ≡ true → one ≡ other
 
--- the partition of a root key that this note covers, if there is one
-abbrev pub part_by : OpeningValue → ℕ → Option Marked → Option ℕ
-part_by o root None = Some (source o root)
-part_by o root (Some one) = if one.1 then Some one.0.dst else None
+-- the partition of a root key that this note of a stage covers; where there is none, that which owned it as the stage began
+abbrev pub part_by : OpeningValue → ℕ → ℕ → Option Marked → Option ℕ
+part_by o i root None = Some (owner_in o i root)
+part_by o i root (Some one) = if one.1 then Some one.0.dst else None
 
 -- a spot in a store is at the partition
 abbrev pub IsAtPart : Spot → Option ℕ → Type 0

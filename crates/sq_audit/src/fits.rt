@@ -3,14 +3,14 @@ ghost use Rattle.std.specs.Prelude.{◌≡◌, count_by, IfOk};
 ghost use Rattle.std.specs.Bool.{Decides};
 ghost use Rattle.sq_node_model.specs.Placed.{HasEachPart, FitTogether};
 ghost use Rattle.sq_audit.specs.Located.{entries_of, ListsAll};
-ghost use Rattle.sq_audit.specs.Fits.{is_between, AreKnownLinks, HaveOneEach};
+ghost use Rattle.sq_audit.specs.Fits.{is_between, AreKnownLinks, HasOne, HaveOneEach};
 
 use crate::located::Located;
 use crate::notes::links_fit;
 use crate::placed::are_placed;
 use crate::words::{are_complete, have_grown};
 use sq_gather::{ClosedLink, Gathered};
-use sq_ranges::{Link, Opening};
+use sq_ranges::{Link, Opening, Recon};
 use std::alloc::{AllocError, Global};
 
 /// Whether all parts of what was gathered are there and fit together, where these are all families.
@@ -40,7 +40,7 @@ pub(crate) fn fit(
     are_placed(alloc, opening, g, all)
 }
 
-// Whether there is a store for each partition, a link wherever a range moves, and a tree for each segment.
+// Whether there is a store for each partition, a link wherever a range moves in the stage, and a tree for each segment.
 fn has_parts(opening: &Opening, g: &Gathered) -> bool
     ensures { Decides result (HasEachPart opening.now g.now) }
 {
@@ -51,15 +51,15 @@ fn has_parts(opening: &Opening, g: &Gathered) -> bool
     if g.words.len() != recon.segments().len() {
         return false;
     }
-    if !are_known(recon.links(), &g.links) {
+    if !are_known(recon, g.stage, recon.links(), &g.links) {
         return false;
     }
-    have_one_each(recon.links(), &g.links)
+    have_one_each(recon, g.stage, recon.links(), &g.links)
 }
 
-// Whether each link that was gathered is one of these.
-fn are_known(links: &[Link], gathered: &[ClosedLink]) -> bool
-    ensures { Decides result (AreKnownLinks links.now gathered.now) }
+// Whether each link that was gathered is one of these, and of the stage.
+fn are_known(recon: &Recon, stage: u64, links: &[Link], gathered: &[ClosedLink]) -> bool
+    ensures { Decides result (AreKnownLinks recon.now stage links.now gathered.now) }
 {
     for link in gathered {
         let ends = Link {
@@ -69,20 +69,33 @@ fn are_known(links: &[Link], gathered: &[ClosedLink]) -> bool
         if !links.contains(&ends) {
             return false;
         }
-    }
-    true
-}
-
-// Whether each of these links was gathered once.
-fn have_one_each(links: &[Link], gathered: &[ClosedLink]) -> bool
-    ensures { Decides result (HaveOneEach links.now gathered.now) }
-{
-    for link in links {
-        if count(gathered, *link) != 1 {
+        if recon.stage_on(ends.src, ends.dst) != stage {
             return false;
         }
     }
     true
+}
+
+// Whether each of these links that is of the stage was gathered once.
+fn have_one_each(recon: &Recon, stage: u64, links: &[Link], gathered: &[ClosedLink]) -> bool
+    ensures { Decides result (HaveOneEach recon.now stage links.now gathered.now) }
+{
+    for link in links {
+        if !has_one(recon, stage, gathered, *link) {
+            return false;
+        }
+    }
+    true
+}
+
+// Whether a link was gathered once, if it is of the stage.
+fn has_one(recon: &Recon, stage: u64, gathered: &[ClosedLink], link: Link) -> bool
+    ensures { Decides result (HasOne recon.now stage gathered.now link) }
+{
+    if recon.stage_on(link.src, link.dst) != stage {
+        return true;
+    }
+    count(gathered, link) == 1
 }
 
 // How often a link was gathered.

@@ -94,7 +94,7 @@ fn are_link_notes(opening: &Opening, g: &Gathered, link: &ClosedLink) -> bool
     true
 }
 
-// Whether the note goes along the link, and is about a begun node of one of its segments.
+// Whether the note goes along the link, and is about a begun node of one of its segments, which the stage moves.
 fn is_link_note(opening: &Opening, g: &Gathered, link: &ClosedLink, note: &Note) -> bool
     ensures { Decides result (IsLinkNote opening.now g.now link.now note.now) }
 {
@@ -106,6 +106,9 @@ fn is_link_note(opening: &Opening, g: &Gathered, link: &ClosedLink, note: &Note)
     }
     let segment = opening.recon().segments().get(note.seg.index());
     if !goes(segment, link.src, link.dst) {
+        return false;
+    }
+    if opening.recon().stage_on(link.src, link.dst) != g.stage {
         return false;
     }
     is_begun(status_of(&g.words, note.seg, note.node))

@@ -30,22 +30,22 @@ pub(crate) fn are_placed(
 {
     let spans = by_key(alloc, &g.links)?;
     for located in all {
-        if !is_placed(opening, &spans, located) {
+        if !is_placed(opening, g.stage, &spans, located) {
             return Ok(false);
         }
     }
     Ok(true)
 }
 
-// Whether a family that is in a store is where the notes place its root key. One that is in a chunk always is.
-fn is_placed(opening: &Opening, spans: &[Span], located: &Located) -> bool
+// Whether a family that is in a store is where the notes of a stage place its root key. One that is in a chunk always is.
+fn is_placed(opening: &Opening, stage: u64, spans: &[Span], located: &Located) -> bool
     requires { AreByKey (marked_in spans.now) }
-    ensures { let root = located.now.family.now.root in Decides result (IsAtPart (spot_of located.now.site) (part_by opening.now root (find (is_over root) (marked_in spans.now)))) }
+    ensures { let root = located.now.family.now.root in Decides result (IsAtPart (spot_of located.now.site) (part_by opening.now stage root (find (is_over root) (marked_in spans.now)))) }
 {
     let Site::Store(part) = located.site else {
         return true;
     };
-    match part_of(opening, spans, located.family.root()) {
+    match part_of(opening, stage, spans, located.family.root()) {
         Some(at) => usize::from(at.number()) == part,
         None => false,
     }

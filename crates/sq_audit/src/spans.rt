@@ -3,6 +3,7 @@ ghost use Rattle.std.specs.Prelude.{◌≡◌, ◌≤◌, ◌++◌, nat_le, leng
 ghost use Rattle.std.specs.Option.{option_map};
 ghost use Rattle.std.specs.List.{flat_map};
 ghost use Rattle.std.specs.List.Sorted.{IsPermutation, IsNonDecreasingBy};
+ghost use Rattle.sq_model.specs.Staged.{owner_in};
 ghost use Rattle.sq_node_model.specs.Spots.{loads_of, loaded_count};
 ghost use Rattle.sq_audit.specs.Spans.{marked_of, marked_in, marked, notes_of, first_key, is_over, AreByKey, part_by};
 
@@ -69,18 +70,31 @@ fn add<'a>(spans: &mut Vec<Span<'a>>, notes: &'a [Note], loaded: bool) -> Result
     Ok(())
 }
 
-/// The partition at which notes place a root key; `None` where it is under way.
-pub(crate) fn part_of(opening: &Opening, spans: &[Span], root: Root) -> Option<PartId>
+/// The partition at which notes of a stage place a root key; `None` where it is under way.
+pub(crate) fn part_of(opening: &Opening, stage: u64, spans: &[Span], root: Root) -> Option<PartId>
     requires { AreByKey (marked_in spans.now) }
-    ensures { result ≡ part_by opening.now root (find (is_over root) (marked_in spans.now)) }
+    ensures { result ≡ part_by opening.now stage root (find (is_over root) (marked_in spans.now)) }
 {
     let Some(span) = covering(spans, root.number()) else {
-        return Some(opening.old_plan().owner(root));
+        return Some(owner_in(opening, stage, root));
     };
     if span.loaded {
         Some(span.note.dst)
     } else {
         None
+    }
+}
+
+// Who owned a root key as a stage began: the new owner where it had moved before, else the old one.
+fn owner_in(opening: &Opening, stage: u64, root: Root) -> PartId
+    ensures { result ≡ owner_in opening.now stage root }
+{
+    let old = opening.old_plan().owner(root);
+    let new = opening.new_plan().owner(root);
+    if old != new && opening.recon().stage_on(old, new) < stage {
+        new
+    } else {
+        old
     }
 }
 

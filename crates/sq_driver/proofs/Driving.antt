@@ -59,7 +59,7 @@ then_step fabric first old step answer new driven made =
       steps = (driven.steps, inl (step, answer, made));
       part = step_part fabric step old answer new made ∙ driven.part;
       stays = step_stays fabric step old answer new made driven.stays;
-      holds = λ o is held. step_keeps fabric step old answer new made o is (driven.holds o is held);
+      holds = λ o began is held. step_keeps fabric step old answer new made o began is (driven.holds o began is held);
     }
 
 -- looks
@@ -70,7 +70,7 @@ then_looks fabric first old new driven looks =
       steps = (driven.steps, inr looks);
       part = step_part fabric Request old Nothing new looks ∙ driven.part;
       stays = request_stays fabric old Nothing new looks driven.stays;
-      holds = λ o is held. looks_keep old new looks o is (driven.holds o is held);
+      holds = λ o began is held. looks_keep old new looks o began is (driven.holds o began is held);
     }
 
 -- driven further
@@ -81,5 +81,5 @@ then_driven fabric first old new driven more =
       steps = goes_on (GoesOn fabric) first old new driven.way more.way driven.steps more.steps;
       part = more.part ∙ driven.part;
       stays = more.stays;
-      holds = λ o is held. more.holds o is (driven.holds o is held);
+      holds = λ o began is held. more.holds o began is (driven.holds o began is held);
     }

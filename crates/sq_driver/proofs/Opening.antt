@@ -4,6 +4,7 @@ use Rattle.std.specs.Prelude.{All, slice_get}
 use Rattle.std.proofs.lemmas.Option.{slice_get-get_or}
 use Rattle.sq_ranges.specs.OpeningValue.{OpeningValue}
 use Rattle.sq_pull.specs.Pump.{PumpValue}
+use Rattle.sq_node_model.specs.BeganWith.{first_began}
 use Rattle.sq_node.specs.FabricValue.{FabricValue}
 use Rattle.sq_node.specs.NodeState.{NodeState, IsNodeOf}
 use Rattle.sq_node.specs.Holds.{HoldsUnder}
@@ -22,6 +23,6 @@ pub opened_pumps : (o : OpeningValue) (count : ℕ) (fabric : FabricValue) (node
 opened_pumps o count fabric nodes pumps opened = all_of (IsPumpOf fabric) pumps (λ number pump there. (opened.each_pump.each number pump there).seats.of)
 
 -- what a node keeps holds of each node
-pub opened_hold : (o : OpeningValue) (count : ℕ) (fabric : FabricValue) (nodes : List NodeState) (pumps : List PumpValue) → IsOpened o count fabric nodes pumps → All (HoldsUnder o) nodes
+pub opened_hold : (o : OpeningValue) (count : ℕ) (fabric : FabricValue) (nodes : List NodeState) (pumps : List PumpValue) → IsOpened o count fabric nodes pumps → All (HoldsUnder o (first_began o)) nodes
 opened_hold o count fabric nodes pumps opened =
-    all_of (HoldsUnder o) nodes (λ part node there. (opened.each_node.each part node there).holds)
+    all_of (HoldsUnder o (first_began o)) nodes (λ part node there. (opened.each_node.each part node there).holds)

@@ -4,6 +4,7 @@ use Rattle.std.specs.Prelude.{All, slice_get}
 use Rattle.std.proofs.lemmas.Option.{slice_get_within, slice_get-get_or, get_or_from_slice_get}
 use Rattle.sq_ranges.specs.OpeningValue.{OpeningValue}
 use Rattle.sq_ranges.specs.Opening.{IsOpening}
+use Rattle.sq_node_model.specs.BeganWith.{BeganWith}
 use Rattle.sq_node.specs.FabricValue.{FabricValue}
 use Rattle.sq_node.specs.NodeState.{NodeState, IsNodeOf}
 use Rattle.sq_node.specs.Holds.{HoldsUnder}
@@ -12,9 +13,9 @@ use Rattle.sq_driver.specs.Nodes.{AllDriven}
 use Rattle.sq_driver.specs.Pumps.{IsPumpOf, AllPumpsDriven}
 
 -- what a node keeps holds of all of them still
-pub all_hold : (fabric : FabricValue) (o : OpeningValue) (old new : List NodeState) → IsOpening o → AllDriven fabric old new → All (HoldsUnder o) old → All (HoldsUnder o) new
-all_hold fabric o old new is driven held =
-    λ i d lt. let within : i < length old = omega (arith, lt, driven.count) in (driven.each i d within).holds o is (held i d within)
+pub all_hold : (fabric : FabricValue) (o : OpeningValue) (began : BeganWith) (old new : List NodeState) → IsOpening o → AllDriven fabric old new → All (HoldsUnder o began) old → All (HoldsUnder o began) new
+all_hold fabric o began old new is driven held =
+    λ i d lt. let within : i < length old = omega (arith, lt, driven.count) in (driven.each i d within).holds o began is (held i d within)
 
 -- they are those of the fabric still
 pub all_stay : (fabric : FabricValue) (old new : List NodeState) → AllDriven fabric old new → All (IsNodeOf fabric) new

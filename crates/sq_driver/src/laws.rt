@@ -3,6 +3,7 @@ ghost use Rattle.std.specs.Prelude.{ℕ, List, All};
 ghost use Rattle.sq_ranges.specs.OpeningValue.{OpeningValue};
 ghost use Rattle.sq_ranges.specs.Opening.{IsOpening};
 ghost use Rattle.sq_pull.specs.Pump.{PumpValue};
+ghost use Rattle.sq_node_model.specs.BeganWith.{BeganWith, first_began};
 ghost use Rattle.sq_node.specs.FabricValue.{FabricValue};
 ghost use Rattle.sq_node.specs.NodeState.{NodeState, IsNodeOf};
 ghost use Rattle.sq_node.specs.Holds.{HoldsUnder};
@@ -10,21 +11,22 @@ ghost use Rattle.sq_node.specs.Opened.{IsOpened};
 ghost use Rattle.sq_driver.specs.Nodes.{AllDriven};
 ghost use Rattle.sq_driver.specs.Pumps.{IsPumpOf, AllPumpsDriven};
 
-/// The nodes and the pumps that a run opens with can be driven, and what a node keeps holds of each node.
+/// The nodes and the pumps that a run opens with can be driven, and what a node keeps holds of each node, as
+/// the first stage begins.
 pub fn opened_workers_can_be_driven()
     ensures nodes { (o : OpeningValue) (count : ℕ) (fabric : FabricValue) (nodes : List NodeState) (pumps : List PumpValue)
         → IsOpened o count fabric nodes pumps → All (IsNodeOf fabric) nodes }
     ensures pumps { (o : OpeningValue) (count : ℕ) (fabric : FabricValue) (nodes : List NodeState) (pumps : List PumpValue)
         → IsOpened o count fabric nodes pumps → All (IsPumpOf fabric) pumps }
     ensures hold { (o : OpeningValue) (count : ℕ) (fabric : FabricValue) (nodes : List NodeState) (pumps : List PumpValue)
-        → IsOpened o count fabric nodes pumps → All (HoldsUnder o) nodes }
+        → IsOpened o count fabric nodes pumps → All (HoldsUnder o (first_began o)) nodes }
 {}
 
-/// What a node keeps holds of all nodes of a run once they were driven, under each opening under which it held of them
-/// before.
+/// What a node keeps holds of all nodes of a run once they were driven, under each opening, and each beginning of a stage,
+/// under which it held of them before.
 pub fn driven_nodes_hold()
-    ensures { (fabric : FabricValue) (o : OpeningValue) (old new : List NodeState)
-        → IsOpening o → AllDriven fabric old new → All (HoldsUnder o) old → All (HoldsUnder o) new }
+    ensures { (fabric : FabricValue) (o : OpeningValue) (began : BeganWith) (old new : List NodeState)
+        → IsOpening o → AllDriven fabric old new → All (HoldsUnder o began) old → All (HoldsUnder o began) new }
 {}
 
 /// Workers that were driven are those of their fabric still, and can be driven again.

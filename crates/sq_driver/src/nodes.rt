@@ -95,7 +95,7 @@ fn make_step<R: Wait>(rt: &R, fabric: &Fabric, node: &mut Node, step: NodeStep) 
         NodeStep::Cut => node.step_cut(),
         NodeStep::Send => node.step_send(rt, fabric),
         NodeStep::Recv => node.step_recv(rt, fabric),
-        NodeStep::Load => node.step_load(),
+        NodeStep::Load => node.step_load(fabric),
         NodeStep::Complete => node.step_complete(fabric),
         NodeStep::Resume => node.step_resume(rt, fabric),
         NodeStep::Pump | NodeStep::Answered | NodeStep::SegmentComplete => Stepped::Nothing,

@@ -4,7 +4,7 @@ use Rattle.std.specs.FinMap.{get}
 use Rattle.std.specs.Result.{result_ok}
 use Rattle.sq_schema.specs.TxnValue.{TxnValue}
 use Rattle.sq_schema.specs.Family.{FamilyValue, rows_of}
-use Rattle.sq_schema.specs.Effect.{RowList, root_key, only, replay_rows}
+use Rattle.sq_schema.specs.Effect.{RowList, root_key, replay}
 use Rattle.sq_plan.specs.PlanValue.{PlanValue}
 use Rattle.sq_store.specs.StoreValue.{StoreValue}
 use Rattle.sq_ranges.specs.declared.opening.Config.{Config}
@@ -13,11 +13,12 @@ use Rattle.sq_ranges.specs.OpeningValue.{OpeningValue}
 use Rattle.sq_ranges.specs.Opening.{IsOpening}
 use Rattle.sq_ranges.specs.Given.{IsOpeningOf, given_rows, no_rows}
 use Rattle.sq_model.specs.declared.step.Step.{Step}
-use Rattle.sq_model.specs.declared.step.Step.TheVariants.{Prepare, Start, Submit, Resume, Split, Claim, Begin, Cut, Push, Pop, Load, Complete, Report, Finish, Status}
+use Rattle.sq_model.specs.declared.step.Step.TheVariants.{Prepare, Start, Submit, Resume, Split, Claim, Begin, Cut, Push, Pop, Load, Complete, Report, Next, Finish, Fold, Status}
 use Rattle.sq_model.specs.declared.answer.Answer.{Answer}
 use Rattle.sq_model.specs.Legal.{IsLegal}
 use Rattle.sq_model.specs.Trace.{Trace, commits}
 use Rattle.sq_model.specs.Tables.{opening_rows, stands, family_of}
+use Rattle.sq_model.proofs.Tables.{rows_now}
 use Rattle.sq_model.specs.Place.{place}
 use Rattle.sq_transition.specs.WorldValue.{WorldValue}
 use Rattle.sq_transition.specs.Holds.{Holds, is_at}
@@ -66,7 +67,7 @@ reads number w part store family leads after root is at =
     let t = leads.trace in
     let shares = after o t leads.holds in
     let same : family ≡ family_of o t 5 = its_family (stands o t 5 && is_at part (place o t 5)) family (family_of o t 5) (at ∙ (ap (get store) is ∙ shares.1 5)) in
-    let replayed : rows_of (family_of o t 5) ≡ opening_rows o 5 = ap (λ (txns : List TxnValue). replay_rows (opening_rows o 5) (only 5 txns)) leads.none_committed in
+    let replayed : rows_of (family_of o t 5) ≡ opening_rows o 5 = rows_now o t 5 ∙ ap (λ (txns : List TxnValue). replay (opening_rows o) txns 5) leads.none_committed in
     ap rows_of same ∙ (replayed ∙ leads.row)
 
 -- a step that runs no transaction commits none
@@ -84,7 +85,9 @@ commits_none (Pop src dst) answer txns is = refl
 commits_none (Load src dst) answer txns is = refl
 commits_none (Complete seg node pull) answer txns is = refl
 commits_none (Report part) answer txns is = refl
+commits_none Next answer txns is = refl
 commits_none Finish answer txns is = refl
+commits_none (Fold part) answer txns is = refl
 commits_none (Status seg node) answer txns is = refl
 
 -- the world after a step of the move

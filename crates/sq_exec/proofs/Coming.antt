@@ -7,7 +7,7 @@ use Rattle.std.proofs.lemmas.Bool.{cases_eq, cases_lt, cases_Bool, and_parts}
 use Rattle.std.proofs.lemmas.List.{length-set, get_or-set_same, get_or-set_other, set_past}
 use Rattle.std.proofs.lemmas.List.Folds.{list_all-map}
 use Rattle.sq_ranges.specs.declared.recon.Range.{Range}
-use Rattle.sq_ranges.specs.ReconValue.{ReconValue, leaf_at}
+use Rattle.sq_ranges.specs.ReconValue.{ReconValue, leaf_at, stage_in}
 use Rattle.sq_chunk.specs.declared.chunk.Note.{Note}
 use Rattle.sq_chunk.specs.ChunkValue.{ChunkValue, covers}
 use Rattle.sq_waiting.specs.Index.{is_between}
@@ -33,47 +33,47 @@ all_same p q same [] = refl
 all_same p q same (x ∷ xs) = λ k. same x k && all_same p q same xs k
 
 -- whether a root key comes here: what it depends on
-abbrev coming_in : Bool → ℕ → List (List Run) → ℕ → ℕ → Range → Bool
-coming_in started part loaded root i segment = started && ((segment.dst == part) && not (is_loaded (get_or loaded i []) root))
+abbrev coming_in : ReconValue → ℕ → Bool → ℕ → List (List Run) → ℕ → ℕ → Range → Bool
+coming_in recon stage started part loaded root i segment = started && ((stage_in recon segment == stage) && ((segment.dst == part) && not (is_loaded (get_or loaded i []) root)))
 
-abbrev pub coming_by : Bool → ℕ → ReconValue → List (List Run) → ℕ → Bool
-coming_by started part recon loaded root = option_map_or (λ at. option_map_or (coming_in started part loaded root at.0) (slice_get recon.segments at.0) false) (leaf_at recon root) false
+abbrev pub coming_by : ℕ → Bool → ℕ → ReconValue → List (List Run) → ℕ → Bool
+coming_by stage started part recon loaded root = option_map_or (λ at. option_map_or (coming_in recon stage started part loaded root at.0) (slice_get recon.segments at.0) false) (leaf_at recon root) false
 
-pub coming_is : (core : CoreValue) (root : ℕ) → is_coming core root ≡ coming_by core.started core.part core.recon core.loaded root
+pub coming_is : (core : CoreValue) (root : ℕ) → is_coming core root ≡ coming_by core.stage core.started core.part core.recon core.loaded root
 coming_is core root = by_leaf (leaf_at core.recon root)
   where
-    by_segment : (at : ℕ × ℕ) (read : Option Range) → is_coming_from core (option_map (location_in core root at) read) ≡ option_map_or (coming_in core.started core.part core.loaded root at.0) read false
+    by_segment : (at : ℕ × ℕ) (read : Option Range) → is_coming_from core (option_map (location_in core root at) read) ≡ option_map_or (coming_in core.recon core.stage core.started core.part core.loaded root at.0) read false
     by_segment at None = refl
     by_segment at (Some segment) = refl
 
     by_leaf : (read : Option (ℕ × ℕ)) → is_coming_from core (option_and_then (λ at. option_map (location_in core root at) (slice_get core.recon.segments at.0)) read)
-        ≡ option_map_or (λ at. option_map_or (coming_in core.started core.part core.loaded root at.0) (slice_get core.recon.segments at.0) false) read false
+        ≡ option_map_or (λ at. option_map_or (coming_in core.recon core.stage core.started core.part core.loaded root at.0) (slice_get core.recon.segments at.0) false) read false
     by_leaf None = refl
     by_leaf (Some at) = by_segment at (slice_get core.recon.segments at.0)
 
-abbrev pub due_by : Bool → ℕ → ReconValue → List (List Run) → Arrival → Bool
-due_by started part recon loaded a = a.is_due || coming_by started part recon loaded (a.txn).root
+abbrev pub due_by : ℕ → Bool → ℕ → ReconValue → List (List Run) → Arrival → Bool
+due_by stage started part recon loaded a = a.is_due || coming_by stage started part recon loaded (a.txn).root
 
-pub all_due_by : (core : CoreValue) (arrivals : List Arrival) → list_all (is_due_here core) arrivals ≡ list_all (due_by core.started core.part core.recon core.loaded) arrivals
-all_due_by core arrivals = all_same (is_due_here core) (due_by core.started core.part core.recon core.loaded) (λ a. ap (λ b. a.is_due || b) (coming_is core (a.txn).root)) arrivals
+pub all_due_by : (core : CoreValue) (arrivals : List Arrival) → list_all (is_due_here core) arrivals ≡ list_all (due_by core.stage core.started core.part core.recon core.loaded) arrivals
+all_due_by core arrivals = all_same (is_due_here core) (due_by core.stage core.started core.part core.recon core.loaded) (λ a. ap (λ b. a.is_due || b) (coming_is core (a.txn).root)) arrivals
 
 or_follows : (due a b : Bool) → (a ≡ true → b ≡ true) → (due || a) ≡ true → (due || b) ≡ true
 or_follows true a b follows h = refl
 or_follows false a b follows h = follows h
 
-module _ (part : ℕ) (recon : ReconValue) where
+module _ (stage part : ℕ) (recon : ReconValue) where
   -- once the move has started no more are to be due
-  pub started_due : (started : Bool) (loaded : List (List Run)) (arrivals : List Arrival) → list_all (due_by started part recon loaded) arrivals ≡ true → list_all (due_by true part recon loaded) arrivals ≡ true
+  pub started_due : (started : Bool) (loaded : List (List Run)) (arrivals : List Arrival) → list_all (due_by stage started part recon loaded) arrivals ≡ true → list_all (due_by stage true part recon loaded) arrivals ≡ true
   started_due started loaded arrivals all =
-      all_follow (due_by started part recon loaded) (due_by true part recon loaded) (λ a. a)
-      (λ a here. or_follows a.is_due (coming_by started part recon loaded (a.txn).root) (coming_by true part recon loaded (a.txn).root) (started_coming (a.txn).root (leaf_at recon (a.txn).root)) here) arrivals all
+      all_follow (due_by stage started part recon loaded) (due_by stage true part recon loaded) (λ a. a)
+      (λ a here. or_follows a.is_due (coming_by stage started part recon loaded (a.txn).root) (coming_by stage true part recon loaded (a.txn).root) (started_coming (a.txn).root (leaf_at recon (a.txn).root)) here) arrivals all
     where
-      by_segment : (root i : ℕ) (read : Option Range) → option_map_or (coming_in started part loaded root i) read false ≡ true → option_map_or (coming_in true part loaded root i) read false ≡ true
+      by_segment : (root i : ℕ) (read : Option Range) → option_map_or (coming_in recon stage started part loaded root i) read false ≡ true → option_map_or (coming_in recon stage true part loaded root i) read false ≡ true
       by_segment root i None h = h
-      by_segment root i (Some segment) h = (and_parts started ((segment.dst == part) && not (is_loaded (get_or loaded i []) root)) h).1
+      by_segment root i (Some segment) h = (and_parts started ((stage_in recon segment == stage) && ((segment.dst == part) && not (is_loaded (get_or loaded i []) root))) h).1
 
-      started_coming : (root : ℕ) (read : Option (ℕ × ℕ)) → option_map_or (λ at. option_map_or (coming_in started part loaded root at.0) (slice_get recon.segments at.0) false) read false ≡ true
-          → option_map_or (λ at. option_map_or (coming_in true part loaded root at.0) (slice_get recon.segments at.0) false) read false ≡ true
+      started_coming : (root : ℕ) (read : Option (ℕ × ℕ)) → option_map_or (λ at. option_map_or (coming_in recon stage started part loaded root at.0) (slice_get recon.segments at.0) false) read false ≡ true
+          → option_map_or (λ at. option_map_or (coming_in recon stage true part loaded root at.0) (slice_get recon.segments at.0) false) read false ≡ true
       started_coming root None h = h
       started_coming root (Some at) h = by_segment root at.0 (slice_get recon.segments at.0) h
 
@@ -100,15 +100,15 @@ module _ (part : ℕ) (recon : ReconValue) where
         (λ (apart : i ≢ note.seg). ap (λ runs. is_loaded runs root) (get_or-set_other loaded note.seg i (runs_with (get_or loaded note.seg []) note) [] apart))
         (cases_eq i note.seg)
 
-    same_coming : (root : ℕ) → covers note root ≡ false → coming_by started part recon more_loaded root ≡ coming_by started part recon loaded root
+    same_coming : (root : ℕ) → covers note root ≡ false → coming_by stage started part recon more_loaded root ≡ coming_by stage started part recon loaded root
     same_coming root outside = by_leaf (leaf_at recon root)
       where
-        by_segment : (i : ℕ) (read : Option Range) → option_map_or (coming_in started part more_loaded root i) read false ≡ option_map_or (coming_in started part loaded root i) read false
+        by_segment : (i : ℕ) (read : Option Range) → option_map_or (coming_in recon stage started part more_loaded root i) read false ≡ option_map_or (coming_in recon stage started part loaded root i) read false
         by_segment i None = refl
-        by_segment i (Some segment) = ap (λ b. started && ((segment.dst == part) && not b)) (same_loaded root i outside)
+        by_segment i (Some segment) = ap (λ b. started && ((stage_in recon segment == stage) && ((segment.dst == part) && not b))) (same_loaded root i outside)
 
-        by_leaf : (read : Option (ℕ × ℕ)) → option_map_or (λ at. option_map_or (coming_in started part more_loaded root at.0) (slice_get recon.segments at.0) false) read false
-            ≡ option_map_or (λ at. option_map_or (coming_in started part loaded root at.0) (slice_get recon.segments at.0) false) read false
+        by_leaf : (read : Option (ℕ × ℕ)) → option_map_or (λ at. option_map_or (coming_in recon stage started part more_loaded root at.0) (slice_get recon.segments at.0) false) read false
+            ≡ option_map_or (λ at. option_map_or (coming_in recon stage started part loaded root at.0) (slice_get recon.segments at.0) false) read false
         by_leaf None = refl
         by_leaf (Some at) = by_segment at.0 (slice_get recon.segments at.0)
 
@@ -116,25 +116,25 @@ module _ (part : ℕ) (recon : ReconValue) where
     covered a = is_between note.lo note.hi (a.txn).root
 
     -- what a chunk covers is due once it is loaded
-    loaded_due : (a : Arrival) → due_by started part recon loaded a ≡ true → due_by started part recon more_loaded (due_if covered a) ≡ true
+    loaded_due : (a : Arrival) → due_by stage started part recon loaded a ≡ true → due_by stage started part recon more_loaded (due_if covered a) ≡ true
     loaded_due a here =
         ⊎_elim
-        (λ (inside : covered a ≡ true). ap (λ b. (a.is_due || b) || coming_by started part recon more_loaded (a.txn).root) inside ∙ whole a.is_due (coming_by started part recon more_loaded (a.txn).root))
+        (λ (inside : covered a ≡ true). ap (λ b. (a.is_due || b) || coming_by stage started part recon more_loaded (a.txn).root) inside ∙ whole a.is_due (coming_by stage started part recon more_loaded (a.txn).root))
         (λ (outside : covered a ≡ false).
-        (λ k. (a.is_due || outside k) || same_coming (a.txn).root outside k) ∙ ap (λ b. b || coming_by started part recon loaded (a.txn).root) (or_none a.is_due) ∙ here)
+        (λ k. (a.is_due || outside k) || same_coming (a.txn).root outside k) ∙ ap (λ b. b || coming_by stage started part recon loaded (a.txn).root) (or_none a.is_due) ∙ here)
         (cases_Bool (covered a))
       where
         whole : (x y : Bool) → ((x || true) || y) ≡ true
         whole true y = refl
         whole false y = refl
 
-    pub all_loaded_due : (arrivals : List Arrival) → list_all (due_by started part recon loaded) arrivals ≡ true → list_all (λ a. due_by started part recon more_loaded (due_if covered a)) arrivals ≡ true
-    all_loaded_due arrivals all = all_follow (due_by started part recon loaded) (due_by started part recon more_loaded) (due_if covered) loaded_due arrivals all
+    pub all_loaded_due : (arrivals : List Arrival) → list_all (due_by stage started part recon loaded) arrivals ≡ true → list_all (λ a. due_by stage started part recon more_loaded (due_if covered a)) arrivals ≡ true
+    all_loaded_due arrivals all = all_follow (due_by stage started part recon loaded) (due_by stage started part recon more_loaded) (due_if covered) loaded_due arrivals all
 
   -- some more are due
-  pub all_more_due : (started : Bool) (loaded : List (List Run)) (passes : Arrival → Bool) (arrivals : List Arrival) → list_all (due_by started part recon loaded) arrivals ≡ true
-      → list_all (λ a. due_by started part recon loaded (due_if passes a)) arrivals ≡ true
-  all_more_due started loaded passes arrivals all = all_follow (due_by started part recon loaded) (due_by started part recon loaded) (due_if passes) (λ a here. more a.is_due (passes a) (coming_by started part recon loaded (a.txn).root) here) arrivals all
+  pub all_more_due : (started : Bool) (loaded : List (List Run)) (passes : Arrival → Bool) (arrivals : List Arrival) → list_all (due_by stage started part recon loaded) arrivals ≡ true
+      → list_all (λ a. due_by stage started part recon loaded (due_if passes a)) arrivals ≡ true
+  all_more_due started loaded passes arrivals all = all_follow (due_by stage started part recon loaded) (due_by stage started part recon loaded) (due_if passes) (λ a here. more a.is_due (passes a) (coming_by stage started part recon loaded (a.txn).root) here) arrivals all
     where
       more : (x y z : Bool) → (x || z) ≡ true → ((x || y) || z) ≡ true
       more true y z h = refl
@@ -146,15 +146,16 @@ pub started_kept : {seen now : PartCoreValue} → seen ≡ now → (arrivals : L
 started_kept {seen} view_is arrivals is =
     let core = seen.core in
     still_core is true core.store core.waiting arrivals is.moving
-    (all_due_by (record core { started = true }) arrivals ∙ started_due core.part core.recon core.started core.loaded arrivals (sym (all_due_by core arrivals) ∙ is.due))
+    (all_due_by (record core { started = true }) arrivals ∙ started_due core.stage core.part core.recon core.started core.loaded arrivals (sym (all_due_by core arrivals) ∙ is.due))
 
 -- when more are due
-pub more_kept : (core : CoreValue) (old new : WaitingValue) → IsMoreDue old new → IsCore core old.arrivals → IsCore core new.arrivals
-more_kept core old new more is =
+pub more_kept : {passes : Arrival → Bool} (core : CoreValue) (old new : WaitingValue) → IsMoreDue passes old new → IsCore core old.arrivals → IsCore core new.arrivals
+more_kept {passes} core old new more is =
+    let due : Arrival → Bool = λ a. passes a && more.some a in
     still_core is core.started core.store core.waiting new.arrivals is.moving
-    (ap (λ (w : WaitingValue). list_all (is_due_here core) w.arrivals) more.more ∙ all_due_by core (map (due_if more.passes) old.arrivals)
-    ∙ list_all-map (due_by core.started core.part core.recon core.loaded) (due_if more.passes) old.arrivals
-    ∙ all_more_due core.part core.recon core.started core.loaded more.passes old.arrivals (sym (all_due_by core old.arrivals) ∙ is.due))
+    (ap (λ (w : WaitingValue). list_all (is_due_here core) w.arrivals) more.more ∙ all_due_by core (map (due_if due) old.arrivals)
+    ∙ list_all-map (due_by core.stage core.started core.part core.recon core.loaded) (due_if due) old.arrivals
+    ∙ all_more_due core.stage core.part core.recon core.started core.loaded due old.arrivals (sym (all_due_by core old.arrivals) ∙ is.due))
 
 -- and when a chunk is loaded, whose root keys' transactions are due
 pub loaded_kept : (core : CoreValue) (src : ℕ) (chunk : ChunkValue) (arrivals : List Arrival) → IsCore core arrivals → IsCore (loaded_core core src chunk) (map (due_if (λ a. is_between chunk.note.lo chunk.note.hi (a.txn).root)) arrivals)
@@ -169,6 +170,6 @@ loaded_kept core src chunk arrivals is =
       ends = is.ends;
       moving = is.moving;
       due =
-          all_due_by (loaded_core core src chunk) (map (due_if covered) arrivals) ∙ list_all-map (due_by core.started core.part core.recon more) (due_if covered) arrivals
-          ∙ all_loaded_due core.part core.recon core.started core.loaded chunk.note arrivals (sym (all_due_by core arrivals) ∙ is.due);
+          all_due_by (loaded_core core src chunk) (map (due_if covered) arrivals) ∙ list_all-map (due_by core.stage core.started core.part core.recon more) (due_if covered) arrivals
+          ∙ all_loaded_due core.stage core.part core.recon core.started core.loaded chunk.note arrivals (sym (all_due_by core arrivals) ∙ is.due);
     }

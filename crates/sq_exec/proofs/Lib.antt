@@ -13,3 +13,4 @@ pub mod Loads
 pub mod Due
 pub mod Coming
 pub mod Readies
+pub mod Enters

@@ -6,14 +6,14 @@ use Rattle.std.proofs.lemmas.Option.{same_Some, slice_get_within}
 use Rattle.sq_ranges.specs.declared.recon.Range.{Range}
 use Rattle.sq_chunk.specs.ChunkValue.{ChunkValue}
 use Rattle.sq_schema.specs.TxnValue.{TxnValue}
-use Rattle.sq_waiting.specs.Waiting.{Arrival, WaitingValue, txns_of, due_if, with_due, IsMoreDue}
+use Rattle.sq_waiting.specs.Waiting.{Arrival, WaitingValue, txns_of, numbers_of, due_if, with_due, IsMoreDue}
 use Rattle.sq_waiting.specs.Index.{is_between}
-use Rattle.sq_waiting.proofs.Arrivals.{txns-due}
+use Rattle.sq_waiting.proofs.Arrivals.{txns-due, numbers-due}
 use Rattle.sq_store.specs.StoreValue.{StoreValue, with_families, has_none_of}
 use Rattle.sq_exec.specs.declared.run.Run.{Run}
 use Rattle.sq_ranges.specs.ReconValue.{extent}
 use Rattle.sq_exec.specs.Runs.{is_met, runs_with}
-use Rattle.sq_exec.specs.CoreValue.{CoreValue, PartCoreValue, inbox_at, loaded_at}
+use Rattle.sq_exec.specs.CoreValue.{CoreValue, Numbering, PartCoreValue, inbox_at, loaded_at}
 use Rattle.sq_exec.specs.Moving.{lies_in, can_load, can_load_in, loaded_core, LoadsFrom}
 use Rattle.sq_exec.specs.Kept.{IsCore}
 use Rattle.sq_exec.proofs.Coming.{more_kept, loaded_kept}
@@ -90,8 +90,14 @@ module _ {seen now : PartCoreValue} (view_is : seen ≡ now) (src from : ℕ) (f
         ∙ ap (λ (v : PartCoreValue). v.core) view_is
 
 -- where more are due the same transactions wait
-pub same_waiting : (old new : WaitingValue) → IsMoreDue old new → txns_of new.arrivals ≡ txns_of old.arrivals
-same_waiting old new more = ap (λ (w : WaitingValue). txns_of w.arrivals) more.more ∙ txns-due more.passes old.arrivals
+pub same_waiting : {passes : Arrival → Bool} (old new : WaitingValue) → IsMoreDue passes old new → txns_of new.arrivals ≡ txns_of old.arrivals
+same_waiting {passes} old new more = ap (λ (w : WaitingValue). txns_of w.arrivals) more.more ∙ txns-due (λ a. passes a && more.some a) old.arrivals
+
+-- with the same numbers
+pub same_numbering : {passes : Arrival → Bool} (old new : WaitingValue) → IsMoreDue passes old new → ◌≡◌ {A = Numbering} (record { numbers = numbers_of new.arrivals; next = new.next }) (record { numbers = numbers_of old.arrivals; next = old.next })
+same_numbering {passes} old new more =
+    ap (λ (w : WaitingValue). record { numbers = numbers_of w.arrivals; next = w.next }) more.more
+    ∙ ap (λ numbers. record { numbers = numbers; next = old.next }) (numbers-due (λ a. passes a && more.some a) old.arrivals)
 
 -- the partition keeps what holds of it when its chunk is loaded, whose root keys' transactions are due
 pub loads_kept : {seen now : PartCoreValue} → seen ≡ now → (src : ℕ) (note : Note) (new : CoreValue) → LoadsFrom now.core src note new → (old more : WaitingValue) (covered : Note) → covered ≡ note
@@ -104,17 +110,17 @@ loads_kept {seen} {now} view_is src note new loads old more covered covered_is m
     (subst (λ arrivals. IsCore (loaded_core now.core src loads.chunk) arrivals) (sym arrivals_are) (loaded_kept now.core src loads.chunk old.arrivals (subst (λ (v : PartCoreValue). IsCore v.core old.arrivals) view_is is)))
 
 -- what is as it was keeps what holds of it, where more may be due
-pub as_was : {seen now : PartCoreValue} → seen ≡ now → (new : CoreValue) → new ≡ now.core → (old more : WaitingValue) → IsMoreDue old more → IsCore seen.core old.arrivals → IsCore new more.arrivals
-as_was {seen} {now} view_is new same old more due is =
+pub as_was : {passes : Arrival → Bool} {seen now : PartCoreValue} → seen ≡ now → (new : CoreValue) → new ≡ now.core → (old more : WaitingValue) → IsMoreDue passes old more → IsCore seen.core old.arrivals → IsCore new more.arrivals
+as_was {passes} {seen} {now} view_is new same old more due is =
     subst (λ core. IsCore core more.arrivals) (sym same) (more_kept now.core old more due (subst (λ (v : PartCoreValue). IsCore v.core old.arrivals) view_is is))
 
 -- those that pass are more
-pub more_by : {old new : WaitingValue} (passes : Arrival → Bool) → new ≡ with_due passes old → IsMoreDue old new
-more_by passes is = record { passes = passes; more = is }
+pub more_by : {old new : WaitingValue} (passes : Arrival → Bool) → new ≡ with_due passes old → IsMoreDue (λ a. true) old new
+more_by passes is = record { some = passes; more = is }
 
 -- where none is due that wasn't, no more are
-pub none_more : (w : WaitingValue) → IsMoreDue w w
-none_more w = record { passes = λ a. false; more = ap (λ arrivals. record w { arrivals = arrivals }) (same w.arrivals) }
+pub none_more : (w : WaitingValue) → IsMoreDue (λ a. true) w w
+none_more w = record { some = λ a. false; more = ap (λ arrivals. record w { arrivals = arrivals }) (same w.arrivals) }
   where
     or_none : (b : Bool) → b ≡ (b || false)
     or_none true = refl

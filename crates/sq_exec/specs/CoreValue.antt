@@ -6,19 +6,20 @@ use Rattle.sq_ranges.specs.declared.recon.Link.{Link}
 use Rattle.sq_ranges.specs.declared.recon.Range.{Range}
 use Rattle.sq_ranges.specs.ReconValue.{ReconValue}
 use Rattle.sq_ranges.specs.OpeningValue.{OpeningValue}
-use Rattle.sq_store.specs.StoreValue.{StoreValue}
+use Rattle.sq_store.specs.StoreValue.{StoreValue, folded_store}
 use Rattle.sq_chunk.specs.ChunkValue.{ChunkValue}
 use Rattle.sq_exec.specs.declared.run.Run.{Run}
 use Rattle.sq_exec.specs.GivenUp.{none_given_up}
 use Rattle.sq_exec.specs.OutLink.{OutLinkValue, new_out_link}
 
--- a partition: the plan before the move and what moves, how many bytes of families a chunk holds, whether the move has started; its families, and the transactions that wait in the order in which they came; for each partition the end of the link to it, and the chunk that came from it; and for each segment the leaves that were given up, and what was loaded
+-- a partition: the plan before the move and what moves, how many bytes of families a chunk holds, whether the move has started, and which stage runs; its families, and the transactions that wait in the order in which they came; for each partition the end of the link to it, and the chunk that came from it; and for each segment the leaves that were given up, and what was loaded
 pub record CoreValue : Type 0 where
   pub part : ℕ
   pub plan : PlanValue
   pub recon : ReconValue
   pub limit : ℕ
   pub started : Bool
+  pub stage : ℕ
   pub store : StoreValue
   pub waiting : List TxnValue
   pub outs : List OutLinkValue
@@ -46,6 +47,7 @@ opened_core o part store =
       recon = o.recon;
       limit = o.config.limit;
       started = false;
+      stage = 0;
       store = store;
       waiting = [];
       outs = replicate o.old.parts new_out_link;
@@ -53,6 +55,14 @@ opened_core o part store =
       given_up = replicate (length o.recon.segments) none_given_up;
       loaded = replicate (length o.recon.segments) [];
     }
+
+-- a partition with the logs of its families folded
+abbrev pub folded_core : CoreValue → CoreValue
+folded_core core = record core { store = folded_store core.store }
+
+-- a partition to which the stage was told that runs now
+abbrev pub entered_core : ℕ → CoreValue → CoreValue
+entered_core stage core = record core { stage = stage }
 
 -- the end of the link to a partition
 abbrev pub out_at : CoreValue → ℕ → OutLinkValue

@@ -14,6 +14,8 @@ pub struct Location {
     pub src: PartId,
     /// The partition that it comes to.
     pub dst: PartId,
+    /// The stage in which it moves.
+    pub stage: u64,
     /// Whether it was given up here.
     pub given_up: bool,
     /// Whether it was loaded here.

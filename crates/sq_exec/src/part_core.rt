@@ -2,7 +2,7 @@
 ghost use Rattle.std.specs.Prelude.{◌≡◌, ◌↔◌, ◌<◌, true, List, IsTrue, length, map};
 ghost use Rattle.std.specs.Option.{option_copied};
 ghost use Rattle.sq_waiting.specs.Waiting.{Arrival, txns_of};
-ghost use Rattle.sq_exec.specs.CoreValue.{out_at, inbox_at};
+ghost use Rattle.sq_exec.specs.CoreValue.{out_at, inbox_at, entered_core, folded_core};
 ghost use Rattle.sq_exec.specs.Kept.{IsCore};
 
 use crate::given_up::GivenUp;
@@ -28,6 +28,7 @@ pub struct PartCore<S: FamilyStore> {
     recon: Recon,
     limit: u64,
     started: bool,
+    stage: u64,
     store: S,
     waiting: Waiting,
     outs: Vec<OutLink>,
@@ -56,6 +57,7 @@ impl<S: FamilyStore> Model for PartCore<S> {
         recon = p.recon;
         limit = p.limit;
         started = p.started;
+        stage = p.stage;
         store = S.contents p.store;
         waiting = txns_of p.waiting.arrivals;
         outs = map (λ out. out.link) p.outs.items;
@@ -73,6 +75,7 @@ impl<S: FamilyStore> Model for PartCore<S> {
       recon = p.recon;
       limit = p.limit;
       started = p.started;
+      stage = p.stage;
       store = S.contents p.store;
       waiting = txns_of p.waiting.arrivals;
       outs = map (λ out. out.link) p.outs.items;
@@ -98,9 +101,28 @@ pub struct CoreParts<S> {
 impl<S: FamilyStore> PartCore<S> {
     /// The move has started.
     pub fn start(&mut self)
-        ensures { self.new.core ≡ record self.old.core { started = true } }
+        ensures core { self.new.core ≡ record self.old.core { started = true } }
+        ensures room { self.new.has_room ≡ self.old.has_room }
+        ensures numbering { self.new.numbering ≡ self.old.numbering }
     {
         self.started = true;
+    }
+
+    /// The move enters a stage, whichever one it was in. It takes no memory.
+    pub fn enter(&mut self, stage: u64)
+        ensures { self.new ≡ record self.old { core = entered_core stage self.old.core } }
+    {
+        self.waiting.make_all_due();
+        self.stage = stage;
+    }
+
+    /// Folds the logs of its families: each starts anew from its rows, and those without rows go. It takes no memory.
+    pub fn fold(&mut self)
+        ensures core { self.new.core ≡ folded_core self.old.core }
+        ensures room { self.new.has_room ≡ self.old.has_room }
+        ensures numbering { self.new.numbering ≡ self.old.numbering }
+    {
+        self.store.fold();
     }
 
     /// Which partition it is.

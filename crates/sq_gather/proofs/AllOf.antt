@@ -6,7 +6,7 @@ use Rattle.std.proofs.lemmas.Bool.{and_parts, eqb-true}
 use Rattle.std.proofs.lemmas.List.Elements.{All-contains}
 use Rattle.atomic_table.specs.Seated.{TableId}
 use Rattle.sq_ranges.specs.declared.recon.Range.{Range}
-use Rattle.sq_ranges.specs.ReconValue.{ReconValue, is_link, AreLinks}
+use Rattle.sq_ranges.specs.ReconValue.{ReconValue, is_link, stage_on}
 use Rattle.sq_ranges.specs.Moves.{IsMovingRun}
 use Rattle.sq_ranges.specs.OpeningValue.{OpeningValue}
 use Rattle.sq_ranges.specs.Opening.{IsOpening}
@@ -21,15 +21,15 @@ use Rattle.sq_pull.specs.Seats.{AreSeatsOf, OnlyClaimed}
 use Rattle.sq_pull.specs.Pump.{PumpValue}
 use Rattle.sq_placed.proofs.Lists.{map_at, at_map}
 use Rattle.sq_node_model.proofs.Members.{Contains-map}
-use Rattle.sq_node.specs.FabricValue.{FabricValue, IsFabric, ends_of}
+use Rattle.sq_node.specs.FabricValue.{FabricValue, IsFabric, AreStageLinks, ends_of}
 use Rattle.sq_node.specs.NodeState.{NodeState}
 use Rattle.sq_node.specs.Opened.{AreFirstSeats, AreNewSeats, IsOpened}
 use Rattle.sq_gather.specs.Gathered.{IsPumpOf, AreAllOf}
 
 -- a link of an opening leads from one of its partitions to another
-ends_below : (o : OpeningValue) → IsOpening o → (links : List LinkValue) → AreLinks o.recon.ranges (map ends_of links) → (i : ℕ) (link : LinkValue) → slice_get links i ≡ Some link → (link.src < o.old.parts) × (link.dst < o.old.parts)
-ends_below o opening links are i link there =
-    let linked : is_link o.recon.ranges link.src link.dst ≡ true = (are.all (ends_of link)).0 (Contains-map ends_of links link (Contains-slice_get links i link there)) in
+ends_below : (o : OpeningValue) → IsOpening o → (stage : ℕ) (links : List LinkValue) → AreStageLinks o.recon stage (map ends_of links) → (i : ℕ) (link : LinkValue) → slice_get links i ≡ Some link → (link.src < o.old.parts) × (link.dst < o.old.parts)
+ends_below o opening stage links are i link there =
+    let linked : is_link o.recon.ranges link.src link.dst ≡ true = (and_parts (is_link o.recon.ranges link.src link.dst) (stage_on o.recon link.src link.dst == stage) ((are.all (ends_of link)).0 (Contains-map ends_of links link (Contains-slice_get links i link there)))).0 in
     let range = any_in (λ (range : Range). (range.src == link.src) && (range.dst == link.dst)) o.recon.ranges linked in
     let runs : IsMovingRun o.old o.new range.0 = All-contains (IsMovingRun o.old o.new) o.recon.ranges range.0 opening.moves.runs range.1 in
     let owned = runs.owned range.0.lo (omega arith) runs.some in
@@ -61,7 +61,7 @@ all_of_opened o count fabric nodes pumps opening is opened =
       seats = subst (λ (given : ℕ). AreFirstSeats given fabric.trees fabric.seats) (λ k. sym opened.each_node.all k + sym opened.each_pump.all k) opened.seats;
       count = opened.each_node.all ∙ sym opened.shared.parts;
       ends = λ i link there.
-          let below = ends_below o opening fabric.links (subst (λ (recon : ReconValue). AreLinks recon.ranges (map ends_of fabric.links)) opened.shared.recon is.links) i link there in
+          let below = ends_below o opening fabric.stage fabric.links (subst (λ (recon : ReconValue). AreStageLinks recon fabric.stage (map ends_of fabric.links)) opened.shared.recon is.links) i link there in
           let parts = opened.shared.parts in (
             omega (arith, below.0, parts),
             omega (arith, below.1, parts),

@@ -1,6 +1,6 @@
 -- What the nodes left of the links, node by node.
 use Rattle.std.proofs.Common.{◌≡◌, ℕ, ◌+◌, ◌<◌, ◌≤◌, List, [], ◌∷◌, ◌++◌, length, Option, Some, None, refl, sym, ap, ◌∙◌, subst, ⊎_elim, inl, inr, arith}
-use Rattle.std.specs.Prelude.{◌⊎◌, slice_get, slice_index_or, option_map}
+use Rattle.std.specs.Prelude.{map, ◌⊎◌, slice_get, slice_index_or, option_map}
 use Rattle.std.proofs.lemmas.Option.{same_Some, slice_get_within}
 use Rattle.sq_exec.specs.OutLink.{new_out_link}
 use Rattle.sq_exec.specs.CoreValue.{out_at, inbox_at}
@@ -16,6 +16,7 @@ use Rattle.sq_node.proofs.Bridges.{stands_below}
 use Rattle.sq_gather.specs.LinkEnds.{LinkEndsValue}
 use Rattle.sq_gather.specs.Ends.{WasPut, AreApart, SourcesPut, DestinationsPut, send_link, recv_link, with_source, with_destination}
 use Rattle.sq_ranges.proofs.LinksFrom.{stands_from, found_from}
+use Rattle.sq_gather.proofs.Staged.{ranges_in, as_links}
 
 -- a node's end for the other partition stands among its ends, and it is of this link
 pub record StandsFor {X : Type 0} (link_of : X → ℕ) (ends : List (Option X)) (other i : ℕ) : Type 0 where
@@ -74,10 +75,10 @@ module _ (fabric : FabricValue) (is : IsFabric fabric) (node : NodeState) (of : 
 
   -- it leads between these partitions
   sent_over : (dst : ℕ) (end : SendEnd) → send_end node.sends dst ≡ Some end → (link : LinkValue) × (slice_get fabric.links end.link ≡ Some link) × (link.src ≡ node.core.part) × (link.dst ≡ dst)
-  sent_over dst end there = found_from ends_of fabric.recon.ranges fabric.links no_link is.links node.core.part dst end.link (sends_from dst end there)
+  sent_over dst end there = found_from ends_of (ranges_in fabric.recon fabric.stage) fabric.links no_link (as_links fabric.recon fabric.stage (map ends_of fabric.links) is.links) node.core.part dst end.link (sends_from dst end there)
 
   received_over : (src : ℕ) (end : RecvEnd) → recv_end node.recvs src ≡ Some end → (link : LinkValue) × (slice_get fabric.links end.link ≡ Some link) × (link.src ≡ src) × (link.dst ≡ node.core.part)
-  received_over src end there = found_from ends_of fabric.recon.ranges fabric.links no_link is.links src node.core.part end.link (recvs_from src end there)
+  received_over src end there = found_from ends_of (ranges_in fabric.recon fabric.stage) fabric.links no_link (as_links fabric.recon fabric.stage (map ends_of fabric.links) is.links) src node.core.part end.link (recvs_from src end there)
 
   pub sends_apart : AreApart send_link node.sends
   sends_apart = apart_by send_link node.sends fabric.links (λ (l : LinkValue). l.dst) (λ dst end there. let over = sent_over dst end there in (over.0, over.1, over.3))
@@ -90,13 +91,13 @@ module _ (fabric : FabricValue) (is : IsFabric fabric) (node : NodeState) (of : 
   send_there i link there src below =
       end_of send_link node.sends link.dst i
       (of.sends.which link.dst (let count = of.all_sends in omega arith) ∙ ap (λ (src : ℕ). link_from fabric.links src link.dst) (sym src)
-      ∙ stands_from ends_of fabric.recon.ranges fabric.links no_link is.links i link there)
+      ∙ stands_from ends_of (ranges_in fabric.recon fabric.stage) fabric.links no_link (as_links fabric.recon fabric.stage (map ends_of fabric.links) is.links) i link there)
 
   pub recv_there : (i : ℕ) (link : LinkValue) → slice_get fabric.links i ≡ Some link → link.dst ≡ node.core.part → link.src < fabric.parts → StandsFor recv_link node.recvs link.src i
   recv_there i link there dst below =
       end_of recv_link node.recvs link.src i
       (of.recvs.which link.src (let count = of.all_recvs in omega arith) ∙ ap (λ (dst : ℕ). link_from fabric.links link.src dst) (sym dst)
-      ∙ stands_from ends_of fabric.recon.ranges fabric.links no_link is.links i link there)
+      ∙ stands_from ends_of (ranges_in fabric.recon fabric.stage) fabric.links no_link (as_links fabric.recon fabric.stage (map ends_of fabric.links) is.links) i link there)
 
   -- an end of the node is of a link that leads from its partition
   put_from : (i : ℕ) (was now : LinkEndsValue) (link : LinkValue) → slice_get fabric.links i ≡ Some link → WasPut send_link with_source node.sends node.core.outs new_out_link 0 i was now → link.src ≡ node.core.part

@@ -1,6 +1,7 @@
 pub mod Adding
 pub mod AllOf
 pub mod Closing
+pub mod Staged
 pub mod Filling
 pub mod Joined
 pub mod Joining

@@ -12,19 +12,22 @@ use Rattle.sq_ranges.specs.Opening.{IsOpening}
 use Rattle.sq_status.specs.declared.view.View.{View}
 use Rattle.sq_status.specs.Seat.{SeatValue}
 use Rattle.sq_pull.specs.Pump.{PumpValue}
-use Rattle.sq_node_model.specs.NodeValue.{NodeValue}
+use Rattle.sq_node_model.specs.BeganWith.{BeganWith, CanBegin}
+use Rattle.sq_node_model.specs.NodeValue.{ReceiptValue, NodeValue}
 use Rattle.sq_node_model.specs.NodeHolds.{NodeHolds}
 use Rattle.sq_node_model.specs.Gathered.{GatheredLink, GatheredValue, HasEachLink, IsClosedTree, Gathers}
-use Rattle.sq_node_model.specs.Placed.{IsPlaced}
+use Rattle.sq_node_model.specs.Placed.{IsPlaced, GoOn}
 use Rattle.sq_placed.proofs.Lists.{stands_at, map_at}
 use Rattle.sq_placed.proofs.Placed.{is_placed}
-use Rattle.sq_node.specs.FabricValue.{FabricValue, IsFabric, ends_of}
+use Rattle.sq_placed.proofs.Families.{go_on}
+use Rattle.sq_node.specs.FabricValue.{FabricValue, IsFabric, AreStageLinks, ends_of}
 use Rattle.sq_node.specs.NodeState.{NodeState, views_of, node_value}
 use Rattle.sq_node.specs.Opened.{IsFabricOf}
 use Rattle.sq_gather.specs.Trees.{view_with}
-use Rattle.sq_gather.specs.Gathered.{AreAllOf, IsGathered, AllHold, owners_of, closed_ends}
+use Rattle.sq_gather.specs.Gathered.{AreAllOf, IsGathered, HasBegun, AllHold, owners_of, closed_ends}
 use Rattle.sq_gather.proofs.Lists.{map_twice, flat_map_none}
 use Rattle.sq_ranges.proofs.LinksFrom.{one_each, each_link}
+use Rattle.sq_gather.proofs.Staged.{ranges_in, linked_in, as_links}
 use Rattle.sq_gather.proofs.Joined.{begun_grows, completed_grows}
 
 abbrev no_closed_link : GatheredLink
@@ -60,28 +63,37 @@ module _ (fabric : FabricValue) (nodes : List NodeState) (pumps : List PumpValue
   as_many_seats : length fabric.seats ≡ length fabric.recon.segments
   as_many_seats = sym (length-map fabric.seats (λ (seat : SeatValue). seat.tree)) ∙ ap length is.seats ∙ is.trees
 
-  module _ (o : OpeningValue) (opening : IsOpening o) (of : IsFabricOf o fabric) (hold : AllHold o nodes) where
-    are_links : AreLinks o.recon.ranges (map closed_ends g.links)
-    are_links = subst (λ (links : List Link). AreLinks o.recon.ranges links) (sym gathered.ends) (subst (λ (recon : ReconValue). AreLinks recon.ranges (map ends_of fabric.links)) of.recon is.links)
+  module _ (o : OpeningValue) (began : BeganWith) (opening : IsOpening o) (of : IsFabricOf o fabric) (begun : HasBegun began fabric) (hold : AllHold o began nodes) where
+    are_links : AreLinks (ranges_in o.recon g.stage) (map closed_ends g.links)
+    are_links =
+        as_links o.recon g.stage (map closed_ends g.links)
+        (subst (λ (stage : ℕ). AreStageLinks o.recon stage (map closed_ends g.links)) (sym gathered.stage)
+        (subst (λ (links : List Link). AreStageLinks o.recon fabric.stage links) (sym gathered.ends)
+        (subst (λ (recon : ReconValue). AreStageLinks recon fabric.stage (map ends_of fabric.links)) of.recon is.links)))
 
-    each_of_links : HasEachLink o g.links
+    each_of_links : HasEachLink o g.stage g.links
     each_of_links = record {
-      ends = each_link closed_ends o.recon.ranges g.links no_closed_link are_links;
-      one_each = one_each closed_ends o.recon.ranges g.links no_closed_link are_links;
+      ends = λ src dst. each_link closed_ends (ranges_in o.recon g.stage) g.links no_closed_link are_links src dst ∙ linked_in o.recon g.stage src dst o.recon.ranges;
+      one_each = one_each closed_ends (ranges_in o.recon g.stage) g.links no_closed_link are_links;
     }
 
-    gathers : Gathers o (map node_value nodes) g
+    gathers : Gathers o began (map node_value nodes) g
     gathers = record {
+      stage = gathered.stage ∙ sym begun.stage;
       count = length-map nodes node_value ∙ all.count ∙ of.parts;
       parts = λ p node there. let at = map_at node_value nodes p node there in ap (λ (n : NodeValue). n.part) (sym at.2) ∙ (all.each_node p at.0 at.1).1;
-      holds = λ p node there. let at = map_at node_value nodes p node there in subst (NodeHolds o) at.2 (hold p at.0 at.1);
+      holds = λ p node there. let at = map_at node_value nodes p node there in subst (NodeHolds o began) at.2 (hold p at.0 at.1);
       stores = gathered.stores ∙ sym (map_twice (λ (node : NodeValue). node.store) node_value nodes);
-      receipts = gathered.receipts ∙ sym (flat_map-map (λ (node : NodeValue). node.receipts) node_value nodes);
+      receipts = gathered.receipts ∙ sym (flat_map-map (λ (node : NodeValue). node.receipts) node_value nodes)
+          ∙ ap (λ (past : List ReceiptValue). past ++ flat_map (λ (node : NodeValue). node.receipts) (map node_value nodes)) (sym begun.receipts);
       each_link = each_of_links;
       links = gathered.links;
       all_words = gathered.words.count ∙ as_many_seats ∙ ap (λ (recon : ReconValue). length recon.segments) of.recon;
       trees = λ seg low. closed_tree seg (omega (arith, low, as_many_seats, ap (λ (recon : ReconValue). length recon.segments) of.recon));
     }
 
-    pub placed : IsPlaced o g
-    placed = is_placed o opening (map node_value nodes) g gathers
+    pub placed : CanBegin o began → IsPlaced o g
+    placed can = is_placed o began opening (map node_value nodes) g gathers can
+
+    pub goes_on : GoOn began g
+    goes_on = go_on o began opening (map node_value nodes) g gathers

@@ -175,9 +175,10 @@ module _ (fabric : FabricValue) (nodes : List NodeState) (pumps : List PumpValue
                 ∙ (λ k. option_to_list ((has.destination.inbox ∙ ap (inbox_at has.to.core) (sym closes.src)) k) ++ (closes.queue ++ option_to_list ((has.source.outbox ∙ ap (λ (dst : ℕ). (out_at has.from.core dst).outbox) (sym closes.dst)) k)));
           }
 
-      module _ (g : GatheredValue) (stores : g.stores ≡ whole.stores) (receipts : g.receipts ≡ whole.receipts) (links : AreClosedLinks fabric.links whole.ends g.links) (words : AreClosedTrees fabric.seats whole.owners g.words) where
+      module _ (g : GatheredValue) (stores : g.stores ≡ whole.stores) (receipts : g.receipts ≡ whole.receipts) (stage : g.stage ≡ fabric.stage) (links : AreClosedLinks fabric.links whole.ends g.links) (words : AreClosedTrees fabric.seats whole.owners g.words) where
         pub is_gathered : IsGathered fabric nodes pumps g
         is_gathered = record {
+          stage = stage;
           stores = stores ∙ ap (λ (g : GatheringValue). g.stores) pumped ∙ has.stores ∙ ap (λ (list : List StoreValue). list ++ map (λ (node : NodeState). node.core.store) nodes) reserved.stores;
           receipts = receipts ∙ ap (λ (g : GatheringValue). g.receipts) pumped ∙ has.receipts ∙ ap (λ (list : List ReceiptValue). list ++ flat_map (λ (node : NodeState). node.receipts) nodes) reserved.receipts;
           ends = maps_same closed_ends ends_of g.links fabric.links links.count

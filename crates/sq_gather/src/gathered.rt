@@ -8,6 +8,8 @@ use std::marker::Model;
 /// What a run left, once its threads are done. To a contract it is a `GatheredValue`.
 #[derive(Debug, Drop)]
 pub struct Gathered {
+    /// The stage that ran.
+    pub stage: u64,
     /// For each partition its families.
     pub stores: Vec<SlabStore>,
     /// The links, by source and then by destination.
@@ -27,5 +29,5 @@ impl Model for Gathered {
 
     ghost coded = { Prim.hlevel (codes, store_coded) };
 
-    ghost view = { λ g. record { stores = g.stores.items; links = g.links.items; words = g.words.items; receipts = g.receipts.items } };
+    ghost view = { λ g. record { stage = g.stage; stores = g.stores.items; links = g.links.items; words = g.words.items; receipts = g.receipts.items } };
 }

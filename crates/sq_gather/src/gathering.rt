@@ -147,17 +147,20 @@ impl Gathering {
     pub(crate) fn close<R: Wait>(
         self,
         rt: &R,
+        stage: u64,
         trees: Vec<StatusTree>,
         first: Vec<TreeSeat>,
         links: Vec<Link>,
     ) -> Gathered
         requires { IsClosable trees.items first.items links.items self }
+        ensures stage { result.stage ≡ stage }
         ensures stores { result.stores ≡ self.stores }
         ensures receipts { result.receipts ≡ self.receipts }
         ensures links { AreClosedLinks links.items self.ends result.links }
         ensures words { AreClosedTrees first.items self.owners result.words }
     {
         Gathered {
+            stage,
             stores: self.stores,
             receipts: self.receipts,
             links: close_links(rt, links, self.ends, self.links),

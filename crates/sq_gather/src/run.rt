@@ -2,9 +2,10 @@
 ghost use Rattle.std.specs.Prelude.{IfOk, IfErr, ◌≡◌};
 ghost use Rattle.sq_ranges.specs.OpeningValue.{OpeningValue};
 ghost use Rattle.sq_ranges.specs.Opening.{IsOpening};
-ghost use Rattle.sq_node_model.specs.Placed.{IsPlaced};
+ghost use Rattle.sq_node_model.specs.Placed.{IsPlaced, GoOn};
+ghost use Rattle.sq_node_model.specs.BeganWith.{BeganWith, CanBegin};
 ghost use Rattle.sq_node.specs.Opened.{IsFabricOf};
-ghost use Rattle.sq_gather.specs.Gathered.{AreAllOf, IsGathered, AllHold};
+ghost use Rattle.sq_gather.specs.Gathered.{AreAllOf, IsGathered, HasBegun, AllHold};
 
 use crate::gathered::Gathered;
 use crate::gathering::Gathering;
@@ -37,7 +38,8 @@ pub fn gather<R: Wait>(
 ) -> Result<Gathered, Ungathered>
     requires { AreAllOf fabric nodes.items pumps.items }
     ensures gathered { IfOk result (IsGathered fabric nodes.items pumps.items) }
-    ensures placed { IfOk result (λ g. (o : OpeningValue) → IsOpening o → IsFabricOf o fabric → AllHold o nodes.items → IsPlaced o g) }
+    ensures placed { IfOk result (λ g. (o : OpeningValue) (began : BeganWith) → IsOpening o → IsFabricOf o fabric → HasBegun began fabric → CanBegin o began → AllHold o began nodes.items → IsPlaced o g) }
+    ensures grows { IfOk result (λ g. (o : OpeningValue) (began : BeganWith) → IsOpening o → IsFabricOf o fabric → HasBegun began fabric → CanBegin o began → AllHold o began nodes.items → GoOn began g) }
     ensures fabric_returned { IfErr result (λ back. back.fabric ≡ fabric) }
     ensures nodes_returned { IfErr result (λ back. back.nodes ≡ nodes) }
     ensures pumps_returned { IfErr result (λ back. back.pumps ≡ pumps) }
@@ -50,6 +52,7 @@ pub fn gather<R: Wait>(
         });
     };
     let FabricParts {
+        stage,
         trees,
         seats,
         links,
@@ -57,5 +60,5 @@ pub fn gather<R: Wait>(
     } = fabric.into_parts();
     gathering.add_nodes(nodes);
     gathering.add_pumps(pumps);
-    Ok(gathering.close(rt, trees, seats, links))
+    Ok(gathering.close(rt, stage, trees, seats, links))
 }

@@ -1,3 +1,4 @@
 pub mod Marked
 pub mod Wholes
 pub mod Counted
+pub mod Stages

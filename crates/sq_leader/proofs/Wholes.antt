@@ -1,6 +1,6 @@
--- The segments that move into a partition, and whether each of them is whole.
+-- The segments that move into a partition in a stage, and whether each of them is whole.
 use Rattle.std.proofs.Common.{◌≡◌, inl, inr, ℕ, zero, suc, ◌+◌, ◌<◌, ◌≤◌, Bool, true, false, ◌||◌, not, List, length, get_or, refl, sym, ap, ◌∙◌, arith}
-use Rattle.std.specs.Prelude.{◌==◌}
+use Rattle.std.specs.Prelude.{◌==◌, ◌&&◌, if◌then◌else◌, Some, None}
 use Rattle.std.specs.List.{list_all, range_with_len}
 use Rattle.std.proofs.lemmas.List.FromFn.{length-range_with_len, get_or-range_with_len}
 use Rattle.std.proofs.lemmas.Bool.{cases_lt, or_cases, not-true, both_ways}
@@ -8,6 +8,7 @@ use Rattle.std.proofs.lemmas.List.Folds.{list_all_at}
 use Rattle.std.proofs.lemmas.List.Sums.{AllPass-from_list_all}
 use Rattle.std.proofs.lemmas.Option.{slice_get-get_or, slice_get_past}
 use Rattle.sq_ranges.specs.declared.recon.Range.{Range}
+use Rattle.sq_ranges.specs.ReconValue.{ReconValue, stage_in, of_stage}
 use Rattle.sq_leader.specs.Segments.{goes_into, is_into, is_whole, has_all}
 
 -- each number passes
@@ -23,46 +24,51 @@ one_fails p n k lt fails =
     list_all_at p (range_with_len 0 n) k 0 (omega (arith, length-range_with_len 0 n))
     (ap p (get_or-range_with_len 0 n k 0 lt) ∙ ap p (omega arith) ∙ fails)
 
--- a segment moves into the partition just where that is its destination
-pub is_into-at : (segments : List Range) (part seg : ℕ) (d : Range) → seg < length segments → is_into segments part seg ≡ ((get_or segments seg d).dst == part)
-is_into-at segments part seg d lt = ap (λ found. goes_into found part) (slice_get-get_or segments seg d lt)
+-- a segment moves into the partition in the stage just where it is of the stage and that is its destination
+goes_into-of_stage : (recon : ReconValue) (stage part : ℕ) (segment : Range) → goes_into (of_stage recon stage (Some segment)) part ≡ ((stage_in recon segment == stage) && (segment.dst == part))
+goes_into-of_stage recon stage part segment = by_case (stage_in recon segment == stage)
+  where
+    by_case : (now : Bool) → goes_into (if now then Some segment else None) part ≡ (now && (segment.dst == part))
+    by_case true = refl
+    by_case false = refl
 
-is_into-there : (segments : List Range) (part seg : ℕ) (segment : Range) → seg < length segments → segment ≡ get_or segments seg segment
-    → is_into segments part seg ≡ (segment.dst == part)
-is_into-there segments part seg segment lt is = is_into-at segments part seg segment lt ∙ ap (λ (range : Range). range.dst == part) (sym is)
+pub is_into-at : (recon : ReconValue) (stage part seg : ℕ) (d : Range) → seg < length recon.segments
+    → is_into recon stage part seg ≡ ((stage_in recon (get_or recon.segments seg d) == stage) && ((get_or recon.segments seg d).dst == part))
+is_into-at recon stage part seg d lt =
+    ap (λ found. goes_into (of_stage recon stage found) part) (slice_get-get_or recon.segments seg d lt) ∙ goes_into-of_stage recon stage part (get_or recon.segments seg d)
 
--- a segment that moves into the partition and isn't whole is missing
-pub missing : (segments : List Range) (whole : List Bool) (part seg : ℕ) (segment : Range) → seg < length segments → segment ≡ get_or segments seg segment
-    → (segment.dst == part) ≡ true → is_whole whole seg ≡ false → (not (is_into segments part seg) || is_whole whole seg) ≡ false
-missing segments whole part seg segment lt is same absent =
-    let goes : is_into segments part seg ≡ true = is_into-there segments part seg segment lt is ∙ same in
-    rw (goes, absent)
+-- nothing past the last segment does
+is_into-past : (recon : ReconValue) (stage part seg : ℕ) → length recon.segments ≤ seg → is_into recon stage part seg ≡ false
+is_into-past recon stage part seg past = ap (λ found. goes_into (of_stage recon stage found) part) (slice_get_past recon.segments seg past)
 
--- one that moves elsewhere isn't, whether it is whole or not
-pub moves_elsewhere : (segments : List Range) (whole : List Bool) (part seg : ℕ) (segment : Range) → seg < length segments → segment ≡ get_or segments seg segment
-    → (segment.dst == part) ≡ false → (not (is_into segments part seg) || is_whole whole seg) ≡ true
-moves_elsewhere segments whole part seg segment lt is other =
-    let goes : is_into segments part seg ≡ false = is_into-there segments part seg segment lt is ∙ other in
-    rw goes
+-- a segment is missing if it moves into the partition in the stage and isn't whole
+pub is_missing-at : (recon : ReconValue) (stage part seg : ℕ) (whole : List Bool) (segment : Range) → seg < length recon.segments → segment ≡ get_or recon.segments seg segment
+    → (not (is_into recon stage part seg) || is_whole whole seg) ≡ (not ((stage_in recon segment == stage) && (segment.dst == part)) || is_whole whole seg)
+is_missing-at recon stage part seg whole segment lt is =
+    let goes : is_into recon stage part seg ≡ ((stage_in recon segment == stage) && (segment.dst == part)) =
+    is_into-at recon stage part seg segment lt ∙ ap (λ (range : Range). (stage_in recon range == stage) && (range.dst == part)) (sym is) in
+    ap (λ b. not b || is_whole whole seg) goes
 
--- nor is one that is whole, wherever it moves
-pub not_missing : (goes done : Bool) → done ≡ true → (not goes || done) ≡ true
-not_missing true true is_done = refl
-not_missing false true is_done = refl
-not_missing true false is_done = is_done
-not_missing false false is_done = refl
+-- one that moves elsewhere isn't
+elsewhere : (now done : Bool) → (not (now && false) || done) ≡ true
+elsewhere true done = refl
+elsewhere false done = refl
 
--- where all are whole that move into the partition, each that does is whole
-pub each_whole : (segments : List Range) (whole : List Bool) (part : ℕ) → has_all segments whole part ≡ true → (seg : ℕ) → is_into segments part seg ≡ true → is_whole whole seg ≡ true
-each_whole segments whole part all seg goes = elim (cases_lt seg (length segments)) [
+pub moves_elsewhere : (now here done : Bool) → here ≡ false → (not (now && here) || done) ≡ true
+moves_elsewhere now here done away = (λ i. not (now && away i) || done) ∙ elsewhere now done
+
+-- where all are whole that move into the partition in the stage, each that does is whole
+pub each_whole : (recon : ReconValue) (stage : ℕ) (whole : List Bool) (part : ℕ) → has_all recon stage whole part ≡ true → (seg : ℕ) → is_into recon stage part seg ≡ true → is_whole whole seg ≡ true
+each_whole recon stage whole part all seg goes = elim (cases_lt seg (length recon.segments)) [
   | inl lt ↦
-      let at : get_or (range_with_len 0 (length segments)) seg 0 ≡ seg = get_or-range_with_len 0 (length segments) seg 0 lt ∙ omega arith in
-      let test : ℕ → Bool = λ k. not (is_into segments part k) || is_whole whole k in
-      let here : (not (is_into segments part seg) || is_whole whole seg) ≡ true =
-      ap test (sym at) ∙ AllPass-from_list_all test (range_with_len 0 (length segments)) all seg 0 (omega (arith, length-range_with_len 0 (length segments), lt)) in
-      elim (or_cases (not (is_into segments part seg)) (is_whole whole seg) here) [
-        | inl away ↦ absurd (both_ways (is_into segments part seg) (not-true (is_into segments part seg) away) goes)
+      let count = length recon.segments in
+      let at : get_or (range_with_len 0 count) seg 0 ≡ seg = get_or-range_with_len 0 count seg 0 lt ∙ omega arith in
+      let test : ℕ → Bool = λ k. not (is_into recon stage part k) || is_whole whole k in
+      let here : (not (is_into recon stage part seg) || is_whole whole seg) ≡ true =
+      ap test (sym at) ∙ AllPass-from_list_all test (range_with_len 0 count) all seg 0 (omega (arith, length-range_with_len 0 count, lt)) in
+      elim (or_cases (not (is_into recon stage part seg)) (is_whole whole seg) here) [
+        | inl away ↦ absurd (both_ways (is_into recon stage part seg) (not-true (is_into recon stage part seg) away) goes)
         | inr done ↦ done
       ]
-  | inr past ↦ absurd (both_ways (is_into segments part seg) (ap (λ found. goes_into found part) (slice_get_past segments seg past)) goes)
+  | inr past ↦ absurd (both_ways (is_into recon stage part seg) (is_into-past recon stage part seg past) goes)
 ]

@@ -1,46 +1,80 @@
 -- What each call of the leader answers. A refused call hands the state back as it was.
-use Rattle.std.specs.Prelude.{ℕ, Bool, nat_le, if◌then◌else◌, List, length, Result, Ok, Err}
+use Rattle.std.specs.Prelude.{ℕ, Bool, ◌+◌, ◌==◌, ◌&&◌, nat_le, if◌then◌else◌, List, length, Option, None, Some, Result, Ok, Err}
 use Rattle.sq_plan.specs.PlanValue.{PlanValue}
-use Rattle.sq_ranges.specs.ReconValue.{ReconValue}
+use Rattle.sq_ranges.specs.ReconValue.{ReconValue, stages}
 use Rattle.sq_leader.specs.declared.fault.PrepareFault.{PrepareFault}
 use Rattle.sq_leader.specs.declared.fault.PrepareFault.TheVariants as prepare
 use Rattle.sq_leader.specs.declared.fault.StartFault.{StartFault}
 use Rattle.sq_leader.specs.declared.fault.StartFault.TheVariants as start
 use Rattle.sq_leader.specs.declared.fault.ReportFault.{ReportFault}
 use Rattle.sq_leader.specs.declared.fault.ReportFault.TheVariants as report
+use Rattle.sq_leader.specs.declared.fault.StageFault.{StageFault}
+use Rattle.sq_leader.specs.declared.fault.StageFault.TheVariants as stage_fault
+use Rattle.sq_leader.specs.declared.fault.NextFault.{NextFault}
+use Rattle.sq_leader.specs.declared.fault.NextFault.TheVariants as next
 use Rattle.sq_leader.specs.declared.fault.FinishFault.{FinishFault}
 use Rattle.sq_leader.specs.declared.fault.FinishFault.TheVariants as finish
 use Rattle.sq_leader.specs.declared.leader.Refused.{Refused}
+use Rattle.sq_leader.specs.LeaderValue.{IdleValue, PreparingValue, StageValue, ReportValue}
 use Rattle.sq_leader.specs.Marks.{none_marked, with_mark, all_marked}
 use Rattle.sq_leader.specs.Segments.{has_all, have_reported}
 
 -- the first partition prepares
-abbrev pub first_prepare_answer : ℕ → ℕ → Result (List Bool) (Refused ℕ PrepareFault)
-first_prepare_answer parts part =
-    if nat_le parts part then Err (record { leader = parts; fault = prepare.NoSuchPartition })
-    else Ok (with_mark (none_marked parts) part)
+abbrev pub first_prepare_answer : IdleValue → ℕ → Result PreparingValue (Refused IdleValue PrepareFault)
+first_prepare_answer idle part =
+    if nat_le idle.parts part then Err (record { leader = idle; fault = prepare.NoSuchPartition })
+    else Ok (record { prepared = with_mark (none_marked idle.parts) part; recon = idle.recon })
 
 -- one more partition prepares, or one once more
-abbrev pub prepare_answer : List Bool → ℕ → Result (List Bool) (Refused (List Bool) PrepareFault)
-prepare_answer prepared part =
-    if nat_le (length prepared) part then Err (record { leader = prepared; fault = prepare.NoSuchPartition })
-    else Ok (with_mark prepared part)
+abbrev pub prepare_answer : PreparingValue → ℕ → Result PreparingValue (Refused PreparingValue PrepareFault)
+prepare_answer preparing part =
+    if nat_le (length preparing.prepared) part then Err (record { leader = preparing; fault = prepare.NoSuchPartition })
+    else Ok (record preparing { prepared = with_mark preparing.prepared part })
 
--- the move starts, where each partition has prepared; none has reported then
-abbrev pub start_answer : List Bool → Result (List Bool) (Refused (List Bool) StartFault)
-start_answer prepared =
-    if all_marked prepared then Ok (none_marked (length prepared))
-    else Err (record { leader = prepared; fault = start.NotPrepared })
+-- a move of this many partitions begins with stage 0, in which none has reported
+abbrev pub first_stage : ℕ → ReconValue → StageValue
+first_stage parts recon = record { reported = none_marked parts; stage = 0; recon = recon }
 
--- a partition of the plan has a report where each segment into it is whole
-abbrev pub made_answer : PlanValue → ReconValue → List Bool → ℕ → Result ℕ ReportFault
-made_answer plan recon whole part =
+-- the move starts, where each partition has prepared
+abbrev pub start_answer : PreparingValue → Result StageValue (Refused PreparingValue StartFault)
+start_answer preparing =
+    if all_marked preparing.prepared then Ok (first_stage (length preparing.prepared) preparing.recon)
+    else Err (record { leader = preparing; fault = start.NotPrepared })
+
+-- a partition of the plan has a report where each segment into it in the stage is whole
+abbrev pub made_answer : PlanValue → ReconValue → ℕ → List Bool → ℕ → Result ReportValue ReportFault
+made_answer plan recon stage whole part =
     if nat_le plan.parts part then Err report.NoSuchPartition
-    else if has_all recon.segments whole part then Ok part
+    else if has_all recon stage whole part then Ok (record { part = part; stage = stage })
     else Err report.NotFinished
 
--- the move ends, where each partition into which a segment moves reported
-abbrev pub finish_answer : ReconValue → List Bool → Result (List Bool) (Refused (List Bool) FinishFault)
-finish_answer recon reported =
-    if have_reported recon.segments reported then Ok reported
-    else Err (record { leader = reported; fault = finish.NotFinished })
+-- a report of the running stage counts
+abbrev pub report_answer : StageValue → ReportValue → Result StageValue (Refused StageValue StageFault)
+report_answer at told =
+    if told.stage == at.stage then Ok (record at { reported = with_mark at.reported told.part })
+    else Err (record { leader = at; fault = stage_fault.OtherStage })
+
+-- no stage follows the running one
+abbrev pub is_last : StageValue → Bool
+is_last at = at.stage + 1 == stages at.recon
+
+-- the number of the stage after the running one; none where that is the last
+abbrev pub following : StageValue → Option ℕ
+following at = if is_last at then None else Some (at.stage + 1)
+
+-- the stage after the running one, in which none has reported
+abbrev pub next_stage : StageValue → StageValue
+next_stage at = record { reported = none_marked (length at.reported); stage = at.stage + 1; recon = at.recon }
+
+-- the next stage runs, where there is one and each partition into which a segment of the running stage moves reported
+abbrev pub next_answer : StageValue → Result StageValue (Refused StageValue NextFault)
+next_answer at =
+    if is_last at then Err (record { leader = at; fault = next.LastStage })
+    else if have_reported at then Ok (next_stage at)
+    else Err (record { leader = at; fault = next.NotFinished })
+
+-- the move ends, where the last stage runs and each partition into which a segment of it moves reported
+abbrev pub finish_answer : StageValue → Result StageValue (Refused StageValue FinishFault)
+finish_answer at =
+    if is_last at && have_reported at then Ok at
+    else Err (record { leader = at; fault = finish.NotFinished })

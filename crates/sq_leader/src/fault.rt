@@ -1,6 +1,6 @@
 // Why a call was refused, in the order in which the causes are looked at.
 ghost use Rattle.std.specs.Prelude.{◌≡◌};
-ghost use Rattle.sq_leader.specs.Fault.{prepare_fault_number, start_fault_number, report_fault_number, finish_fault_number};
+ghost use Rattle.sq_leader.specs.Fault.{prepare_fault_number, start_fault_number, report_fault_number, stage_fault_number, next_fault_number, finish_fault_number};
 
 use thiserror::Error;
 
@@ -23,14 +23,30 @@ pub enum StartFault {
 pub enum ReportFault {
     #[error("there is no such partition")]
     NoSuchPartition = 219,
-    #[error("a segment into the partition isn't whole")]
+    #[error("a segment that moves into the partition in the stage isn't whole")]
+    NotFinished = 218,
+}
+
+/// Why a report doesn't count.
+#[derive(Clone, Copy, Debug, PartialEq, Eq, Error)]
+pub enum StageFault {
+    #[error("the report is of another stage than the running one")]
+    OtherStage = 218,
+}
+
+/// Why the next stage doesn't run.
+#[derive(Clone, Copy, Debug, PartialEq, Eq, Error)]
+pub enum NextFault {
+    #[error("the running stage is the last")]
+    LastStage = 225,
+    #[error("a partition into which a segment of the running stage moves hasn't reported")]
     NotFinished = 218,
 }
 
 /// Why the move didn't end.
 #[derive(Clone, Copy, Debug, PartialEq, Eq, Error)]
 pub enum FinishFault {
-    #[error("a partition into which a segment moves hasn't reported")]
+    #[error("a stage follows, or a partition into which a segment moves hasn't reported")]
     NotFinished = 218,
 }
 
@@ -56,6 +72,24 @@ impl ReportFault {
     /// The number that a user sees.
     pub fn number(self) -> u16
         ensures { result ≡ report_fault_number self }
+    {
+        self as u16
+    }
+}
+
+impl StageFault {
+    /// The number that a user sees.
+    pub fn number(self) -> u16
+        ensures { result ≡ stage_fault_number self }
+    {
+        self as u16
+    }
+}
+
+impl NextFault {
+    /// The number that a user sees.
+    pub fn number(self) -> u16
+        ensures { result ≡ next_fault_number self }
     {
         self as u16
     }

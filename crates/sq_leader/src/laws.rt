@@ -1,9 +1,11 @@
 // Laws of what the partitions tell the leader.
-ghost use Rattle.std.specs.Prelude.{◌≡◌, ℕ, ◌==◌, ◌&&◌, nat_lt, Bool, true, List, length};
+ghost use Rattle.std.specs.Prelude.{◌≡◌, ℕ, ◌==◌, ◌&&◌, ◌||◌, not, nat_lt, true, List, length};
 ghost use Rattle.std.specs.List.{list_any, list_all, range_with_len};
-ghost use Rattle.sq_ranges.specs.declared.recon.Range.{Range};
+ghost use Rattle.sq_ranges.specs.ReconValue.{ReconValue, IsRecon, stage_in};
+ghost use Rattle.sq_leader.specs.LeaderValue.{StageValue};
 ghost use Rattle.sq_leader.specs.Marks.{is_marked, all_marked, marks_after};
 ghost use Rattle.sq_leader.specs.Segments.{have_reported, counts_reported};
+ghost use Rattle.sq_leader.specs.Calls.{Call, EndsHeard};
 
 /// Just those partitions are marked that there are and that told it, in whichever order and however often.
 pub fn those_that_told_it_are_marked()
@@ -15,14 +17,21 @@ pub fn a_move_starts_once_each_partition_prepared()
     ensures { (parts : ℕ) (told : List ℕ) → all_marked (marks_after parts told) ≡ list_all (λ part. list_any (λ one. one == part) told) (range_with_len 0 parts) }
 {}
 
-/// A move can end just where for each segment a report came of the partition into which it moves.
-pub fn a_move_ends_once_each_segment_is_reported()
-    ensures { (segments : List Range) (parts : ℕ) (told : List ℕ)
-        → have_reported segments (marks_after parts told) ≡ list_all (λ segment. list_any (λ one. one == segment.dst) told && nat_lt segment.dst parts) segments }
+/// A stage can be left just where for each segment of it a report came of the partition into which it moves.
+pub fn a_stage_is_over_once_each_segment_of_it_is_reported()
+    ensures { (recon : ReconValue) (stage parts : ℕ) (told : List ℕ)
+        → have_reported (record { reported = marks_after parts told; stage = stage; recon = recon })
+        ≡ list_all (λ segment. not (stage_in recon segment == stage) || (list_any (λ one. one == segment.dst) told && nat_lt segment.dst parts)) recon.segments }
 {}
 
-/// Where each segment moves into one of the partitions, a move can end just where each partition counts as reported.
+/// Where each segment moves into one of the partitions, a stage can be left just where each partition counts as reported.
 pub fn a_partition_without_segments_counts_as_reported()
-    ensures { (segments : List Range) (reported : List Bool) → list_all (λ segment. nat_lt segment.dst (length reported)) segments ≡ true
-        → have_reported segments reported ≡ list_all (counts_reported segments reported) (range_with_len 0 (length reported)) }
+    ensures { (at : StageValue) → list_all (λ segment. nat_lt segment.dst (length at.reported)) at.recon.segments ≡ true
+        → have_reported at ≡ list_all (counts_reported at) (range_with_len 0 (length at.reported)) }
+{}
+
+/// Whatever reports a leader is told and however often the next stage is asked for, the move can end only after a report
+/// was heard for every segment: one of the partition into which it moves, made in the segment's stage while that ran.
+pub fn an_ended_move_heard_each_segment_in_its_stage()
+    ensures { (parts : ℕ) (recon : ReconValue) (calls : List Call) → IsRecon recon → EndsHeard parts recon calls }
 {}

@@ -1,40 +1,27 @@
-// The states of the leader.
-ghost use Rattle.std.specs.Prelude.{◌≡◌, List, Bool, OnOk};
-ghost use Rattle.std.specs.List.{AllPass};
-ghost use Rattle.sq_leader.specs.Marks.{is_marked, with_mark};
-ghost use Rattle.sq_leader.specs.Segments.{have_reported};
-ghost use Rattle.sq_leader.specs.Leader.{first_prepare_answer, prepare_answer, start_answer, finish_answer};
+// The states of the leader until the move starts.
+ghost use Rattle.std.specs.Prelude.{◌≡◌};
+ghost use Rattle.sq_leader.specs.Marks.{is_marked};
+ghost use Rattle.sq_leader.specs.Leader.{first_prepare_answer, prepare_answer, start_answer};
 
-use crate::fault::{FinishFault, PrepareFault, StartFault};
+use crate::fault::{PrepareFault, StartFault};
 use crate::marks::Marks;
-use crate::report::Report;
+use crate::moving::{Ended, Moving};
 use sq_plan::Plan;
-use sq_ranges::{Range, Recon};
+use sq_ranges::Recon;
 use std::marker::Model;
 
-/// No partition has prepared. To a contract it is the number of partitions.
+/// No partition has prepared. To a contract it is an `IdleValue`.
 #[derive(Debug, Drop)]
 pub struct Idle {
     parts: u8,
+    recon: Recon,
 }
 
-/// Some partition has prepared, and the move hasn't started. To a contract it is a list that tells of each partition
-/// whether it has prepared.
+/// Some partition has prepared, and the move hasn't started. To a contract it is a `PreparingValue`.
 #[derive(Debug, Drop)]
 pub struct Preparing {
     prepared: Marks,
-}
-
-/// The move is under way. To a contract it is a list that tells of each partition whether it has reported.
-#[derive(Debug, Drop)]
-pub struct Moving {
-    reported: Marks,
-}
-
-/// The move has ended. To a contract it is a list that tells of each partition whether it has reported.
-#[derive(Debug, Drop)]
-pub struct Ended {
-    reported: Marks,
+    recon: Recon,
 }
 
 /// The leader, in whichever state it is.
@@ -56,42 +43,41 @@ pub struct Refused<L, F> {
 }
 
 impl Model for Idle {
-    ghost use Rattle.std.specs.Prelude.{ℕ, ◌≤◌};
+    ghost use Rattle.std.specs.Prelude.{◌≤◌};
     ghost use Rattle.sq_plan.specs.declared.plan.TheConstants.{MAX_PARTS};
+    ghost use Rattle.sq_leader.specs.LeaderValue.{IdleValue};
 
-    ghost Value = { ℕ };
+    ghost Value = { IdleValue };
 
-    ghost view = { λ i. i.parts };
+    ghost view = { λ i. record { parts = i.parts; recon = i.recon } };
 
     ghost invariant = { λ i. i.parts ≤ MAX_PARTS };
 }
 
 impl Model for Preparing {
-    ghost Value = { List Bool };
+    ghost use Rattle.sq_leader.specs.LeaderValue.{PreparingValue};
 
-    ghost view = { λ p. p.prepared };
-}
+    ghost Value = { PreparingValue };
 
-impl Model for Moving {
-    ghost Value = { List Bool };
-
-    ghost view = { λ m. m.reported };
-}
-
-impl Model for Ended {
-    ghost Value = { List Bool };
-
-    ghost view = { λ e. e.reported };
+    ghost view = { λ p. record { prepared = p.prepared; recon = p.recon } };
 }
 
 impl Idle {
-    /// The leader of a move from this plan.
-    pub fn new(plan: &Plan) -> Idle
-        ensures { result ≡ plan.now.parts }
+    /// The leader of a move from this plan, to which `recon` moves.
+    pub fn new(plan: &Plan, recon: Recon) -> Idle
+        ensures { result ≡ record { parts = plan.now.parts; recon = recon } }
     {
         Idle {
             parts: plan.parts(),
+            recon,
         }
+    }
+
+    /// What is to move.
+    pub fn recon(&self) -> &Recon
+        ensures { result.now ≡ self.now.recon }
+    {
+        &self.recon
     }
 
     /// A partition has prepared. Refused where there is no such partition.
@@ -106,14 +92,24 @@ impl Idle {
         }
         let mut prepared = Marks::none(self.parts);
         prepared.add(part);
-        Ok(Preparing { prepared })
+        Ok(Preparing {
+            prepared,
+            recon: self.recon,
+        })
     }
 }
 
 impl Preparing {
+    /// What is to move.
+    pub fn recon(&self) -> &Recon
+        ensures { result.now ≡ self.now.recon }
+    {
+        &self.recon
+    }
+
     /// Whether the partition has prepared.
     pub fn has_prepared(&self, part: u64) -> bool
-        ensures { result ≡ is_marked self.now part }
+        ensures { result ≡ is_marked self.now.prepared part }
     {
         self.prepared.has(part)
     }
@@ -132,7 +128,7 @@ impl Preparing {
         Ok(self)
     }
 
-    /// Starts the move. Refused where a partition hasn't prepared.
+    /// Starts the move, with stage 0. Refused where a partition hasn't prepared.
     pub fn start(self) -> Result<Moving, Refused<Preparing, StartFault>>
         ensures { result ≡ start_answer self }
     {
@@ -142,60 +138,6 @@ impl Preparing {
                 fault: StartFault::NotPrepared,
             });
         }
-        Ok(Moving {
-            reported: Marks::none(self.prepared.parts()),
-        })
+        Ok(Moving::started(self.prepared.parts(), self.recon))
     }
-}
-
-impl Moving {
-    /// Whether the partition has reported.
-    pub fn has_reported(&self, part: u64) -> bool
-        ensures { result ≡ is_marked self.now part }
-    {
-        self.reported.has(part)
-    }
-
-    /// Notes a report, which may come again. That of a partition which the leader hasn't changes nothing.
-    pub fn report(mut self, report: Report) -> Moving
-        ensures { result ≡ with_mark self report }
-    {
-        self.reported.add(u64::from(report.part().number()));
-        self
-    }
-
-    /// Ends the move. Refused where a partition into which a segment moves hasn't reported.
-    pub fn finish(self, recon: &Recon) -> Result<Ended, Refused<Moving, FinishFault>>
-        ensures answer { result ≡ finish_answer recon.now self }
-        // The move ends only where for each segment the partition has reported into which it moves.
-        ensures reported { OnOk result (AllPass (λ segment. is_marked self segment.dst) recon.now.segments) }
-    {
-        if !have_reported(recon.segments(), &self.reported) {
-            return Err(Refused {
-                leader: self,
-                fault: FinishFault::NotFinished,
-            });
-        }
-        Ok(Ended {
-            reported: self.reported,
-        })
-    }
-}
-
-impl Ended {
-    /// Whether the partition has reported.
-    pub fn has_reported(&self, part: u64) -> bool
-        ensures { result ≡ is_marked self.now part }
-    {
-        self.reported.has(part)
-    }
-}
-
-// Whether every partition into which a segment moves has reported.
-fn have_reported(segments: &[Range], reported: &Marks) -> bool
-    ensures { result ≡ have_reported segments.now reported.now }
-{
-    segments
-        .iter()
-        .all(|segment| reported.has(u64::from(segment.dst.number())))
 }

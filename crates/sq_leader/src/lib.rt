@@ -5,8 +5,10 @@ mod fault;
 pub mod laws;
 mod leader;
 mod marks;
+mod moving;
 mod report;
 
-pub use fault::{FinishFault, PrepareFault, ReportFault, StartFault};
-pub use leader::{Ended, Idle, Leader, Moving, Preparing, Refused};
+pub use fault::{FinishFault, NextFault, PrepareFault, ReportFault, StageFault, StartFault};
+pub use leader::{Idle, Leader, Preparing, Refused};
+pub use moving::{Ended, Moving};
 pub use report::Report;

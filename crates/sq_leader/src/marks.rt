@@ -3,13 +3,17 @@ ghost use Rattle.std.specs.Prelude.{◌≡◌, ◌≤◌, length};
 ghost use Rattle.sq_plan.specs.declared.plan.TheConstants.{MAX_PARTS};
 ghost use Rattle.sq_leader.specs.Marks.{none_marked, is_marked, with_mark, all_marked};
 
+use sq_plan::MAX_PARTS;
 use std::marker::Model;
+
+// How many partitions there are at most, as the length of an array.
+const FLAGS: usize = MAX_PARTS as usize;
 
 /// Which partitions told the leader something. To a contract it is a list that tells it of each partition.
 #[derive(Debug, Drop)]
 pub(crate) struct Marks {
     parts: u8,
-    flags: [bool; 16],
+    flags: [bool; FLAGS],
 }
 
 impl Model for Marks {
@@ -31,7 +35,7 @@ impl Marks {
     {
         Marks {
             parts,
-            flags: [false; 16],
+            flags: [false; FLAGS],
         }
     }
 

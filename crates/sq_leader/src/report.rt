@@ -5,61 +5,73 @@ ghost use Rattle.sq_leader.specs.Leader.{made_answer};
 
 use crate::fault::ReportFault;
 use sq_plan::{PartId, Plan};
-use sq_ranges::{Range, Recon};
+use sq_ranges::Recon;
 use std::marker::Model;
 
-/// A partition tells that each segment that moves into it is whole there. To a contract it is the partition's number.
+/// A partition tells that each segment that moves into it in a stage is whole there. To a contract it is a `ReportValue`.
 #[derive(Debug, Drop)]
 pub struct Report {
     part: PartId,
+    stage: u64,
 }
 
 impl Model for Report {
-    ghost use Rattle.std.specs.Prelude.{ℕ};
+    ghost use Rattle.sq_leader.specs.LeaderValue.{ReportValue};
 
-    ghost Value = { ℕ };
+    ghost Value = { ReportValue };
 
-    ghost view = { λ r. r.part };
+    ghost view = { λ r. record { part = r.part; stage = r.stage } };
 }
 
 impl Report {
-    /// The report of a partition, where each segment that moves into it is whole there: `whole` tells it of each
-    /// segment by its number, and a segment of which it tells nothing isn't whole. Refused for the first of these: the
-    /// plan has no such partition, and a segment isn't whole.
+    /// The report of a partition in a stage, where each segment that moves into it in that stage is whole there: `whole`
+    /// tells it of each segment by its number, and a segment of which it tells nothing isn't whole. Refused for the first of
+    /// these: the plan has no such partition, and a segment isn't whole.
     pub fn made(
         part: u64,
         plan: &Plan,
         recon: &Recon,
+        stage: u64,
         whole: &[bool],
     ) -> Result<Report, ReportFault>
-        ensures answer { result ≡ made_answer plan.now recon.now whole.now part }
-        // There is a report only where each segment into the partition is whole.
-        ensures whole { OnOk result ((seg : ℕ) → IsTrue (is_into recon.now.segments part seg) → IsTrue (is_whole whole.now seg)) }
+        ensures answer { result ≡ made_answer plan.now recon.now stage whole.now part }
+        // There is a report only where each segment into the partition in the stage is whole.
+        ensures whole { OnOk result ((seg : ℕ) → IsTrue (is_into recon.now stage part seg) → IsTrue (is_whole whole.now seg)) }
     {
         if part >= u64::from(plan.parts()) {
             return Err(ReportFault::NoSuchPartition);
         }
         let part = PartId::new(part as u8);
-        if !has_all(part, recon.segments(), whole) {
+        if !has_all(part, recon, stage, whole) {
             return Err(ReportFault::NotFinished);
         }
-        Ok(Report { part })
+        Ok(Report { part, stage })
     }
 
     /// The partition that reports.
     pub fn part(&self) -> PartId
-        ensures { result ≡ self.now }
+        ensures { result ≡ self.now.part }
     {
         self.part
     }
+
+    /// The stage in which it does.
+    pub fn stage(&self) -> u64
+        ensures { result ≡ self.now.stage }
+    {
+        self.stage
+    }
 }
 
-// Whether every segment that moves into a partition is whole.
-fn has_all(part: PartId, segments: &[Range], whole: &[bool]) -> bool
-    ensures { result ≡ has_all segments.now whole.now part }
+// Whether every segment that moves into a partition in a stage is whole.
+fn has_all(part: PartId, recon: &Recon, stage: u64, whole: &[bool]) -> bool
+    ensures { result ≡ has_all recon.now stage whole.now part }
 {
-    for (seg, segment) in segments.iter().enumerate() {
-        if segment.dst == part && !is_whole(whole, seg) {
+    for (seg, segment) in recon.segments().iter().enumerate() {
+        if segment.dst == part
+            && recon.stage_on(segment.src, segment.dst) == stage
+            && !is_whole(whole, seg)
+        {
             return false;
         }
     }

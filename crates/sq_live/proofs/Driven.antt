@@ -1,21 +1,22 @@
 -- What a run opened with, once it was driven, is all of a run still, and what a node keeps holds of each node.
-use Rattle.std.proofs.Common.{◌≡◌, ℕ, ◌+◌, ◌++◌, List, length, get_or, take, drop, Some, sym, ap, ap₂, ◌∙◌, subst}
+use Rattle.std.proofs.Common.{◌≡◌, ℕ, ◌+◌, ◌++◌, List, length, get_or, take, drop, Some, refl, sym, ap, ap₂, ◌∙◌, subst}
 use Rattle.std.proofs.Math.Seq.{take-append_seam}
 use Rattle.std.specs.Prelude.{slice_get}
 use Rattle.std.proofs.lemmas.Option.{slice_get_within, get_or_from_slice_get}
 use Rattle.sq_ranges.specs.OpeningValue.{OpeningValue}
 use Rattle.sq_ranges.specs.Opening.{IsOpening}
 use Rattle.sq_pull.specs.Pump.{PumpValue}
+use Rattle.sq_node_model.specs.BeganWith.{first_began}
 use Rattle.sq_node_model.specs.NodeHolds.{NodeHolds}
 use Rattle.sq_node.specs.FabricValue.{FabricValue}
 use Rattle.sq_node.specs.NodeState.{NodeState, IsNodeOf, node_value}
 use Rattle.sq_node.specs.Holds.{HoldsUnder}
-use Rattle.sq_node.specs.Opened.{AreFirstSeats, IsOpened}
+use Rattle.sq_node.specs.Opened.{AreFirstSeats, IsFabricOf, IsOpened}
 use Rattle.sq_driver.specs.Nodes.{Driven, AllDriven}
 use Rattle.sq_driver.specs.Pumps.{PumpDriven, AllPumpsDriven}
 use Rattle.sq_driver.proofs.Opening.{opened_hold}
 use Rattle.sq_driver.proofs.Together.{all_hold, was_driven}
-use Rattle.sq_gather.specs.Gathered.{IsPumpOf, AreAllOf, AllHold}
+use Rattle.sq_gather.specs.Gathered.{IsPumpOf, AreAllOf, HasBegun, AllHold}
 use Rattle.sq_gather.proofs.AllOf.{pump_claimed}
 
 -- what a vector has once all its elements were written through a slice of it
@@ -44,9 +45,13 @@ module _ (fabric : FabricValue) (old new : List NodeState) (before after : List 
         each_pump = pump_stays;
       }
 
+-- the first stage begins with what an opening says
+pub begins : (o : OpeningValue) (fabric : FabricValue) → IsFabricOf o fabric → HasBegun (first_began o) fabric
+begins o fabric of = record { stage = sym of.stage; receipts = refl }
+
 -- and what a node keeps holds of each node of an opening
-pub hold_driven : (o : OpeningValue) (count : ℕ) (fabric : FabricValue) (old new : List NodeState) (pumps : List PumpValue) → IsOpening o → IsOpened o count fabric old pumps → AllDriven fabric old new → AllHold o new
+pub hold_driven : (o : OpeningValue) (count : ℕ) (fabric : FabricValue) (old new : List NodeState) (pumps : List PumpValue) → IsOpening o → IsOpened o count fabric old pumps → AllDriven fabric old new → AllHold o (first_began o) new
 hold_driven o count fabric old new pumps is opened nodes part node there =
     let within = slice_get_within new part node there in
-    let held : HoldsUnder o (get_or new part node) = all_hold fabric o old new is nodes (opened_hold o count fabric old pumps opened) part node within in
-    subst (λ (n : NodeState). NodeHolds o (node_value n)) (get_or_from_slice_get new part node node there) held.holds
+    let held : HoldsUnder o (first_began o) (get_or new part node) = all_hold fabric o (first_began o) old new is nodes (opened_hold o count fabric old pumps opened) part node within in
+    subst (λ (n : NodeState). NodeHolds o (first_began o) (node_value n)) (get_or_from_slice_get new part node node there) held.holds

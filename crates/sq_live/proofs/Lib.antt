@@ -5,5 +5,6 @@ mod ReceiptIds
 mod NodeReads
 mod Counts
 mod LiveRuns
+mod OneStage
 mod Leading
 mod Moved

@@ -1,6 +1,6 @@
 -- Which segments are complete, by marks of them: how many, and whether each is.
 use Rattle.std.proofs.Common.{◌≡◌, inl, inr, ℕ, suc, ◌+◌, ◌<◌, ◌≤◌, Bool, true, false, List, [], ◌∷◌, length, take, get_or, refl, sym, ap, ◌∙◌, true≢false, arith}
-use Rattle.std.specs.Prelude.{◌&&◌, cond, count_by, Result, Ok, Err, IfOk}
+use Rattle.std.specs.Prelude.{◌&&◌, cond, count_by, slice_get, Result, Ok, Err, IfOk}
 use Rattle.std.specs.Result.{is_ok}
 use Rattle.std.specs.List.{list_all, range_with_len}
 use Rattle.std.proofs.lemmas.Bool.{cases_Bool, cases_lt, both_ways, and_parts}
@@ -11,7 +11,8 @@ use Rattle.std.proofs.lemmas.Option.{slice_get_past}
 use Rattle.sq_tree.specs.declared.status.Status.{Status}
 use Rattle.sq_ranges.specs.declared.recon.Range.{Range}
 use Rattle.sq_ranges.specs.OpeningValue.{OpeningValue}
-use Rattle.sq_leader.specs.Segments.{goes_into, is_into, is_whole}
+use Rattle.sq_leader.specs.LeaderValue.{StageValue}
+use Rattle.sq_leader.specs.Segments.{goes_into, is_whole}
 use Rattle.sq_leader.proofs.Marked.{same_within}
 use Rattle.sq_node_model.specs.Gathered.{GatheredValue}
 use Rattle.sq_audit.specs.declared.job.Job.{Job}
@@ -82,16 +83,17 @@ module _ (words : List (List Status)) (marks : List Bool) (n most : ℕ) (few : 
       omega (arith, fewer, length-range_with_len 0 n)
 
 -- a segment that moves somewhere is one of them
-is_into_within : (segments : List Range) (part seg : ℕ) → is_into segments part seg ≡ true → seg < length segments
-is_into_within segments part seg goes = elim (cases_lt seg (length segments)) [
+goes_within : (segments : List Range) (part seg : ℕ) → goes_into (slice_get segments seg) part ≡ true → seg < length segments
+goes_within segments part seg goes = elim (cases_lt seg (length segments)) [
   | inl lt ↦ lt
-  | inr past ↦ absurd (both_ways (is_into segments part seg) (ap (λ found. goes_into found part) (slice_get_past segments seg past)) goes)
+  | inr past ↦ absurd (both_ways (goes_into (slice_get segments seg) part) (ap (λ found. goes_into found part) (slice_get_past segments seg past)) goes)
 ]
 
 -- the leader ended the move by what is complete, if it did by marks of it
-pub ended_by : (o : OpeningValue) (by is_complete : ℕ → Bool) (reported : List Bool) → ((seg : ℕ) → seg < length o.recon.segments → by seg ≡ is_complete seg) → HasEnded o by reported → HasEnded o is_complete reported
-ended_by o by is_complete reported same has = record {
-  heard = λ part seg marked into. sym (same seg (is_into_within o.recon.segments part seg into)) ∙ has.heard part seg marked into;
+pub ended_by : (o : OpeningValue) (by is_complete : ℕ → Bool) (at : StageValue) → ((seg : ℕ) → seg < length o.recon.segments → by seg ≡ is_complete seg) → HasEnded o by at → HasEnded o is_complete at
+ended_by o by is_complete at same has = record {
+  leads = has.leads;
+  heard = λ part seg marked into. sym (same seg (goes_within o.recon.segments part seg into)) ∙ has.heard part seg marked into;
   ended = has.ended;
 }
 
@@ -101,14 +103,14 @@ ok_there (Ok value) P is holds = (value, holds)
 ok_there (Err fault) P is holds = absurd (true≢false (sym is))
 
 -- each job is answered and each segment is complete, where the leader went on to the end
-pub done : {E : Type 0} (o : OpeningValue) (g : GatheredValue) (jobs : List Job) (marks : List Bool) (leader : Result (List Bool) E) (most : ℕ)
+pub done : {E : Type 0} (o : OpeningValue) (g : GatheredValue) (jobs : List Job) (marks : List Bool) (leader : Result StageValue E) (most : ℕ)
     → length o.recon.segments ≤ most → most ≤ length marks → ((seg : ℕ) → seg < most → is_whole marks seg ≡ is_moved g.words seg)
     → answered_count g.receipts jobs ≡ length jobs → is_ok leader ≡ true → is_ok leader ≡ are_whole (length o.recon.segments) marks → IfOk leader (HasEnded o (is_whole marks)) → IsDone o g jobs
 done o g jobs marks leader most few room each answered is when ended =
-    let (reported, has) = ok_there leader (HasEnded o (is_whole marks)) is ended in
+    let (at, has) = ok_there leader (HasEnded o (is_whole marks)) is ended in
     record {
       answered = answered;
       moved = all_moved g.words marks (length o.recon.segments) most few room each (sym is ∙ when);
-      reported = reported;
-      ended = ended_by o (is_whole marks) (is_moved g.words) reported (λ seg lt. each seg (omega (arith, few, lt))) has;
+      leader = at;
+      ended = ended_by o (is_whole marks) (is_moved g.words) at (λ seg lt. each seg (omega (arith, few, lt))) has;
     }

@@ -1,5 +1,5 @@
 -- Live runs: what is written for an input.
-use Rattle.std.specs.Prelude.{◌≡◌, ◌≢◌, ◌⊎◌, ℕ, List, [], Option, Ok, Err}
+use Rattle.std.specs.Prelude.{◌≡◌, ◌≢◌, ◌⊎◌, ℕ, false, List, [], Option, Ok, Err}
 use Rattle.std.specs.Io.KnownBytes.{Appends}
 use Rattle.sq_ranges.specs.OpeningValue.{OpeningValue}
 use Rattle.sq_lines.specs.Pieces.{PieceValue}
@@ -44,15 +44,19 @@ pub record HasJobFault (tables : ℕ) (given : List PieceValue) (fault : LiveFau
 abbrev pub HaveFault : ℕ → List PieceValue → LiveFault → Type 0
 HaveFault tables given fault = HasHeaderFault tables given fault ⊎ HasJobFault tables given fault
 
+-- the same opening, with all that moves in one stage
+abbrev pub in_one_part : OpeningValue → OpeningValue
+in_one_part o = record o { recon = record (o.recon) { auto = false } }
+
 -- jobs were run from an opening. Whatever the threads did, what was gathered of them is placed, and this is what it came to
 pub record WereRun (o : OpeningValue) (jobs : List Job) (outcome : Outcome) : Type 0 where
   pub gathered : GatheredValue
   pub placed : IsPlaced o gathered
   pub came : CameTo o gathered jobs outcome
 
--- the jobs that the pieces spell were run and came to this, or the pieces have this fault
+-- the jobs that the pieces spell were run, all that moves in one stage, and came to this, or the pieces have this fault
 abbrev pub EndsLive : ℕ → List PieceValue → LiveEnding → Type 0
-EndsLive tables given (Done outcome) = (o : OpeningValue) × (jobs : List Job) × SpellJobs tables given o jobs × WereRun o jobs outcome
+EndsLive tables given (Done outcome) = (o : OpeningValue) × (jobs : List Job) × SpellJobs tables given o jobs × WereRun (in_one_part o) jobs outcome
 EndsLive tables given (Fault fault) = HaveFault tables given fault
 
 -- the line that is written

@@ -7,6 +7,7 @@ use Rattle.sq_tree.specs.Reading.{is_complete_reading}
 use Rattle.sq_tree.specs.Status.{reading}
 use Rattle.sq_tree.specs.Tree.{status_at}
 use Rattle.sq_ranges.specs.OpeningValue.{OpeningValue}
+use Rattle.sq_leader.specs.LeaderValue.{StageValue}
 use Rattle.sq_text.specs.Texts.{line}
 use Rattle.sq_node_model.specs.NodeValue.{ReceiptValue}
 use Rattle.sq_node_model.specs.Receipts.{is_commit}
@@ -58,9 +59,9 @@ family_count g = sum_by (λ store. len store) g.stores
 pub record IsDone (o : OpeningValue) (g : GatheredValue) (jobs : List Job) : Type 0 where
   pub answered : answered_count g.receipts jobs ≡ length jobs
   pub moved : moved_count (length o.recon.segments) g.words ≡ length o.recon.segments
-  -- whom the leader heard
-  pub reported : List Bool
-  pub ended : HasEnded o (is_moved g.words) reported
+  -- the leader as it was in the end
+  pub leader : StageValue
+  pub ended : HasEnded o (is_moved g.words) leader
 
 -- a job isn't answered, or a segment isn't complete: there are so many of each
 pub record HasStopped (o : OpeningValue) (g : GatheredValue) (jobs : List Job) (answered posted complete segments : ℕ) : Type 0 where

@@ -1,5 +1,5 @@
 // Live runs, from bytes to bytes.
-ghost use Rattle.std.specs.Prelude.{◌≡◌, ◌≤◌, List, IfOk, IfErr, OnOk};
+ghost use Rattle.std.specs.Prelude.{◌≡◌, ◌≤◌, false, List, IfOk, IfErr, OnOk};
 ghost use Rattle.std.specs.Io.KnownBytes.{Appends};
 ghost use Rattle.sq_pull.specs.declared.numbers.TheConstants.{MAX_OWNERS};
 ghost use Rattle.sq_lines.specs.Pieces.{PieceValue};
@@ -31,8 +31,9 @@ use std::thread::Threads;
 ///
 /// The input is a header, as [`read_header`] has it for a schema of [`MAX_TABLES`] tables, and jobs, as [`read_jobs`] has
 /// them. Where it has a fault, no thread is started, and the line tells the fault. Else each partition and each pump runs in
-/// a thread of its own, each of them up to so many turns, and asks `watch` before each step. Where memory runs out, the line is
-/// that of its fault.
+/// a thread of its own, each of them up to so many turns, and asks `watch` before each step. All that moves does so in one
+/// stage, whatever the plan says. Where memory runs out, the line is that of its fault.
+///
 /// An error is a write or a flush that failed.
 ///
 /// Whatever the threads do, what they leave is placed, and the line says `sound` only where the audit found it so.
@@ -95,10 +96,13 @@ fn end_lines<T: Threads + Wait + Sync, R: Read, G: Watch>(
     ensures { (given : List PieceValue) × CanCome lines.old given × EndsLive MAX_TABLES given result }
 {
     match read_input(alloc, lines) {
-        Ok((opening, jobs)) => match run_input(rt, alloc, &opening, &jobs, turns, pumps, watch) {
-            Ok(outcome) => LiveEnding::Done(outcome),
-            Err(error) => LiveEnding::Fault(LiveFault::from(error)),
-        },
+        Ok((opening, jobs)) => {
+            let opening = opening.in_one_part();
+            match run_input(rt, alloc, &opening, &jobs, turns, pumps, watch) {
+                Ok(outcome) => LiveEnding::Done(outcome),
+                Err(error) => LiveEnding::Fault(LiveFault::from(error)),
+            }
+        }
         Err(fault) => LiveEnding::Fault(fault),
     }
 }
@@ -133,9 +137,10 @@ fn run_input<T: Threads + Wait + Sync, G: Watch>(
 ) -> Result<Outcome, AllocError>
     requires pumps { pumps ≤ MAX_OWNERS }
     requires partitions { HavePartitions opening.now.old.parts jobs.now }
+    requires one_part { opening.now.recon.auto ≡ false }
     ensures { IfOk result (WereRun opening.now jobs.now) }
 {
-    let moving = start_move(opening);
+    let moving = start_move(opening)?;
     let segments = opening.recon().segments().len();
     watch.begins(jobs.as_slice().len() as u64, segments as u64);
     let ran = run_jobs(rt, alloc, opening, jobs.as_slice(), turns, pumps, watch);

@@ -1,11 +1,11 @@
 // What a live run came to, by what was gathered of it.
-ghost use Rattle.std.specs.Prelude.{◌≡◌, ◌≤◌, ◌<◌, ◌*◌, ◌^◌, ℕ, length, sum_by, count_by, IfOk};
+ghost use Rattle.std.specs.Prelude.{◌≡◌, ◌≤◌, ◌<◌, ◌*◌, ◌^◌, ℕ, false, length, sum_by, count_by, IfOk};
 ghost use Rattle.std.specs.FinMap.{len};
 ghost use Rattle.sq_tree.specs.Status.{reading_within};
 ghost use Rattle.sq_tree.specs.Tree.{status_at, IsGrown};
 ghost use Rattle.sq_ranges.specs.declared.segment.TheConstants.{SEGMENT_LIMIT};
-ghost use Rattle.sq_leader.specs.Marks.{none_marked};
 ghost use Rattle.sq_leader.specs.Segments.{is_whole};
+ghost use Rattle.sq_leader.specs.Leader.{first_stage};
 ghost use Rattle.sq_audit.specs.Answers.{IdsDiffer};
 ghost use Rattle.sq_tree.specs.Reading.{is_complete_reading};
 ghost use Rattle.sq_live.specs.Outcome.{answered_count, is_moved, commit_count, CameTo};
@@ -17,15 +17,19 @@ use sq_audit::{Job, Verdict, audit};
 use sq_gather::Gathered;
 use sq_leader::Moving;
 use sq_node::Receipt;
-use sq_ranges::Opening;
+use sq_ranges::{Opening, SEGMENT_LIMIT};
 use sq_schema::Reply;
 use sq_store::SlabStore;
 use sq_tree::{NODES, NodeId, Status};
 use std::alloc::{AllocError, Global};
 use std::collections::BTreeSet;
 
+// How many segments there are at most, as the length of an array.
+const SEGMENTS: usize = SEGMENT_LIMIT as usize;
+
 /// What a run of these jobs came to, of which this was gathered. `moving` is the leader of its move, to which nobody has
-/// reported: each partition reports now into which all segments that move are complete. The run is audited only where each
+/// reported, and all that moves does so in one stage: each partition reports now into which all segments that move are
+/// complete. The run is audited only where each
 /// job is answered and the leader ends the move, which it does just where each segment is complete; and it is sound only
 /// where the audit found it so.
 pub fn judge(
@@ -35,7 +39,8 @@ pub fn judge(
     g: &Gathered,
     jobs: &[Job],
 ) -> Result<Outcome, AllocError>
-    requires moving { moving ≡ none_marked opening.now.old.parts }
+    requires moving { moving ≡ first_stage opening.now.old.parts opening.now.recon }
+    requires one_part { opening.now.recon.auto ≡ false }
     requires ids { IdsDiffer jobs.now }
     requires grown { AreGrown g.now.words }
     ensures { IfOk result (CameTo opening.now g.now jobs.now) }
@@ -88,12 +93,12 @@ fn ids_of(alloc: Global, receipts: &[Receipt]) -> Result<BTreeSet<u64>, AllocErr
 }
 
 // Which segments are complete. One without statuses isn't.
-fn moved_segments(words: &[[Status; NODES]]) -> [bool; 256]
+fn moved_segments(words: &[[Status; NODES]]) -> [bool; SEGMENTS]
     requires { AreGrown words.now }
     ensures { (seg : ℕ) → seg < SEGMENT_LIMIT → is_whole result seg ≡ is_moved words.now seg }
 {
-    let mut moved = [false; 256];
-    for seg in 0..words.len().min(256) {
+    let mut moved = [false; SEGMENTS];
+    for seg in 0..words.len().min(SEGMENTS) {
         moved[seg] = reads_complete(&words[seg], NodeId::WHOLE);
     }
     moved

@@ -8,7 +8,9 @@ pub mod Numbers
 pub mod Orderly
 pub mod Places
 pub mod Routing
+pub mod Staged
 pub mod Statuses
 pub mod Steps
+pub mod Tables
 pub mod Tiles
 pub mod Waiters

@@ -102,12 +102,16 @@ module _ (o : OpeningValue) (is : IsOpening o) (t : Trace) (legal : IsLegal o t)
             ]
       ]
 
-  -- no note under way covers a key that a partition runs
-  pub runner_away : (root part : ℕ) → runner o t root ≡ Some part → (src dst : ℕ) (way : List Note) → way ++ link src dst (loads t) ≡ link src dst (notes t) → (note : Note) → Contains way note → covers note root ≡ false
-  runner_away root part runs src dst way e note has =
+  -- no note under way covers a key that is at a partition
+  pub placed_away : (root part : ℕ) → place o t root ≡ At part → (src dst : ℕ) (way : List Note) → way ++ link src dst (loads t) ≡ link src dst (notes t) → (note : Note) → Contains way note → covers note root ≡ false
+  placed_away root part placed src dst way e note has =
       false_from_ne_true (covers note root) (λ covered.
-      let f : Under_way note ≡ At part = sym (way_place src dst way e note has root covered) ∙ runner_place root part runs in
+      let f : Under_way note ≡ At part = sym (way_place src dst way e note has root covered) ∙ placed in
       absurd cc)
+
+  -- nor one that a partition runs
+  pub runner_away : (root part : ℕ) → runner o t root ≡ Some part → (src dst : ℕ) (way : List Note) → way ++ link src dst (loads t) ≡ link src dst (notes t) → (note : Note) → Contains way note → covers note root ≡ false
+  runner_away root part runs src dst way e note has = placed_away root part (runner_place root part runs) src dst way e note has
 
   -- what is left of an item wasn't cut, and is at its source
   pub left_uncut : (item : Item) → Contains (items t) item → (root : ℕ) → reached o item.seg item.node (notes t) ≤ root → root < (extent_of o item.seg item.node).hi → is_covered (notes t) root ≡ false

@@ -1,7 +1,7 @@
 -- Where a step went, what the trace before it was like.
-use Rattle.std.proofs.Common.{Contains, ◌≡◌, inl, inr, ℕ, ◌<◌, Bool, true, false, ◌==◌, nat_le, nat_lt, not, if◌then◌else◌, length, find, Option, Some, None, Result, Ok, Err, refl, sym, ap, ◌∙◌, true≢false}
+use Rattle.std.proofs.Common.{Contains, ◌≡◌, inl, inr, ℕ, ◌<◌, Bool, true, false, ◌==◌, nat_le, nat_lt, not, ◌&&◌, ◌+◌, is_none, if◌then◌else◌, length, find, slice_get, Option, Some, None, Result, Ok, Err, refl, sym, ap, ◌∙◌, true≢false}
 use Rattle.std.specs.List.{list_all}
-use Rattle.std.proofs.lemmas.Bool.{leb-false, not-false, cond_both, cond-false, true_from_ne_false}
+use Rattle.std.proofs.lemmas.Bool.{cases_Bool, leb-false, not-false, cond_both, cond-false, true_from_ne_false, and_parts, eqb-true}
 use Rattle.sq_tree.specs.declared.fault.SplitFault.{SplitFault}
 use Rattle.sq_tree.specs.declared.fault.SplitFault.TheVariants as split
 use Rattle.sq_tree.specs.declared.fault.ClaimFault.{ClaimFault}
@@ -15,7 +15,9 @@ use Rattle.sq_tree.specs.Answer.{split_answer, claim_answer, begin_answer, compl
 use Rattle.sq_tree.specs.declared.status.Status.TheVariants.{Claimed, Partial}
 use Rattle.sq_tree.proofs.Went.{SplitWent, split_went, ClaimWent, claim_went, begin_went, complete_went}
 use Rattle.sq_chunk.specs.declared.chunk.Note.{Note}
-use Rattle.sq_ranges.specs.ReconValue.{is_link}
+use Rattle.std.proofs.lemmas.Option.{slice_get_within}
+use Rattle.sq_ranges.specs.declared.recon.Range.{Range}
+use Rattle.sq_ranges.specs.ReconValue.{ReconValue, is_link, stage_on, stage_in, stages, of_stage}
 use Rattle.sq_ranges.specs.OpeningValue.{OpeningValue}
 use Rattle.sq_schema.specs.TxnValue.{TxnValue}
 use Rattle.sq_schema.specs.Effect.{reply}
@@ -23,16 +25,16 @@ use Rattle.sq_model.specs.Waiting.{has_to_wait}
 use Rattle.sq_model.specs.Place.{runner}
 use Rattle.sq_model.specs.Tables.{now, is_full}
 use Rattle.sq_model.specs.declared.step.Step.{Step}
-use Rattle.sq_model.specs.declared.step.Step.TheVariants.{Prepare, Split, Claim, Begin, Cut, Load, Complete, Report, Finish, Submit}
+use Rattle.sq_model.specs.declared.step.Step.TheVariants.{Prepare, Split, Claim, Begin, Cut, Push, Pop, Load, Complete, Report, Next, Finish, Submit}
 use Rattle.sq_model.specs.declared.answer.Answer.{Answer}
 use Rattle.sq_model.specs.declared.answer.Answer.TheVariants.{Done, WasCut, WasLoaded, Refused, Replied, Moved, Waits}
 use Rattle.sq_model.specs.declared.answer.Refusal.{Refusal}
-use Rattle.sq_model.specs.declared.answer.Refusal.TheVariants.{NotMoving, NoSuchSegment, NoSuchNode, NoSuchLink, NoSuchPartition, OutboxFull, InboxEmpty, AlreadyMoving, NotFinished, LogFull}
-use Rattle.sq_model.specs.Trace.{Trace, notes, loads, link, cut_count, push_count, pop_count, load_count}
+use Rattle.sq_model.specs.declared.answer.Refusal.TheVariants.{NotMoving, NoSuchSegment, NoSuchNode, NoSuchLink, NoSuchPartition, OutboxFull, InboxEmpty, AlreadyMoving, NotFinished, LogFull, LastStage}
+use Rattle.sq_model.specs.Trace.{Trace, stage, notes, loads, link, cut_count, push_count, pop_count, load_count}
 use Rattle.sq_model.specs.Leader.{is_moving, is_started}
 use Rattle.sq_model.specs.Nodes.{Item, status_of}
 use Rattle.sq_model.specs.Links.{has_last, open_items, next_item, next_note}
-use Rattle.sq_model.specs.Answers.{answer, while_moving, in_segment, at_node, partitions, has_all, counts_reported, split_answered, claim_answered, begin_answered, complete_answered, cut_for, load_of, wait_answer, run_answer, routed}
+use Rattle.sq_model.specs.Answers.{answer, while_moving, running, is_running_link, is_last_stage, in_segment, at_node, partitions, has_all, counts_reported, split_answered, claim_answered, begin_answered, complete_answered, cut_for, load_of, wait_answer, run_answer, routed}
 use Rattle.sq_model.specs.Legal.{IsAnswer}
 use Rattle.sq_model.proofs.Lists.{found_in}
 use Rattle.sq_model.proofs.Link.{IsOf, link_has}
@@ -57,19 +59,35 @@ prepare_goes o t part given =
     let a = past (nat_le o.old.parts part) NoSuchPartition _ Done refl (answered o t (Prepare part) Done refl given) in
     (past (is_started t) AlreadyMoving Done Done refl a.1).0
 
+-- the segment is of the running stage
+pub record IsRunning (o : OpeningValue) (t : Trace) (seg : ℕ) : Type 0 where
+  pub segment : Range
+  pub there : slice_get o.recon.segments seg ≡ Some segment
+  pub stage : stage_in o.recon segment ≡ stage t
+
+pub of_stage_is : (recon : ReconValue) (i : ℕ) (found : Option Range) → is_none (of_stage recon i found) ≡ false → (segment : Range) × (found ≡ Some segment) × (stage_in recon segment ≡ i)
+of_stage_is recon i None some = absurd (true≢false some)
+of_stage_is recon i (Some segment) some =
+    elim (cases_Bool (stage_in recon segment == i)) [
+      | inl same ↦ (segment, refl, eqb-true (stage_in recon segment) i same)
+      | inr other ↦ absurd (true≢false (sym (ap is_none (cond-false (stage_in recon segment == i) (Some segment) None other)) ∙ some))
+    ]
+
 -- a step of a node of a tree that went, and what held before it
-pub record NodeGoes (o : OpeningValue) (seg node : ℕ) (Held : Type 0) : Type 0 where
+pub record NodeGoes (o : OpeningValue) (t : Trace) (seg node : ℕ) (Held : Type 0) : Type 0 where
+  pub runs : IsRunning o t seg
   pub segment : seg < length o.recon.segments
   pub exists : is_node node ≡ true
   pub held : Held
 
-node_goes : {Held : Type 0} (o : OpeningValue) (t : Trace) (step : Step) (seg node : ℕ) (given : Answer) → answer o t step ≡ while_moving t (in_segment o seg (at_node node given)) → (Done ≡ given → Held) → IsAnswer o t step Done
-    → NodeGoes o seg node Held
+node_goes : {Held : Type 0} (o : OpeningValue) (t : Trace) (step : Step) (seg node : ℕ) (given : Answer) → answer o t step ≡ while_moving t (in_segment o t seg (at_node node given)) → (Done ≡ given → Held) → IsAnswer o t step Done
+    → NodeGoes o t seg node Held
 node_goes o t step seg node given is held went =
-    let a = past (not (is_moving t)) NotMoving (in_segment o seg (at_node node given)) Done refl (answered o t step Done refl went ∙ is) in
-    let b = past (nat_le (length o.recon.segments) seg) NoSuchSegment (at_node node given) Done refl a.1 in
+    let a = past (not (is_moving t)) NotMoving (in_segment o t seg (at_node node given)) Done refl (answered o t step Done refl went ∙ is) in
+    let b = past (is_none (running o t seg)) NoSuchSegment (at_node node given) Done refl a.1 in
     let c = past (not (is_node node)) NoSuchNode given Done refl b.1 in
-    record { segment = leb-false (length o.recon.segments) seg b.0; exists = not-false (is_node node) c.0; held = held c.1 }
+    let at = of_stage_is o.recon (stage t) (slice_get o.recon.segments seg) b.0 in
+    record { runs = record { segment = at.0; there = at.1; stage = at.2 }; segment = slice_get_within o.recon.segments seg at.0 at.1; exists = not-false (is_node node) c.0; held = held c.1 }
 
 split_done : (result : Result (Unit {0}) SplitFault) → Done ≡ split_answered result → result ≡ Ok tt
 split_done (Ok done) e = refl
@@ -78,7 +96,7 @@ split_done (Err split.NotLive) e = absurd cc
 split_done (Err (split.NotFree found)) e = absurd cc
 
 -- a Split that went
-pub split_goes : (o : OpeningValue) (t : Trace) (seg node : ℕ) → IsAnswer o t (Split seg node) Done → NodeGoes o seg node (SplitWent (status_of t seg) node)
+pub split_goes : (o : OpeningValue) (t : Trace) (seg node : ℕ) → IsAnswer o t (Split seg node) Done → NodeGoes o t seg node (SplitWent (status_of t seg) node)
 split_goes o t seg node given =
     let result = split_answer (status_of t seg) node in
     node_goes o t (Split seg node) seg node (split_answered result) refl (λ done. split_went (status_of t seg) node (split_done result done)) given
@@ -89,7 +107,7 @@ claim_done (Err claim.NotLive) e = absurd cc
 claim_done (Err (claim.NotFree found)) e = absurd cc
 
 -- a Claim that went
-pub claim_goes : (o : OpeningValue) (t : Trace) (seg node pull : ℕ) → IsAnswer o t (Claim seg node pull) Done → NodeGoes o seg node (ClaimWent (status_of t seg) node)
+pub claim_goes : (o : OpeningValue) (t : Trace) (seg node pull : ℕ) → IsAnswer o t (Claim seg node pull) Done → NodeGoes o t seg node (ClaimWent (status_of t seg) node)
 claim_goes o t seg node pull given =
     let result = claim_answer (status_of t seg) node pull in
     node_goes o t (Claim seg node pull) seg node (claim_answered result) refl (λ done. claim_went (status_of t seg) node pull (claim_done result done)) given
@@ -100,7 +118,7 @@ begin_done (Err (begin.NotClaimed found)) e = absurd cc
 begin_done (Err begin.WrongPull) e = absurd cc
 
 -- a Begin that went: the pull had claimed the node
-pub begin_goes : (o : OpeningValue) (t : Trace) (seg node pull : ℕ) → IsAnswer o t (Begin seg node pull) Done → NodeGoes o seg node (status_of t seg node ≡ Claimed pull)
+pub begin_goes : (o : OpeningValue) (t : Trace) (seg node pull : ℕ) → IsAnswer o t (Begin seg node pull) Done → NodeGoes o t seg node (status_of t seg node ≡ Claimed pull)
 begin_goes o t seg node pull given =
     let result = begin_answer (status_of t seg) node pull in
     node_goes o t (Begin seg node pull) seg node (begin_answered result) refl (λ done. begin_went (status_of t seg) node pull (begin_done result done)) given
@@ -112,15 +130,31 @@ complete_done loaded (Err (complete.NotPartial found)) e = absurd cc
 complete_done loaded (Err complete.WrongPull) e = absurd cc
 
 -- a Complete that went: the node's last chunk was loaded, and the pull had begun the node
-pub complete_goes : (o : OpeningValue) (t : Trace) (seg node pull : ℕ) → IsAnswer o t (Complete seg node pull) Done → NodeGoes o seg node ((has_last seg node (loads t) ≡ true) × (status_of t seg node ≡ Partial pull))
+pub complete_goes : (o : OpeningValue) (t : Trace) (seg node pull : ℕ) → IsAnswer o t (Complete seg node pull) Done → NodeGoes o t seg node ((has_last seg node (loads t) ≡ true) × (status_of t seg node ≡ Partial pull))
 complete_goes o t seg node pull given =
     let result = complete_answer (status_of t seg) node pull in
     node_goes o t (Complete seg node pull) seg node (complete_answered (has_last seg node (loads t)) result) refl
     (λ done. let completes = complete_done (has_last seg node (loads t)) result done in (completes.0, complete_went (status_of t seg) node pull completes.1)) given
 
+-- a link that isn't refused is one of the running stage
+link_runs : (o : OpeningValue) (t : Trace) (src dst : ℕ) → not (is_running_link o t src dst) ≡ false → stage_on o.recon src dst ≡ stage t
+link_runs o t src dst runs = eqb-true (stage_on o.recon src dst) (stage t) (and_parts (is_link o.recon.ranges src dst) (stage_on o.recon src dst == stage t) (not-false (is_running_link o t src dst) runs)).1
+
+-- a Push and a Pop that went
+pub push_runs : (o : OpeningValue) (t : Trace) (src dst : ℕ) → IsAnswer o t (Push src dst) Done → stage_on o.recon src dst ≡ stage t
+push_runs o t src dst given =
+    let a = past (not (is_moving t)) NotMoving _ Done refl (answered o t (Push src dst) Done refl given) in
+    link_runs o t src dst (past (not (is_running_link o t src dst)) NoSuchLink _ Done refl a.1).0
+
+pub pop_runs : (o : OpeningValue) (t : Trace) (src dst : ℕ) → IsAnswer o t (Pop src dst) Done → stage_on o.recon src dst ≡ stage t
+pop_runs o t src dst given =
+    let a = past (not (is_moving t)) NotMoving _ Done refl (answered o t (Pop src dst) Done refl given) in
+    link_runs o t src dst (past (not (is_running_link o t src dst)) NoSuchLink _ Done refl a.1).0
+
 -- a Cut that went
 pub record CutGoes (o : OpeningValue) (t : Trace) (src dst : ℕ) (note : Note) (families : ℕ) : Type 0 where
   pub moving : is_moving t ≡ true
+  pub stage : stage_on o.recon src dst ≡ stage t
   pub item : Item
   pub next : next_item (open_items o t src dst) ≡ Some item
   pub noted : note ≡ next_note o t src dst item
@@ -132,14 +166,15 @@ cut_was o t src dst note families (Some item) e = (item, refl, cc)
 pub cut_goes : (o : OpeningValue) (t : Trace) (src dst : ℕ) (note : Note) (families : ℕ) → IsAnswer o t (Cut src dst) (WasCut note families) → CutGoes o t src dst note families
 cut_goes o t src dst note families given =
     let a = past _ _ _ (WasCut note families) refl (answered o t (Cut src dst) (WasCut note families) refl given) in
-    let b = past (not (is_link o.recon.ranges src dst)) NoSuchLink _ (WasCut note families) refl a.1 in
+    let b = past (not (is_running_link o t src dst)) NoSuchLink _ (WasCut note families) refl a.1 in
     let c = past (nat_lt (push_count t src dst) (cut_count t src dst)) OutboxFull _ (WasCut note families) refl b.1 in
     let d = cut_was o t src dst note families (next_item (open_items o t src dst)) c.1 in
-    record { moving = not-false (is_moving t) a.0; item = d.0; next = d.1; noted = d.2 }
+    record { moving = not-false (is_moving t) a.0; stage = link_runs o t src dst b.0; item = d.0; next = d.1; noted = d.2 }
 
 -- a Load that went
 pub record LoadGoes (o : OpeningValue) (t : Trace) (src dst : ℕ) (note : Note) (families : ℕ) : Type 0 where
   pub moving : is_moving t ≡ true
+  pub stage : stage_on o.recon src dst ≡ stage t
   pub found : find (λ other. other.number == load_count t src dst) (link src dst (notes t)) ≡ Some note
 
 load_was : (o : OpeningValue) (t : Trace) (note : Note) (families : ℕ) (found : Option Note) → WasLoaded note families ≡ load_of o t found → found ≡ Some note
@@ -149,9 +184,9 @@ load_was o t note families (Some other) e = let same : note ≡ other = cc in ap
 pub load_goes : (o : OpeningValue) (t : Trace) (src dst : ℕ) (note : Note) (families : ℕ) → IsAnswer o t (Load src dst) (WasLoaded note families) → LoadGoes o t src dst note families
 load_goes o t src dst note families given =
     let a = past _ _ _ (WasLoaded note families) refl (answered o t (Load src dst) (WasLoaded note families) refl given) in
-    let b = past (not (is_link o.recon.ranges src dst)) NoSuchLink _ (WasLoaded note families) refl a.1 in
+    let b = past (not (is_running_link o t src dst)) NoSuchLink _ (WasLoaded note families) refl a.1 in
     let c = past (load_count t src dst == pop_count t src dst) InboxEmpty _ (WasLoaded note families) refl b.1 in
-    record { moving = not-false (is_moving t) a.0; found = load_was o t note families (find (λ other. other.number == load_count t src dst) (link src dst (notes t))) c.1 }
+    record { moving = not-false (is_moving t) a.0; stage = link_runs o t src dst b.0; found = load_was o t note families (find (λ other. other.number == load_count t src dst) (link src dst (notes t))) c.1 }
 
 -- whether this was asked, where one answer is a refusal
 asked : (test : Bool) (refusal : Refusal) → Done ≡ (if test then Done else Refused refusal) → test ≡ true
@@ -165,9 +200,29 @@ report_goes o t part given =
     let b = past (nat_le o.old.parts part) NoSuchPartition _ Done refl a.1 in
     asked (has_all o t part) NotFinished b.1
 
--- a Finish went, so each partition has reported, or counts as if it had
-pub finish_goes : (o : OpeningValue) (t : Trace) → IsAnswer o t Finish Done → list_all (counts_reported o t) (partitions o) ≡ true
-finish_goes o t given = asked (list_all (counts_reported o t) (partitions o)) NotFinished (past (not (is_moving t)) NotMoving _ Done refl (answered o t Finish Done refl given)).1
+-- a Next went, so another stage comes, and each partition has reported, or counts as if it had
+pub record NextGoes (o : OpeningValue) (t : Trace) : Type 0 where
+  pub moving : is_moving t ≡ true
+  pub more : is_last_stage o t ≡ false
+  pub reported : list_all (counts_reported o t) (partitions o) ≡ true
+
+pub next_goes : (o : OpeningValue) (t : Trace) → IsAnswer o t Next Done → NextGoes o t
+next_goes o t given =
+    let a = past (not (is_moving t)) NotMoving _ Done refl (answered o t Next Done refl given) in
+    let b = past (is_last_stage o t) LastStage _ Done refl a.1 in
+    record { moving = not-false (is_moving t) a.0; more = b.0; reported = asked (list_all (counts_reported o t) (partitions o)) NotFinished b.1 }
+
+-- a Finish went, so the last stage runs, and each partition has reported, or counts as if it had
+pub record FinishGoes (o : OpeningValue) (t : Trace) : Type 0 where
+  pub last : stage t + 1 ≡ stages o.recon
+  pub reported : list_all (counts_reported o t) (partitions o) ≡ true
+
+pub finish_goes : (o : OpeningValue) (t : Trace) → IsAnswer o t Finish Done → FinishGoes o t
+finish_goes o t given =
+    let a = past (not (is_moving t)) NotMoving _ Done refl (answered o t Finish Done refl given) in
+    let all = asked (is_last_stage o t && list_all (counts_reported o t) (partitions o)) NotFinished a.1 in
+    let parts = and_parts (is_last_stage o t) (list_all (counts_reported o t) (partitions o)) all in
+    record { last = eqb-true (stage t + 1) (stages o.recon) parts.0; reported = parts.1 }
 
 abbrev is_wait : Answer → Bool
 is_wait (Waits id seg leaf) = true
@@ -177,7 +232,7 @@ routed_is_no_wait : (o : OpeningValue) (t : Trace) (part : ℕ) (txn : TxnValue)
 routed_is_no_wait o t part txn None = refl
 routed_is_no_wait o t part txn (Some who) =
     cond_both (who == part) (run_answer o t txn) (Moved txn.id who) (λ given. is_wait given ≡ false)
-    (λ here. cond_both (is_full t txn.root) (Refused LogFull) (Replied txn.id (reply (now o t txn.root) txn)) (λ given. is_wait given ≡ false) (λ full. refl) (λ room. refl))
+    (λ here. cond_both (is_full o t txn.root) (Refused LogFull) (Replied txn.id (reply (now o t txn.root) txn)) (λ given. is_wait given ≡ false) (λ full. refl) (λ room. refl))
     (λ there. refl)
 
 -- a transaction was made to wait

@@ -1,20 +1,24 @@
 -- On a legal trace a transaction waits only at the partition that its root key moves to, once the move was started, and that partition runs it once its rows came.
-use Rattle.std.proofs.Common.{◌≡◌, ⊎_elim, ℕ, ◌<◌, Bool, true, false, ◌==◌, ◌&&◌, not, List, [], ◌∷◌, ◌++◌, remove, Option, Some, None, refl, sym, ap, ◌∙◌, subst, true≢false}
+use Rattle.std.proofs.Common.{◌≡◌, ⊎_elim, inl, inr, ℕ, ◌+◌, ◌<◌, ◌≤◌, Bool, true, false, ◌==◌, ◌&&◌, not, List, [], ◌∷◌, ◌++◌, remove, slice_get, is_some, Option, Some, None, ap₂, arith, refl, sym, ap, ◌∙◌, subst, true≢false}
 use Rattle.std.specs.Option.{option_map_or}
 use Rattle.std.specs.List.{list_any}
-use Rattle.std.proofs.lemmas.Bool.{and_parts, and_from, or_cases, cond_both, cond-true, eq-eqb, eqb-true, true_from_ne_false}
+use Rattle.std.proofs.lemmas.Bool.{and_parts, and_from, or_cases, cond_both, cond-true, cases_lt, eq-eqb, eqb-true, true_from_ne_false}
 use Rattle.std.proofs.lemmas.List.Folds.{list_any-append}
 use Rattle.sq_schema.specs.TxnValue.{TxnValue}
 use Rattle.sq_ranges.specs.OpeningValue.{OpeningValue}
 use Rattle.sq_model.specs.declared.step.Step.{Step}
-use Rattle.sq_model.specs.declared.step.Step.TheVariants.{Prepare, Start, Submit, Resume, Finish}
+use Rattle.sq_model.specs.declared.step.Step.TheVariants.{Prepare, Start, Submit, Resume, Next, Finish}
 use Rattle.sq_model.specs.declared.answer.Answer.{Answer}
 use Rattle.sq_model.specs.declared.answer.Answer.TheVariants.{Done, Waits, Resumed}
-use Rattle.sq_model.specs.Trace.{Trace, loads}
+use Rattle.sq_model.specs.Trace.{Trace, stage, enters, loads}
 use Rattle.sq_model.specs.Leader.{is_started}
-use Rattle.sq_model.specs.Place.{destination, moves, is_covered, runner, is_coming}
+use Rattle.sq_model.specs.Place.{source, destination, moves, moves_in, is_covered, runner, is_coming}
 use Rattle.sq_model.specs.Waiting.{without_ready, waiting, has_to_wait}
 use Rattle.sq_model.specs.Legal.{IsLegal}
+use Rattle.sq_ranges.specs.ReconValue.{segment_of, stage_on}
+use Rattle.sq_ranges.specs.Opening.{IsOpening}
+use Rattle.sq_model.proofs.Keys.{found_in_segment, moves_found}
+use Rattle.sq_model.proofs.Ended.{past_loaded}
 use Rattle.sq_model.proofs.Lists.{list_any-remove}
 use Rattle.sq_model.proofs.Steps.{prepare_goes, wait_goes}
 
@@ -22,12 +26,17 @@ use Rattle.sq_model.proofs.Steps.{prepare_goes, wait_goes}
 abbrev pub is_on : ℕ → List TxnValue → Bool
 is_on root txns = list_any (λ txn. txn.root == root) txns
 
--- the move was started, and the root key moves to this partition
+-- the stage in which a root key moves
+abbrev pub stage_for : OpeningValue → ℕ → ℕ
+stage_for o root = stage_on o.recon (source o root) (destination o root)
+
+-- the move was started, and the root key moves to this partition, in the running stage or in one that went
 pub record WaitsFor (o : OpeningValue) (t : Trace) (part root : ℕ) : Type 0 where
   pub exists : part < o.old.parts
   pub started : is_started t ≡ true
   pub moving : moves o root ≡ true
   pub to : destination o root ≡ part
+  pub by : stage_for o root ≤ stage t
 
 -- a move that was started stays so
 stays_started : (o : OpeningValue) (t : Trace) (step : Step) (given : Answer) → IsLegal o ((step, given) ∷ t) → is_started t ≡ true → is_started ((step, given) ∷ t) ≡ true
@@ -36,12 +45,18 @@ stays_started o t Start Done legal started = refl
 stays_started o t Finish Done legal started = refl
 stays_started o t step given legal started = started
 
+-- and no stage comes again
+stage_rises : (step : Step) (given : Answer) (i : ℕ) → i ≤ enters step given i
+stage_rises Next Done i = omega arith
+stage_rises step given i = omega arith
+
 still : (o : OpeningValue) (t : Trace) (step : Step) (given : Answer) → IsLegal o ((step, given) ∷ t) → (part root : ℕ) → WaitsFor o t part root → WaitsFor o ((step, given) ∷ t) part root
 still o t step given legal part root waits = record {
   exists = waits.exists;
   started = stays_started o t step given legal waits.started;
   moving = waits.moving;
   to = waits.to;
+  by = let rises = stage_rises step given (stage t) in let by = waits.by in omega arith;
 }
 
 -- what has to be waited for, where this is so of all that transactions wait for
@@ -50,9 +65,11 @@ has_to-waits o t part root exists waits has_to =
     ⊎_elim waits
     (λ (coming : is_coming o t part root ≡ true).
     let a = and_parts (is_started t) _ coming in
-    let b = and_parts (moves o root) _ a.1 in
+    let b = and_parts (moves_in o (stage t) root) _ a.1 in
     let c = and_parts (destination o root == part) _ b.1 in
-    record { exists = exists; started = a.0; moving = b.0; to = eqb-true (destination o root) part c.0 })
+    let d = and_parts (moves o root) (stage_for o root == stage t) b.0 in
+    let now = eqb-true (stage_for o root) (stage t) d.1 in
+    record { exists = exists; started = a.0; moving = d.0; to = eqb-true (destination o root) part c.0; by = omega (arith, now) })
     (or_cases (is_on root (waiting o t part)) (is_coming o t part root) has_to)
 
 -- the one new transaction is on the root key
@@ -89,17 +106,34 @@ waits_for o ((Resume at, Resumed txn reply) ∷ t) legal part root on =
     on))
 waits_for o ((step, given) ∷ t) legal part root on = still o t step given legal part root (waits_for o t legal.1 part root on)
 
+-- a root key that moved in a stage that went was loaded
+pub went-loaded : (o : OpeningValue) → IsOpening o → (t : Trace) → IsLegal o t → (root : ℕ) → moves o root ≡ true → stage_for o root < stage t → is_covered (loads t) root ≡ true
+went-loaded o is t legal root moving past = among (segment_of o.recon.segments root) refl
+  where
+    among : (found : Option ℕ) → segment_of o.recon.segments root ≡ found → is_covered (loads t) root ≡ true
+    among None none = absurd (true≢false (sym moving ∙ moves_found o is root ∙ ap is_some none))
+    among (Some g) found =
+        let at = found_in_segment o is root g found in
+        let same = ap₂ (stage_on o.recon) at.1.source_is at.1.destination_is in
+        past_loaded o is t legal root g at.0 found at.1 (omega (arith, same, past))
+
 -- where its rows aren't on their way any more, they were loaded
-pub waits-loaded : (o : OpeningValue) (t : Trace) (part root : ℕ) → WaitsFor o t part root → is_coming o t part root ≡ false → is_covered (loads t) root ≡ true
-waits-loaded o t part root waits gone =
-    true_from_ne_false (is_covered (loads t) root) (λ left.
-    true≢false (
-    sym (and_from (is_started t) (moves o root && ((destination o root == part) && not (is_covered (loads t) root))) waits.started
-    (and_from (moves o root) ((destination o root == part) && not (is_covered (loads t) root)) waits.moving
-    (and_from (destination o root == part) (not (is_covered (loads t) root)) (eq-eqb (destination o root) part waits.to) (ap not left))))
-    ∙ gone))
+pub waits-loaded : (o : OpeningValue) → IsOpening o → (t : Trace) → IsLegal o t → (part root : ℕ) → WaitsFor o t part root → is_coming o t part root ≡ false → is_covered (loads t) root ≡ true
+waits-loaded o is t legal part root waits gone =
+    elim (cases_lt (stage_for o root) (stage t)) [
+      | inl past ↦ went-loaded o is t legal root waits.moving past
+      | inr now ↦
+          let by = waits.by in
+          let here = and_from (moves o root) (stage_for o root == stage t) waits.moving (eq-eqb (stage_for o root) (stage t) (omega (arith, now, by))) in
+          true_from_ne_false (is_covered (loads t) root) (λ left.
+          true≢false (
+          sym (and_from (is_started t) (moves_in o (stage t) root && ((destination o root == part) && not (is_covered (loads t) root))) waits.started
+          (and_from (moves_in o (stage t) root) ((destination o root == part) && not (is_covered (loads t) root)) here
+          (and_from (destination o root == part) (not (is_covered (loads t) root)) (eq-eqb (destination o root) part waits.to) (ap not left))))
+          ∙ gone))
+    ]
 
 -- so the partition runs it
-pub waits-runner : (o : OpeningValue) (t : Trace) (part root : ℕ) → WaitsFor o t part root → is_coming o t part root ≡ false → runner o t root ≡ Some part
-waits-runner o t part root waits gone =
-    cond-true (is_covered (loads t) root) (Some (destination o root)) _ (waits-loaded o t part root waits gone) ∙ ap Some waits.to
+pub waits-runner : (o : OpeningValue) → IsOpening o → (t : Trace) → IsLegal o t → (part root : ℕ) → WaitsFor o t part root → is_coming o t part root ≡ false → runner o t root ≡ Some part
+waits-runner o is t legal part root waits gone =
+    cond-true (is_covered (loads t) root) (Some (destination o root)) _ (waits-loaded o is t legal part root waits gone) ∙ ap Some waits.to

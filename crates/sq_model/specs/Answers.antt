@@ -1,5 +1,5 @@
 -- The answer to each step, as the trace before it determines it.
-use Rattle.std.specs.Prelude.{ℕ, Bool, false, ◌-◌, ◌==◌, ◌||◌, not, nat_le, nat_lt, if◌then◌else◌, List, find, length, Option, Some, None, Result, Ok, Err, slice_get, unwrap_or}
+use Rattle.std.specs.Prelude.{ℕ, Bool, false, ◌+◌, ◌-◌, ◌==◌, ◌||◌, ◌&&◌, not, is_none, nat_le, nat_lt, if◌then◌else◌, List, find, length, Option, Some, None, Result, Ok, Err, slice_get, unwrap_or}
 use Rattle.std.specs.List.{list_any, list_all, range_with_len}
 use Rattle.sq_schema.specs.TxnValue.{TxnValue}
 use Rattle.sq_schema.specs.Effect.{reply}
@@ -18,15 +18,15 @@ use Rattle.sq_tree.specs.Answer.{split_answer, claim_answer, begin_answer, compl
 use Rattle.sq_chunk.specs.declared.chunk.Note.{Note}
 use Rattle.sq_ranges.specs.declared.recon.Range.{Range}
 use Rattle.sq_ranges.specs.declared.opening.TheConstants.{MAX_WAITING}
-use Rattle.sq_ranges.specs.ReconValue.{ReconValue, is_link, leaf_at}
+use Rattle.sq_ranges.specs.ReconValue.{ReconValue, is_link, leaf_at, stage_on, stages, of_stage}
 use Rattle.sq_ranges.specs.OpeningValue.{OpeningValue}
 use Rattle.sq_model.specs.declared.step.Step.{Step}
-use Rattle.sq_model.specs.declared.step.Step.TheVariants.{Prepare, Start, Submit, Resume, Split, Claim, Begin, Cut, Push, Pop, Load, Complete, Report, Finish, Status}
+use Rattle.sq_model.specs.declared.step.Step.TheVariants.{Prepare, Start, Submit, Resume, Split, Claim, Begin, Cut, Push, Pop, Load, Complete, Report, Next, Finish, Status, Fold}
 use Rattle.sq_model.specs.declared.answer.Answer.{Answer}
 use Rattle.sq_model.specs.declared.answer.Answer.TheVariants.{Done, Replied, Moved, Waits, Resumed, WasCut, WasLoaded, Reads, Refused}
-use Rattle.sq_model.specs.declared.answer.Refusal.TheVariants.{NotMoving, NoSuchSegment, NoSuchNode, NotFree, NotLive, IsLeaf, NotClaimed, WrongPull, NothingToCut, OutboxFull, OutboxEmpty, LinkFull, LinkEmpty, InboxFull, InboxEmpty, NotLoaded, AlreadyMoving, NotFinished, NoSuchPartition, WaitFull, LogFull, NoneReady, NoSuchLink, NotPartial, NotPrepared}
-use Rattle.sq_model.specs.Trace.{Trace, notes, loads, link, cut_count, push_count, pop_count, load_count}
-use Rattle.sq_model.specs.Leader.{is_moving, is_started, is_prepared, is_reported}
+use Rattle.sq_model.specs.declared.answer.Refusal.TheVariants.{NotMoving, NoSuchSegment, NoSuchNode, NotFree, NotLive, IsLeaf, NotClaimed, WrongPull, NothingToCut, OutboxFull, OutboxEmpty, LinkFull, LinkEmpty, InboxFull, InboxEmpty, NotLoaded, AlreadyMoving, NotFinished, NoSuchPartition, WaitFull, LogFull, NoneReady, NoSuchLink, LastStage, NotPartial, NotPrepared}
+use Rattle.sq_model.specs.Trace.{Trace, stage, notes, loads, link, cut_count, push_count, pop_count, load_count}
+use Rattle.sq_model.specs.Leader.{is_moving, is_started, is_prepared, is_reported, is_ended}
 use Rattle.sq_model.specs.Nodes.{Item, status_of}
 use Rattle.sq_model.specs.Tables.{now, is_full}
 use Rattle.sq_model.specs.Place.{destination, runner}
@@ -41,17 +41,25 @@ at_partition o part answer = if nat_le o.old.parts part then Refused NoSuchParti
 abbrev pub while_moving : Trace → Answer → Answer
 while_moving t answer = if not (is_moving t) then Refused NotMoving else answer
 
--- the answer, where there is such a segment
-abbrev pub in_segment : OpeningValue → ℕ → Answer → Answer
-in_segment o seg answer = if nat_le (length o.recon.segments) seg then Refused NoSuchSegment else answer
+-- the segment of this number, where it is of the running stage
+abbrev pub running : OpeningValue → Trace → ℕ → Option Range
+running o t seg = of_stage o.recon (stage t) (slice_get o.recon.segments seg)
+
+-- the answer, where the running stage has such a segment
+abbrev pub in_segment : OpeningValue → Trace → ℕ → Answer → Answer
+in_segment o t seg answer = if is_none (running o t seg) then Refused NoSuchSegment else answer
 
 -- the answer, where there is such a node
 abbrev pub at_node : ℕ → Answer → Answer
 at_node node answer = if not (is_node node) then Refused NoSuchNode else answer
 
--- the answer, where some range goes from the one partition to the other
-abbrev pub on_link : OpeningValue → ℕ → ℕ → Answer → Answer
-on_link o src dst answer = if not (is_link o.recon.ranges src dst) then Refused NoSuchLink else answer
+-- some range goes from the one partition to the other in the running stage
+abbrev pub is_running_link : OpeningValue → Trace → ℕ → ℕ → Bool
+is_running_link o t src dst = is_link o.recon.ranges src dst && (stage_on o.recon src dst == stage t)
+
+-- the answer, where one does
+abbrev pub on_link : OpeningValue → Trace → ℕ → ℕ → Answer → Answer
+on_link o t src dst answer = if not (is_running_link o t src dst) then Refused NoSuchLink else answer
 
 abbrev pub prepare_answer : OpeningValue → Trace → ℕ → Answer
 prepare_answer o t part = at_partition o part (if is_started t then Refused AlreadyMoving else Done)
@@ -76,7 +84,7 @@ wait_answer o t part txn =
     else waits_at o.recon txn
 
 abbrev pub run_answer : OpeningValue → Trace → TxnValue → Answer
-run_answer o t txn = if is_full t txn.root then Refused LogFull else Replied txn.id (reply (now o t txn.root) txn)
+run_answer o t txn = if is_full o t txn.root then Refused LogFull else Replied txn.id (reply (now o t txn.root) txn)
 
 -- at the runner the transaction runs; elsewhere it is given the runner, or the destination where there is none
 abbrev pub routed : OpeningValue → Trace → ℕ → TxnValue → Option ℕ → Answer
@@ -122,19 +130,19 @@ complete_answered loaded (Err complete.WrongPull) = Refused WrongPull
 
 abbrev pub split_step : OpeningValue → Trace → ℕ → ℕ → Answer
 split_step o t seg node =
-    while_moving t (in_segment o seg (at_node node (split_answered (split_answer (status_of t seg) node))))
+    while_moving t (in_segment o t seg (at_node node (split_answered (split_answer (status_of t seg) node))))
 
 abbrev pub claim_step : OpeningValue → Trace → ℕ → ℕ → ℕ → Answer
 claim_step o t seg node pull =
-    while_moving t (in_segment o seg (at_node node (claim_answered (claim_answer (status_of t seg) node pull))))
+    while_moving t (in_segment o t seg (at_node node (claim_answered (claim_answer (status_of t seg) node pull))))
 
 abbrev pub begin_step : OpeningValue → Trace → ℕ → ℕ → ℕ → Answer
 begin_step o t seg node pull =
-    while_moving t (in_segment o seg (at_node node (begin_answered (begin_answer (status_of t seg) node pull))))
+    while_moving t (in_segment o t seg (at_node node (begin_answered (begin_answer (status_of t seg) node pull))))
 
 abbrev pub complete_step : OpeningValue → Trace → ℕ → ℕ → ℕ → Answer
 complete_step o t seg node pull =
-    while_moving t (in_segment o seg (at_node node (complete_answered (has_last seg node (loads t)) (complete_answer (status_of t seg) node pull))))
+    while_moving t (in_segment o t seg (at_node node (complete_answered (has_last seg node (loads t)) (complete_answer (status_of t seg) node pull))))
 
 abbrev pub cut_for : OpeningValue → Trace → ℕ → ℕ → Option Item → Answer
 cut_for o t src dst None = Refused NothingToCut
@@ -143,14 +151,14 @@ cut_for o t src dst (Some item) =
 
 abbrev pub cut_answer : OpeningValue → Trace → ℕ → ℕ → Answer
 cut_answer o t src dst =
-    while_moving t (on_link o src dst (
+    while_moving t (on_link o t src dst (
     if nat_lt (push_count t src dst) (cut_count t src dst) then Refused OutboxFull
     else cut_for o t src dst (next_item (open_items o t src dst))
     ))
 
 abbrev pub push_answer : OpeningValue → Trace → ℕ → ℕ → Answer
 push_answer o t src dst =
-    while_moving t (on_link o src dst (
+    while_moving t (on_link o t src dst (
     if cut_count t src dst == push_count t src dst then Refused OutboxEmpty
     else if nat_le o.config.capacity (push_count t src dst - pop_count t src dst) then Refused LinkFull
     else Done
@@ -158,7 +166,7 @@ push_answer o t src dst =
 
 abbrev pub pop_answer : OpeningValue → Trace → ℕ → ℕ → Answer
 pop_answer o t src dst =
-    while_moving t (on_link o src dst (
+    while_moving t (on_link o t src dst (
     if nat_lt (load_count t src dst) (pop_count t src dst) then Refused InboxFull
     else if pop_count t src dst == push_count t src dst then Refused LinkEmpty
     else Done
@@ -171,7 +179,7 @@ load_of o t (Some note) = WasLoaded note (family_count o t note)
 
 abbrev pub load_answer : OpeningValue → Trace → ℕ → ℕ → Answer
 load_answer o t src dst =
-    while_moving t (on_link o src dst (
+    while_moving t (on_link o t src dst (
     if load_count t src dst == pop_count t src dst then Refused InboxEmpty
     else load_of o t (find (λ note. note.number == load_count t src dst) (link src dst (notes t)))
     ))
@@ -184,32 +192,48 @@ abbrev pub goes_into : Option Range → ℕ → Bool
 goes_into None part = false
 goes_into (Some segment) part = segment.dst == part
 
--- the segment of this number moves into the partition
-abbrev pub is_into : OpeningValue → ℕ → ℕ → Bool
-is_into o part seg = goes_into (slice_get o.recon.segments seg) part
+-- the segment of this number moves into the partition in the running stage
+abbrev pub is_into : OpeningValue → Trace → ℕ → ℕ → Bool
+is_into o t part seg = goes_into (running o t seg) part
 
 -- the numbers of the segments
 abbrev pub segment_numbers : OpeningValue → List ℕ
 segment_numbers o = range_with_len 0 (length o.recon.segments)
 
--- each segment into the partition is whole
+-- each segment of the running stage into the partition is whole
 abbrev pub has_all : OpeningValue → Trace → ℕ → Bool
-has_all o t part = list_all (λ seg. not (is_into o part seg) || is_whole t seg) (segment_numbers o)
+has_all o t part = list_all (λ seg. not (is_into o t part seg) || is_whole t seg) (segment_numbers o)
 
 abbrev pub report_answer : OpeningValue → Trace → ℕ → Answer
 report_answer o t part = while_moving t (at_partition o part (if has_all o t part then Done else Refused NotFinished))
 
--- a partition that no segment goes into counts as reported
+-- a partition that no segment of the running stage goes into counts as reported
 abbrev pub counts_reported : OpeningValue → Trace → ℕ → Bool
-counts_reported o t part = is_reported t part || not (list_any (is_into o part) (segment_numbers o))
+counts_reported o t part = is_reported t part || not (list_any (is_into o t part) (segment_numbers o))
+
+-- no stage comes after the running one
+abbrev pub is_last_stage : OpeningValue → Trace → Bool
+is_last_stage o t = stage t + 1 == stages o.recon
+
+abbrev pub next_answer : OpeningValue → Trace → Answer
+next_answer o t =
+    while_moving t (
+    if is_last_stage o t then Refused LastStage
+    else if list_all (counts_reported o t) (partitions o) then Done
+    else Refused NotFinished
+    )
 
 abbrev pub finish_answer : OpeningValue → Trace → Answer
 finish_answer o t =
-    while_moving t (if list_all (counts_reported o t) (partitions o) then Done else Refused NotFinished)
+    while_moving t (if is_last_stage o t && list_all (counts_reported o t) (partitions o) then Done else Refused NotFinished)
+
+-- logs are folded only once nothing moves any more
+abbrev pub fold_answer : OpeningValue → Trace → ℕ → Answer
+fold_answer o t part = at_partition o part (if is_ended t then Done else Refused NotFinished)
 
 -- the status of a node, and what it reads as
 abbrev pub status_answer : OpeningValue → Trace → ℕ → ℕ → Answer
-status_answer o t seg node = in_segment o seg (at_node node (Reads (status_of t seg node) (reading (status_of t seg) node)))
+status_answer o t seg node = in_segment o t seg (at_node node (Reads (status_of t seg node) (reading (status_of t seg) node)))
 
 abbrev pub answer : OpeningValue → Trace → Step → Answer
 answer o t (Prepare part) = prepare_answer o t part
@@ -225,5 +249,7 @@ answer o t (Pop src dst) = pop_answer o t src dst
 answer o t (Load src dst) = load_answer o t src dst
 answer o t (Complete seg node pull) = complete_step o t seg node pull
 answer o t (Report part) = report_answer o t part
+answer o t Next = next_answer o t
 answer o t Finish = finish_answer o t
+answer o t (Fold part) = fold_answer o t part
 answer o t (Status seg node) = status_answer o t seg node

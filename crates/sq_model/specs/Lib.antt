@@ -10,3 +10,5 @@ pub mod Refusal
 pub mod Legal
 pub mod Orderly
 pub mod Worked
+pub mod Staged
+pub mod WorkedStages

@@ -7,9 +7,9 @@ use Rattle.sq_chunk.specs.declared.chunk.Note.{Note}
 use Rattle.sq_chunk.specs.ChunkValue.{covers}
 use Rattle.sq_ranges.specs.declared.recon.Range.{Range}
 use Rattle.sq_ranges.specs.declared.recon.Extent.{Extent}
-use Rattle.sq_ranges.specs.ReconValue.{extent}
+use Rattle.sq_ranges.specs.ReconValue.{extent, stage_on}
 use Rattle.sq_ranges.specs.OpeningValue.{OpeningValue}
-use Rattle.sq_model.specs.Trace.{Trace, notes, loads}
+use Rattle.sq_model.specs.Trace.{Trace, notes, loads, stage}
 use Rattle.sq_model.specs.Leader.{is_started}
 use Rattle.sq_model.specs.Nodes.{items}
 
@@ -23,6 +23,10 @@ destination o root = owner o.new root
 -- the root key moves
 abbrev pub moves : OpeningValue → ℕ → Bool
 moves o root = not (source o root == destination o root)
+
+-- the root key moves in this stage
+abbrev pub moves_in : OpeningValue → ℕ → ℕ → Bool
+moves_in o i root = moves o root && (stage_on o.recon (source o root) (destination o root) == i)
 
 -- one of the notes covers the root key
 abbrev pub is_covered : List Note → ℕ → Bool
@@ -68,7 +72,7 @@ runner o t root =
     else if is_begun_over o t root then None
     else Some (source o root)
 
--- the root key comes to this partition, and isn't loaded
+-- the root key comes to this partition in the running stage, and isn't loaded
 abbrev pub is_coming : OpeningValue → Trace → ℕ → ℕ → Bool
 is_coming o t part root =
-    is_started t && (moves o root && ((destination o root == part) && not (is_covered (loads t) root)))
+    is_started t && (moves_in o (stage t) root && ((destination o root == part) && not (is_covered (loads t) root)))

@@ -3,7 +3,7 @@ use Rattle.std.specs.Prelude.{ℕ}
 use Rattle.sq_schema.specs.declared.fault.ApplyFault.TheVariants as apply
 use Rattle.sq_schema.specs.Fault.{memory_number, apply_fault_number}
 use Rattle.sq_model.specs.declared.answer.Refusal.{Refusal}
-use Rattle.sq_model.specs.declared.answer.Refusal.TheVariants.{NotMoving, NoSuchSegment, NoSuchNode, NotFree, NotLive, IsLeaf, NotClaimed, WrongPull, NothingToCut, OutboxFull, OutboxEmpty, LinkFull, LinkEmpty, InboxFull, InboxEmpty, NotLoaded, AlreadyMoving, NotFinished, NoSuchPartition, WaitFull, LogFull, Memory, NoneReady, NoSuchLink, NotPartial, NotPrepared}
+use Rattle.sq_model.specs.declared.answer.Refusal.TheVariants.{NotMoving, NoSuchSegment, NoSuchNode, NotFree, NotLive, IsLeaf, NotClaimed, WrongPull, NothingToCut, OutboxFull, OutboxEmpty, LinkFull, LinkEmpty, InboxFull, InboxEmpty, NotLoaded, AlreadyMoving, NotFinished, NoSuchPartition, WaitFull, LogFull, Memory, NoneReady, NoSuchLink, LastStage, NotPartial, NotPrepared}
 
 abbrev pub refusal_number : Refusal → ℕ
 refusal_number NotMoving = 201
@@ -30,5 +30,6 @@ refusal_number LogFull = apply_fault_number apply.LogFull
 refusal_number Memory = memory_number
 refusal_number NoneReady = 223
 refusal_number NoSuchLink = 224
+refusal_number LastStage = 225
 refusal_number NotPartial = 227
 refusal_number NotPrepared = 228

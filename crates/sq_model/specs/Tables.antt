@@ -1,12 +1,17 @@
--- The unpartitioned table that the committed transactions were run on.
-use Rattle.std.specs.Prelude.{ℕ, Bool, ◌==◌, ◌||◌, not, nat_le, length}
-use Rattle.std.specs.List.{list_any}
-use Rattle.sq_schema.specs.Effect.{RowTable, replay, only}
+-- The unpartitioned table that the committed transactions were run on, and what each family keeps of it: the rows that its log starts from, and its log.
+use Rattle.std.specs.Prelude.{◌≡◌, ℕ, Bool, ◌==◌, nat_le, if◌then◌else◌, List, [], ◌∷◌, ◌++◌, length}
+use Rattle.sq_schema.specs.Effect.{RowTable, replay, replay_rows, only}
+use Rattle.sq_schema.specs.TxnValue.{TxnValue}
 use Rattle.sq_schema.specs.declared.family.TheConstants.{MAX_LOG}
-use Rattle.sq_schema.specs.Family.{FamilyValue, rows_size}
+use Rattle.sq_schema.specs.Family.{FamilyValue, rows_size, family_stands}
 use Rattle.sq_schema.specs.Table.{rows_in}
 use Rattle.sq_ranges.specs.OpeningValue.{OpeningValue}
-use Rattle.sq_model.specs.Trace.{Trace, committed}
+use Rattle.sq_model.specs.declared.step.Step.{Step}
+use Rattle.sq_model.specs.declared.step.Step.TheVariants.{Fold}
+use Rattle.sq_model.specs.declared.answer.Answer.{Answer}
+use Rattle.sq_model.specs.declared.answer.Answer.TheVariants.{Done}
+use Rattle.sq_model.specs.Trace.{Trace, committed, unfolded}
+use Rattle.sq_model.specs.Place.{destination}
 
 -- the opening rows, by root key
 abbrev pub opening_rows : OpeningValue → RowTable
@@ -16,17 +21,37 @@ opening_rows o root = rows_in o.table root
 abbrev pub now : OpeningValue → Trace → RowTable
 now o t = replay (opening_rows o) (committed t)
 
--- a root key stands that has opening rows, or that a committed transaction names
-abbrev pub stands : OpeningValue → Trace → ℕ → Bool
-stands o t root = not (length (opening_rows o root) == 0) || list_any (λ txn. txn.root == root) (committed t)
+-- A partition is folded only once the reconfiguration has ended, and then each root key is at its owner by the new plan.
+abbrev pub folds : OpeningValue → Trace → Step → Answer → RowTable → RowTable
+folds o t (Fold part) Done bases root = if destination o root == part then now o t root else bases root
+folds o t _ _ bases root = bases root
+
+-- the rows that a root key's log starts from: its rows at the last fold of its partition, or those of the opening
+abbrev pub base_of : OpeningValue → Trace → RowTable
+base_of o [] = opening_rows o
+base_of o ((step, answer) ∷ trace) = folds o trace step answer (base_of o trace)
+
+-- the log of a root key: the transactions on it that committed since the last fold of its partition
+abbrev pub log_of : OpeningValue → Trace → ℕ → List TxnValue
+log_of o t root = only root (unfolded t (destination o root))
 
 -- the log of a root key holds as many transactions as it can
-abbrev pub is_full : Trace → ℕ → Bool
-is_full t root = nat_le MAX_LOG (length (only root (committed t)))
+abbrev pub is_full : OpeningValue → Trace → ℕ → Bool
+is_full o t root = nat_le MAX_LOG (length (log_of o t root))
 
 -- the family of a root key that stands
 abbrev pub family_of : OpeningValue → Trace → ℕ → FamilyValue
-family_of o t root = record { root = root; base = opening_rows o root; log = only root (committed t) }
+family_of o t root = record { root = root; base = base_of o t root; log = log_of o t root }
+
+-- a root key stands whose log starts from some rows, or isn't empty
+abbrev pub stands : OpeningValue → Trace → ℕ → Bool
+stands o t root = family_stands (family_of o t root)
+
+-- the transactions on a root key that committed are those that its base was made by, and then its log
+pub record IsFolded (o : OpeningValue) (t : Trace) (root : ℕ) : Type 0 where
+  pub front : List TxnValue
+  pub commits : only root (committed t) ≡ front ++ log_of o t root
+  pub base : base_of o t root ≡ replay_rows (opening_rows o root) front
 
 -- the size in bytes of a root key's family
 abbrev pub size_of : OpeningValue → Trace → ℕ → ℕ

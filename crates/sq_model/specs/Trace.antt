@@ -4,12 +4,21 @@ use Rattle.sq_schema.specs.TxnValue.{TxnValue}
 use Rattle.sq_schema.specs.declared.txn.Reply.TheVariants.{Committed}
 use Rattle.sq_chunk.specs.declared.chunk.Note.{Note}
 use Rattle.sq_model.specs.declared.step.Step.{Step}
-use Rattle.sq_model.specs.declared.step.Step.TheVariants.{Submit, Resume, Cut, Push, Pop, Load}
+use Rattle.sq_model.specs.declared.step.Step.TheVariants.{Submit, Resume, Cut, Push, Pop, Load, Next, Fold}
 use Rattle.sq_model.specs.declared.answer.Answer.{Answer}
 use Rattle.sq_model.specs.declared.answer.Answer.TheVariants.{Done, Replied, Resumed, WasCut, WasLoaded}
 
 abbrev pub Trace : Type 0
 Trace = List (Step × Answer)
+
+abbrev pub enters : Step → Answer → ℕ → ℕ
+enters Next Done i = i + 1
+enters _ _ i = i
+
+-- the running stage: how many Nexts went
+abbrev pub stage : Trace → ℕ
+stage [] = 0
+stage ((step, answer) ∷ trace) = enters step answer (stage trace)
 
 abbrev pub commits : Step → Answer → List TxnValue → List TxnValue
 commits (Submit at txn) (Replied id (Committed answers)) txns = txns ++ txn ∷ []
@@ -20,6 +29,15 @@ commits _ _ txns = txns
 abbrev pub committed : Trace → List TxnValue
 committed [] = []
 committed ((step, answer) ∷ trace) = commits step answer (committed trace)
+
+abbrev pub clears : Step → Answer → ℕ → List TxnValue → List TxnValue
+clears (Fold which) Done part txns = if part == which then [] else txns
+clears _ _ part txns = txns
+
+-- the transactions that committed since the last fold of a partition, in order; all that did where it was never folded
+abbrev pub unfolded : Trace → ℕ → List TxnValue
+unfolded [] part = []
+unfolded ((step, answer) ∷ trace) part = clears step answer part (commits step answer (unfolded trace part))
 
 abbrev pub cuts : Step → Answer → List Note → List Note
 cuts (Cut src dst) (WasCut note families) notes = note ∷ notes

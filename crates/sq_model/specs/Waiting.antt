@@ -14,7 +14,7 @@ use Rattle.sq_model.specs.Place.{is_coming}
 
 -- a waiting transaction can run: its rows aren't on their way, and the log of its root key isn't full
 abbrev pub is_ready : OpeningValue → Trace → ℕ → TxnValue → Bool
-is_ready o t part txn = not (is_coming o t part txn.root) && not (is_full t txn.root)
+is_ready o t part txn = not (is_coming o t part txn.root) && not (is_full o t txn.root)
 
 -- those that wait without the first that can run
 abbrev pub without_ready : OpeningValue → Trace → ℕ → List TxnValue → List TxnValue

@@ -1,5 +1,5 @@
 -- Worked examples: what steps from one opening are answered.
-use Rattle.std.specs.Prelude.{ℕ, ℤ, pos, true, ◌==◌, List, [], ◌∷◌, ◌++◌, Some, None}
+use Rattle.std.specs.Prelude.{ℕ, ℤ, pos, true, false, ◌==◌, List, [], ◌∷◌, ◌++◌, Some, None}
 use Rattle.sq_schema.specs.declared.txn.Op.TheVariants as op
 use Rattle.sq_schema.specs.declared.txn.OpAnswer.TheVariants as op_answer
 use Rattle.sq_schema.specs.declared.txn.Reply.{Reply}
@@ -11,10 +11,11 @@ use Rattle.sq_schema.specs.declared.root.TheConstants.{ROOT_END}
 use Rattle.sq_tree.specs.declared.status.Status.TheVariants as status
 use Rattle.sq_tree.specs.declared.status.Reading.TheVariants as reads
 use Rattle.sq_chunk.specs.declared.chunk.Note.{Note}
+use Rattle.sq_plan.specs.declared.version.Version.TheVariants.{First}
 use Rattle.sq_ranges.specs.declared.recon.Range.{Range}
 use Rattle.sq_ranges.specs.OpeningValue.{OpeningValue}
 use Rattle.sq_model.specs.declared.step.Step.{Step}
-use Rattle.sq_model.specs.declared.step.Step.TheVariants.{Prepare, Start, Submit, Resume, Split, Claim, Begin, Cut, Push, Pop, Load, Complete, Report, Finish, Status}
+use Rattle.sq_model.specs.declared.step.Step.TheVariants.{Prepare, Start, Submit, Resume, Split, Claim, Begin, Cut, Push, Pop, Load, Complete, Report, Finish, Fold, Status}
 use Rattle.sq_model.specs.declared.answer.Answer.{Answer}
 use Rattle.sq_model.specs.declared.answer.Answer.TheVariants.{Done, Replied, Moved, Waits, Resumed, WasCut, WasLoaded, Reads, Refused}
 use Rattle.sq_model.specs.declared.answer.Refusal.TheVariants.{NotMoving, NoSuchSegment, NoSuchNode, NotFree, NotLive, IsLeaf, NotClaimed, WrongPull, NothingToCut, OutboxFull, OutboxEmpty, LinkFull, LinkEmpty, InboxEmpty, NotLoaded, AlreadyMoving, NotFinished, NoSuchPartition, NoneReady, NoSuchLink, NotPartial, NotPrepared}
@@ -29,12 +30,13 @@ four_keys limit capacity table =
     let moving : List Range = record { lo = 4; hi = 8; src = 0; dst = 1 } ∷ [] in
     record {
       tables = 8;
-      old = record { parts = 2; ranges = record { lo = 0; hi = ROOT_END; owner = 0 } ∷ [] };
+      old = record { version = First; parts = 2; ranges = record { lo = 0; hi = ROOT_END; owner = 0 } ∷ [] };
       new = record {
+        version = First;
         parts = 2;
         ranges = record { lo = 0; hi = 4; owner = 0 } ∷ record { lo = 4; hi = 8; owner = 1 } ∷ record { lo = 8; hi = ROOT_END; owner = 0 } ∷ [];
       };
-      recon = record { width = 1; ranges = moving; segments = moving };
+      recon = record { width = 1; ranges = moving; segments = moving; auto = false };
       config = record { width = 1; limit = limit; capacity = capacity };
       table = table;
     }
@@ -85,6 +87,20 @@ whole_path = begun ++ Claim 0 1 2 ∷ Begin 0 1 2 ∷ carried ++ Complete 0 1 2 
 
 abbrev pub whole_path_answers : List Answer
 whole_path_answers = begun_answers ++ Done ∷ Done ∷ carried_answers (noted 0 1 4 8) 1 ++ Done ∷ Done ∷ Done ∷ got 9 (pos 10) ∷ []
+
+-- the shortest whole path, and then the logs are folded: those of partition 0 of which there are none, and twice those of partition 1
+abbrev pub folded_twice : List Step
+folded_twice = whole_path ++ Fold 0 ∷ Fold 1 ∷ Submit 1 (add_one 10 5) ∷ Submit 1 (get_row 11 6) ∷ Fold 1 ∷ Fold 2 ∷ []
+
+abbrev pub folded_twice_answers : List Answer
+folded_twice_answers = whole_path_answers ++ Done ∷ Done ∷ Replied 10 (Committed (op_answer.Number (pos 11) ∷ [])) ∷ got_none 11 ∷ Done ∷ Refused NoSuchPartition ∷ []
+
+-- logs are folded only once the reconfiguration has ended
+abbrev pub folded_early : List Step
+folded_early = Fold 0 ∷ Fold 2 ∷ begun ++ Fold 0 ∷ []
+
+abbrev pub folded_early_answers : List Answer
+folded_early_answers = Refused NotFinished ∷ Refused NoSuchPartition ∷ begun_answers ++ Refused NotFinished ∷ []
 
 -- one root row with a note, which makes its family larger
 abbrev pub noted_row : ℤ → List ℕ → RowList

@@ -115,6 +115,8 @@ pub enum Refusal {
     NoneReady = 223,
     #[error("no range goes from the one partition to the other")]
     NoSuchLink = 224,
+    #[error("no stage comes after the running one")]
+    LastStage = 225,
     #[error("the node isn't partial")]
     NotPartial = 227,
     #[error("a partition isn't prepared")]

@@ -1,18 +1,21 @@
 // Laws of the definitions: worked examples, which the checker computes, two limits, and what every legal history keeps.
-ghost use Rattle.std.specs.Prelude.{◌≡◌, ◌≤◌, ◌<◌, ℕ, [], length, false, true, Some};
+ghost use Rattle.std.specs.Prelude.{◌≡◌, ◌≤◌, ◌<◌, ℕ, [], length, false, true, Some, pos};
 ghost use Rattle.sq_schema.specs.TxnValue.{TxnValue};
 ghost use Rattle.sq_ranges.specs.OpeningValue.{OpeningValue};
 ghost use Rattle.sq_ranges.specs.declared.opening.TheConstants.{MAX_WAITING};
 ghost use Rattle.sq_model.specs.Trace.{Trace, notes, loads};
-ghost use Rattle.sq_model.specs.Tables.{is_full};
+ghost use Rattle.sq_schema.specs.Family.{rows_of};
+ghost use Rattle.sq_model.specs.Tables.{IsFolded, now, stands, family_of, is_full};
 ghost use Rattle.sq_model.specs.Leader.{phase};
 ghost use Rattle.sq_model.specs.Place.{At, place, destination, runner};
 ghost use Rattle.sq_model.specs.Waiting.{waiting, has_to_wait};
 ghost use Rattle.sq_model.specs.Answers.{answer};
 ghost use Rattle.sq_ranges.specs.Opening.{IsOpening};
-ghost use Rattle.sq_model.specs.Legal.{IsLegal, answers};
+ghost use Rattle.sq_model.specs.Legal.{IsLegal, answers, after};
 ghost use Rattle.sq_model.specs.Orderly.{IsOrderly, CoverOnce};
-ghost use Rattle.sq_model.specs.Worked.{one_row, whole_path, whole_path_answers, given_up, given_up_answers, begun_again, begun_again_answers, two_families, two_chunks, two_chunks_answers, large_family, large_chunk, large_chunk_answers, three_families, full_link, full_link_answers, out_of_order, out_of_order_answers, waits_for_rows, waits_for_rows_answers, too_soon, too_soon_answers, resumed_in_order, resumed_in_order_answers, claimed_whole, claimed_whole_answers, claimed_half, claimed_half_answers, split_too_low, split_too_low_answers, empty_leaf, empty_leaf_answers, read_nodes, read_nodes_answers, wide_link, reactive_first, reactive_first_answers};
+ghost use Rattle.sq_model.specs.Staged.{TellsAlone};
+ghost use Rattle.sq_model.specs.WorkedStages.{two_stages, in_stages, in_stages_answers};
+ghost use Rattle.sq_model.specs.Worked.{one_row, whole_path, whole_path_answers, given_up, given_up_answers, begun_again, begun_again_answers, two_families, two_chunks, two_chunks_answers, large_family, large_chunk, large_chunk_answers, three_families, full_link, full_link_answers, out_of_order, out_of_order_answers, waits_for_rows, waits_for_rows_answers, too_soon, too_soon_answers, resumed_in_order, resumed_in_order_answers, claimed_whole, claimed_whole_answers, claimed_half, claimed_half_answers, split_too_low, split_too_low_answers, empty_leaf, empty_leaf_answers, read_nodes, read_nodes_answers, wide_link, reactive_first, reactive_first_answers, row, folded_twice, folded_twice_answers, folded_early, folded_early_answers};
 
 use crate::answer::{Answer, Refusal};
 use crate::step::{Phase, Step};
@@ -97,9 +100,40 @@ pub fn cuts_reactive_first()
     ensures { answers wide_link [] reactive_first ≡ reactive_first_answers }
 {}
 
+/// A move in two stages: segments and links of the other stage are refused, a root key of it is still run by its source, and
+/// each stage ends once its reports came.
+pub fn moves_in_stages()
+    ensures { answers two_stages [] in_stages ≡ in_stages_answers }
+{}
+
+/// Whatever the steps: the steps since the last Next that went tell where each root key is, who runs it, and the statuses,
+/// notes and loads of the running stage, if a root key that moved in a stage before counts as its new owner's.
+pub fn tells_by_stage()
+    ensures { (o : OpeningValue) (t : Trace) → IsOpening o → IsLegal o t → TellsAlone o t }
+{}
+
+/// A family whose log was folded starts from its rows; one that has none goes.
+pub fn folds_logs()
+    ensures answers { answers one_row [] folded_twice ≡ folded_twice_answers }
+    ensures family { family_of one_row (after one_row [] folded_twice) 5 ≡ record { root = 5; base = row (pos 11); log = [] } }
+    ensures gone { stands one_row (after one_row [] folded_twice) 6 ≡ false }
+{}
+
+/// Logs are folded only once the reconfiguration has ended.
+pub fn folds_only_at_the_end()
+    ensures { answers one_row [] folded_early ≡ folded_early_answers }
+{}
+
 /// A log that is full takes no further transaction, whatever came before.
 pub fn refuses_at_a_full_log()
-    ensures { (o : OpeningValue) (t : Trace) (part : ℕ) (txn : TxnValue) → part < o.old.parts → has_to_wait o t part txn.root ≡ false → runner o t txn.root ≡ Some part → is_full t txn.root ≡ true → answer o t (Step.Submit part txn) ≡ Answer.Refused Refusal.LogFull }
+    ensures { (o : OpeningValue) (t : Trace) (part : ℕ) (txn : TxnValue) → part < o.old.parts → has_to_wait o t part txn.root ≡ false → runner o t txn.root ≡ Some part → is_full o t txn.root ≡ true → answer o t (Step.Submit part txn) ≡ Answer.Refused Refusal.LogFull }
+{}
+
+/// However often logs were folded: the transactions on a root key that committed are those that the rows its log starts
+/// from were made by, and then its log; so its family's rows are those of the one table.
+pub fn folds_lose_nothing()
+    ensures folded { (o : OpeningValue) (t : Trace) (root : ℕ) → IsFolded o t root }
+    ensures rows { (o : OpeningValue) (t : Trace) (root : ℕ) → rows_of (family_of o t root) ≡ now o t root }
 {}
 
 /// Where as many wait as can, a further transaction isn't let in, whatever came before.

@@ -60,8 +60,12 @@ pub enum Step {
     },
     /// A partition reports that all that moves to it is complete.
     Report(u64),
+    /// The leader ends the running stage, and the next one runs.
+    Next,
     /// The leader ends the reconfiguration.
     Finish,
+    /// A partition's logs are folded, once the reconfiguration has ended: each family starts anew from its rows.
+    Fold(u64),
     /// A node of a segment is looked at, which changes nothing.
     Status {
         seg: u64,

@@ -1,13 +1,18 @@
 -- Links that are opened one after another, with their ends.
-use Rattle.std.proofs.Common.{◌≡◌, ℕ, zero, suc, ◌+◌, ◌<◌, ◌≤◌, List, [], ◌∷◌, ◌++◌, length, get_or, map, take, Option, Some, None, refl, sym, ap, ◌∙◌, ⊎_elim, length-append, arith}
+use Rattle.std.proofs.Common.{◌≡◌, ℕ, zero, suc, ◌+◌, ◌<◌, ◌≤◌, List, [], ◌∷◌, ◌++◌, length, get_or, map, take, Option, Some, None, refl, sym, ap, ◌∙◌, subst, ⊎_elim, length-append, arith}
 use Rattle.std.proofs.lemmas.Bool.{cases_lt}
 use Rattle.std.proofs.lemmas.List.{length-map, length-take, map-append, take_more}
+use Rattle.std.specs.Prelude.{◌==◌, ◌&&◌, Bool, true, filter, Contains}
+use Rattle.std.proofs.lemmas.Bool.{cases_Bool, and_parts, and_from}
+use Rattle.std.proofs.lemmas.List.Kept.{IsStrictlySortedBy-filter}
+use Rattle.sq_model.proofs.Lists.{Contains-nothing, Contains-first, Contains-later, Contains-cases, Contains-filter, filter-first, filter-other}
+use Rattle.sq_ranges.specs.ReconValue.{ReconValue, AreLinks, is_link, stage_on, link_cmp}
 use Rattle.sq_ranges.specs.declared.recon.Link.{Link}
 use Rattle.sq_link.specs.Values.{LinkValue, SendValue, RecvValue}
 use Rattle.sq_node.specs.declared.ends.SendEnd.{SendEnd}
 use Rattle.sq_node.specs.declared.ends.RecvEnd.{RecvEnd}
 use Rattle.sq_node.specs.Ends.{no_link, link_at}
-use Rattle.sq_node.specs.FabricValue.{ends_of}
+use Rattle.sq_node.specs.FabricValue.{ends_of, AreStageLinks}
 use Rattle.sq_node.specs.Opened.{HasAllEnds}
 
 before : {X : Type 0} (xs : List X) (x d : X) (k : ℕ) → k < length xs → get_or (xs ++ x ∷ []) k d ≡ get_or xs k d
@@ -56,3 +61,28 @@ ends_more links sends recvs at link send recv are here send_is recv_is =
       each_send = each_more {X = SendEnd} (λ l i. record { link = i; pass = record { queue = l.queue; sent = [] } }) links sends link out are.count_sends (λ k. record { link = here k; pass = send_is k }) are.each_send;
       each_recv = each_more {X = RecvEnd} (λ l i. record { link = i; pass = record { queue = l.queue; received = [] } }) links recvs link into are.count_recvs (λ k. record { link = here k; pass = recv_is k }) are.each_recv;
     }
+
+-- what a filter keeps is of the list, and passes
+filter_in : {X : Type 0} (p : X → Bool) (xs : List X) (x : X) → Contains (filter p xs) x → Contains xs x × (p x ≡ true)
+filter_in p [] x has = absurd (Contains-nothing x has)
+filter_in p (y ∷ xs) x has =
+    ⊎_elim
+    (λ passes.
+    ⊎_elim
+    (λ same. (subst (Contains (y ∷ xs)) same (Contains-first y xs), ap p (sym same) ∙ passes))
+    (λ later. let rest = filter_in p xs x later in (Contains-later y xs x rest.0, rest.1))
+    (Contains-cases y (filter p xs) x (subst (λ list. Contains list x) (filter-first p y xs passes) has)))
+    (λ fails. let rest = filter_in p xs x (subst (λ list. Contains list x) (filter-other p y xs fails) has) in (Contains-later y xs x rest.0, rest.1))
+    (cases_Bool (p y))
+
+-- the links of all ranges that run in a stage are those of the stage
+pub stage_links_are : (recon : ReconValue) (stage : ℕ) (links : List Link) → AreLinks recon.ranges links → AreStageLinks recon stage (filter (λ link. stage_on recon link.src link.dst == stage) links)
+stage_links_are recon stage links are = record {
+  rising = IsStrictlySortedBy-filter link_cmp (λ (link : Link). stage_on recon link.src link.dst == stage) links are.rising;
+  all = λ link. (
+    λ has. let kept = filter_in (λ (one : Link). stage_on recon one.src one.dst == stage) links link has in
+        and_from (is_link recon.ranges link.src link.dst) (stage_on recon link.src link.dst == stage) ((are.all link).0 kept.0) kept.1,
+    λ both. let parts = and_parts (is_link recon.ranges link.src link.dst) (stage_on recon link.src link.dst == stage) both in
+        Contains-filter (λ (one : Link). stage_on recon one.src one.dst == stage) links link ((are.all link).1 parts.0) parts.1,
+  );
+}

@@ -1,6 +1,6 @@
 -- Nodes that are opened one after another.
 use Rattle.std.proofs.Common.{◌≡◌, ℕ, suc, ◌+◌, ◌<◌, true, false, List, [], ◌∷◌, ◌++◌, length, get_or, map, Option, Some, None, refl, sym, ap, ◌∙◌, subst, ⊎_elim, length-append, arith}
-use Rattle.std.specs.Prelude.{◌⊎◌, ◌≢◌, slice_get, Result, Ok, Err, IfOk}
+use Rattle.std.specs.Prelude.{◌==◌, ◌&&◌, Bool, if◌then◌else◌, nat_lt, ◌⊎◌, ◌≢◌, slice_get, Result, Ok, Err, IfOk}
 use Rattle.std.specs.Option.{option_map_or}
 use Rattle.std.proofs.lemmas.List.{length-replicate}
 use Rattle.std.proofs.lemmas.Option.{same_Some, slice_get_within, slice_get-get_or}
@@ -16,6 +16,13 @@ use Rattle.sq_exec.specs.GivenUp.{none_given_up}
 use Rattle.sq_exec.specs.OutLink.{new_out_link}
 use Rattle.sq_exec.specs.CoreValue.{CoreValue, loaded_at}
 use Rattle.sq_opened.specs.Opened.{opened_part, HasOwned}
+use Rattle.std.proofs.lemmas.Bool.Decides.{nat_tests}
+use Rattle.sq_model.specs.Place.{source}
+use Rattle.sq_store.specs.StoreValue.{StoreValue}
+use Rattle.sq_node_model.proofs.Staged.{key_stage, unmoved_source}
+use Rattle.sq_node_model.specs.BeganWith.{is_opened, opening_family, first_began}
+use Rattle.sq_node_model.specs.Cores.{OpensWith}
+use Rattle.sq_node_model.proofs.Began.{first_can}
 use Rattle.sq_node_model.specs.Cores.{IsUnused}
 use Rattle.sq_node_model.proofs.CoreNew.{core_new, get_or-same}
 use Rattle.sq_node_model.proofs.Members.{push_stood}
@@ -58,6 +65,22 @@ unused trees seats sends recvs new unsent unreceived =
     received_at src None is = refl
     received_at src (Some end) is = unreceived src end is
 
+swap_tests : {X : Type 0} (a b : Bool) (x : X) → (if a && b then Some x else None) ≡ (if b then (if a then Some x else None) else None)
+swap_tests true true x = refl
+swap_tests true false x = refl
+swap_tests false true x = refl
+swap_tests false false x = refl
+
+none_earlier : (n : ℕ) → nat_lt n 0 ≡ false
+none_earlier n = grind (arith, nat_tests)
+
+-- the families of the opening rows are what the first stage begins with
+owned_opens : (o : OpeningValue) (part : ℕ) (store : StoreValue) → HasOwned o part store → OpensWith o (first_began o) part store
+owned_opens o part store owned root =
+    owned root
+    ∙ swap_tests (is_opened o root) (source o root == part) (opening_family o root)
+    ∙ ap (λ p. if p == part then if is_opened o root then Some (opening_family o root) else None else None) (sym (unmoved_source o 0 root (none_earlier (key_stage o root))))
+
 -- a node is new that is made of a partition that opens, of new seats and of ends that nothing was sent and received by
 pub new_node : (o : OpeningValue) (fabric : FabricValue) (part : ℕ) (core : CoreValue) (seats : List SeatValue) (sends : List (Option SendEnd)) (recvs : List (Option RecvEnd)) (node : NodeState)
     → IsFabricOf o fabric → part < o.old.parts → core ≡ opened_part o part → HasOwned o part core.store → AreNewSeats fabric.trees seats
@@ -68,6 +91,7 @@ new_node o fabric part core seats sends recvs node shared below opened owned new
     (record {
       of = record {
         recon = sym shared.recon;
+        stage = sym shared.stage;
         parts = sym shared.parts;
         below = subst (λ (parts : ℕ). part < parts) (sym shared.parts) below;
         seats = new.of;
@@ -83,8 +107,8 @@ new_node o fabric part core seats sends recvs node shared below opened owned new
       receipts = refl;
       claims = refl;
       holds = record {
-        core = record { plan = refl; recon = refl; outs = length-replicate o.old.parts new_out_link; given_up = length-replicate (length o.recon.segments) none_given_up; loaded = length-replicate (length o.recon.segments) [] };
-        holds = core_new o part (opened_part o part).store below (subst (λ (c : CoreValue). HasOwned o part c.store) opened owned) (views_of seats) (sent_by sends) (received_by recvs) (unused fabric.trees seats sends recvs new out.1 into.1);
+        core = record { plan = refl; recon = refl; stage = refl; outs = length-replicate o.old.parts new_out_link; given_up = length-replicate (length o.recon.segments) none_given_up; loaded = length-replicate (length o.recon.segments) [] };
+        holds = core_new o (first_began o) (first_can o) part (opened_part o part).store below (owned_opens o part (opened_part o part).store (subst (λ (c : CoreValue). HasOwned o part c.store) opened owned)) (views_of seats) (sent_by sends) (received_by recvs) (unused fabric.trees seats sends recvs new out.1 into.1);
       };
     })
 
@@ -93,7 +117,7 @@ same_node : (o : OpeningValue) (fabric : FabricValue) (seats : List SeatValue) (
 same_node o fabric seats part node new =
     let of = new.of in
     let still : IsNodeOf (record fabric { seats = seats }) node =
-    record { recon = of.recon; parts = of.parts; below = of.below; seats = of.seats; sends = of.sends; recvs = of.recvs; all_sends = of.all_sends; all_recvs = of.all_recvs } in
+    record { recon = of.recon; stage = of.stage; parts = of.parts; below = of.below; seats = of.seats; sends = of.sends; recvs = of.recvs; all_sends = of.all_sends; all_recvs = of.all_recvs } in
     record { of = still; core = new.core; seats = new.seats; sends = new.sends; recvs = new.recvs; receipts = new.receipts; claims = new.claims; holds = new.holds }
 
 pub same_nodes : (o : OpeningValue) (old new : FabricValue) (count : ℕ) (nodes : List NodeState) → new ≡ record old { seats = new.seats } → AreNewNodes o old count nodes → AreNewNodes o new count nodes
@@ -158,7 +182,7 @@ opened_node o fabric part core seats sends recvs (Err fault) shared below opened
 -- what is shared fits an opening whatever seats it keeps
 pub same_shared : (o : OpeningValue) (old new : FabricValue) → new ≡ record old { seats = new.seats } → IsFabricOf o old → IsFabricOf o new
 same_shared o old new same shared =
-    subst (IsFabricOf o) (sym same) (record { recon = shared.recon; parts = shared.parts; capacity = shared.capacity })
+    subst (IsFabricOf o) (sym same) (record { recon = shared.recon; stage = shared.stage; parts = shared.parts; capacity = shared.capacity })
 
 -- one more pump
 pub more_pumps : (old new : FabricValue) (count : ℕ) (pumps : List PumpValue) (pump : PumpValue) → new ≡ record old { seats = new.seats } → AreNewPumps old count pumps → IsNewPump old count pump

@@ -32,6 +32,7 @@ pub record SamePart (old new : CoreValue) : Type 0 where
   pub part : new.part ≡ old.part
   pub plan : new.plan ≡ old.plan
   pub recon : new.recon ≡ old.recon
+  pub stage : new.stage ≡ old.stage
 
 stays : (fabric : FabricValue) (old new : NodeState) → SamePart old.core new.core → AreSeatsOf fabric.trees new.seats
     → AreSendEnds fabric.links old.core.part new.sends → AreRecvEnds fabric.links old.core.part new.recvs
@@ -39,6 +40,7 @@ stays : (fabric : FabricValue) (old new : NodeState) → SamePart old.core new.c
 stays fabric old new same seats sends recvs all_sends all_recvs is =
     record {
       recon = same.recon ∙ is.recon;
+      stage = same.stage ∙ is.stage;
       parts = ap (λ (p : PlanValue). p.parts) same.plan ∙ is.parts;
       below = omega (arith, same.part, is.below);
       seats = seats;
@@ -59,17 +61,17 @@ same_node : (fabric : FabricValue) (old new : NodeState) → new ≡ old → IsN
 same_node fabric old new is of = subst (IsNodeOf fabric) (sym is) of
 
 same_part : (core : CoreValue) → SamePart core core
-same_part core = record { part = refl; plan = refl; recon = refl }
+same_part core = record { part = refl; plan = refl; recon = refl; stage = refl }
 
 pub cut_stays : (fabric : FabricValue) (old : NodeState) (answer : Stepped) (new : NodeState) → CutStep old answer new → IsNodeOf fabric old → IsNodeOf fabric new
 cut_stays fabric old Did new step of =
-    core_stays fabric old new (record old { core = new.core }) step.1.after refl refl (subst (SamePart old.core) (sym step.1.cut.after) (record { part = refl; plan = refl; recon = refl })) of.seats of
+    core_stays fabric old new (record old { core = new.core }) step.1.after refl refl (subst (SamePart old.core) (sym step.1.cut.after) (record { part = refl; plan = refl; recon = refl; stage = refl })) of.seats of
 cut_stays fabric old Nothing new step of = same_node fabric old new step.0 of
 cut_stays fabric old Memory new step of = same_node fabric old new step of
 
 pub load_stays : (fabric : FabricValue) (old : NodeState) (answer : Stepped) (new : NodeState) → LoadStep old answer new → IsNodeOf fabric old → IsNodeOf fabric new
 load_stays fabric old Did new step of =
-    core_stays fabric old new (record old { core = new.core }) step.1.after refl refl (subst (SamePart old.core) (sym step.1.load.after) (record { part = refl; plan = refl; recon = refl })) of.seats of
+    core_stays fabric old new (record old { core = new.core }) step.1.after refl refl (subst (SamePart old.core) (sym step.1.load.after) (record { part = refl; plan = refl; recon = refl; stage = refl })) of.seats of
 load_stays fabric old Nothing new step of = same_node fabric old new step.0 of
 load_stays fabric old Memory new step of = same_node fabric old new step of
 
@@ -106,7 +108,7 @@ send_stays fabric old Did new step of =
     let sends = step.1 in
     let dst = step.0 in
     subst (IsNodeOf fabric) (sym sends.after)
-    (stays fabric old _ (record { part = refl; plan = refl; recon = refl }) of.seats
+    (stays fabric old _ (record { part = refl; plan = refl; recon = refl; stage = refl }) of.seats
     (ends_stay old.sends dst sends.end _ sends.there of.sends refl refl) of.recvs (length-set old.sends dst _) refl of)
 send_stays fabric old Nothing new step of = same_node fabric old new step.0 of
 send_stays fabric old Memory new step of = absurd step
@@ -116,7 +118,7 @@ recv_stays fabric old Did new step of =
     let receives = step.1 in
     let src = step.0 in
     subst (IsNodeOf fabric) (sym receives.after)
-    (stays fabric old _ (record { part = refl; plan = refl; recon = refl }) of.seats of.sends
+    (stays fabric old _ (record { part = refl; plan = refl; recon = refl; stage = refl }) of.seats of.sends
     (ends_stay old.recvs src receives.end _ receives.there of.recvs refl refl) refl (length-set old.recvs src _) of)
 recv_stays fabric old Nothing new step of = same_node fabric old new step.0 of
 recv_stays fabric old Memory new step of = absurd step
@@ -140,8 +142,8 @@ request_stays fabric old Did new step of =
     core_stays fabric old new _ step.after refl refl (begun_part (slice_get old.core.recon.segments step.seg)) (seats_stay fabric.trees step.seg _ old.seats new.seats step.won of.seats) of
   where
     begun_part : (segment : Option Range) → SamePart old.core (begun_in old.core step.seg step.node step.pull segment)
-    begun_part None = record { part = refl; plan = refl; recon = refl }
-    begun_part (Some segment) = record { part = refl; plan = refl; recon = refl }
+    begun_part None = record { part = refl; plan = refl; recon = refl; stage = refl }
+    begun_part (Some segment) = record { part = refl; plan = refl; recon = refl; stage = refl }
 request_stays fabric old Nothing new step of =
     core_stays fabric old new _ step.after refl refl (same_part old.core) (looked_seats fabric.trees old.seats new.seats step.seats of.seats) of
 request_stays fabric old Memory new step of = same_node fabric old new step of
@@ -157,9 +159,9 @@ complete_stays fabric old Memory new step of = absurd step
 
 taken_part : (waits : Bool) (old new : CoreValue) (txn : TxnValue) (outcome : Outcome) → IsTaken waits old txn outcome new → SamePart old new
 taken_part true old new txn outcome taken =
-    record { part = ap (λ (c : CoreValue). c.part) taken.last; plan = ap (λ (c : CoreValue). c.plan) taken.last; recon = ap (λ (c : CoreValue). c.recon) taken.last }
+    record { part = ap (λ (c : CoreValue). c.part) taken.last; plan = ap (λ (c : CoreValue). c.plan) taken.last; recon = ap (λ (c : CoreValue). c.recon) taken.last; stage = ap (λ (c : CoreValue). c.stage) taken.last }
 taken_part false old new txn outcome taken =
-    record { part = ap (λ (c : CoreValue). c.part) taken.after; plan = ap (λ (c : CoreValue). c.plan) taken.after; recon = ap (λ (c : CoreValue). c.recon) taken.after }
+    record { part = ap (λ (c : CoreValue). c.part) taken.after; plan = ap (λ (c : CoreValue). c.plan) taken.after; recon = ap (λ (c : CoreValue). c.recon) taken.after; stage = ap (λ (c : CoreValue). c.stage) taken.after }
 
 claimed_seats : (trees : List TableId) (outcome : Outcome) (old new : NodeState) → ClaimsFor outcome old new → AreSeatsOf trees old.seats → AreSeatsOf trees new.seats
 claimed_seats trees (Done reply) old new none of = subst (AreSeatsOf trees) (sym none.0) of
@@ -178,6 +180,6 @@ pub resume_stays : (fabric : FabricValue) (old : NodeState) (answer : Stepped) (
 resume_stays fabric old Did new step of =
     let taken = step.taken in
     core_stays fabric old new _ step.after refl refl
-    (record { part = ap (λ (c : CoreValue). c.part) taken.after; plan = ap (λ (c : CoreValue). c.plan) taken.after; recon = ap (λ (c : CoreValue). c.recon) taken.after }) of.seats of
+    (record { part = ap (λ (c : CoreValue). c.part) taken.after; plan = ap (λ (c : CoreValue). c.plan) taken.after; recon = ap (λ (c : CoreValue). c.recon) taken.after; stage = ap (λ (c : CoreValue). c.stage) taken.after }) of.seats of
 resume_stays fabric old Nothing new step of = same_node fabric old new step.0 of
 resume_stays fabric old Memory new step of = same_node fabric old new step of

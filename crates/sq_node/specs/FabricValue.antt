@@ -1,16 +1,18 @@
 -- What the nodes of a run share.
-use Rattle.std.specs.Prelude.{◌≡◌, ℕ, ◌≤◌, true, List, length, map, slice_get, Some}
+use Rattle.std.specs.Prelude.{◌≡◌, ◌↔◌, ℕ, ◌≤◌, true, ◌==◌, ◌&&◌, List, length, map, slice_get, Some, Contains}
+use Rattle.std.specs.List.Sorted.{IsStrictlySortedBy}
 use Rattle.atomic_table.specs.Seated.{TableId}
 use Rattle.sq_ranges.specs.declared.recon.Link.{Link}
 use Rattle.sq_ranges.specs.declared.segment.TheConstants.{SEGMENT_LIMIT}
-use Rattle.sq_ranges.specs.ReconValue.{ReconValue, AreLinks}
+use Rattle.sq_ranges.specs.ReconValue.{ReconValue, is_link, stage_on, link_cmp}
 use Rattle.sq_link.specs.Values.{LinkValue}
 use Rattle.sq_status.specs.Seat.{SeatValue}
 use Rattle.sq_pull.specs.Seats.{AreSeatsOf}
 
--- what moves, how many partitions there are, for each segment its tree and the seat that the tree was opened with, and the links
+-- what moves, which stage runs, how many partitions there are, for each segment its tree and the seat that the tree was opened with, and the links
 pub record FabricValue : Type 0 where
   pub recon : ReconValue
+  pub stage : ℕ
   pub parts : ℕ
   pub trees : List TableId
   pub seats : List SeatValue
@@ -23,10 +25,15 @@ ends_of link = record { src = link.src; dst = link.dst }
 abbrev pub AreFirst : List SeatValue → Type 0
 AreFirst seats = (seg : ℕ) (seat : SeatValue) → slice_get seats seg ≡ Some seat → seat.view.first ≡ true
 
--- there are no more segments than there may be, each has a tree, and each of the ranges' links is there
+-- the links along which keys go in this stage, strictly rising
+pub record AreStageLinks (recon : ReconValue) (stage : ℕ) (links : List Link) : Type 0 where
+  pub rising : IsStrictlySortedBy link_cmp links
+  pub all : (link : Link) → Contains links link ↔ ((is_link recon.ranges link.src link.dst && (stage_on recon link.src link.dst == stage)) ≡ true)
+
+-- there are no more segments than there may be, each has a tree, and each link of the stage is there
 pub record IsFabric (fabric : FabricValue) : Type 0 where
   pub few : length fabric.recon.segments ≤ SEGMENT_LIMIT
   pub trees : length fabric.trees ≡ length fabric.recon.segments
   pub seats : AreSeatsOf fabric.trees fabric.seats
   pub first : AreFirst fabric.seats
-  pub links : AreLinks fabric.recon.ranges (map ends_of fabric.links)
+  pub links : AreStageLinks fabric.recon fabric.stage (map ends_of fabric.links)

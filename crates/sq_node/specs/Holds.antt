@@ -1,15 +1,16 @@
 -- What holds of a node, whatever the other threads do.
 use Rattle.sq_ranges.specs.OpeningValue.{OpeningValue}
 use Rattle.sq_ranges.specs.Opening.{IsOpening}
+use Rattle.sq_node_model.specs.BeganWith.{BeganWith}
 use Rattle.sq_node_model.specs.NodeHolds.{NodeHolds}
 use Rattle.sq_node_model.specs.Cores.{IsCoreOf}
 use Rattle.sq_node.specs.NodeState.{NodeState, node_value}
 
--- the partition is of the opening, and what a node keeps holds of the node
-pub record HoldsUnder (o : OpeningValue) (node : NodeState) : Type 0 where
-  pub core : IsCoreOf o node.core
-  pub holds : NodeHolds o (node_value node)
+-- the partition is of the opening and of the stage, and what a node keeps holds of the node
+pub record HoldsUnder (o : OpeningValue) (began : BeganWith) (node : NodeState) : Type 0 where
+  pub core : IsCoreOf o began.stage node.core
+  pub holds : NodeHolds o began (node_value node)
 
--- what a node keeps holds still, under each opening under which it did
+-- what a node keeps holds still, under each opening, and each beginning of a stage, under which it did
 abbrev pub KeepsAll : NodeState → NodeState → Type 0
-KeepsAll old new = (o : OpeningValue) → IsOpening o → HoldsUnder o old → HoldsUnder o new
+KeepsAll old new = (o : OpeningValue) (began : BeganWith) → IsOpening o → HoldsUnder o began old → HoldsUnder o began new

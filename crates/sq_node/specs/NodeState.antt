@@ -27,6 +27,7 @@ pub record NodeState : Type 0 where
 -- the node is one of those that the fabric was opened with
 pub record IsNodeOf (fabric : FabricValue) (node : NodeState) : Type 0 where
   pub recon : node.core.recon ≡ fabric.recon
+  pub stage : node.core.stage ≡ fabric.stage
   pub parts : node.core.plan.parts ≡ fabric.parts
   pub below : node.core.part < fabric.parts
   pub seats : AreSeatsOf fabric.trees node.seats

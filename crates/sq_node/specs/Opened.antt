@@ -1,8 +1,7 @@
 -- What a run opens with.
 use Rattle.std.specs.Prelude.{◌≡◌, ◌≢◌, ℕ, ◌+◌, ◌<◌, true, false, List, [], length, map, slice_get, slice_index_or, Option, Some, None}
 use Rattle.atomic_table.specs.Seated.{TableId}
-use Rattle.sq_ranges.specs.declared.recon.Range.{Range}
-use Rattle.sq_ranges.specs.ReconValue.{AreLinks}
+use Rattle.sq_ranges.specs.ReconValue.{ReconValue}
 use Rattle.sq_ranges.specs.OpeningValue.{OpeningValue}
 use Rattle.sq_link.specs.Values.{LinkValue}
 use Rattle.sq_status.specs.declared.view.View.{View}
@@ -13,10 +12,11 @@ use Rattle.sq_opened.specs.Opened.{opened_part}
 use Rattle.sq_pull.specs.Seats.{AreSeatsOf}
 use Rattle.sq_pull.specs.Wins.{no_wins}
 use Rattle.sq_pull.specs.Pump.{PumpValue}
+use Rattle.sq_node_model.specs.BeganWith.{first_began}
 use Rattle.sq_node.specs.declared.ends.SendEnd.{SendEnd}
 use Rattle.sq_node.specs.declared.ends.RecvEnd.{RecvEnd}
 use Rattle.sq_node.specs.Ends.{link_at, send_end, recv_end}
-use Rattle.sq_node.specs.FabricValue.{FabricValue, ends_of}
+use Rattle.sq_node.specs.FabricValue.{FabricValue, ends_of, AreStageLinks}
 use Rattle.sq_node.specs.NodeState.{NodeState, IsNodeOf}
 use Rattle.sq_node.specs.Holds.{HoldsUnder}
 
@@ -50,9 +50,9 @@ pub record GaveEach (old new : List SeatValue) : Type 0 where
   pub count : length new ≡ length old
   pub each : (seg : ℕ) (before : SeatValue) → slice_get old seg ≡ Some before → slice_get new seg ≡ Some (record { tree = before.tree; view = gave before.view })
 
--- new links for these ranges, each of which holds this many chunks
-pub record AreNewLinks (ranges : List Range) (capacity : ℕ) (links : List LinkValue) : Type 0 where
-  pub ends : AreLinks ranges (map ends_of links)
+-- new links for a stage of a move, each of which holds this many chunks
+pub record AreNewLinks (recon : ReconValue) (stage capacity : ℕ) (links : List LinkValue) : Type 0 where
+  pub ends : AreStageLinks recon stage (map ends_of links)
   pub holds : (i : ℕ) (link : LinkValue) → slice_get links i ≡ Some link → link.capacity ≡ capacity
 
 -- the ends of all links, each where its link stands
@@ -103,11 +103,12 @@ pub record IsNewNode (o : OpeningValue) (fabric : FabricValue) (part : ℕ) (nod
   pub recvs : HaveReceivedNothing node.recvs
   pub receipts : node.receipts ≡ []
   pub claims : node.claims ≡ 0
-  pub holds : HoldsUnder o node
+  pub holds : HoldsUnder o (first_began o) node
 
--- what a run shares fits an opening: what moves, how many partitions there are, and how many chunks a link holds
+-- what a run shares fits an opening, whose first stage runs: what moves, how many partitions there are, and how many chunks a link holds
 pub record IsFabricOf (o : OpeningValue) (fabric : FabricValue) : Type 0 where
   pub recon : fabric.recon ≡ o.recon
+  pub stage : fabric.stage ≡ 0
   pub parts : fabric.parts ≡ o.old.parts
   pub capacity : (i : ℕ) (link : LinkValue) → slice_get fabric.links i ≡ Some link → link.capacity ≡ o.config.capacity
 

@@ -1,5 +1,5 @@
 -- What each step of a node does to it.
-use Rattle.std.specs.Prelude.{◌≡◌, ℕ, ◌+◌, ◌<◌, ◌⊎◌, true, false, List, [], ◌∷◌, ◌++◌, length, slice_get, slice_set, slice_index_or, Option, Some, None, IsSome, is_some, Contains}
+use Rattle.std.specs.Prelude.{◌≡◌, ℕ, Bool, ◌+◌, ◌<◌, ◌==◌, ◌&&◌, ◌⊎◌, true, false, List, [], ◌∷◌, ◌++◌, length, slice_get, slice_set, slice_index_or, Option, Some, None, IsSome, is_some, Contains}
 use Rattle.crossbeam_queue.specs.Fifo.{Held}
 use Rattle.sq_schema.specs.TxnValue.{TxnValue}
 use Rattle.sq_schema.specs.declared.txn.Reply.{Reply}
@@ -8,6 +8,7 @@ use Rattle.sq_tree.specs.declared.status.Status.TheVariants.{Partial}
 use Rattle.sq_tree.specs.Node.{is_node}
 use Rattle.sq_tree.specs.Status.{is_partial}
 use Rattle.sq_ranges.specs.declared.recon.Range.{Range}
+use Rattle.sq_ranges.specs.ReconValue.{stage_on, stage_in}
 use Rattle.sq_status.specs.declared.view.View.{View}
 use Rattle.sq_status.specs.Plays.{Found, Won}
 use Rattle.sq_status.specs.Seat.{SeatValue}
@@ -88,17 +89,21 @@ RecvStep old Did new = (src : ℕ) × Receives old src new
 RecvStep old Nothing new = (new ≡ old) × ((src : ℕ) → HasNoneToReceive old src)
 RecvStep old Memory new = ⊥
 
+-- a chunk came from this partition that can be loaded, and keys come from it in the running stage
+abbrev pub may_load_now : CoreValue → ℕ → Bool
+may_load_now core src = (stage_on core.recon src core.part == core.stage) && may_load core src
+
 -- the chunk that came from this partition was loaded
 pub record Loads (old : NodeState) (src : ℕ) (new : NodeState) : Type 0 where
   pub note : Note
-  pub can : may_load old.core src ≡ true
+  pub can : may_load_now old.core src ≡ true
   pub load : LoadsFrom old.core src note new.core
   pub sound : IsChunk load.chunk
   pub after : new ≡ record old { core = new.core }
 
 abbrev pub LoadStep : NodeState → Stepped → NodeState → Type 0
 LoadStep old Did new = (src : ℕ) × Loads old src new
-LoadStep old Nothing new = (new ≡ old) × ((src : ℕ) → may_load old.core src ≡ false)
+LoadStep old Nothing new = (new ≡ old) × ((src : ℕ) → may_load_now old.core src ≡ false)
 LoadStep old Memory new = new ≡ old
 
 -- nothing happened at a node but looks
@@ -106,11 +111,12 @@ pub record Looks (old new : NodeState) : Type 0 where
   pub seats : SeatsLooked old.seats new.seats
   pub after : new ≡ record old { seats = new.seats }
 
--- it is a node of a segment that leaves this partition
+-- it is a node of a segment that leaves this partition in the running stage
 pub record IsOutward (core : CoreValue) (seg n : ℕ) : Type 0 where
   pub segment : Range
   pub there : slice_get core.recon.segments seg ≡ Some segment
   pub leaves : segment.src ≡ core.part
+  pub runs : stage_in core.recon segment ≡ core.stage
   pub node : is_node n ≡ true
 
 -- a node of a segment that leaves here was begun

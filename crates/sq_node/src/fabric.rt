@@ -26,6 +26,7 @@ pub const JOB_PLACES: usize = 4096;
 #[derive(Drop)]
 pub struct Fabric {
     recon: Recon,
+    stage: u64,
     parts: u8,
     trees: Vec<StatusTree>,
     seats: Vec<TreeSeat>,
@@ -41,9 +42,9 @@ impl Model for Fabric {
 
     ghost Value = { FabricValue };
 
-    ghost view = { λ f. record { recon = f.recon; parts = f.parts; trees = f.trees.items; seats = f.seats.items; links = f.links.items } };
+    ghost view = { λ f. record { recon = f.recon; stage = f.stage; parts = f.parts; trees = f.trees.items; seats = f.seats.items; links = f.links.items } };
 
-    ghost invariant = { λ f. IsFabric (record { recon = f.recon; parts = f.parts; trees = f.trees.items; seats = f.seats.items; links = f.links.items }) };
+    ghost invariant = { λ f. IsFabric (record { recon = f.recon; stage = f.stage; parts = f.parts; trees = f.trees.items; seats = f.seats.items; links = f.links.items }) };
 }
 
 /// What a run shared, once its threads are joined.
@@ -51,6 +52,8 @@ impl Model for Fabric {
 pub struct FabricParts {
     /// What moved.
     pub recon: Recon,
+    /// The stage that ran.
+    pub stage: u64,
     /// For each segment its split tree.
     pub trees: Vec<StatusTree>,
     /// For each segment the seat that its tree was opened with.
@@ -69,6 +72,13 @@ impl Fabric {
         ensures { result.now ≡ self.now.recon }
     {
         &self.recon
+    }
+
+    /// The stage that runs.
+    pub fn stage(&self) -> u64
+        ensures { result ≡ self.now.stage }
+    {
+        self.stage
     }
 
     /// How many partitions there are.
@@ -141,6 +151,7 @@ impl Fabric {
     /// What was shared.
     pub fn into_parts(self) -> FabricParts
         ensures recon { result.recon ≡ self.recon }
+        ensures stage { result.stage ≡ self.stage }
         ensures trees { result.trees.items ≡ self.trees }
         ensures seats { result.seats.items ≡ self.seats }
         ensures links { result.links.items ≡ self.links }
@@ -148,6 +159,7 @@ impl Fabric {
     {
         FabricParts {
             recon: self.recon,
+            stage: self.stage,
             trees: self.trees,
             seats: self.seats,
             links: self.links,

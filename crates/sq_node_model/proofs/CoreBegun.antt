@@ -22,8 +22,10 @@ use Rattle.sq_model.specs.Place.{extent_in, extent_of, is_within}
 use Rattle.sq_model.specs.Links.{goes, is_on_link}
 use Rattle.sq_model.proofs.Lists.{Contains-later}
 use Rattle.sq_model.proofs.Keys.{ends_below}
+use Rattle.sq_node_model.specs.Stages.{runs_in, is_on_link_in}
 use Rattle.sq_status.specs.declared.view.View.{View}
 use Rattle.sq_status.specs.Plays.{Won}
+use Rattle.sq_node_model.specs.BeganWith.{BeganWith}
 use Rattle.sq_node_model.specs.NodeValue.{ReceiptValue, NodeValue, node_of, put}
 use Rattle.sq_node_model.specs.Steps.{node_begun, node_completed}
 use Rattle.sq_node_model.specs.BegunHolds.{IsNamed}
@@ -35,11 +37,11 @@ use Rattle.sq_node_model.proofs.NodeBegun.{keeps_begun}
 use Rattle.sq_node_model.proofs.NodeSent.{keeps_completed}
 
 -- looks, splits and claims change nothing that a node keeps
-pub core_looked : (o : OpeningValue) (core : CoreValue) (views now : ℕ → View) (sent received : ℕ → List ChunkValue) (receipts : List ReceiptValue)
+pub core_looked : {began : BeganWith} (o : OpeningValue) (core : CoreValue) (views now : ℕ → View) (sent received : ℕ → List ChunkValue) (receipts : List ReceiptValue)
     → ((seg : ℕ) → (now seg).begun ≡ (views seg).begun) → ((seg : ℕ) → (now seg).completed ≡ (views seg).completed)
-    → NodeHolds o (node_of core views sent received receipts) → NodeHolds o (node_of core now sent received receipts)
-core_looked o core views now sent received receipts begun completed h =
-    subst (NodeHolds o) (λ i. record (node_of core views sent received receipts) { begun = λ seg. sym (begun seg) i; completed = λ seg. sym (completed seg) i }) h
+    → NodeHolds o began (node_of core views sent received receipts) → NodeHolds o began (node_of core now sent received receipts)
+core_looked {began} o core views now sent received receipts begun completed h =
+    subst (NodeHolds o began) (λ i. record (node_of core views sent received receipts) { begun = λ seg. sym (begun seg) i; completed = λ seg. sym (completed seg) i }) h
 
 -- a node of a segment's tree is completed
 pub completed_node_is : (core : CoreValue) (views now : ℕ → View) (sent received : ℕ → List ChunkValue) (receipts : List ReceiptValue) (seg n pull : ℕ) (w : View)
@@ -58,15 +60,15 @@ completed_node_is core views now sent received receipts seg n pull w won puts =
         ∙ ap (λ entries. put seg entries (λ j. (views j).completed) k) (ap (λ (v : View). v.completed) won.after)
 
 -- where its last chunk was loaded the node keeps what holds
-pub core_completed : (o : OpeningValue) (core : CoreValue) (views now : ℕ → View) (sent received : ℕ → List ChunkValue) (receipts : List ReceiptValue) (seg n pull : ℕ) (w : View)
+pub core_completed : {began : BeganWith} (o : OpeningValue) (core : CoreValue) (views now : ℕ → View) (sent received : ℕ → List ChunkValue) (receipts : List ReceiptValue) (seg n pull : ℕ) (w : View)
     → is_whole (loaded_at core seg) n ≡ true → Won (views seg) n (Complete pull) w → ((k : ℕ) → now k ≡ put seg w views k)
-    → NodeHolds o (node_of core views sent received receipts) → NodeHolds o (node_of core now sent received receipts)
-core_completed o core views now sent received receipts seg n pull w whole won puts h =
-    subst (NodeHolds o) (sym (completed_node_is core views now sent received receipts seg n pull w won puts))
+    → NodeHolds o began (node_of core views sent received receipts) → NodeHolds o began (node_of core now sent received receipts)
+core_completed {began} o core views now sent received receipts seg n pull w whole won puts h =
+    subst (NodeHolds o began) (sym (completed_node_is core views now sent received receipts seg n pull w won puts))
     (keeps_completed o (node_of core views sent received receipts) seg n pull (h.loaded.whole seg n whole) h)
 
-module _ (o : OpeningValue) (is : IsOpening o) (core : CoreValue) (views now : ℕ → View) (sent received : ℕ → List ChunkValue) (receipts : List ReceiptValue) (seg n pull : ℕ) (w : View) (segment : Range)
-    (known : IsCoreOf o core) (there : slice_get o.recon.segments seg ≡ Some segment) (won : Won (views seg) n (Partial pull) w)
+module _ (o : OpeningValue) (i : ℕ) (is : IsOpening o) (core : CoreValue) (views now : ℕ → View) (sent received : ℕ → List ChunkValue) (receipts : List ReceiptValue) (seg n pull : ℕ) (w : View) (segment : Range)
+    (known : IsCoreOf o i core) (there : slice_get o.recon.segments seg ≡ Some segment) (won : Won (views seg) n (Partial pull) w)
     (puts : (k : ℕ) → now k ≡ put seg w views k) where
   abbrev node : NodeValue
   node = node_of core views sent received receipts
@@ -80,13 +82,15 @@ module _ (o : OpeningValue) (is : IsOpening o) (core : CoreValue) (views now : �
   keys_are : extent core.recon.width segment n ≡ extent_of o seg n
   keys_are = ap (λ recon. extent recon.width segment n) known.recon ∙ ap (λ segment. extent_in o.recon.width segment n) (sym there)
 
-  linked : segment.src ≡ core.part → is_on_link o core.part segment.dst seg ≡ true
-  linked leaves =
-      ap (λ found. goes found core.part segment.dst) there
-      ∙ and_from (segment.src == core.part) (segment.dst == segment.dst) (eq-eqb segment.src core.part leaves) (eq-eqb segment.dst segment.dst refl)
+  linked : (j : ℕ) → segment.src ≡ core.part → runs_in o j segment.src segment.dst ≡ true → is_on_link_in o j core.part segment.dst seg ≡ true
+  linked j leaves runs =
+      and_from (is_on_link o core.part segment.dst seg) (runs_in o j core.part segment.dst)
+      (ap (λ found. goes found core.part segment.dst) there
+      ∙ and_from (segment.src == core.part) (segment.dst == segment.dst) (eq-eqb segment.src core.part leaves) (eq-eqb segment.dst segment.dst refl))
+      (subst (λ src. runs_in o j src segment.dst ≡ true) leaves runs)
 
   -- begun nodes of the tree have no key in common
-  alone : is_node n ≡ true → NodeHolds o node → (root m : ℕ) → IsNamed (node.begun seg) m → is_within (extent_of o seg n) root ≡ true → is_within (extent_of o seg m) root ≡ true → n ≡ m
+  alone : {began : BeganWith} → is_node n ≡ true → NodeHolds o began node → (root m : ℕ) → IsNamed (node.begun seg) m → is_within (extent_of o seg n) root ≡ true → is_within (extent_of o seg m) root ≡ true → n ≡ m
   alone is_one h root m named within within' =
       let stood = won.stood in
       let grown = grown_tree stood.0 stood.1 stood.3 in
@@ -124,8 +128,8 @@ module _ (o : OpeningValue) (is : IsOpening o) (core : CoreValue) (views now : �
         outs = λ k. put_set core.outs segment.dst (with_work (out_at core segment.dst) work) new_out_link dst_below k i;
       })
 
-  pub core_begun : segment.src ≡ core.part → is_node n ≡ true → NodeHolds o node → NodeHolds o (node_of (begun_core core seg n pull) now sent received receipts)
-  core_begun leaves is_one h =
-      subst (NodeHolds o) (sym begun_node_is)
-      (keeps_begun o node h segment.dst work (linked leaves) is_one (record { from = ap (λ (keys : Extent). keys.lo) keys_are; upto = ap (λ (keys : Extent). keys.hi) keys_are })
+  pub core_begun : {began : BeganWith} → segment.src ≡ core.part → runs_in o began.stage segment.src segment.dst ≡ true → is_node n ≡ true → NodeHolds o began node → NodeHolds o began (node_of (begun_core core seg n pull) now sent received receipts)
+  core_begun {began} leaves runs is_one h =
+      subst (NodeHolds o began) (sym begun_node_is)
+      (keeps_begun o node h segment.dst work (linked began.stage leaves runs) is_one (record { from = ap (λ (keys : Extent). keys.lo) keys_are; upto = ap (λ (keys : Extent). keys.hi) keys_are })
       (λ q has. not_begun (views seg) w n pull q won has) (alone is_one h))

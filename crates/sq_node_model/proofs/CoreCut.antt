@@ -15,6 +15,7 @@ use Rattle.sq_exec.specs.CoreValue.{CoreValue, out_at, link_to}
 use Rattle.sq_exec.specs.Moving.{CutsFor}
 use Rattle.sq_exec.proofs.Works.{next_within}
 use Rattle.sq_status.specs.declared.view.View.{View}
+use Rattle.sq_node_model.specs.BeganWith.{BeganWith}
 use Rattle.sq_node_model.specs.NodeValue.{ReceiptValue, node_of}
 use Rattle.sq_node_model.specs.Steps.{node_cut}
 use Rattle.sq_node_model.specs.NodeHolds.{NodeHolds}
@@ -88,7 +89,7 @@ module _ (old new : CoreValue) (views : ℕ → View) (sent received : ℕ → L
     is_last = refl;
   }
 
-  pub core_cut : (o : OpeningValue) → IsOpening o → NodeHolds o (node_of old views sent received receipts) → NodeHolds o (node_of new views sent received receipts)
-  core_cut o is h =
-      subst (NodeHolds o) (sym (cut_is ∙ (λ i. node_cut (node_of old views sent received receipts) dst (out_is i) (store_is i))))
+  pub core_cut : {began : BeganWith} (o : OpeningValue) → IsOpening o → NodeHolds o began (node_of old views sent received receipts) → NodeHolds o began (node_of new views sent received receipts)
+  core_cut {began} o is h =
+      subst (NodeHolds o began) (sym (cut_is ∙ (λ i. node_cut (node_of old views sent received receipts) dst (out_is i) (store_is i))))
       (keeps_cut o is (node_of old views sent received receipts) h dst place work chunk (slice_get-get_or ends.work place no_work within) (none_there ends.outbox c.cut.empty) next_note refl)

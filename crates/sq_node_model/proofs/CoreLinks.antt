@@ -5,6 +5,7 @@ use Rattle.sq_ranges.specs.OpeningValue.{OpeningValue}
 use Rattle.sq_exec.specs.OutLink.{OutLinkValue, new_out_link}
 use Rattle.sq_exec.specs.CoreValue.{CoreValue, out_at, with_out, inbox_at, with_inbox}
 use Rattle.sq_status.specs.declared.view.View.{View}
+use Rattle.sq_node_model.specs.BeganWith.{BeganWith}
 use Rattle.sq_node_model.specs.NodeValue.{ReceiptValue, node_of, put}
 use Rattle.sq_node_model.specs.Steps.{node_sent, node_received}
 use Rattle.sq_node_model.specs.NodeHolds.{NodeHolds}
@@ -25,11 +26,11 @@ sent_is core views sent now received receipts dst chunk full puts =
     below : dst < length core.outs
     below = out_below core dst (λ fresh. let none = sym (ap (λ (end : OutLinkValue). end.outbox) fresh) ∙ full in cc)
 
-pub core_sent : (o : OpeningValue) (core : CoreValue) (views : ℕ → View) (sent now received : ℕ → List ChunkValue) (receipts : List ReceiptValue) (dst : ℕ) (chunk : ChunkValue)
+pub core_sent : {began : BeganWith} (o : OpeningValue) (core : CoreValue) (views : ℕ → View) (sent now received : ℕ → List ChunkValue) (receipts : List ReceiptValue) (dst : ℕ) (chunk : ChunkValue)
     → (out_at core dst).outbox ≡ Some chunk → ((k : ℕ) → now k ≡ put dst (sent dst ++ chunk ∷ []) sent k)
-    → NodeHolds o (node_of core views sent received receipts) → NodeHolds o (node_of (with_out core dst (record (out_at core dst) { outbox = None })) views now received receipts)
-core_sent o core views sent now received receipts dst chunk full puts h =
-    subst (NodeHolds o) (sym (sent_is core views sent now received receipts dst chunk full puts)) (keeps_sent o (node_of core views sent received receipts) h dst chunk full)
+    → NodeHolds o began (node_of core views sent received receipts) → NodeHolds o began (node_of (with_out core dst (record (out_at core dst) { outbox = None })) views now received receipts)
+core_sent {began} o core views sent now received receipts dst chunk full puts h =
+    subst (NodeHolds o began) (sym (sent_is core views sent now received receipts dst chunk full puts)) (keeps_sent o (node_of core views sent received receipts) h dst chunk full)
 
 pub received_is : (core : CoreValue) (views : ℕ → View) (sent received now : ℕ → List ChunkValue) (receipts : List ReceiptValue) (src : ℕ) (chunk : ChunkValue)
     → src < length core.inboxes → ((k : ℕ) → now k ≡ put src (received src ++ chunk ∷ []) received k)
@@ -40,8 +41,8 @@ received_is core views sent received now receipts src chunk below puts =
       inboxes = λ k. put_set core.inboxes src (Some chunk) None below k i;
     }
 
-pub core_received : (o : OpeningValue) (core : CoreValue) (views : ℕ → View) (sent received now : ℕ → List ChunkValue) (receipts : List ReceiptValue) (src : ℕ) (chunk : ChunkValue)
+pub core_received : {began : BeganWith} (o : OpeningValue) (core : CoreValue) (views : ℕ → View) (sent received now : ℕ → List ChunkValue) (receipts : List ReceiptValue) (src : ℕ) (chunk : ChunkValue)
     → src < length core.inboxes → inbox_at core src ≡ None → ((k : ℕ) → now k ≡ put src (received src ++ chunk ∷ []) received k)
-    → NodeHolds o (node_of core views sent received receipts) → NodeHolds o (node_of (with_inbox core src (Some chunk)) views sent now receipts)
-core_received o core views sent received now receipts src chunk below empty puts h =
-    subst (NodeHolds o) (sym (received_is core views sent received now receipts src chunk below puts)) (keeps_received o (node_of core views sent received receipts) h src chunk empty)
+    → NodeHolds o began (node_of core views sent received receipts) → NodeHolds o began (node_of (with_inbox core src (Some chunk)) views sent now receipts)
+core_received {began} o core views sent received now receipts src chunk below empty puts h =
+    subst (NodeHolds o began) (sym (received_is core views sent received now receipts src chunk below puts)) (keeps_received o (node_of core views sent received receipts) h src chunk empty)

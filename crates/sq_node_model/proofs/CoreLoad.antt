@@ -19,10 +19,12 @@ use Rattle.sq_exec.specs.Runs.{has_key, meets, is_met, runs_with}
 use Rattle.sq_exec.specs.CoreValue.{CoreValue, loaded_at}
 use Rattle.sq_exec.specs.Moving.{lies_in, can_load_in, LoadsFrom}
 use Rattle.sq_model.specs.Place.{extent_in, extent_of}
-use Rattle.sq_model.specs.Links.{goes}
+use Rattle.sq_model.specs.Links.{goes, is_on_link}
+use Rattle.sq_node_model.specs.Stages.{runs_in}
 use Rattle.sq_model.proofs.Lists.{any_in, found_in, list_any-Contains}
 use Rattle.sq_model.proofs.Apart.{covers_bounds}
 use Rattle.sq_status.specs.declared.view.View.{View}
+use Rattle.sq_node_model.specs.BeganWith.{BeganWith}
 use Rattle.sq_node_model.specs.NodeValue.{ReceiptValue, node_of}
 use Rattle.sq_node_model.specs.Steps.{node_loaded}
 use Rattle.sq_node_model.specs.Chunks.{HasLoaded, IsCovered}
@@ -63,7 +65,7 @@ fits core src chunk (Some segment) there can =
       unmet = not-true met d.0;
     }
 
-module _ (o : OpeningValue) (old new : CoreValue) (views : ℕ → View) (sent received : ℕ → List ChunkValue) (receipts : List ReceiptValue) (src : ℕ) (note : Note) (known : IsCoreOf o old)
+module _ (o : OpeningValue) (i : ℕ) (old new : CoreValue) (views : ℕ → View) (sent received : ℕ → List ChunkValue) (receipts : List ReceiptValue) (src : ℕ) (note : Note) (known : IsCoreOf o i old)
     (l : LoadsFrom old src note new) (loadable : IsLoadable old src l.chunk) where
   abbrev chunk : ChunkValue
   chunk = l.chunk
@@ -78,16 +80,17 @@ module _ (o : OpeningValue) (old new : CoreValue) (views : ℕ → View) (sent r
   keys_are : extent old.recon.width fit.segment chunk.note.node ≡ extent_of o chunk.note.seg chunk.note.node
   keys_are = ap (λ recon. extent recon.width fit.segment chunk.note.node) known.recon ∙ ap (λ found. extent_in o.recon.width found chunk.note.node) (sym there)
 
-  arrived : HasArrived o src old.part chunk.note
-  arrived =
+  arrived : (j : ℕ) → runs_in o j src old.part ≡ true → HasArrived o j src old.part chunk.note
+  arrived j runs =
       let keys = extent_of o chunk.note.seg chunk.note.node in
       let lies : lies_in chunk.note keys ≡ true = ap (lies_in chunk.note) (sym keys_are) ∙ fit.lies in
       let parts = and_parts (nat_le keys.lo chunk.note.lo) (nat_le chunk.note.hi keys.hi) lies in
       record {
         node = loadable.sound.node;
         segment =
-            ap (λ found. goes found src old.part) there
-            ∙ and_from (fit.segment.src == src) (fit.segment.dst == old.part) (eq-eqb fit.segment.src src fit.starts) (eq-eqb fit.segment.dst old.part fit.ends);
+            and_from (is_on_link o src old.part chunk.note.seg) (runs_in o j src old.part)
+            (ap (λ found. goes found src old.part) there
+            ∙ and_from (fit.segment.src == src) (fit.segment.dst == old.part) (eq-eqb fit.segment.src src fit.starts) (eq-eqb fit.segment.dst old.part fit.ends)) runs;
         from = leb-true keys.lo chunk.note.lo parts.0;
         upto = leb-true chunk.note.hi keys.hi parts.1;
       }
@@ -103,10 +106,10 @@ module _ (o : OpeningValue) (old new : CoreValue) (views : ℕ → View) (sent r
       let high' = ltb-true root run.hi parts.1 in
       lt-ltb (max run.lo chunk.note.lo) (min run.hi chunk.note.hi) (omega arith)
 
-  fresh : IsOpening o → NodeHolds o (node_of old views sent received receipts) → (root : ℕ) → covers chunk.note root ≡ true → IsCovered (HasLoaded (node_of old views sent received receipts)) root → ⊥
-  fresh is h root covered before =
+  fresh : {began : BeganWith} → runs_in o began.stage src old.part ≡ true → IsOpening o → NodeHolds o began (node_of old views sent received receipts) → (root : ℕ) → covers chunk.note root ≡ true → IsCovered (HasLoaded (node_of old views sent received receipts)) root → ⊥
+  fresh {began} runs is h root covered before =
       let node = node_of old views sent received receipts in
-      let same = one_segment o is root before.0.note.seg before.0.note.node chunk.note.seg chunk.note.node (loaded_within o is node h before.0 root before.1 before.2) (arrived_within o src old.part chunk.note root arrived covered) in
+      let same = one_segment o is root before.0.note.seg before.0.note.node chunk.note.seg chunk.note.node (loaded_within o is node h before.0 root before.1 before.2) (arrived_within o began.stage src old.part chunk.note root (arrived began.stage runs) covered) in
       let run = any_in (λ (run : Run). has_key run root) (loaded_at old chunk.note.seg) (h.loaded.all_keys chunk.note.seg root (before.0, before.1, same, before.2)) in
       true≢false (sym (list_any-Contains (meets chunk.note) (loaded_at old chunk.note.seg) run.0 run.1 (run_meets run.0 root covered run.2)) ∙ fit.unmet)
 
@@ -137,7 +140,7 @@ module _ (o : OpeningValue) (old new : CoreValue) (views : ℕ → View) (sent r
         inboxes = λ k. put_set old.inboxes src None None below k i;
       })
 
-  pub core_loaded : IsOpening o → NodeHolds o (node_of old views sent received receipts) → NodeHolds o (node_of new views sent received receipts)
-  core_loaded is h =
-      subst (NodeHolds o) (sym loaded_is)
-      (keeps_loaded o is (node_of old views sent received receipts) h src chunk l.came arrived loadable.sound.rising own (fresh is h))
+  pub core_loaded : {began : BeganWith} → runs_in o began.stage src old.part ≡ true → IsOpening o → NodeHolds o began (node_of old views sent received receipts) → NodeHolds o began (node_of new views sent received receipts)
+  core_loaded {began} runs is h =
+      subst (NodeHolds o began) (sym loaded_is)
+      (keeps_loaded o is (node_of old views sent received receipts) h src chunk l.came (arrived began.stage runs) loadable.sound.rising own (fresh runs is h))

@@ -1,29 +1,32 @@
 -- A new node, which did nothing yet.
-use Rattle.std.proofs.Common.{◌≡◌, inl, ⊎_elim, ℕ, ◌<◌, Bool, true, false, ◌==◌, ◌&&◌, nat_lt, if◌then◌else◌, List, [], length, replicate, get_or, Option, Some, None, refl, sym, ap, ◌∙◌, subst, true≢false, arith}
+use Rattle.std.proofs.Common.{◌≡◌, inl, ⊎_elim, ℕ, ◌<◌, Bool, true, false, ◌==◌, ◌&&◌, nat_le, nat_lt, if◌then◌else◌, List, [], length, replicate, get_or, Option, Some, None, refl, sym, ap, ◌∙◌, subst, true≢false, arith}
+use Rattle.std.specs.Prelude.{is_some, unwrap_or}
 use Rattle.std.proofs.lemmas.Bool.{cases_lt, eqb-true, eq-eqb}
 use Rattle.std.proofs.lemmas.List.{get_or-replicate, length-replicate, get_or_past}
-use Rattle.std.proofs.lemmas.List.Elements.{All-nil}
-use Rattle.sq_schema.specs.TxnValue.{TxnValue}
 use Rattle.sq_schema.specs.Family.{FamilyValue}
 use Rattle.sq_tree.specs.declared.node.TheConstants.{LEAVES}
-use Rattle.sq_store.specs.StoreValue.{StoreValue}
+use Rattle.sq_store.specs.StoreValue.{StoreValue, absent}
 use Rattle.sq_chunk.specs.ChunkValue.{ChunkValue}
 use Rattle.sq_ranges.specs.OpeningValue.{OpeningValue}
 use Rattle.sq_exec.specs.declared.run.Run.{Run}
 use Rattle.sq_exec.specs.GivenUp.{none_given_up}
 use Rattle.sq_exec.specs.OutLink.{new_out_link}
-use Rattle.sq_exec.specs.CoreValue.{opened_core}
-use Rattle.sq_model.specs.Place.{source}
 use Rattle.sq_model.proofs.Lists.{Contains-nothing}
+use Rattle.sq_model.specs.Staged.{owner_in}
 use Rattle.sq_status.specs.declared.view.View.{View}
 use Rattle.sq_status.specs.View.{one_if}
+use Rattle.sq_node_model.specs.BeganWith.{BeganWith, given_family, CanBegin}
 use Rattle.sq_node_model.specs.NodeValue.{NodeValue, node_of}
 use Rattle.sq_node_model.specs.Chunks.{HasCut, HasLoaded}
-use Rattle.sq_node_model.specs.OutHolds.{is_opened}
-use Rattle.sq_node_model.specs.FamiliesHold.{IsStored, IsKept, IsOf}
+use Rattle.sq_node_model.specs.FamiliesHold.{IsStored, IsKept, GrowsFrom}
 use Rattle.sq_node_model.specs.NodeHolds.{NodeHolds}
-use Rattle.sq_node_model.specs.Cores.{opening_family, OpensWith, IsUnused}
-use Rattle.sq_node_model.proofs.Told.{from_zero, none_before}
+use Rattle.sq_node_model.specs.Cores.{staged_core, OpensWith, IsUnused}
+use Rattle.sq_node_model.proofs.Named.{none_between}
+use Rattle.sq_node_model.proofs.FamiliesAnswered.{grows_itself}
+
+some_is : {X : Type 0} (found : Option X) → is_some found ≡ true → (x : X) × (found ≡ Some x)
+some_is None e = absurd (true≢false (sym e))
+some_is (Some x) e = (x, refl)
 
 -- a list of one value has that everywhere
 pub get_or-same : {X : Type 0} (n i : ℕ) (x : X) → get_or (replicate n x) i x ≡ x
@@ -33,7 +36,7 @@ get_or-same n i x =
     (λ past. get_or_past (replicate n x) i x (let len = length-replicate n x in omega (arith, past, len)))
     (cases_lt i n)
 
-module _ (o : OpeningValue) (part : ℕ) (store : StoreValue) (below : part < o.old.parts) (opens : OpensWith o part store) where
+module _ (o : OpeningValue) (began : BeganWith) (can : CanBegin o began) (part : ℕ) (store : StoreValue) (below : part < o.old.parts) (opens : OpensWith o began part store) where
   -- a node that did nothing
   abbrev new : NodeValue
   new = record {
@@ -56,20 +59,21 @@ module _ (o : OpeningValue) (part : ℕ) (store : StoreValue) (below : part < o.
   none_loaded : (chunk : ChunkValue) → HasLoaded new chunk → ⊥
   none_loaded chunk has = Contains-nothing chunk has.1
 
-  -- a family that is there is an opening one that the partition owned
-  stored_is : (root : ℕ) (family : FamilyValue) → IsStored store root family → (source o root ≡ part) × (opening_family o root ≡ family)
-  stored_is root family has = here (is_opened o root) (source o root == part) refl refl
+  -- a family that is there is what the root key was given, and the partition owned it
+  stored_is : (root : ℕ) (family : FamilyValue) → IsStored store root family → (owner_in o began.stage root ≡ part) × (began.families root ≡ Some family)
+  stored_is root family has = here (owner_in o began.stage root == part) refl
     where
-      here : (a b : Bool) → is_opened o root ≡ a → (source o root == part) ≡ b → (source o root ≡ part) × (opening_family o root ≡ family)
-      here true true opened owned =
-          (eqb-true (source o root) part owned, let e = sym (opens root ∙ (λ i. if opened i && owned i then Some (opening_family o root) else None)) ∙ has in cc)
-      here true false opened owned = absurd (let e = sym (opens root ∙ (λ i. if opened i && owned i then Some (opening_family o root) else None)) ∙ has in cc)
-      here false b opened owned = absurd (let e = sym (opens root ∙ (λ i. if opened i && owned i then Some (opening_family o root) else None)) ∙ has in cc)
+      here : (b : Bool) → (owner_in o began.stage root == part) ≡ b → (owner_in o began.stage root ≡ part) × (began.families root ≡ Some family)
+      here true owned = (eqb-true (owner_in o began.stage root) part owned, sym (opens root ∙ ap (λ b. if b then began.families root else None) owned) ∙ has)
+      here false owned = absurd (let e = sym (opens root ∙ ap (λ b. if b then began.families root else None) owned) ∙ has in cc)
 
-  kept_is : (root : ℕ) (family : FamilyValue) → IsKept (HasCut new) store root family → opening_family o root ≡ family
+  kept_is : (root : ℕ) (family : FamilyValue) → IsKept (HasCut new) store root family → began.families root ≡ Some family
   kept_is root family kept = ⊎_elim (λ stored. (stored_is root family stored).1) (λ went. absurd (none_cut went.0 went.1)) kept
 
-  new_holds : NodeHolds o new
+  given_is : (root : ℕ) (family : FamilyValue) → began.families root ≡ Some family → given_family began root ≡ family
+  given_is root family e = ap (λ found. unwrap_or found (absent root)) e
+
+  new_holds : NodeHolds o began new
   new_holds = record {
     below = below;
     begun = record {
@@ -102,28 +106,29 @@ module _ (o : OpeningValue) (part : ℕ) (store : StoreValue) (below : part < o.
     completed = λ seg n pull has. absurd (Contains-nothing (n, pull) has);
     store = record {
       stored = λ root family has. inl (record { owned = (stored_is root family has).0; uncut = λ chunk cut. absurd (none_cut chunk cut) });
-      home = λ root at_home opened.
-          (opening_family o root, opens root ∙ (λ i. if opened i && eq-eqb (source o root) part at_home.owned i then Some (opening_family o root) else None));
+      home = λ root at_home given.
+          let has = some_is (began.families root) given in
+          (has.0, opens root ∙ ap (λ b. if b then began.families root else None) (eq-eqb (owner_in o began.stage root) part at_home.owned) ∙ has.1);
       came = λ root chunk family has carried. absurd (none_loaded chunk has);
     };
     families = record {
-      keyed = λ root family kept. subst (IsOf root) (kept_is root family kept) (record { same_root = refl; own_log = All-nil (λ (txn : TxnValue). txn.root ≡ root) });
-      home_base = λ root family at_home has. ap (λ (one : FamilyValue). one.base) (sym (stored_is root family has).1);
-      cut_base = λ root chunk family has carried. absurd (none_cut chunk has);
+      keyed = λ root family kept. can.keyed root family (kept_is root family kept);
+      home_grown = λ root family at_home has. subst (λ first. GrowsFrom first family) (sym (given_is root family (stored_is root family has).1)) (grows_itself family);
+      cut_grown = λ root chunk family has carried. absurd (none_cut chunk has);
       grown = λ root chunk family has covered stored. absurd (none_loaded chunk has);
     };
     receipts = record {
       named_home = λ root family kept owned position.
-          sym (ap (λ (one : FamilyValue). one_if (nat_lt position (length one.log))) (sym (kept_is root family kept))
-          ∙ ap one_if (sym (from_zero position 0)) ∙ none_before 0 position);
+          sym (ap (λ (one : FamilyValue). one_if (nat_le (length one.log) position && nat_lt position (length family.log))) (given_is root family (kept_is root family kept))
+          ∙ none_between (length family.log) position);
       named_came = λ root chunk family has covered stored position. absurd (none_loaded chunk has);
       told = λ receipt has commit. absurd (Contains-nothing receipt has);
     };
   }
 
-  pub core_new : (views : ℕ → View) (sent received : ℕ → List ChunkValue) → IsUnused views sent received → NodeHolds o (node_of (opened_core o part store) views sent received [])
+  pub core_new : (views : ℕ → View) (sent received : ℕ → List ChunkValue) → IsUnused views sent received → NodeHolds o began (node_of (staged_core o began.stage part store) views sent received [])
   core_new views sent received unused =
-      subst (NodeHolds o)
+      subst (NodeHolds o began)
       (λ i. record new {
         begun = λ seg. sym (unused.begun seg) i;
         completed = λ seg. sym (unused.completed seg) i;

@@ -16,8 +16,10 @@ use Rattle.sq_exec.specs.CoreValue.{CoreValue, inbox_at, loaded_at}
 use Rattle.sq_exec.specs.Moving.{lies_in, can_load, can_load_in, may_load}
 use Rattle.sq_model.specs.Place.{extent_in, extent_of}
 use Rattle.sq_model.proofs.Lists.{Contains-first, Contains-later, any_in, not_found, list_any-Contains}
-use Rattle.sq_model.proofs.Notes.{SegmentGoes, on_link_goes}
+use Rattle.sq_model.proofs.Notes.{SegmentGoes}
+use Rattle.sq_node_model.proofs.Staged.{on_link_goes}
 use Rattle.sq_status.specs.declared.view.View.{View}
+use Rattle.sq_node_model.specs.BeganWith.{BeganWith}
 use Rattle.sq_node_model.specs.NodeValue.{ReceiptValue, NodeValue, node_of}
 use Rattle.sq_node_model.specs.Chunks.{HasLoaded, IsCovered}
 use Rattle.sq_node_model.specs.InHolds.{HasArrived}
@@ -37,8 +39,8 @@ some_stands store (family ∷ families) e = by (λ later. some_stands store fami
         let later = rest (sym (ap (λ b. b && has_none_of store families) is) ∙ e) in
         (later.0, Contains-later family families later.0 later.1, later.2)
 
-module _ (o : OpeningValue) (is : IsOpening o) (core : CoreValue) (views : ℕ → View) (sent received : ℕ → List ChunkValue) (receipts : List ReceiptValue) (known : IsCoreOf o core)
-    (h : NodeHolds o (node_of core views sent received receipts)) (src : ℕ) (chunk : ChunkValue) (sound : IsChunk chunk) (arrived : HasArrived o src core.part chunk.note) where
+module _ {began : BeganWith} (o : OpeningValue) (is : IsOpening o) (core : CoreValue) (views : ℕ → View) (sent received : ℕ → List ChunkValue) (receipts : List ReceiptValue) (known : IsCoreOf o began.stage core)
+    (h : NodeHolds o began (node_of core views sent received receipts)) (src : ℕ) (chunk : ChunkValue) (sound : IsChunk chunk) (arrived : HasArrived o began.stage src core.part chunk.note) where
   abbrev node : NodeValue
   node = node_of core views sent received receipts
 
@@ -76,12 +78,12 @@ module _ (o : OpeningValue) (is : IsOpening o) (core : CoreValue) (views : ℕ �
       by family covered None stands some = absurd (true≢false (sym (ap is_none stands) ∙ some))
       by family covered (Some here) stands some =
           ⊎_elim
-          (λ home. absurd (not_owned o is family.root chunk.note.seg chunk.note.node src core.part (arrived_within o src core.part chunk.note family.root arrived covered) arrived.segment home.owned))
+          (λ home. absurd (not_owned o is began.stage family.root chunk.note.seg chunk.note.node src core.part (arrived_within o began.stage src core.part chunk.note family.root arrived covered) arrived.segment home.owned))
           (λ loaded. (family.root, covered, loaded))
           (h.store.stored family.root here stands)
 
   goes : SegmentGoes o chunk.note.seg src core.part
-  goes = on_link_goes o src core.part chunk.note.seg arrived.segment
+  goes = on_link_goes o began.stage src core.part chunk.note.seg arrived.segment
 
   there : slice_get core.recon.segments chunk.note.seg ≡ Some goes.segment
   there = ap (λ (recon : ReconValue). slice_get recon.segments chunk.note.seg) known.recon ∙ goes.there

@@ -1,14 +1,14 @@
 -- A transaction that is served at a partition by itself is answered at its node.
-use Rattle.std.proofs.Common.{◌≡◌, ◌⊎◌, inl, inr, ℕ, Bool, true, false, ◌==◌, ◌&&◌, if◌then◌else◌, not, List, Contains, slice_get, Option, Some, None, refl, sym, ap, ◌∙◌, subst, true≢false}
+use Rattle.std.proofs.Common.{◌≡◌, ◌⊎◌, inl, inr, ℕ, Bool, true, false, ◌==◌, ◌&&◌, if◌then◌else◌, not, List, Contains, slice_get, Option, Some, None, refl, sym, ap, ◌∙◌, subst, true≢false, nat_lt, arith}
 use Rattle.std.specs.Prelude.{is_some, option_map, option_and_then}
-use Rattle.std.proofs.lemmas.Bool.{cases_Bool, eqb-true, eq-eqb}
+use Rattle.std.proofs.lemmas.Bool.{cases_Bool, eqb-true, eq-eqb, ltb-true}
 use Rattle.sq_schema.specs.TxnValue.{TxnValue}
 use Rattle.sq_tree.specs.Node.{is_above}
 use Rattle.sq_store.specs.StoreValue.{StoreValue, store_reply, store_after}
 use Rattle.sq_chunk.specs.ChunkValue.{ChunkValue, covers}
 use Rattle.sq_plan.specs.PlanValue.{owner}
 use Rattle.sq_ranges.specs.declared.recon.Range.{Range}
-use Rattle.sq_ranges.specs.ReconValue.{ReconValue, segment_of, leaf_of, leaf_at}
+use Rattle.sq_ranges.specs.ReconValue.{ReconValue, segment_of, leaf_of, leaf_at, stage_on}
 use Rattle.sq_ranges.specs.OpeningValue.{OpeningValue}
 use Rattle.sq_ranges.specs.Opening.{IsOpening}
 use Rattle.sq_exec.specs.declared.location.Location.{Location}
@@ -22,8 +22,11 @@ use Rattle.sq_exec.specs.Location.{location_in, location, route_from, route}
 use Rattle.sq_exec.specs.Serving.{served, IsTaken, IsResumed}
 use Rattle.sq_model.specs.Place.{source, destination, moves}
 use Rattle.sq_model.proofs.Lists.{list_any-Contains}
-use Rattle.sq_model.proofs.Keys.{IsIn, found_in_segment, under, moves_found}
+use Rattle.sq_model.proofs.Keys.{IsIn, found_in_segment, under, moves_found, unfound_stays}
+use Rattle.sq_model.specs.Staged.{owner_in}
+use Rattle.sq_node_model.proofs.Staged.{on_link_goes, link_runs, unmoved_source, moved_source, staying_source}
 use Rattle.sq_status.specs.declared.view.View.{View}
+use Rattle.sq_node_model.specs.BeganWith.{BeganWith}
 use Rattle.sq_node_model.specs.NodeValue.{ReceiptValue, NodeValue, node_of}
 use Rattle.sq_node_model.specs.Steps.{node_served, receipts_after}
 use Rattle.sq_node_model.specs.Chunks.{HasCut, HasLoaded, IsCovered}
@@ -37,15 +40,15 @@ use Rattle.sq_node_model.proofs.NodeSent.{keeps_answered}
 abbrev served_if : CoreValue → ℕ → Bool → TxnValue → Outcome × StoreValue
 served_if core who b txn = if b then (Done (store_reply core.store txn), store_after core.store txn (store_reply core.store txn)) else (Moved who, core.store)
 
-module _ (o : OpeningValue) (is : IsOpening o) (core : CoreValue) (views : ℕ → View) (sent received : ℕ → List ChunkValue) (receipts : List ReceiptValue) (known : IsCoreOf o core) (h : NodeHolds o (node_of core views sent received receipts)) where
+module _ {began : BeganWith} (o : OpeningValue) (is : IsOpening o) (core : CoreValue) (views : ℕ → View) (sent received : ℕ → List ChunkValue) (receipts : List ReceiptValue) (known : IsCoreOf o began.stage core) (h : NodeHolds o began (node_of core views sent received receipts)) where
   abbrev node : NodeValue
   node = node_of core views sent received receipts
 
   -- the root key is at home or was loaded
   abbrev IsHere : ℕ → Type 0
-  IsHere root = IsHome o core.part (HasCut node) root ⊎ IsCovered (HasLoaded node) root
+  IsHere root = IsHome o began.stage core.part (HasCut node) root ⊎ IsCovered (HasLoaded node) root
 
-  home_unless : (root : ℕ) → source o root ≡ core.part → ((chunk : ChunkValue) → HasCut node chunk → covers chunk.note root ≡ true → ⊥) → IsHere root
+  home_unless : (root : ℕ) → owner_in o began.stage root ≡ core.part → ((chunk : ChunkValue) → HasCut node chunk → covers chunk.note root ≡ true → ⊥) → IsHere root
   home_unless root owned none = inl (record {
     owned = owned;
     uncut = λ chunk has.
@@ -58,7 +61,7 @@ module _ (o : OpeningValue) (is : IsOpening o) (core : CoreValue) (views : ℕ �
   -- a key that no segment holds is at home at its owner
   unmoved_here : (root : ℕ) → segment_of o.recon.segments root ≡ None → source o root ≡ core.part → IsHere root
   unmoved_here root none owned =
-      home_unless root owned (λ chunk has covered.
+      home_unless root (staying_source o began.stage root (unfound_stays o is root none) ∙ owned) (λ chunk has covered.
       let e = sym none ∙ (under o is root chunk.note.seg chunk.note.node (own_within o is node h chunk root has covered)).found in cc)
 
   -- what the partition knows of a key of a segment
@@ -85,19 +88,56 @@ module _ (o : OpeningValue) (is : IsOpening o) (core : CoreValue) (views : ℕ �
         let same : source o root ≡ destination o root = at.source_is ∙ from ∙ sym to ∙ sym at.destination_is in
         true≢false (sym going ∙ ap not (eq-eqb (source o root) (destination o root) same))
 
-    served_here : (from to gone came : Bool) → (segment.src == core.part) ≡ from → (segment.dst == core.part) ≡ to
+    -- a key of an earlier stage is at home at its new owner
+    abbrev is_earlier : Bool
+    is_earlier = nat_lt (stage_on o.recon segment.src segment.dst) began.stage
+
+    pair_stage : stage_on o.recon (source o root) (destination o root) ≡ stage_on o.recon segment.src segment.dst
+    pair_stage = λ i. stage_on o.recon (at.source_is i) (at.destination_is i)
+
+    earlier_here : is_earlier ≡ true → segment.dst ≡ core.part → IsHere root
+    earlier_here e here =
+        home_unless root (moved_source o began.stage root (ap (λ n. nat_lt n began.stage) pair_stage ∙ e) ∙ at.destination_is ∙ here)
+        (λ chunk has covered.
+        let below = under o is root chunk.note.seg chunk.note.node (own_within o is node h chunk root has covered) in
+        let same : chunk.note.seg ≡ g = let f = sym below.found ∙ found in cc in
+        let on = (own_note o is node h chunk has).segment in
+        let goes = on_link_goes o began.stage core.part has.0 chunk.note.seg on in
+        let same_range : goes.segment ≡ segment = let f = sym goes.there ∙ subst (λ k. slice_get o.recon.segments k ≡ Some segment) (sym same) at.there in cc in
+        let from : segment.src ≡ core.part = ap (λ (s : Range). s.src) (sym same_range) ∙ goes.source in
+        let to : segment.dst ≡ has.0 = ap (λ (s : Range). s.dst) (sym same_range) ∙ goes.destination in
+        let now : stage_on o.recon segment.src segment.dst ≡ began.stage = (λ i. stage_on o.recon (from i) (to i)) ∙ eqb-true (stage_on o.recon core.part has.0) began.stage (link_runs o began.stage core.part has.0 chunk.note.seg on) in
+        let past = ltb-true (stage_on o.recon segment.src segment.dst) began.stage e in
+        omega (arith, now, past))
+
+    still_source : is_earlier ≡ false → owner_in o began.stage root ≡ segment.src
+    still_source e = unmoved_source o began.stage root (ap (λ n. nat_lt n began.stage) pair_stage ∙ e) ∙ at.source_is
+
+    served_here : is_earlier ≡ false → (from to gone came : Bool) → (segment.src == core.part) ≡ from → (segment.dst == core.part) ≡ to
         → is_given_up (given_up_at core g) (leaf_of o.recon.width segment root) ≡ gone → is_loaded (loaded_at core g) root ≡ came
         → (if from then if gone then segment.dst else segment.src else if to && came then segment.dst else segment.src) ≡ core.part → IsHere root
-    served_here true to true came starts ends e f here = absurd (ends_differ (eqb-true segment.src core.part starts) here)
-    served_here true to false came starts ends e f here =
-        home_unless root (at.source_is ∙ eqb-true segment.src core.part starts) (λ chunk has covered. true≢false (sym (cut_given_up chunk has covered) ∙ e))
-    served_here false true gone true starts ends e f here = let c = h.loaded.keys g root f in inr (c.0, c.1, c.3)
-    served_here false true gone false starts ends e f here = absurd (true≢false (sym (eq-eqb segment.src core.part here) ∙ starts))
-    served_here false false gone came starts ends e f here = absurd (true≢false (sym (eq-eqb segment.src core.part here) ∙ starts))
+    served_here still true to true came starts ends e f here = absurd (ends_differ (eqb-true segment.src core.part starts) here)
+    served_here still true to false came starts ends e f here =
+        home_unless root (still_source still ∙ eqb-true segment.src core.part starts) (λ chunk has covered. true≢false (sym (cut_given_up chunk has covered) ∙ e))
+    served_here still false true gone true starts ends e f here = let c = h.loaded.keys g root f in inr (c.0, c.1, c.3)
+    served_here still false true gone false starts ends e f here = absurd (true≢false (sym (eq-eqb segment.src core.part here) ∙ starts))
+    served_here still false false gone came starts ends e f here = absurd (true≢false (sym (eq-eqb segment.src core.part here) ∙ starts))
+
+    same_earlier : nat_lt (stage_on core.recon segment.src segment.dst) core.stage ≡ is_earlier
+    same_earlier = λ i. nat_lt (stage_on (known.recon i) segment.src segment.dst) (known.stage i)
+
+    -- who serves a key whose stage hasn't gone
+    abbrev by_ends : ℕ
+    by_ends =
+        if segment.src == core.part then if known_at.given_up then segment.dst else segment.src else if (segment.dst == core.part) && known_at.loaded then segment.dst else segment.src
+
+    held_by : (b : Bool) → is_earlier ≡ b → (if b then segment.dst else by_ends) ≡ core.part → IsHere root
+    held_by true e here = earlier_here e here
+    held_by false e here =
+        served_here e (segment.src == core.part) (segment.dst == core.part) (is_given_up (given_up_at core g) (leaf_of o.recon.width segment root)) (is_loaded (loaded_at core g) root) refl refl refl refl here
 
     held_here : route_from core root (Some known_at) ≡ core.part → IsHere root
-    held_here =
-        served_here (segment.src == core.part) (segment.dst == core.part) (is_given_up (given_up_at core g) (leaf_of o.recon.width segment root)) (is_loaded (loaded_at core g) root) refl refl refl refl
+    held_here here = held_by is_earlier refl (ap (λ b. if b then segment.dst else by_ends) (sym same_earlier) ∙ here)
 
   -- where a key is, by the segment that holds it
   abbrev located : Option ℕ → ℕ → Option Location
@@ -124,11 +164,11 @@ module _ (o : OpeningValue) (is : IsOpening o) (core : CoreValue) (views : ℕ �
   runs_here root here = here_by root (segment_of o.recon.segments root) refl (ap (route_from core root) (sym (location_is root)) ∙ here)
 
   -- what became of a transaction that needn't wait
-  served_by : (txn : TxnValue) (who : ℕ) (b : Bool) → (who == core.part) ≡ b → (who ≡ core.part → IsHere txn.root) → NodeHolds o (node_served node txn (served_if core who b txn).0)
+  served_by : (txn : TxnValue) (who : ℕ) (b : Bool) → (who == core.part) ≡ b → (who ≡ core.part → IsHere txn.root) → NodeHolds o began (node_served node txn (served_if core who b txn).0)
   served_by txn who true e here = keeps_answered o is node txn (store_reply core.store txn) (here (eqb-true who core.part e)) refl h
   served_by txn who false e here = h
 
-  pub served_holds : (txn : TxnValue) → NodeHolds o (node_served node txn (served core.part (route core txn.root) core.store txn).0)
+  pub served_holds : (txn : TxnValue) → NodeHolds o began (node_served node txn (served core.part (route core txn.root) core.store txn).0)
   served_holds txn = served_by txn (route core txn.root) (route core txn.root == core.part) refl (runs_here txn.root)
 
 -- what a transaction that needn't wait does to the node
@@ -159,21 +199,21 @@ module _ (views : ℕ → View) (sent received : ℕ → List ChunkValue) (recei
       ∙ ap (node_served (node_of old views sent received receipts) resumed.txn) (sym taken.told)
 
   module _ (o : OpeningValue) (is : IsOpening o) where
-    taken_holds : (old new : CoreValue) (waits : Bool) (txn : TxnValue) (outcome : Outcome) → IsCoreOf o old → IsTaken waits old txn outcome new → NodeHolds o (node_of old views sent received receipts)
-        → NodeHolds o (node_served (node_of old views sent received receipts) txn outcome)
-    taken_holds old new true txn outcome known taken h = subst (λ (became : Outcome). NodeHolds o (node_served (node_of old views sent received receipts) txn became)) (sym taken.told) h
-    taken_holds old new false txn outcome known taken h =
-        subst (λ (became : Outcome). NodeHolds o (node_served (node_of old views sent received receipts) txn became)) (sym taken.told)
+    taken_holds : {began : BeganWith} (old new : CoreValue) (waits : Bool) (txn : TxnValue) (outcome : Outcome) → IsCoreOf o began.stage old → IsTaken waits old txn outcome new → NodeHolds o began (node_of old views sent received receipts)
+        → NodeHolds o began (node_served (node_of old views sent received receipts) txn outcome)
+    taken_holds {began} old new true txn outcome known taken h = subst (λ (became : Outcome). NodeHolds o began (node_served (node_of old views sent received receipts) txn became)) (sym taken.told) h
+    taken_holds {began} old new false txn outcome known taken h =
+        subst (λ (became : Outcome). NodeHolds o began (node_served (node_of old views sent received receipts) txn became)) (sym taken.told)
         (served_holds o is old views sent received receipts known h txn)
 
-    pub core_submitted : (old new : CoreValue) (waits : Bool) (txn : TxnValue) (outcome : Outcome) → IsCoreOf o old → IsTaken waits old txn outcome new → NodeHolds o (node_of old views sent received receipts)
-        → NodeHolds o (node_of new views sent received (receipts_after old.store txn outcome receipts))
-    core_submitted old new waits txn outcome known taken h =
-        subst (NodeHolds o) (sym (submitted_is old new waits txn outcome taken)) (taken_holds old new waits txn outcome known taken h)
+    pub core_submitted : {began : BeganWith} (old new : CoreValue) (waits : Bool) (txn : TxnValue) (outcome : Outcome) → IsCoreOf o began.stage old → IsTaken waits old txn outcome new → NodeHolds o began (node_of old views sent received receipts)
+        → NodeHolds o began (node_of new views sent received (receipts_after old.store txn outcome receipts))
+    core_submitted {began} old new waits txn outcome known taken h =
+        subst (NodeHolds o began) (sym (submitted_is old new waits txn outcome taken)) (taken_holds old new waits txn outcome known taken h)
 
-    pub core_resumed : (old new : CoreValue) (resumed : Resumed) → IsCoreOf o old → IsResumed old resumed new → NodeHolds o (node_of old views sent received receipts)
-        → NodeHolds o (node_of new views sent received (receipts_after old.store resumed.txn resumed.outcome receipts))
-    core_resumed old new resumed known taken h =
-        subst (NodeHolds o) (sym (resumed_is old new resumed taken))
-        (subst (λ (became : Outcome). NodeHolds o (node_served (node_of old views sent received receipts) resumed.txn became)) (sym taken.told)
+    pub core_resumed : {began : BeganWith} (old new : CoreValue) (resumed : Resumed) → IsCoreOf o began.stage old → IsResumed old resumed new → NodeHolds o began (node_of old views sent received receipts)
+        → NodeHolds o began (node_of new views sent received (receipts_after old.store resumed.txn resumed.outcome receipts))
+    core_resumed {began} old new resumed known taken h =
+        subst (NodeHolds o began) (sym (resumed_is old new resumed taken))
+        (subst (λ (became : Outcome). NodeHolds o began (node_served (node_of old views sent received receipts) resumed.txn became)) (sym taken.told)
         (served_holds o is old views sent received receipts known h resumed.txn))

@@ -1,6 +1,6 @@
 -- The families of a partition once a transaction was answered at it.
-use Rattle.std.proofs.Common.{◌≡◌, ◌⊎◌, inl, inr, ⊎_elim, ℕ, suc, ◌+◌, ◌≤◌, true, false, ◌==◌, ◌&&◌, nat_le, nat_lt, if◌then◌else◌, List, [], ◌∷◌, ◌++◌, length, Option, Some, None, refl, sym, ap, ◌∙◌, subst, true≢false, append_assoc, length-append, arith}
-use Rattle.std.specs.Prelude.{◌≢◌, not, unwrap_or}
+use Rattle.std.proofs.Common.{◌≡◌, ◌⊎◌, inl, inr, ⊎_elim, ℕ, suc, ◌+◌, ◌≤◌, true, false, ◌==◌, ◌&&◌, nat_le, nat_lt, if◌then◌else◌, List, [], ◌∷◌, ◌++◌, length, Option, Some, None, refl, sym, ap, ◌∙◌, subst, true≢false, append_assoc, append-nil, length-append, arith}
+use Rattle.std.specs.Prelude.{◌≢◌, not, is_some, unwrap_or}
 use Rattle.std.specs.Cmp.{unsigned_tied, nat_cmp_total}
 use Rattle.std.specs.FinMap.{get, insert, get-insert}
 use Rattle.std.proofs.lemmas.Bool.{cases_Bool, ne_eqb, eq-eqb}
@@ -15,16 +15,28 @@ use Rattle.sq_store.proofs.Applies.{found_family, absent_family}
 use Rattle.sq_chunk.specs.ChunkValue.{ChunkValue, covers}
 use Rattle.sq_ranges.specs.OpeningValue.{OpeningValue}
 use Rattle.sq_model.specs.Tables.{opening_rows}
-use Rattle.sq_model.specs.Place.{source}
+use Rattle.sq_model.specs.Staged.{owner_in}
 use Rattle.sq_status.specs.View.{one_if}
+use Rattle.sq_node_model.specs.BeganWith.{BeganWith, is_given, given_family, is_opened}
 use Rattle.sq_node_model.specs.NodeValue.{ReceiptValue}
 use Rattle.sq_node_model.specs.Steps.{receipt_of}
 use Rattle.sq_node_model.specs.Chunks.{IsCovered}
-use Rattle.sq_node_model.specs.OutHolds.{is_opened}
 use Rattle.sq_node_model.specs.Receipts.{is_commit, names, times_named, IsToldBy}
 use Rattle.sq_node_model.specs.FamiliesHold.{IsHome, IsStored, IsCarried, IsKept, IsOf, GrowsFrom, brought, StoreHolds, FamiliesHold, ReceiptsHold}
 use Rattle.sq_node_model.proofs.Named.{unnamed, named_more}
-use Rattle.sq_node_model.proofs.Told.{told_more, told_new, one_more_position, from_zero, none_before}
+use Rattle.sq_node_model.proofs.Told.{told_more, told_new, one_more_position, none_before}
+
+-- a root key that was given no family
+pub not_given : (began : BeganWith) (root : ℕ) → is_given began root ≡ false → given_family began root ≡ absent root
+not_given began root none = here (began.families root) refl none
+  where
+    here : (found : Option FamilyValue) → began.families root ≡ found → is_some (began.families root) ≡ false → given_family began root ≡ absent root
+    here (Some family) e none = absurd (true≢false (sym (ap is_some e) ∙ none))
+    here None e none = ap (λ found. unwrap_or found (absent root)) e
+
+-- a family goes on from itself
+pub grows_itself : (family : FamilyValue) → GrowsFrom family family
+grows_itself family = record { base = refl; log = ([], sym (append-nil family.log)) }
 
 -- a root key without opening rows
 pub not_opened : (o : OpeningValue) (root : ℕ) → is_opened o root ≡ false → opening_rows o root ≡ []
@@ -35,8 +47,8 @@ not_opened o root none = here (opening_rows o root) none
     here (row ∷ rows) e = absurd (true≢false (sym (ap not (ne_eqb (suc (length rows)) 0 (λ z. omega (arith, z)))) ∙ e))
 
 -- a transaction that aborted leaves a receipt and nothing else
-pub receipts_aborted : (o : OpeningValue) (part : ℕ) (cut loaded : ChunkValue → Type 0) (store : StoreValue) (receipts : List ReceiptValue) (receipt : ReceiptValue) → is_commit receipt.reply ≡ false
-    → ReceiptsHold o part cut loaded store receipts → ReceiptsHold o part cut loaded store (receipts ++ receipt ∷ [])
+pub receipts_aborted : {began : BeganWith} (o : OpeningValue) (part : ℕ) (cut loaded : ChunkValue → Type 0) (store : StoreValue) (receipts : List ReceiptValue) (receipt : ReceiptValue) → is_commit receipt.reply ≡ false
+    → ReceiptsHold o began part cut loaded store receipts → ReceiptsHold o began part cut loaded store (receipts ++ receipt ∷ [])
 receipts_aborted o part cut loaded store receipts receipt aborted r = record {
   named_home = λ root family kept owned position. same root position ∙ r.named_home root family kept owned position;
   named_came = λ root chunk family has covered stored position. same root position ∙ r.named_came root chunk family has covered stored position;
@@ -53,10 +65,10 @@ receipts_aborted o part cut loaded store receipts receipt aborted r = record {
         named_more root position receipts receipt
         ∙ (let e : times_named root position receipts + one_if (names root position receipt) ≡ times_named root position receipts = omega (arith, none) in e)
 
-module _ (o : OpeningValue) (part : ℕ) (cut loaded : ChunkValue → Type 0) (store : StoreValue) (txn : TxnValue)
-    (here : IsHome o part cut txn.root ⊎ IsCovered loaded txn.root) (away : (root : ℕ) → IsCovered loaded root → source o root ≢ part)
-    (carried_cut : (other : ChunkValue) (root : ℕ) (family : FamilyValue) → cut other → IsCarried other root family → (source o root ≡ part) × (covers other.note root ≡ true))
-    (s : StoreHolds o part cut loaded store) (f : FamiliesHold o part cut loaded store) where
+module _ {began : BeganWith} (o : OpeningValue) (part : ℕ) (cut loaded : ChunkValue → Type 0) (store : StoreValue) (txn : TxnValue)
+    (here : IsHome o began.stage part cut txn.root ⊎ IsCovered loaded txn.root) (away : (root : ℕ) → IsCovered loaded root → owner_in o began.stage root ≢ part)
+    (carried_cut : (other : ChunkValue) (root : ℕ) (family : FamilyValue) → cut other → IsCarried other root family → (owner_in o began.stage root ≡ part) × (covers other.note root ≡ true))
+    (s : StoreHolds o began part cut loaded store) (f : FamiliesHold o began part cut loaded store) where
   abbrev was : FamilyValue
   was = family_at store txn.root
 
@@ -113,28 +125,33 @@ module _ (o : OpeningValue) (part : ℕ) (cut loaded : ChunkValue → Type 0) (s
       (λ none. subst (IsOf txn.root) (sym none.1) (record { same_root = refl; own_log = All-nil (λ (other : TxnValue). other.root ≡ txn.root) }))
       stood
 
-  pub store_answered : StoreHolds o part cut loaded more
+  pub store_answered : StoreHolds o began part cut loaded more
   store_answered = record {
     stored = λ root family has.
         ⊎_elim
-        (λ same. subst (λ k. IsHome o part cut k ⊎ IsCovered loaded k) (sym same.0) here)
+        (λ same. subst (λ k. IsHome o began.stage part cut k ⊎ IsCovered loaded k) (sym same.0) here)
         (λ old. s.stored root family old.1)
         (stored_now root family has);
     home = λ root at_home opened. let found = s.home root at_home opened in stored_some root found.0 found.1;
     came = λ root other family has carried. let found = s.came root other family has carried in stored_some root found.0 found.1;
   }
 
-  base_home : IsHome o part cut txn.root → was.base ≡ opening_rows o txn.root
-  base_home at_home =
+  -- the family goes on from what the root key was given, also where that is nothing
+  home_was_grown : IsHome o began.stage part cut txn.root → GrowsFrom (given_family began txn.root) was
+  home_was_grown at_home =
       ⊎_elim
-      (λ has. f.home_base txn.root was at_home has)
+      (λ has. f.home_grown txn.root was at_home has)
       (λ none.
-      ap (λ (family : FamilyValue). family.base) none.1
-      ∙ sym (not_opened o txn.root (elim (cases_Bool (is_opened o txn.root)) [
-        | inl opened ↦ let found = s.home txn.root at_home opened in absurd (not_stored found.0 none.0 found.1)
+      subst (λ first. GrowsFrom first was)
+      (none.1 ∙ sym (not_given began txn.root (elim (cases_Bool (is_given began txn.root)) [
+        | inl given ↦ let found = s.home txn.root at_home given in absurd (not_stored found.0 none.0 found.1)
         | inr e ↦ e
       ])))
+      (grows_itself was))
       stood
+
+  home_here : owner_in o began.stage txn.root ≡ part → IsHome o began.stage part cut txn.root
+  home_here owned = ⊎_elim (λ at_home. at_home) (λ covered. absurd (away txn.root covered owned)) here
 
   -- the family goes on from what was brought, also where that is nothing
   was_grown : (other : ChunkValue) → loaded other → covers other.note txn.root ≡ true → GrowsFrom (brought other txn.root) was
@@ -156,7 +173,7 @@ module _ (o : OpeningValue) (part : ℕ) (cut loaded : ChunkValue → Type 0) (s
     log = (g.log.0 ++ txn ∷ [], ap (λ log. log ++ txn ∷ []) g.log.1 ∙ append_assoc first.log g.log.0 (txn ∷ []));
   }
 
-  pub families_answered : FamiliesHold o part cut loaded more
+  pub families_answered : FamiliesHold o began part cut loaded more
   families_answered = record {
     keyed = λ root family kept.
         ⊎_elim
@@ -170,12 +187,15 @@ module _ (o : OpeningValue) (part : ℕ) (cut loaded : ChunkValue → Type 0) (s
         (stored_now root family stored))
         (λ went. f.keyed root family (inr went))
         kept;
-    home_base = λ root family at_home has.
+    home_grown = λ root family at_home has.
         ⊎_elim
-        (λ same. ap (λ (now : FamilyValue). now.base) (sym same.1) ∙ base_home (subst (IsHome o part cut) same.0 at_home) ∙ ap (opening_rows o) (sym same.0))
-        (λ old. f.home_base root family at_home old.1)
+        (λ same.
+        subst (λ now. GrowsFrom (given_family began root) now) same.1
+        (subst (λ k. GrowsFrom (given_family began k) new) (sym same.0)
+        (new_grown (given_family began txn.root) (home_was_grown (subst (IsHome o began.stage part cut) same.0 at_home)))))
+        (λ old. f.home_grown root family at_home old.1)
         (stored_now root family has);
-    cut_base = f.cut_base;
+    cut_grown = f.cut_grown;
     grown = λ root other family has covered stored.
         ⊎_elim
         (λ same.
@@ -186,7 +206,7 @@ module _ (o : OpeningValue) (part : ℕ) (cut loaded : ChunkValue → Type 0) (s
         (stored_now root family stored);
   }
 
-  module _ (receipts : List ReceiptValue) (r : ReceiptsHold o part cut loaded store receipts) (given : Reply) (commits : is_commit given ≡ true) (is : given ≡ store_reply store txn) where
+  module _ (receipts : List ReceiptValue) (r : ReceiptsHold o began part cut loaded store receipts) (given : Reply) (commits : is_commit given ≡ true) (is : given ≡ store_reply store txn) where
     abbrev receipt : ReceiptValue
     receipt = receipt_of store txn given
 
@@ -228,11 +248,15 @@ module _ (o : OpeningValue) (part : ℕ) (cut loaded : ChunkValue → Type 0) (s
         ∙ one_more_position first (length was.log) position low
         ∙ ap (λ n. one_if (nat_le first position && nat_lt position n)) (sym length_new)
 
-    home_before : source o txn.root ≡ part → (position : ℕ) → times_named txn.root position receipts ≡ one_if (nat_le 0 position && nat_lt position (length was.log))
+    home_before : owner_in o began.stage txn.root ≡ part → (position : ℕ)
+        → times_named txn.root position receipts ≡ one_if (nat_le (length (given_family began txn.root).log) position && nat_lt position (length was.log))
     home_before owned position =
         ⊎_elim
-        (λ has. r.named_home txn.root was (inl has) owned position ∙ sym (ap one_if (from_zero position (length was.log))))
-        (λ none. none_named none.0 position ∙ sym (ap (λ n. one_if (nat_le 0 position && nat_lt position n)) (empty_log none.1) ∙ none_before 0 position))
+        (λ has. r.named_home txn.root was (inl has) owned position)
+        (λ none.
+        none_named none.0 position
+        ∙ sym (ap (λ n. one_if (nat_le (length (given_family began txn.root).log) position && nat_lt position n)) (empty_log none.1)
+        ∙ none_before (length (given_family began txn.root).log) position))
         stood
 
     came_before : (other : ChunkValue) → loaded other → covers other.note txn.root ≡ true → (position : ℕ)
@@ -262,17 +286,18 @@ module _ (o : OpeningValue) (part : ℕ) (cut loaded : ChunkValue → Type 0) (s
         (λ went. (family, inr went, t))
         kept
 
-    pub receipts_answered : ReceiptsHold o part cut loaded more (receipts ++ receipt ∷ [])
+    pub receipts_answered : ReceiptsHold o began part cut loaded more (receipts ++ receipt ∷ [])
     receipts_answered = record {
       named_home = λ root family kept owned position.
           ⊎_elim
           (λ stored.
           ⊎_elim
           (λ same.
+          let owned_here : owner_in o began.stage txn.root ≡ part = ap (owner_in o began.stage) (sym same.0) ∙ owned in
           ap (λ k. times_named k position (receipts ++ receipt ∷ [])) same.0
-          ∙ named_here 0 position (omega arith) (home_before (ap (source o) (sym same.0) ∙ owned) position)
-          ∙ ap one_if (from_zero position (length new.log))
-          ∙ ap (λ (now : FamilyValue). one_if (nat_lt position (length now.log))) same.1)
+          ∙ named_here (length (given_family began txn.root).log) position (first_below (given_family began txn.root) (home_was_grown (home_here owned_here))) (home_before owned_here position)
+          ∙ ap (λ k. one_if (nat_le (length (given_family began k).log) position && nat_lt position (length new.log))) (sym same.0)
+          ∙ ap (λ (now : FamilyValue). one_if (nat_le (length (given_family began root).log) position && nat_lt position (length now.log))) same.1)
           (λ old. times_other root position old.0 ∙ r.named_home root family (inl old.1) owned position)
           (stored_now root family stored))
           (λ went.

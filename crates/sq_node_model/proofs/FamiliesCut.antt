@@ -8,7 +8,8 @@ use Rattle.sq_store.specs.StoreValue.{StoreValue, family_in, families_between, w
 use Rattle.sq_store.proofs.Between.{IsRooted, family_in-between, within-between, get-without}
 use Rattle.sq_chunk.specs.ChunkValue.{ChunkValue, covers, are_within}
 use Rattle.sq_ranges.specs.OpeningValue.{OpeningValue}
-use Rattle.sq_model.specs.Place.{source}
+use Rattle.sq_model.specs.Staged.{owner_in}
+use Rattle.sq_node_model.specs.BeganWith.{BeganWith}
 use Rattle.sq_node_model.specs.NodeValue.{ReceiptValue}
 use Rattle.sq_node_model.specs.Chunks.{IsCovered}
 use Rattle.sq_node_model.specs.OutHolds.{IsWholeChunk}
@@ -16,7 +17,7 @@ use Rattle.sq_node_model.specs.FamiliesHold.{IsHome, IsStored, IsCarried, IsKept
 use Rattle.sq_node_model.proofs.OneMore.{IsOneMore}
 
 -- where each stored family is its root key's, the store is kept by root key
-pub rooted_store : (o : OpeningValue) (part : ℕ) (cut loaded : ChunkValue → Type 0) (store : StoreValue) → FamiliesHold o part cut loaded store → IsRooted store
+pub rooted_store : {began : BeganWith} (o : OpeningValue) (part : ℕ) (cut loaded : ChunkValue → Type 0) (store : StoreValue) → FamiliesHold o began part cut loaded store → IsRooted store
 rooted_store o part cut loaded store f = record { root = λ key family e. (f.keyed key family (inl e)).same_root }
 
 -- what is found where a test holds, or where it doesn't, stands, and the test tells so
@@ -28,11 +29,11 @@ read_elsewhere : {X : Type 0} (test : Bool) (found stands : Option X) (x : X) �
 read_elsewhere true found stands x is has = absurd cc
 read_elsewhere false found stands x is has = (sym is ∙ has, refl)
 
-module _ (o : OpeningValue) (part : ℕ) (cut now loaded : ChunkValue → Type 0) (store : StoreValue) (chunk : ChunkValue)
+module _ {began : BeganWith} (o : OpeningValue) (part : ℕ) (cut now loaded : ChunkValue → Type 0) (store : StoreValue) (chunk : ChunkValue)
     (m : IsOneMore cut now chunk) (taken : chunk.families ≡ families_between store chunk.note.lo chunk.note.hi)
-    (home : (root : ℕ) → covers chunk.note root ≡ true → IsHome o part cut root) (away : (root : ℕ) → IsCovered loaded root → source o root ≢ part)
+    (home : (root : ℕ) → covers chunk.note root ≡ true → IsHome o began.stage part cut root) (away : (root : ℕ) → IsCovered loaded root → owner_in o began.stage root ≢ part)
     (carried_loaded : (other : ChunkValue) (root : ℕ) (family : FamilyValue) → loaded other → IsCarried other root family → covers other.note root ≡ true)
-    (s : StoreHolds o part cut loaded store) (f : FamiliesHold o part cut loaded store) where
+    (s : StoreHolds o began part cut loaded store) (f : FamiliesHold o began part cut loaded store) where
   abbrev left : StoreValue
   left = without_between store chunk.note.lo chunk.note.hi
 
@@ -54,10 +55,10 @@ module _ (o : OpeningValue) (part : ℕ) (cut now loaded : ChunkValue → Type 0
   stored_after : (root : ℕ) (family : FamilyValue) → IsStored store root family → covers chunk.note root ≡ false → IsStored left root family
   stored_after root family has e = is_left root ∙ ap (λ c. if c then None else get store root) e ∙ has
 
-  home_before : (root : ℕ) → IsHome o part now root → IsHome o part cut root
+  home_before : (root : ℕ) → IsHome o began.stage part now root → IsHome o began.stage part cut root
   home_before root h = record { owned = h.owned; uncut = λ other has. h.uncut other (m.more other has) }
 
-  home_after : (root : ℕ) → IsHome o part cut root → covers chunk.note root ≡ false → IsHome o part now root
+  home_after : (root : ℕ) → IsHome o began.stage part cut root → covers chunk.note root ≡ false → IsHome o began.stage part now root
   home_after root h e = record {
     owned = h.owned;
     uncut = λ other has. ⊎_elim (λ old. h.uncut other old) (λ new. subst (λ (c : ChunkValue). covers c.note root ≡ false) new e) (m.only other has);
@@ -93,7 +94,7 @@ module _ (o : OpeningValue) (part : ℕ) (cut now loaded : ChunkValue → Type 0
         | inr e ↦ e
       ]
 
-  pub store_cut : StoreHolds o part now loaded left
+  pub store_cut : StoreHolds o began part now loaded left
   store_cut = record {
     stored = λ root family has.
         let b = stored_before root family has in
@@ -106,21 +107,21 @@ module _ (o : OpeningValue) (part : ℕ) (cut now loaded : ChunkValue → Type 0
         (found.0, stored_after root found.0 found.1 (uncovered root (other, has, carried_loaded other root family has carried)));
   }
 
-  pub families_cut : FamiliesHold o part now loaded left
+  pub families_cut : FamiliesHold o began part now loaded left
   families_cut = record {
     keyed = λ root family kept. f.keyed root family (kept_before root family kept);
-    home_base = λ root family at_home has. f.home_base root family (home_before root at_home) (stored_before root family has).0;
-    cut_base = λ root other family has carried.
+    home_grown = λ root family at_home has. f.home_grown root family (home_before root at_home) (stored_before root family has).0;
+    cut_grown = λ root other family has carried.
         ⊎_elim
-        (λ old. f.cut_base root other family old carried)
+        (λ old. f.cut_grown root other family old carried)
         (λ new.
         let b = carried_stored root family (subst (λ c. IsCarried c root family) (sym new) carried) in
-        f.home_base root family (home root b.1) b.0)
+        f.home_grown root family (home root b.1) b.0)
         (m.only other has);
     grown = λ root other family has covered stored. f.grown root other family has covered (stored_before root family stored).0;
   }
 
-  pub receipts_cut : (receipts : List ReceiptValue) → ReceiptsHold o part cut loaded store receipts → ReceiptsHold o part now loaded left receipts
+  pub receipts_cut : (receipts : List ReceiptValue) → ReceiptsHold o began part cut loaded store receipts → ReceiptsHold o began part now loaded left receipts
   receipts_cut receipts r = record {
     named_home = λ root family kept owned position. r.named_home root family (kept_before root family kept) owned position;
     named_came = λ root other family has covered stored position. r.named_came root other family has covered (stored_before root family stored).0 position;
@@ -128,10 +129,10 @@ module _ (o : OpeningValue) (part : ℕ) (cut now loaded : ChunkValue → Type 0
   }
 
   -- the chunk has the families of its keys
-  pub whole_cut : IsWholeChunk o chunk
+  pub whole_cut : IsWholeChunk began chunk
   whole_cut = record {
     rising = subst (λ families. are_within chunk.note.lo chunk.note.hi families ≡ true) (sym taken) (within-between chunk.note.lo chunk.note.hi store (rooted_store o part cut loaded store f));
-    opening = λ root covered opened.
+    given = λ root covered opened.
         let found = s.home root (home root covered) opened in
         ap is_some (stored_carried root found.0 found.1 covered);
   }

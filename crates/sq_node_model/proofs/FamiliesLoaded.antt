@@ -8,8 +8,9 @@ use Rattle.sq_store.specs.StoreValue.{StoreValue, absent, family_in, with_famili
 use Rattle.sq_store.proofs.Rising.{get-with_families}
 use Rattle.sq_chunk.specs.ChunkValue.{ChunkValue, covers, are_within}
 use Rattle.sq_ranges.specs.OpeningValue.{OpeningValue}
-use Rattle.sq_model.specs.Place.{source}
+use Rattle.sq_model.specs.Staged.{owner_in}
 use Rattle.sq_status.specs.View.{one_if}
+use Rattle.sq_node_model.specs.BeganWith.{BeganWith}
 use Rattle.sq_node_model.specs.NodeValue.{ReceiptValue}
 use Rattle.sq_node_model.specs.Chunks.{IsCovered}
 use Rattle.sq_node_model.specs.Receipts.{times_named}
@@ -18,11 +19,11 @@ use Rattle.sq_node_model.proofs.OneMore.{IsOneMore}
 use Rattle.sq_node_model.proofs.Carried.{carried_covered}
 use Rattle.sq_node_model.proofs.Named.{unnamed, none_between}
 
-module _ (o : OpeningValue) (part : ℕ) (cut loaded now : ChunkValue → Type 0) (store : StoreValue) (chunk : ChunkValue)
+module _ {began : BeganWith} (o : OpeningValue) (part : ℕ) (cut loaded now : ChunkValue → Type 0) (store : StoreValue) (chunk : ChunkValue)
     (m : IsOneMore loaded now chunk) (rising : are_within chunk.note.lo chunk.note.hi chunk.families ≡ true) (own : (root : ℕ) (family : FamilyValue) → IsCarried chunk root family → IsOf root family)
-    (fresh : (root : ℕ) → covers chunk.note root ≡ true → IsCovered loaded root → ⊥) (away : (root : ℕ) → IsCovered now root → source o root ≢ part)
-    (carried_cut : (other : ChunkValue) (root : ℕ) (family : FamilyValue) → cut other → IsCarried other root family → source o root ≡ part)
-    (s : StoreHolds o part cut loaded store) (f : FamiliesHold o part cut loaded store) where
+    (fresh : (root : ℕ) → covers chunk.note root ≡ true → IsCovered loaded root → ⊥) (away : (root : ℕ) → IsCovered now root → owner_in o began.stage root ≢ part)
+    (carried_cut : (other : ChunkValue) (root : ℕ) (family : FamilyValue) → cut other → IsCarried other root family → owner_in o began.stage root ≡ part)
+    (s : StoreHolds o began part cut loaded store) (f : FamiliesHold o began part cut loaded store) where
   abbrev more : StoreValue
   more = with_families store chunk.families
 
@@ -33,7 +34,7 @@ module _ (o : OpeningValue) (part : ℕ) (cut loaded now : ChunkValue → Type 0
   covered root family has = carried_covered chunk root family rising has
 
   -- a key of the chunk isn't the partition's own, and had no family here
-  not_own : (root : ℕ) → covers chunk.note root ≡ true → source o root ≢ part
+  not_own : (root : ℕ) → covers chunk.note root ≡ true → owner_in o began.stage root ≢ part
   not_own root e = away root (chunk, m.new, e)
 
   not_stored : (root : ℕ) (family : FamilyValue) → covers chunk.note root ≡ true → IsStored store root family → ⊥
@@ -62,10 +63,10 @@ module _ (o : OpeningValue) (part : ℕ) (cut loaded now : ChunkValue → Type 0
   stored_other : (root : ℕ) (family : FamilyValue) → IsStored more root family → (covers chunk.note root ≡ true → ⊥) → IsStored store root family
   stored_other root family has apart = ⊎_elim (λ carried. absurd (apart (covered root family carried))) (λ old. old.1) (stored_before root family has)
 
-  own_apart : (root : ℕ) → source o root ≡ part → covers chunk.note root ≡ true → ⊥
+  own_apart : (root : ℕ) → owner_in o began.stage root ≡ part → covers chunk.note root ≡ true → ⊥
   own_apart root owned e = not_own root e owned
 
-  pub store_loaded : StoreHolds o part cut now more
+  pub store_loaded : StoreHolds o began part cut now more
   store_loaded = record {
     stored = λ root family has.
         ⊎_elim
@@ -90,15 +91,15 @@ module _ (o : OpeningValue) (part : ℕ) (cut loaded now : ChunkValue → Type 0
   grows_itself : (family : FamilyValue) → GrowsFrom family family
   grows_itself family = record { base = refl; log = ([], sym (append-nil family.log)) }
 
-  pub families_loaded : FamiliesHold o part cut now more
+  pub families_loaded : FamiliesHold o began part cut now more
   families_loaded = record {
     keyed = λ root family kept.
         ⊎_elim
         (λ stored. ⊎_elim (λ carried. own root family carried) (λ old. f.keyed root family (inl old.1)) (stored_before root family stored))
         (λ went. f.keyed root family (inr went))
         kept;
-    home_base = λ root family at_home has. f.home_base root family at_home (stored_other root family has (own_apart root at_home.owned));
-    cut_base = f.cut_base;
+    home_grown = λ root family at_home has. f.home_grown root family at_home (stored_other root family has (own_apart root at_home.owned));
+    cut_grown = f.cut_grown;
     grown = λ root other family has e stored.
         ⊎_elim
         (λ old. f.grown root other family old e (stored_other root family stored (λ here. fresh root here (other, old, e))))
@@ -110,7 +111,7 @@ module _ (o : OpeningValue) (part : ℕ) (cut loaded now : ChunkValue → Type 0
   }
 
   -- nothing is named of a key that wasn't here
-  none_named : (receipts : List ReceiptValue) → ReceiptsHold o part cut loaded store receipts → (root : ℕ) → covers chunk.note root ≡ true → (position : ℕ) → times_named root position receipts ≡ 0
+  none_named : (receipts : List ReceiptValue) → ReceiptsHold o began part cut loaded store receipts → (root : ℕ) → covers chunk.note root ≡ true → (position : ℕ) → times_named root position receipts ≡ 0
   none_named receipts r root e position =
       unnamed root position receipts (λ receipt has commit of_root.
       let t = r.told receipt has commit in
@@ -119,7 +120,7 @@ module _ (o : OpeningValue) (part : ℕ) (cut loaded now : ChunkValue → Type 0
       (λ went. own_apart root (carried_cut went.0 root t.0 went.1 (subst (λ k. IsCarried went.0 k t.0) of_root went.2)) e)
       t.1)
 
-  pub receipts_loaded : (receipts : List ReceiptValue) → ReceiptsHold o part cut loaded store receipts → ReceiptsHold o part cut now more receipts
+  pub receipts_loaded : (receipts : List ReceiptValue) → ReceiptsHold o began part cut loaded store receipts → ReceiptsHold o began part cut now more receipts
   receipts_loaded receipts r = record {
     named_home = λ root family kept owned position.
         ⊎_elim

@@ -1,6 +1,7 @@
 pub mod Puts
 pub mod Members
 pub mod Works
+pub mod Staged
 pub mod Keys
 pub mod Trees
 pub mod Carried
@@ -25,3 +26,4 @@ pub mod CoreBegun
 pub mod CoreLinks
 pub mod CoreServed
 pub mod CoreNew
+pub mod Began

@@ -11,8 +11,9 @@ use Rattle.sq_exec.specs.OutLink.{OutLinkValue}
 use Rattle.sq_exec.specs.Moving.{with_work}
 use Rattle.sq_exec.proofs.GivenUp.{given_up-with}
 use Rattle.sq_model.specs.Place.{extent_of, is_within}
-use Rattle.sq_model.specs.Links.{is_on_link}
 use Rattle.sq_model.proofs.Lists.{Contains-first, Contains-later, Contains-cases}
+use Rattle.sq_node_model.specs.Stages.{is_on_link_in}
+use Rattle.sq_node_model.specs.BeganWith.{BeganWith}
 use Rattle.sq_node_model.specs.NodeValue.{NodeValue, put}
 use Rattle.sq_node_model.specs.Steps.{node_begun}
 use Rattle.sq_node_model.specs.Chunks.{cut_to}
@@ -46,7 +47,7 @@ pub record IsWholeWork (o : OpeningValue) (work : WorkValue) : Type 0 where
   pub from : work.rest ≡ (extent_of o work.seg work.node).lo
   pub upto : work.hi ≡ (extent_of o work.seg work.node).hi
 
-module _ (o : OpeningValue) (node : NodeValue) (h : NodeHolds o node) (dst : ℕ) (work : WorkValue) (linked : is_on_link o node.part dst work.seg ≡ true) (is_one : is_node work.node ≡ true) (whole : IsWholeWork o work)
+module _ {began : BeganWith} (o : OpeningValue) (node : NodeValue) (h : NodeHolds o began node) (dst : ℕ) (work : WorkValue) (linked : is_on_link_in o began.stage node.part dst work.seg ≡ true) (is_one : is_node work.node ≡ true) (whole : IsWholeWork o work)
     (fresh : (q : ℕ) → Contains (node.begun work.seg) (work.node, q) → ⊥)
     (alone : (root m : ℕ) → IsNamed (node.begun work.seg) m → is_within (extent_of o work.seg work.node) root ≡ true → is_within (extent_of o work.seg m) root ≡ true → work.node ≡ m) where
   abbrev after : NodeValue
@@ -68,10 +69,10 @@ module _ (o : OpeningValue) (node : NodeValue) (h : NodeHolds o node) (dst : ℕ
       (λ g apart. h.begun.leaves g leaf low)
       g
 
-  begun_after : BegunHolds o node.part after.begun after.given_up
+  begun_after : BegunHolds o began.stage node.part after.begun after.given_up
   begun_after = record {
     outward = λ g m named.
-        ⊎_elim (λ old. h.begun.outward g m old) (λ new. (dst, subst (λ k. is_on_link o node.part dst k ≡ true) new.0 linked)) (named_before g m named);
+        ⊎_elim (λ old. h.begun.outward g m old) (λ new. (dst, subst (λ k. is_on_link_in o began.stage node.part dst k ≡ true) new.0 linked)) (named_before g m named);
     nodes = λ g m named. ⊎_elim (λ old. h.begun.nodes g m old) (λ new. subst (λ k. is_node k ≡ true) new.1 is_one) (named_before g m named);
     apart = λ root g m k one other within within'.
         ⊎_elim
@@ -98,15 +99,15 @@ module _ (o : OpeningValue) (node : NodeValue) (h : NodeHolds o node) (dst : ℕ
   work_is : work ≡ record { seg = work.seg; node = work.node; pull = work.pull; rest = (extent_of o work.seg work.node).lo; hi = (extent_of o work.seg work.node).hi }
   work_is = λ i. record { seg = work.seg; node = work.node; pull = work.pull; rest = whole.from i; hi = whole.upto i }
 
-  outs_after : (k : ℕ) → OutHolds o node.part after.begun k (after.outs k).notes (after.outs k).work (cut_to after k)
+  outs_after : (k : ℕ) → OutHolds o began node.part after.begun k (after.outs k).notes (after.outs k).work (cut_to after k)
   outs_after =
-      put_each (λ k (end : OutLinkValue). OutHolds o node.part after.begun k end.notes end.work (node.sent k ++ option_to_list end.outbox)) dst (with_work (node.outs dst) work) node.outs
-      (out_begun o node.part node.begun after.begun work.seg work.node work.pull b dst (node.outs dst).notes (node.outs dst).work (cut_to node dst) (h.outs dst) fresh work linked work_is)
-      (λ k apart. out_other o node.part node.begun after.begun work.seg work.node work.pull b dst k (node.outs k).notes (node.outs k).work (cut_to node k) linked apart (h.outs k))
+      put_each (λ k (end : OutLinkValue). OutHolds o began node.part after.begun k end.notes end.work (node.sent k ++ option_to_list end.outbox)) dst (with_work (node.outs dst) work) node.outs
+      (out_begun began o node.part node.begun after.begun work.seg work.node work.pull b dst (node.outs dst).notes (node.outs dst).work (cut_to node dst) (h.outs dst) fresh work linked work_is)
+      (λ k apart. out_other began o node.part node.begun after.begun work.seg work.node work.pull b dst k (node.outs k).notes (node.outs k).work (cut_to node k) linked apart (h.outs k))
 
   -- nothing more was cut
   same_cut : (k : ℕ) → cut_to after k ≡ cut_to node k
   same_cut = put_each (λ k (end : OutLinkValue). node.sent k ++ option_to_list end.outbox ≡ cut_to node k) dst (with_work (node.outs dst) work) node.outs refl (λ k apart. refl)
 
-  pub keeps_begun : NodeHolds o after
+  pub keeps_begun : NodeHolds o began after
   keeps_begun = keeps_outs o node h after.begun after.given_up after.outs node.sent begun_after outs_after same_cut

@@ -9,11 +9,14 @@ use Rattle.sq_ranges.specs.Opening.{IsOpening}
 use Rattle.sq_exec.specs.Work.{WorkValue, work_after}
 use Rattle.sq_exec.specs.OutLink.{OutLinkValue}
 use Rattle.sq_model.specs.Place.{extent_of, is_within}
-use Rattle.sq_model.specs.Links.{reached, is_on_link}
+use Rattle.sq_model.specs.Links.{reached}
 use Rattle.sq_model.proofs.Lists.{Contains-slice_get}
-use Rattle.sq_model.proofs.Notes.{on_link_goes, goes_once}
+use Rattle.sq_model.proofs.Notes.{goes_once}
 use Rattle.sq_model.proofs.Tiles.{reached_within}
 use Rattle.sq_model.proofs.Apart.{covers_bounds}
+use Rattle.sq_node_model.specs.Stages.{is_on_link_in}
+use Rattle.sq_node_model.proofs.Staged.{on_link_goes}
+use Rattle.sq_node_model.specs.BeganWith.{BeganWith}
 use Rattle.sq_node_model.specs.NodeValue.{NodeValue, put}
 use Rattle.sq_node_model.specs.Steps.{node_cut}
 use Rattle.sq_node_model.specs.Chunks.{cut_to, HasCut, HasLoaded}
@@ -28,10 +31,10 @@ use Rattle.sq_node_model.proofs.Outs.{IsNoteOf, tile_of, noted, out_cut}
 use Rattle.sq_node_model.proofs.Facts.{loaded_away, loaded_carried, own_note, own_within}
 use Rattle.sq_node_model.proofs.FamiliesCut.{store_cut, families_cut, receipts_cut, whole_cut}
 
-module _ (o : OpeningValue) (is : IsOpening o) (node : NodeValue) (h : NodeHolds o node) (dst place : ℕ) (work : WorkValue) (chunk : ChunkValue)
+module _ {began : BeganWith} (o : OpeningValue) (is : IsOpening o) (node : NodeValue) (h : NodeHolds o began node) (dst place : ℕ) (work : WorkValue) (chunk : ChunkValue)
     (there : slice_get (node.outs dst).work place ≡ Some work) (empty : (node.outs dst).outbox ≡ None)
     (note_is : IsNoteOf node.part dst (length (node.outs dst).notes) work chunk.note) (taken : chunk.families ≡ families_between node.store chunk.note.lo chunk.note.hi) where
-  was : IsOpenWork o node.part node.begun (node.outs dst).notes dst work
+  was : IsOpenWork o began.stage node.part node.begun (node.outs dst).notes dst work
   was = (h.outs dst).work work (Contains-slice_get (node.outs dst).work place work there)
 
   -- the chunk's keys are of the work's node
@@ -58,7 +61,7 @@ module _ (o : OpeningValue) (is : IsOpening o) (node : NodeValue) (h : NodeHolds
       let same_node : other.note.node ≡ work.node =
       h.begun.apart root work.seg other.note.node work.node named (work.pull, was.on) (subst (λ g. is_within (extent_of o g other.note.node) root ≡ true) same_seg within) (within_work root covered) in
       let same_link : has.0 ≡ dst =
-      (goes_once o work.seg node.part has.0 node.part dst (on_link_goes o node.part has.0 work.seg (subst (λ g. is_on_link o node.part has.0 g ≡ true) same_seg own.segment)) (on_link_goes o node.part dst work.seg was.segment)).1 in
+      (goes_once o work.seg node.part has.0 node.part dst (on_link_goes o began.stage node.part has.0 work.seg (subst (λ g. is_on_link_in o began.stage node.part has.0 g ≡ true) same_seg own.segment)) (on_link_goes o began.stage node.part dst work.seg was.segment)).1 in
       let here : Contains (cut_to node dst) other = subst (λ d. Contains (cut_to node d) other) same_link has.1 in
       let out = node.outs dst in
       let behind = (tile_of o node.part dst node.begun out.notes out.work (cut_to node dst) (h.outs dst) other.note (noted o node.part dst node.begun out.notes out.work (cut_to node dst) (h.outs dst) other here)).behind in
@@ -68,9 +71,9 @@ module _ (o : OpeningValue) (is : IsOpening o) (node : NodeValue) (h : NodeHolds
       let from = note_is.from in
       omega arith
 
-  home : (root : ℕ) → covers chunk.note root ≡ true → IsHome o node.part (HasCut node) root
+  home : (root : ℕ) → covers chunk.note root ≡ true → IsHome o began.stage node.part (HasCut node) root
   home root covered = record {
-    owned = (moved_from o is root work.seg work.node node.part dst (within_work root covered) was.segment).source_is;
+    owned = (moved_from o is began.stage root work.seg work.node node.part dst (within_work root covered) was.segment).source_is;
     uncut = λ other has.
         elim (cases_Bool (covers other.note root)) [
           | inl e ↦ absurd (uncovered root covered other has e)
@@ -101,15 +104,15 @@ module _ (o : OpeningValue) (is : IsOpening o) (node : NodeValue) (h : NodeHolds
   more : IsOneMore (HasCut node) (HasCut after) chunk
   more = one_more (cut_to node) (cut_to after) dst chunk cut_after
 
-  outs_after : (k : ℕ) → OutHolds o node.part node.begun k (after.outs k).notes (after.outs k).work (cut_to after k)
+  outs_after : (k : ℕ) → OutHolds o began node.part node.begun k (after.outs k).notes (after.outs k).work (cut_to after k)
   outs_after =
-      put_each (λ k (end : OutLinkValue). OutHolds o node.part node.begun k end.notes end.work (node.sent k ++ option_to_list end.outbox)) dst out node.outs
-      (subst (λ list. OutHolds o node.part node.begun dst out.notes out.work (list ++ chunk ∷ [])) cut_before
+      put_each (λ k (end : OutLinkValue). OutHolds o began node.part node.begun k end.notes end.work (node.sent k ++ option_to_list end.outbox)) dst out node.outs
+      (subst (λ list. OutHolds o began node.part node.begun dst out.notes out.work (list ++ chunk ∷ [])) cut_before
       (out_cut o node.part dst node.begun (node.outs dst).notes (node.outs dst).work (cut_to node dst) (h.outs dst) place work there chunk note_is
       (whole_cut o node.part (HasCut node) (HasCut after) (HasLoaded node) node.store chunk more taken home (loaded_away o is node h) (loaded_carried o is node h) h.store h.families)))
       (λ k apart. h.outs k)
 
-  pub keeps_cut : NodeHolds o after
+  pub keeps_cut : NodeHolds o began after
   keeps_cut = record {
     below = h.below;
     begun = h.begun;

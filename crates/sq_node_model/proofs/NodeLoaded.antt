@@ -7,7 +7,8 @@ use Rattle.sq_schema.specs.Family.{FamilyValue}
 use Rattle.sq_chunk.specs.ChunkValue.{ChunkValue, covers, are_within}
 use Rattle.sq_ranges.specs.OpeningValue.{OpeningValue}
 use Rattle.sq_ranges.specs.Opening.{IsOpening}
-use Rattle.sq_model.specs.Place.{source}
+use Rattle.sq_model.specs.Staged.{owner_in}
+use Rattle.sq_node_model.specs.BeganWith.{BeganWith}
 use Rattle.sq_node_model.specs.NodeValue.{NodeValue, put}
 use Rattle.sq_node_model.specs.Steps.{node_received, node_loaded}
 use Rattle.sq_node_model.specs.Chunks.{IsInOne, loaded_from, HasCut, HasLoaded, IsCovered, HasLast}
@@ -36,7 +37,7 @@ but_last received chunk =
     let n : length (received ++ chunk ∷ []) - 1 ≡ length received = omega (arith, length-append received (chunk ∷ [])) in
     ap (λ k. take k (received ++ chunk ∷ [])) n ∙ take-append_seam received (chunk ∷ [])
 
-module _ (o : OpeningValue) (node : NodeValue) (h : NodeHolds o node) (src : ℕ) (chunk : ChunkValue) (empty : node.inboxes src ≡ None) where
+module _ {began : BeganWith} (o : OpeningValue) (node : NodeValue) (h : NodeHolds o began node) (src : ℕ) (chunk : ChunkValue) (empty : node.inboxes src ≡ None) where
   abbrev received : NodeValue
   received = node_received node src chunk
 
@@ -53,15 +54,15 @@ module _ (o : OpeningValue) (node : NodeValue) (h : NodeHolds o node) (src : ℕ
   same_lists : loaded_from received ≡ loaded_from node
   same_lists = λ i k. same_loaded k i
 
-  ins_received : (k : ℕ) → InHolds o node.part k (received.received k) (loaded_from received k) (received.inboxes k)
+  ins_received : (k : ℕ) → InHolds o began.stage node.part k (received.received k) (loaded_from received k) (received.inboxes k)
   ins_received =
-      put_both (λ k list inbox. InHolds o node.part k list (but_inbox list inbox) inbox) src (node.received src ++ chunk ∷ []) (Some chunk) node.received node.inboxes
-      (subst (λ list. InHolds o node.part src (node.received src ++ chunk ∷ []) list (Some chunk)) (sym (but_last (node.received src) chunk))
-      (let before = subst (λ list. InHolds o node.part src (node.received src) list (node.inboxes src)) all_loaded (h.ins src) in
+      put_both (λ k list inbox. InHolds o began.stage node.part k list (but_inbox list inbox) inbox) src (node.received src ++ chunk ∷ []) (Some chunk) node.received node.inboxes
+      (subst (λ list. InHolds o began.stage node.part src (node.received src ++ chunk ∷ []) list (Some chunk)) (sym (but_last (node.received src) chunk))
+      (let before = subst (λ list. InHolds o began.stage node.part src (node.received src) list (node.inboxes src)) all_loaded (h.ins src) in
       record { order = refl; arrived = before.arrived; rising = before.rising }))
       (λ k apart. h.ins k)
 
-  pub keeps_received : NodeHolds o received
+  pub keeps_received : NodeHolds o began received
   keeps_received = record {
     below = h.below;
     begun = h.begun;
@@ -69,13 +70,13 @@ module _ (o : OpeningValue) (node : NodeValue) (h : NodeHolds o node) (src : ℕ
     ins = ins_received;
     loaded = subst (λ lists. LoadedHolds node.loaded (IsInOne lists)) (sym same_lists) h.loaded;
     completed = subst (λ (lists : ℕ → List ChunkValue). (seg n pull : ℕ) → Contains (node.completed seg) (n, pull) → HasLast (IsInOne lists) seg n) (sym same_lists) h.completed;
-    store = subst (λ lists. StoreHolds o node.part (HasCut node) (IsInOne lists) node.store) (sym same_lists) h.store;
-    families = subst (λ lists. FamiliesHold o node.part (HasCut node) (IsInOne lists) node.store) (sym same_lists) h.families;
-    receipts = subst (λ lists. ReceiptsHold o node.part (HasCut node) (IsInOne lists) node.store node.receipts) (sym same_lists) h.receipts;
+    store = subst (λ lists. StoreHolds o began node.part (HasCut node) (IsInOne lists) node.store) (sym same_lists) h.store;
+    families = subst (λ lists. FamiliesHold o began node.part (HasCut node) (IsInOne lists) node.store) (sym same_lists) h.families;
+    receipts = subst (λ lists. ReceiptsHold o began node.part (HasCut node) (IsInOne lists) node.store node.receipts) (sym same_lists) h.receipts;
   }
 
-module _ (o : OpeningValue) (is : IsOpening o) (node : NodeValue) (h : NodeHolds o node) (src : ℕ) (chunk : ChunkValue) (came : node.inboxes src ≡ Some chunk)
-    (arrived : HasArrived o src node.part chunk.note) (rising : are_within chunk.note.lo chunk.note.hi chunk.families ≡ true) (own : (root : ℕ) (family : FamilyValue) → IsCarried chunk root family → IsOf root family)
+module _ {began : BeganWith} (o : OpeningValue) (is : IsOpening o) (node : NodeValue) (h : NodeHolds o began node) (src : ℕ) (chunk : ChunkValue) (came : node.inboxes src ≡ Some chunk)
+    (arrived : HasArrived o began.stage src node.part chunk.note) (rising : are_within chunk.note.lo chunk.note.hi chunk.families ≡ true) (own : (root : ℕ) (family : FamilyValue) → IsCarried chunk root family → IsOf root family)
     (fresh : (root : ℕ) → covers chunk.note root ≡ true → IsCovered (HasLoaded node) root → ⊥) where
   abbrev after : NodeValue
   after = node_loaded node src chunk
@@ -93,16 +94,16 @@ module _ (o : OpeningValue) (is : IsOpening o) (node : NodeValue) (h : NodeHolds
   more : IsOneMore (HasLoaded node) (HasLoaded after) chunk
   more = one_more (loaded_from node) (loaded_from after) src chunk loaded_after
 
-  ins_after : (k : ℕ) → InHolds o node.part k (node.received k) (loaded_from after k) (after.inboxes k)
+  ins_after : (k : ℕ) → InHolds o began.stage node.part k (node.received k) (loaded_from after k) (after.inboxes k)
   ins_after =
-      put_each (λ k inbox. InHolds o node.part k (node.received k) (but_inbox (node.received k) inbox) inbox) src None node.inboxes
-      (subst (λ list. InHolds o node.part src (node.received src) list None) (sym (but_none (node.received src)))
+      put_each (λ k inbox. InHolds o began.stage node.part k (node.received k) (but_inbox (node.received k) inbox) inbox) src None node.inboxes
+      (subst (λ list. InHolds o began.stage node.part src (node.received src) list None) (sym (but_none (node.received src)))
       (record {
         order = sym (append-nil (node.received src));
         arrived = λ other has.
             ⊎_elim
             (λ old. (h.ins src).arrived other old)
-            (λ new. subst (λ (c : ChunkValue). HasArrived o src node.part c.note) new arrived)
+            (λ new. subst (λ (c : ChunkValue). HasArrived o began.stage src node.part c.note) new arrived)
             (Contains-push_cases (loaded_from node src) chunk other (subst (λ list. Contains list other) whole_list has));
         rising = λ other has.
             ⊎_elim
@@ -112,19 +113,19 @@ module _ (o : OpeningValue) (is : IsOpening o) (node : NodeValue) (h : NodeHolds
       }))
       (λ k apart. h.ins k)
 
-  away_after : (root : ℕ) → IsCovered (HasLoaded after) root → source o root ≢ node.part
+  away_after : (root : ℕ) → IsCovered (HasLoaded after) root → owner_in o began.stage root ≢ node.part
   away_after root covered =
       ⊎_elim
       (λ old. loaded_away o is node h root (covered.0, old, covered.2))
       (λ new.
       let here : covers chunk.note root ≡ true = subst (λ (c : ChunkValue). covers c.note root ≡ true) (sym new) covered.2 in
-      not_owned o is root chunk.note.seg chunk.note.node src node.part (arrived_within o src node.part chunk.note root arrived here) arrived.segment)
+      not_owned o is began.stage root chunk.note.seg chunk.note.node src node.part (arrived_within o began.stage src node.part chunk.note root arrived here) arrived.segment)
       (more.only covered.0 covered.1)
 
-  carried_owned : (other : ChunkValue) (root : ℕ) (family : FamilyValue) → HasCut node other → IsCarried other root family → source o root ≡ node.part
+  carried_owned : (other : ChunkValue) (root : ℕ) (family : FamilyValue) → HasCut node other → IsCarried other root family → owner_in o began.stage root ≡ node.part
   carried_owned other root family has carried = (cut_carried o is node h other root family has carried).0
 
-  pub keeps_loaded : NodeHolds o after
+  pub keeps_loaded : NodeHolds o began after
   keeps_loaded = record {
     below = h.below;
     begun = h.begun;

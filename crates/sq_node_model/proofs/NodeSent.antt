@@ -10,6 +10,7 @@ use Rattle.sq_ranges.specs.OpeningValue.{OpeningValue}
 use Rattle.sq_ranges.specs.Opening.{IsOpening}
 use Rattle.sq_exec.specs.OutLink.{OutLinkValue}
 use Rattle.sq_model.proofs.Lists.{Contains-cases}
+use Rattle.sq_node_model.specs.BeganWith.{BeganWith}
 use Rattle.sq_node_model.specs.NodeValue.{NodeValue}
 use Rattle.sq_node_model.specs.Steps.{node_sent, node_completed, receipt_of, node_answered}
 use Rattle.sq_node_model.specs.Chunks.{cut_to, HasCut, HasLoaded, IsCovered, HasLast}
@@ -21,7 +22,7 @@ use Rattle.sq_node_model.proofs.Facts.{loaded_away, cut_carried}
 use Rattle.sq_node_model.proofs.FamiliesAnswered.{receipts_aborted, store_answered, families_answered, receipts_answered}
 use Rattle.sq_node_model.proofs.Changed.{keeps_outs, keeps_families}
 
-module _ (o : OpeningValue) (node : NodeValue) (h : NodeHolds o node) (dst : ℕ) (chunk : ChunkValue) (full : (node.outs dst).outbox ≡ Some chunk) where
+module _ {began : BeganWith} (o : OpeningValue) (node : NodeValue) (h : NodeHolds o began node) (dst : ℕ) (chunk : ChunkValue) (full : (node.outs dst).outbox ≡ Some chunk) where
   abbrev sent : NodeValue
   sent = node_sent node dst chunk
 
@@ -37,17 +38,17 @@ module _ (o : OpeningValue) (node : NodeValue) (h : NodeHolds o node) (dst : ℕ
       put_both (λ k (end : OutLinkValue) list. list ++ option_to_list end.outbox ≡ cut_to node k) dst emptied (node.sent dst ++ chunk ∷ []) node.outs node.sent
       moved_over (λ k apart. refl)
 
-  outs_sent : (k : ℕ) → OutHolds o node.part node.begun k (sent.outs k).notes (sent.outs k).work (cut_to sent k)
+  outs_sent : (k : ℕ) → OutHolds o began node.part node.begun k (sent.outs k).notes (sent.outs k).work (cut_to sent k)
   outs_sent =
-      put_both (λ k (end : OutLinkValue) list. OutHolds o node.part node.begun k end.notes end.work (list ++ option_to_list end.outbox)) dst emptied (node.sent dst ++ chunk ∷ []) node.outs node.sent
-      (subst (OutHolds o node.part node.begun dst (node.outs dst).notes (node.outs dst).work) (sym moved_over) (h.outs dst))
+      put_both (λ k (end : OutLinkValue) list. OutHolds o began node.part node.begun k end.notes end.work (list ++ option_to_list end.outbox)) dst emptied (node.sent dst ++ chunk ∷ []) node.outs node.sent
+      (subst (OutHolds o began node.part node.begun dst (node.outs dst).notes (node.outs dst).work) (sym moved_over) (h.outs dst))
       (λ k apart. h.outs k)
 
-  pub keeps_sent : NodeHolds o sent
+  pub keeps_sent : NodeHolds o began sent
   keeps_sent = keeps_outs o node h node.begun node.given_up sent.outs sent.sent h.begun outs_sent same_cut
 
 -- a tree node is completed whose last chunk was loaded
-pub keeps_completed : (o : OpeningValue) (node : NodeValue) (seg n pull : ℕ) → HasLast (HasLoaded node) seg n → NodeHolds o node → NodeHolds o (node_completed node seg n pull)
+pub keeps_completed : {began : BeganWith} (o : OpeningValue) (node : NodeValue) (seg n pull : ℕ) → HasLast (HasLoaded node) seg n → NodeHolds o began node → NodeHolds o began (node_completed node seg n pull)
 keeps_completed o node seg n pull last h = record {
   below = h.below;
   begun = h.begun;
@@ -69,8 +70,8 @@ keeps_completed o node seg n pull last h = record {
 }
 
 -- a transaction is answered whose root key is at home or was loaded
-pub keeps_answered : (o : OpeningValue) → IsOpening o → (node : NodeValue) (txn : TxnValue) (given : Reply) → IsHome o node.part (HasCut node) txn.root ⊎ IsCovered (HasLoaded node) txn.root → given ≡ store_reply node.store txn
-    → NodeHolds o node → NodeHolds o (node_answered node txn given)
+pub keeps_answered : {began : BeganWith} (o : OpeningValue) → IsOpening o → (node : NodeValue) (txn : TxnValue) (given : Reply) → IsHome o began.stage node.part (HasCut node) txn.root ⊎ IsCovered (HasLoaded node) txn.root → given ≡ store_reply node.store txn
+    → NodeHolds o began node → NodeHolds o began (node_answered node txn given)
 keeps_answered o is node txn (Aborted at cause) here given_is h =
     let receipt = receipt_of node.store txn (Aborted at cause) in
     keeps_families o node h node.store (node.receipts ++ receipt ∷ []) h.store h.families (receipts_aborted o node.part (HasCut node) (HasLoaded node) node.store node.receipts receipt refl h.receipts)

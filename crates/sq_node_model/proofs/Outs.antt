@@ -9,18 +9,21 @@ use Rattle.sq_chunk.specs.ChunkValue.{ChunkValue, covers}
 use Rattle.sq_ranges.specs.OpeningValue.{OpeningValue}
 use Rattle.sq_exec.specs.Work.{WorkValue, work_from, work_after}
 use Rattle.sq_model.specs.Place.{extent_of, is_within}
-use Rattle.sq_model.specs.Links.{is_about, has_last, end_of_note, reached, is_on_link}
+use Rattle.sq_model.specs.Links.{is_about, has_last, end_of_note, reached}
 use Rattle.sq_model.specs.Orderly.{AreNumbered, GoesOn, Tiles}
 use Rattle.sq_model.proofs.Lists.{any_in, found_in, Contains-slice_get}
-use Rattle.sq_model.proofs.Notes.{on_link_goes, goes_once}
+use Rattle.sq_model.proofs.Notes.{goes_once}
 use Rattle.sq_model.proofs.Tiles.{about_is, is_about-from, IsTile, tile}
 use Rattle.sq_model.proofs.Apart.{covers_extent}
+use Rattle.sq_node_model.specs.Stages.{is_on_link_in}
+use Rattle.sq_node_model.proofs.Staged.{on_link_goes}
+use Rattle.sq_node_model.specs.BeganWith.{BeganWith}
 use Rattle.sq_node_model.specs.BegunHolds.{IsNamed}
 use Rattle.sq_node_model.specs.OutHolds.{IsOwnNote, IsWholeChunk, IsOpenWork, is_work_on, NoneTwice, OutHolds}
 use Rattle.sq_node_model.proofs.Members.{Contains-reverse, Contains-unreversed, Contains-map, push_stood}
 use Rattle.sq_node_model.proofs.Works.{on_node, on_node-from, IsLeft, is_left}
 
-module _ (o : OpeningValue) (part dst : ℕ) (begun : ℕ → List (ℕ × ℕ)) (notes : List Note) (works : List WorkValue) (cut : List ChunkValue) (h : OutHolds o part begun dst notes works cut) where
+module _ {began : BeganWith} (o : OpeningValue) (part dst : ℕ) (begun : ℕ → List (ℕ × ℕ)) (notes : List Note) (works : List WorkValue) (cut : List ChunkValue) (h : OutHolds o began part begun dst notes works cut) where
   -- a chunk that was cut has its note among them
   pub noted : (chunk : ChunkValue) → Contains cut chunk → Contains notes chunk.note
   noted chunk has = subst (λ (list : List Note). Contains list chunk.note) (sym h.noted) (Contains-map (λ (c : ChunkValue). c.note) cut chunk has)
@@ -38,8 +41,8 @@ pub record Begins (begun now : ℕ → List (ℕ × ℕ)) (seg n pull : ℕ) : T
   pub new : Contains (now seg) (n, pull)
   pub only : (g m q : ℕ) → Contains (now g) (m, q) → Contains (begun g) (m, q) ⊎ ((seg ≡ g) × (n ≡ m) × (pull ≡ q))
 
-module _ (o : OpeningValue) (part : ℕ) (begun now : ℕ → List (ℕ × ℕ)) (seg n pull : ℕ) (b : Begins begun now seg n pull) where
-  own_more : (d : ℕ) (note : Note) → IsOwnNote o part begun d note → IsOwnNote o part now d note
+module _ (began : BeganWith) (o : OpeningValue) (part : ℕ) (begun now : ℕ → List (ℕ × ℕ)) (seg n pull : ℕ) (b : Begins begun now seg n pull) where
+  own_more : (d : ℕ) (note : Note) → IsOwnNote o began.stage part begun d note → IsOwnNote o began.stage part now d note
   own_more d note own = record {
     comes_from = own.comes_from;
     goes_to = own.goes_to;
@@ -47,7 +50,7 @@ module _ (o : OpeningValue) (part : ℕ) (begun now : ℕ → List (ℕ × ℕ))
     about = (own.about.0, b.more note.seg (note.node, own.about.0) own.about.1);
   }
 
-  work_more : (d : ℕ) (notes : List Note) (work : WorkValue) → IsOpenWork o part begun notes d work → IsOpenWork o part now notes d work
+  work_more : (d : ℕ) (notes : List Note) (work : WorkValue) → IsOpenWork o began.stage part begun notes d work → IsOpenWork o began.stage part now notes d work
   work_more d notes work w = record {
     segment = w.segment;
     on = b.more work.seg (work.node, work.pull) w.on;
@@ -57,8 +60,8 @@ module _ (o : OpeningValue) (part : ℕ) (begun now : ℕ → List (ℕ × ℕ))
   }
 
   -- the links to other partitions stay as they are
-  pub out_other : (dst d : ℕ) (notes : List Note) (works : List WorkValue) (cut : List ChunkValue) → is_on_link o part dst seg ≡ true → d ≢ dst
-      → OutHolds o part begun d notes works cut → OutHolds o part now d notes works cut
+  pub out_other : (dst d : ℕ) (notes : List Note) (works : List WorkValue) (cut : List ChunkValue) → is_on_link_in o began.stage part dst seg ≡ true → d ≢ dst
+      → OutHolds o began part begun d notes works cut → OutHolds o began part now d notes works cut
   out_other dst d notes works cut linked apart h = record {
     noted = h.noted;
     numbered = h.numbered;
@@ -69,13 +72,13 @@ module _ (o : OpeningValue) (part : ℕ) (begun now : ℕ → List (ℕ × ℕ))
     each = λ g m q goes has unended.
         ⊎_elim
         (λ old. h.each g m q goes old unended)
-        (λ new. absurd (apart (goes_once o seg part d part dst (on_link_goes o part d seg (subst (λ k. is_on_link o part d k ≡ true) (sym new.0) goes)) (on_link_goes o part dst seg linked)).1))
+        (λ new. absurd (apart (goes_once o seg part d part dst (on_link_goes o began.stage part d seg (subst (λ k. is_on_link_in o began.stage part d k ≡ true) (sym new.0) goes)) (on_link_goes o began.stage part dst seg linked)).1))
         (b.only g m q has);
     once = h.once;
   }
 
   -- the link of the node has all of it to cut
-  module _ (dst : ℕ) (notes : List Note) (works : List WorkValue) (cut : List ChunkValue) (h : OutHolds o part begun dst notes works cut) (fresh : (q : ℕ) → Contains (begun seg) (n, q) → ⊥) where
+  module _ (dst : ℕ) (notes : List Note) (works : List WorkValue) (cut : List ChunkValue) (h : OutHolds o began part begun dst notes works cut) (fresh : (q : ℕ) → Contains (begun seg) (n, q) → ⊥) where
     not_about : (note : Note) → Contains notes note → is_about seg n note ≡ true → ⊥
     not_about note has about =
         let is = about_is seg n note about in
@@ -105,8 +108,8 @@ module _ (o : OpeningValue) (part : ℕ) (begun now : ℕ → List (ℕ × ℕ))
     not_open i one at same there =
         fresh one.pull (subst₂ (λ g m. Contains (begun g) (m, one.pull)) same there (h.work one (Contains-slice_get works i one at)).on)
 
-    pub out_begun : (work : WorkValue) → is_on_link o part dst seg ≡ true → work ≡ record { seg = seg; node = n; pull = pull; rest = (extent_of o seg n).lo; hi = (extent_of o seg n).hi }
-        → OutHolds o part now dst notes (works ++ work ∷ []) cut
+    pub out_begun : (work : WorkValue) → is_on_link_in o began.stage part dst seg ≡ true → work ≡ record { seg = seg; node = n; pull = pull; rest = (extent_of o seg n).lo; hi = (extent_of o seg n).hi }
+        → OutHolds o began part now dst notes (works ++ work ∷ []) cut
     out_begun work linked is =
         let same = ap (λ (w : WorkValue). w.seg) is in
         let there = ap (λ (w : WorkValue). w.node) is in
@@ -119,7 +122,7 @@ module _ (o : OpeningValue) (part : ℕ) (begun now : ℕ → List (ℕ × ℕ))
           work = λ one has.
               ⊎_elim
               (λ old. work_more dst notes one (h.work one old))
-              (λ new. subst (IsOpenWork o part now notes dst) (sym is ∙ new) whole)
+              (λ new. subst (IsOpenWork o began.stage part now notes dst) (sym is ∙ new) whole)
               (Contains-push_cases works work one has);
           each = λ g m q goes has unended.
               ⊎_elim
@@ -129,7 +132,7 @@ module _ (o : OpeningValue) (part : ℕ) (begun now : ℕ → List (ℕ × ℕ))
           once = one_each;
         }
       where
-        whole : IsOpenWork o part now notes dst (record { seg = seg; node = n; pull = pull; rest = (extent_of o seg n).lo; hi = (extent_of o seg n).hi })
+        whole : IsOpenWork o began.stage part now notes dst (record { seg = seg; node = n; pull = pull; rest = (extent_of o seg n).lo; hi = (extent_of o seg n).hi })
         whole = record { segment = linked; on = b.new; open_yet = none_last; rest = sym from_start; upto = refl }
 
         one_each : NoneTwice (works ++ work ∷ [])
@@ -165,15 +168,15 @@ pub record IsNoteOf (part dst number : ℕ) (work : WorkValue) (note : Note) : T
   pub upto : note.hi ≤ work.hi
   pub is_last : note.last ≡ (note.hi == work.hi)
 
-module _ (o : OpeningValue) (part dst : ℕ) (begun : ℕ → List (ℕ × ℕ)) (notes : List Note) (works : List WorkValue) (cut : List ChunkValue) (h : OutHolds o part begun dst notes works cut)
-    (i : ℕ) (work : WorkValue) (there : slice_get works i ≡ Some work) (chunk : ChunkValue) (is : IsNoteOf part dst (length notes) work chunk.note) (whole : IsWholeChunk o chunk) where
+module _ {began : BeganWith} (o : OpeningValue) (part dst : ℕ) (begun : ℕ → List (ℕ × ℕ)) (notes : List Note) (works : List WorkValue) (cut : List ChunkValue) (h : OutHolds o began part begun dst notes works cut)
+    (i : ℕ) (work : WorkValue) (there : slice_get works i ≡ Some work) (chunk : ChunkValue) (is : IsNoteOf part dst (length notes) work chunk.note) (whole : IsWholeChunk began chunk) where
   abbrev note : Note
   note = chunk.note
 
   turned : reverse (notes ++ note ∷ []) ≡ note ∷ reverse notes
   turned = reverse-append notes (note ∷ [])
 
-  was : IsOpenWork o part begun notes dst work
+  was : IsOpenWork o began.stage part begun notes dst work
   was = h.work work (Contains-slice_get works i work there)
 
   -- the note is about the work's node
@@ -192,11 +195,11 @@ module _ (o : OpeningValue) (part dst : ℕ) (begun : ℕ → List (ℕ × ℕ))
         | inr none ↦ none
       ]
 
-  own_note : IsOwnNote o part begun dst note
+  own_note : IsOwnNote o began.stage part begun dst note
   own_note = record {
     comes_from = is.comes_from;
     goes_to = is.goes_to;
-    segment = subst (λ g. is_on_link o part dst g ≡ true) (sym is.same_seg) was.segment;
+    segment = subst (λ g. is_on_link_in o began.stage part dst g ≡ true) (sym is.same_seg) was.segment;
     about = (work.pull, subst₂ (λ g m. Contains (begun g) (m, work.pull)) (sym is.same_seg) (sym is.same_node) was.on);
   }
 
@@ -213,7 +216,7 @@ module _ (o : OpeningValue) (part dst : ℕ) (begun : ℕ → List (ℕ × ℕ))
       ends = was.upto ∙ ap₂ (λ g m. (extent_of o g m).hi) (sym is.same_seg) (sym is.same_node)
 
   -- work on another node is open as it was
-  other_open : (other : WorkValue) → IsOpenWork o part begun notes dst other → is_work_on work.seg work.node other ≡ false → IsOpenWork o part begun (notes ++ note ∷ []) dst other
+  other_open : (other : WorkValue) → IsOpenWork o began.stage part begun notes dst other → is_work_on work.seg work.node other ≡ false → IsOpenWork o began.stage part begun (notes ++ note ∷ []) dst other
   other_open other w off =
       let apart = off_node other off in
       record {
@@ -228,7 +231,7 @@ module _ (o : OpeningValue) (part dst : ℕ) (begun : ℕ → List (ℕ × ℕ))
       }
 
   -- the work goes on where the chunk ends
-  next_open : note.hi ≢ work.hi → IsOpenWork o part begun (notes ++ note ∷ []) dst (work_from work note.hi)
+  next_open : note.hi ≢ work.hi → IsOpenWork o began.stage part begun (notes ++ note ∷ []) dst (work_from work note.hi)
   next_open apart = record {
     segment = was.segment;
     on = was.on;
@@ -246,7 +249,7 @@ module _ (o : OpeningValue) (part dst : ℕ) (begun : ℕ → List (ℕ × ℕ))
   left = is_left works i note.hi work there h.once
 
   -- each node without a last note has its work still
-  each_left : (g m q : ℕ) → is_on_link o part dst g ≡ true → Contains (begun g) (m, q) → has_last g m (note ∷ reverse notes) ≡ false → (one : WorkValue) × Contains (work_after works i note.hi) one × (is_work_on g m one ≡ true)
+  each_left : (g m q : ℕ) → is_on_link_in o began.stage part dst g ≡ true → Contains (begun g) (m, q) → has_last g m (note ∷ reverse notes) ≡ false → (one : WorkValue) × Contains (work_after works i note.hi) one × (is_work_on g m one ≡ true)
   each_left g m q goes has unended =
       elim (cases_Bool (is_about g m note)) [
         | inl about ↦
@@ -268,17 +271,17 @@ module _ (o : OpeningValue) (part dst : ℕ) (begun : ℕ → List (ℕ × ℕ))
             | inr apart ↦ apart
           ]
 
-  pub out_cut : OutHolds o part begun dst (notes ++ note ∷ []) (work_after works i note.hi) (cut ++ chunk ∷ [])
+  pub out_cut : OutHolds o began part begun dst (notes ++ note ∷ []) (work_after works i note.hi) (cut ++ chunk ∷ [])
   out_cut = record {
     noted = ap (λ list. list ++ note ∷ []) h.noted ∙ sym (map-append (λ (c : ChunkValue). c.note) cut (chunk ∷ []));
     numbered = subst AreNumbered (sym turned) (is.counted ∙ sym (length-reverse notes), h.numbered);
-    own = λ other has. ⊎_elim (λ old. h.own other old) (λ new. subst (IsOwnNote o part begun dst) new own_note) (Contains-push_cases notes note other has);
+    own = λ other has. ⊎_elim (λ old. h.own other old) (λ new. subst (IsOwnNote o began.stage part begun dst) new own_note) (Contains-push_cases notes note other has);
     tiles = subst (Tiles o) (sym turned) (goes_on, h.tiles);
-    chunks = λ other has. ⊎_elim (λ old. h.chunks other old) (λ new. subst (IsWholeChunk o) new whole) (Contains-push_cases cut chunk other has);
+    chunks = λ other has. ⊎_elim (λ old. h.chunks other old) (λ new. subst (IsWholeChunk began) new whole) (Contains-push_cases cut chunk other has);
     work = λ other has.
         ⊎_elim
         (λ old. other_open other (h.work other old.0) old.1)
-        (λ next. subst (IsOpenWork o part begun (notes ++ note ∷ []) dst) next.1 (next_open next.0))
+        (λ next. subst (IsOpenWork o began.stage part begun (notes ++ note ∷ []) dst) next.1 (next_open next.0))
         (left.only other has);
     each = λ g m q goes has unended. each_left g m q goes has (sym (ap (has_last g m) turned) ∙ unended);
     once = left.once;

@@ -6,7 +6,7 @@ use Rattle.sq_tree.specs.Node.{is_node, is_above}
 use Rattle.sq_ranges.specs.OpeningValue.{OpeningValue}
 use Rattle.sq_exec.specs.GivenUp.{is_given_up}
 use Rattle.sq_model.specs.Place.{extent_of, is_within}
-use Rattle.sq_model.specs.Links.{is_on_link}
+use Rattle.sq_node_model.specs.Stages.{is_on_link_in}
 
 -- the tree node is one of these, each of which has a pull
 abbrev pub IsNamed : List (ℕ × ℕ) → ℕ → Type 0
@@ -16,9 +16,9 @@ IsNamed entries n = (pull : ℕ) × Contains entries (n, pull)
 abbrev pub is_leaf_under : List (ℕ × ℕ) → ℕ → Bool
 is_leaf_under entries leaf = list_any (λ entry. is_above entry.0 leaf) entries
 
--- the begun nodes are nodes of segments that leave the partition, no two of one segment have a key in common, and just their leaves are given up
-pub record BegunHolds (o : OpeningValue) (part : ℕ) (begun : ℕ → List (ℕ × ℕ)) (given_up : ℕ → List Bool) : Type 0 where
-  pub outward : (seg n : ℕ) → IsNamed (begun seg) n → (dst : ℕ) × (is_on_link o part dst seg ≡ true)
+-- the begun nodes are nodes of segments of the stage that leave the partition, no two of one segment have a key in common, and just their leaves are given up
+pub record BegunHolds (o : OpeningValue) (i part : ℕ) (begun : ℕ → List (ℕ × ℕ)) (given_up : ℕ → List Bool) : Type 0 where
+  pub outward : (seg n : ℕ) → IsNamed (begun seg) n → (dst : ℕ) × (is_on_link_in o i part dst seg ≡ true)
   pub nodes : (seg n : ℕ) → IsNamed (begun seg) n → is_node n ≡ true
   pub apart : (root seg n m : ℕ) → IsNamed (begun seg) n → IsNamed (begun seg) m → is_within (extent_of o seg n) root ≡ true → is_within (extent_of o seg m) root ≡ true → n ≡ m
   pub leaves : (seg leaf : ℕ) → leaf < LEAVES → is_given_up (given_up seg) leaf ≡ is_leaf_under (begun seg) leaf

@@ -1,22 +1,20 @@
 -- What holds of the families of a partition: which root keys have one, what each starts from, and which receipts were written for its log.
-use Rattle.std.specs.Prelude.{◌≡◌, ◌⊎◌, ℕ, true, false, ◌&&◌, nat_lt, nat_le, List, ◌++◌, length, All, Contains, Some, unwrap_or}
+use Rattle.std.specs.Prelude.{◌≡◌, ◌⊎◌, ℕ, true, false, ◌&&◌, nat_lt, nat_le, List, length, Contains, Some, unwrap_or}
 use Rattle.std.specs.FinMap.{get}
-use Rattle.sq_schema.specs.TxnValue.{TxnValue}
 use Rattle.sq_schema.specs.Family.{FamilyValue}
 use Rattle.sq_store.specs.StoreValue.{StoreValue, absent, family_in}
 use Rattle.sq_chunk.specs.ChunkValue.{ChunkValue, covers}
 use Rattle.sq_ranges.specs.OpeningValue.{OpeningValue}
-use Rattle.sq_model.specs.Tables.{opening_rows}
-use Rattle.sq_model.specs.Place.{source}
+use Rattle.sq_model.specs.Staged.{owner_in}
 use Rattle.sq_status.specs.View.{one_if}
 use Rattle.sq_node_model.specs.NodeValue.{ReceiptValue}
 use Rattle.sq_node_model.specs.Chunks.{IsCovered}
-use Rattle.sq_node_model.specs.OutHolds.{is_opened}
 use Rattle.sq_node_model.specs.Receipts.{is_commit, times_named, IsToldBy}
+pub use Rattle.sq_node_model.specs.BeganWith.{BeganWith, is_given, given_family, BeginsWith, IsOf, GrowsFrom}
 
--- the root key is where it was before the move: the partition owned it, and no chunk that was cut covers it
-pub record IsHome (o : OpeningValue) (part : ℕ) (cut : ChunkValue → Type 0) (root : ℕ) : Type 0 where
-  pub owned : source o root ≡ part
+-- the root key is where it was as the stage began: the partition owned it, and no chunk that was cut covers it
+pub record IsHome (o : OpeningValue) (i part : ℕ) (cut : ChunkValue → Type 0) (root : ℕ) : Type 0 where
+  pub owned : owner_in o i root ≡ part
   pub uncut : (chunk : ChunkValue) → cut chunk → covers chunk.note root ≡ false
 
 -- the store has this family for the root key
@@ -35,36 +33,23 @@ IsKept cut store root family = IsStored store root family ⊎ ((chunk : ChunkVal
 abbrev pub brought : ChunkValue → ℕ → FamilyValue
 brought chunk root = unwrap_or (family_in chunk.families root) (absent root)
 
--- the first transactions of a log are these
-abbrev pub BeginsWith : List TxnValue → List TxnValue → Type 0
-BeginsWith front log = (more : List TxnValue) × (log ≡ front ++ more)
-
--- the family and its log are the root key's
-pub record IsOf (root : ℕ) (family : FamilyValue) : Type 0 where
-  pub same_root : family.root ≡ root
-  pub own_log : All (λ txn. txn.root ≡ root) family.log
-
--- the family has the base of the other, and a log that goes on from the other's
-pub record GrowsFrom (first family : FamilyValue) : Type 0 where
-  pub base : family.base ≡ first.base
-  pub log : BeginsWith first.log family.log
-
--- a root key with a family is at home or was loaded; each opening root that is at home has one, and each root of a loaded chunk
-pub record StoreHolds (o : OpeningValue) (part : ℕ) (cut loaded : ChunkValue → Type 0) (store : StoreValue) : Type 0 where
-  pub stored : (root : ℕ) (family : FamilyValue) → IsStored store root family → IsHome o part cut root ⊎ IsCovered loaded root
-  pub home : (root : ℕ) → IsHome o part cut root → is_opened o root ≡ true → (family : FamilyValue) × IsStored store root family
+-- a root key with a family is at home or was loaded; each root key at home that was given a family has one, and each root of a loaded chunk
+pub record StoreHolds (o : OpeningValue) (began : BeganWith) (part : ℕ) (cut loaded : ChunkValue → Type 0) (store : StoreValue) : Type 0 where
+  pub stored : (root : ℕ) (family : FamilyValue) → IsStored store root family → IsHome o began.stage part cut root ⊎ IsCovered loaded root
+  pub home : (root : ℕ) → IsHome o began.stage part cut root → is_given began root ≡ true → (family : FamilyValue) × IsStored store root family
   pub came : (root : ℕ) (chunk : ChunkValue) (family : FamilyValue) → loaded chunk → IsCarried chunk root family → (now : FamilyValue) × IsStored store root now
 
--- each family that is kept is its root key's; one that is at home, or was, starts from the opening rows; and one that was loaded goes on from what was brought
-pub record FamiliesHold (o : OpeningValue) (part : ℕ) (cut loaded : ChunkValue → Type 0) (store : StoreValue) : Type 0 where
+-- each family that is kept is its root key's; one that is at home, or was, goes on from what the root key was given; and one that was loaded goes on from what was brought
+pub record FamiliesHold (o : OpeningValue) (began : BeganWith) (part : ℕ) (cut loaded : ChunkValue → Type 0) (store : StoreValue) : Type 0 where
   pub keyed : (root : ℕ) (family : FamilyValue) → IsKept cut store root family → IsOf root family
-  pub home_base : (root : ℕ) (family : FamilyValue) → IsHome o part cut root → IsStored store root family → family.base ≡ opening_rows o root
-  pub cut_base : (root : ℕ) (chunk : ChunkValue) (family : FamilyValue) → cut chunk → IsCarried chunk root family → family.base ≡ opening_rows o root
+  pub home_grown : (root : ℕ) (family : FamilyValue) → IsHome o began.stage part cut root → IsStored store root family → GrowsFrom (given_family began root) family
+  pub cut_grown : (root : ℕ) (chunk : ChunkValue) (family : FamilyValue) → cut chunk → IsCarried chunk root family → GrowsFrom (given_family began root) family
   pub grown : (root : ℕ) (chunk : ChunkValue) (family : FamilyValue) → loaded chunk → covers chunk.note root ≡ true → IsStored store root family → GrowsFrom (brought chunk root) family
 
--- the committed receipts name each position of a log that was written here once, and nothing else: all of it where the partition owned the root key, and what came after the brought part where it was loaded
-pub record ReceiptsHold (o : OpeningValue) (part : ℕ) (cut loaded : ChunkValue → Type 0) (store : StoreValue) (receipts : List ReceiptValue) : Type 0 where
-  pub named_home : (root : ℕ) (family : FamilyValue) → IsKept cut store root family → source o root ≡ part → (position : ℕ) → times_named root position receipts ≡ one_if (nat_lt position (length family.log))
+-- the committed receipts name each position of a log that was written here once, and nothing else: what came after the given part where the partition owned the root key, and what came after the brought part where it was loaded
+pub record ReceiptsHold (o : OpeningValue) (began : BeganWith) (part : ℕ) (cut loaded : ChunkValue → Type 0) (store : StoreValue) (receipts : List ReceiptValue) : Type 0 where
+  pub named_home : (root : ℕ) (family : FamilyValue) → IsKept cut store root family → owner_in o began.stage root ≡ part → (position : ℕ)
+      → times_named root position receipts ≡ one_if (nat_le (length (given_family began root).log) position && nat_lt position (length family.log))
   pub named_came : (root : ℕ) (chunk : ChunkValue) (family : FamilyValue) → loaded chunk → covers chunk.note root ≡ true → IsStored store root family → (position : ℕ)
       → times_named root position receipts ≡ one_if (nat_le (length (brought chunk root).log) position && nat_lt position (length family.log))
   pub told : (receipt : ReceiptValue) → Contains receipts receipt → is_commit receipt.reply ≡ true → (family : FamilyValue) × IsKept cut store receipt.root family × IsToldBy family receipt

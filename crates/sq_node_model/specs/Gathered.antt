@@ -5,11 +5,12 @@ use Rattle.sq_tree.specs.declared.status.Status.{Status}
 use Rattle.sq_store.specs.StoreValue.{StoreValue}
 use Rattle.sq_chunk.specs.declared.chunk.Note.{Note}
 use Rattle.sq_chunk.specs.ChunkValue.{ChunkValue}
-use Rattle.sq_ranges.specs.ReconValue.{is_link}
 use Rattle.sq_ranges.specs.OpeningValue.{OpeningValue}
+use Rattle.sq_node_model.specs.Stages.{is_link_in}
 use Rattle.sq_status.specs.declared.view.View.{View}
 use Rattle.sq_status.specs.Rule.{IsTreeOf}
 use Rattle.sq_node_model.specs.NodeValue.{ReceiptValue, NodeValue}
+use Rattle.sq_node_model.specs.BeganWith.{BeganWith}
 use Rattle.sq_node_model.specs.NodeHolds.{NodeHolds}
 
 -- a link that is closed: the notes of all chunks that were cut for it, and the chunks that were cut and not loaded, both the oldest first
@@ -19,17 +20,18 @@ pub record GatheredLink : Type 0 where
   pub notes : List Note
   pub under_way : List ChunkValue
 
--- the families by partition, the links, the statuses of the tree nodes by segment, and all receipts
+-- which stage ran, the families by partition, the links, the statuses of the tree nodes by segment, and all receipts
 pub record GatheredValue : Type 0 where
+  pub stage : ℕ
   pub stores : List StoreValue
   pub links : List GatheredLink
   pub words : List (List Status)
   pub receipts : List ReceiptValue
 
--- there is one link from a partition to another where a range moves, and no other
-pub record HasEachLink (o : OpeningValue) (links : List GatheredLink) : Type 0 where
-  pub ends : (src dst : ℕ) → is_some (position (λ link. (link.src == src) && (link.dst == dst)) links) ≡ is_link o.recon.ranges src dst
-  pub one_each : (i j : ℕ) (one other : GatheredLink) → slice_get links i ≡ Some one → slice_get links j ≡ Some other → one.src ≡ other.src → one.dst ≡ other.dst → i ≡ j
+-- there is one link from a partition to another where a range moves in the stage, and no other
+pub record HasEachLink (o : OpeningValue) (i : ℕ) (links : List GatheredLink) : Type 0 where
+  pub ends : (src dst : ℕ) → is_some (position (λ link. (link.src == src) && (link.dst == dst)) links) ≡ is_link_in o i src dst
+  pub one_each : (j k : ℕ) (one other : GatheredLink) → slice_get links j ≡ Some one → slice_get links k ≡ Some other → one.src ≡ other.src → one.dst ≡ other.dst → j ≡ k
 
 -- the link is that of the nodes at its ends: what the source sent is what the destination received and what the queue held, and under way is what is in the inbox, the queue and the outbox
 pub record IsClosedLink (nodes : List NodeValue) (link : GatheredLink) : Type 0 where
@@ -49,14 +51,15 @@ pub record IsClosedTree (nodes : List NodeValue) (words : List (List Status)) (s
   pub begun : view.begun ≡ flat_map (λ node. node.begun seg) nodes
   pub completed : view.completed ≡ flat_map (λ node. node.completed seg) nodes
 
--- this is gathered of these nodes, which are all, in the order of their partitions
-pub record Gathers (o : OpeningValue) (nodes : List NodeValue) (g : GatheredValue) : Type 0 where
+-- this is gathered of these nodes, which are all, in the order of their partitions; the receipts are those so far and then theirs
+pub record Gathers (o : OpeningValue) (began : BeganWith) (nodes : List NodeValue) (g : GatheredValue) : Type 0 where
+  pub stage : g.stage ≡ began.stage
   pub count : length nodes ≡ o.old.parts
   pub parts : (p : ℕ) (node : NodeValue) → slice_get nodes p ≡ Some node → node.part ≡ p
-  pub holds : (p : ℕ) (node : NodeValue) → slice_get nodes p ≡ Some node → NodeHolds o node
+  pub holds : (p : ℕ) (node : NodeValue) → slice_get nodes p ≡ Some node → NodeHolds o began node
   pub stores : g.stores ≡ map (λ node. node.store) nodes
-  pub receipts : g.receipts ≡ flat_map (λ node. node.receipts) nodes
-  pub each_link : HasEachLink o g.links
+  pub receipts : g.receipts ≡ began.receipts ++ flat_map (λ node. node.receipts) nodes
+  pub each_link : HasEachLink o g.stage g.links
   pub links : (i : ℕ) (link : GatheredLink) → slice_get g.links i ≡ Some link → IsClosedLink nodes link
   pub all_words : length g.words ≡ length o.recon.segments
   pub trees : (seg : ℕ) → seg < length o.recon.segments → IsClosedTree nodes g.words seg

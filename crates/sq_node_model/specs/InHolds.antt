@@ -5,17 +5,17 @@ use Rattle.sq_chunk.specs.declared.chunk.Note.{Note}
 use Rattle.sq_chunk.specs.ChunkValue.{ChunkValue, are_within}
 use Rattle.sq_ranges.specs.OpeningValue.{OpeningValue}
 use Rattle.sq_model.specs.Place.{extent_of}
-use Rattle.sq_model.specs.Links.{is_on_link}
+use Rattle.sq_node_model.specs.Stages.{is_on_link_in}
 
--- the note is about keys of a node of a segment that goes from the one partition to the other
-pub record HasArrived (o : OpeningValue) (src dst : ℕ) (note : Note) : Type 0 where
+-- the note is about keys of a node of a segment that goes from the one partition to the other in this stage
+pub record HasArrived (o : OpeningValue) (i src dst : ℕ) (note : Note) : Type 0 where
   pub node : is_node note.node ≡ true
-  pub segment : is_on_link o src dst note.seg ≡ true
+  pub segment : is_on_link_in o i src dst note.seg ≡ true
   pub from : (extent_of o note.seg note.node).lo ≤ note.lo
   pub upto : note.hi ≤ (extent_of o note.seg note.node).hi
 
 -- what was received is what was loaded, and then what is in the inbox; and what was loaded belongs here, with families whose roots rise
-pub record InHolds (o : OpeningValue) (part src : ℕ) (received loaded : List ChunkValue) (inbox : Option ChunkValue) : Type 0 where
+pub record InHolds (o : OpeningValue) (i part src : ℕ) (received loaded : List ChunkValue) (inbox : Option ChunkValue) : Type 0 where
   pub order : received ≡ loaded ++ option_to_list inbox
-  pub arrived : (chunk : ChunkValue) → Contains loaded chunk → HasArrived o src part chunk.note
+  pub arrived : (chunk : ChunkValue) → Contains loaded chunk → HasArrived o i src part chunk.note
   pub rising : (chunk : ChunkValue) → Contains loaded chunk → are_within chunk.note.lo chunk.note.hi chunk.families ≡ true

@@ -8,28 +8,29 @@ use Rattle.sq_chunk.specs.declared.chunk.Note.{Note}
 use Rattle.sq_chunk.specs.ChunkValue.{ChunkValue, are_within}
 use Rattle.sq_ranges.specs.OpeningValue.{OpeningValue}
 use Rattle.sq_model.specs.Tables.{opening_rows}
-use Rattle.sq_model.specs.Links.{has_last, is_on_link}
+use Rattle.sq_model.specs.Links.{has_last}
 use Rattle.sq_model.specs.Orderly.{AreNumbered, Tiles, AreDisjoint}
+use Rattle.sq_node_model.specs.Stages.{is_on_link_in}
 use Rattle.sq_status.specs.View.{one_if}
 use Rattle.sq_node_model.specs.NodeValue.{ReceiptValue}
-use Rattle.sq_node_model.specs.OutHolds.{is_opened}
+use Rattle.sq_node_model.specs.BeganWith.{BeganWith, is_opened}
 use Rattle.sq_node_model.specs.Receipts.{is_commit, times_named, IsToldBy}
-use Rattle.sq_node_model.specs.FamiliesHold.{IsOf}
+use Rattle.sq_node_model.specs.FamiliesHold.{IsOf, GrowsFrom}
 use Rattle.sq_node_model.specs.declared.spot.Spot.{Spot}
 use Rattle.sq_node_model.specs.Gathered.{GatheredLink, GatheredValue, HasEachLink}
 use Rattle.sq_node_model.specs.Spots.{loaded_count, cut_notes, loaded_notes, place_in, word_in, StandsAt, IsSpotOf}
 
--- there is a store for each partition, a link wherever a range moves, and a tree for each segment
+-- there is a store for each partition, a link wherever a range moves in the stage, and a tree for each segment
 pub record HasEachPart (o : OpeningValue) (g : GatheredValue) : Type 0 where
   pub all_stores : length g.stores ≡ o.old.parts
-  pub each_link : HasEachLink o g.links
+  pub each_link : HasEachLink o g.stage g.links
   pub all_words : length g.words ≡ length o.recon.segments
 
--- the note goes along the link, and is about a node of the tree of one of its segments, which was begun
+-- the note goes along the link, and is about a node of the tree of one of its segments of the stage, which was begun
 pub record IsLinkNote (o : OpeningValue) (g : GatheredValue) (link : GatheredLink) (note : Note) : Type 0 where
   pub comes_from : note.src ≡ link.src
   pub goes_to : note.dst ≡ link.dst
-  pub segment : is_on_link o link.src link.dst note.seg ≡ true
+  pub segment : is_on_link_in o g.stage link.src link.dst note.seg ≡ true
   pub node : is_node note.node ≡ true
   pub begun : is_begun (word_in g note.seg note.node) ≡ true
 
@@ -75,6 +76,11 @@ abbrev pub AreTold : GatheredValue → Type 0
 AreTold g =
     (receipt : ReceiptValue) → Contains g.receipts receipt → is_commit receipt.reply ≡ true
     → (spot : Spot) × (family : FamilyValue) × StandsAt g spot receipt.root family × IsToldBy family receipt
+
+-- each family that a root key was given stands, perhaps with a longer log
+abbrev pub GoOn : BeganWith → GatheredValue → Type 0
+GoOn began g =
+    (root : ℕ) (first : FamilyValue) → began.families root ≡ Some first → (spot : Spot) × (family : FamilyValue) × StandsAt g spot root family × GrowsFrom first family
 
 pub record IsPlaced (o : OpeningValue) (g : GatheredValue) : Type 0 where
   pub fit : FitTogether o g

@@ -9,7 +9,8 @@ use Rattle.sq_store.specs.StoreValue.{family_in}
 use Rattle.sq_chunk.specs.declared.chunk.Note.{Note}
 use Rattle.sq_chunk.specs.ChunkValue.{ChunkValue, covers}
 use Rattle.sq_ranges.specs.OpeningValue.{OpeningValue}
-use Rattle.sq_model.specs.Place.{Place, At, Under_way, cut_place, loaded_place}
+use Rattle.sq_model.specs.Place.{Place, At, Under_way, loaded_place}
+use Rattle.sq_node_model.specs.Stages.{cut_place}
 use Rattle.sq_node_model.specs.declared.spot.Spot.{Spot}
 use Rattle.sq_node_model.specs.declared.spot.Spot.TheVariants.{Store, Chunk}
 use Rattle.sq_node_model.specs.Gathered.{GatheredLink, GatheredValue}
@@ -31,7 +32,7 @@ loaded_notes g = flat_map loads_of g.links
 -- where these notes place a root key
 abbrev pub place_in : OpeningValue → GatheredValue → ℕ → Place
 place_in o g root =
-    loaded_place (cut_place o root (find (λ note. covers note root) (cut_notes g))) (find (λ note. covers note root) (loaded_notes g))
+    loaded_place (cut_place o g.stage root (find (λ note. covers note root) (cut_notes g))) (find (λ note. covers note root) (loaded_notes g))
 
 -- the status of a node of a segment's tree
 abbrev pub word_in : GatheredValue → ℕ → ℕ → Status

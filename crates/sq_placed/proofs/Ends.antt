@@ -6,6 +6,7 @@ use Rattle.std.proofs.lemmas.List.Elements.{Contains-append_right}
 use Rattle.sq_chunk.specs.declared.chunk.Note.{Note}
 use Rattle.sq_chunk.specs.ChunkValue.{ChunkValue}
 use Rattle.sq_ranges.specs.OpeningValue.{OpeningValue}
+use Rattle.sq_node_model.specs.BeganWith.{BeganWith}
 use Rattle.sq_node_model.specs.NodeValue.{NodeValue}
 use Rattle.sq_node_model.specs.Chunks.{cut_to, loaded_from}
 use Rattle.sq_node_model.specs.OutHolds.{OutHolds}
@@ -18,20 +19,20 @@ abbrev pub notes_of : List ChunkValue → List Note
 notes_of chunks = map (λ chunk. chunk.note) chunks
 
 -- the nodes at the ends of a link, and what they did for it
-pub record HasEnds (o : OpeningValue) (nodes : List NodeValue) (link : GatheredLink) : Type 0 where
+pub record HasEnds (o : OpeningValue) (began : BeganWith) (nodes : List NodeValue) (link : GatheredLink) : Type 0 where
   pub from : NodeValue
   pub from_there : slice_get nodes link.src ≡ Some from
   pub from_part : from.part ≡ link.src
-  pub from_holds : NodeHolds o from
+  pub from_holds : NodeHolds o began from
   pub to : NodeValue
   pub to_there : slice_get nodes link.dst ≡ Some to
   pub to_part : to.part ≡ link.dst
-  pub to_holds : NodeHolds o to
+  pub to_holds : NodeHolds o began to
   pub notes : link.notes ≡ (from.outs link.dst).notes
   pub cut : cut_to from link.dst ≡ loaded_from to link.src ++ link.under_way
 
-pub ends : (o : OpeningValue) (nodes : List NodeValue) (g : GatheredValue) → Gathers o nodes g → (i : ℕ) (link : GatheredLink) → slice_get g.links i ≡ Some link → HasEnds o nodes link
-ends o nodes g gathers i link at =
+pub ends : (o : OpeningValue) (began : BeganWith) (nodes : List NodeValue) (g : GatheredValue) → Gathers o began nodes g → (i : ℕ) (link : GatheredLink) → slice_get g.links i ≡ Some link → HasEnds o began nodes link
+ends o began nodes g gathers i link at =
     let closed = gathers.links i link at in
     let to_holds = gathers.holds link.dst closed.to closed.to_there in
     let loaded = loaded_from closed.to link.src in
@@ -55,11 +56,11 @@ ends o nodes g gathers i link at =
           ∙ ap (λ way. loaded ++ way) (sym closed.way);
     }
 
-module _ (o : OpeningValue) (nodes : List NodeValue) (link : GatheredLink) (e : HasEnds o nodes link) where
+module _ (o : OpeningValue) (began : BeganWith) (nodes : List NodeValue) (link : GatheredLink) (e : HasEnds o began nodes link) where
   abbrev loaded : List ChunkValue
   loaded = loaded_from e.to link.src
 
-  pub out : OutHolds o e.from.part e.from.begun link.dst (e.from.outs link.dst).notes (e.from.outs link.dst).work (cut_to e.from link.dst)
+  pub out : OutHolds o began e.from.part e.from.begun link.dst (e.from.outs link.dst).notes (e.from.outs link.dst).work (cut_to e.from link.dst)
   out = e.from_holds.outs link.dst
 
   pub cut_notes_are : link.notes ≡ notes_of (cut_to e.from link.dst)

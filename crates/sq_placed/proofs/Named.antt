@@ -8,7 +8,7 @@ use Rattle.sq_node_model.specs.NodeValue.{ReceiptValue}
 use Rattle.sq_node_model.specs.Receipts.{names, times_named}
 
 module _ {X : Type 0} (root position : ℕ) (f : X → List ReceiptValue) where
-  named_both : (xs ys : List ReceiptValue) → times_named root position (xs ++ ys) ≡ times_named root position xs + times_named root position ys
+  pub named_both : (xs ys : List ReceiptValue) → times_named root position (xs ++ ys) ≡ times_named root position xs + times_named root position ys
   named_both xs ys = sum_by-append (λ receipt. if names root position receipt then 1 else 0) xs ys
 
   none_name : (xs : List X) → ((q : ℕ) (x : X) → slice_get xs q ≡ Some x → times_named root position (f x) ≡ 0) → times_named root position (flat_map f xs) ≡ 0

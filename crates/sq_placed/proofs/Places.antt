@@ -6,8 +6,11 @@ use Rattle.sq_chunk.specs.declared.chunk.Note.{Note}
 use Rattle.sq_chunk.specs.ChunkValue.{ChunkValue, covers}
 use Rattle.sq_ranges.specs.OpeningValue.{OpeningValue}
 use Rattle.sq_ranges.specs.Opening.{IsOpening}
-use Rattle.sq_model.specs.Place.{Place, At, Under_way, cut_place, loaded_place}
+use Rattle.sq_model.specs.Place.{Place, At, Under_way, loaded_place}
 use Rattle.sq_model.proofs.Lists.{Contains-slice_get}
+use Rattle.sq_model.specs.Staged.{owner_in}
+use Rattle.sq_node_model.specs.Stages.{cut_place}
+use Rattle.sq_node_model.specs.BeganWith.{BeganWith}
 use Rattle.sq_node_model.specs.NodeValue.{NodeValue}
 use Rattle.sq_node_model.specs.Chunks.{loaded_from, HasCut, HasLoaded, IsCovered}
 use Rattle.sq_node_model.specs.FamiliesHold.{IsHome}
@@ -23,15 +26,15 @@ use Rattle.sq_placed.proofs.Cuts.{IsCutAt, loaded_at, has_cut, noted_at, to_is, 
 use Rattle.sq_placed.proofs.Once.{IsNoted, cut_note, loaded_note, are_one}
 use Rattle.sq_placed.proofs.Stands.{IsInChunk, in_store, in_chunk}
 
-module _ (o : OpeningValue) (is : IsOpening o) (nodes : List NodeValue) (g : GatheredValue) (gathers : Gathers o nodes g) where
+module _ (o : OpeningValue) (began : BeganWith) (is : IsOpening o) (nodes : List NodeValue) (g : GatheredValue) (gathers : Gathers o began nodes g) where
   -- a chunk's note is among all
-  pub cut_among : (chunk : ChunkValue) → IsCutAt o nodes g chunk → Contains (cut_notes g) chunk.note
+  pub cut_among : (chunk : ChunkValue) → IsCutAt o began nodes g chunk → Contains (cut_notes g) chunk.note
   cut_among chunk c =
       Contains-flat_map (λ (link : GatheredLink). link.notes) g.links c.link chunk.note (Contains-slice_get g.links c.place c.link c.there)
-      (Contains-slice_get c.link.notes c.number chunk.note (noted_at o is nodes g gathers chunk c))
+      (Contains-slice_get c.link.notes c.number chunk.note (noted_at o began is nodes g gathers chunk c))
 
   -- and that of a loaded one among the loaded ones
-  pub loaded_among : (chunk : ChunkValue) (c : IsCutAt o nodes g chunk) → c.number < length (loaded_from c.ends.to c.link.src) → Contains (loaded_notes g) chunk.note
+  pub loaded_among : (chunk : ChunkValue) (c : IsCutAt o began nodes g chunk) → c.number < length (loaded_from c.ends.to c.link.src) → Contains (loaded_notes g) chunk.note
   loaded_among chunk c before =
       let loaded = loaded_from c.ends.to c.link.src in
       let at = slice_get-get_or loaded c.number chunk before in
@@ -40,70 +43,70 @@ module _ (o : OpeningValue) (is : IsOpening o) (nodes : List NodeValue) (g : Gat
       same_Some (get_or loaded c.number chunk) chunk (sym here ∙ sym (ap (λ list. slice_get list c.number) c.ends.cut) ∙ c.at) in
       let noted = at_map (λ (c : ChunkValue). c.note) loaded c.number chunk (at ∙ ap Some same) in
       Contains-flat_map loads_of g.links c.link chunk.note (Contains-slice_get g.links c.place c.link c.there)
-      (subst (λ notes. Contains notes chunk.note) (sym (loads_are o nodes c.link c.ends)) (Contains-slice_get (notes_of loaded) c.number chunk.note noted))
+      (subst (λ notes. Contains notes chunk.note) (sym (loads_are o began nodes c.link c.ends)) (Contains-slice_get (notes_of loaded) c.number chunk.note noted))
 
   -- no chunk covers a root key that is at home
-  pub home_uncut : (q : ℕ) (node : NodeValue) (root : ℕ) → slice_get nodes q ≡ Some node → IsHome o node.part (HasCut node) root
-      → (chunk : ChunkValue) → IsCutAt o nodes g chunk → covers chunk.note root ≡ true → ⊥
+  pub home_uncut : (q : ℕ) (node : NodeValue) (root : ℕ) → slice_get nodes q ≡ Some node → IsHome o began.stage node.part (HasCut node) root
+      → (chunk : ChunkValue) → IsCutAt o began nodes g chunk → covers chunk.note root ≡ true → ⊥
   home_uncut q node root at home chunk c covered =
-      let from : c.link.src ≡ q = sym (moved o is nodes g gathers chunk c root covered).source_is ∙ home.owned ∙ gathers.parts q node at in
+      let from : c.link.src ≡ q = sym (moved o began is nodes g gathers chunk c root covered).source_is ∙ home.owned ∙ gathers.parts q node at in
       let same : c.ends.from ≡ node = same_Some c.ends.from node (sym (subst (λ p. slice_get nodes p ≡ Some c.ends.from) from c.ends.from_there) ∙ at) in
-      true≢false (sym covered ∙ home.uncut chunk (subst (λ n. HasCut n chunk) same (has_cut o is nodes g gathers chunk c)))
+      true≢false (sym covered ∙ home.uncut chunk (subst (λ n. HasCut n chunk) same (has_cut o began is nodes g gathers chunk c)))
 
-  home_uncovered : (q : ℕ) (node : NodeValue) (root : ℕ) → slice_get nodes q ≡ Some node → IsHome o node.part (HasCut node) root
-      → (note : Note) → IsNoted o nodes g note → covers note root ≡ true → ⊥
+  home_uncovered : (q : ℕ) (node : NodeValue) (root : ℕ) → slice_get nodes q ≡ Some node → IsHome o began.stage node.part (HasCut node) root
+      → (note : Note) → IsNoted o began nodes g note → covers note root ≡ true → ⊥
   home_uncovered q node root at home note noted covered =
       home_uncut q node root at home noted.chunk noted.cut (subst (λ (n : Note). covers n root ≡ true) (sym noted.same) covered)
 
-  home_placed : (q : ℕ) (node : NodeValue) (root : ℕ) → slice_get nodes q ≡ Some node → IsHome o node.part (HasCut node) root → place_in o g root ≡ At q
+  home_placed : (q : ℕ) (node : NodeValue) (root : ℕ) → slice_get nodes q ≡ Some node → IsHome o began.stage node.part (HasCut node) root → place_in o g root ≡ At q
   home_placed q node root at home =
-      let none_cut = none_found (λ note. covers note root) (cut_notes g) (λ note has covered. home_uncovered q node root at home note (cut_note o is nodes g gathers note has) covered) in
+      let none_cut = none_found (λ note. covers note root) (cut_notes g) (λ note has covered. home_uncovered q node root at home note (cut_note o began is nodes g gathers note has) covered) in
       let none_loaded = none_found (λ note. covers note root) (loaded_notes g)
-      (λ note has covered. home_uncovered q node root at home note (loaded_note o is nodes g gathers note has).noted covered) in
-      ap₂ (λ cut loaded. loaded_place (cut_place o root cut) loaded) none_cut none_loaded ∙ ap At (home.owned ∙ gathers.parts q node at)
+      (λ note has covered. home_uncovered q node root at home note (loaded_note o began is nodes g gathers note has).noted covered) in
+      ap₂ (λ cut loaded. loaded_place (cut_place o g.stage root cut) loaded) none_cut none_loaded ∙ ap At (ap (λ i. owner_in o i root) gathers.stage ∙ home.owned ∙ gathers.parts q node at)
 
   loaded_placed : (q : ℕ) (node : NodeValue) (root : ℕ) → slice_get nodes q ≡ Some node → IsCovered (HasLoaded node) root → place_in o g root ≡ At q
   loaded_placed q node root at covered =
       let chunk = covered.0 in
-      let here = loaded_at o is nodes g gathers q node chunk at covered.1 in
+      let here = loaded_at o began is nodes g gathers q node chunk at covered.1 in
       let found = some_found (λ note. covers note root) (loaded_notes g) chunk.note (loaded_among chunk here.0 here.2) covered.2 in
-      let noted = (loaded_note o is nodes g gathers found.one found.among).noted in
-      let there = moved o is nodes g gathers noted.chunk noted.cut root (subst (λ (n : Note). covers n root ≡ true) (sym noted.same) found.passes) in
+      let noted = (loaded_note o began is nodes g gathers found.one found.among).noted in
+      let there = moved o began is nodes g gathers noted.chunk noted.cut root (subst (λ (n : Note). covers n root ≡ true) (sym noted.same) found.passes) in
       let to : found.one.dst ≡ q =
-      ap (λ (n : Note). n.dst) (sym noted.same) ∙ to_is o is nodes g gathers noted.chunk noted.cut ∙ sym there.destination_is ∙ (moved o is nodes g gathers chunk here.0 root covered.2).destination_is ∙ here.1 in
-      ap (loaded_place (cut_place o root (find (λ note. covers note root) (cut_notes g)))) found.found ∙ ap At to
+      ap (λ (n : Note). n.dst) (sym noted.same) ∙ to_is o began is nodes g gathers noted.chunk noted.cut ∙ sym there.destination_is ∙ (moved o began is nodes g gathers chunk here.0 root covered.2).destination_is ∙ here.1 in
+      ap (loaded_place (cut_place o g.stage root (find (λ note. covers note root) (cut_notes g)))) found.found ∙ ap At to
 
-  way_placed : (i j root : ℕ) (family : FamilyValue) (way : IsInChunk o nodes g i j root family) → place_in o g root ≡ Under_way way.chunk.note
+  way_placed : (i j root : ℕ) (family : FamilyValue) (way : IsInChunk o began nodes g i j root family) → place_in o g root ≡ Under_way way.chunk.note
   way_placed i j root family way =
-      let covered = carried o is nodes g gathers way.chunk way.cut root family way.carried in
+      let covered = carried o began is nodes g gathers way.chunk way.cut root family way.carried in
       let found = some_found (λ note. covers note root) (cut_notes g) way.chunk.note (cut_among way.chunk way.cut) covered in
-      let noted = cut_note o is nodes g gathers found.one found.among in
-      let one = are_one o is nodes g gathers root noted.chunk way.chunk noted.cut way.cut (subst (λ (n : Note). covers n root ≡ true) (sym noted.same) found.passes) covered in
+      let noted = cut_note o began is nodes g gathers found.one found.among in
+      let one = are_one o began is nodes g gathers root noted.chunk way.chunk noted.cut way.cut (subst (λ (n : Note). covers n root ≡ true) (sym noted.same) found.passes) covered in
       let none = none_found (λ note. covers note root) (loaded_notes g)
       (λ note has covers_it.
-      let load = loaded_note o is nodes g gathers note has in
+      let load = loaded_note o began is nodes g gathers note has in
       let other = load.noted in
-      let same = are_one o is nodes g gathers root other.chunk way.chunk other.cut way.cut (subst (λ (n : Note). covers n root ≡ true) (sym other.same) covers_it) covered in
+      let same = are_one o began is nodes g gathers root other.chunk way.chunk other.cut way.cut (subst (λ (n : Note). covers n root ≡ true) (sym other.same) covers_it) covered in
       let number = same.number in
       let before = load.among in
       let loaded = ap (λ (list : List ChunkValue). length list) same.loaded in
       let past = way.number in
       omega (arith, number, before, loaded, past)) in
-      ap₂ (λ cut loaded. loaded_place (cut_place o root cut) loaded) (found.found ∙ ap Some (sym noted.same ∙ ap (λ (c : ChunkValue). c.note) one.same)) none
+      ap₂ (λ cut loaded. loaded_place (cut_place o g.stage root cut) loaded) (found.found ∙ ap Some (sym noted.same ∙ ap (λ (c : ChunkValue). c.note) one.same)) none
 
   pub placed : (spot : Spot) (root : ℕ) (family : FamilyValue) → StandsAt g spot root family → IsSpotOf g spot (place_in o g root)
   placed (Store part) root family stands =
-      let here = in_store o nodes g gathers part root family stands in
+      let here = in_store o began nodes g gathers part root family stands in
       ⊎_elim (λ home. home_placed part here.node root here.there home) (λ covered. loaded_placed part here.node root here.there covered)
       ((gathers.holds part here.node here.there).store.stored root family here.stored)
   placed (Chunk i j) root family stands =
-      let way = in_chunk o nodes g gathers i j root family stands in
+      let way = in_chunk o began nodes g gathers i j root family stands in
       (way.chunk, way.here, way_placed i j root family way)
 
-  one_way : (i j k l root : ℕ) (family again : FamilyValue) → IsInChunk o nodes g i j root family → IsInChunk o nodes g k l root again → Chunk i j ≡ Chunk k l
+  one_way : (i j k l root : ℕ) (family again : FamilyValue) → IsInChunk o began nodes g i j root family → IsInChunk o began nodes g k l root again → Chunk i j ≡ Chunk k l
   one_way i j k l root family again one other =
-      let same = are_one o is nodes g gathers root one.chunk other.chunk one.cut other.cut
-      (carried o is nodes g gathers one.chunk one.cut root family one.carried) (carried o is nodes g gathers other.chunk other.cut root again other.carried) in
+      let same = are_one o began is nodes g gathers root one.chunk other.chunk one.cut other.cut
+      (carried o began is nodes g gathers one.chunk one.cut root family one.carried) (carried o began is nodes g gathers other.chunk other.cut root again other.carried) in
       let number = same.number in
       let loaded = ap (λ (list : List ChunkValue). length list) same.loaded in
       let here = one.number in
@@ -126,4 +129,4 @@ module _ (o : OpeningValue) (is : IsOpening o) (nodes : List NodeValue) (g : Gat
       let here = placed (Chunk i j) root family one in
       absurd (not_both q here.0.note (place_in o g root) (placed (Store q) root again other) here.2)
   once (Chunk i j) (Chunk k l) root family again one other =
-      one_way i j k l root family again (in_chunk o nodes g gathers i j root family one) (in_chunk o nodes g gathers k l root again other)
+      one_way i j k l root family again (in_chunk o began nodes g gathers i j root family one) (in_chunk o began nodes g gathers k l root again other)

@@ -8,6 +8,7 @@ use Rattle.sq_store.specs.StoreValue.{StoreValue, family_in}
 use Rattle.sq_chunk.specs.ChunkValue.{ChunkValue}
 use Rattle.sq_ranges.specs.OpeningValue.{OpeningValue}
 use Rattle.sq_model.proofs.Lists.{Contains-slice_get}
+use Rattle.sq_node_model.specs.BeganWith.{BeganWith}
 use Rattle.sq_node_model.specs.NodeValue.{NodeValue}
 use Rattle.sq_node_model.specs.Chunks.{loaded_from, HasLoaded}
 use Rattle.sq_node_model.specs.FamiliesHold.{IsStored, IsCarried}
@@ -28,20 +29,20 @@ pub record IsInStore (nodes : List NodeValue) (part root : ℕ) (family : Family
   pub stored : IsStored node.store root family
 
 -- a chunk of a link has the family, at this place of those that are under way
-pub record IsInChunk (o : OpeningValue) (nodes : List NodeValue) (g : GatheredValue) (i j root : ℕ) (family : FamilyValue) : Type 0 where
+pub record IsInChunk (o : OpeningValue) (began : BeganWith) (nodes : List NodeValue) (g : GatheredValue) (i j root : ℕ) (family : FamilyValue) : Type 0 where
   pub chunk : ChunkValue
-  pub cut : IsCutAt o nodes g chunk
+  pub cut : IsCutAt o began nodes g chunk
   pub place : cut.place ≡ i
   pub number : length (loaded_from cut.ends.to cut.link.src) + j ≡ cut.number
   pub here : chunk_in g i j ≡ Some chunk
   pub carried : IsCarried chunk root family
 
 -- the chunk is under way, at a place of its link
-pub record IsUnderWay (o : OpeningValue) (nodes : List NodeValue) (g : GatheredValue) (chunk : ChunkValue) (c : IsCutAt o nodes g chunk) : Type 0 where
+pub record IsUnderWay (o : OpeningValue) (began : BeganWith) (nodes : List NodeValue) (g : GatheredValue) (chunk : ChunkValue) (c : IsCutAt o began nodes g chunk) : Type 0 where
   pub place : ℕ
   pub here : slice_get c.link.under_way place ≡ Some chunk
 
-module _ (o : OpeningValue) (nodes : List NodeValue) (g : GatheredValue) (gathers : Gathers o nodes g) where
+module _ (o : OpeningValue) (began : BeganWith) (nodes : List NodeValue) (g : GatheredValue) (gathers : Gathers o began nodes g) where
   pub in_store : (part root : ℕ) (family : FamilyValue) → StandsAt g (Store part) root family → IsInStore nodes part root family
   in_store part root family stands =
       let found = of_some (λ (store : StoreValue). get store root) (slice_get g.stores part) family stands in
@@ -54,12 +55,12 @@ module _ (o : OpeningValue) (nodes : List NodeValue) (g : GatheredValue) (gather
       (ap (λ stores. slice_get stores part) gathers.stores ∙ at_map (λ (node : NodeValue). node.store) nodes part node there)
       ∙ stored
 
-  pub in_chunk : (i j root : ℕ) (family : FamilyValue) → StandsAt g (Chunk i j) root family → IsInChunk o nodes g i j root family
+  pub in_chunk : (i j root : ℕ) (family : FamilyValue) → StandsAt g (Chunk i j) root family → IsInChunk o began nodes g i j root family
   in_chunk i j root family stands =
       let found = of_some (λ (chunk : ChunkValue). family_in chunk.families root) (chunk_in g i j) family stands in
       let at = of_some (λ (link : GatheredLink). slice_get link.under_way j) (slice_get g.links i) found.0 found.1 in
       let link = at.0 in
-      let e = ends o nodes g gathers i link at.1 in
+      let e = ends o began nodes g gathers i link at.1 in
       let loaded = loaded_from e.to link.src in
       record {
         chunk = found.0;
@@ -77,7 +78,7 @@ module _ (o : OpeningValue) (nodes : List NodeValue) (g : GatheredValue) (gather
         carried = found.2;
       }
 
-  pub stands_in_chunk : (chunk : ChunkValue) (c : IsCutAt o nodes g chunk) (way : IsUnderWay o nodes g chunk c)
+  pub stands_in_chunk : (chunk : ChunkValue) (c : IsCutAt o began nodes g chunk) (way : IsUnderWay o began nodes g chunk c)
       (root : ℕ) (family : FamilyValue) → IsCarried chunk root family → StandsAt g (Chunk c.place way.place) root family
   stands_in_chunk chunk c way root family carried =
       ap (option_and_then (λ (chunk : ChunkValue). family_in chunk.families root))
@@ -85,7 +86,7 @@ module _ (o : OpeningValue) (nodes : List NodeValue) (g : GatheredValue) (gather
       ∙ carried
 
   -- each chunk is loaded or under way
-  pub whereabouts : (chunk : ChunkValue) (c : IsCutAt o nodes g chunk) → HasLoaded c.ends.to chunk ⊎ IsUnderWay o nodes g chunk c
+  pub whereabouts : (chunk : ChunkValue) (c : IsCutAt o began nodes g chunk) → HasLoaded c.ends.to chunk ⊎ IsUnderWay o began nodes g chunk c
   whereabouts chunk c =
       let loaded = loaded_from c.ends.to c.link.src in
       ⊎_elim

@@ -9,10 +9,11 @@ use Rattle.sq_tree.specs.declared.status.Status.TheVariants.{Free, Complete}
 use Rattle.sq_tree.specs.Status.{is_past, is_free, is_split, is_begun, is_complete}
 use Rattle.sq_tree.specs.Tree.{status_at, IsGrown}
 use Rattle.sq_ranges.specs.OpeningValue.{OpeningValue}
-use Rattle.sq_model.specs.Links.{is_on_link}
 use Rattle.sq_model.proofs.Lists.{Contains-first, Contains-later, Contains-slice_get, slice_get-Contains, flat_map_in}
-use Rattle.sq_model.proofs.Notes.{on_link_goes}
+use Rattle.sq_node_model.specs.Stages.{is_on_link_in}
+use Rattle.sq_node_model.proofs.Staged.{on_link_goes}
 use Rattle.sq_status.specs.View.{one_if, times_with}
+use Rattle.sq_node_model.specs.BeganWith.{BeganWith}
 use Rattle.sq_node_model.specs.NodeValue.{NodeValue}
 use Rattle.sq_node_model.specs.Chunks.{HasLoaded, HasLast}
 use Rattle.sq_node_model.specs.BegunHolds.{IsNamed}
@@ -42,7 +43,7 @@ none_past : (n : ℕ) → status_at [] n ≡ Free
 none_past zero = refl
 none_past (suc n) = refl
 
-module _ (o : OpeningValue) (nodes : List NodeValue) (g : GatheredValue) (gathers : Gathers o nodes g) where
+module _ (o : OpeningValue) (began : BeganWith) (nodes : List NodeValue) (g : GatheredValue) (gathers : Gathers o began nodes g) where
   past_end : (seg : ℕ) → length o.recon.segments ≤ seg → (n : ℕ) → word_in g seg n ≡ Free
   past_end seg past n =
       let words = gathers.all_words in
@@ -59,9 +60,9 @@ module _ (o : OpeningValue) (nodes : List NodeValue) (g : GatheredValue) (gather
       (cases_lt seg (length o.recon.segments))
 
   -- a tree node that a partition began for a link
-  pub begun : (q : ℕ) (node : NodeValue) (src dst seg n : ℕ) → slice_get nodes q ≡ Some node → is_on_link o src dst seg ≡ true → IsNamed (node.begun seg) n → is_begun (word_in g seg n) ≡ true
+  pub begun : (q : ℕ) (node : NodeValue) (src dst seg n : ℕ) → slice_get nodes q ≡ Some node → is_on_link_in o began.stage src dst seg ≡ true → IsNamed (node.begun seg) n → is_begun (word_in g seg n) ≡ true
   begun q node src dst seg n at linked named =
-      let goes = on_link_goes o src dst seg linked in
+      let goes = on_link_goes o began.stage src dst seg linked in
       let tree = gathers.trees seg (slice_get_within o.recon.segments seg goes.segment goes.there) in
       let among = Contains-flat_map (λ (node : NodeValue). node.begun seg) nodes node (n, named.0) (Contains-slice_get nodes q node at) named.1 in
       begun_stands (slice_index_or g.words seg []) (tree.view ∷ []) 0 tree.view n named.0 tree.tree refl

@@ -1,17 +1,17 @@
 -- What bytes are read as, by the JSON value that they are.
-use Rattle.std.proofs.Common.{◌≡◌, ℕ, ◌<◌, ◌&&◌, eqb, ltb, leb, Bool, true, false, List, [], ◌∷◌, length, Option, Some, None, ok_or, codes, Result, Ok, Err, IfOk, IfErr, refl, sym, subst, ◌∙◌, arith}
+use Rattle.std.proofs.Common.{◌≡◌, ℕ, ◌<◌, ◌&&◌, ◌||◌, eqb, ltb, leb, Bool, true, false, List, [], ◌∷◌, length, Option, Some, None, ok_or, codes, Result, Ok, Err, IfOk, IfErr, refl, sym, subst, ◌∙◌, arith}
 use Rattle.std.specs.List.{list_all}
 use Rattle.std.specs.Str.{is_utf8, chars}
 use Rattle.std.proofs.lemmas.Bool.{false≢true}
 use Rattle.std.proofs.lemmas.Option.{same_Some, none-some}
 use Rattle.serde_json.specs.Data.{Data}
 use Rattle.serde_json.proofs.OnLiterals.{serde_json_on_literals}
-use Rattle.sq_plan.specs.declared.plan.TheConstants.{MAX_PARTS, MAX_RANGES}
+use Rattle.sq_plan.specs.declared.plan.TheConstants.{MAX_RANGES}
 use Rattle.sq_plan.specs.declared.fault.PlanFault.{PlanFault}
-use Rattle.sq_plan.specs.declared.fault.PlanFault.TheVariants.{NotJson, Shape, Version, PartitionCount, RangeOrder, PartitionNumber, TooManyRanges, Memory}
+use Rattle.sq_plan.specs.declared.fault.PlanFault.TheVariants.{NotJson, Shape, Version, PartitionCount, RangeOrder, PartitionNumber, TooManyRanges, BadStages, Memory}
 use Rattle.sq_plan.specs.PlanValue.{PlanValue, IsPlan, is_tiling}
 use Rattle.sq_plan.specs.Spelling.{Spells}
-use Rattle.sq_plan.specs.Reading.{◌>>=◌, check, whole_at, ranges_at, plan_of, json_of, ReadsPlan}
+use Rattle.sq_plan.specs.Reading.{◌>>=◌, check, whole_at, ranges_at, stages_at, version_by, parts_limit_by, plan_of, json_of, ReadsPlan}
 use Rattle.sq_plan.proofs.Spelled.{plan_of-ok, plan_of-spelled}
 
 json_of-nothing : json_of [] ≡ None
@@ -53,20 +53,22 @@ check_fault : (test : Bool) (fault : PlanFault) → is_of_value fault ≡ true �
 check_fault true fault is = tt
 check_fault false fault is = is
 
-ok_or_fault : {A : Type 0} (o : Option A) → IfErr (ok_or o Shape) (λ fault. is_of_value fault ≡ true)
-ok_or_fault None = refl
-ok_or_fault (Some x) = tt
+ok_or_fault : {A : Type 0} (o : Option A) (fault : PlanFault) → is_of_value fault ≡ true → IfErr (ok_or o fault) (λ fault. is_of_value fault ≡ true)
+ok_or_fault None fault is = is
+ok_or_fault (Some x) fault is = tt
 
 pub plan_of_fault : (value : Data) → IfErr (plan_of value) (λ fault. is_of_value fault ≡ true)
 plan_of_fault value =
-    bind_fault _ _ (ok_or_fault (whole_at (codes "version") value)) (λ version.
-    bind_fault _ _ (check_fault (eqb version 1) Version refl) (λ _.
-    bind_fault _ _ (ok_or_fault (whole_at (codes "partitions") value)) (λ parts.
-    bind_fault _ _ (ok_or_fault (ranges_at (codes "ranges") value)) (λ ranges.
-    bind_fault _ _ (check_fault (leb 1 parts && leb parts MAX_PARTS) PartitionCount refl) (λ _.
+    bind_fault _ _ (ok_or_fault (whole_at (codes "version") value) Shape refl) (λ version.
+    bind_fault _ _ (check_fault (eqb version 1 || eqb version 2) Version refl) (λ _.
+    bind_fault _ _ (ok_or_fault (whole_at (codes "partitions") value) Shape refl) (λ parts.
+    bind_fault _ _ (ok_or_fault (ranges_at (codes "ranges") value) Shape refl) (λ ranges.
+    bind_fault _ _ (ok_or_fault (stages_at version value) Shape refl) (λ stages.
+    bind_fault _ _ (check_fault (leb 1 parts && leb parts (parts_limit_by stages)) PartitionCount refl) (λ _.
     bind_fault _ _ (check_fault (leb (length ranges) MAX_RANGES) TooManyRanges refl) (λ _.
     bind_fault _ _ (check_fault (is_tiling 0 ranges) RangeOrder refl) (λ _.
-    bind_fault _ _ (check_fault (list_all (λ range. ltb range.owner parts) ranges) PartitionNumber refl) (λ _. tt))))))))
+    bind_fault _ _ (check_fault (list_all (λ range. ltb range.owner parts) ranges) PartitionNumber refl) (λ _.
+    bind_fault _ _ (ok_or_fault (version_by stages) BadStages refl) (λ version. tt))))))))))
 
 -- a JSON value isn't refused as none
 pub not_refused : (came : Result PlanValue PlanFault) (value : Data) → ReadsPlan came (plan_of value) → came ≡ Err NotJson → ⊥

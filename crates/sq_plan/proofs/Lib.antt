@@ -2,6 +2,7 @@ pub mod Tiling
 pub mod Owners
 pub mod Items
 pub mod Checks
+pub mod Versions
 pub mod Ranges
 pub mod Spelled
 pub mod Bytes

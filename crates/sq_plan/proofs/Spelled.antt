@@ -1,16 +1,17 @@
 -- What a JSON value is read as, and what spells it.
-use Rattle.std.proofs.Common.{◌≡◌, ℕ, eqb, Bool, true, false, List, [], ◌∷◌, Option, Some, None, option_and_then, ok_or, codes, Result, Ok, Err, refl, ap, subst, ◌∙◌}
-use Rattle.std.proofs.lemmas.Bool.{eqb-true}
+use Rattle.std.proofs.Common.{◌≡◌, ℕ, eqb, ◌||◌, Bool, true, false, List, [], ◌∷◌, Option, Some, None, option_and_then, ok_or, codes, Result, Ok, Err, refl, ap, ◌∙◌}
 use Rattle.std.proofs.lemmas.Option.{same_Some, option_and_then_some}
 use Rattle.serde_json.specs.Data.{Num, unsigned, negative, float, Data, null, boolean, number, string, array, object, Items, no_items, item}
 use Rattle.serde_json.specs.Find.{get, as_array, as_u64}
 use Rattle.sq_plan.specs.declared.plan.PlanRange.{PlanRange}
 use Rattle.sq_plan.specs.declared.fault.PlanFault.{PlanFault}
 use Rattle.sq_plan.specs.declared.fault.PlanFault.TheVariants.{Shape, Version}
+use Rattle.sq_plan.specs.Version.{version_number}
 use Rattle.sq_plan.specs.PlanValue.{PlanValue, IsPlan}
 use Rattle.sq_plan.specs.Spelling.{number_data, range_data, ranges_data, Spells}
-use Rattle.sq_plan.specs.Reading.{◌>>=◌, check, whole_in, whole_at, range_in, range_of_items, ranges_in, ranges_at, checked, plan_of}
+use Rattle.sq_plan.specs.Reading.{◌>>=◌, check, whole_in, whole_at, range_in, range_of_items, ranges_in, ranges_at, stages_at, checked, plan_of}
 use Rattle.sq_plan.proofs.Checks.{checked-ok, checked-plan}
+use Rattle.sq_plan.proofs.Versions.{version_spelled, stages_said, version_said, known_number, stages_at-said}
 
 -- ---- what came from a step
 
@@ -109,22 +110,28 @@ ranges_at-data name value ranges is = ap (λ (d : Option Data). option_and_then 
 -- what is read is spelled, and is a plan
 pub plan_of-ok : (value : Data) (plan : PlanValue) → plan_of value ≡ Ok plan → Spells value plan × IsPlan plan
 plan_of-ok value plan is =
-    let a = bind_ok (ok_or (whole_at (codes "version") value) Shape) (λ version. check (eqb version 1) Version >>= λ _. ok_or (whole_at (codes "partitions") value) Shape >>= λ parts. ok_or (ranges_at (codes "ranges") value) Shape >>= λ ranges. checked parts ranges) plan is in
-    let b = bind_ok (check (eqb a.0 1) Version) (λ _. ok_or (whole_at (codes "partitions") value) Shape >>= λ parts. ok_or (ranges_at (codes "ranges") value) Shape >>= λ ranges. checked parts ranges) plan a.2 in
-    let d = bind_ok (ok_or (whole_at (codes "partitions") value) Shape) (λ parts. ok_or (ranges_at (codes "ranges") value) Shape >>= λ ranges. checked parts ranges) plan b.2 in
-    let e = bind_ok (ok_or (ranges_at (codes "ranges") value) Shape) (λ ranges. checked d.0 ranges) plan d.2 in
-    let one = eqb-true _ _ (check-ok _ _ b.0 b.1) in
-    let version = whole_at-is (codes "version") value a.0 (ok_or-ok _ _ _ a.1) ∙ ap (λ (k : ℕ). Some (number_data k)) one in
-    let partitions = whole_at-is (codes "partitions") value d.0 (ok_or-ok _ _ _ d.1) in
-    let ranges = ranges_at-is (codes "ranges") value e.0 (ok_or-ok _ _ _ e.1) in
-    let made : PlanValue = record { parts = d.0; ranges = e.0 } in
-    let done = checked-ok d.0 e.0 plan e.2 in
-    subst (λ (p : PlanValue). Spells value p × IsPlan p) done.1 (record { version = version; partitions = partitions; ranges = ranges }, done.0)
+    let stage : ℕ → ℕ → List PlanRange → Result PlanValue PlanFault = λ version parts ranges. ok_or (stages_at version value) Shape >>= λ stages. checked stages parts ranges in
+    let fields : ℕ → Result PlanValue PlanFault = λ version. ok_or (whole_at (codes "partitions") value) Shape >>= λ parts. ok_or (ranges_at (codes "ranges") value) Shape >>= λ ranges. stage version parts ranges in
+    let a = bind_ok (ok_or (whole_at (codes "version") value) Shape) (λ version. check (eqb version 1 || eqb version 2) Version >>= λ _. fields version) plan is in
+    let b = bind_ok (check (eqb a.0 1 || eqb a.0 2) Version) (λ _. fields a.0) plan a.2 in
+    let d = bind_ok (ok_or (whole_at (codes "partitions") value) Shape) (λ parts. ok_or (ranges_at (codes "ranges") value) Shape >>= λ ranges. stage a.0 parts ranges) plan b.2 in
+    let e = bind_ok (ok_or (ranges_at (codes "ranges") value) Shape) (λ ranges. stage a.0 d.0 ranges) plan d.2 in
+    let f = bind_ok (ok_or (stages_at a.0 value) Shape) (λ stages. checked stages d.0 e.0) plan e.2 in
+    let all = checked-ok f.0 d.0 e.0 plan f.2 in
+    let said = version_spelled a.0 value f.0 plan.version (check-ok _ _ b.0 b.1) (ok_or-ok _ _ _ f.1) all.told in
+    let spells : Spells value plan = record {
+      version = whole_at-is (codes "version") value a.0 (ok_or-ok _ _ _ a.1) ∙ ap (λ (k : ℕ). Some (number_data k)) said.has_number;
+      partitions = whole_at-is (codes "partitions") value d.0 (ok_or-ok _ _ _ d.1) ∙ ap (λ (k : ℕ). Some (number_data k)) all.same_parts;
+      ranges = ranges_at-is (codes "ranges") value e.0 (ok_or-ok _ _ _ e.1) ∙ ap (λ (rs : List PlanRange). Some (array (ranges_data rs))) all.same_ranges;
+      stages = said.has_stages;
+    } in
+    (spells, all.is_plan)
 
 -- a plan that is spelled is read
 pub plan_of-spelled : (value : Data) (plan : PlanValue) → Spells value plan → IsPlan plan → plan_of value ≡ Ok plan
 plan_of-spelled value plan spells is_plan =
-    let version = whole_at-number_data (codes "version") value 1 spells.version in
+    let version = whole_at-number_data (codes "version") value (version_number plan.version) spells.version in
     let partitions = whole_at-number_data (codes "partitions") value plan.parts spells.partitions in
     let ranges = ranges_at-data (codes "ranges") value plan.ranges spells.ranges in
-    rw (version, partitions, ranges) (checked-plan plan is_plan)
+    let stages = stages_at-said value plan.version spells.stages in
+    rw (version, known_number plan.version, partitions, ranges, stages) (checked-plan (stages_said plan.version) plan (version_said plan.version) is_plan)

@@ -18,16 +18,20 @@ use Rattle.json.proofs.Printed.Decimals.{IsNumber-decimal}
 use Rattle.json.proofs.Printed.Utf8.{IsUtf8-are_ascii}
 use Rattle.serde_json.specs.Data.{Data, number}
 use Rattle.serde_json.specs.Read.{of_json, of_items, read, max_depth}
-use Rattle.serde_json.specs.Written.{outline, items_outline, has_float, items_have_float, compact_text, items_text}
+use Rattle.serde_json.specs.Written.{outline, items_outline, has_float, items_have_float, compact_text, items_text, members_text}
 use Rattle.serde_json.proofs.Numbers.{number_of-decimal}
 use Rattle.serde_json.proofs.Texts.{print-outline}
 use Rattle.serde_json.proofs.OnLiterals.{serde_json_on_literals}
 use Rattle.sq_plan.specs.declared.plan.PlanRange.{PlanRange}
 use Rattle.sq_plan.specs.declared.fault.PlanFault.TheVariants.{NotJson}
+use Rattle.sq_plan.specs.declared.version.Stages.TheVariants.{One, Auto}
+use Rattle.sq_plan.specs.declared.version.Version.{Version}
+use Rattle.sq_plan.specs.declared.version.Version.TheVariants.{First, Second}
 use Rattle.sq_plan.specs.PlanValue.{PlanValue, IsPlan, is_tiling}
-use Rattle.sq_plan.specs.PlanText.{range_text, ranges_text, plan_text}
-use Rattle.sq_plan.specs.Spelling.{number_data, range_data, ranges_data, plan_data, Spells}
+use Rattle.sq_plan.specs.PlanText.{range_text, ranges_text, version_text, plan_text}
+use Rattle.sq_plan.specs.Spelling.{number_data, range_data, ranges_data, version_data, plan_data, Spells}
 use Rattle.sq_plan.specs.Reading.{◌>>=◌, json_of, plan_of, plan_in}
+use Rattle.sq_plan.proofs.Checks.{parts_bound}
 use Rattle.sq_plan.proofs.Spelled.{plan_of-spelled}
 use Rattle.sq_plan.proofs.Tiling.{Follows-from_tiling, within}
 
@@ -47,10 +51,26 @@ ranges_data-text : (ranges : List PlanRange) → items_text false (ranges_data r
 ranges_data-text [] = refl
 ranges_data-text (range ∷ ranges) = ranges_data-text_some range ranges
 
+-- a plan with these fields
+abbrev plan_with : Version → ℕ → List PlanRange → PlanValue
+plan_with version parts ranges = record { version = version; parts = parts; ranges = ranges }
+
+-- what tells of the version, with the brace behind it
+version_data-text : (version : Version) → members_text true (version_data version) ≡ codes "," ++ version_text version ++ codes "}"
+unfolding serde_json_on_literals digits
+version_data-text First = refl
+version_data-text (Second One) = refl
+version_data-text (Second Auto) = refl
+
+regrouped : (a b c d e f g h : List ℕ) → a ++ (b ++ (c ++ ((d ++ e) ++ (f ++ g ++ h)))) ≡ a ++ b ++ c ++ d ++ (e ++ f) ++ g ++ h
+regrouped a b c d e f g h = simp append_assoc
+
 -- the whole value
 plan_data-text : (plan : PlanValue) → compact_text (plan_data plan) ≡ plan_text plan
 unfolding serde_json_on_literals digits
-plan_data-text plan = rw (ranges_data-text plan.ranges) (simp append_assoc)
+plan_data-text plan =
+    rw (ranges_data-text plan.ranges, version_data-text plan.version)
+    (regrouped (codes "{\"partitions\":") (decimal plan.parts) (codes ",\"ranges\":[") (ranges_text plan.ranges) (codes "]") (codes ",") (version_text plan.version) (codes "}"))
 
 -- ---- no number of it is a float
 
@@ -59,7 +79,11 @@ ranges_have_no_float [] = refl
 ranges_have_no_float (range ∷ ranges) = ranges_have_no_float ranges
 
 plan_has_no_float : (plan : PlanValue) → has_float (plan_data plan) ≡ false
-plan_has_no_float plan = rw (ranges_have_no_float plan.ranges) refl
+plan_has_no_float plan = has_none plan.version plan.parts plan.ranges
+  where
+    has_none : (version : Version) (parts : ℕ) (ranges : List PlanRange) → has_float (plan_data (plan_with version parts ranges)) ≡ false
+    has_none First parts ranges = rw (ranges_have_no_float ranges) refl
+    has_none (Second stages) parts ranges = rw (ranges_have_no_float ranges) refl
 
 -- the text that is written for the JSON value of a plan
 pub written_text : (value : Data) (plan : PlanValue) (text : List ℕ) → value ≡ plan_data plan → (has_float value ≡ false → text ≡ compact_text value) → text ≡ plan_text plan
@@ -87,7 +111,7 @@ tiling_fits lo parts (range ∷ ranges) few tiling owners =
     (record { lo = omega arith; hi = omega arith; owner = omega arith }, tiling_fits range.hi parts ranges few one.rest both.1)
 
 plan_fits : (plan : PlanValue) → IsPlan plan → FitRanges plan.ranges
-plan_fits plan is_plan = tiling_fits 0 plan.parts plan.ranges (omega (arith, is_plan.few_parts)) is_plan.tiling is_plan.owners
+plan_fits plan is_plan = tiling_fits 0 plan.parts plan.ranges (omega (arith, parts_bound plan is_plan)) is_plan.tiling is_plan.owners
 
 -- ---- what the text is read as
 
@@ -103,7 +127,12 @@ ranges_read (range ∷ ranges) fit = rw (range_reads range fit.0, ranges_read ra
 
 -- the JSON that is printed for a plan stands for the plan's value
 plan_reads : (plan : PlanValue) → IsPlan plan → of_json (outline (plan_data plan)) ≡ Some (plan_data plan)
-plan_reads plan is_plan = rw (number_reads plan.parts (omega (arith, is_plan.few_parts)), ranges_read plan.ranges (plan_fits plan is_plan), number_reads 1 (omega arith)) refl
+plan_reads plan is_plan = reads plan.version plan.parts plan.ranges (omega (arith, parts_bound plan is_plan)) (plan_fits plan is_plan)
+  where
+    reads : (version : Version) (parts : ℕ) (ranges : List PlanRange) → parts < 2 ^ 64 → FitRanges ranges → of_json (outline (plan_data (plan_with version parts ranges))) ≡ Some (plan_data (plan_with version parts ranges))
+    reads First parts ranges few fit = rw (number_reads parts few, ranges_read ranges fit, number_reads 1 (omega arith)) refl
+    reads (Second One) parts ranges few fit = rw (number_reads parts few, ranges_read ranges fit, number_reads 2 (omega arith)) refl
+    reads (Second Auto) parts ranges few fit = rw (number_reads parts few, ranges_read ranges fit, number_reads 2 (omega arith)) refl
 
 ranges_have_numbers : (ranges : List PlanRange) → FitRanges ranges → ItemsHaveNumbers (items_outline (ranges_data ranges))
 ranges_have_numbers [] fit = tt
@@ -112,7 +141,11 @@ ranges_have_numbers (range ∷ ranges) fit =
 
 -- each number of it is written as JSON wants
 plan_has_numbers : (plan : PlanValue) → IsPlan plan → HasNumbers (outline (plan_data plan))
-plan_has_numbers plan is_plan = (IsNumber-decimal plan.parts (omega (arith, is_plan.few_parts)), (ranges_have_numbers plan.ranges (plan_fits plan is_plan), (IsNumber-decimal 1 (omega arith), tt)))
+plan_has_numbers plan is_plan = has plan.version plan.parts plan.ranges (omega (arith, parts_bound plan is_plan)) (plan_fits plan is_plan)
+  where
+    has : (version : Version) (parts : ℕ) (ranges : List PlanRange) → parts < 2 ^ 64 → FitRanges ranges → HasNumbers (outline (plan_data (plan_with version parts ranges)))
+    has First parts ranges few fit = (IsNumber-decimal parts few, (ranges_have_numbers ranges fit, (IsNumber-decimal 1 (omega arith), tt)))
+    has (Second stages) parts ranges few fit = (IsNumber-decimal parts few, (ranges_have_numbers ranges fit, (tt, (IsNumber-decimal 2 (omega arith), tt))))
 
 ranges_are_flat : (ranges : List PlanRange) → tree.items_depth (items_outline (ranges_data ranges)) ≤ 1
 ranges_are_flat [] = omega arith
@@ -120,7 +153,11 @@ ranges_are_flat (range ∷ ranges) = let rest = ranges_are_flat ranges in omega 
 
 -- it nests three deep
 plan_is_flat : (plan : PlanValue) → tree.depth (outline (plan_data plan)) ≤ 127
-plan_is_flat plan = let ranges = ranges_are_flat plan.ranges in omega arith
+plan_is_flat plan = is_flat plan.version plan.parts plan.ranges
+  where
+    is_flat : (version : Version) (parts : ℕ) (ranges : List PlanRange) → tree.depth (outline (plan_data (plan_with version parts ranges))) ≤ 127
+    is_flat First parts ranges = let flat = ranges_are_flat ranges in omega arith
+    is_flat (Second stages) parts ranges = let flat = ranges_are_flat ranges in omega arith
 
 -- what is printed of JSON that stands for a value is read as this value
 read-print : (j : json.Json) (value : Data) → HasNumbers j → tree.depth j ≤ max_depth → of_json j ≡ Some value → read (print (json_tokens j)) ≡ Some value
@@ -154,12 +191,19 @@ ranges_text-utf8 (range ∷ next ∷ ranges) fit =
     let more = IsUtf8-append (codes ",") (ranges_text (next ∷ ranges)) (IsUtf8-are_ascii (codes ",") refl) (ranges_text-utf8 (next ∷ ranges) fit.1) in
     IsUtf8-append (range_text range) (codes "," ++ ranges_text (next ∷ ranges)) (range_text-utf8 range fit.0) more
 
+version_text-utf8 : (version : Version) → IsUtf8 (version_text version)
+version_text-utf8 First = IsUtf8-are_ascii _ refl
+version_text-utf8 (Second One) = IsUtf8-are_ascii _ refl
+version_text-utf8 (Second Auto) = IsUtf8-are_ascii _ refl
+
 plan_text-utf8 : (plan : PlanValue) → IsPlan plan → IsUtf8 (plan_text plan)
 plan_text-utf8 plan is_plan =
     let parts = codes "{\"partitions\":" ++ decimal plan.parts ++ codes ",\"ranges\":[" in
-    let first = IsUtf8-around (codes "{\"partitions\":") (codes ",\"ranges\":[") plan.parts (IsUtf8-are_ascii _ refl) (omega (arith, is_plan.few_parts)) (IsUtf8-are_ascii _ refl) in
+    let first = IsUtf8-around (codes "{\"partitions\":") (codes ",\"ranges\":[") plan.parts (IsUtf8-are_ascii _ refl) (omega (arith, parts_bound plan is_plan)) (IsUtf8-are_ascii _ refl) in
     let ranges = IsUtf8-append parts (ranges_text plan.ranges) first (ranges_text-utf8 plan.ranges (plan_fits plan is_plan)) in
-    IsUtf8-append (parts ++ ranges_text plan.ranges) (codes "],\"version\":1}") ranges (IsUtf8-are_ascii _ refl)
+    let open_end = IsUtf8-append (parts ++ ranges_text plan.ranges) (codes "],") ranges (IsUtf8-are_ascii _ refl) in
+    let versioned = IsUtf8-append (parts ++ ranges_text plan.ranges ++ codes "],") (version_text plan.version) open_end (version_text-utf8 plan.version) in
+    IsUtf8-append (parts ++ ranges_text plan.ranges ++ codes "]," ++ version_text plan.version) (codes "}") versioned (IsUtf8-are_ascii _ refl)
 
 -- ---- what is written is read
 
@@ -170,7 +214,11 @@ plan_text-json plan is_plan = cond-true _ _ _ (is_utf8-from_IsUtf8 (plan_text pl
 
 -- this value has the plan's fields
 plan_data-spells : (plan : PlanValue) → Spells (plan_data plan) plan
-plan_data-spells plan = record { version = refl; partitions = refl; ranges = refl }
+plan_data-spells plan = spells plan.version plan.parts plan.ranges
+  where
+    spells : (version : Version) (parts : ℕ) (ranges : List PlanRange) → Spells (plan_data (plan_with version parts ranges)) (plan_with version parts ranges)
+    spells First parts ranges = record { version = refl; partitions = refl; ranges = refl; stages = tt }
+    spells (Second stages) parts ranges = record { version = refl; partitions = refl; ranges = refl; stages = refl }
 
 -- what is written for a plan is read as this plan
 pub plan_text-plan : (plan : PlanValue) → IsPlan plan → plan_in (plan_text plan) ≡ Ok plan

@@ -1,3 +1,4 @@
+pub mod Version
 pub mod PlanValue
 pub mod Fault
 pub mod Spelling

@@ -1,5 +1,5 @@
 -- What the fields of a plan in JSON say, before the checks.
-use Rattle.std.specs.Prelude.{◌≡◌, ℕ, nat_lt, List, Some}
+use Rattle.std.specs.Prelude.{◌≡◌, ℕ, nat_lt, List, Some, Option, option_map}
 use Rattle.std.specs.List.{list_all}
 use Rattle.serde_json.specs.View.{items_view}
 use Rattle.sq_plan.specs.declared.plan.PlanRange.{PlanRange}
@@ -16,3 +16,7 @@ layout parts ranges = record { tiling = is_tiling 0 ranges; owned = list_all (λ
 pub record HasRanges (fields : PlanFields) (ranges : List PlanRange) : Type 0 where
   pub items : ranges_in (items_view fields.items.now) ≡ Some ranges
   pub layout : fields.layout ≡ layout fields.parts ranges
+
+-- what the fields say of stages
+abbrev pub stages_of : PlanFields → Option (List ℕ)
+stages_of fields = option_map (λ text. text.now) fields.stages

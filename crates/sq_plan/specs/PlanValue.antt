@@ -3,10 +3,13 @@ use Rattle.std.specs.Prelude.{◌≡◌, ℕ, Bool, true, ◌==◌, ◌&&◌, �
 use Rattle.std.specs.List.{list_all}
 use Rattle.sq_schema.specs.declared.root.TheConstants.{ROOT_END}
 use Rattle.sq_plan.specs.declared.plan.PlanRange.{PlanRange}
-use Rattle.sq_plan.specs.declared.plan.TheConstants.{MAX_PARTS, MAX_RANGES}
+use Rattle.sq_plan.specs.declared.plan.TheConstants.{MAX_RANGES}
+use Rattle.sq_plan.specs.declared.version.Version.{Version}
+use Rattle.sq_plan.specs.Version.{parts_limit}
 
--- how many partitions there are, and which of them owns which root keys
+-- the version of the format, how many partitions there are, and which of them owns which root keys
 pub record PlanValue : Type 0 where
+  pub version : Version
   pub parts : ℕ
   pub ranges : List PlanRange
 
@@ -15,10 +18,10 @@ abbrev pub is_tiling : ℕ → List PlanRange → Bool
 is_tiling lo [] = lo == ROOT_END
 is_tiling lo (range ∷ ranges) = (range.lo == lo) && (nat_lt range.lo range.hi && is_tiling range.hi ranges)
 
--- there are partitions, not too many; the ranges tile the root keys, and the partitions own them
+-- there are partitions, not too many for the version; the ranges tile the root keys, and the partitions own them
 pub record IsPlan (plan : PlanValue) : Type 0 where
   pub some_part : 1 ≤ plan.parts
-  pub few_parts : plan.parts ≤ MAX_PARTS
+  pub few_parts : plan.parts ≤ parts_limit plan.version
   pub few_ranges : length plan.ranges ≤ MAX_RANGES
   pub tiling : is_tiling 0 plan.ranges ≡ true
   pub owners : list_all (λ range. nat_lt range.owner plan.parts) plan.ranges ≡ true

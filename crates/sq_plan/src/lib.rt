@@ -6,8 +6,10 @@ pub mod laws;
 mod part;
 mod plan;
 mod read;
+mod version;
 mod write;
 
 pub use fault::PlanFault;
 pub use part::PartId;
-pub use plan::{MAX_PARTS, MAX_RANGES, Plan, PlanRange};
+pub use plan::{FIRST_MAX_PARTS, MAX_PARTS, MAX_RANGES, Plan, PlanRange};
+pub use version::{Stages, Version};

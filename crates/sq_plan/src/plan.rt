@@ -4,13 +4,17 @@ ghost use Rattle.std.specs.Prelude.{◌≡◌, ◌<◌, ◌≤◌, nat_le, lengt
 use crate::fault::PlanFault;
 use crate::part::PartId;
 use crate::read::{json_in, plan_of};
+use crate::version::Version;
 use crate::write::plan_value;
 use sq_schema::Root;
 use std::alloc::{AllocError, Global};
 use std::marker::Model;
 
 /// The most partitions that a plan has.
-pub const MAX_PARTS: u64 = 16;
+pub const MAX_PARTS: u64 = 64;
+
+/// The most partitions that a plan of the first version has.
+pub const FIRST_MAX_PARTS: u64 = 16;
 
 /// The most ranges that a plan has.
 pub const MAX_RANGES: usize = 256;
@@ -24,10 +28,12 @@ pub struct PlanRange {
     pub owner: PartId,
 }
 
-/// A partition plan: 1 to [`MAX_PARTS`] partitions, and at most [`MAX_RANGES`] ranges, sorted, nonempty and without
-/// gap from 0 to [`sq_schema::ROOT_END`], each with an owner among the partitions. To a contract it is a `PlanValue`.
+/// A partition plan: the version of the format that it is written in; 1 to [`MAX_PARTS`] partitions, in the first
+/// version at most [`FIRST_MAX_PARTS`]; and at most [`MAX_RANGES`] ranges, sorted, nonempty and without gap from 0 to
+/// [`sq_schema::ROOT_END`], each with an owner among the partitions. To a contract it is a `PlanValue`.
 #[derive(Debug, Drop)]
 pub struct Plan {
+    version: Version,
     parts: u8,
     ranges: Vec<PlanRange>,
 }
@@ -37,9 +43,9 @@ impl Model for Plan {
 
     ghost Value = { PlanValue };
 
-    ghost view = { λ p. record { parts = p.parts; ranges = p.ranges.items } };
+    ghost view = { λ p. record { version = p.version; parts = p.parts; ranges = p.ranges.items } };
 
-    ghost invariant = { λ p. IsPlan (record { parts = p.parts; ranges = p.ranges.items }) };
+    ghost invariant = { λ p. IsPlan (record { version = p.version; parts = p.parts; ranges = p.ranges.items }) };
 }
 
 impl Plan {
@@ -50,16 +56,20 @@ impl Plan {
     ghost use Rattle.sq_plan.specs.Reading.{ReadsPlan, json_of, plan_in};
     ghost use Rattle.sq_plan.specs.PlanText.{plan_text};
 
-    // A plan of this many partitions with these ranges.
-    pub(crate) fn of(parts: u8, ranges: Vec<PlanRange>) -> Plan
-        requires { IsPlan (record { parts = parts; ranges = ranges.items }) }
-        ensures { result ≡ record { parts = parts; ranges = ranges.items } }
+    // A plan of this version and this many partitions with these ranges.
+    pub(crate) fn of(version: Version, parts: u8, ranges: Vec<PlanRange>) -> Plan
+        requires { IsPlan (record { version = version; parts = parts; ranges = ranges.items }) }
+        ensures { result ≡ record { version = version; parts = parts; ranges = ranges.items } }
     {
-        Plan { parts, ranges }
+        Plan {
+            version,
+            parts,
+            ranges,
+        }
     }
 
-    /// The plan that the bytes spell in JSON, as `{"version":1,"partitions":P,"ranges":[[lo,hi,owner],..]}`: the
-    /// fields in any order and among others. Otherwise the fault of the first check that fails, in the order that
+    /// The plan that the bytes spell in JSON, as `{"version":1,"partitions":P,"ranges":[[lo,hi,owner],..]}`, or with
+    /// `"version":2` and `"stages":"one"` or `"stages":"auto"`: the fields in any order and among others. Otherwise the fault of the first check that fails, in the order that
     /// [`PlanFault`] has. For bytes that aren't empty, [`PlanFault::Memory`] may come in place of any answer.
     pub fn read(alloc: Global, bytes: &[u8]) -> Result<Plan, PlanFault>
         // The plan, or the fault of the first check that fails.
@@ -78,8 +88,8 @@ impl Plan {
         plan_of(alloc, &value)
     }
 
-    /// The plan in compact JSON, as `{"partitions":P,"ranges":[[lo,hi,owner],..],"version":1}`, with the ranges as they
-    /// are: none is merged. The only fault is that memory ran out.
+    /// The plan in compact JSON, as `{"partitions":P,"ranges":[[lo,hi,owner],..],"version":1}`, in the second version
+    /// with `"stages"` before `"version"`, and with the ranges as they are: none is merged. The only fault is that memory ran out.
     pub fn write(&self) -> Result<String, AllocError>
         ensures text { IfOk result (λ text. string_bytes text ≡ plan_text self.now) }
         // Reading the text gives the plan again.
@@ -103,9 +113,18 @@ impl Plan {
         self.ranges[at].owner
     }
 
+    /// The version of the format that it is written in.
+    pub fn version(&self) -> Version
+        ensures { result ≡ self.now.version }
+    {
+        self.version
+    }
+
     /// How many partitions there are, from 1 to [`MAX_PARTS`].
+    #[tactic(auto, using(crate::proofs::Checks::parts_bound))]
     pub fn parts(&self) -> u8
         ensures parts { result ≡ self.now.parts }
+        ensures bound { result ≤ MAX_PARTS }
         ensures plan { IsPlan self.now }
     {
         self.parts
@@ -125,6 +144,7 @@ impl Clone for Plan {
 
     fn clone(&self) -> Result<Plan, AllocError> {
         Ok(Plan {
+            version: self.version,
             parts: self.parts,
             ranges: self.ranges.clone()?,
         })

@@ -1,14 +1,15 @@
 // Reading a plan from JSON.
-ghost use Rattle.std.specs.Prelude.{◌≡◌, ◌^◌, ◌<◌, ◌⊎◌, nat_lt, List, length, true, Some, None, Ok, Err, MatchResult, IfOk, IsOk, IsSomeAnd, option_map};
+ghost use Rattle.std.specs.Prelude.{◌≡◌, ◌^◌, ◌<◌, ◌≤◌, ◌⊎◌, nat_lt, List, length, true, Some, None, Ok, Err, MatchResult, IfOk, IsOk, IsSomeAnd, option_map};
 ghost use Rattle.std.specs.List.{list_all};
 ghost use Rattle.sq_plan.specs.declared.plan.PlanRange.{PlanRange};
-ghost use Rattle.sq_plan.specs.PlanFields.{layout, HasRanges};
+ghost use Rattle.sq_plan.specs.PlanFields.{layout, HasRanges, stages_of};
 ghost use Rattle.serde_json.specs.View.{view, items_view};
-ghost use Rattle.sq_plan.specs.Reading.{ReadsPlan, json_of, whole_at, range_in, ranges_in, checked, plan_of as plan_of_json};
+ghost use Rattle.sq_plan.specs.Reading.{ReadsPlan, json_of, whole_at, text_at, stages_at, version_by, parts_limit_by, range_in, ranges_in, checked, plan_of as plan_of_json};
 
 use crate::fault::PlanFault;
 use crate::part::PartId;
-use crate::plan::{MAX_PARTS, MAX_RANGES, Plan, PlanRange};
+use crate::plan::{FIRST_MAX_PARTS, MAX_PARTS, MAX_RANGES, Plan, PlanRange};
+use crate::version::{Stages, Version};
 use serde_json::Value;
 use sq_schema::ROOT_END;
 use std::alloc::{AllocError, Global};
@@ -109,23 +110,43 @@ fn layout_of(items: &[Value], parts: u64) -> Option<Layout>
     })
 }
 
+// The text of a field.
+fn text<'a>(value: &'a Value, name: &str) -> Option<&'a str>
+    ensures { option_map (λ text. text.now) result ≡ text_at name.now (view value.now) }
+{
+    value.get(name).and_then(Value::as_str)
+}
+
 /// What the fields say.
 #[derive(Clone, Copy)]
 struct PlanFields<'a> {
+    /// What is said of stages, in the second version.
+    stages: Option<&'a str>,
     parts: u64,
     items: &'a [Value],
     layout: Layout,
+}
+
+// What a plan says of stages, which it has to in the second version alone.
+fn stages_in(value: &Value, version: u64) -> Option<Option<&str>>
+    ensures { option_map (λ stages. option_map (λ text. text.now) stages) result ≡ stages_at version (view value.now) }
+{
+    if version == 1 {
+        Some(None)
+    } else {
+        text(value, "stages").map(Some)
+    }
 }
 
 // What the fields say, or the fault of the first check of them that fails.
 fn fields_of(value: &Value) -> Result<PlanFields<'_>, PlanFault>
     ensures { MatchResult result
         (λ fields. (ranges : List PlanRange) × HasRanges fields ranges
-        × (plan_of_json (view value.now) ≡ checked fields.parts ranges))
+        × (plan_of_json (view value.now) ≡ checked (stages_of fields) fields.parts ranges))
         (λ fault. plan_of_json (view value.now) ≡ Err fault) }
 {
     let version = whole_number(value, "version").ok_or(PlanFault::Shape)?;
-    if version != 1 {
+    if version != 1 && version != 2 {
         return Err(PlanFault::Version);
     }
     let parts = whole_number(value, "partitions").ok_or(PlanFault::Shape)?;
@@ -134,20 +155,51 @@ fn fields_of(value: &Value) -> Result<PlanFields<'_>, PlanFault>
         .and_then(Value::as_array)
         .ok_or(PlanFault::Shape)?;
     let layout = layout_of(items, parts).ok_or(PlanFault::Shape)?;
+    let stages = stages_in(value, version).ok_or(PlanFault::Shape)?;
     Ok(PlanFields {
+        stages,
         parts,
         items,
         layout,
     })
 }
 
-// How many partitions there are, or the fault of the first check that fails.
-fn partition_count(fields: PlanFields<'_>) -> Result<u8, PlanFault>
-    ensures { (ranges : List PlanRange) → HasRanges fields.entry ranges → MatchResult result
-        (λ parts. checked fields.entry.parts ranges ≡ Ok (record { parts = parts; ranges = ranges }))
-        (λ fault. checked fields.entry.parts ranges ≡ Err fault) }
+// How many partitions there are at most, by what a plan says of stages.
+fn parts_limit(stages: Option<&str>) -> u64
+    ensures limit { result ≡ parts_limit_by (option_map (λ text. text.now) stages.entry) }
+    ensures bound { result ≤ MAX_PARTS }
 {
-    if !(1..=MAX_PARTS).contains(&fields.parts) {
+    if stages.is_some() {
+        MAX_PARTS
+    } else {
+        FIRST_MAX_PARTS
+    }
+}
+
+// The version, by what a plan says of stages; `None` where that is unknown.
+fn version_by(stages: Option<&str>) -> Option<Version>
+    ensures { result ≡ version_by (option_map (λ text. text.now) stages.entry) }
+{
+    match stages {
+        None => Some(Version::First),
+        Some(name) => Stages::of(name.as_bytes()).map(Version::Second),
+    }
+}
+
+/// What a plan says besides its ranges.
+#[derive(Clone, Copy)]
+struct Heading {
+    version: Version,
+    parts: u8,
+}
+
+// What the plan says besides its ranges, or the fault of the first check that fails.
+fn heading_of(fields: PlanFields<'_>) -> Result<Heading, PlanFault>
+    ensures { (ranges : List PlanRange) → HasRanges fields.entry ranges → MatchResult result
+        (λ heading. checked (stages_of fields.entry) fields.entry.parts ranges ≡ Ok (record { version = heading.version; parts = heading.parts; ranges = ranges }))
+        (λ fault. checked (stages_of fields.entry) fields.entry.parts ranges ≡ Err fault) }
+{
+    if !(1..=parts_limit(fields.stages)).contains(&fields.parts) {
         return Err(PlanFault::PartitionCount);
     }
     if fields.items.len() > MAX_RANGES {
@@ -159,7 +211,13 @@ fn partition_count(fields: PlanFields<'_>) -> Result<u8, PlanFault>
     if !fields.layout.owned {
         return Err(PlanFault::PartitionNumber);
     }
-    Ok(fields.parts as u8)
+    match version_by(fields.stages) {
+        Some(version) => Ok(Heading {
+            version,
+            parts: fields.parts as u8,
+        }),
+        None => Err(PlanFault::BadStages),
+    }
 }
 
 // The ranges of the items.
@@ -184,9 +242,9 @@ pub(crate) fn plan_of(alloc: Global, value: &Value) -> Result<Plan, PlanFault>
     ensures memory { result ≡ Err PlanFault.Memory → IsOk (plan_of_json (view value.now)) }
 {
     let fields = fields_of(value)?;
-    let parts = partition_count(fields)?;
+    let heading = heading_of(fields)?;
     match ranges_of(alloc, fields.items) {
-        Ok(ranges) => Ok(Plan::of(parts, ranges)),
+        Ok(ranges) => Ok(Plan::of(heading.version, heading.parts, ranges)),
         Err(AllocError) => Err(PlanFault::Memory),
     }
 }

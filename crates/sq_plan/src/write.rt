@@ -5,6 +5,7 @@ ghost use Rattle.serde_json.specs.View.{view};
 ghost use Rattle.sq_plan.specs.Spelling.{range_data, ranges_data, plan_data};
 
 use crate::plan::{Plan, PlanRange};
+use crate::version::Version;
 use serde_json::{Value, json};
 use std::alloc::{AllocError, Global};
 
@@ -31,5 +32,11 @@ pub(crate) fn plan_value(alloc: Global, plan: &Plan) -> Result<Value, AllocError
     ensures { IfOk result (λ value. view value ≡ plan_data plan.now) }
 {
     let ranges = ranges_value(alloc, plan.ranges())?;
-    json!(in alloc; {"partitions": plan.parts(), "ranges": ranges, "version": 1})
+    let parts = plan.parts();
+    match plan.version() {
+        Version::First => json!(in alloc; {"partitions": parts, "ranges": ranges, "version": 1}),
+        Version::Second(stages) => {
+            json!(in alloc; {"partitions": parts, "ranges": ranges, "stages": stages.name(), "version": 2})
+        }
+    }
 }

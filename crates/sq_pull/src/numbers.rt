@@ -5,10 +5,10 @@ ghost use Rattle.sq_pull.specs.Numbers.{reactive_pull, pump_pull};
 use sq_plan::PartId;
 
 /// How many partitions may pull, and how many pumps there may be.
-pub const MAX_OWNERS: u32 = 16;
+pub const MAX_OWNERS: u32 = 64;
 
 /// How many claims a partition or a pump wins at most: up to here its pull numbers have 32 bits.
-pub const MAX_CLAIMS: u32 = 134_217_728;
+pub const MAX_CLAIMS: u32 = 33_554_432;
 
 /// The number of the reactive pull that a partition claims with next, where it has won this many claims. It is odd.
 pub(crate) fn reactive_pull(part: PartId, won: u32) -> u32

@@ -7,6 +7,8 @@ pub mod Sweeps
 pub mod Cuts
 pub mod Found
 pub mod Segments
+pub mod Stages
+pub mod Places
 pub mod Extents
 pub mod Links
 pub mod Made

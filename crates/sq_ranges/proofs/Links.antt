@@ -1,5 +1,5 @@
 -- The links of ranges.
-use Rattle.std.proofs.Common.{◌≡◌, ℕ, ◌<◌, Bool, true, List, map, length, get_or, sym, ap, ◌∙◌, subst, ◌&&◌, ◌==◌}
+use Rattle.std.proofs.Common.{◌≡◌, ℕ, ◌<◌, Bool, true, true≢false, arith, List, [], map, length, get_or, sym, ap, ◌∙◌, subst, ◌&&◌, ◌==◌}
 use Rattle.std.specs.Prelude.{Contains}
 use Rattle.std.specs.List.{dedup}
 use Rattle.std.specs.List.Sorted.{IsPermutation, IsSorted, IsStrictlySortedBy}
@@ -65,4 +65,12 @@ are_links ranges sorted links moved in_order is = record {
     λ it. range_link_some ranges link (Contains-permutation sorted (map range_link ranges) link (IsPermutation-sym (map range_link ranges) sorted moved) (Contains-from_dedup same_link sorted link (subst (λ (ls : List Link). Contains ls link) is it))),
     λ some. subst (λ (ls : List Link). Contains ls link) (sym is) (Contains-dedup same_link_equiv link_parts sorted link (Contains-permutation (map range_link ranges) sorted link moved (some_of_link ranges link some))),
   );
+}
+
+-- no ranges have no links
+pub no_links : AreLinks [] []
+unfolding IsStrictlySortedBy
+no_links = record {
+  rising = tt;
+  all = λ link. (λ it. absurd (omega (arith, it.1)), λ linked. absurd (true≢false (sym linked)));
 }

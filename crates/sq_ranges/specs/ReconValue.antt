@@ -1,5 +1,5 @@
 -- Reconfiguration ranges, segments, and where their nodes and leaves lie.
-use Rattle.std.specs.Prelude.{◌≡◌, ◌↔◌, ℕ, Bool, true, ◌+◌, ◌-◌, ◌*◌, ◌/◌, ◌==◌, ◌&&◌, ◌≤◌, not, nat_lt, nat_le, min, List, [], ◌∷◌, length, map, position, slice_get, Option, option_map, option_and_then, Contains}
+use Rattle.std.specs.Prelude.{◌≡◌, ◌↔◌, ℕ, Bool, true, ◌+◌, ◌-◌, ◌*◌, ◌/◌, ◌==◌, ◌&&◌, ◌≤◌, false, not, nat_lt, nat_le, min, if◌then◌else◌, max, unwrap_or, filter, List, [], ◌∷◌, length, map, position, slice_get, Option, None, Some, option_map, option_and_then, Contains}
 use Rattle.std.specs.List.{list_any, flat_map, range_with_len}
 use Rattle.std.specs.List.Sorted.{IsStrictlySortedBy}
 use Rattle.std.specs.declared.cmp.Ordering.{Ordering}
@@ -17,6 +17,7 @@ pub record ReconValue : Type 0 where
   pub width : ℕ
   pub ranges : List Range
   pub segments : List Range
+  pub auto : Bool
 
 abbrev pub has_key : Range → ℕ → Bool
 has_key range key = nat_le range.lo key && nat_lt key range.hi
@@ -48,6 +49,10 @@ segments_of width ranges = flat_map (segments_in width) ranges
 -- a leaf may be this many keys wide
 abbrev pub is_width : ℕ → Bool
 is_width width = nat_le 1 width && nat_le width MAX_WIDTH
+
+-- nothing moves
+abbrev pub no_moves : ReconValue
+no_moves = record { width = 1; ranges = []; segments = []; auto = false }
 
 -- ranges in key order from this key on, none of them empty, each from one partition to another
 abbrev pub are_in_key_order : ℕ → List Range → Bool
@@ -94,6 +99,48 @@ range_link range = record { src = range.src; dst = range.dst }
 -- some range goes from one partition to the other
 abbrev pub is_link : List Range → ℕ → ℕ → Bool
 is_link ranges src dst = list_any (λ range. (range.src == src) && (range.dst == dst)) ranges
+
+-- the partitions to which keys of this one go, each once, in the order in which they come first
+abbrev pub destinations : ℕ → List Range → List ℕ
+destinations src [] = []
+destinations src (range ∷ ranges) =
+    if range.src == src then range.dst ∷ filter (λ dst. not (dst == range.dst)) (destinations src ranges) else destinations src ranges
+
+-- the place of a partition among those to which keys of another go; 0 where it isn't among them
+abbrev pub place_on : List Range → ℕ → ℕ → ℕ
+place_on ranges src dst = unwrap_or (position (λ other. other == dst) (destinations src ranges)) 0
+
+-- that of the partition to which a range goes
+abbrev pub place_of : List Range → Range → ℕ
+place_of ranges range = place_on ranges range.src range.dst
+
+-- the stage in which keys go from the one partition to the other, where the move runs in stages
+abbrev pub stage_on : ReconValue → ℕ → ℕ → ℕ
+stage_on recon src dst = if recon.auto then place_on recon.ranges src dst else 0
+
+abbrev pub stage_in : ReconValue → Range → ℕ
+stage_in recon range = stage_on recon range.src range.dst
+
+-- how many stages there are: one more than the highest stage of a range, and one where nothing moves
+abbrev pub stages_in : ReconValue → List Range → ℕ
+stages_in recon [] = 1
+stages_in recon (range ∷ ranges) = max (stage_in recon range + 1) (stages_in recon ranges)
+
+abbrev pub stages : ReconValue → ℕ
+stages recon = stages_in recon recon.ranges
+
+abbrev pub stage_found : ReconValue → Option Range → ℕ
+stage_found recon None = 0
+stage_found recon (Some segment) = stage_in recon segment
+
+-- the stage of the segment of this number
+abbrev pub stage_at : ReconValue → ℕ → ℕ
+stage_at recon seg = stage_found recon (slice_get recon.segments seg)
+
+-- the segment, where it is of this stage
+abbrev pub of_stage : ReconValue → ℕ → Option Range → Option Range
+of_stage recon i None = None
+of_stage recon i (Some segment) = if stage_in recon segment == i then Some segment else None
 
 -- links in their order: by source, and then by destination
 abbrev pub link_cmp : Link → Link → Ordering

@@ -3,25 +3,27 @@ ghost use Rattle.std.specs.Prelude.{◌≡◌, ◌≤◌, ◌<◌, ◌++◌, tru
 ghost use Rattle.sq_ranges.specs.ReconValue.{is_width, segment_at, segment_count, segments_in, segments_of, are_in_key_order, range_link, AreLinks};
 ghost use Rattle.sq_schema.specs.declared.root.TheConstants.{ROOT_END};
 ghost use Rattle.sq_plan.specs.PlanValue.{IsPlan};
+ghost use Rattle.sq_ranges.specs.Between.{segment_limit};
 ghost use Rattle.sq_ranges.specs.Moves.{moves_of};
 
 use crate::recon::{Link, Range};
-use crate::segment::SEGMENT_LIMIT;
+use crate::segment::segment_limit;
 use crate::sweep::Sweep;
 use sq_plan::Plan;
 use sq_tree::LEAVES;
 use std::alloc::{AllocError, Global};
 
-/// Whether the moves between two plans come to at most [`SEGMENT_LIMIT`] segments.
+/// Whether the moves between two plans come to no more segments than the version of the new one allows.
 pub(crate) fn fits(old: &Plan, new: &Plan, width: u64) -> bool
     requires { is_width width ≡ true }
-    ensures { result ≡ nat_le (length (segments_of width (moves_of old.now new.now))) SEGMENT_LIMIT }
+    ensures { result ≡ nat_le (length (segments_of width (moves_of old.now new.now))) (segment_limit new.now.version) }
 {
+    let limit = segment_limit(new.version());
     let mut count = 0;
     let mut sweep = Sweep::new(old, new);
     while let Some(run) = sweep.next_run() {
         count += segment_count(&run, width);
-        if count > SEGMENT_LIMIT {
+        if count > limit {
             return false;
         }
     }

@@ -4,7 +4,7 @@ ghost use Rattle.sq_ranges.specs.Fault.{of_row, recon_fault_number, opening_faul
 
 use crate::opening::{MAX_CAPACITY, MAX_LIMIT, MIN_LIMIT};
 use crate::recon::MAX_WIDTH;
-use crate::segment::SEGMENT_LIMIT;
+use crate::segment::{FIRST_SEGMENT_LIMIT, SEGMENT_LIMIT};
 use sq_schema::{OUT_OF_MEMORY, RowFault, TxnFault};
 use std::alloc::AllocError;
 use thiserror::Error;
@@ -16,7 +16,7 @@ pub enum ReconFault {
     PartitionsDiffer = 111,
     #[error("the width of a leaf isn't from 1 to {MAX_WIDTH}")]
     Width = 112,
-    #[error("the move would have more than {SEGMENT_LIMIT} segments: wider leaves make fewer")]
+    #[error("the move would have more than {FIRST_SEGMENT_LIMIT} segments, or {SEGMENT_LIMIT} where the new plan is of version 2: wider leaves make fewer")]
     TooManySegments = 113,
     #[error("{}", AllocError)]
     Memory = OUT_OF_MEMORY as isize,

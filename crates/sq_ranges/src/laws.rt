@@ -1,7 +1,15 @@
 // What holds of the moves between two plans, and of segments and nodes.
 ghost use Rattle.std.specs.Prelude.{◌≡◌, ◌↔◌, ℕ, ◌+◌, ◌*◌, ◌<◌, Some, true, false, IsTrue, slice_get};
 ghost use Rattle.sq_schema.specs.declared.root.TheConstants.{ROOT_END};
+ghost use Rattle.sq_plan.specs.declared.plan.TheConstants.{MAX_PARTS, MAX_RANGES};
+ghost use Rattle.sq_plan.specs.declared.version.Stages.{Stages};
+ghost use Rattle.sq_plan.specs.declared.version.Version.TheVariants.{First, Second};
+ghost use Rattle.sq_plan.specs.Version.{parts_limit};
 ghost use Rattle.sq_plan.specs.PlanValue.{PlanValue, IsPlan};
+ghost use Rattle.sq_ranges.specs.declared.recon.TheConstants.{MAX_WIDTH};
+ghost use Rattle.sq_ranges.specs.declared.segment.TheConstants.{SEGMENT_LIMIT};
+ghost use Rattle.sq_ranges.specs.declared.opening.TheConstants.{MIN_LIMIT, MAX_LIMIT, MAX_CAPACITY, MAX_WAITING};
+ghost use Rattle.sq_ranges.specs.Between.{segment_limit};
 ghost use Rattle.sq_tree.specs.declared.node.TheConstants.{LEAVES};
 ghost use Rattle.sq_tree.specs.Node.{is_node, is_leaf, is_above, is_under};
 ghost use Rattle.sq_ranges.specs.declared.recon.Range.{Range};
@@ -9,6 +17,16 @@ ghost use Rattle.sq_ranges.specs.ReconValue.{ReconValue, IsRecon, segment_of, le
 ghost use Rattle.sq_ranges.specs.Moves.{AreTheMoves, moves_of};
 ghost use Rattle.sq_ranges.specs.Between.{IsReconOf};
 ghost use Rattle.sq_ranges.specs.Laws.{IsHoldingSegment, IsSegmentOf, Covers, LiesIn, AreHalves};
+
+/// The limits, in digits.
+pub fn the_limits()
+    ensures parts { (parts_limit First ≡ 16) × ((stages : Stages) → parts_limit (Second stages) ≡ 64) × (MAX_PARTS ≡ 64) }
+    ensures ranges { MAX_RANGES ≡ 256 }
+    ensures segments { (segment_limit First ≡ 256) × ((stages : Stages) → segment_limit (Second stages) ≡ 1024) × (SEGMENT_LIMIT ≡ 1024) }
+    ensures leaves { (LEAVES ≡ 32) × (MAX_WIDTH ≡ 65536) }
+    ensures chunks { (MIN_LIMIT ≡ 64) × (MAX_LIMIT ≡ 1048576) × (MAX_CAPACITY ≡ 64) }
+    ensures waiting { MAX_WAITING ≡ 1024 }
+{}
 
 /// What moves between two plans is one list of ranges: the maximal runs of root keys with one pair of owners that
 /// differ.

@@ -8,6 +8,7 @@ pub mod laws;
 mod opening;
 mod recon;
 mod segment;
+mod stage;
 mod sweep;
 
 pub use fault::{OpeningFault, ReconFault};
@@ -16,4 +17,4 @@ pub use opening::{
     RefusedOpening,
 };
 pub use recon::{Extent, Link, MAX_WIDTH, Range, Recon};
-pub use segment::{SEGMENT_LIMIT, SegId};
+pub use segment::{FIRST_SEGMENT_LIMIT, SEGMENT_LIMIT, SegId};

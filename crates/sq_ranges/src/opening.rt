@@ -1,5 +1,5 @@
 // What a world opens with.
-ghost use Rattle.std.specs.Prelude.{◌≡◌, None, MatchResult, IfOk, IfErr};
+ghost use Rattle.std.specs.Prelude.{◌≡◌, false, None, MatchResult, IfOk, IfErr};
 
 use crate::fault::OpeningFault;
 use crate::given::moves_and_table;
@@ -187,6 +187,19 @@ impl Opening {
         ensures set_up { IsSetUp self.now }
     {
         &self.parts.table
+    }
+
+    /// The same opening, with all that moves in one stage.
+    pub fn in_one_part(self) -> Opening
+        ensures { result ≡ record self { recon = record (self.recon) { auto = false } } }
+    {
+        let recon = self.parts.recon.in_one_part();
+        Opening {
+            parts: OpeningParts {
+                recon,
+                ..self.parts
+            },
+        }
     }
 
     /// Its parts, without a copy.

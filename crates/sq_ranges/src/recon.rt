@@ -8,6 +8,7 @@ ghost use Rattle.sq_ranges.specs.ReconValue.{is_width, are_in_key_order, leaf_st
 use crate::cut::{fits, links, moves, segments};
 use crate::fault::ReconFault;
 use crate::segment::SegId;
+use crate::stage::{place_on, places};
 use sq_plan::{PartId, Plan};
 use sq_schema::Root;
 use sq_tree::{LEAVES, Leaf, NodeId};
@@ -56,25 +57,32 @@ pub struct Recon {
     ranges: Vec<Range>,
     segments: Vec<Range>,
     links: Vec<Link>,
+    places: Vec<u64>,
+    auto: bool,
 }
 
 impl Model for Recon {
-    ghost use Rattle.sq_ranges.specs.ReconValue.{ReconValue, IsRecon, AreLinks};
+    ghost use Rattle.std.specs.Prelude.{◌≡◌, map};
+    ghost use Rattle.sq_ranges.specs.ReconValue.{ReconValue, IsRecon, AreLinks, place_of};
 
     ghost Value = { ReconValue };
 
-    ghost view = { λ r. record { width = r.width; ranges = r.ranges.items; segments = r.segments.items } };
+    ghost view = { λ r. record { width = r.width; ranges = r.ranges.items; segments = r.segments.items; auto = r.auto } };
 
-    ghost invariant = { λ r. IsRecon (record { width = r.width; ranges = r.ranges.items; segments = r.segments.items }) × AreLinks r.ranges.items r.links.items };
+    ghost invariant = { λ r. record {
+      recon : IsRecon (record { width = r.width; ranges = r.ranges.items; segments = r.segments.items; auto = r.auto });
+      links : AreLinks r.ranges.items r.links.items;
+      places : r.places.items ≡ map (place_of r.ranges.items) r.segments.items;
+    } };
 }
 
 impl Recon {
-    ghost use Rattle.sq_ranges.specs.ReconValue.{IsRecon, AreLinks, leaf_at, extent_at};
+    ghost use Rattle.sq_ranges.specs.ReconValue.{IsRecon, AreLinks, no_moves, leaf_at, extent_at, stage_on, stage_at, stages};
     ghost use Rattle.sq_ranges.specs.Between.{recon_fault, recon_of, IsReconOf};
 
     /// Why there is no reconfiguration between two plans: the first of these. They name different numbers of
     /// partitions; the width of a leaf isn't from 1 to [`MAX_WIDTH`] root keys; what moves comes to more
-    /// than [`SEGMENT_LIMIT`] segments. `None` where there is one. It takes no memory.
+    /// than [`SEGMENT_LIMIT`] segments, or [`crate::FIRST_SEGMENT_LIMIT`] where the new plan is of the first version. `None` where there is one. It takes no memory.
     pub fn fault(old: &Plan, new: &Plan, width: u64) -> Option<ReconFault>
         ensures fault { result ≡ recon_fault old.now new.now width }
         ensures plans { IsPlan old.now × IsPlan new.now }
@@ -106,12 +114,29 @@ impl Recon {
         let ranges = moves(alloc, old, new)?;
         let segments = segments(alloc, ranges.as_slice(), width)?;
         let links = links(alloc, ranges.as_slice())?;
+        let places = places(alloc, ranges.as_slice(), segments.as_slice())?;
         Ok(Recon {
             width,
             ranges,
             segments,
             links,
+            places,
+            auto: new.version().is_auto(),
         })
+    }
+
+    /// A reconfiguration in which nothing moves. It takes no memory.
+    pub fn nothing(alloc: Global) -> Recon
+        ensures { result ≡ no_moves }
+    {
+        Recon {
+            width: 1,
+            ranges: Vec::new(alloc),
+            segments: Vec::new(alloc),
+            links: Vec::new(alloc),
+            places: Vec::new(alloc),
+            auto: false,
+        }
     }
 
     /// How many root keys a leaf has at most, from 1 to [`MAX_WIDTH`].
@@ -164,6 +189,55 @@ impl Recon {
         Some((seg, leaf))
     }
 
+    /// In how many stages the ranges move: 1 where the new plan doesn't say `auto`, or nothing moves.
+    pub fn stages(&self) -> u64
+        ensures stages { result ≡ stages self.now }
+        ensures some { 1 ≤ result }
+    {
+        let mut most = 1;
+        for range in self.ranges.as_slice() {
+            most = most.max(self.stage_on(range.src, range.dst) + 1);
+        }
+        most
+    }
+
+    /// The stage in which the ranges from one partition to another move: 0, or where the new plan says `auto` the place
+    /// of the other among those to which the one gives keys, in key order. 0 where no range goes there.
+    pub fn stage_on(&self, src: PartId, dst: PartId) -> u64
+        ensures stage { result ≡ stage_on self.now src dst }
+        ensures bound { result ≤ length self.now.ranges }
+    {
+        if self.auto {
+            place_on(self.ranges.as_slice(), src, dst)
+        } else {
+            0
+        }
+    }
+
+    /// The stage in which a segment moves; 0 where there is no such segment.
+    pub fn stage_of(&self, seg: SegId) -> u64
+        ensures { result ≡ stage_at self.now seg }
+    {
+        if !self.auto {
+            return 0;
+        }
+        self.places
+            .as_slice()
+            .get(seg.index())
+            .copied()
+            .unwrap_or(0)
+    }
+
+    /// The same ranges and segments, all of them in one stage.
+    pub fn in_one_part(self) -> Recon
+        ensures { result ≡ record self { auto = false } }
+    {
+        Recon {
+            auto: false,
+            ..self
+        }
+    }
+
     /// The root keys of a node of a segment; `None` where there is no such segment.
     pub fn extent(&self, seg: SegId, node: NodeId) -> Option<Extent>
         ensures { result ≡ extent_at self.now seg node }
@@ -186,6 +260,8 @@ impl Clone for Recon {
             ranges: self.ranges.clone()?,
             segments: self.segments.clone()?,
             links: self.links.clone()?,
+            places: self.places.clone()?,
+            auto: self.auto,
         })
     }
 }

@@ -1,11 +1,27 @@
 // The numbers of segments.
-ghost use Rattle.std.specs.Prelude.{◌≡◌, ◌<◌};
+ghost use Rattle.std.specs.Prelude.{◌≡◌, ◌<◌, ◌≤◌};
 ghost use Rattle.std.specs.Option.{SomeIff};
+ghost use Rattle.sq_ranges.specs.Between.{segment_limit};
 
+use sq_plan::Version;
 use std::marker::Model;
 
 /// How many segments a reconfiguration has at most.
-pub const SEGMENT_LIMIT: u64 = 256;
+pub const SEGMENT_LIMIT: u64 = 1024;
+
+/// How many segments a move to a plan of the first version has at most.
+pub const FIRST_SEGMENT_LIMIT: u64 = 256;
+
+/// How many segments a move to a plan of this version has at most.
+pub(crate) fn segment_limit(version: Version) -> u64
+    ensures limit { result ≡ segment_limit version }
+    ensures bound { result ≤ SEGMENT_LIMIT }
+{
+    match version {
+        Version::First => FIRST_SEGMENT_LIMIT,
+        Version::Second(_) => SEGMENT_LIMIT,
+    }
+}
 
 /// A segment, by its number from 0 in key order. To a contract it is the number.
 #[derive(Clone, Copy, Debug, PartialEq, Eq, PartialOrd, Ord)]

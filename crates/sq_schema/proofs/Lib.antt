@@ -1,4 +1,5 @@
 pub mod Entries
+pub mod Folded
 pub mod Kept
 pub mod Room
 pub mod KeyOrder

@@ -28,6 +28,10 @@ rows_size rows = 32 + sum_by (λ entry. row_size entry.1) rows
 abbrev pub family_stands : FamilyValue → Bool
 family_stands family = not (length family.base == 0) || not (length family.log == 0)
 
+-- a family whose log is folded: it starts anew from its rows
+abbrev pub folded : FamilyValue → FamilyValue
+folded family = record { root = family.root; base = rows_of family; log = [] }
+
 -- a family whose log has one more transaction
 abbrev pub logged : FamilyValue → TxnValue → FamilyValue
 logged family txn = record family { log = family.log ++ txn ∷ [] }

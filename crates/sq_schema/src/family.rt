@@ -2,7 +2,7 @@
 ghost use Rattle.std.specs.Prelude.{◌≡◌, ◌≤◌, ◌↔◌, true, [], length, IfOk, IfErr, OnErr, IsErrOf, IsTrue};
 ghost use Rattle.std.specs.List.{All};
 ghost use Rattle.sq_schema.specs.Effect.{reply};
-ghost use Rattle.sq_schema.specs.Family.{rows_of, rows_size, family_stands, answered};
+ghost use Rattle.sq_schema.specs.Family.{rows_of, rows_size, family_stands, folded, answered};
 ghost use Rattle.sq_schema.specs.Rows.{is_rooted};
 
 use crate::fault::ApplyFault;
@@ -91,6 +91,15 @@ impl Family {
                 Ok(Reply::Committed(answers))
             }
         }
+    }
+
+    /// Folds the log: the family starts anew from its rows. It takes no memory, since rows that are those that the log
+    /// starts from are kept once.
+    pub fn fold(&mut self)
+        ensures { self.new ≡ folded self.old }
+    {
+        self.rows.fold();
+        self.log = Vec::new(*self.log.allocator());
     }
 
     pub fn root(&self) -> Root

@@ -51,6 +51,13 @@ impl LoggedRows {
         &self.rows
     }
 
+    /// Lets the log start from the rows as they are now, which are kept once then.
+    pub(crate) fn fold(&mut self)
+        ensures { self.new ≡ record { base = self.old.rows; rows = self.old.rows } }
+    {
+        self.base = None;
+    }
+
     /// Makes these writes in their order, or none where there is no memory. The size is that of the rows afterwards.
     pub(crate) fn write_all(
         &mut self,

@@ -1,6 +1,7 @@
 pub mod Cores
 pub mod Dumps
 pub mod Each
+pub mod Folding
 pub mod Found
 pub mod Guards
 pub mod Leading

@@ -1,5 +1,5 @@
 -- What the steps of the links come to.
-use Rattle.std.proofs.Common.{◌≡◌, ℕ, ◌<◌, ◌≤◌, ◌⊎◌, Bool, true, false, true≢false, List, [], ◌∷◌, ◌++◌, map, length, get_or, set, Bor, Option, Some, None, Ok, refl, sym, ap, ◌∙◌, subst, inl, inr, arith}
+use Rattle.std.proofs.Common.{◌≡◌, ℕ, ◌<◌, ◌≤◌, ◌⊎◌, Bool, true, false, true≢false, List, [], ◌∷◌, ◌++◌, map, length, get_or, set, Bor, Option, Some, None, ok_or, Result, Ok, Err, refl, sym, ap, ◌∙◌, subst, inl, inr, arith}
 use Rattle.std.specs.Prelude.{IsTrue, ◌==◌, ◌&&◌, not, nat_le, is_some, is_none, if◌then◌else◌, slice_set}
 use Rattle.std.specs.Option.{option_copied}
 use Rattle.std.proofs.lemmas.Bool.{and_parts, eqb-true, le-leb, lt-leb, cases_lt}
@@ -7,6 +7,7 @@ use Rattle.std.proofs.lemmas.List.{get_or_default, get_or_past, get_or-set_same,
 use Rattle.std.proofs.lemmas.List.Quantifiers.{position-Some}
 use Rattle.std.proofs.lemmas.Option.{slice_get_read}
 use Rattle.sq_plan.specs.PlanValue.{PlanValue}
+use Rattle.sq_ranges.specs.ReconValue.{stage_on}
 use Rattle.sq_chunk.specs.declared.chunk.Note.{Note}
 use Rattle.sq_chunk.specs.ChunkValue.{ChunkValue}
 use Rattle.sq_store.specs.StoreValue.{StoreValue, families_between}
@@ -20,18 +21,41 @@ use Rattle.sq_exec.specs.CoreValue.{CoreValue, PartCoreValue, out_at, with_out, 
 use Rattle.sq_exec.specs.Moving.{CutsFor, LoadsFrom, can_load, load_fault, loaded_core}
 use Rattle.sq_model.specs.declared.step.Step.TheVariants.{Cut, Load}
 use Rattle.sq_model.specs.declared.answer.Answer.TheVariants.{Done, WasCut, WasLoaded, Refused}
-use Rattle.sq_model.specs.declared.answer.Refusal.TheVariants.{NotMoving, OutboxEmpty, OutboxFull, LinkFull, LinkEmpty, InboxFull}
+use Rattle.sq_model.specs.declared.answer.Refusal.TheVariants.{NotMoving, NoSuchLink, OutboxEmpty, OutboxFull, LinkFull, LinkEmpty, InboxFull}
+use Rattle.sq_model.specs.declared.answer.Refusal.{Refusal}
 use Rattle.sq_model.specs.Leader.{is_moving_phase}
-use Rattle.sq_transition.specs.WorldValue.{WorldValue, QueueValue, no_queue, core_at, with_core, link_index, queue_at, with_queue}
+use Rattle.sq_transition.specs.WorldValue.{WorldValue, running_stage, QueueValue, no_queue, core_at, with_core, link_index, queue_at, with_queue}
 use Rattle.sq_transition.specs.Leading.{phase_of}
 use Rattle.sq_transition.specs.LeaderResults.{StepResult, refuse}
 use Rattle.sq_transition.specs.LinkResults.{result_at_link, if_link, sent_core, push_chunk, push_result, pop_chunk, pop_result, cut_work, cut_at, cut_result, load_chunk, load_result}
 use Rattle.sq_transition.specs.Transition.{IsResult}
-use Rattle.sq_state.specs.Results.{refuse_if, cut_refused, load_refused, families_of}
+use Rattle.sq_state.specs.Results.{refuse_if, running_link, cut_refused, load_refused, families_of}
 use Rattle.sq_state.specs.Queue.{IsPopped}
 use Rattle.sq_state.specs.Sound.{IsSound, IsSoundLink}
 use Rattle.sq_state.proofs.Guards.{passed, goes_on}
 use Rattle.sq_state.proofs.Cores.{core_of, core_read, core_written, core_kept}
+
+-- a link that the running stage has is there
+pub link_runs : (w : WorldValue) (src dst at : ℕ) → Ok at ≡ running_link w src dst → (not (stage_on w.recon src dst == running_stage w) ≡ false) × (Some at ≡ link_index w src dst)
+link_runs w src dst at running = by_stage (not (stage_on w.recon src dst == running_stage w)) (link_index w src dst) running
+  where
+    by_stage : (other : Bool) (index : Option ℕ) → Ok at ≡ (let r : Result ℕ Refusal = if other then Err NoSuchLink else ok_or index NoSuchLink in r) → (other ≡ false) × (Some at ≡ index)
+    by_stage true index is = absurd cc
+    by_stage false None is = absurd cc
+    by_stage false (Some i) is = (refl, cc)
+
+-- what was found has the ends that were sought
+pub ends_found : (w : WorldValue) (src dst at : ℕ) (queue : QueueValue) → Some at ≡ link_index w src dst → queue ≡ get_or w.queues at queue → (queue.src ≡ src) × (queue.dst ≡ dst)
+ends_found w src dst at queue found is =
+    let place = position-Some (λ (other : QueueValue). (other.src == src) && (other.dst == dst)) w.queues at queue (sym found) in
+    let ends = and_parts (queue.src == src) (queue.dst == dst) (ap (λ (other : QueueValue). (other.src == src) && (other.dst == dst)) is ∙ place.1) in
+    (eqb-true queue.src src ends.0, eqb-true queue.dst dst ends.1)
+
+-- a link that is there is one of the running stage just where its stage runs
+pub link_of_stage : (w : WorldValue) (src dst at : ℕ) (runs : Bool) → (stage_on w.recon src dst == running_stage w) ≡ runs → Some at ≡ link_index w src dst
+    → (let r : Result ℕ Refusal = if runs then Ok at else Err NoSuchLink in r) ≡ running_link w src dst
+link_of_stage w src dst at true is found = (λ i. let r : Result ℕ Refusal = if not (sym is i) then Err NoSuchLink else ok_or (found i) NoSuchLink in r)
+link_of_stage w src dst at false is found = (λ i. let r : Result ℕ Refusal = if not (sym is i) then Err NoSuchLink else ok_or (found i) NoSuchLink in r)
 
 -- a link that was found by its ends
 pub record IsLinkHere (w : WorldValue) (src dst at : ℕ) (queue : QueueValue) : Type 0 where
@@ -41,8 +65,9 @@ pub record IsLinkHere (w : WorldValue) (src dst at : ℕ) (queue : QueueValue) :
   pub destination : queue.dst ≡ dst
   pub sound : IsSoundLink w queue
 
-pub link_here : (w : WorldValue) (src dst at : ℕ) (queue : QueueValue) → IsSound w → Some at ≡ link_index w src dst → queue ≡ get_or w.queues at queue → IsLinkHere w src dst at queue
-link_here w src dst at queue sound found is =
+pub link_here : (w : WorldValue) (src dst at : ℕ) (queue : QueueValue) → IsSound w → Ok at ≡ running_link w src dst → queue ≡ get_or w.queues at queue → IsLinkHere w src dst at queue
+link_here w src dst at queue sound running is =
+    let found = (link_runs w src dst at running).1 in
     let place = position-Some (λ (other : QueueValue). (other.src == src) && (other.dst == dst)) w.queues at queue (sym found) in
     let passes : ((queue.src == src) && (queue.dst == dst)) ≡ true = ap (λ (other : QueueValue). (other.src == src) && (other.dst == dst)) is ∙ place.1 in
     let ends = and_parts (queue.src == src) (queue.dst == dst) passes in
@@ -55,9 +80,13 @@ link_here w src dst at queue sound found is =
     }
 
 -- where there is the link the step goes on
-at_link : (w : WorldValue) (src dst at : ℕ) (done : Unit {0}) (result : ℕ → StepResult) → Ok done ≡ refuse_if (not (is_moving_phase (phase_of w.leader))) NotMoving → Some at ≡ link_index w src dst → result at ≡ if_link w src dst result
-at_link w src dst at done result moving found =
-    ap (result_at_link w result) found ∙ passed (not (is_moving_phase (phase_of w.leader))) NotMoving w (result_at_link w result (link_index w src dst)) done moving
+at_link : (w : WorldValue) (src dst at : ℕ) (done : Unit {0}) (result : ℕ → StepResult) → Ok done ≡ refuse_if (not (is_moving_phase (phase_of w.leader))) NotMoving → Ok at ≡ running_link w src dst → result at ≡ if_link w src dst result
+at_link w src dst at done result moving running =
+    let link = link_runs w src dst at running in
+    let here = result_at_link w result (link_index w src dst) in
+    ap (result_at_link w result) link.1
+    ∙ goes_on (not (stage_on w.recon src dst == running_stage w)) NoSuchLink w here link.0
+    ∙ passed (not (is_moving_phase (phase_of w.leader))) NotMoving w (if not (stage_on w.recon src dst == running_stage w) then refuse w NoSuchLink else here) done moving
 
 -- what a reference tells of what it was read from
 copied_some : (r : Option (Bor ChunkValue)) (o : Option ChunkValue) (b : Bool) → option_copied r ≡ o → is_some r ≡ b → is_some o ≡ b
@@ -128,14 +157,14 @@ pub record AtEnd (w : WorldValue) (parts : List PartCoreValue) (src dst at near 
   pub sound : IsSound w
   pub done : Unit {0}
   pub moving : Ok done ≡ refuse_if (not (is_moving_phase (phase_of w.leader))) NotMoving
-  pub found : Some at ≡ link_index w src dst
+  pub found : Ok at ≡ running_link w src dst
   pub queue_is : queue ≡ get_or w.queues at queue
   pub from_is : from ≡ near
   pub to_is : to ≡ far
   pub part_is : part ≡ get_or parts from part
 
 pub at_end : {w : WorldValue} {parts : List PartCoreValue} {src dst at near far from to : ℕ} {queue : QueueValue} {part : PartCoreValue} {done : Unit {0}} → map core_of parts ≡ w.cores → IsSound w
-    → Ok done ≡ refuse_if (not (is_moving_phase (phase_of w.leader))) NotMoving → Some at ≡ link_index w src dst → queue ≡ get_or w.queues at queue → from ≡ near → to ≡ far → part ≡ get_or parts from part
+    → Ok done ≡ refuse_if (not (is_moving_phase (phase_of w.leader))) NotMoving → Ok at ≡ running_link w src dst → queue ≡ get_or w.queues at queue → from ≡ near → to ≡ far → part ≡ get_or parts from part
     → AtEnd w parts src dst at near far from to queue part
 at_end {done = done} are sound moving found queue_is from_is to_is part_is = record { done = done; are = are; sound = sound; moving = moving; found = found; queue_is = queue_is; from_is = from_is; to_is = to_is; part_is = part_is }
 

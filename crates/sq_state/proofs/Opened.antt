@@ -27,7 +27,7 @@ use Rattle.sq_exec.specs.CoreValue.{CoreValue, out_at, inbox_at}
 use Rattle.sq_model.specs.Tables.{opening_rows, family_of}
 use Rattle.sq_model.specs.Place.{source}
 use Rattle.sq_transition.specs.WorldValue.{WorldValue, QueueValue, LinkValue, no_core, no_queue, core_at, queue_at, link_of, link_value}
-use Rattle.sq_transition.specs.Leading.{phase_of, parts_of, has_prepared, has_reported}
+use Rattle.sq_transition.specs.Leading.{phase_of, parts_of, moves_of, stage_of, has_prepared, has_reported}
 use Rattle.sq_transition.specs.Holds.{share_at, LinkHolds, MovesHold, IsSetFor, CoreHolds, Holds}
 use Rattle.sq_state.specs.Queue.{opened_queue}
 use Rattle.sq_opened.specs.Opened.{opened_part}
@@ -86,6 +86,7 @@ module _ (o : OpeningValue) (part : ℕ) where
     recon = refl;
     limit = refl;
     started = refl;
+    stage = refl;
     outs = length-replicate o.old.parts new_out_link;
     inboxes = length-replicate o.old.parts None;
     given_up = length-replicate (length o.recon.segments) none_given_up;
@@ -116,7 +117,7 @@ pub record IsBuilt (o : OpeningValue) (w : WorldValue) : Type 0 where
   pub new : w.new ≡ o.new
   pub recon : w.recon ≡ o.recon
   pub config : w.config ≡ o.config
-  pub leader : w.leader ≡ Idle o.old.parts
+  pub leader : w.leader ≡ Idle (record { parts = o.old.parts; recon = o.recon })
   pub cores : w.cores ≡ map (opened_part o) (range_with_len 0 o.old.parts)
   pub trees : AreNewTrees o.recon.segments w.trees
   pub queues : AreNewQueues o.recon.ranges w.queues
@@ -168,6 +169,8 @@ module _ (o : OpeningValue) (w : WorldValue) (built : IsBuilt o w) where
         plans = record { old = built.old; new = built.new; recon = built.recon; config = built.config };
         leader = record {
           parts = ap parts_of built.leader;
+          moves = ap moves_of built.leader;
+          stage = ap stage_of built.leader;
           phase = ap phase_of built.leader;
           prepared = λ part low. ap (λ leader. has_prepared leader part) built.leader;
           reported = λ part low. ap (λ leader. has_reported leader part) built.leader;

@@ -2,7 +2,7 @@
 use Rattle.std.proofs.Common.{◌≡◌, ℕ, ◌<◌, ◌⊎◌, true, false, List, [], map, length, get_or, set, Option, Some, None, Ok, refl, sym, ap, ◌∙◌, subst, inl, inr, arith}
 use Rattle.std.specs.Prelude.{IsTrue, not, option_map, option_and_then, slice_get, slice_set, unwrap_or}
 use Rattle.std.specs.Option.{option_map_or}
-use Rattle.std.proofs.lemmas.List.{get_or_default}
+use Rattle.std.proofs.lemmas.List.{get_or_default, set-get_or}
 use Rattle.std.proofs.lemmas.Option.{slice_get_within, slice_get_read}
 use Rattle.sq_tree.specs.declared.status.Status.{Status}
 use Rattle.sq_tree.specs.declared.status.Status.TheVariants.{Free, Split, Claimed, Partial, Complete}
@@ -17,13 +17,14 @@ use Rattle.sq_exec.specs.Moving.{begun_core}
 use Rattle.sq_model.specs.declared.step.Step.TheVariants.{Begin}
 use Rattle.sq_model.specs.declared.answer.Answer.{Answer}
 use Rattle.sq_model.specs.declared.answer.Answer.TheVariants.{Done, Reads, Refused}
+use Rattle.sq_model.specs.declared.answer.Refusal.{Refusal}
 use Rattle.sq_model.specs.declared.answer.Refusal.TheVariants.{NotMoving, Memory}
 use Rattle.sq_model.specs.Answers.{begin_answered}
 use Rattle.sq_model.specs.Leader.{is_moving_phase}
 use Rattle.sq_transition.specs.WorldValue.{WorldValue, tree_at, core_at, status_in, source_of}
 use Rattle.sq_transition.specs.Leading.{phase_of}
-use Rattle.sq_transition.specs.LeaderResults.{StepResult}
-use Rattle.sq_transition.specs.TreeResults.{status_result, begin_result, with_begun, if_done, if_segment, if_node}
+use Rattle.sq_transition.specs.LeaderResults.{StepResult, if_moving}
+use Rattle.sq_transition.specs.TreeResults.{status_result, begin_result, with_begun, with_node, if_done, if_segment, if_node}
 use Rattle.sq_transition.specs.SubmitResults.{is_given_up}
 use Rattle.sq_transition.specs.Transition.{IsResult}
 use Rattle.sq_model.specs.Legal.{takes_memory}
@@ -171,3 +172,37 @@ source_knows w old parts seg from range part after same are sound exists range_i
     let recon : after.core.recon ≡ w.recon = ap (λ (c : CoreValue). c.recon) (after_is ∙ core) ∙ (sound_w.parts from (omega (arith, sound_w.cores, lt))).recon in
     subst (λ (r : ReconValue). seg < length r.segments) (sym recon) exists_w)
     sound exists
+
+-- what a step on a node of a segment comes to: an answer by the statuses of the tree, and where that is done a new status of the node
+module _ (w : WorldValue) (answered : (ℕ → Status) → ℕ → ℕ → Answer) (new : Status) where
+  abbrev whole_step : ℕ → ℕ → StepResult
+  whole_step seg node = if_done (answered (status_in w seg) seg node) w (with_node w seg node new)
+
+  abbrev named_step : ℕ → ℕ → StepResult
+  named_step number named = if_moving w (if_segment w number (if_node w named (whole_step number named)))
+
+  module _ {number named seg node at : ℕ} {tree : List Status} {done : Unit {0}} (sound : IsSound w) (moving : Ok done ≡ refuse_if (not (is_moving_phase (phase_of w.leader))) NotMoving) (here : IsNamed w number named seg node)
+      (at_is : at ≡ seg) (is : tree ≡ get_or w.trees at tree) where
+    goes_there : whole_step seg node ≡ named_step number named
+    goes_there =
+        ap (λ (s : ℕ). whole_step s node) here.segment ∙ ap (whole_step number) here.which
+        ∙ here.goes (whole_step number named)
+        ∙ passed (not (is_moving_phase (phase_of w.leader))) NotMoving w (if_segment w number (if_node w named (whole_step number named))) done moving
+
+    tree_here : tree ≡ tree_at w seg
+    tree_here = tree_read w at tree (omega (arith, at_is, here.exists, sound.trees)) is ∙ ap (tree_at w) at_is
+
+    pub node_done : {written : List Status} → Done ≡ answered (status_at tree) seg node → written ≡ with_status tree node new → (Done, record w { trees = set w.trees at written }) ≡ named_step number named
+    node_done {written} may written_is =
+        let answer : Done ≡ answered (status_in w seg) seg node = may ∙ ap (λ (t : List Status). answered (status_at t) seg node) tree_here in
+        let trees : set w.trees at written ≡ slice_set w.trees seg (with_status (tree_at w seg) node new) =
+        ap (set w.trees at) (written_is ∙ ap (λ (t : List Status). with_status t node new) tree_here) ∙ ap (λ (s : ℕ). set w.trees s (with_status (tree_at w seg) node new)) at_is in
+        ap (λ (v : WorldValue). (Done, v)) (λ k. record w { trees = trees k })
+        ∙ ap (λ (a : Answer). if_done a w (with_node w seg node new)) answer ∙ goes_there
+
+    pub node_stays : {written : List Status} → (refusal : Refusal) → Refused refusal ≡ answered (status_at tree) seg node → written ≡ tree → (Refused refusal, record w { trees = set w.trees at written }) ≡ named_step number named
+    node_stays {written} refusal may written_is =
+        let answer : Refused refusal ≡ answered (status_in w seg) seg node = may ∙ ap (λ (t : List Status). answered (status_at t) seg node) tree_here in
+        let trees : set w.trees at written ≡ w.trees = ap (set w.trees at) (written_is ∙ is) ∙ set-get_or w.trees at tree in
+        ap (λ (v : WorldValue). (Refused refusal, v)) (λ k. record w { trees = trees k })
+        ∙ ap (λ (a : Answer). if_done a w (with_node w seg node new)) answer ∙ goes_there

@@ -1,16 +1,21 @@
 -- What a step came to.
-use Rattle.std.specs.Prelude.{ℕ, Bool, if◌then◌else◌, length, Option, Some, None, Result, Ok, Err}
+use Rattle.std.specs.Prelude.{ℕ, Bool, ◌==◌, not, if◌then◌else◌, length, Option, Some, None, Result, Ok, Err}
+use Rattle.std.specs.Option.{ok_or}
+use Rattle.sq_ranges.specs.ReconValue.{stage_on}
 use Rattle.sq_chunk.specs.ChunkValue.{ChunkValue}
 use Rattle.sq_model.specs.declared.answer.Answer.{Answer}
 use Rattle.sq_model.specs.declared.answer.Answer.TheVariants.{Done, Refused}
 use Rattle.sq_model.specs.declared.answer.Refusal.{Refusal}
-use Rattle.sq_model.specs.declared.answer.Refusal.TheVariants.{OutboxFull, NothingToCut, InboxEmpty, NotFinished, NoSuchPartition, Memory}
+use Rattle.sq_model.specs.declared.answer.Refusal.TheVariants.{NoSuchLink, OutboxFull, NothingToCut, InboxEmpty, NotFinished, NoSuchPartition, LastStage, Memory}
 use Rattle.sq_leader.specs.declared.fault.ReportFault.{ReportFault}
 use Rattle.sq_leader.specs.declared.fault.ReportFault.TheVariants as report
+use Rattle.sq_leader.specs.declared.fault.NextFault.{NextFault}
+use Rattle.sq_leader.specs.declared.fault.NextFault.TheVariants as next
 use Rattle.sq_exec.specs.declared.fault.CutFault.{CutFault}
 use Rattle.sq_exec.specs.declared.fault.CutFault.TheVariants as cut
 use Rattle.sq_exec.specs.declared.fault.LoadFault.{LoadFault}
 use Rattle.sq_exec.specs.declared.fault.LoadFault.TheVariants as load
+use Rattle.sq_transition.specs.WorldValue.{WorldValue, running_stage, link_index}
 
 -- what a step is answered that has an answer or is refused
 abbrev pub answer_of : Result Answer Refusal → Answer
@@ -30,9 +35,17 @@ abbrev pub done_or : Result (Unit {0}) Refusal → Answer
 done_or (Ok done) = Done
 done_or (Err refusal) = Refused refusal
 
+-- the place of a link that the running stage has
+abbrev pub running_link : WorldValue → ℕ → ℕ → Result ℕ Refusal
+running_link w src dst = if not (stage_on w.recon src dst == running_stage w) then Err NoSuchLink else ok_or (link_index w src dst) NoSuchLink
+
 abbrev pub report_refused : ReportFault → Refusal
 report_refused report.NoSuchPartition = NoSuchPartition
 report_refused report.NotFinished = NotFinished
+
+abbrev pub next_refused : NextFault → Refusal
+next_refused next.LastStage = LastStage
+next_refused next.NotFinished = NotFinished
 
 abbrev pub cut_refused : CutFault → Refusal
 cut_refused cut.OutboxFull = OutboxFull

@@ -1,8 +1,9 @@
 // The state of a world.
-ghost use Rattle.std.specs.Prelude.{◌≡◌, nat_le, not, length};
+ghost use Rattle.std.specs.Prelude.{◌≡◌, ◌<◌, nat_le, not, is_none, length, IfOk};
 ghost use Rattle.sq_model.specs.declared.answer.Refusal.{Refusal};
 ghost use Rattle.sq_model.specs.Leader.{is_moving_phase};
 ghost use Rattle.sq_tree.specs.Node.{is_node};
+ghost use Rattle.sq_transition.specs.WorldValue.{running_range};
 ghost use Rattle.sq_transition.specs.Leading.{phase_of};
 ghost use Rattle.sq_state.specs.Results.{refuse_if, unless};
 
@@ -87,13 +88,14 @@ impl State {
         }
     }
 
-    // The segment of this number; a refusal where there is none.
+    // The segment of this number; a refusal where the running stage has none.
     fn segment(&self, number: u64) -> Result<SegId, Refusal>
-        ensures { result ≡ unless (nat_le (length self.now.recon.segments) number) Refusal.NoSuchSegment number }
+        ensures named { result ≡ unless (is_none (running_range self.now number)) Refusal.NoSuchSegment number }
+        ensures exists { IfOk result (λ seg. seg < length self.now.recon.segments) }
     {
         let count = self.recon.segments().len() as u64;
         match SegId::new(number) {
-            Some(seg) if number < count => Ok(seg),
+            Some(seg) if number < count && self.recon.stage_of(seg) == self.stage() => Ok(seg),
             _ => Err(Refusal::NoSuchSegment),
         }
     }

@@ -21,3 +21,5 @@ pub mod Filled
 pub mod Writes
 pub mod PutsIn
 pub mod Codes
+pub mod Folds
+pub mod FoldWrites

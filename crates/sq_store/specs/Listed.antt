@@ -1,12 +1,12 @@
 -- A store as a list of families whose root keys rise.
-use Rattle.std.specs.Prelude.{◌≡◌, ◌<◌, ◌≤◌, ℕ, Bool, List, length, map, get_or, Result, Ok, Err}
+use Rattle.std.specs.Prelude.{◌≡◌, ◌<◌, ◌≤◌, ℕ, Bool, not, ◌==◌, List, length, map, filter, get_or, Result, Ok, Err}
 use Rattle.std.specs.Ordering.{nat_cmp}
 use Rattle.std.specs.FinMap.{from_sorted, is_sorted}
 use Rattle.std.specs.List.{insert}
 use Rattle.sq_schema.specs.TxnValue.{TxnValue}
 use Rattle.sq_schema.specs.declared.txn.Reply.{Reply}
 use Rattle.sq_schema.specs.declared.txn.Reply.TheVariants.{Committed, Aborted}
-use Rattle.sq_schema.specs.Family.{FamilyValue}
+use Rattle.sq_schema.specs.Family.{FamilyValue, rows_of, folded}
 use Rattle.sq_store.specs.StoreValue.{StoreValue, absent, with_txn}
 
 -- each family with its root key
@@ -42,6 +42,10 @@ pub record IsStart (families : List FamilyValue) (key at : ℕ) : Type 0 where
   pub within : at ≤ length families
   pub below : (k : ℕ) (d : FamilyValue) → 0 ≤ k → k < at → (get_or families k d).root < key
   pub from : (k : ℕ) (d : FamilyValue) → at ≤ k → k < length families → key ≤ (get_or families k d).root
+
+-- the families that have rows, with their logs folded
+abbrev pub folded_families : List FamilyValue → List FamilyValue
+folded_families families = map folded (filter (λ family. not (length (rows_of family) == 0)) families)
 
 -- the list after a transaction with this reply, of a root key without a family: one that commits puts a family at this place
 abbrev pub opened : List FamilyValue → ℕ → TxnValue → Reply → List FamilyValue

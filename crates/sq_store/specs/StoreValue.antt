@@ -1,13 +1,13 @@
 -- What a store contains: a finite map from root keys to families, however it is kept.
-use Rattle.std.specs.Prelude.{ℕ, Bool, true, ◌==◌, ◌&&◌, not, nat_le, nat_lt, List, [], ◌∷◌, ◌++◌, length, map, fold, filter, Option, is_none, unwrap_or, find}
+use Rattle.std.specs.Prelude.{ℕ, Bool, true, ◌==◌, ◌&&◌, not, nat_le, nat_lt, if◌then◌else◌, List, [], ◌∷◌, ◌++◌, length, map, fold, filter, Option, Some, None, is_none, unwrap_or, find}
 use Rattle.std.specs.List.{list_any, list_all}
 use Rattle.std.specs.Ordering.{nat_cmp}
-use Rattle.std.specs.FinMap.{FinMap, get, insert, entries, retain_keys}
+use Rattle.std.specs.FinMap.{FinMap, get, insert, entries, from_entries, retain_keys}
 use Rattle.sq_schema.specs.TxnValue.{TxnValue}
 use Rattle.sq_schema.specs.declared.txn.Reply.{Reply}
 use Rattle.sq_schema.specs.declared.txn.Reply.TheVariants.{Committed, Aborted}
 use Rattle.sq_schema.specs.Effect.{reply}
-use Rattle.sq_schema.specs.Family.{FamilyValue, rows_of, rows_size}
+use Rattle.sq_schema.specs.Family.{FamilyValue, rows_of, rows_size, folded}
 use Rattle.sq_ranges.specs.CutEnd.{end_of}
 
 -- the families of a store by root key
@@ -58,6 +58,21 @@ take_end store lo hi limit = end_of (stored_size store) hi limit (map (λ family
 -- the store with these families
 abbrev pub with_families : StoreValue → List FamilyValue → StoreValue
 with_families store families = fold (λ so_far family. insert so_far family.root family) store families
+
+-- a family with its log folded; one without rows goes
+abbrev pub fold_of : Option FamilyValue → Option FamilyValue
+fold_of None = None
+fold_of (Some family) = if length (rows_of family) == 0 then None else Some (folded family)
+
+-- these families with their logs folded, by root key; those without rows go
+abbrev pub folded_entries : List (ℕ × FamilyValue) → List (ℕ × FamilyValue)
+folded_entries [] = []
+folded_entries (entry ∷ entries) =
+    if length (rows_of entry.1) == 0 then folded_entries entries else (entry.0, folded entry.1) ∷ folded_entries entries
+
+-- the store with the logs of all its families folded
+abbrev pub folded_store : StoreValue → StoreValue
+folded_store store = from_entries (folded_entries (entries store))
 
 -- the family of a root key among these
 abbrev pub family_in : List FamilyValue → ℕ → Option FamilyValue

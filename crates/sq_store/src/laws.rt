@@ -2,7 +2,7 @@
 ghost use Rattle.std.specs.Prelude.{◌≡◌, ◌↔◌, ◌≤◌, ◌&&◌, ℕ, List, None, IsTrue, All, is_some, nat_le, nat_lt, if◌then◌else◌};
 ghost use Rattle.std.specs.FinMap.{get};
 ghost use Rattle.sq_schema.specs.Family.{FamilyValue};
-ghost use Rattle.sq_store.specs.StoreValue.{StoreValue, family_in, families_between, without_between, take_end, with_families, roots_differ, has_none_of};
+ghost use Rattle.sq_store.specs.StoreValue.{StoreValue, family_in, families_between, without_between, take_end, with_families, fold_of, folded_store, roots_differ, has_none_of};
 ghost use Rattle.sq_store.specs.InOrder.{HoldsByRoot, are_within};
 ghost use Rattle.sq_store.specs.Laws.{IsFullest};
 
@@ -22,6 +22,11 @@ pub fn keeps_what_is_not_between()
 pub fn gets_what_it_is_given()
     ensures { (families : List FamilyValue) (store : StoreValue) (root : ℕ) → IsTrue (roots_differ families)
         → get (with_families store families) root ≡ (if is_some (family_in families root) then family_in families root else get store root) }
+{}
+
+/// With its logs folded a store has each family as it starts anew from its rows, and none of those without rows.
+pub fn folds_each_family()
+    ensures { (store : StoreValue) (root : ℕ) → get (folded_store store) root ≡ fold_of (get store root) }
 {}
 
 /// What was taken of a store makes it again.

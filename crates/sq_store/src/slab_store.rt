@@ -1,12 +1,12 @@
 // Families in a slab, with an index by root key.
-ghost use Rattle.std.specs.Prelude.{◌≡◌, ◌==◌, ◌+◌, ◌++◌, ◌<◌, ◌≤◌, ℕ, List, [], length, map, vec_len, vec_capacity, None, option_copied, IsTrue, IfOk, IfErr, OnOk, OnErr};
+ghost use Rattle.std.specs.Prelude.{◌≡◌, ◌==◌, ◌+◌, ◌++◌, ◌<◌, ◌≤◌, ℕ, List, [], length, map, vec_len, vec_capacity, Some, None, option_copied, IsTrue, IfOk, IfErr, OnOk, OnErr};
 ghost use Rattle.std.specs.FinMap.{get, insert, remove, len, empty};
 ghost use Rattle.std.specs.Ordering.{nat_cmp};
 ghost use Rattle.std.specs.BTreeMap.{IsFromIterResult};
-ghost use Rattle.sq_schema.specs.Family.{FamilyValue};
+ghost use Rattle.sq_schema.specs.Family.{FamilyValue, folded};
 ghost use Rattle.sq_schema.specs.declared.root.TheConstants.{ROOT_END};
 ghost use Rattle.sq_ranges.specs.CutEnd.{end_within};
-ghost use Rattle.sq_store.specs.StoreValue.{StoreValue, store_reply, store_after, stored_size, take_end, families_between, without_between, with_families, roots_differ, has_none_of};
+ghost use Rattle.sq_store.specs.StoreValue.{StoreValue, store_reply, store_after, stored_size, take_end, families_between, without_between, with_families, folded_store, roots_differ, has_none_of};
 ghost use Rattle.sq_store.specs.InOrder.{AreKeyed, HoldsByRoot};
 ghost use Rattle.sq_store.specs.Merging.{IsPopped};
 ghost use Rattle.sq_store.specs.First.{FirstIs};
@@ -146,6 +146,22 @@ impl SlabStore {
             }
         }
         Ok(reply)
+    }
+
+    // Drops the family of a root key.
+    fn discard(&mut self, root: Root)
+        ensures { self.new ≡ remove self.old root }
+    {
+        self.remove(root);
+    }
+
+    // Folds the log of the family of a root key.
+    fn fold_family(&mut self, root: Root)
+        ensures { (family : FamilyValue) → get self.old root ≡ Some family → self.new ≡ insert self.old root (folded family) }
+    {
+        if let Some(key) = self.index.get(&root) {
+            self.families[*key].fold();
+        }
     }
 
     // The first family from one root key on and below another.
@@ -318,6 +334,19 @@ impl FamilyStore for SlabStore {
         } else {
             self.take_back(&mut families, roots);
             Err(families)
+        }
+    }
+
+    fn fold(&mut self) {
+        let mut at = 0;
+        while let Some(family) = self.walk(at) {
+            let root = family.root();
+            at = root.number() + 1;
+            if family.rows().is_empty() {
+                self.discard(root);
+            } else {
+                self.fold_family(root);
+            }
         }
     }
 }

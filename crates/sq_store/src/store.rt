@@ -3,7 +3,7 @@ ghost use Rattle.std.specs.Prelude.{◌≡◌, ◌≤◌, ◌↔◌, IfOk, IfErr
 ghost use Rattle.std.specs.Option.{option_copied};
 ghost use Rattle.std.specs.FinMap.{get};
 ghost use Rattle.sq_schema.specs.declared.family.TheConstants.{MAX_LOG};
-ghost use Rattle.sq_store.specs.StoreValue.{StoreValue, log_length, store_reply, store_after, without_between, with_families, roots_differ, has_none_of};
+ghost use Rattle.sq_store.specs.StoreValue.{StoreValue, log_length, store_reply, store_after, without_between, with_families, folded_store, roots_differ, has_none_of};
 ghost use Rattle.sq_store.specs.InOrder.{family_from, are_within, AreKeyed, HoldsByRoot};
 
 use sq_ranges::Extent;
@@ -68,4 +68,8 @@ pub trait FamilyStore {
         ensures ok { OnOk result (contents self.new ≡ with_families (contents self.old) families.items) }
         ensures families_returned { IfErr result (λ back. back.items ≡ families.items) }
         ensures err { OnErr result (contents self.new ≡ contents self.old) };
+
+    /// Folds the logs of all families: each starts anew from its rows, and those without rows go. It takes no memory.
+    fn fold(&mut self)
+        ensures { contents self.new ≡ folded_store (contents self.old) };
 }

@@ -1,11 +1,11 @@
 // Families in a vector.
-ghost use Rattle.std.specs.Prelude.{◌≡◌, ◌≤◌, ◌==◌, vec_len, IfOk, IfErr, OnErr};
+ghost use Rattle.std.specs.Prelude.{◌≡◌, ◌≤◌, ◌==◌, not, length, map, filter, vec_len, IfOk, IfErr, OnErr};
 ghost use Rattle.std.specs.FinMap.{len, empty};
 ghost use Rattle.sq_schema.specs.Effect.{reply};
-ghost use Rattle.sq_schema.specs.Family.{rows_of};
+ghost use Rattle.sq_schema.specs.Family.{rows_of, folded};
 ghost use Rattle.sq_store.specs.StoreValue.{absent};
 ghost use Rattle.sq_store.specs.InOrder.{families_in, HoldsByRoot};
-ghost use Rattle.sq_store.specs.Listed.{opened};
+ghost use Rattle.sq_store.specs.Listed.{opened, folded_families};
 
 use crate::merge::merge;
 use crate::sorted::{chunk_count, least_root, place, root_at, sorted, start, take_out};
@@ -118,6 +118,34 @@ impl FamilyStore for VecStore {
         };
         merge(&mut self.families, tail.into(), sorted(families).into());
         Ok(())
+    }
+
+    fn fold(&mut self) {
+        fold_all(&mut self.families);
+    }
+}
+
+// Folds the logs of families: each starts anew from its rows, and those without rows go.
+fn fold_all(families: &mut Vec<Family>)
+    ensures { families.new.items ≡ folded_families families.old.items }
+{
+    keep_rowed(families);
+    fold_each(families);
+}
+
+// Drops the families without rows.
+fn keep_rowed(families: &mut Vec<Family>)
+    ensures { families.new.items ≡ filter (λ family. not (length (rows_of family) == 0)) families.old.items }
+{
+    families.retain(|family| !family.rows().is_empty());
+}
+
+// Folds the logs of families.
+fn fold_each(families: &mut [Family])
+    ensures { families.new ≡ map folded families.old }
+{
+    for family in families.iter_mut() {
+        family.fold();
     }
 }
 

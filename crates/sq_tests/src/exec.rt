@@ -23,9 +23,14 @@ const SIZES: Config = Config {
 };
 
 fn opening(alloc: Global) -> Result<Opening, Fail> {
+    opening_of(alloc, OLD, NEW)
+}
+
+// The opening of two plans.
+fn opening_of(alloc: Global, old: &[u8], new: &[u8]) -> Result<Opening, Fail> {
     let schema = Schema::new(1).ok_or("one table is a schema")?;
-    let old = Plan::read(alloc, OLD)?;
-    let new = Plan::read(alloc, NEW)?;
+    let old = Plan::read(alloc, old)?;
+    let new = Plan::read(alloc, new)?;
     let rows = Vec::new(alloc);
     Ok(Opening::new(alloc, schema, old, new, SIZES, rows)?)
 }
@@ -287,5 +292,58 @@ fn numbers_begin_anew_where_none_is_left(rt: HostRuntime) -> Result<(), Fail> {
     assert!(rt; are_answered(rt.alloc(), &mut part, &[(Call::Submit(6), Told::Waits(2))])?);
     assert!(rt; have_arrived(&part, Some(0), Some(1)));
     assert!(rt; are_answered(rt.alloc(), &mut part, &[(Call::Resume, Told::Refused(223))])?);
+    Ok(())
+}
+
+// Plans by which partition 0 gives the root keys 4 to 7 to partition 1, and then 8 to 11 to partition 2.
+const OLD_OF_THREE: &[u8] = b"{\"version\":1,\"partitions\":3,\"ranges\":[[0,4294967296,0]]}";
+
+const NEW_IN_STAGES: &[u8] =
+    b"{\"version\":2,\"partitions\":3,\"ranges\":[[0,4,0],[4,8,1],[8,12,2],[12,4294967296,0]],\"stages\":\"auto\"}";
+
+// Partition 2 of the plans in stages, in this stage.
+fn third_in_stage(alloc: Global, stage: u64) -> Result<PartCore<VecStore>, Fail> {
+    let opening = opening_of(alloc, OLD_OF_THREE, NEW_IN_STAGES)?;
+    let store = VecStore::new(alloc);
+    let mut part = started(alloc, &opening, PartId::new(2), store)?;
+    part.enter(stage);
+    Ok(part)
+}
+
+#[test]
+fn a_key_of_a_later_stage_is_not_coming_yet(rt: HostRuntime) -> Result<(), Fail> {
+    let mut part = third_in_stage(rt.alloc(), 0)?;
+    assert!(rt; are_answered(rt.alloc(), &mut part, &[(Call::Submit(9), Told::Moved(0))])?);
+    part.enter(1);
+    assert!(rt; are_answered(rt.alloc(), &mut part, &[(Call::Submit(9), Told::Waits(1))])?);
+    Ok(())
+}
+
+#[test]
+fn one_that_waits_is_sent_on_after_an_earlier_stage_is_entered(
+    rt: HostRuntime,
+) -> Result<(), Fail> {
+    let mut part = third_in_stage(rt.alloc(), 1)?;
+    assert!(rt;
+        are_answered(
+            rt.alloc(),
+            &mut part,
+            &[
+                (Call::Submit(9), Told::Waits(1)),
+                (Call::Resume, Told::Refused(223))
+            ]
+        )?
+    );
+    part.enter(0);
+    assert!(rt;
+        are_answered(
+            rt.alloc(),
+            &mut part,
+            &[
+                (Call::Resume, Told::Moved(0)),
+                (Call::Resume, Told::Refused(223))
+            ]
+        )?
+    );
     Ok(())
 }

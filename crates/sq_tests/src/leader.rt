@@ -1,5 +1,5 @@
-// The leader: a whole move, its refusals, and that a refused call changes nothing.
-use sq_leader::{Idle, Leader, Report};
+// The leader: a whole move, in one stage and in two, its refusals, and that a refused call changes nothing.
+use sq_leader::{Idle, Leader, Moving, Report, ReportFault};
 use sq_plan::Plan;
 use sq_ranges::Recon;
 use std::alloc::Global;
@@ -10,6 +10,10 @@ const ALL: &str = r#"{"version":1,"partitions":3,"ranges":[[0,4294967296,0]]}"#;
 // The root keys 4 to 7 (segment 0) and 20 to 23 (segment 2) to partition 1, and 12 to 15 (segment 1) to partition 2.
 const SHARED: &str =
     r#"{"version":1,"partitions":3,"ranges":[[0,4,0],[4,8,1],[8,12,0],[12,16,2],[16,20,0],[20,24,1],[24,4294967296,0]]}"#;
+
+// The same, in stages: segments 0 and 2 move in the first, and segment 1 in the second.
+const IN_STAGES: &str =
+    r#"{"version":2,"partitions":3,"ranges":[[0,4,0],[4,8,1],[8,12,0],[12,16,2],[16,20,0],[20,24,1],[24,4294967296,0]],"stages":"auto"}"#;
 
 #[derive(Clone, Copy, Debug, PartialEq, Eq)]
 enum Phase {
@@ -24,8 +28,11 @@ enum Phase {
 enum Call {
     Prepare(u64),
     Start,
-    // A report of this partition, with what it tells of the segments.
+    // A report of this partition for the running stage, with what it tells of the segments.
     Report(u64, &'static [bool]),
+    // One for this stage.
+    ReportFor(u64, u64, &'static [bool]),
+    Next,
     Finish,
 }
 
@@ -38,6 +45,17 @@ fn phase_of(leader: &Leader) -> Phase {
         Leader::Preparing(_) => Phase::Preparing,
         Leader::Moving(_) => Phase::Moving,
         Leader::Ended(_) => Phase::Ended,
+    }
+}
+
+// The leader after a report, if there is one, and the number of the refusal.
+fn report(moving: Moving, made: Result<Report, ReportFault>) -> (Leader, Option<u16>) {
+    match made {
+        Ok(report) => match moving.report(report) {
+            Ok(moving) => (Leader::Moving(moving), None),
+            Err(refused) => (Leader::Moving(refused.leader), Some(refused.fault.number())),
+        },
+        Err(fault) => (Leader::Moving(moving), Some(fault.number())),
     }
 }
 
@@ -63,12 +81,17 @@ fn after(leader: Leader, call: Call, plan: &Plan, recon: &Recon) -> (Leader, Opt
             ),
         },
         (Leader::Moving(moving), Call::Report(part, whole)) => {
-            match Report::made(part, plan, recon, whole) {
-                Ok(report) => (Leader::Moving(moving.report(report)), None),
-                Err(fault) => (Leader::Moving(moving), Some(fault.number())),
-            }
+            let stage = moving.stage();
+            report(moving, Report::made(part, plan, recon, stage, whole))
         }
-        (Leader::Moving(moving), Call::Finish) => match moving.finish(recon) {
+        (Leader::Moving(moving), Call::ReportFor(part, stage, whole)) => {
+            report(moving, Report::made(part, plan, recon, stage, whole))
+        }
+        (Leader::Moving(moving), Call::Next) => match moving.next() {
+            Ok(moving) => (Leader::Moving(moving), None),
+            Err(refused) => (Leader::Moving(refused.leader), Some(refused.fault.number())),
+        },
+        (Leader::Moving(moving), Call::Finish) => match moving.finish() {
             Ok(ended) => (Leader::Ended(ended), None),
             Err(refused) => (Leader::Moving(refused.leader), Some(refused.fault.number())),
         },
@@ -82,7 +105,7 @@ fn first_wrong(alloc: Global, new: &str, rows: &[Row]) -> Result<Option<Row>, Fa
     let old = Plan::read(alloc, ALL.as_bytes())?;
     let new = Plan::read(alloc, new.as_bytes())?;
     let recon = Recon::between(alloc, &old, &new, 1)?;
-    let mut leader = Leader::Idle(Idle::new(&old));
+    let mut leader = Leader::Idle(Idle::new(&old, recon.clone()?));
     for (call, wanted) in rows {
         let before = phase_of(&leader);
         let (next, refused) = after(leader, *call, &old, &recon);
@@ -129,6 +152,35 @@ fn a_whole_move(rt: HostRuntime) -> Result<(), Fail> {
 }
 
 #[test]
+fn a_move_in_two_stages(rt: HostRuntime) -> Result<(), Fail> {
+    let rows = [
+        (Call::Prepare(0), Ok(Phase::Preparing)),
+        (Call::Prepare(1), Ok(Phase::Preparing)),
+        (Call::Prepare(2), Ok(Phase::Preparing)),
+        (Call::Start, Ok(Phase::Moving)),
+        (Call::Next, Err(218)),
+        (Call::Finish, Err(218)),
+        (Call::Report(1, &[true, true, false]), Err(218)),
+        (Call::ReportFor(2, 1, &[false, true, false]), Err(218)),
+        (Call::Report(2, &[]), Ok(Phase::Moving)),
+        (Call::Next, Err(218)),
+        (Call::Report(1, &[true, false, true]), Ok(Phase::Moving)),
+        (Call::Finish, Err(218)),
+        (Call::Next, Ok(Phase::Moving)),
+        (Call::Next, Err(225)),
+        (Call::ReportFor(2, 0, &[]), Err(218)),
+        (Call::Report(2, &[true, false, true]), Err(218)),
+        (Call::Finish, Err(218)),
+        (Call::Report(2, &[false, true, false]), Ok(Phase::Moving)),
+        (Call::Next, Err(225)),
+        (Call::Finish, Ok(Phase::Ended)),
+    ];
+    let wrong = first_wrong(rt.alloc(), IN_STAGES, &rows)?;
+    assert!(rt; wrong.is_none(), "{wrong:?}");
+    Ok(())
+}
+
+#[test]
 fn a_move_of_nothing(rt: HostRuntime) -> Result<(), Fail> {
     let rows = [
         (Call::Prepare(2), Ok(Phase::Preparing)),
@@ -147,7 +199,7 @@ fn a_move_of_nothing(rt: HostRuntime) -> Result<(), Fail> {
 fn who_was_heard(rt: HostRuntime) -> Result<(), Fail> {
     let plan = Plan::read(rt.alloc(), ALL.as_bytes())?;
     let recon = Recon::between(rt.alloc(), &plan, &plan, 1)?;
-    let mut leader = Leader::Idle(Idle::new(&plan));
+    let mut leader = Leader::Idle(Idle::new(&plan, recon.clone()?));
     let rows = [
         (Call::Prepare(2), [false, false, true, false]),
         (Call::Prepare(0), [true, false, true, false]),
@@ -180,10 +232,11 @@ fn a_report_of_another_plan(rt: HostRuntime) -> Result<(), Fail> {
         br#"{"version":1,"partitions":1,"ranges":[[0,4294967296,0]]}"#,
     )?;
     let recon = Recon::between(rt.alloc(), &one, &one, 1)?;
-    let preparing = Idle::new(&one).prepare(0).ok();
+    let report = Report::made(2, &three, &recon, 0, &[])?;
+    let preparing = Idle::new(&one, recon).prepare(0).ok();
     let moving = preparing.and_then(|preparing| preparing.start().ok());
-    let report = Report::made(2, &three, &recon, &[])?;
-    let moving = moving.ok_or("a leader")?.report(report);
+    let moving = moving.ok_or("a leader")?.report(report).ok();
+    let moving = moving.ok_or("a leader that heard the report")?;
     assert!(rt; !moving.has_reported(2) && !moving.has_reported(0));
     Ok(())
 }

@@ -4,7 +4,7 @@ use sq_schema::Root;
 use std::test::Fail;
 
 // Texts by the number of their fault, or by 0 where they are plans.
-const TEXTS: [(u16, &[&str]); 7] = [
+const TEXTS: [(u16, &[&str]); 8] = [
     (
         101,
         &[
@@ -36,14 +36,21 @@ const TEXTS: [(u16, &[&str]); 7] = [
             r#"{"version":1,"partitions":1,"ranges":[[0,4294967296]]}"#,
             r#"{"version":1,"partitions":1,"ranges":[[0,4294967296,0,0]]}"#,
             r#"{"version":1,"partitions":17,"ranges":[[0,1]]}"#,
+            r#"{"version":2}"#,
+            r#"{"version":2,"partitions":17,"ranges":[[0,1]]}"#,
+            r#"{"version":2,"partitions":1,"ranges":[[0,4294967296,0]]}"#,
+            r#"{"version":2,"partitions":65,"ranges":[],"stages":null}"#,
+            r#"{"version":2,"partitions":1,"ranges":[[0,4294967296,1]],"stages":["auto"]}"#,
+            r#"{"version":1,"partitions":1,"ranges":[[0,4294967296,0]],"version":2}"#,
         ],
     ),
     (
         103,
         &[
-            r#"{"version":2}"#,
-            r#"{"version":2,"partitions":17,"ranges":[[0,1]]}"#,
-            r#"{"version":1,"partitions":1,"ranges":[[0,4294967296,0]],"version":2}"#,
+            r#"{"version":0}"#,
+            r#"{"version":3}"#,
+            r#"{"version":3,"partitions":17,"ranges":[[0,1]]}"#,
+            r#"{"version":2,"partitions":1,"ranges":[[0,4294967296,0]],"stages":"one","version":3}"#,
         ],
     ),
     (
@@ -51,6 +58,8 @@ const TEXTS: [(u16, &[&str]); 7] = [
         &[
             r#"{"version":1,"partitions":17,"ranges":[]}"#,
             r#"{"version":1,"partitions":0,"ranges":[[1,0,9]]}"#,
+            r#"{"version":2,"partitions":65,"ranges":[],"stages":"both"}"#,
+            r#"{"version":2,"partitions":0,"ranges":[[1,0,9]],"stages":"one"}"#,
         ],
     ),
     (
@@ -60,11 +69,23 @@ const TEXTS: [(u16, &[&str]); 7] = [
             r#"{"version":1,"partitions":2,"ranges":[[0,4,0],[5,4294967296,0]]}"#,
             r#"{"version":1,"partitions":2,"ranges":[[0,4294967295,0]]}"#,
             r#"{"version":1,"partitions":1,"ranges":[[0,4,9],[5,4294967296,0]]}"#,
+            r#"{"version":2,"partitions":1,"ranges":[[0,4,9],[5,4294967296,0]],"stages":"both"}"#,
         ],
     ),
     (
         106,
-        &[r#"{"version":1,"partitions":2,"ranges":[[0,4294967296,2]]}"#],
+        &[
+            r#"{"version":1,"partitions":2,"ranges":[[0,4294967296,2]]}"#,
+            r#"{"version":2,"partitions":64,"ranges":[[0,4294967296,64]],"stages":"both"}"#,
+        ],
+    ),
+    (
+        108,
+        &[
+            r#"{"version":2,"partitions":64,"ranges":[[0,4294967296,63]],"stages":"both"}"#,
+            r#"{"version":2,"partitions":1,"ranges":[[0,4294967296,0]],"stages":""}"#,
+            r#"{"version":2,"partitions":1,"ranges":[[0,4294967296,0]],"stages":"Auto"}"#,
+        ],
     ),
     (
         0,
@@ -74,6 +95,9 @@ const TEXTS: [(u16, &[&str]); 7] = [
             " \t\r\n{ \"version\" : 1 , \"partitions\" : 1 ,\n\"ranges\" : [ [ 0 , 4294967296 , 0 ] ] } \r",
             r#"{"version":2,"partitions":17,"ranges":[],"version":1,"partitions":1,"ranges":[[0,4294967296,0]]}"#,
             r#"{"versio\u006e":1,"partitions":1,"ranges":[[0,4294967296,0]]}"#,
+            r#"{"version":1,"partitions":1,"ranges":[[0,4294967296,0]],"stages":"both"}"#,
+            r#"{"version":2,"partitions":64,"ranges":[[0,4294967296,63]],"stages":"one"}"#,
+            r#"{"stages":"both","version":2,"partitions":1,"ranges":[[0,4294967296,0]],"stages":"\u0061uto"}"#,
         ],
     ),
 ];
@@ -163,7 +187,7 @@ fn owners(rt: HostRuntime) -> Result<(), Fail> {
 }
 
 // Texts of plans, and what is written for the plans that are read from them.
-const WRITTEN: [(&str, &str); 5] = [
+const WRITTEN: [(&str, &str); 8] = [
     (
         r#"{"x":null,"version":1,"partitions":1,"ranges":[[0,4294967296,0]]}"#,
         r#"{"partitions":1,"ranges":[[0,4294967296,0]],"version":1}"#,
@@ -184,6 +208,18 @@ const WRITTEN: [(&str, &str); 5] = [
         r#"{"partitions":4,"ranges":[[0,5,0],[5,10,1],[10,15,2],[15,20,3],[20,4294967296,0]],"version":1}"#,
         r#"{"partitions":4,"ranges":[[0,5,0],[5,10,1],[10,15,2],[15,20,3],[20,4294967296,0]],"version":1}"#,
     ),
+    (
+        r#"{"version":1,"partitions":1,"ranges":[[0,4294967296,0]],"stages":"auto"}"#,
+        r#"{"partitions":1,"ranges":[[0,4294967296,0]],"version":1}"#,
+    ),
+    (
+        r#"{"version":2,"partitions":64,"ranges":[[0,4294967296,63]],"stages":"one"}"#,
+        r#"{"partitions":64,"ranges":[[0,4294967296,63]],"stages":"one","version":2}"#,
+    ),
+    (
+        r#"{"stages" : "auto","ranges":[[0,9,1],[9,4294967296,0]],"version":2,"partitions":2}"#,
+        r#"{"partitions":2,"ranges":[[0,9,1],[9,4294967296,0]],"stages":"auto","version":2}"#,
+    ),
 ];
 
 #[test]
@@ -193,6 +229,7 @@ fn written(rt: HostRuntime) -> Result<(), Fail> {
         let written = plan.write()?;
         assert_eq!(rt; written.as_str(), wanted);
         let again = Plan::read(rt.alloc(), written.as_bytes())?;
+        assert_eq!(rt; again.version(), plan.version(), "{text}");
         assert_eq!(rt; again.parts(), plan.parts(), "{text}");
         assert!(rt; again.ranges() == plan.ranges(), "{text}");
     }

@@ -190,7 +190,7 @@ const IN_ONE_SEGMENT: [(Call, Answer); 10] = [
     (Call::Turn, Answer::Won(0, 9)),
     (Call::Turn, Answer::Won(0, 5)),
     (Call::Turn, Answer::Won(0, 3)),
-    (Call::Reactive(31), Answer::Held(3, Status::Claimed(128))),
+    (Call::Reactive(31), Answer::Held(3, Status::Claimed(512))),
     (Call::Turn, Answer::Nothing),
 ];
 
@@ -203,11 +203,11 @@ fn each_claim_is_asked_for_once(rt: HostRuntime) -> Result<(), Fail> {
     let requests = [
         (0, 33, 3),
         (0, 32, 0),
-        (0, 34, 35),
-        (0, 35, 32),
-        (0, 9, 64),
-        (0, 5, 96),
-        (0, 3, 128),
+        (0, 34, 131),
+        (0, 35, 128),
+        (0, 9, 256),
+        (0, 5, 384),
+        (0, 3, 512),
     ];
     assert!(rt; setting.are_sent(&rt, 0, &requests));
     assert!(rt; setting.are_sent(&rt, 1, &[]));
@@ -251,7 +251,7 @@ fn a_pump_goes_round_its_segments(rt: HostRuntime) -> Result<(), Fail> {
     assert!(rt; !setting.pump.is_done());
     assert!(rt; setting.are_answered(&rt, &IN_TWO_SEGMENTS)?);
     assert!(rt; setting.pump.is_done());
-    assert!(rt; setting.are_sent(&rt, 0, &[(0, 1, 0), (1, 1, 32)]));
+    assert!(rt; setting.are_sent(&rt, 0, &[(0, 1, 0), (1, 1, 128)]));
     Ok(())
 }
 
@@ -263,7 +263,7 @@ fn a_pump_sends_later_what_finds_no_room(rt: HostRuntime) -> Result<(), Fail> {
     assert!(rt; setting.are_sent(&rt, 0, &[(0, 1, 0)]));
     assert!(rt; setting.answer(&rt, Call::Turn)? == Answer::Nothing);
     assert!(rt; setting.pump.is_done());
-    assert!(rt; setting.are_sent(&rt, 0, &[(1, 1, 32)]));
+    assert!(rt; setting.are_sent(&rt, 0, &[(1, 1, 128)]));
     Ok(())
 }
 
@@ -275,7 +275,7 @@ fn a_puller_sends_later_what_finds_no_room(rt: HostRuntime) -> Result<(), Fail> 
     assert!(rt; setting.puller.pending().len() == 1);
     assert!(rt; setting.are_sent(&rt, 0, &[(0, 33, 3)]));
     assert!(rt; setting.send_pending(&rt) == 0);
-    assert!(rt; setting.are_sent(&rt, 0, &[(0, 34, 35)]));
+    assert!(rt; setting.are_sent(&rt, 0, &[(0, 34, 131)]));
     Ok(())
 }
 

@@ -101,6 +101,58 @@ fn moves(rt: HostRuntime) -> Result<(), Fail> {
     Ok(())
 }
 
+const THREE: &str = r#"{"version":1,"partitions":3,"ranges":[[0,4294967296,0]]}"#;
+
+// Two plans, how many stages there are between them, and the stage of each segment.
+const STAGES: [(&str, &str, u64, &[u64]); 5] = [
+    (
+        THREE,
+        r#"{"version":2,"partitions":3,"ranges":[[0,4,0],[4,8,1],[8,12,2],[12,16,1],[16,4294967296,0]],"stages":"auto"}"#,
+        2,
+        &[0, 1, 0],
+    ),
+    (
+        THREE,
+        r#"{"version":2,"partitions":3,"ranges":[[0,4,0],[4,8,1],[8,12,2],[12,16,1],[16,4294967296,0]],"stages":"one"}"#,
+        1,
+        &[0, 0, 0],
+    ),
+    (
+        r#"{"version":2,"partitions":3,"ranges":[[0,4294967296,0]],"stages":"auto"}"#,
+        r#"{"version":1,"partitions":3,"ranges":[[0,4,0],[4,8,1],[8,12,2],[12,16,1],[16,4294967296,0]]}"#,
+        1,
+        &[0, 0, 0],
+    ),
+    (
+        r#"{"version":1,"partitions":4,"ranges":[[0,12,0],[12,16,2],[16,4294967296,3]]}"#,
+        r#"{"version":2,"partitions":4,"ranges":[[0,4,1],[4,8,2],[8,12,3],[12,16,0],[16,4294967296,3]],"stages":"auto"}"#,
+        3,
+        &[0, 1, 2, 0],
+    ),
+    (
+        THREE,
+        r#"{"version":2,"partitions":3,"ranges":[[0,4294967296,0]],"stages":"auto"}"#,
+        1,
+        &[],
+    ),
+];
+
+#[test]
+fn stages(rt: HostRuntime) -> Result<(), Fail> {
+    for (old, new, count, stages) in STAGES {
+        let recon = between(rt.alloc(), old, new)?;
+        assert!(rt;
+            recon.stages() == count && recon.segments().len() == stages.len(),
+            "{new}"
+        );
+        for (number, stage) in stages.iter().enumerate() {
+            let seg = SegId::new(number as u64).ok_or("no segment")?;
+            assert!(rt; recon.stage_of(seg) == *stage, "{seg:?} of {new}");
+        }
+    }
+    Ok(())
+}
+
 // Root keys with their segments and leaves.
 const LEAVES: [(u64, Option<(u64, u64)>); 5] = [
     (3, None),
@@ -152,8 +204,8 @@ fn extents(rt: HostRuntime) -> Result<(), Fail> {
 fn segments(rt: HostRuntime) {
     for (number, segment) in [
         (0, Some(0)),
-        (255, Some(255)),
-        (256, None),
+        (1_023, Some(1_023)),
+        (1_024, None),
         (u64::MAX, None),
     ] {
         assert!(rt;
@@ -167,7 +219,7 @@ fn segments(rt: HostRuntime) {
 const TO_OTHER: &str = r#"{"version":1,"partitions":2,"ranges":[[0,4294967296,1]]}"#;
 
 // Plans to which nothing moves with leaves of this many root keys, and the number of the fault.
-const REFUSED: [(&str, u64, u16); 4] = [
+const REFUSED: [(&str, u64, u16); 6] = [
     (
         r#"{"version":1,"partitions":1,"ranges":[[0,4294967296,0]]}"#,
         0,
@@ -176,6 +228,16 @@ const REFUSED: [(&str, u64, u16); 4] = [
     (TO_OTHER, 0, 112),
     (TO_OTHER, 65_537, 112),
     (TO_OTHER, 65_536, 113),
+    (
+        r#"{"version":1,"partitions":2,"ranges":[[0,2147483648,1],[2147483648,4294967296,0]]}"#,
+        65_536,
+        113,
+    ),
+    (
+        r#"{"version":2,"partitions":2,"ranges":[[0,2147483649,1],[2147483649,4294967296,0]],"stages":"auto"}"#,
+        65_536,
+        113,
+    ),
 ];
 
 #[test]

@@ -9,7 +9,7 @@ use std::alloc::Global;
 use std::test::Fail;
 
 // Lines with the steps that they spell.
-const STEPS: [(&str, &str); 16] = [
+const STEPS: [(&str, &str); 18] = [
     ("prepare 1", "Prepare(1)"),
     ("start", "Start"),
     ("resume 1", "Resume(1)"),
@@ -22,7 +22,9 @@ const STEPS: [(&str, &str); 16] = [
     ("load 0 1", "Load { src: 0, dst: 1 }"),
     ("complete 0 1 2", "Complete { seg: 0, node: 1, pull: 2 }"),
     ("report 1", "Report(1)"),
+    ("next", "Next"),
     ("finish", "Finish"),
+    ("fold 1", "Fold(1)"),
     ("status 3 17", "Status { seg: 3, node: 17 }"),
     (
         "txn 0 7 9 get 2 3",
@@ -45,7 +47,7 @@ fn steps(rt: HostRuntime) -> Result<(), Fail> {
 }
 
 // Lines with the number by which a schema of this many tables refuses them, or 0 where they are steps.
-const REFUSED: [(&str, u8, u16); 28] = [
+const REFUSED: [(&str, u8, u16); 32] = [
     ("", 8, 230),
     ("push 0", 8, 230),
     ("resume", 8, 230),
@@ -57,6 +59,10 @@ const REFUSED: [(&str, u8, u16); 28] = [
     ("status 0 1 2", 8, 230),
     ("statuses 0 1", 8, 230),
     (" start", 8, 230),
+    ("next 0", 8, 230),
+    ("nexts", 8, 230),
+    ("fold", 8, 230),
+    ("fold 0 1", 8, 230),
     ("prepare 01", 8, 230),
     ("prepare 18446744073709551616", 8, 230),
     ("txn 0 1 5 get 256 0", 8, 230),
@@ -182,7 +188,7 @@ fn fault_of(alloc: Global, input: &str) -> Result<u16, Fail> {
 }
 
 // Headers with the numbers of their faults.
-const HEADERS: [(&str, u16); 16] = [
+const HEADERS: [(&str, u16); 18] = [
     ("", 121),
     ("old", 121),
     ("old\n", 121),
@@ -195,7 +201,8 @@ const HEADERS: [(&str, u16); 16] = [
     ("old {\n", 101),
     ("old [1]\n", 102),
     ("old {\"version\":1}\n", 102),
-    ("old {\"version\":2}\n", 103),
+    ("old {\"version\":2}\n", 102),
+    ("old {\"version\":3}\n", 103),
     ("old {\"version\":1,\"partitions\":17,\"ranges\":[]}\n", 104),
     ("old {\"version\":1,\"partitions\":2,\"ranges\":[]}\n", 105),
     (
@@ -205,6 +212,10 @@ const HEADERS: [(&str, u16); 16] = [
     (
         "old {\"version\":1,\"partitions\":2,\"ranges\":[[0,4294967296,2]]}\n",
         106,
+    ),
+    (
+        "old {\"version\":2,\"partitions\":2,\"ranges\":[[0,4294967296,0]],\"stages\":\"both\"}\n",
+        108,
     ),
     (
         "old {\"version\":1,\"partitions\":2,\"ranges\":[[0,4294967296,0]]}

@@ -9,7 +9,7 @@ use Rattle.sq_text.specs.declared.fault.LineFault.{LineFault}
 use Rattle.sq_text.specs.declared.fault.LineFault.TheVariants.{NotAStep, TooLong, Txn}
 use Rattle.sq_text.specs.declared.step.TheConstants.{MAX_LINE}
 use Rattle.sq_text.specs.declared.verb.Verb.{Verb}
-use Rattle.sq_text.specs.declared.verb.Verb.TheVariants.{Prepare, Start, Resume, Split, Claim, Begin, Cut, Push, Pop, Load, Complete, Report, Finish, Status}
+use Rattle.sq_text.specs.declared.verb.Verb.TheVariants.{Prepare, Start, Resume, Split, Claim, Begin, Cut, Push, Pop, Load, Complete, Report, Next, Finish, Fold, Status}
 use Rattle.sq_text.specs.Words.{Word, words_of, ◌>>=◌}
 use Rattle.sq_text.specs.Fields.{number_field, number_below, value_at_end}
 use Rattle.sq_text.specs.Verbs.{verb_in}
@@ -50,7 +50,9 @@ step_with Pop words = step_of_field pair_field (λ link. step.Pop link.0 link.1)
 step_with Load words = step_of_field pair_field (λ link. step.Load link.0 link.1) words
 step_with Complete words = step_of_field pull_field (λ at. step.Complete at.0 at.1 at.2) words
 step_with Report words = step_of_field number_field (λ part. step.Report part) words
+step_with Next words = Some (step.Next, words)
 step_with Finish words = Some (step.Finish, words)
+step_with Fold words = step_of_field number_field (λ part. step.Fold part) words
 step_with Status words = step_of_field pair_field (λ at. step.Status at.0 at.1) words
 
 -- the step of a line that begins with a verb, and has no word past the step's

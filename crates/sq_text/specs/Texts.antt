@@ -1,5 +1,5 @@
 -- The lines that are written.
-use Rattle.std.specs.Prelude.{ℕ, Bool, true, false, not, ◌==◌, ◌+◌, ◌/◌, ◌%◌, List, [], ◌∷◌, ◌++◌, length, map, Some, None, decimal, codes}
+use Rattle.std.specs.Prelude.{ℕ, Bool, true, false, not, ◌==◌, ◌+◌, ◌/◌, ◌%◌, nat_lt, if◌then◌else◌, List, [], ◌∷◌, ◌++◌, length, map, Option, Some, None, decimal, codes}
 use Rattle.std.specs.List.{flat_map, join_with_byte}
 use Rattle.std.specs.Fmt.{signed_decimal, digit_glyph}
 use Rattle.sq_schema.specs.declared.row.RowKey.{RowKey}
@@ -16,7 +16,7 @@ use Rattle.sq_tree.specs.declared.status.Status.TheVariants as status
 use Rattle.sq_tree.specs.declared.status.Reading.{Reading}
 use Rattle.sq_tree.specs.declared.status.Reading.TheVariants as reading
 use Rattle.sq_ranges.specs.declared.recon.Range.{Range as MovingRange}
-use Rattle.sq_ranges.specs.ReconValue.{ReconValue}
+use Rattle.sq_ranges.specs.ReconValue.{ReconValue, stages, stage_in}
 use Rattle.sq_chunk.specs.declared.chunk.Note.{Note}
 use Rattle.sq_chunk.specs.ChunkValue.{ChunkValue}
 use Rattle.sq_model.specs.declared.answer.Answer.{Answer}
@@ -167,15 +167,24 @@ move_words range = decimal range.lo ∷ decimal range.hi ∷ decimal range.src �
 abbrev pub range_line : MovingRange → List ℕ
 range_line range = line (codes "range" ∷ move_words range)
 
--- a segment of this number
-abbrev pub segment_line : ℕ → MovingRange → List ℕ
-segment_line seg segment = line (codes "segment" ∷ decimal seg ∷ move_words segment)
+-- the stage of a segment, which is told where there is more than one
+abbrev pub told_stage : ReconValue → MovingRange → Option ℕ
+told_stage recon segment = if nat_lt 1 (stages recon) then Some (stage_in recon segment) else None
+
+abbrev pub stage_words : Option ℕ → List Word
+stage_words None = []
+stage_words (Some stage) = codes "stage" ∷ decimal stage ∷ []
+
+-- a segment of this number, with its stage where that is told
+abbrev pub segment_line : ℕ → MovingRange → Option ℕ → List ℕ
+segment_line seg segment stage = line (codes "segment" ∷ decimal seg ∷ move_words segment ++ stage_words stage)
 
 -- segments that are numbered from here on
-abbrev pub segment_lines : ℕ → List MovingRange → List ℕ
-segment_lines first [] = []
-segment_lines first (segment ∷ segments) = segment_line first segment ++ segment_lines (first + 1) segments
+abbrev pub segment_lines : ReconValue → ℕ → List MovingRange → List ℕ
+segment_lines recon first [] = []
+segment_lines recon first (segment ∷ segments) =
+    segment_line first segment (told_stage recon segment) ++ segment_lines recon (first + 1) segments
 
 -- what moves: the reconfiguration ranges in key order, and then the segments
 abbrev pub moves_text : ReconValue → List ℕ
-moves_text recon = flat_map range_line recon.ranges ++ segment_lines 0 recon.segments
+moves_text recon = flat_map range_line recon.ranges ++ segment_lines recon 0 recon.segments

@@ -2,7 +2,7 @@
 use Rattle.std.specs.Prelude.{[], ◌∷◌, Option, bytes_eq, codes, find}
 use Rattle.sq_text.specs.Words.{Word}
 use Rattle.sq_text.specs.declared.verb.Verb.{Verb}
-use Rattle.sq_text.specs.declared.verb.Verb.TheVariants.{Prepare, Start, Resume, Split, Claim, Begin, Cut, Push, Pop, Load, Complete, Report, Finish, Status}
+use Rattle.sq_text.specs.declared.verb.Verb.TheVariants.{Prepare, Start, Resume, Split, Claim, Begin, Cut, Push, Pop, Load, Complete, Report, Next, Finish, Fold, Status}
 use Rattle.sq_text.specs.declared.verb.OpName.{OpName}
 use Rattle.sq_text.specs.declared.verb.OpName.TheVariants.{Get, Put, Add, Del, Check}
 
@@ -20,14 +20,16 @@ verb_word Pop = codes "pop"
 verb_word Load = codes "load"
 verb_word Complete = codes "complete"
 verb_word Report = codes "report"
+verb_word Next = codes "next"
 verb_word Finish = codes "finish"
+verb_word Fold = codes "fold"
 verb_word Status = codes "status"
 
 -- the step that a line with this first word asks for
 unfoldable pub verb_in : Word → Option Verb
 verb_in word =
     find (λ verb. bytes_eq (verb_word verb) word)
-    (Prepare ∷ Start ∷ Resume ∷ Split ∷ Claim ∷ Begin ∷ Cut ∷ Push ∷ Pop ∷ Load ∷ Complete ∷ Report ∷ Finish ∷ Status ∷ [])
+    (Prepare ∷ Start ∷ Resume ∷ Split ∷ Claim ∷ Begin ∷ Cut ∷ Push ∷ Pop ∷ Load ∷ Complete ∷ Report ∷ Next ∷ Finish ∷ Fold ∷ Status ∷ [])
 
 -- the word that stands for an operation
 abbrev pub op_word : OpName → Word

@@ -1,8 +1,9 @@
 // The lines that tell what moves.
-ghost use Rattle.std.specs.Prelude.{◌≡◌, OnOk};
+ghost use Rattle.std.specs.Prelude.{◌≡◌, nat_lt, OnOk};
 ghost use Rattle.std.specs.List.{flat_map};
 ghost use Rattle.std.specs.Io.KnownBytes.{Appends};
-ghost use Rattle.sq_text.specs.Texts.{range_line, segment_line, segment_lines, moves_text};
+ghost use Rattle.sq_text.specs.Texts.{range_line, told_stage, segment_line, segment_lines, moves_text};
+ghost use Rattle.sq_ranges.specs.ReconValue.{stages};
 
 use sq_ranges::{Range, Recon};
 use std::io;
@@ -17,13 +18,21 @@ fn write_range<W: Write>(writer: &mut W, range: Range) -> io::Result<()>
     writeln!(writer, "range {lo} {hi} {src} {dst}")
 }
 
-// Writes the line of a segment.
-fn write_segment<W: Write>(writer: &mut W, seg: usize, segment: Range) -> io::Result<()>
-    ensures { OnOk result (Appends (W.contents writer.old) (W.contents writer.new) (segment_line seg segment)) }
+// Writes the line of a segment, with its stage where that is told.
+fn write_segment<W: Write>(
+    writer: &mut W,
+    seg: usize,
+    segment: Range,
+    stage: Option<u64>,
+) -> io::Result<()>
+    ensures { OnOk result (Appends (W.contents writer.old) (W.contents writer.new) (segment_line seg segment stage)) }
 {
     let Range { lo, hi, src, dst } = segment;
     let (src, dst) = (src.number(), dst.number());
-    writeln!(writer, "segment {seg} {lo} {hi} {src} {dst}")
+    match stage {
+        Some(stage) => writeln!(writer, "segment {seg} {lo} {hi} {src} {dst} stage {stage}"),
+        None => writeln!(writer, "segment {seg} {lo} {hi} {src} {dst}"),
+    }
 }
 
 // Writes the lines of reconfiguration ranges.
@@ -36,21 +45,36 @@ fn write_ranges<W: Write>(writer: &mut W, ranges: &[Range]) -> io::Result<()>
     Ok(())
 }
 
-// Writes the lines of segments, which are numbered from 0.
-fn write_segments<W: Write>(writer: &mut W, segments: &[Range]) -> io::Result<()>
-    ensures { OnOk result (Appends (W.contents writer.old) (W.contents writer.new) (segment_lines 0 segments.now)) }
+// The stage of a segment, which is told where there is more than one.
+fn told_stage(recon: &Recon, several: bool, segment: Range) -> Option<u64>
+    requires { several ≡ nat_lt 1 (stages recon.now) }
+    ensures { result ≡ told_stage recon.now segment }
 {
+    if several {
+        Some(recon.stage_on(segment.src, segment.dst))
+    } else {
+        None
+    }
+}
+
+// Writes the lines of the segments, which are numbered from 0.
+fn write_segments<W: Write>(writer: &mut W, recon: &Recon) -> io::Result<()>
+    ensures { OnOk result (Appends (W.contents writer.old) (W.contents writer.new) (segment_lines recon.now 0 recon.now.segments)) }
+{
+    let several = recon.stages() > 1;
+    let segments = recon.segments();
     for (seg, segment) in segments.iter().enumerate() {
-        write_segment(writer, seg, *segment)?;
+        let stage = told_stage(recon, several, *segment);
+        write_segment(writer, seg, *segment, stage)?;
     }
     Ok(())
 }
 
-/// Writes what moves: a line for each reconfiguration range, in key order, and then one for each segment. An error is
-/// the writer's.
+/// Writes what moves: a line for each reconfiguration range, in key order, and then one for each segment, with its stage
+/// where there is more than one. An error is the writer's.
 pub fn write_moves<W: Write>(writer: &mut W, recon: &Recon) -> io::Result<()>
     ensures { OnOk result (Appends (W.contents writer.old) (W.contents writer.new) (moves_text recon.now)) }
 {
     write_ranges(writer, recon.ranges())?;
-    write_segments(writer, recon.segments())
+    write_segments(writer, recon)
 }

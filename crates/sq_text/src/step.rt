@@ -73,7 +73,9 @@ fn step(verb: Verb, words: &mut Words<'_>) -> Result<Step, Malformed>
             Ok(Step::Complete { seg, node, pull })
         }
         Verb::Report => Ok(Step::Report(words.number()?)),
+        Verb::Next => Ok(Step::Next),
         Verb::Finish => Ok(Step::Finish),
+        Verb::Fold => Ok(Step::Fold(words.number()?)),
         Verb::Status => {
             let (seg, node) = pair(words)?;
             Ok(Step::Status { seg, node })

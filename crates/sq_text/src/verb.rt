@@ -16,7 +16,9 @@ pub(crate) enum Verb {
     Load,
     Complete,
     Report,
+    Next,
     Finish,
+    Fold,
     Status,
 }
 
@@ -41,7 +43,9 @@ impl Verb {
             b"load" => Some(Verb::Load),
             b"complete" => Some(Verb::Complete),
             b"report" => Some(Verb::Report),
+            b"next" => Some(Verb::Next),
             b"finish" => Some(Verb::Finish),
+            b"fold" => Some(Verb::Fold),
             b"status" => Some(Verb::Status),
             _ => None,
         }

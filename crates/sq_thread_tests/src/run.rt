@@ -228,7 +228,7 @@ fn make_steps<R: Wait>(rt: &R, fabric: &Fabric, node: &mut Node) -> [Stepped; 8]
         node.step_cut(),
         node.step_send(rt, fabric),
         node.step_recv(rt, fabric),
-        node.step_load(),
+        node.step_load(fabric),
         node.step_complete(fabric),
         node.step_resume(rt, fabric),
     ]

@@ -153,7 +153,7 @@ module _ (o : OpeningValue) (t : Trace) (w : WorldValue) (seg node pull : ℕ) (
       let was = source_before in
       record {
         set =
-            set_again o t ((Begin seg node pull, Done) ∷ t) range.src core core.started begun.outs core.inboxes begun.given_up core.loaded was.set was.set.started
+            set_again o t ((Begin seg node pull, Done) ∷ t) range.src core core.started begun.outs core.inboxes begun.given_up core.loaded was.set was.set.started refl
             (length-set core.outs range.dst (with_work (out_at core range.dst) (whole_node core range seg node pull))) refl (length-set core.given_up seg (given_up_with (given_up_at core seg) node)) refl;
         store = was.store;
         waiting = was.waiting;
@@ -172,6 +172,7 @@ module _ (o : OpeningValue) (t : Trace) (w : WorldValue) (seg node pull : ℕ) (
       core_set o t ((Begin seg node pull, Done) ∷ t) w range.src begun h.partitions a.ends.source source_begun
       (λ p apart low was. core_kept o t ((Begin seg node pull, Done) ∷ t) p (core_at w p) was (record {
         started = refl;
+        stage = refl;
         shares = λ root. refl;
         waits = refl;
         moves = record { begun = λ s leaf from _. others_begun p s leaf apart from; loaded = λ s root into. refl; whole = λ s n into. refl };

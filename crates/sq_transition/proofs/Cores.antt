@@ -7,7 +7,7 @@ use Rattle.sq_chunk.specs.ChunkValue.{ChunkValue}
 use Rattle.sq_exec.specs.declared.run.Run.{Run}
 use Rattle.sq_exec.specs.OutLink.{OutLinkValue}
 use Rattle.sq_exec.specs.CoreValue.{CoreValue, out_at, inbox_at}
-use Rattle.sq_model.specs.Trace.{Trace, loads}
+use Rattle.sq_model.specs.Trace.{Trace, stage, loads}
 use Rattle.sq_tree.specs.declared.node.TheConstants.{LEAVES}
 use Rattle.sq_model.specs.Leader.{is_started}
 use Rattle.sq_model.specs.Links.{has_last}
@@ -70,6 +70,7 @@ abbrev pub SaySameOf : OpeningValue → Trace → Trace → ℕ → Type 0
 SaySameOf o t after part =
     record {
       started : is_started after ≡ is_started t;
+      stage : stage after ≡ stage t;
       shares : (root : ℕ) → share_at o after part root ≡ share_at o t part root;
       waits : waiting o after part ≡ waiting o t part;
       moves : SayTheSameMoves o t after part;
@@ -77,14 +78,15 @@ SaySameOf o t after part =
 
 -- a partition is set up after another history, with other ends of links and other keys given up and loaded, where there are as many of them
 pub set_again : (o : OpeningValue) (t after : Trace) (part : ℕ) (core : CoreValue) (started : Bool) (outs : List OutLinkValue) (inboxes : List (Option ChunkValue)) (given_up : List (List Bool)) (loaded : List (List Run))
-    → IsSetFor o t part core → started ≡ is_started after → length outs ≡ length core.outs → length inboxes ≡ length core.inboxes → length given_up ≡ length core.given_up → length loaded ≡ length core.loaded
+    → IsSetFor o t part core → started ≡ is_started after → stage after ≡ stage t → length outs ≡ length core.outs → length inboxes ≡ length core.inboxes → length given_up ≡ length core.given_up → length loaded ≡ length core.loaded
     → IsSetFor o after part (record core { started = started; outs = outs; inboxes = inboxes; given_up = given_up; loaded = loaded })
-set_again o t after part core started outs inboxes given_up loaded h start out_count inbox_count given_up_count loaded_count = record {
+set_again o t after part core started outs inboxes given_up loaded h start same_stage out_count inbox_count given_up_count loaded_count = record {
   part = h.part;
   plan = h.plan;
   recon = h.recon;
   limit = h.limit;
   started = start;
+  stage = h.stage ∙ sym same_stage;
   outs = out_count ∙ h.outs;
   inboxes = inbox_count ∙ h.inboxes;
   given_up = given_up_count ∙ h.given_up;
@@ -92,8 +94,8 @@ set_again o t after part core started outs inboxes given_up loaded h start out_c
 }
 
 -- what is set of a partition stays as it is where two histories say the same of the start
-pub set_kept : (o : OpeningValue) (t after : Trace) (part : ℕ) (core : CoreValue) → IsSetFor o t part core → is_started after ≡ is_started t → IsSetFor o after part core
-set_kept o t after part core h same = set_again o t after part core core.started core.outs core.inboxes core.given_up core.loaded h (h.started ∙ sym same) refl refl refl refl
+pub set_kept : (o : OpeningValue) (t after : Trace) (part : ℕ) (core : CoreValue) → IsSetFor o t part core → is_started after ≡ is_started t → stage after ≡ stage t → IsSetFor o after part core
+set_kept o t after part core h same same_stage = set_again o t after part core core.started core.outs core.inboxes core.given_up core.loaded h (h.started ∙ sym same) same_stage refl refl refl refl
 
 -- and so does what it gave up and loaded
 pub moves_kept : (o : OpeningValue) (t after : Trace) (part : ℕ) (core : CoreValue) → MovesHold o t part core → SayTheSameMoves o t after part → MovesHold o after part core
@@ -106,7 +108,7 @@ moves_kept o t after part core h same = record {
 -- a partition of which two histories say the same
 pub core_kept : (o : OpeningValue) (t after : Trace) (part : ℕ) (core : CoreValue) → CoreHolds o t part core → SaySameOf o t after part → CoreHolds o after part core
 core_kept o t after part core h same = record {
-  set = set_kept o t after part core h.set same.started;
+  set = set_kept o t after part core h.set same.started same.stage;
   store = λ root. h.store root ∙ sym (same.shares root);
   waiting = h.waiting ∙ sym same.waits;
   moves = moves_kept o t after part core h.moves same.moves;

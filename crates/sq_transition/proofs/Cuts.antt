@@ -44,7 +44,8 @@ use Rattle.sq_transition.proofs.Cores.{core_set}
 use Rattle.sq_transition.proofs.Links.{IsFrom, SaySame, keeps_link, same_ends, link_set}
 use Rattle.sq_transition.proofs.LinkEnds.{out_held, EndsBelow, out_of, out_set, out_stays}
 use Rattle.sq_transition.proofs.PushPop.{counted_at}
-use Rattle.sq_transition.proofs.Parts.{share_none, family_held, rows_now}
+use Rattle.sq_model.proofs.Tables.{rows_now}
+use Rattle.sq_transition.proofs.Parts.{share_none, family_held}
 use Rattle.sq_transition.proofs.Loads.{chunk_count}
 use Rattle.sq_transition.proofs.NextWork.{SameNext, next_same, distinct-filter, ChangesAt, item_gone, item_changed}
 

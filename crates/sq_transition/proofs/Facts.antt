@@ -19,7 +19,7 @@ use Rattle.sq_transition.specs.Holds.{Holds}
 use Rattle.sq_transition.specs.Headline.{KeepsHeadline}
 use Rattle.sq_transition.proofs.Begins.{BeginFacts}
 use Rattle.sq_transition.proofs.LinkFacts.{load_facts, cut_facts}
-use Rattle.sq_transition.proofs.ServingFacts.{running_facts}
+use Rattle.sq_transition.proofs.ServingFacts.{running_facts, fold_facts}
 use Rattle.sq_transition.proofs.Headline.{StepFacts, transition_keeps}
 
 -- a node that is claimed isn't begun
@@ -36,7 +36,7 @@ begin_facts o t is legal = record {
 
 -- what the steps rest on
 pub step_facts : (o : OpeningValue) (t : Trace) → IsOpening o → IsLegal o t → StepFacts o t
-step_facts o t is legal = record { begins = begin_facts o t is legal; runs = running_facts o is t legal; loads = load_facts o t is legal; cuts = cut_facts o t is legal }
+step_facts o t is legal = record { begins = begin_facts o t is legal; runs = running_facts o is t legal; loads = load_facts o t is legal; cuts = cut_facts o t is legal; folds = fold_facts o is t legal }
 
 -- each step leads from a world that its history tells to one that its history tells, and the history stays legal and orderly
 pub headline : (o : OpeningValue) (t : Trace) (old new : WorldValue) (step : Step) (given : Answer) → IsOpening o → IsLegal o t → Holds o t old → IsTransition old step given new → KeepsHeadline o ((step, given) ∷ t) new

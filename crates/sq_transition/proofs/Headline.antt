@@ -3,7 +3,7 @@ use Rattle.std.proofs.Common.{subst, ⊎_elim, inl, inr, ◌≡◌, ◌∷◌, s
 use Rattle.std.specs.Prelude.{IsTrue}
 use Rattle.sq_ranges.specs.OpeningValue.{OpeningValue}
 use Rattle.sq_model.specs.declared.step.Step.{Step}
-use Rattle.sq_model.specs.declared.step.Step.TheVariants.{Prepare, Start, Submit, Resume, Split, Claim, Begin, Cut, Push, Pop, Load, Complete, Report, Finish, Status}
+use Rattle.sq_model.specs.declared.step.Step.TheVariants.{Prepare, Start, Submit, Resume, Split, Claim, Begin, Cut, Push, Pop, Load, Complete, Report, Next, Finish, Status, Fold}
 use Rattle.sq_model.specs.declared.answer.Answer.{Answer}
 use Rattle.sq_model.specs.declared.answer.Answer.TheVariants.{Refused}
 use Rattle.sq_model.specs.declared.answer.Refusal.TheVariants.{Memory}
@@ -16,7 +16,7 @@ use Rattle.sq_transition.specs.Holds.{Holds}
 use Rattle.sq_transition.proofs.Changed.{PartsHold, parts_hold, holds}
 use Rattle.sq_transition.proofs.Kept.{refused}
 use Rattle.sq_transition.proofs.Keeps.{Keeps}
-use Rattle.sq_transition.proofs.Leader.{prepare_keeps, start_keeps, report_keeps, finish_keeps}
+use Rattle.sq_transition.proofs.Leader.{prepare_keeps, start_keeps, report_keeps, next_keeps, finish_keeps}
 use Rattle.sq_transition.proofs.Nodes.{split_keeps, claim_keeps, complete_keeps, status_keeps}
 use Rattle.sq_transition.proofs.PushPop.{push_keeps, pop_keeps}
 use Rattle.sq_transition.proofs.Begins.{BeginFacts, begin_keeps}
@@ -25,6 +25,7 @@ use Rattle.sq_transition.proofs.Submits.{submit_keeps}
 use Rattle.sq_transition.proofs.Resumes.{resume_keeps}
 use Rattle.sq_transition.proofs.Loads.{LoadFacts, load_keeps}
 use Rattle.sq_transition.proofs.Cuts.{CutFacts, cut_keeps}
+use Rattle.sq_transition.proofs.Folds.{FoldFacts, fold_keeps}
 
 -- what the steps rest on, of traces alone
 pub record StepFacts (o : OpeningValue) (t : Trace) : Type 0 where
@@ -32,6 +33,7 @@ pub record StepFacts (o : OpeningValue) (t : Trace) : Type 0 where
   pub runs : RunningFacts o t
   pub loads : LoadFacts o t
   pub cuts : CutFacts o t
+  pub folds : FoldFacts o t
 
 pub result_keeps : (o : OpeningValue) (t : Trace) (w : WorldValue) (step : Step) → StepFacts o t → PartsHold o t w → Keeps o t step (step_result w step) (answer o t step)
 result_keeps o t w (Prepare part) facts h = prepare_keeps o t w part h
@@ -47,7 +49,9 @@ result_keeps o t w (Pop src dst) facts h = pop_keeps o t w src dst h
 result_keeps o t w (Load src dst) facts h = load_keeps o t w src dst facts.loads h
 result_keeps o t w (Complete seg node pull) facts h = complete_keeps o t w seg node pull facts.begins.ends h
 result_keeps o t w (Report part) facts h = report_keeps o t w part h
-result_keeps o t w Finish facts h = finish_keeps o t w facts.begins.ends h
+result_keeps o t w Next facts h = next_keeps o t w h
+result_keeps o t w Finish facts h = finish_keeps o t w h
+result_keeps o t w (Fold part) facts h = fold_keeps o t w part facts.folds h
 result_keeps o t w (Status seg node) facts h = status_keeps o t w seg node h
 
 -- a step is answered as the history says, and leads to the world that the longer history leads to

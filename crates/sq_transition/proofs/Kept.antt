@@ -2,7 +2,7 @@
 use Rattle.std.proofs.Common.{◌∷◌}
 use Rattle.sq_ranges.specs.OpeningValue.{OpeningValue}
 use Rattle.sq_model.specs.declared.step.Step.{Step}
-use Rattle.sq_model.specs.declared.step.Step.TheVariants.{Prepare, Start, Submit, Resume, Split, Claim, Begin, Cut, Push, Pop, Load, Complete, Report, Finish, Status}
+use Rattle.sq_model.specs.declared.step.Step.TheVariants.{Prepare, Start, Submit, Resume, Split, Claim, Begin, Cut, Push, Pop, Load, Complete, Report, Next, Finish, Status, Fold}
 use Rattle.sq_model.specs.declared.answer.Refusal.{Refusal}
 use Rattle.sq_model.specs.declared.answer.Answer.TheVariants.{Refused}
 use Rattle.sq_model.specs.Trace.{Trace}
@@ -23,5 +23,7 @@ refused o t w (Pop src dst) r h = h
 refused o t w (Load src dst) r h = h
 refused o t w (Complete seg node pull) r h = h
 refused o t w (Report part) r h = h
+refused o t w Next r h = h
 refused o t w Finish r h = h
+refused o t w (Fold part) r h = h
 refused o t w (Status seg node) r h = h

@@ -1,36 +1,33 @@
 -- The leader's steps keep what holds.
 use Rattle.std.proofs.Common.{subst, ◌≡◌, ℕ, true, false, List, [], ◌∷◌, refl, sym, ap, ◌∙◌, arith}
-use Rattle.std.specs.Prelude.{◌<◌, zero, suc, slice_get, slice_index_or, get_or, map, ◌==◌, ◌||◌, length, not, nat_le, nat_lt}
+use Rattle.std.specs.Prelude.{◌<◌, zero, suc, slice_get, slice_index_or, map, ◌==◌, ◌||◌, ◌&&◌, ◌+◌, length, not, nat_le}
 use Rattle.std.specs.List.{list_any, list_all, range_with_len}
 use Rattle.std.proofs.lemmas.List.{length-map, length-replicate, get_or-map}
-use Rattle.std.proofs.lemmas.List.Sums.{list_all-from_AllPass}
-use Rattle.std.proofs.lemmas.Bool.{leb-false, lt-ltb, not-false}
-use Rattle.std.proofs.lemmas.Option.{slice_get-get_or}
+use Rattle.std.proofs.lemmas.Bool.{leb-false, not-false}
 use Rattle.sq_tree.specs.Status.{reading}
+use Rattle.sq_ranges.specs.ReconValue.{of_stage, stages}
 use Rattle.sq_ranges.specs.OpeningValue.{OpeningValue}
 use Rattle.sq_leader.proofs.Marked.{same_within}
-use Rattle.sq_leader.proofs.Counted.{told-counted}
-use Rattle.sq_exec.specs.CoreValue.{CoreValue, out_at, inbox_at}
-use Rattle.sq_model.specs.declared.step.Step.TheVariants.{Prepare, Start, Report, Finish}
+use Rattle.sq_exec.specs.CoreValue.{CoreValue, entered_core, out_at, inbox_at}
+use Rattle.sq_model.specs.declared.step.Step.TheVariants.{Prepare, Start, Report, Next, Finish}
 use Rattle.sq_model.specs.declared.step.Phase.{Phase}
 use Rattle.sq_model.specs.declared.step.Phase.TheVariants.{Idle, Preparing, Moving, Ended}
 use Rattle.sq_model.specs.declared.answer.Answer.TheVariants.{Done}
-use Rattle.sq_model.specs.declared.answer.Refusal.TheVariants.{AlreadyMoving, NotPrepared, NotFinished, NoSuchPartition}
-use Rattle.sq_model.specs.Trace.{Trace}
-use Rattle.sq_model.specs.Leader.{phase, is_started_phase, is_moving_phase, is_prepared}
+use Rattle.sq_model.specs.declared.answer.Refusal.TheVariants.{AlreadyMoving, NotPrepared, NotFinished, NoSuchPartition, LastStage}
+use Rattle.sq_model.specs.Trace.{Trace, stage}
+use Rattle.sq_model.specs.Leader.{phase, is_started, is_started_phase, is_moving_phase, is_prepared}
 use Rattle.sq_tree.specs.Reading.{is_complete_reading}
-use Rattle.sq_model.specs.Answers.{answer, is_whole, is_into, has_all, goes_into, counts_reported, partitions, segment_numbers}
+use Rattle.sq_model.specs.Answers.{answer, is_whole, is_into, has_all, goes_into, counts_reported, partitions, segment_numbers, is_last_stage}
 use Rattle.sq_model.proofs.Lists.{list_all-Contains, row_has}
-use Rattle.sq_transition.specs.WorldValue.{WorldValue, no_core, core_at, queue_at, link_value}
+use Rattle.sq_transition.specs.WorldValue.{WorldValue, running_stage, no_core, core_at, queue_at, link_value}
 use Rattle.sq_transition.specs.Leading.{parts_of, has_prepared, has_reported, after_prepare, after_start, after_report, after_finish}
-use Rattle.sq_transition.specs.LeaderResults.{started_core, is_segment_into, is_segment_whole, segment_range}
+use Rattle.sq_transition.specs.LeaderResults.{started_core, entered, runs_last, all_reported, is_segment_into, is_segment_whole, segment_range}
 use Rattle.sq_transition.specs.Transition.{step_result}
 use Rattle.sq_transition.specs.Holds.{CoreHolds, LeaderHolds, PartitionsHold, LinkHolds, LinksHold}
 use Rattle.sq_transition.proofs.Cores.{same_moves, set_again, cores_kept}
 use Rattle.sq_transition.proofs.Changed.{PartsHold, leader_changed, partitions_changed, links_changed}
 use Rattle.sq_transition.proofs.Keeps.{Keeps, keeps_if, keeps_refused, keeps_while_moving}
-use Rattle.sq_transition.proofs.Leading.{prepared_leader, start_reported, reported_leader, finished_leader}
-use Rattle.sq_transition.proofs.LinkEnds.{AllEndsBelow}
+use Rattle.sq_transition.proofs.Leading.{prepared_leader, start_reported, start_stage, reported_leader, entered_leader, finished_leader}
 
 pub prepare_keeps : (o : OpeningValue) (t : Trace) (w : WorldValue) (part : ℕ) → PartsHold o t w → Keeps o t (Prepare part) (step_result w (Prepare part)) (answer o t (Prepare part))
 prepare_keeps o t w part h =
@@ -44,11 +41,13 @@ prepare_keeps o t w part h =
     let after = prepared_leader w.leader part (ap is_started_phase h.leader.phase ∙ idle) below_leader in
     let now : LeaderHolds o ((Prepare part, Done) ∷ t) (record w { leader = after_prepare w.leader part }) = record {
       parts = after.parts ∙ h.leader.parts;
+      moves = after.moves ∙ h.leader.moves;
       phase = after.phase;
+      stage = after.stage ∙ h.leader.stage;
       prepared = λ p low. after.prepared p ∙ ap (λ b. (part == p) || b) (h.leader.prepared p low);
       reported = λ p low. after.reported p ∙ h.leader.reported p low;
     } in
-    let cores = cores_kept o t ((Prepare part, Done) ∷ t) w h.partitions (λ p _. record { started = sym idle; shares = λ root. refl; waits = refl; moves = same_moves o t p }) in
+    let cores = cores_kept o t ((Prepare part, Done) ∷ t) w h.partitions (λ p _. record { started = sym idle; stage = refl; shares = λ root. refl; waits = refl; moves = same_moves o t p }) in
     (refl, partitions_changed (leader_changed h now) cores)))
 
 -- what can't tell whether a partition was told of the start
@@ -67,7 +66,7 @@ cores_started o t w h =
           subst (CoreHolds o ((Start, Done) ∷ t) p) (sym (get_or-map started_core w.cores p no_core no_core (omega (arith, h.count, below))))
           (let was = h.each p below in
           record {
-            set = let core = core_at w p in set_again o t ((Start, Done) ∷ t) p core true core.outs core.inboxes core.given_up core.loaded was.set refl refl refl refl refl;
+            set = let core = core_at w p in set_again o t ((Start, Done) ∷ t) p core true core.outs core.inboxes core.given_up core.loaded was.set refl refl refl refl refl refl;
             store = was.store;
             waiting = was.waiting;
             moves = was.moves;
@@ -95,7 +94,9 @@ start_keeps o t w h =
     let each = not-false (list_all (is_prepared t) (partitions o)) all in
     let now : LeaderHolds o ((Start, Done) ∷ t) (record w { leader = after_start w.leader; cores = map started_core w.cores }) = record {
       parts = length-replicate (parts_of w.leader) false ∙ h.leader.parts;
+      moves = h.leader.moves;
       phase = refl;
+      stage = start_stage w.leader (ap is_started_phase h.leader.phase ∙ idle) ∙ h.leader.stage;
       prepared = λ p low. sym (list_all-Contains (is_prepared t) (partitions o) p each (row_has 0 o.old.parts p (omega arith) (omega arith)));
       reported = λ p low. start_reported w.leader p (ap is_started_phase h.leader.phase ∙ idle) ∙ h.leader.reported p low;
     } in
@@ -111,11 +112,15 @@ start_keeps o t w h =
 whole_same : (o : OpeningValue) (t : Trace) (w : WorldValue) (seg : ℕ) → PartsHold o t w → seg < length o.recon.segments → is_segment_whole w seg ≡ is_whole t seg
 whole_same o t w seg h there = λ i. is_complete_reading (reading (λ node. h.segments.statuses seg node there i) 1)
 
+-- a segment moves into a partition in the world just where it does by the history
+into_same : (o : OpeningValue) (t : Trace) (w : WorldValue) (part seg : ℕ) → PartsHold o t w → is_segment_into w part seg ≡ is_into o t part seg
+into_same o t w part seg h = λ i. goes_into (of_stage (h.plans.recon i) (h.leader.stage i) (slice_get (h.plans.recon i).segments seg)) part
+
 arrived_same : (o : OpeningValue) (t : Trace) (w : WorldValue) (part : ℕ) → PartsHold o t w
     → list_all (λ seg. not (is_segment_into w part seg) || is_segment_whole w seg) (segment_range w) ≡ has_all o t part
 arrived_same o t w part h =
-    ap (λ recon. list_all (λ seg. not (goes_into (slice_get recon.segments seg) part) || is_segment_whole w seg) (range_with_len 0 (length recon.segments))) h.plans.recon
-    ∙ same_within _ _ 0 (length o.recon.segments) (λ seg low high. ap (λ b. not (is_into o part seg) || b) (whole_same o t w seg h (omega arith)))
+    (λ i. list_all (λ seg. not (into_same o t w part seg h i) || is_segment_whole w seg) (range_with_len 0 (length (h.plans.recon i).segments)))
+    ∙ same_within _ _ 0 (length o.recon.segments) (λ seg low high. ap (λ b. not (is_into o t part seg) || b) (whole_same o t w seg h (omega arith)))
 
 pub report_keeps : (o : OpeningValue) (t : Trace) (w : WorldValue) (part : ℕ) → PartsHold o t w → Keeps o t (Report part) (step_result w (Report part)) (answer o t (Report part))
 report_keeps o t w part h =
@@ -129,23 +134,24 @@ report_keeps o t w part h =
     let after = reported_leader w.leader part (ap is_moving_phase h.leader.phase ∙ moving) below_leader in
     let now : LeaderHolds o ((Report part, Done) ∷ t) (record w { leader = after_report w.leader part }) = record {
       parts = after.parts ∙ h.leader.parts;
+      moves = after.moves ∙ h.leader.moves;
       phase = after.phase ∙ h.leader.phase;
+      stage = after.stage ∙ h.leader.stage;
       prepared = λ p low. after.prepared p ∙ h.leader.prepared p low;
       reported = λ p low. after.reported p ∙ ap (λ b. (part == p) || b) (h.leader.reported p low);
     } in
     (refl, leader_changed h now))
     (λ _. keeps_refused o t w (Report part) NotFinished h)))
 
--- each partition into which a segment moves has reported just where each partition counts as reported by the history
-counted_same : (o : OpeningValue) (t : Trace) (w : WorldValue) → AllEndsBelow o → PartsHold o t w
-    → list_all (λ segment. has_reported w.leader segment.dst) w.recon.segments ≡ list_all (counts_reported o t) (partitions o)
-counted_same o t w ends h =
-    ap (λ recon. list_all (λ segment. has_reported w.leader segment.dst) recon.segments) h.plans.recon
-    ∙ told-counted o.recon.segments (has_reported w.leader) o.old.parts
-    (list_all-from_AllPass (λ segment. nat_lt segment.dst o.old.parts) o.recon.segments (λ seg d low.
-    lt-ltb (get_or o.recon.segments seg d).dst o.old.parts (ends seg (get_or o.recon.segments seg d) (slice_get-get_or o.recon.segments seg d low)).destination))
+-- each partition counts as reported in the world just where it does by the history
+counted_same : (o : OpeningValue) (t : Trace) (w : WorldValue) → PartsHold o t w → all_reported w ≡ list_all (counts_reported o t) (partitions o)
+counted_same o t w h =
+    (λ i. list_all (λ part. has_reported w.leader part || not (list_any (λ seg. into_same o t w part seg h i) (range_with_len 0 (length (h.plans.recon i).segments)))) (range_with_len 0 (h.plans.old i).parts))
     ∙ same_within _ _ 0 o.old.parts (λ part low high.
-    ap (λ b. b || not (list_any (is_into o part) (segment_numbers o))) (h.leader.reported part (omega arith)))
+    ap (λ b. b || not (list_any (is_into o t part) (segment_numbers o))) (h.leader.reported part (omega arith)))
+
+last_same : (o : OpeningValue) (t : Trace) (w : WorldValue) → PartsHold o t w → runs_last w ≡ is_last_stage o t
+last_same o t w h = λ i. h.leader.stage i + 1 == stages (h.plans.recon i)
 
 -- a move that is under way was started
 moving_started : (p : Phase) → is_moving_phase p ≡ true → is_started_phase p ≡ true
@@ -154,17 +160,87 @@ moving_started Preparing e = e
 moving_started Moving e = refl
 moving_started Ended e = refl
 
-pub finish_keeps : (o : OpeningValue) (t : Trace) (w : WorldValue) → AllEndsBelow o → PartsHold o t w → Keeps o t Finish (step_result w Finish) (answer o t Finish)
-finish_keeps o t w ends h =
+-- what can't tell which stage runs
+seen_entered : {X : Type 0} (n : ℕ) (seen : CoreValue → X) → ((core : CoreValue) → seen (entered_core n core) ≡ seen core) → (cores : List CoreValue) (p : ℕ)
+    → seen (slice_index_or (map (entered_core n) cores) p no_core) ≡ seen (slice_index_or cores p no_core)
+seen_entered n seen same [] p = refl
+seen_entered n seen same (core ∷ cores) zero = same core
+seen_entered n seen same (core ∷ cores) (suc p) = seen_entered n seen same cores p
+
+-- the partitions, once all were told of the stage
+cores_entered : (o : OpeningValue) (t : Trace) (w : WorldValue) → is_started t ≡ is_started ((Next, Done) ∷ t) → running_stage w ≡ stage t → PartitionsHold o t w → PartitionsHold o ((Next, Done) ∷ t) (entered w)
+cores_entered o t w started now h =
+    record {
+      count = length-map w.cores (entered_core (running_stage w + 1)) ∙ h.count;
+      each = λ p below.
+          subst (CoreHolds o ((Next, Done) ∷ t) p) (sym (get_or-map (entered_core (running_stage w + 1)) w.cores p no_core no_core (omega (arith, h.count, below))))
+          (let was = h.each p below in
+          record {
+            set = record {
+              part = was.set.part;
+              plan = was.set.plan;
+              recon = was.set.recon;
+              limit = was.set.limit;
+              started = was.set.started ∙ started;
+              stage = ap (λ i. i + 1) now;
+              outs = was.set.outs;
+              inboxes = was.set.inboxes;
+              given_up = was.set.given_up;
+              loaded = was.set.loaded;
+            };
+            store = was.store;
+            waiting = was.waiting;
+            moves = was.moves;
+          });
+    }
+
+-- their links stay
+links_entered : (w : WorldValue) (j : ℕ) → link_value (entered w) j ≡ link_value w j
+links_entered w j =
+    let q = queue_at w j in
+    let out = seen_entered (running_stage w + 1) (λ core. out_at core q.dst) (λ core. refl) w.cores q.src in
+    let inbox = seen_entered (running_stage w + 1) (λ core. inbox_at core q.src) (λ core. refl) w.cores q.dst in
+    λ i. record { src = q.src; dst = q.dst; out = out i; queue = q.chunks; inbox = inbox i }
+
+pub next_keeps : (o : OpeningValue) (t : Trace) (w : WorldValue) → PartsHold o t w → Keeps o t Next (step_result w Next) (answer o t Next)
+next_keeps o t w h =
+    keeps_while_moving o t w Next _ _ h (λ moving.
+    keeps_if o t Next _ _ _ _ _ _ (last_same o t w h)
+    (λ _. keeps_refused o t w Next LastStage h)
+    (λ _.
+    keeps_if o t Next _ _ _ _ _ _ (counted_same o t w h)
+    (λ _.
+    let after = entered_leader w.leader (ap is_moving_phase h.leader.phase ∙ moving) in
+    let now : LeaderHolds o ((Next, Done) ∷ t) (entered w) = record {
+      parts = after.parts ∙ h.leader.parts;
+      moves = after.moves ∙ h.leader.moves;
+      phase = after.phase ∙ h.leader.phase;
+      stage = after.stage ∙ ap (λ i. i + 1) h.leader.stage;
+      prepared = λ p low. after.prepared p ∙ h.leader.prepared p low;
+      reported = λ p low. after.reported p;
+    } in
+    let links : LinksHold o ((Next, Done) ∷ t) (entered w) =
+    record {
+      each = λ j within. subst (LinkHolds o t) (sym (links_entered w j)) (h.links.each j within);
+      ends = h.links.ends;
+      one_each = h.links.one_each;
+    } in
+    (refl, links_changed (partitions_changed (leader_changed h now) (cores_entered o t w refl h.leader.stage h.partitions)) links))
+    (λ _. keeps_refused o t w Next NotFinished h)))
+
+pub finish_keeps : (o : OpeningValue) (t : Trace) (w : WorldValue) → PartsHold o t w → Keeps o t Finish (step_result w Finish) (answer o t Finish)
+finish_keeps o t w h =
     keeps_while_moving o t w Finish _ _ h (λ moving.
-    keeps_if o t Finish _ _ _ _ _ _ (counted_same o t w ends h)
+    keeps_if o t Finish _ _ _ _ _ _ (λ i. last_same o t w h i && counted_same o t w h i)
     (λ _.
     let started = moving_started (phase t) moving in
-    let cores = cores_kept o t ((Finish, Done) ∷ t) w h.partitions (λ p _. record { started = sym started; shares = λ root. refl; waits = refl; moves = same_moves o t p }) in
+    let cores = cores_kept o t ((Finish, Done) ∷ t) w h.partitions (λ p _. record { started = sym started; stage = refl; shares = λ root. refl; waits = refl; moves = same_moves o t p }) in
     let after = finished_leader w.leader (ap is_moving_phase h.leader.phase ∙ moving) in
     let now : LeaderHolds o ((Finish, Done) ∷ t) (record w { leader = after_finish w.leader }) = record {
       parts = after.parts ∙ h.leader.parts;
+      moves = after.moves ∙ h.leader.moves;
       phase = after.phase;
+      stage = after.stage ∙ h.leader.stage;
       prepared = λ p low. after.prepared p ∙ h.leader.prepared p low;
       reported = λ p low. after.reported p ∙ h.leader.reported p low;
     } in

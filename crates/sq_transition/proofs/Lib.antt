@@ -18,6 +18,7 @@ pub mod LinkFacts
 pub mod Locations
 pub mod Waits
 pub mod Runs
+pub mod Folds
 pub mod Submits
 pub mod Resumes
 pub mod ServingFacts

@@ -1,22 +1,23 @@
 -- A step on a link, and a world in which one link changed.
-use Rattle.std.proofs.Common.{⊎_elim, subst, ◌≡◌, ℕ, Bool, false, refl, sym, ap, ◌∙◌, arith, length}
+use Rattle.std.proofs.Common.{⊎_elim, inl, inr, subst, subst₂, ◌≡◌, ℕ, Bool, true, false, refl, sym, ap, ◌∙◌, arith, length}
 use Rattle.std.specs.Prelude.{◌+◌, ◌<◌, ◌≤◌, ◌≢◌, drop, position, List, map, ◌==◌, nat_lt, ◌&&◌, if◌then◌else◌, not, slice_get, slice_index_or, Option, Some, None, is_some}
 use Rattle.std.proofs.lemmas.List.{length-set}
 use Rattle.std.proofs.lemmas.List.Quantifiers.{position-Some}
 use Rattle.std.proofs.lemmas.List.Folds.{position_or_len-set}
-use Rattle.std.proofs.lemmas.Bool.{cases_eq, eqb-true, and_parts}
+use Rattle.std.proofs.lemmas.Bool.{cases_Bool, cases_eq, eqb-true, and_parts, and_from}
+use Rattle.std.proofs.Math.Bool.{and-false}
 use Rattle.sq_chunk.specs.ChunkValue.{ChunkValue}
-use Rattle.sq_ranges.specs.ReconValue.{is_link}
+use Rattle.sq_ranges.specs.ReconValue.{is_link, stage_on}
 use Rattle.sq_ranges.specs.OpeningValue.{OpeningValue}
 use Rattle.sq_model.specs.declared.step.Step.{Step}
 use Rattle.sq_model.specs.declared.answer.Answer.{Answer}
 use Rattle.sq_model.specs.declared.answer.Answer.TheVariants.{Refused}
 use Rattle.sq_model.specs.declared.answer.Refusal.TheVariants.{NoSuchLink}
-use Rattle.sq_model.specs.Trace.{Trace, notes, link, push_count, pop_count, load_count}
+use Rattle.sq_model.specs.Trace.{Trace, stage, notes, link, push_count, pop_count, load_count}
 use Rattle.sq_model.specs.Links.{open_items}
 use Rattle.sq_model.specs.Answers.{while_moving, on_link}
-use Rattle.sq_transition.specs.WorldValue.{WorldValue, QueueValue, LinkValue, no_queue, queue_at, with_queue, link_index, link_value, option_list, under_way}
-use Rattle.sq_transition.specs.LeaderResults.{StepResult}
+use Rattle.sq_transition.specs.WorldValue.{WorldValue, running_stage, QueueValue, LinkValue, no_queue, queue_at, with_queue, link_index, link_value, option_list, under_way}
+use Rattle.sq_transition.specs.LeaderResults.{StepResult, refuse}
 use Rattle.sq_transition.specs.LinkResults.{if_link, result_at_link}
 use Rattle.sq_transition.specs.Holds.{LinkHolds, LinksHold, ChunkHolds, work_of}
 use Rattle.sq_transition.proofs.Changed.{PartsHold}
@@ -39,20 +40,31 @@ index_found w src dst i e =
     }
 
 keeps_result : (o : OpeningValue) (t : Trace) (w : WorldValue) (step : Step) (src dst : ℕ) (result : ℕ → StepResult) (answer : Answer) (found : Option ℕ) → PartsHold o t w
-    → link_index w src dst ≡ found → is_some found ≡ is_link o.recon.ranges src dst
+    → link_index w src dst ≡ found → is_some found ≡ is_link o.recon.ranges src dst → (stage_on o.recon src dst == stage t) ≡ true
     → ((i : ℕ) → IsFrom w i src dst → Keeps o t step (result i) answer)
-    → Keeps o t step (result_at_link w result found) (on_link o src dst answer)
-keeps_result o t w step src dst result answer None h e is kept =
-    subst (λ b. Keeps o t step (result_at_link w result None) (if not b then Refused NoSuchLink else answer)) is (keeps_refused o t w step NoSuchLink h)
-keeps_result o t w step src dst result answer (Some i) h e is kept =
-    subst (λ b. Keeps o t step (result i) (if not b then Refused NoSuchLink else answer)) is (kept i (index_found w src dst i e))
+    → Keeps o t step (result_at_link w result found) (on_link o t src dst answer)
+keeps_result o t w step src dst result answer None h e is now kept =
+    subst (λ b. Keeps o t step (result_at_link w result None) (if not (b && (stage_on o.recon src dst == stage t)) then Refused NoSuchLink else answer)) is (keeps_refused o t w step NoSuchLink h)
+keeps_result o t w step src dst result answer (Some i) h e is now kept =
+    subst (λ b. Keeps o t step (result i) (if not b then Refused NoSuchLink else answer)) (sym (and_from (is_link o.recon.ranges src dst) (stage_on o.recon src dst == stage t) (sym is) now)) (kept i (index_found w src dst i e))
 
 -- a step on a link
 pub keeps_link : (o : OpeningValue) (t : Trace) (w : WorldValue) (step : Step) (src dst : ℕ) (result : ℕ → StepResult) (answer : Answer) → PartsHold o t w
     → ((i : ℕ) → IsFrom w i src dst → Keeps o t step (result i) answer)
-    → Keeps o t step (if_link w src dst result) (while_moving t (on_link o src dst answer))
+    → Keeps o t step (if_link w src dst result) (while_moving t (on_link o t src dst answer))
 keeps_link o t w step src dst result answer h kept =
-    keeps_moving o t w step _ _ h (keeps_result o t w step src dst result answer (link_index w src dst) h refl (h.links.ends src dst) kept)
+    keeps_moving o t w step _ _ h (
+    elim (cases_Bool (stage_on o.recon src dst == stage t)) [
+      | inl now ↦
+          subst (λ b. Keeps o t step (if not b then refuse w NoSuchLink else result_at_link w result (link_index w src dst)) (on_link o t src dst answer)) (sym (same_stage ∙ now))
+          (keeps_result o t w step src dst result answer (link_index w src dst) h refl (h.links.ends src dst) now kept)
+      | inr other ↦
+          subst₂ (λ b c. Keeps o t step (if not b then refuse w NoSuchLink else result_at_link w result (link_index w src dst)) (if not (is_link o.recon.ranges src dst && c) then Refused NoSuchLink else answer)) (sym (same_stage ∙ other)) (sym other)
+          (subst (λ b. Keeps o t step (refuse w NoSuchLink) (if not b then Refused NoSuchLink else answer)) (sym (and-false (is_link o.recon.ranges src dst))) (keeps_refused o t w step NoSuchLink h))
+    ])
+  where
+    same_stage : (stage_on w.recon src dst == running_stage w) ≡ (stage_on o.recon src dst == stage t)
+    same_stage = λ i. stage_on (h.plans.recon i) src dst == h.leader.stage i
 
 -- the queues of another world have the same ends
 pub record SameEnds (w other : WorldValue) : Type 0 where

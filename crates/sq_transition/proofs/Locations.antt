@@ -1,20 +1,20 @@
 -- Where a root key's rows are, as its partition tells it and by the history.
 use Rattle.std.proofs.Common.{subst, ◌≡◌, ℕ, Bool, true, false, refl, sym, ap, ◌∙◌, true≢false}
-use Rattle.std.specs.Prelude.{◌<◌, ◌≢◌, ◌==◌, ◌&&◌, if◌then◌else◌, not, slice_get, Option, Some, None, option_map, option_and_then, unwrap_or}
+use Rattle.std.specs.Prelude.{◌<◌, ◌≢◌, ◌==◌, ◌&&◌, nat_lt, if◌then◌else◌, not, slice_get, Option, Some, None, option_map, option_and_then, unwrap_or}
 use Rattle.std.specs.Option.{option_map_or}
 use Rattle.std.proofs.Math.Bool.{and-false}
-use Rattle.std.proofs.lemmas.Bool.{ne_eqb, eq-eqb, not-true}
+use Rattle.std.proofs.lemmas.Bool.{ne_eqb, eq-eqb, not-true, cond_both, ltb-true}
 use Rattle.std.proofs.lemmas.Option.{slice_get_within}
 use Rattle.sq_plan.specs.PlanValue.{owner}
 use Rattle.sq_tree.specs.declared.node.TheConstants.{LEAVES}
 use Rattle.sq_tree.specs.Status.{covering, is_begun}
 use Rattle.sq_ranges.specs.declared.recon.Range.{Range}
-use Rattle.sq_ranges.specs.ReconValue.{ReconValue, segment_of, leaf_of, leaf_at}
+use Rattle.sq_ranges.specs.ReconValue.{ReconValue, stage_on, segment_of, leaf_of, leaf_at}
 use Rattle.sq_ranges.specs.OpeningValue.{OpeningValue}
 use Rattle.sq_exec.specs.declared.location.Location.{Location}
 use Rattle.sq_exec.specs.CoreValue.{CoreValue}
 use Rattle.sq_exec.specs.Location.{location_in, location, is_coming_from, route_from}
-use Rattle.sq_model.specs.Trace.{Trace, loads}
+use Rattle.sq_model.specs.Trace.{Trace, stage, loads}
 use Rattle.sq_model.specs.Leader.{is_started}
 use Rattle.sq_model.specs.Nodes.{status_of}
 use Rattle.sq_model.specs.Place.{source, destination, moves, is_covered, is_begun_over, runner, is_coming}
@@ -50,6 +50,7 @@ pub record RoutingFacts (o : OpeningValue) (t : Trace) : Type 0 where
   pub in_segment : (root seg : ℕ) (range : Range) → segment_of o.recon.segments root ≡ Some seg → slice_get o.recon.segments seg ≡ Some range → InSegment o t root seg range
   pub in_none : (root : ℕ) → segment_of o.recon.segments root ≡ None → InNone o t root
   pub range : (root seg : ℕ) → segment_of o.recon.segments root ≡ Some seg → (range : Range) × (slice_get o.recon.segments seg ≡ Some range)
+  pub past : (root : ℕ) → moves o root ≡ true → stage_on o.recon (source o root) (destination o root) < stage t → is_covered (loads t) root ≡ true
   pub loaded_begun : (root : ℕ) → is_covered (loads t) root ≡ true → is_begun_over o t root ≡ true
 
 -- the leaf of a root key, by its segment
@@ -80,6 +81,7 @@ pub record IsAtLocation (o : OpeningValue) (t : Trace) (part root : ℕ) (at : L
   pub comes_from : source o root ≡ at.src
   pub goes_to : destination o root ≡ at.dst
   pub moving : moves o root ≡ true
+  pub by : at.stage ≡ stage_on o.recon (source o root) (destination o root)
   pub given_up : at.src ≡ part → at.given_up ≡ is_begun_over o t root
   pub loaded : at.dst ≡ part → at.loaded ≡ is_covered (loads t) root
 
@@ -96,6 +98,7 @@ location_by o t part root core (Some seg) facts h e =
       comes_from = is.comes_from;
       goes_to = is.goes_to;
       moving = is.moving;
+      by = λ i. stage_on (h.set.recon i) (sym is.comes_from i) (sym is.goes_to i);
       given_up = λ here. h.moves.given_up seg (leaf_of o.recon.width at.0 root) (at.0, at.1, here) is.leaf ∙ sym is.given_up;
       loaded = λ here. h.moves.loaded seg root (at.0, at.1, here) ∙ sym is.loaded;
     })
@@ -106,14 +109,14 @@ location_holds o t part root core facts h = location_by o t part root core (segm
 
 -- whether rows come to a partition
 pub comes_same : (o : OpeningValue) (t : Trace) (part root : ℕ) (core : CoreValue) (found : Option Location) → CoreHolds o t part core → LocationHolds o t part root found → is_coming_from core found ≡ is_coming o t part root
-comes_same o t part root core None h s = sym (ap (λ b. is_started t && (b && ((destination o root == part) && not (is_covered (loads t) root)))) s.moving ∙ and-false (is_started t))
+comes_same o t part root core None h s = sym (ap (λ b. is_started t && ((b && (stage_on o.recon (source o root) (destination o root) == stage t)) && ((destination o root == part) && not (is_covered (loads t) root)))) s.moving ∙ and-false (is_started t))
 comes_same o t part root core (Some at) h s =
-    (λ i. h.set.started i && ((sym s.goes_to i == h.set.part i) && not at.loaded))
-    ∙ ap (λ b. is_started t && b)
+    (λ i. h.set.started i && ((s.by i == h.set.stage i) && ((sym s.goes_to i == h.set.part i) && not at.loaded)))
+    ∙ ap (λ b. is_started t && ((stage_on o.recon (source o root) (destination o root) == stage t) && b))
     (by_place (destination o root) part (λ b. (b && not at.loaded) ≡ (b && not (is_covered (loads t) root)))
     (λ same. ap not (s.loaded (sym s.goes_to ∙ same)))
     (λ _. refl))
-    ∙ sym (ap (λ b. is_started t && (b && ((destination o root == part) && not (is_covered (loads t) root)))) s.moving)
+    ∙ sym (ap (λ b. is_started t && ((b && (stage_on o.recon (source o root) (destination o root) == stage t)) && ((destination o root == part) && not (is_covered (loads t) root)))) s.moving)
 
 -- who runs transactions on a root key that moves, by whether it was loaded and whether it was given up
 abbrev runner_of : ℕ → ℕ → Bool → Bool → Option ℕ
@@ -178,6 +181,18 @@ module _ (part src dst : ℕ) where
 owners_differ : (o : OpeningValue) (root : ℕ) → moves o root ≡ true → source o root ≢ destination o root
 owners_differ o root moving same = true≢false (sym (eq-eqb (source o root) (destination o root) same) ∙ not-true (source o root == destination o root) moving)
 
+-- a root key of a stage that went goes to its destination, which has it
+by_stage : (o : OpeningValue) (t : Trace) (root way : ℕ) → RoutingFacts o t → moves o root ≡ true → (P : ℕ → Type 0) → (is_covered (loads t) root ≡ true → P (destination o root)) → P way
+    → P (if nat_lt (stage_on o.recon (source o root) (destination o root)) (stage t) then destination o root else way)
+by_stage o t root way facts moving P past now =
+    cond_both (nat_lt (stage_on o.recon (source o root) (destination o root)) (stage t)) (destination o root) way P
+    (λ went. past (facts.past root moving (ltb-true (stage_on o.recon (source o root) (destination o root)) (stage t) went)))
+    (λ _. now)
+
+always : (b : Bool) (n : ℕ) → (if b then n else n) ≡ n
+always true n = refl
+always false n = refl
+
 -- a partition runs transactions on a root key just where it takes itself to
 pub runs_same : (o : OpeningValue) (t : Trace) (part root : ℕ) (core : CoreValue) (found : Option Location) → RoutingFacts o t → CoreHolds o t part core → LocationHolds o t part root found
     → (route_from core root found == core.part) ≡ runs_at part (runner o t root)
@@ -185,9 +200,11 @@ runs_same o t part root core None facts h s =
     (λ i. owner (h.set.plan i) root == h.set.part i)
     ∙ sym (ap (λ b. runs_at part (if b then Some (destination o root) else if is_begun_over o t root then None else Some (source o root))) s.covered ∙ ap (λ b. runs_at part (if b then None else Some (source o root))) s.begun)
 runs_same o t part root core (Some at) facts h s =
-    (λ i. route_of (h.set.part i) (sym s.comes_from i) (sym s.goes_to i) at.given_up at.loaded == h.set.part i)
-    ∙ routes_here part (source o root) (destination o root) at.given_up at.loaded (is_covered (loads t) root) (is_begun_over o t root)
-    (owners_differ o root s.moving) (facts.loaded_begun root) (λ here. s.given_up (sym s.comes_from ∙ here)) (λ here. s.loaded (sym s.goes_to ∙ here))
+    (λ i. (if nat_lt (s.by i) (h.set.stage i) then sym s.goes_to i else route_of (h.set.part i) (sym s.comes_from i) (sym s.goes_to i) at.given_up at.loaded) == h.set.part i)
+    ∙ by_stage o t root _ facts s.moving (λ who. (who == part) ≡ runs_at part (runner o t root))
+    (λ covered. sym (ap (λ b. runs_at part (if b then Some (destination o root) else if is_begun_over o t root then None else Some (source o root))) covered))
+    (routes_here part (source o root) (destination o root) at.given_up at.loaded (is_covered (loads t) root) (is_begun_over o t root)
+    (owners_differ o root s.moving) (facts.loaded_begun root) (λ here. s.given_up (sym s.comes_from ∙ here)) (λ here. s.loaded (sym s.goes_to ∙ here)))
 
 given_up_by : (o : OpeningValue) (t : Trace) (w : WorldValue) (root : ℕ) (found : Option ℕ) → RoutingFacts o t → PartsHold o t w → segment_of o.recon.segments root ≡ found → is_given_up w root ≡ is_begun_over o t root
 given_up_by o t w root None facts h e =
@@ -216,6 +233,8 @@ sent_same o t w part root core None facts all h s =
     ∙ sym (ap (λ b. unwrap_or (if b then Some (destination o root) else if is_begun_over o t root then None else Some (source o root)) (destination o root)) s.covered
     ∙ ap (λ b. unwrap_or (if b then None else Some (source o root)) (destination o root)) s.begun)
 sent_same o t w part root core (Some at) facts all h s =
-    (λ i. if given_up_same o t w root facts all i then owner (all.plans.new i) root else route_of (h.set.part i) (sym s.comes_from i) (sym s.goes_to i) at.given_up at.loaded)
-    ∙ sends_to part (source o root) (destination o root) at.given_up at.loaded (is_covered (loads t) root) (is_begun_over o t root)
-    (facts.loaded_begun root) (λ here. s.given_up (sym s.comes_from ∙ here)) (λ here. s.loaded (sym s.goes_to ∙ here))
+    (λ i. if given_up_same o t w root facts all i then owner (all.plans.new i) root else if nat_lt (s.by i) (h.set.stage i) then sym s.goes_to i else route_of (h.set.part i) (sym s.comes_from i) (sym s.goes_to i) at.given_up at.loaded)
+    ∙ by_stage o t root _ facts s.moving (λ who. (if is_begun_over o t root then destination o root else who) ≡ unwrap_or (runner o t root) (destination o root))
+    (λ covered. always (is_begun_over o t root) (destination o root) ∙ sym (ap (λ b. unwrap_or (if b then Some (destination o root) else if is_begun_over o t root then None else Some (source o root)) (destination o root)) covered))
+    (sends_to part (source o root) (destination o root) at.given_up at.loaded (is_covered (loads t) root) (is_begun_over o t root)
+    (facts.loaded_begun root) (λ here. s.given_up (sym s.comes_from ∙ here)) (λ here. s.loaded (sym s.goes_to ∙ here)))

@@ -1,10 +1,10 @@
 -- Split, Claim, Complete and Status keep what holds.
 use Rattle.std.proofs.Common.{subst, ◌≡◌, ℕ, Bool, true, false, List, [], ◌∷◌, refl, sym, ap, ◌∙◌, arith, true≢false}
-use Rattle.std.specs.Prelude.{◌<◌, ◌==◌, ◌&&◌, if◌then◌else◌, length, nat_le, slice_get, slice_index_or, Some, Result, Ok, Err, IsTrue}
+use Rattle.std.specs.Prelude.{◌<◌, ◌==◌, ◌&&◌, if◌then◌else◌, length, is_none, slice_get, slice_index_or, Some, Result, Ok, Err, IsTrue}
 use Rattle.std.specs.Option.{option_map_or}
 use Rattle.std.proofs.lemmas.List.{length-set}
-use Rattle.std.proofs.lemmas.Bool.{ne_eqb, leb-false, not-false}
-use Rattle.std.proofs.lemmas.Option.{slice_get-get_or}
+use Rattle.std.proofs.lemmas.Bool.{ne_eqb, not-false}
+use Rattle.std.proofs.lemmas.Option.{slice_get-get_or, slice_get_within}
 use Rattle.std.proofs.Common.{eq-eqb}
 use Rattle.sq_tree.specs.declared.status.Status.{Status}
 use Rattle.sq_tree.specs.declared.status.Status.TheVariants as status
@@ -20,7 +20,9 @@ use Rattle.sq_tree.specs.Tree.{status_at, with_status}
 use Rattle.sq_tree.specs.Answer.{split_answer, claim_answer, complete_answer}
 use Rattle.sq_tree.proofs.Placed.{status_at-with_status}
 use Rattle.sq_ranges.specs.declared.recon.Range.{Range}
+use Rattle.sq_ranges.specs.ReconValue.{of_stage}
 use Rattle.sq_ranges.specs.OpeningValue.{OpeningValue}
+use Rattle.sq_model.proofs.Steps.{of_stage_is}
 use Rattle.sq_exec.specs.Runs.{is_whole}
 use Rattle.sq_exec.specs.CoreValue.{loaded_at}
 use Rattle.sq_model.specs.declared.step.Step.{Step}
@@ -28,7 +30,7 @@ use Rattle.sq_model.specs.declared.step.Step.TheVariants.{Split, Claim, Complete
 use Rattle.sq_model.specs.declared.answer.Answer.{Answer}
 use Rattle.sq_model.specs.declared.answer.Answer.TheVariants.{Done, Reads}
 use Rattle.sq_model.specs.declared.answer.Refusal.TheVariants.{NoSuchSegment, NoSuchNode, IsLeaf, NotFree, NotLive, NotPartial, WrongPull, NotLoaded}
-use Rattle.sq_model.specs.Trace.{Trace, loads}
+use Rattle.sq_model.specs.Trace.{Trace, stage, loads}
 use Rattle.sq_model.specs.Links.{has_last}
 use Rattle.sq_model.specs.Nodes.{status_of, set_if}
 use Rattle.sq_model.specs.Answers.{answer, in_segment, at_node, split_answered, claim_answered, complete_answered}
@@ -47,11 +49,11 @@ IsTrue-from e = e
 
 -- a step that is about a segment
 pub keeps_segment : (o : OpeningValue) (t : Trace) (w : WorldValue) (step : Step) (seg : ℕ) (result : StepResult) (answer : Answer) → PartsHold o t w
-    → (seg < length o.recon.segments → Keeps o t step result answer) → Keeps o t step (if_segment w seg result) (in_segment o seg answer)
+    → (seg < length o.recon.segments → Keeps o t step result answer) → Keeps o t step (if_segment w seg result) (in_segment o t seg answer)
 keeps_segment o t w step seg result answer h kept =
-    keeps_if o t step _ _ _ _ _ _ (ap (λ recon. nat_le (length recon.segments) seg) h.plans.recon)
+    keeps_if o t step _ _ _ _ _ _ (λ i. is_none (of_stage (h.plans.recon i) (h.leader.stage i) (slice_get (h.plans.recon i).segments seg)))
     (λ _. keeps_refused o t w step NoSuchSegment h)
-    (λ below. kept (leb-false (length o.recon.segments) seg below))
+    (λ runs. let at = of_stage_is o.recon (stage t) (slice_get o.recon.segments seg) runs in kept (slice_get_within o.recon.segments seg at.0 at.1))
 
 -- a step that is about a node
 pub keeps_node : (o : OpeningValue) (t : Trace) (w : WorldValue) (step : Step) (node : ℕ) (result : StepResult) (answer : Answer) → PartsHold o t w

@@ -1,19 +1,15 @@
 -- The families of a partition's store.
-use Rattle.std.proofs.Common.{◌≡◌, ℕ, Bool, true, false, List, [], ◌∷◌, refl, sym, ap, ◌∙◌, length, eq-eqb}
+use Rattle.std.proofs.Common.{◌≡◌, ℕ, Bool, true, false, refl, sym, ap, ◌∙◌, length, eq-eqb}
 use Rattle.std.specs.Prelude.{◌<◌, ◌==◌, ◌&&◌, if◌then◌else◌, not, Some, None, unwrap_or}
-use Rattle.std.specs.List.{list_any}
 use Rattle.std.proofs.lemmas.List.{nil_from_length}
 use Rattle.std.proofs.lemmas.Bool.{eqb-true, or_parts, not-false}
-use Rattle.sq_schema.specs.TxnValue.{TxnValue}
-use Rattle.sq_schema.specs.Effect.{RowList, RowTable, effect, replay_rows, table_after, replay, only}
-use Rattle.sq_schema.specs.Family.{FamilyValue, rows_of}
+use Rattle.sq_schema.specs.Family.{FamilyValue}
 use Rattle.sq_store.specs.StoreValue.{family_at, absent}
 use Rattle.sq_ranges.specs.OpeningValue.{OpeningValue}
 use Rattle.sq_exec.specs.CoreValue.{CoreValue}
-use Rattle.sq_model.specs.Trace.{Trace, committed}
-use Rattle.sq_model.specs.Tables.{opening_rows, now, stands, family_of}
+use Rattle.sq_model.specs.Trace.{Trace}
+use Rattle.sq_model.specs.Tables.{base_of, log_of, stands, family_of}
 use Rattle.sq_model.specs.Place.{At, place}
-use Rattle.sq_model.proofs.Lists.{nothing_kept}
 use Rattle.sq_transition.specs.WorldValue.{WorldValue, core_at}
 use Rattle.sq_transition.specs.Holds.{CoreHolds, share, is_at}
 use Rattle.sq_transition.proofs.Changed.{PartsHold}
@@ -26,25 +22,12 @@ share_none o t here root away = ap (λ b. if stands o t root && b then Some (fam
     none true f = refl
     none false f = refl
 
--- the rows of one root key on the whole table are those of its own transactions
-pub replayed_at : (table : RowTable) (txns : List TxnValue) (root : ℕ) → replay table txns root ≡ replay_rows (table root) (only root txns)
-replayed_at table [] root = refl
-replayed_at table (txn ∷ txns) root = replayed_at (table_after table txn) txns root ∙ here (txn.root == root) txn (table root) (only root txns)
-  where
-    here : (b : Bool) (x : TxnValue) (rows : RowList) (rest : List TxnValue) → replay_rows (if b then effect rows x else rows) rest ≡ replay_rows rows (if b then x ∷ rest else rest)
-    here true x rows rest = refl
-    here false x rows rest = refl
-
--- the rows of a root key now are those of its family
-pub rows_now : (o : OpeningValue) (t : Trace) (root : ℕ) → rows_of (family_of o t root) ≡ now o t root
-rows_now o t root = sym (replayed_at (opening_rows o) (committed t) root)
-
 -- a root key that doesn't stand has no rows and no log
-absent_is : (o : OpeningValue) (t : Trace) (root : ℕ) → stands o t root ≡ false → absent root ≡ family_of o t root
+pub absent_is : (o : OpeningValue) (t : Trace) (root : ℕ) → stands o t root ≡ false → absent root ≡ family_of o t root
 absent_is o t root e =
-    let both = or_parts (not (length (opening_rows o root) == 0)) (list_any (λ txn. txn.root == root) (committed t)) e in
-    let no_rows = nil_from_length (opening_rows o root) (eqb-true (length (opening_rows o root)) 0 (not-false (length (opening_rows o root) == 0) both.0)) in
-    let no_log = nothing_kept (λ (txn : TxnValue). txn.root == root) (committed t) both.1 in
+    let both = or_parts (not (length (base_of o t root) == 0)) (not (length (log_of o t root) == 0)) e in
+    let no_rows = nil_from_length (base_of o t root) (eqb-true (length (base_of o t root)) 0 (not-false (length (base_of o t root) == 0) both.0)) in
+    let no_log = nil_from_length (log_of o t root) (eqb-true (length (log_of o t root)) 0 (not-false (length (log_of o t root) == 0) both.1)) in
     λ i. record { root = root; base = sym no_rows i; log = sym no_log i }
 
 -- the family that a store has of a root key that is at its partition is the history's

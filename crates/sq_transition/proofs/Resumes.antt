@@ -22,7 +22,7 @@ use Rattle.sq_exec.specs.Serving.{is_stuck, is_ready, resume_refusal}
 use Rattle.sq_model.specs.declared.step.Step.TheVariants.{Resume}
 use Rattle.sq_model.specs.declared.answer.Answer.TheVariants.{Resumed, Refused}
 use Rattle.sq_model.specs.declared.answer.Refusal.TheVariants.{NoSuchPartition, NoneReady, LogFull}
-use Rattle.sq_model.specs.Trace.{Trace, commits, committed}
+use Rattle.sq_model.specs.Trace.{Trace, unfolded}
 use Rattle.sq_model.specs.Tables.{is_full}
 use Rattle.sq_model.specs.Place.{is_coming as comes_by, runner}
 use Rattle.sq_model.specs.Waiting.{waiting, is_ready as ready_by, without_ready, are_coming, first_ready}
@@ -62,20 +62,22 @@ module _ {X : Type 0} where
 -- the history after a waiting transaction ran
 resume_ran : (o : OpeningValue) (t : Trace) (part : ℕ) (txn : TxnValue) (given : Reply) → SaysRan o t ((Resume part, Resumed txn given) ∷ t) part txn given
 resume_ran o t part txn given = record {
-  committed = of given;
+  bases = λ root. refl;
+  commits = of given;
   waits = λ p apart. ap (λ b. if b then without_ready o t p (waiting o t p) else waiting o t p) (ne_eqb part p apart);
   place = λ key. refl;
   moves = same_moves o t;
   links = λ src dst. record { work = refl; notes = refl; loaded = refl; popped = refl; pushed = refl };
   phase = refl;
+  stage = refl;
   prepared = λ p. refl;
   reported = λ p. refl;
   statuses = λ seg node. refl;
 }
   where
-    of : (given : Reply) → commits (Resume part) (Resumed txn given) (committed t) ≡ committed_with given txn (committed t)
-    of (Committed answers) = refl
-    of (Aborted at cause) = refl
+    of : (given : Reply) (p : ℕ) → unfolded ((Resume part, Resumed txn given) ∷ t) p ≡ committed_with given txn (unfolded t p)
+    of (Committed answers) p = refl
+    of (Aborted at cause) p = refl
 
 -- what is answered where none is ready
 none_ready : (w : WorldValue) (coming : Bool) → refuse w (resume_refused (unwrap_or (if coming then Some resume.NoneReady else Some resume.LogFull) resume.NoneReady)) ≡ (if coming then refuse w NoneReady else refuse w LogFull)
@@ -113,7 +115,7 @@ module _ (o : OpeningValue) (t : Trace) (w : WorldValue) (part : ℕ) (facts : R
       elim (cases_Bool (comes_by o t part txn.root)) [
         | inl coming ↦
             ap (λ b. not b && not (is_stuck core.part (route core txn.root) core.store txn)) (coming_same txn.root ∙ coming)
-            ∙ sym (ap (λ b. not b && not (is_full t txn.root)) coming)
+            ∙ sym (ap (λ b. not b && not (is_full o t txn.root)) coming)
         | inr gone ↦
             let runs = runs_it txn has gone in
             let full = full_same o t w part txn h there (facts.placed txn.root part runs) in

@@ -1,7 +1,6 @@
 -- A transaction that runs at the partition that has its family keeps what holds.
-use Rattle.std.proofs.Common.{subst, ⊎_elim, ◌≡◌, ℕ, Bool, true, false, List, [], ◌∷◌, ◌++◌, refl, sym, ap, ◌∙◌, arith, length, append-nil, eq-eqb}
+use Rattle.std.proofs.Common.{subst, ⊎_elim, ◌≡◌, ℕ, Bool, true, false, List, [], ◌∷◌, ◌++◌, refl, sym, ap, ◌∙◌, arith, length, length-append, append-nil, eq-eqb}
 use Rattle.std.specs.Prelude.{◌<◌, ◌≢◌, ◌==◌, ◌&&◌, ◌||◌, if◌then◌else◌, not, nat_le, Option, Some, None, slice_get}
-use Rattle.std.specs.List.{list_any}
 use Rattle.std.specs.Cmp.{unsigned_tied, nat_cmp_total}
 use Rattle.std.specs.FinMap.{get, get-insert}
 use Rattle.std.proofs.Math.Bool.{or-true}
@@ -10,28 +9,29 @@ use Rattle.std.proofs.lemmas.List.Elements.{filter-append}
 use Rattle.sq_schema.specs.TxnValue.{TxnValue}
 use Rattle.sq_schema.specs.declared.txn.Reply.{Reply}
 use Rattle.sq_schema.specs.declared.txn.Reply.TheVariants.{Committed, Aborted}
-use Rattle.sq_schema.specs.Effect.{reply, only}
+use Rattle.sq_schema.specs.Effect.{RowList, RowTable, reply, only}
 use Rattle.sq_schema.specs.declared.family.TheConstants.{MAX_LOG}
-use Rattle.sq_schema.specs.Family.{FamilyValue, rows_of}
+use Rattle.sq_schema.specs.Family.{FamilyValue, rows_of, family_stands}
 use Rattle.sq_chunk.specs.ChunkValue.{ChunkValue, covers}
 use Rattle.sq_store.specs.StoreValue.{family_at, with_txn, store_reply, store_after}
 use Rattle.sq_ranges.specs.OpeningValue.{OpeningValue}
 use Rattle.sq_exec.specs.CoreValue.{CoreValue}
 use Rattle.sq_exec.specs.Serving.{is_log_full}
-use Rattle.sq_model.specs.Trace.{Trace, committed}
+use Rattle.sq_model.specs.Trace.{Trace, stage, unfolded}
 use Rattle.sq_model.specs.Leader.{phase, is_started_phase, is_prepared, is_reported}
 use Rattle.sq_model.specs.Nodes.{status_of}
-use Rattle.sq_model.specs.Tables.{opening_rows, now, is_full}
-use Rattle.sq_model.specs.Place.{At, place, runner, is_coming}
+use Rattle.sq_model.specs.Tables.{now, base_of, is_full}
+use Rattle.sq_model.specs.Place.{At, place, destination, runner, is_coming}
 use Rattle.sq_model.specs.Waiting.{waiting}
 use Rattle.sq_model.proofs.Waiters.{is_on}
+use Rattle.sq_model.proofs.Tables.{rows_now}
 use Rattle.sq_transition.specs.WorldValue.{WorldValue, LinkValue, core_at, with_core, link_value, under_way}
 use Rattle.sq_transition.specs.Holds.{LeaderHolds, SegmentsHold, LinkHolds, ChunkHolds, CoreHolds, share, share_at, is_at}
 use Rattle.sq_transition.proofs.Sets.{by_place}
 use Rattle.sq_transition.proofs.Changed.{PartsHold}
 use Rattle.sq_transition.proofs.Cores.{core_set, link_stays, SayTheSameMoves, set_kept, moves_kept, core_kept}
 use Rattle.sq_transition.proofs.Links.{SaySame, same_ends, links_same}
-use Rattle.sq_transition.proofs.Parts.{share_none, family_same, rows_now}
+use Rattle.sq_transition.proofs.Parts.{share_none, family_same}
 use Rattle.sq_transition.proofs.Locations.{RoutingFacts}
 
 -- no chunk under way covers a root key that is at a partition
@@ -50,31 +50,25 @@ abbrev pub committed_with : Reply → TxnValue → List TxnValue → List TxnVal
 committed_with (Committed answers) txn txns = txns ++ txn ∷ []
 committed_with (Aborted at cause) txn txns = txns
 
--- the share of a part of the table once these transactions committed
-abbrev share_by : OpeningValue → List TxnValue → (ℕ → Bool) → ℕ → Option FamilyValue
-share_by o txns here root =
-    if (not (length (opening_rows o root) == 0) || list_any (λ txn. txn.root == root) txns) && here root
-    then Some (record { root = root; base = opening_rows o root; log = only root txns }) else None
+-- the share of a part of the table where logs start from these rows, and these transactions committed since
+abbrev share_by : OpeningValue → RowTable → (ℕ → List TxnValue) → (ℕ → Bool) → ℕ → Option FamilyValue
+share_by o bases txns here root =
+    let family : FamilyValue = record { root = root; base = bases root; log = only root (txns (destination o root)) } in
+    if family_stands family && here root then Some family else None
 
 -- a history in which a transaction ran at a partition, with this reply, and which for the rest says the same, but of those that wait at the partition
 pub record SaysRan (o : OpeningValue) (t after : Trace) (part : ℕ) (txn : TxnValue) (given : Reply) : Type 0 where
-  pub committed : committed after ≡ committed_with given txn (committed t)
+  pub bases : (root : ℕ) → base_of o after root ≡ base_of o t root
+  pub commits : (p : ℕ) → unfolded after p ≡ committed_with given txn (unfolded t p)
   pub waits : (p : ℕ) → part ≢ p → waiting o after p ≡ waiting o t p
   pub place : (key : ℕ) → place o after key ≡ place o t key
   pub moves : (p : ℕ) → SayTheSameMoves o t after p
   pub links : (src dst : ℕ) → SaySame o t after src dst
   pub phase : phase after ≡ phase t
+  pub stage : stage after ≡ stage t
   pub prepared : (p : ℕ) → is_prepared after p ≡ is_prepared t p
   pub reported : (p : ℕ) → is_reported after p ≡ is_reported t p
   pub statuses : (seg node : ℕ) → status_of after seg node ≡ status_of t seg node
-
-named_here : (txn : TxnValue) (xs : List TxnValue) → list_any (λ x. x.root == txn.root) (xs ++ txn ∷ []) ≡ true
-named_here txn [] = ap (λ b. b || false) (eq-eqb txn.root txn.root refl)
-named_here txn (x ∷ xs) = ap (λ b. (x.root == txn.root) || b) (named_here txn xs) ∙ or-true (x.root == txn.root)
-
-named_other : (root : ℕ) (txn : TxnValue) (xs : List TxnValue) → txn.root ≢ root → list_any (λ x. x.root == root) (xs ++ txn ∷ []) ≡ list_any (λ x. x.root == root) xs
-named_other root txn [] apart = ap (λ b. b || false) (ne_eqb txn.root root apart)
-named_other root txn (x ∷ xs) apart = ap (λ b. (x.root == root) || b) (named_other root txn xs apart)
 
 only_here : (txn : TxnValue) (xs : List TxnValue) → only txn.root (xs ++ txn ∷ []) ≡ only txn.root xs ++ txn ∷ []
 only_here txn xs = filter-append (λ x. x.root == txn.root) xs (txn ∷ []) ∙ ap (λ b. only txn.root xs ++ (if b then txn ∷ [] else [])) (eq-eqb txn.root txn.root refl)
@@ -83,24 +77,32 @@ only_other : (root : ℕ) (txn : TxnValue) (xs : List TxnValue) → txn.root ≢
 only_other root txn xs apart = filter-append (λ x. x.root == root) xs (txn ∷ []) ∙ ap (λ b. only root xs ++ (if b then txn ∷ [] else [])) (ne_eqb txn.root root apart) ∙ append-nil (only root xs)
 
 -- each root key but the transaction's is as it was
-share_other : (o : OpeningValue) (txns : List TxnValue) (txn : TxnValue) (given : Reply) (here : ℕ → Bool) (root : ℕ) → txn.root ≢ root → share_by o (committed_with given txn txns) here root ≡ share_by o txns here root
-share_other o txns txn (Aborted at cause) here root apart = refl
-share_other o txns txn (Committed answers) here root apart =
-    λ i. if (not (length (opening_rows o root) == 0) || named_other root txn txns apart i) && here root
-    then Some (record { root = root; base = opening_rows o root; log = only_other root txn txns apart i }) else None
+share_other : (o : OpeningValue) (bases : RowTable) (txns : ℕ → List TxnValue) (txn : TxnValue) (given : Reply) (here : ℕ → Bool) (root : ℕ) → txn.root ≢ root
+    → share_by o bases (λ p. committed_with given txn (txns p)) here root ≡ share_by o bases txns here root
+share_other o bases txns txn (Aborted at cause) here root apart = refl
+share_other o bases txns txn (Committed answers) here root apart =
+    let same = only_other root txn (txns (destination o root)) apart in
+    let family : ℕ → List TxnValue → FamilyValue = λ key log. record { root = key; base = bases key; log = log } in
+    λ i. if family_stands (family root (same i)) && here root then Some (family root (same i)) else None
+
+-- a log with a transaction at its end isn't empty
+some_log : (base : RowList) (log : List TxnValue) (txn : TxnValue) (root : ℕ) → family_stands (record { root = root; base = base; log = log ++ txn ∷ [] }) ≡ true
+some_log base log txn root =
+    ap (λ b. not (length base == 0) || not b) (ne_eqb (length (log ++ txn ∷ [])) 0 (λ e. absurd (omega (arith, length-append log (txn ∷ []), e)))) ∙ or-true (not (length base == 0))
 
 -- the transaction's is the family that it had, with the transaction at the end of the log
-share_here : (o : OpeningValue) (txns : List TxnValue) (txn : TxnValue) (here : ℕ → Bool) → here txn.root ≡ true
-    → share_by o (txns ++ txn ∷ []) here txn.root ≡ Some (record { root = txn.root; base = opening_rows o txn.root; log = only txn.root txns ++ txn ∷ [] })
-share_here o txns txn here at_home =
-    let stood : (not (length (opening_rows o txn.root) == 0) || list_any (λ x. x.root == txn.root) (txns ++ txn ∷ [])) ≡ true =
-    ap (λ b. not (length (opening_rows o txn.root) == 0) || b) (named_here txn txns) ∙ or-true (not (length (opening_rows o txn.root) == 0)) in
-    λ i. if stood i && at_home i then Some (record { root = txn.root; base = opening_rows o txn.root; log = only_here txn txns i }) else None
+share_here : (o : OpeningValue) (bases : RowTable) (txns : ℕ → List TxnValue) (txn : TxnValue) (here : ℕ → Bool) → here txn.root ≡ true
+    → share_by o bases (λ p. txns p ++ txn ∷ []) here txn.root ≡ Some (record { root = txn.root; base = bases txn.root; log = only txn.root (txns (destination o txn.root)) ++ txn ∷ [] })
+share_here o bases txns txn here at_home =
+    let log = only_here txn (txns (destination o txn.root)) in
+    let family : List TxnValue → FamilyValue = λ log. record { root = txn.root; base = bases txn.root; log = log } in
+    (λ i. if family_stands (family (log i)) && at_home i then Some (family (log i)) else None)
+    ∙ ap (λ b. if b && true then Some (family (only txn.root (txns (destination o txn.root)) ++ txn ∷ [])) else None) (some_log (bases txn.root) (only txn.root (txns (destination o txn.root))) txn txn.root)
 
 module _ (o : OpeningValue) (t after : Trace) (part : ℕ) (txn : TxnValue) (given : Reply) (says : SaysRan o t after part txn given) where
   -- what the history says of a share
-  share_after : (here : ℕ → Bool) (root : ℕ) → share o after here root ≡ share_by o (committed_with given txn (committed t)) here root
-  share_after here root = λ i. share_by o (says.committed i) here root
+  share_after : (here : ℕ → Bool) (root : ℕ) → share o after here root ≡ share_by o (base_of o t) (λ p. committed_with given txn (unfolded t p)) here root
+  share_after here root = λ i. share_by o (λ r. says.bases r i) (λ p. says.commits p i) here root
 
   -- a part of the table that the transaction's root key isn't in stays
   share_apart : (here : ℕ → Bool) (root : ℕ) → here txn.root ≡ false → share o after here root ≡ share o t here root
@@ -108,7 +110,7 @@ module _ (o : OpeningValue) (t after : Trace) (part : ℕ) (txn : TxnValue) (giv
       (λ (same : root ≡ txn.root).
       let off : here root ≡ false = ap here same ∙ away in
       share_none o after here root off ∙ sym (share_none o t here root off))
-      (λ (far : root ≢ txn.root). share_after here root ∙ share_other o (committed t) txn given here root (λ e. far (sym e)))
+      (λ (far : root ≢ txn.root). share_after here root ∙ share_other o (base_of o t) (unfolded t) txn given here root (λ e. far (sym e)))
       (cases_eq root txn.root)
 
   -- the share of a partition is by the places that the keys had
@@ -120,6 +122,7 @@ module _ (o : OpeningValue) (t after : Trace) (part : ℕ) (txn : TxnValue) (giv
   others_keep p core placed apart h =
       core_kept o t after p core h (record {
         started = ap is_started_phase says.phase;
+        stage = says.stage;
         shares = λ root. share_at_after p root ∙ share_apart (λ key. is_at p (place o t key)) root (ap (is_at p) placed ∙ ne_eqb part p apart);
         waits = says.waits p apart;
         moves = says.moves p;
@@ -128,7 +131,9 @@ module _ (o : OpeningValue) (t after : Trace) (part : ℕ) (txn : TxnValue) (giv
   leader_keeps : (w : WorldValue) → LeaderHolds o t w → LeaderHolds o after w
   leader_keeps w h = record {
     parts = h.parts;
+    moves = h.moves;
     phase = h.phase ∙ sym says.phase;
+    stage = h.stage ∙ sym says.stage;
     prepared = λ p below. h.prepared p below ∙ sym (says.prepared p);
     reported = λ p below. h.reported p below ∙ sym (says.reported p);
   }
@@ -142,7 +147,7 @@ module _ (o : OpeningValue) (t after : Trace) (part : ℕ) (txn : TxnValue) (giv
 
 -- the store after a transaction that ran at its partition
 ran_store : (o : OpeningValue) (t : Trace) (w : WorldValue) (part : ℕ) (txn : TxnValue) (given : Reply) (root : ℕ) → PartsHold o t w → part < o.old.parts → place o t txn.root ≡ At part
-    → get (store_after (core_at w part).store txn given) root ≡ share_by o (committed_with given txn (committed t)) (λ key. is_at part (place o t key)) root
+    → get (store_after (core_at w part).store txn given) root ≡ share_by o (base_of o t) (λ p. committed_with given txn (unfolded t p)) (λ key. is_at part (place o t key)) root
 ran_store o t w part txn (Aborted at cause) root h there placed = (h.partitions.each part there).store root
 ran_store o t w part txn (Committed answers) root h there placed =
     let store = (core_at w part).store in
@@ -150,12 +155,12 @@ ran_store o t w part txn (Committed answers) root h there placed =
     let here : ℕ → Bool = λ key. is_at part (place o t key) in
     get-insert nat_cmp_total store txn.root new root
     ∙ ap (λ b. if b then Some new else get store root) (unsigned_tied root txn.root)
-    ∙ by_place root txn.root (λ b. (if b then Some new else get store root) ≡ share_by o (committed t ++ txn ∷ []) here root)
+    ∙ by_place root txn.root (λ b. (if b then Some new else get store root) ≡ share_by o (base_of o t) (λ p. unfolded t p ++ txn ∷ []) here root)
     (λ same.
-    subst (λ r. Some new ≡ share_by o (committed t ++ txn ∷ []) here r) (sym same)
+    subst (λ r. Some new ≡ share_by o (base_of o t) (λ p. unfolded t p ++ txn ∷ []) here r) (sym same)
     (ap (λ f. Some (with_txn f txn)) (family_same o t w part txn.root h there placed)
-    ∙ sym (share_here o (committed t) txn here (ap (is_at part) placed ∙ eq-eqb part part refl))))
-    (λ apart. (h.partitions.each part there).store root ∙ sym (share_other o (committed t) txn (Committed answers) here root (λ e. apart (sym e))))
+    ∙ sym (share_here o (base_of o t) (unfolded t) txn here (ap (is_at part) placed ∙ eq-eqb part part refl))))
+    (λ apart. (h.partitions.each part there).store root ∙ sym (share_other o (base_of o t) (unfolded t) txn (Committed answers) here root (λ e. apart (sym e))))
 
 -- a partition after a transaction ran at it, and these wait
 abbrev pub ran_core : CoreValue → TxnValue → Reply → List TxnValue → CoreValue
@@ -175,7 +180,7 @@ ran_holds o t after w part txn given waits says h there placed away waits_are =
       leader = leader_keeps o t after part txn given says w h.leader;
       partitions = core_set o t after w part core h.partitions there
           (record {
-            set = set_kept o t after part core was.set (ap is_started_phase says.phase);
+            set = set_kept o t after part core was.set (ap is_started_phase says.phase) says.stage;
             store = λ root.
                 ran_store o t w part txn given root h there placed
                 ∙ sym (share_at_after o t after part txn given says part root ∙ share_after o t after part txn given says (λ key. is_at part (place o t key)) root);
@@ -197,5 +202,5 @@ reply_same o t w part txn h there placed = ap (λ f. reply (rows_of f) txn) (fam
 
 -- the log of its family is as full as the history says
 pub full_same : (o : OpeningValue) (t : Trace) (w : WorldValue) (part : ℕ) (txn : TxnValue) → PartsHold o t w → part < o.old.parts → place o t txn.root ≡ At part
-    → is_log_full (core_at w part).store txn ≡ is_full t txn.root
+    → is_log_full (core_at w part).store txn ≡ is_full o t txn.root
 full_same o t w part txn h there placed = ap (λ (f : FamilyValue). nat_le MAX_LOG (length f.log)) (family_same o t w part txn.root h there placed)

@@ -21,11 +21,13 @@ use Rattle.sq_model.proofs.Notes.{prefix, tiles_loads}
 use Rattle.sq_model.proofs.Keys.{IsIn, found_in_segment, moves_found, under, above_within}
 use Rattle.sq_model.proofs.Apart.{covers_extent}
 use Rattle.sq_model.proofs.Routing.{begun_over_none, begun_over_is, loaded_none}
-use Rattle.sq_model.proofs.Places.{loaded_cut, cut_begun, runner_place, runner_away}
-use Rattle.sq_model.proofs.Waiters.{waits_for, waits-runner}
+use Rattle.sq_model.proofs.Places.{loaded_cut, cut_begun, runner_place, runner_away, placed_away}
+use Rattle.sq_model.proofs.Waiters.{waits_for, waits-runner, went-loaded}
+use Rattle.sq_model.proofs.Ended.{ended_place}
 use Rattle.sq_transition.specs.Holds.{is_leaf_begun, is_key_loaded}
 use Rattle.sq_transition.proofs.Locations.{InSegment, InNone, RoutingFacts}
 use Rattle.sq_transition.proofs.Runs.{RunningFacts}
+use Rattle.sq_transition.proofs.Folds.{FoldFacts}
 use Rattle.sq_transition.proofs.Loads.{way_and_loads}
 use Rattle.sq_transition.proofs.LinkFacts.{on_its_way}
 
@@ -96,6 +98,7 @@ module _ (o : OpeningValue) (is : IsOpening o) (t : Trace) (legal : IsLegal o t)
     in_segment = in_segment;
     in_none = in_none;
     range = λ root seg found. let at = found_in_segment o is root seg found in (at.0, at.1.there);
+    past = λ root moving went. went-loaded o is t legal root moving went;
     loaded_begun = λ root loaded. cut_begun o is t legal root (loaded_cut o is t legal root loaded);
   }
 
@@ -105,5 +108,12 @@ module _ (o : OpeningValue) (is : IsOpening o) (t : Trace) (legal : IsLegal o t)
     placed = runner_place o is t legal;
     away = λ root part runs l h i chunk at.
         runner_away o is t legal root part runs l.src l.dst (reverse (drop (load_count t l.src l.dst) l.out.notes)) (way_and_loads o t l h (prefix o t legal l.src l.dst)) chunk.note (on_its_way o t l h i chunk at);
-    resumes = λ part root on gone. waits-runner o t part root (waits_for o t legal part root on) gone;
+    resumes = λ part root on gone. waits-runner o is t legal part root (waits_for o t legal part root on) gone;
+  }
+
+  pub fold_facts : FoldFacts o t
+  fold_facts = record {
+    placed = λ ended root. ended_place o is t legal ended root;
+    away = λ root part placed l h i chunk at.
+        placed_away o is t legal root part placed l.src l.dst (reverse (drop (load_count t l.src l.dst) l.out.notes)) (way_and_loads o t l h (prefix o t legal l.src l.dst)) chunk.note (on_its_way o t l h i chunk at);
   }

@@ -19,7 +19,7 @@ use Rattle.sq_exec.specs.Serving.{is_log_full, is_stuck, must_wait, submit_refus
 use Rattle.sq_model.specs.declared.step.Step.TheVariants.{Submit}
 use Rattle.sq_model.specs.declared.answer.Answer.TheVariants.{Moved, Replied}
 use Rattle.sq_model.specs.declared.answer.Refusal.TheVariants.{NoSuchPartition, WaitFull, LogFull}
-use Rattle.sq_model.specs.Trace.{Trace, commits, committed}
+use Rattle.sq_model.specs.Trace.{Trace, unfolded}
 use Rattle.sq_model.specs.Place.{destination, runner}
 use Rattle.sq_model.specs.Waiting.{has_to_wait}
 use Rattle.sq_model.specs.Answers.{answer, wait_answer, run_answer, routed}
@@ -104,20 +104,22 @@ taken_cases w part txn =
 -- the history after a transaction ran that was submitted
 submit_ran : (o : OpeningValue) (t : Trace) (part : ℕ) (txn : TxnValue) (given : Reply) → SaysRan o t ((Submit part txn, Replied txn.id given) ∷ t) part txn given
 submit_ran o t part txn given = record {
-  committed = of given;
+  bases = λ root. refl;
+  commits = of given;
   waits = λ p apart. refl;
   place = λ key. refl;
   moves = same_moves o t;
   links = λ src dst. record { work = refl; notes = refl; loaded = refl; popped = refl; pushed = refl };
   phase = refl;
+  stage = refl;
   prepared = λ p. refl;
   reported = λ p. refl;
   statuses = λ seg node. refl;
 }
   where
-    of : (given : Reply) → commits (Submit part txn) (Replied txn.id given) (committed t) ≡ committed_with given txn (committed t)
-    of (Committed answers) = refl
-    of (Aborted at cause) = refl
+    of : (given : Reply) (p : ℕ) → unfolded ((Submit part txn, Replied txn.id given) ∷ t) p ≡ committed_with given txn (unfolded t p)
+    of (Committed answers) p = refl
+    of (Aborted at cause) p = refl
 
 run_keeps : (o : OpeningValue) (t : Trace) (w : WorldValue) (part : ℕ) (txn : TxnValue) → RunningFacts o t → PartsHold o t w → part < o.old.parts → runner o t txn.root ≡ Some part
     → Keeps o t (Submit part txn) (ran_result w part txn) (run_answer o t txn)

@@ -45,6 +45,7 @@ waiting_holds o t w part txn seg leaf h there =
           (λ p apart _ c.
           core_kept o t after p (core_at w p) c (record {
             started = refl;
+            stage = refl;
             shares = λ root. refl;
             waits = ap (λ b. if b then waiting o t p ++ txn ∷ [] else waiting o t p) (ne_eqb part p apart);
             moves = record { begun = λ seg leaf from below. refl; loaded = λ seg root into. refl; whole = λ seg node into. refl };

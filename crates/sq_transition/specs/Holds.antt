@@ -12,7 +12,7 @@ use Rattle.sq_store.specs.StoreValue.{family_in}
 use Rattle.sq_ranges.specs.declared.recon.Range.{Range}
 use Rattle.sq_ranges.specs.ReconValue.{is_link}
 use Rattle.sq_ranges.specs.OpeningValue.{OpeningValue}
-use Rattle.sq_model.specs.Trace.{Trace, notes, loads, link, push_count, pop_count, load_count}
+use Rattle.sq_model.specs.Trace.{Trace, stage, notes, loads, link, push_count, pop_count, load_count}
 use Rattle.sq_exec.specs.GivenUp.{is_given_up}
 use Rattle.sq_exec.specs.Runs.{is_loaded, is_whole}
 use Rattle.sq_exec.specs.Work.{WorkValue}
@@ -23,8 +23,8 @@ use Rattle.sq_model.specs.Tables.{stands, family_of}
 use Rattle.sq_model.specs.Place.{Place, At, Under_way, place, extent_of}
 use Rattle.sq_model.specs.Links.{reached, has_last, open_items}
 use Rattle.sq_model.specs.Waiting.{waiting}
-use Rattle.sq_transition.specs.WorldValue.{WorldValue, LinkValue, core_at, status_in, link_index, queue_at, link_value, option_list, under_way}
-use Rattle.sq_transition.specs.Leading.{phase_of, parts_of, has_prepared, has_reported}
+use Rattle.sq_transition.specs.WorldValue.{WorldValue, LinkValue, running_stage, core_at, status_in, link_index, queue_at, link_value, option_list, under_way}
+use Rattle.sq_transition.specs.Leading.{phase_of, parts_of, moves_of, has_prepared, has_reported}
 
 abbrev pub is_at : ℕ → Place → Bool
 is_at part (At other) = other == part
@@ -80,12 +80,14 @@ PlansHold o w =
       config : w.config ≡ o.config;
     }
 
--- the leader leads the partitions of the opening; its phase is the history's, and so is who prepared and who reported
+-- the leader leads the partitions of the opening and moves what moves; its phase is the history's, and so are its stage and who prepared and who reported
 abbrev pub LeaderHolds : OpeningValue → Trace → WorldValue → Type 0
 LeaderHolds o t w =
     record {
       parts : parts_of w.leader ≡ o.old.parts;
+      moves : moves_of w.leader ≡ o.recon;
       phase : phase_of w.leader ≡ phase t;
+      stage : running_stage w ≡ stage t;
       prepared : (part : ℕ) → part < o.old.parts → has_prepared w.leader part ≡ is_prepared t part;
       reported : (part : ℕ) → part < o.old.parts → has_reported w.leader part ≡ is_reported t part;
     }
@@ -115,6 +117,7 @@ IsSetFor o t part core =
       recon : core.recon ≡ o.recon;
       limit : core.limit ≡ o.config.limit;
       started : core.started ≡ is_started t;
+      stage : core.stage ≡ stage t;
       outs : length core.outs ≡ o.old.parts;
       inboxes : length core.inboxes ≡ o.old.parts;
       given_up : length core.given_up ≡ length o.recon.segments;

@@ -1,24 +1,29 @@
 -- What Cut, Push, Pop and Load do to a world.
-use Rattle.std.specs.Prelude.{ℕ, nat_le, if◌then◌else◌, List, [], ◌∷◌, ◌++◌, length, Option, Some, None, is_some}
+use Rattle.std.specs.Prelude.{ℕ, ◌==◌, not, nat_le, if◌then◌else◌, List, [], ◌∷◌, ◌++◌, length, Option, Some, None, is_some}
 use Rattle.sq_chunk.specs.declared.chunk.Note.{Note}
 use Rattle.sq_chunk.specs.ChunkValue.{ChunkValue}
 use Rattle.sq_store.specs.StoreValue.{families_between}
 use Rattle.sq_exec.specs.Work.{next_work}
 use Rattle.sq_exec.specs.OutLink.{cut_here}
 use Rattle.sq_exec.specs.CoreValue.{CoreValue, out_at, with_out, link_to, inbox_at, with_inbox}
+use Rattle.sq_ranges.specs.ReconValue.{stage_on}
 use Rattle.sq_exec.specs.Moving.{loaded_core}
 use Rattle.sq_model.specs.declared.answer.Answer.TheVariants.{Done, WasCut, WasLoaded}
 use Rattle.sq_model.specs.declared.answer.Refusal.TheVariants.{NoSuchLink, NothingToCut, OutboxFull, OutboxEmpty, LinkFull, LinkEmpty, InboxFull, InboxEmpty}
-use Rattle.sq_transition.specs.WorldValue.{WorldValue, core_at, with_core, link_index, queue_at, with_queue}
+use Rattle.sq_transition.specs.WorldValue.{WorldValue, core_at, with_core, link_index, queue_at, with_queue, running_stage}
 use Rattle.sq_transition.specs.LeaderResults.{StepResult, refuse, if_moving}
 
--- where there is such a link
+-- where there is such a link, which the running stage has
 abbrev pub result_at_link : WorldValue → (ℕ → StepResult) → Option ℕ → StepResult
 result_at_link w result None = refuse w NoSuchLink
 result_at_link w result (Some i) = result i
 
 abbrev pub if_link : WorldValue → ℕ → ℕ → (ℕ → StepResult) → StepResult
-if_link w src dst result = if_moving w (result_at_link w result (link_index w src dst))
+if_link w src dst result =
+    if_moving w (
+    if not (stage_on w.recon src dst == running_stage w) then refuse w NoSuchLink
+    else result_at_link w result (link_index w src dst)
+    )
 
 -- a chunk of the work at this place, cut for another partition: its note, and the partition that it leaves
 abbrev pub cut_from : CoreValue → ℕ → ℕ → Note × CoreValue

@@ -1,13 +1,13 @@
 -- What a step does to a world.
 use Rattle.std.specs.Prelude.{◌≡◌, ◌⊎◌, IsTrue}
 use Rattle.sq_model.specs.declared.step.Step.{Step}
-use Rattle.sq_model.specs.declared.step.Step.TheVariants.{Prepare, Start, Submit, Resume, Split, Claim, Begin, Cut, Push, Pop, Load, Complete, Report, Finish, Status}
+use Rattle.sq_model.specs.declared.step.Step.TheVariants.{Prepare, Start, Submit, Resume, Split, Claim, Begin, Cut, Push, Pop, Load, Complete, Report, Next, Finish, Status, Fold}
 use Rattle.sq_model.specs.declared.answer.Answer.{Answer}
 use Rattle.sq_model.specs.declared.answer.Answer.TheVariants.{Refused}
 use Rattle.sq_model.specs.declared.answer.Refusal.TheVariants.{Memory}
 use Rattle.sq_model.specs.Legal.{takes_memory}
 use Rattle.sq_transition.specs.WorldValue.{WorldValue}
-use Rattle.sq_transition.specs.LeaderResults.{StepResult, prepare_result, start_result, report_result, finish_result}
+use Rattle.sq_transition.specs.LeaderResults.{StepResult, prepare_result, start_result, report_result, next_result, finish_result, fold_result}
 use Rattle.sq_transition.specs.TreeResults.{split_result, claim_result, begin_result, complete_result, status_result}
 use Rattle.sq_transition.specs.LinkResults.{cut_result, push_result, pop_result, load_result}
 use Rattle.sq_transition.specs.SubmitResults.{submit_result, resume_result}
@@ -27,7 +27,9 @@ step_result w (Pop src dst) = pop_result w src dst
 step_result w (Load src dst) = load_result w src dst
 step_result w (Complete seg node pull) = complete_result w seg node pull
 step_result w (Report part) = report_result w part
+step_result w Next = next_result w
 step_result w Finish = finish_result w
+step_result w (Fold part) = fold_result w part
 step_result w (Status seg node) = status_result w seg node
 
 -- a step has this result; or it takes memory, which runs out, and then nothing changes

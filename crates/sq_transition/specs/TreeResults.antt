@@ -1,5 +1,5 @@
 -- What Split, Claim, Begin, Complete and Status do to a world.
-use Rattle.std.specs.Prelude.{ℕ, Bool, not, nat_le, if◌then◌else◌, length}
+use Rattle.std.specs.Prelude.{ℕ, Bool, not, is_none, if◌then◌else◌}
 use Rattle.sq_tree.specs.declared.status.Status.{Status}
 use Rattle.sq_tree.specs.declared.status.Status.TheVariants as status
 use Rattle.sq_tree.specs.Node.{is_node}
@@ -13,11 +13,11 @@ use Rattle.sq_model.specs.declared.answer.Answer.{Answer}
 use Rattle.sq_model.specs.declared.answer.Answer.TheVariants.{Done, Reads}
 use Rattle.sq_model.specs.declared.answer.Refusal.TheVariants.{NoSuchSegment, NoSuchNode}
 use Rattle.sq_model.specs.Answers.{split_answered, claim_answered, begin_answered, complete_answered}
-use Rattle.sq_transition.specs.WorldValue.{WorldValue, core_at, with_core, tree_at, with_tree, status_in, source_of, destination_of}
+use Rattle.sq_transition.specs.WorldValue.{WorldValue, core_at, with_core, tree_at, with_tree, status_in, running_range, source_of, destination_of}
 use Rattle.sq_transition.specs.LeaderResults.{StepResult, refuse, if_moving}
 
 abbrev pub if_segment : WorldValue → ℕ → StepResult → StepResult
-if_segment w seg result = if nat_le (length w.recon.segments) seg then refuse w NoSuchSegment else result
+if_segment w seg result = if is_none (running_range w seg) then refuse w NoSuchSegment else result
 
 abbrev pub if_node : WorldValue → ℕ → StepResult → StepResult
 if_node w node result = if not (is_node node) then refuse w NoSuchNode else result

@@ -2,16 +2,18 @@
 use Rattle.std.specs.Prelude.{ℕ, false, ◌==◌, ◌&&◌, List, [], slice_get, slice_set, slice_index_or, position, Option, Some, None, ◌∷◌, ◌++◌}
 use Rattle.std.specs.Option.{option_map_or}
 use Rattle.std.specs.FinMap.{empty}
+use Rattle.sq_plan.specs.declared.version.Version.TheVariants.{First}
 use Rattle.sq_plan.specs.PlanValue.{PlanValue}
 use Rattle.sq_tree.specs.declared.status.Status.{Status}
 use Rattle.sq_tree.specs.Tree.{status_at}
 use Rattle.sq_ranges.specs.declared.opening.Config.{Config}
 use Rattle.sq_ranges.specs.declared.recon.Range.{Range}
-use Rattle.sq_ranges.specs.ReconValue.{ReconValue}
+use Rattle.sq_ranges.specs.ReconValue.{ReconValue, of_stage}
 use Rattle.sq_leader.specs.declared.leader.Leader.{Leader}
 use Rattle.sq_chunk.specs.ChunkValue.{ChunkValue}
 use Rattle.sq_exec.specs.OutLink.{OutLinkValue}
 use Rattle.sq_exec.specs.CoreValue.{CoreValue, out_at, inbox_at}
+use Rattle.sq_transition.specs.Leading.{stage_of}
 
 -- the queue of a link: the chunks that went onto it and didn't come off, the oldest first
 pub record QueueValue : Type 0 where
@@ -34,10 +36,11 @@ pub record WorldValue : Type 0 where
 abbrev pub no_core : CoreValue
 no_core = record {
   part = 0;
-  plan = record { parts = 0; ranges = [] };
-  recon = record { width = 0; ranges = []; segments = [] };
+  plan = record { version = First; parts = 0; ranges = [] };
+  recon = record { width = 0; ranges = []; segments = []; auto = false };
   limit = 0;
   started = false;
+  stage = 0;
   store = empty;
   waiting = [];
   outs = [];
@@ -81,6 +84,14 @@ with_queue w i chunks = record w { queues = slice_set w.queues i (record (queue_
 -- the range of a segment
 abbrev pub range_of : WorldValue → ℕ → Option Range
 range_of w seg = slice_get w.recon.segments seg
+
+-- the stage that runs
+abbrev pub running_stage : WorldValue → ℕ
+running_stage w = stage_of w.leader
+
+-- the range of a segment of the running stage
+abbrev pub running_range : WorldValue → ℕ → Option Range
+running_range w seg = of_stage w.recon (running_stage w) (range_of w seg)
 
 -- the partition that a segment leaves, and the one that it comes to
 abbrev pub source_of : WorldValue → ℕ → ℕ

@@ -83,3 +83,7 @@ all-numbered_from f n (x ∷ xs) = ap (λ b. f x.txn x.is_due && b) (all-numbere
 pub txns-due : (passes : Arrival → Bool) (xs : List Arrival) → txns_of (map (due_if passes) xs) ≡ txns_of xs
 txns-due passes [] = refl
 txns-due passes (x ∷ xs) = ap (λ rest. x.txn ∷ rest) (txns-due passes xs)
+
+pub numbers-due : (passes : Arrival → Bool) (xs : List Arrival) → numbers_of (map (due_if passes) xs) ≡ numbers_of xs
+numbers-due passes [] = refl
+numbers-due passes (x ∷ xs) = ap (λ rest. x.number ∷ rest) (numbers-due passes xs)

@@ -1,6 +1,6 @@
 -- Waiting transactions as a map with its indexes, and the list that they are.
-use Rattle.std.proofs.Common.{⊎_elim, ◌≡◌, ◌≢◌, ℕ, ◌+◌, ◌≤◌, Bool, true, false, ◌||◌, List, [], ◌∷◌, ◌++◌, map, length, refl, sym, ap, subst, ◌∙◌, arith}
-use Rattle.std.specs.Prelude.{cond, ◌==◌, ◌&&◌, nat_le, find, is_some, Option, Some, None, option_map}
+use Rattle.std.proofs.Common.{⊎_elim, ◌≡◌, ◌≢◌, ℕ, ◌+◌, ◌<◌, ◌≤◌, Bool, true, false, ◌||◌, List, [], ◌∷◌, ◌++◌, map, length, refl, sym, ap, subst, ◌∙◌, arith}
+use Rattle.std.specs.Prelude.{cond, ◌==◌, ◌&&◌, nat_le, nat_lt, find, is_some, IsSome, Option, Some, None, option_map}
 use Rattle.std.specs.Option.{option_map_or}
 use Rattle.std.specs.Ordering.{nat_cmp}
 use Rattle.std.specs.Cmp.{unsigned_tied}
@@ -10,13 +10,13 @@ use Rattle.std.specs.BTreeMap as tree
 use Rattle.std.specs.BTreeMap.{BTreeMap, is_at, insert_entry}
 use Rattle.std.specs.BTreeSet as set
 use Rattle.std.specs.BTreeSet.{BTreeSet}
-use Rattle.std.proofs.lemmas.Bool.{cases_eq, cases_Bool, and_parts, and_from, eq-eqb, eqb-true, ne_eqb, leb-true, le-leb, false_from_ne_true, true≢false}
+use Rattle.std.proofs.lemmas.Bool.{cases_eq, cases_Bool, and_parts, and_from, eq-eqb, eqb-true, ne_eqb, leb-true, le-leb, lt-ltb, le-ltb, false_from_ne_true, true≢false}
 use Rattle.std.proofs.lemmas.List.{map-append, length-map}
 use Rattle.std.proofs.lemmas.Map.Keys.{sorted_tail, IsStrictlyIncreasing-from_sorted}
 use Rattle.sq_schema.specs.TxnValue.{TxnValue}
 use Rattle.sq_waiting.specs.Index.{has_entry, is_between, FirstOf, SetsEntry, HasSameEntries, AddsBetween, HasAllBetween, IsNumberedBetween}
 use Rattle.sq_waiting.specs.Waiting.{Arrival, WaitingValue, numbers_of, is_on, is_numbered, is_due_from, txn_at, without, numbered_from, with_last, due_if, with_due, IsMoreDue}
-use Rattle.sq_waiting.specs.Indexed.{arrival_of, arrivals_of, IsIndexed}
+use Rattle.sq_waiting.specs.Indexed.{is_due_in, arrival_of, arrivals_of, IsIndexed}
 use Rattle.sq_waiting.proofs.Entries.{value_at, at_same, at_other, at_head, at_later, absent_later, find_least, find_none, insert_last}
 use Rattle.sq_waiting.proofs.Arrivals.{find-map, numbered_from-append}
 
@@ -24,15 +24,15 @@ abbrev pub Entries : Type 0
 Entries = List (ℕ × TxnValue)
 
 -- the numbers are the keys
-numbers_are : (es : Entries) (due : BTreeSet ℕ) → numbers_of (arrivals_of es due) ≡ keys_of es
+numbers_are : (es : Entries) (due : ℕ → Bool) → numbers_of (arrivals_of es due) ≡ keys_of es
 numbers_are [] due = refl
 numbers_are (e ∷ es) due = ap (λ ks. e.0 ∷ ks) (numbers_are es due)
 
-pub numbers_rise : (es : Entries) (due : BTreeSet ℕ) → IsStrictlySortedBy nat_cmp (keys_of es) → IsStrictlyIncreasing (numbers_of (arrivals_of es due))
+pub numbers_rise : (es : Entries) (due : ℕ → Bool) → IsStrictlySortedBy nat_cmp (keys_of es) → IsStrictlyIncreasing (numbers_of (arrivals_of es due))
 numbers_rise es due sorted = subst IsStrictlyIncreasing (sym (numbers_are es due)) (IsStrictlyIncreasing-from_sorted (keys_of es) sorted)
 
 -- the transaction of a number is the value at it
-pub txn_at_key : (es : Entries) (due : BTreeSet ℕ) (number : ℕ) → txn_at (arrivals_of es due) number ≡ value_at es number
+pub txn_at_key : (es : Entries) (due : ℕ → Bool) (number : ℕ) → txn_at (arrivals_of es due) number ≡ value_at es number
 txn_at_key [] due number = refl
 txn_at_key (e ∷ es) due number =
     elim (number == e.0) as (λ b. option_map (λ (a : Arrival). a.txn) (cond b (Some (arrival_of due e)) (find (is_numbered number) (arrivals_of es due))) ≡ cond b (Some e.1) (value_at es number)) [
@@ -42,31 +42,31 @@ txn_at_key (e ∷ es) due number =
     ∙ ap (λ b. cond b (Some e.1) (value_at es number)) (sym (unsigned_tied number e.0))
 
 -- one more of those that are numbered anew
-pub numbered_more : (es : Entries) (due : BTreeSet ℕ) (e : ℕ × TxnValue) (n : ℕ) → n ≡ length es
-    → with_last (record { arrivals = numbered_from 0 (arrivals_of es due); next = n }) e.1 (set.contains nat_cmp due e.0) ≡ record { arrivals = numbered_from 0 (arrivals_of (es ++ e ∷ []) due); next = n + 1 }
+pub numbered_more : (es : Entries) (due : ℕ → Bool) (e : ℕ × TxnValue) (n : ℕ) → n ≡ length es
+    → with_last (record { arrivals = numbered_from 0 (arrivals_of es due); next = n }) e.1 (due e.0) ≡ record { arrivals = numbered_from 0 (arrivals_of (es ++ e ∷ []) due); next = n + 1 }
 numbered_more es due e n same =
     let place : n ≡ 0 + length (arrivals_of es due) = omega (arith, same, length-map es (arrival_of due)) in
     ap (λ arrivals. record { arrivals = arrivals; next = n + 1 })
-    (ap (λ k. numbered_from 0 (arrivals_of es due) ++ record { number = k; txn = e.1; is_due = set.contains nat_cmp due e.0 } ∷ []) place
+    (ap (λ k. numbered_from 0 (arrivals_of es due) ++ record { number = k; txn = e.1; is_due = due e.0 } ∷ []) place
     ∙ sym (numbered_from-append 0 (arrivals_of es due) (arrival_of due e)) ∙ ap (numbered_from 0) (sym (map-append (arrival_of due) es (e ∷ []))))
 
 -- sets that agree on the keys make them due alike
-pub same_due : (es : Entries) (due now : BTreeSet ℕ) → IsStrictlySortedBy nat_cmp (keys_of es) → ((q : ℕ) (txn : TxnValue) → value_at es q ≡ Some txn → set.contains nat_cmp now q ≡ set.contains nat_cmp due q) → arrivals_of es now ≡ arrivals_of es due
+pub same_due : (es : Entries) (due now : ℕ → Bool) → IsStrictlySortedBy nat_cmp (keys_of es) → ((q : ℕ) (txn : TxnValue) → value_at es q ≡ Some txn → now q ≡ due q) → arrivals_of es now ≡ arrivals_of es due
 same_due [] due now sorted same = refl
 same_due (e ∷ es) due now sorted same =
     λ k. record { number = e.0; txn = e.1; is_due = same e.0 e.1 (at_head e es e.0 refl) k } ∷ same_due es due now (sorted_tail nat_cmp e.0 (keys_of es) sorted) (λ q txn at. same q txn (at_later e es q txn sorted at)) k
 
 -- those that pass are due too
-pub more_due : (es : Entries) (due now : BTreeSet ℕ) (passes : Arrival → Bool) → IsStrictlySortedBy nat_cmp (keys_of es)
-    → ((q : ℕ) (txn : TxnValue) → value_at es q ≡ Some txn → set.contains nat_cmp now q ≡ (set.contains nat_cmp due q || passes (arrival_of due (q, txn))))
+pub more_due : (es : Entries) (due now : ℕ → Bool) (passes : Arrival → Bool) → IsStrictlySortedBy nat_cmp (keys_of es)
+    → ((q : ℕ) (txn : TxnValue) → value_at es q ≡ Some txn → now q ≡ (due q || passes (arrival_of due (q, txn))))
     → arrivals_of es now ≡ map (due_if passes) (arrivals_of es due)
 more_due [] due now passes sorted more = refl
 more_due (e ∷ es) due now passes sorted more =
     λ k. record { number = e.0; txn = e.1; is_due = more e.0 e.1 (at_head e es e.0 refl) k } ∷ more_due es due now passes (sorted_tail nat_cmp e.0 (keys_of es) sorted) (λ q txn at. more q txn (at_later e es q txn sorted at)) k
 
 -- a number is taken out of the map and of the set
-pub without_key : (es : Entries) (due now : BTreeSet ℕ) (number : ℕ) → IsStrictlySortedBy nat_cmp (keys_of es)
-    → ((q : ℕ) → q ≢ number → set.contains nat_cmp now q ≡ set.contains nat_cmp due q) → arrivals_of (remove_entry (is_at (nat_cmp number)) es) now ≡ without number (arrivals_of es due)
+pub without_key : (es : Entries) (due now : ℕ → Bool) (number : ℕ) → IsStrictlySortedBy nat_cmp (keys_of es)
+    → ((q : ℕ) → q ≢ number → now q ≡ due q) → arrivals_of (remove_entry (is_at (nat_cmp number)) es) now ≡ without number (arrivals_of es due)
 without_key [] due now number sorted same = refl
 without_key (e ∷ es) due now number sorted same =
     ⊎_elim
@@ -83,9 +83,12 @@ without_key (e ∷ es) due now number sorted same =
     apart : (q : ℕ) (txn : TxnValue) → value_at es q ≡ Some txn → number ≡ e.0 → q ≢ number
     apart q txn at here = λ (back : q ≡ number). let both : None ≡ Some txn = sym (absent_later e es q sorted (omega (arith, back, here))) ∙ at in cc
 
-module _ (txns : BTreeMap ℕ TxnValue) (by_root : BTreeSet (ℕ × ℕ)) (due : BTreeSet ℕ) (next : ℕ) (is : IsIndexed txns by_root due next) where
+module _ (txns : BTreeMap ℕ TxnValue) (by_root : BTreeSet (ℕ × ℕ)) (due : BTreeSet ℕ) (due_below next : ℕ) (is : IsIndexed txns by_root due due_below next) where
+  abbrev is_marked : ℕ → Bool
+  is_marked number = is_due_in due_below due number
+
   abbrev seen : List Arrival
-  seen = arrivals_of txns.entries due
+  seen = arrivals_of txns.entries is_marked
 
   -- a transaction stands in the index
   pub indexed : (number : ℕ) (txn : TxnValue) → tree.get nat_cmp txns number ≡ Some txn → (root : ℕ) → has_entry by_root root number ≡ (txn.root == root)
@@ -104,41 +107,79 @@ module _ (txns : BTreeMap ℕ TxnValue) (by_root : BTreeSet (ℕ × ℕ)) (due :
   first_arrival root None none =
       let fails : find (λ e. (e.1).root == root) txns.entries ≡ None =
       find_none (λ (e : ℕ × TxnValue). (e.1).root == root) txns.entries is.ordered (λ q txn at. sym (indexed q txn at root) ∙ none q) in
-      sym (ap (option_map (λ (a : Arrival). a.number)) (find-map (arrival_of due) (is_on root) txns.entries ∙ ap (option_map (arrival_of due)) fails))
+      sym (ap (option_map (λ (a : Arrival). a.number)) (find-map (arrival_of is_marked) (is_on root) txns.entries ∙ ap (option_map (arrival_of is_marked)) fails))
   first_arrival root (Some number) first =
       let known = stands_for root number first.stands in
       let found : find (λ e. (e.1).root == root) txns.entries ≡ Some (number, known.0) =
       find_least (λ (e : ℕ × TxnValue). (e.1).root == root) txns.entries number known.0 is.ordered known.1 (eq-eqb (known.0).root root known.2)
       (λ q txn at on. first.least q (indexed q txn at root ∙ on)) in
-      sym (ap (option_map (λ (a : Arrival). a.number)) (find-map (arrival_of due) (is_on root) txns.entries ∙ ap (option_map (arrival_of due)) found))
+      sym (ap (option_map (λ (a : Arrival). a.number)) (find-map (arrival_of is_marked) (is_on root) txns.entries ∙ ap (option_map (arrival_of is_marked)) found))
 
   module _ (from : ℕ) where
     abbrev due_from : ℕ × TxnValue → Bool
-    due_from e = nat_le from e.0 && set.contains nat_cmp due e.0
+    due_from e = nat_le from e.0 && is_marked e.0
 
     -- none from a number on is due
-    pub none_due : ((q : ℕ) → from ≤ q → set.contains nat_cmp due q ≡ false) → find (is_due_from from) seen ≡ None
-    none_due none =
-        find-map (arrival_of due) (is_due_from from) txns.entries
-        ∙ ap (option_map (arrival_of due)) (find_none due_from txns.entries is.ordered (λ q txn at. false_from_ne_true (due_from (q, txn)) (λ passes.
-        let parts = and_parts (nat_le from q) (set.contains nat_cmp due q) passes in
-        true≢false (sym parts.1 ∙ none q (leb-true from q parts.0)))))
+    none_marked : ((q : ℕ) (txn : TxnValue) → tree.get nat_cmp txns q ≡ Some txn → from ≤ q → is_marked q ≡ false) → find (is_due_from from) seen ≡ None
+    none_marked none =
+        find-map (arrival_of is_marked) (is_due_from from) txns.entries
+        ∙ ap (option_map (arrival_of is_marked)) (find_none due_from txns.entries is.ordered (λ q txn at. false_from_ne_true (due_from (q, txn)) (λ passes.
+        let parts = and_parts (nat_le from q) (is_marked q) passes in
+        true≢false (sym parts.1 ∙ none q txn at (leb-true from q parts.0)))))
 
     -- the least due number from a number on is that of the first
-    pub first_due : (number : ℕ) (txn : TxnValue) → from ≤ number → set.contains nat_cmp due number ≡ true → ((q : ℕ) → from ≤ q → set.contains nat_cmp due q ≡ true → number ≤ q)
-        → tree.get nat_cmp txns number ≡ Some txn → find (is_due_from from) seen ≡ Some (arrival_of due (number, txn))
-    first_due number txn upto here least at =
-        find-map (arrival_of due) (is_due_from from) txns.entries
-        ∙ ap (option_map (arrival_of due)) (find_least due_from txns.entries number txn is.ordered at (and_from (nat_le from number) (set.contains nat_cmp due number) (le-leb from number upto) here) (λ q other found passes.
-        let parts = and_parts (nat_le from q) (set.contains nat_cmp due q) passes in
-        least q (leb-true from q parts.0) parts.1))
+    first_marked : (number : ℕ) (txn : TxnValue) → from ≤ number → is_marked number ≡ true → ((q : ℕ) (other : TxnValue) → tree.get nat_cmp txns q ≡ Some other → from ≤ q → is_marked q ≡ true → number ≤ q)
+        → tree.get nat_cmp txns number ≡ Some txn → find (is_due_from from) seen ≡ Some (arrival_of is_marked (number, txn))
+    first_marked number txn upto here least at =
+        find-map (arrival_of is_marked) (is_due_from from) txns.entries
+        ∙ ap (option_map (arrival_of is_marked)) (find_least due_from txns.entries number txn is.ordered at (and_from (nat_le from number) (is_marked number) (le-leb from number upto) here) (λ q other found passes.
+        let parts = and_parts (nat_le from q) (is_marked q) passes in
+        least q other found (leb-true from q parts.0) parts.1))
+
+    -- none waits
+    pub none_waits : ((q : ℕ) → from ≤ q → tree.get nat_cmp txns q ≡ None) → find (is_due_from from) seen ≡ None
+    none_waits none = none_marked (λ q txn at upto. let both : None ≡ Some txn = sym (none q upto) ∙ at in absurd (cc))
+
+    -- the first that waits is below the bound
+    pub first_below : (number : ℕ) (txn : TxnValue) → from ≤ number → number < due_below → ((q : ℕ) → from ≤ q → IsSome (tree.get nat_cmp txns q) → number ≤ q)
+        → tree.get nat_cmp txns number ≡ Some txn → find (is_due_from from) seen ≡ Some (arrival_of is_marked (number, txn))
+    first_below number txn upto below least at =
+        first_marked number txn upto (ap (λ b. b || set.contains nat_cmp due number) (lt-ltb number due_below below)) (λ q other found past passes. least q past (ap is_some found)) at
+
+    -- none that waits is below the bound
+    module _ (past : (q : ℕ) → from ≤ q → IsSome (tree.get nat_cmp txns q) → due_below ≤ q) where
+      only_due : (q : ℕ) (txn : TxnValue) → tree.get nat_cmp txns q ≡ Some txn → from ≤ q → is_marked q ≡ set.contains nat_cmp due q
+      only_due q txn at upto = ap (λ b. b || set.contains nat_cmp due q) (le-ltb q due_below (past q upto (ap is_some at)))
+
+      pub none_due : ((q : ℕ) → from ≤ q → set.contains nat_cmp due q ≡ false) → find (is_due_from from) seen ≡ None
+      none_due none = none_marked (λ q txn at upto. only_due q txn at upto ∙ none q upto)
+
+      pub first_due : (number : ℕ) (txn : TxnValue) → from ≤ number → set.contains nat_cmp due number ≡ true → ((q : ℕ) → from ≤ q → set.contains nat_cmp due q ≡ true → number ≤ q)
+          → tree.get nat_cmp txns number ≡ Some txn → find (is_due_from from) seen ≡ Some (arrival_of is_marked (number, txn))
+      first_due number txn upto here least at =
+          first_marked number txn upto (only_due number txn at upto ∙ here) (λ q other found past passes. least q past (sym (only_due q other found past) ∙ passes)) at
+
+  -- all that wait are due
+  pub all_indexed : IsIndexed txns by_root due next next
+  all_indexed = record { ordered = is.ordered; left = is.left; bound = omega arith; below = is.below; by_root = is.by_root; due = is.due }
+
+  pub all_due : record { arrivals = arrivals_of txns.entries (is_due_in next due); next = next } ≡ with_due (λ a. true) (record { arrivals = seen; next = next })
+  all_due =
+      ap (λ arrivals. record { arrivals = arrivals; next = next })
+      (more_due txns.entries is_marked (is_due_in next due) (λ a. true) is.ordered
+      (λ q txn at. ap (λ b. b || set.contains nat_cmp due q) (lt-ltb q next (is.below q (ap is_some at))) ∙ sym (or_true (is_marked q))))
+    where
+      or_true : (b : Bool) → (b || true) ≡ true
+      or_true true = refl
+      or_true false = refl
 
   -- all of some root keys are due
   module _ (lo hi : ℕ) (now : BTreeSet ℕ) (adds : AddsBetween by_root lo hi due now) where
-    pub adds_indexed : IsIndexed txns by_root now next
+    pub adds_indexed : IsIndexed txns by_root now due_below next
     adds_indexed = record {
       ordered = is.ordered;
       left = is.left;
+      bound = is.bound;
       below = is.below;
       by_root = is.by_root;
       due = λ number here.
@@ -147,17 +188,45 @@ module _ (txns : BTreeMap ℕ TxnValue) (by_root : BTreeSet (ℕ × ℕ)) (due :
           (adds.only number here);
     }
 
-    both_kept : (number : ℕ) → set.contains nat_cmp now number ≡ (set.contains nat_cmp due number || set.contains nat_cmp now number)
-    both_kept number =
-        ⊎_elim
-        (λ (old : set.contains nat_cmp due number ≡ true). adds.kept number old ∙ sym (ap (λ b. b || set.contains nat_cmp now number) old))
-        (λ (new : set.contains nat_cmp due number ≡ false). sym (ap (λ b. b || set.contains nat_cmp now number) new))
-        (cases_Bool (set.contains nat_cmp due number))
+    -- the bound stays, and so does what it makes due
+    marks_more : (number : ℕ) (passes : Bool) → set.contains nat_cmp now number ≡ (set.contains nat_cmp due number || passes) → is_due_in due_below now number ≡ (is_marked number || passes)
+    marks_more number passes more = by_bound (nat_lt number due_below)
+      where
+        by_bound : (b : Bool) → (b || set.contains nat_cmp now number) ≡ ((b || set.contains nat_cmp due number) || passes)
+        by_bound true = refl
+        by_bound false = more
 
-    pub adds_more : IsMoreDue (record { arrivals = seen; next = next }) (record { arrivals = arrivals_of txns.entries now; next = next })
+    -- what is new is of these root keys
+    new_between : (number : ℕ) (txn : TxnValue) → tree.get nat_cmp txns number ≡ Some txn → set.contains nat_cmp due number ≡ false → set.contains nat_cmp now number ≡ true → is_between lo hi txn.root ≡ true
+    new_between number txn at new here =
+        ⊎_elim (λ (old : set.contains nat_cmp due number ≡ true). absurd (true≢false (sym old ∙ new)))
+        (λ (inside : IsNumberedBetween by_root lo hi number).
+        let own : txn.root ≡ inside.root = eqb-true txn.root inside.root (sym (indexed number txn at inside.root) ∙ inside.stands) in
+        ap (is_between lo hi) own ∙ inside.between)
+        (adds.only number here)
+
+    some_new : (number : ℕ) (txn : TxnValue) → tree.get nat_cmp txns number ≡ Some txn → set.contains nat_cmp now number ≡ (set.contains nat_cmp due number || (is_between lo hi txn.root && set.contains nat_cmp now number))
+    some_new number txn at =
+        ⊎_elim
+        (λ (old : set.contains nat_cmp due number ≡ true). adds.kept number old ∙ sym (ap (λ b. b || (is_between lo hi txn.root && set.contains nat_cmp now number)) old))
+        (λ (new : set.contains nat_cmp due number ≡ false).
+        ⊎_elim
+        (λ (here : set.contains nat_cmp now number ≡ true). here ∙ sym ((λ k. new k || (new_between number txn at new here k && here k))))
+        (λ (off : set.contains nat_cmp now number ≡ false). off ∙ sym ((λ k. new k || (is_between lo hi txn.root && off k)) ∙ neither (is_between lo hi txn.root)))
+        (cases_Bool (set.contains nat_cmp now number)))
+        (cases_Bool (set.contains nat_cmp due number))
+      where
+        neither : (b : Bool) → (b && false) ≡ false
+        neither true = refl
+        neither false = refl
+
+    pub adds_more : IsMoreDue (λ a. is_between lo hi (a.txn).root) (record { arrivals = seen; next = next }) (record { arrivals = arrivals_of txns.entries (is_due_in due_below now); next = next })
     adds_more = record {
-      passes = λ a. set.contains nat_cmp now a.number;
-      more = ap (λ arrivals. record { arrivals = arrivals; next = next }) (more_due txns.entries due now (λ a. set.contains nat_cmp now a.number) is.ordered (λ q txn at. both_kept q));
+      some = λ a. set.contains nat_cmp now a.number;
+      more =
+          ap (λ arrivals. record { arrivals = arrivals; next = next })
+          (more_due txns.entries is_marked (is_due_in due_below now) (λ a. is_between lo hi (a.txn).root && set.contains nat_cmp now a.number) is.ordered
+          (λ q txn at. marks_more q (is_between lo hi txn.root && set.contains nat_cmp now q) (some_new q txn at)));
     }
 
     between_due : HasAllBetween by_root lo hi now → (number : ℕ) (txn : TxnValue) → tree.get nat_cmp txns number ≡ Some txn → set.contains nat_cmp now number ≡ (set.contains nat_cmp due number || is_between lo hi txn.root)
@@ -169,25 +238,21 @@ module _ (txns : BTreeMap ℕ TxnValue) (by_root : BTreeSet (ℕ × ℕ)) (due :
         (λ (between : is_between lo hi txn.root ≡ true).
         all txn.root number (indexed number txn at txn.root ∙ eq-eqb txn.root txn.root refl) between ∙ sym ((λ k. new k || between k)))
         (λ (outside : is_between lo hi txn.root ≡ false).
-        false_from_ne_true (set.contains nat_cmp now number) (λ here.
-        ⊎_elim (λ (old : set.contains nat_cmp due number ≡ true). true≢false (sym old ∙ new))
-        (λ (inside : IsNumberedBetween by_root lo hi number).
-        let own : txn.root ≡ inside.root = eqb-true txn.root inside.root (sym (indexed number txn at inside.root) ∙ inside.stands) in
-        true≢false (sym inside.between ∙ ap (is_between lo hi) (sym own) ∙ outside))
-        (adds.only number here))
+        false_from_ne_true (set.contains nat_cmp now number) (λ here. true≢false (sym (new_between number txn at new here) ∙ outside))
         ∙ sym ((λ k. new k || outside k)))
         (cases_Bool (is_between lo hi txn.root)))
         (cases_Bool (set.contains nat_cmp due number))
 
-    pub adds_all : HasAllBetween by_root lo hi now → record { arrivals = arrivals_of txns.entries now; next = next } ≡ with_due (λ a. is_between lo hi a.txn.root) (record { arrivals = seen; next = next })
-    adds_all all = ap (λ arrivals. record { arrivals = arrivals; next = next }) (more_due txns.entries due now (λ a. is_between lo hi (a.txn).root) is.ordered (λ q txn at. between_due all q txn at))
+    pub adds_all : HasAllBetween by_root lo hi now → record { arrivals = arrivals_of txns.entries (is_due_in due_below now); next = next } ≡ with_due (λ a. is_between lo hi a.txn.root) (record { arrivals = seen; next = next })
+    adds_all all = ap (λ arrivals. record { arrivals = arrivals; next = next }) (more_due txns.entries is_marked (is_due_in due_below now) (λ a. is_between lo hi (a.txn).root) is.ordered (λ q txn at. marks_more q (is_between lo hi txn.root) (between_due all q txn at)))
 
   -- sets that have what these have
   module _ (again : BTreeSet (ℕ × ℕ)) (now : BTreeSet ℕ) (has : HasSameEntries by_root due again now) (same : BTreeMap ℕ TxnValue) (es : same.entries ≡ txns.entries) where
-    pub index_same : IsIndexed same again now next
+    pub index_same : IsIndexed same again now due_below next
     index_same = record {
       ordered = subst (λ es. IsStrictlySortedBy nat_cmp (keys_of es)) (sym es) is.ordered;
       left = is.left;
+      bound = is.bound;
       below = λ number there. is.below number (ap (λ es. is_some (value_at es number)) (sym es) ∙ there);
       by_root = λ root number. has.entries root number ∙ is.by_root root number ∙ ap (λ es. option_map_or (λ (t : TxnValue). t.root == root) (value_at es number) false) (sym es);
       due = λ number here. ap (λ es. is_some (value_at es number)) es ∙ is.due number (sym (has.due number) ∙ here);
@@ -243,14 +308,15 @@ module _ (txns : BTreeMap ℕ TxnValue) (by_root : BTreeSet (ℕ × ℕ)) (due :
     last_put = record { txns_are = txns_are; sets = sets }
 
     pub arrivals_last : more.entries ≡ insert_entry nat_cmp txns.entries next txn
-        → record { arrivals = arrivals_of more.entries now; next = next + 1 } ≡ with_last (record { arrivals = seen; next = next }) txn is_due
+        → record { arrivals = arrivals_of more.entries (is_due_in due_below now); next = next + 1 } ≡ with_last (record { arrivals = seen; next = next }) txn is_due
     arrivals_last es =
-        let here : set.contains nat_cmp now next ≡ is_due = due_here last_put next refl in
-        let kept : arrivals_of txns.entries now ≡ seen =
-        same_due txns.entries due now is.ordered (λ q other at. due_other last_put q (λ same. absurd (omega (arith, same, is.below q (ap is_some at))))) in
+        let here : is_due_in due_below now next ≡ is_due = ap (λ b. b || set.contains nat_cmp now next) (le-ltb next due_below is.bound) ∙ due_here last_put next refl in
+        let kept : arrivals_of txns.entries (is_due_in due_below now) ≡ seen =
+        same_due txns.entries is_marked (is_due_in due_below now) is.ordered
+        (λ q other at. ap (λ b. nat_lt q due_below || b) (due_other last_put q (λ same. absurd (omega (arith, same, is.below q (ap is_some at)))))) in
         let entries : more.entries ≡ txns.entries ++ (next, txn) ∷ [] = es ∙ insert_last txns.entries next txn is.ordered is.below in
         ap (λ arrivals. record { arrivals = arrivals; next = next + 1 })
-        (ap (λ es. arrivals_of es now) entries ∙ map-append (arrival_of now) txns.entries ((next, txn) ∷ [])
+        (ap (λ es. arrivals_of es (is_due_in due_below now)) entries ∙ map-append (arrival_of (is_due_in due_below now)) txns.entries ((next, txn) ∷ [])
         ∙ (λ k. kept k ++ record { number = next; txn = txn; is_due = here k } ∷ []))
 
   -- one is taken out
@@ -267,10 +333,11 @@ module _ (txns : BTreeMap ℕ TxnValue) (by_root : BTreeSet (ℕ × ℕ)) (due :
         nothing true = refl
         nothing false = refl
 
-    pub index_gone : tree.IsOrdered nat_cmp left → IsIndexed left indexes now next
+    pub index_gone : tree.IsOrdered nat_cmp left → IsIndexed left indexes now due_below next
     index_gone ordered = record {
       ordered = ordered;
       left = is.left;
+      bound = is.bound;
       below = λ q there.
           ⊎_elim (λ (same : number ≡ q). absurd (true≢false (sym there ∙ ap is_some (value_here gone_put q same)))) (λ (apart : number ≢ q). is.below q (sym (ap is_some (value_other gone_put q apart)) ∙ there)) (cases_eq number q);
       by_root = put_indexed gone_put gone_indexed;
@@ -279,7 +346,8 @@ module _ (txns : BTreeMap ℕ TxnValue) (by_root : BTreeSet (ℕ × ℕ)) (due :
           (λ (apart : number ≢ q). ap is_some (value_other gone_put q apart) ∙ is.due q (sym (due_other gone_put q apart) ∙ here)) (cases_eq number q);
     }
 
-    pub arrivals_gone : left.entries ≡ remove_entry (is_at (nat_cmp number)) txns.entries → ◌≡◌ {A = WaitingValue} (record { arrivals = arrivals_of left.entries now; next = next }) (record { arrivals = without number seen; next = next })
+    pub arrivals_gone : left.entries ≡ remove_entry (is_at (nat_cmp number)) txns.entries → ◌≡◌ {A = WaitingValue} (record { arrivals = arrivals_of left.entries (is_due_in due_below now); next = next }) (record { arrivals = without number seen; next = next })
     arrivals_gone es =
         ap (λ arrivals. record { arrivals = arrivals; next = next })
-        (ap (λ es. arrivals_of es now) es ∙ without_key txns.entries due now number is.ordered (λ q apart. due_other gone_put q (λ back. apart (sym back))))
+        (ap (λ es. arrivals_of es (is_due_in due_below now)) es
+        ∙ without_key txns.entries is_marked (is_due_in due_below now) number is.ordered (λ q apart. ap (λ b. nat_lt q due_below || b) (due_other gone_put q (λ back. apart (sym back)))))

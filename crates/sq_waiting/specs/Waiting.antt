@@ -65,7 +65,7 @@ due_if passes a = record a { is_due = a.is_due || passes a }
 abbrev pub with_due : (Arrival → Bool) → WaitingValue → WaitingValue
 with_due passes w = record w { arrivals = map (due_if passes) w.arrivals }
 
--- some more are due, and all else is as it was
-pub record IsMoreDue (old new : WaitingValue) : Type 0 where
-  pub passes : Arrival → Bool
-  pub more : new ≡ with_due passes old
+-- some of those that pass are due too, and all else is as it was
+pub record IsMoreDue (passes : Arrival → Bool) (old new : WaitingValue) : Type 0 where
+  pub some : Arrival → Bool
+  pub more : new ≡ with_due (λ a. passes a && some a) old

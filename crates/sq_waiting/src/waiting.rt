@@ -1,5 +1,5 @@
 // Waiting transactions by arrival number, with an index by root key and the numbers of those that are due.
-ghost use Rattle.std.specs.Prelude.{◌≡◌, ◌==◌, ◌<◌, ℕ, [], Some, length, drop, find, slice_get, option_map, IsSome, IfSome, OnOk, OnErr, IfOk};
+ghost use Rattle.std.specs.Prelude.{◌≡◌, ◌==◌, ◌<◌, ℕ, true, [], Some, length, drop, find, slice_get, option_map, IsSome, IfSome, OnOk, OnErr, IfOk};
 ghost use Rattle.std.specs.List.{list_any};
 ghost use Rattle.std.specs.List.Sorted.{IsStrictlyIncreasing};
 ghost use Rattle.sq_schema.specs.TxnValue.{TxnValue};
@@ -13,25 +13,27 @@ use std::collections::{BTreeMap, BTreeSet};
 use std::marker::Model;
 
 /// Transactions that wait, in the order in which they came. Each has an arrival number, and the numbers rise in that
-/// order. Those that are due are looked at when one is taken up. To a contract it is a `WaitingValue`.
+/// order. Those that are due are looked at when one is taken up: all with numbers below a bound, and others one by one.
+/// To a contract it is a `WaitingValue`.
 #[derive(Debug, Drop)]
 pub struct Waiting {
     alloc: Global,
     txns: BTreeMap<u64, Txn>,
     by_root: BTreeSet<(u64, u64)>,
+    due_below: u64,
     due: BTreeSet<u64>,
     next: u64,
 }
 
 impl Model for Waiting {
     ghost use Rattle.sq_waiting.specs.Waiting.{WaitingValue};
-    ghost use Rattle.sq_waiting.specs.Indexed.{arrivals_of, IsIndexed};
+    ghost use Rattle.sq_waiting.specs.Indexed.{is_due_in, arrivals_of, IsIndexed};
 
     ghost Value = { WaitingValue };
 
-    ghost view = { λ w. record { arrivals = arrivals_of w.txns.entries w.due; next = w.next } };
+    ghost view = { λ w. record { arrivals = arrivals_of w.txns.entries (is_due_in w.due_below w.due); next = w.next } };
 
-    ghost invariant = { λ w. IsIndexed w.txns w.by_root w.due w.next };
+    ghost invariant = { λ w. IsIndexed w.txns w.by_root w.due w.due_below w.next };
 }
 
 impl Waiting {
@@ -43,6 +45,7 @@ impl Waiting {
             alloc,
             txns: BTreeMap::new(alloc),
             by_root: BTreeSet::new(alloc),
+            due_below: 0,
             due: BTreeSet::new(alloc),
             next,
         }
@@ -83,6 +86,10 @@ impl Waiting {
         ensures below { IfSome result (λ found. found.0 < no_number) }
         ensures rises { IsStrictlyIncreasing (numbers_of self.now.arrivals) }
     {
+        let (first, txn) = self.txns.range(from..).next()?;
+        if *first < self.due_below {
+            return Some((*first, txn));
+        }
         let number = self.due.range(from..).next()?;
         match self.txns.get(number) {
             Some(txn) => Some((*number, txn)),
@@ -134,9 +141,16 @@ impl Waiting {
     /// All that wait for root keys from `lo` on and below `hi` are due too. Where there is no memory some of them are.
     pub fn make_due(&mut self, lo: u64, hi: u64) -> Result<(), AllocError>
         ensures ok { OnOk result (self.new ≡ with_due (λ a. is_between lo hi a.txn.root) self.old) }
-        ensures err { OnErr result (IsMoreDue self.old self.new) }
+        ensures err { OnErr result (IsMoreDue (λ a. is_between lo hi a.txn.root) self.old self.new) }
     {
         add_between(&self.by_root, lo, hi, &mut self.due)
+    }
+
+    /// All that wait are due. It takes no memory.
+    pub fn make_all_due(&mut self)
+        ensures { self.new ≡ with_due (λ _. true) self.old }
+    {
+        self.due_below = self.next;
     }
 
     // One more waits, after all others, with the next arrival number.
@@ -167,7 +181,8 @@ impl Waiting {
     {
         let mut anew = Waiting::new(self.alloc, 0);
         for (number, txn) in &self.txns {
-            anew.add(txn.clone()?, self.due.contains(number))?;
+            let is_due = *number < self.due_below || self.due.contains(number);
+            anew.add(txn.clone()?, is_due)?;
         }
         Ok(anew)
     }

@@ -1,6 +1,6 @@
 -- A script, line by line.
-use Rattle.std.proofs.Common.{◌≡◌, ℕ, List, [], ◌∷◌, ◌++◌, Option, inl, refl, sym, ap, ◌∙◌, subst, append_assoc}
-use Rattle.std.specs.Prelude.{◌+◌, Some, Result, Ok, Err, IfOk, OnOk}
+use Rattle.std.proofs.Common.{◌≡◌, ℕ, List, [], ◌∷◌, ◌++◌, Option, inl, inr, refl, sym, ap, ◌∙◌, subst, append_assoc}
+use Rattle.std.specs.Prelude.{◌+◌, true, Some, Result, Ok, Err, IfOk, OnOk}
 use Rattle.std.specs.Io.KnownBytes.{Appends, Keeps}
 use Rattle.sq_ranges.specs.OpeningValue.{OpeningValue}
 use Rattle.sq_model.specs.declared.step.Step.{Step}
@@ -15,9 +15,11 @@ use Rattle.sq_text.specs.declared.located.InputLine.TheVariants.{Later}
 use Rattle.sq_text.specs.declared.located.LocatedFault.{LocatedFault}
 use Rattle.sq_text.specs.Located.{located}
 use Rattle.sq_text.specs.declared.input_fault.InputFault.TheVariants.{TooLong, ReadFailed}
+use Rattle.sq_text.specs.declared.fault.LineFault.{LineFault}
 use Rattle.sq_text.specs.declared.fault.LineFault.TheVariants as faults
-use Rattle.sq_text.specs.Steps.{step_of}
-use Rattle.sq_text.specs.Faults.{line_fault_number}
+use Rattle.sq_text.specs.Steps.{step_of, begins_txn}
+use Rattle.sq_text.specs.Words.{words_of}
+use Rattle.sq_text.specs.Faults.{line_fault_number, IsStep}
 use Rattle.sq_text.specs.Texts.{answer_line, refused_line}
 use Rattle.sq_lines.specs.declared.buffer.TheConstants.{MAX_UNENDED}
 use Rattle.sq_lines.specs.declared.reader.TheConstants.{MAX_LINES}
@@ -28,7 +30,7 @@ use Rattle.sq_text.proofs.Appending.{both}
 use Rattle.sq_world.specs.declared.ending.Ending.{Ending}
 use Rattle.sq_world.specs.declared.ending.Ending.TheVariants.{Done}
 use Rattle.sq_state.specs.Dump.{dump}
-use Rattle.sq_world.specs.Run.{Writes, IsFault}
+use Rattle.sq_world.specs.Run.{Writes, IsFault, AnswersLine}
 use Rattle.sq_world.specs.Script.{LeadsTo, IsAnswered, IsWritten}
 use Rattle.sq_state.proofs.Dumps.{nothing}
 use Rattle.sq_world.proofs.Kept.{kept}
@@ -128,6 +130,17 @@ at_long r tables begin was fault first mid now start w before long is over =
     let endless = is_endless was long in
     at_fault r tables begin was (Endless (next_line_number was.lines) endless.bytes ∷ endless.others) fault first mid now start w before endless.can_come (λ o t out ending wrote. subst (λ f. IsFault f out ending) is wrote) over
 
+-- the answer to a line that spells no step
+no_step : (o : OpeningValue) (t : Trace) (tables : ℕ) (line : List ℕ) (fault : LineFault) (number : ℕ) → o.tables ≡ tables → Err fault ≡ step_of tables line → number ≡ line_fault_number fault → AnswersLine o t line t (refused_line number)
+no_step o t tables line fault number same read says = inr (inl (record { fault = fault; spelled = ap (λ k. step_of k line) same ∙ sym read; stays = refl; says = ap refused_line says }))
+
+refused : (o : OpeningValue) (t : Trace) (tables : ℕ) (line : List ℕ) (fault : LineFault) (number : ℕ) → o.tables ≡ tables → IsStep {A = Step} (Err fault) (step_of tables line)
+    → (◌≡◌ {A = Result Step LineFault} (Err fault) (Err faults.Memory) → begins_txn (words_of line) ≡ true) → number ≡ line_fault_number fault → AnswersLine o t line t (refused_line number)
+refused o t tables line faults.Memory number same read memory says = inr (inr (record { transaction = memory refl; stays = refl; says = ap refused_line says }))
+refused o t tables line faults.NotAStep number same read memory says = no_step o t tables line faults.NotAStep number same read says
+refused o t tables line faults.TooLong number same read memory says = no_step o t tables line faults.TooLong number same read says
+refused o t tables line (faults.Txn fault) number same read memory says = no_step o t tables line (faults.Txn fault) number same read says
+
 -- a step was answered
 pub on_step : {T E : Type 0} (r : Result T E) (tables : ℕ) (line : List ℕ) (step : Step) (given : Answer) (before now : Option (List ℕ)) (w new : WorldValue) → Ok step ≡ step_of tables line
     → ((o : OpeningValue) (t : Trace) → IsOpening o → IsLegal o t → Holds o t w → KeepsHeadline o ((step, given) ∷ t) new)
@@ -135,3 +148,17 @@ pub on_step : {T E : Type 0} (r : Result T E) (tables : ℕ) (line : List ℕ) (
 on_step (Err e) tables line step given before now w new spelled goes written = tt
 on_step (Ok x) tables line step given before now w new spelled goes written =
     λ o t leads same. stepped o t tables line step given before now w new leads same spelled (goes o t leads.is_opening leads.legal leads.holds) written
+
+-- a line that spells no step was refused, or no memory was left to read it
+pub on_refusal : {T E : Type 0} (r : Result T E) (tables : ℕ) (line : List ℕ) (fault : LineFault) (number : ℕ) (before now : Option (List ℕ)) (w : WorldValue) → IsStep {A = Step} (Err fault) (step_of tables line)
+    → (◌≡◌ {A = Result Step LineFault} (Err fault) (Err faults.Memory) → begins_txn (words_of line) ≡ true) → number ≡ line_fault_number fault → OnOk r (Appends before now (refused_line number))
+    → OnOk r ((o : OpeningValue) (t : Trace) → LeadsTo o t w → o.tables ≡ tables → IsAnswered o t line before now w)
+on_refusal (Err e) tables line fault number before now w read memory says written = tt
+on_refusal (Ok x) tables line fault number before now w read memory says written =
+    λ o t leads same. record {
+      after = t;
+      text = refused_line number;
+      answers_line = refused o t tables line fault number same read memory says;
+      leads = leads;
+      written = written;
+    }

@@ -55,7 +55,7 @@ module _ (o : OpeningValue) (t : Trace) (w : WorldValue) (is : IsOpening o) (leg
       let waits : is_on txn.root core.waiting ≡ true =
       list_any-Contains (λ (other : TxnValue). other.root == txn.root) core.waiting txn (Contains-slice_get core.waiting place txn there) (eq-eqb txn.root txn.root refl) in
       let waits_by = waits_for o t legal part txn.root (ap (is_on txn.root) (sym holds.waiting) ∙ waits) in
-      let runner = waits-runner o t part txn.root waits_by (sym (comes_same o t part txn.root core (location core txn.root) holds found) ∙ come) in
+      let runner = waits-runner o is t legal part txn.root waits_by (sym (comes_same o t part txn.root core (location core txn.root) holds found) ∙ come) in
       let here = runs_same o t part txn.root core (location core txn.root) facts holds found ∙ ap (runs_at part) runner ∙ eq-eqb part part refl in
       eqb-true (route core txn.root) core.part here ∙ holds.set.part
 
@@ -101,6 +101,7 @@ module _ (o : OpeningValue) (t : Trace) (w : WorldValue) (is : IsOpening o) (leg
     some_part = subst (λ p. 1 ≤ p.parts) (sym h.plans.old) is.old_plan.some_part;
     few_segments = subst (λ r. length r.segments ≤ SEGMENT_LIMIT) (sym h.plans.recon) is.few_segments;
     leader = h.leader.parts ∙ ap (λ p. p.parts) (sym h.plans.old);
+    moves = h.leader.moves ∙ sym h.plans.recon;
     cores = h.partitions.count ∙ ap (λ p. p.parts) (sym h.plans.old);
     trees = h.segments.count ∙ ap (λ r. length r.segments) (sym h.plans.recon);
     capacity = subst (λ c. c.capacity ≤ MAX_CAPACITY) (sym h.plans.config) is.small_capacity;

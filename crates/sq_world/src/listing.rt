@@ -18,7 +18,8 @@ use std::io::{Read, Write};
 ///
 /// For each reconfiguration range, in key order, it writes a line `range LO HI SRC DST`, and then for each segment a
 /// line `segment SEG LO HI SRC DST`: the root keys from LO up to HI, which are not HI itself, the partition that they
-/// leave and the one that they come to. Where the lines have a fault, as [`read_plans`] has them, or there is no memory,
+/// leave and the one that they come to. Where there is more than one stage, the line ends with the segment's, as
+/// ` stage I`. Where the lines have a fault, as [`read_plans`] has them, or there is no memory,
 /// the fault is all that is written. What follows these lines isn't looked at. An error is a write or a flush that
 /// failed.
 pub fn ranges<R: Read, W: Write>(

@@ -112,6 +112,8 @@ impl World {
 impl World {
     ghost use Rattle.std.specs.Option.{option_copied};
     ghost use Rattle.sq_model.specs.Leader.{phase as phase_after};
+    ghost use Rattle.sq_model.specs.Trace.{stage as stage_after};
+    ghost use Rattle.sq_transition.specs.WorldValue.{running_stage};
     ghost use Rattle.sq_transition.specs.Leading.{phase_of};
     ghost use Rattle.sq_state.specs.Readers.{store_at, chunk_at, status_there, IsStoreAfter, IsChunkAfter, status_after};
 
@@ -121,6 +123,14 @@ impl World {
         ensures by_history { (o : OpeningValue) (t : Trace) → Holds o t self.now → result ≡ phase_after t }
     {
         self.state.phase()
+    }
+
+    /// The stage that runs, which is as the history tells: 0 before the start, and the last once the move has ended.
+    pub fn stage(&self) -> u64
+        ensures stage { result ≡ running_stage self.now }
+        ensures by_history { (o : OpeningValue) (t : Trace) → Holds o t self.now → result ≡ stage_after t }
+    {
+        self.state.stage()
     }
 
     /// The families of a partition, which are exactly those that are there by the history; `None` where there is no such

@@ -66,7 +66,8 @@ cut into segments of 32 leaves. What follows isn't looked at.
 
 Standard output gets a line for each range of root keys that moves, and then one
 for each segment: from which key on, below which key, from which partition, and
-to which.
+to which. Where the move has several stages, a segment's line ends with the
+number of its stage.
 
 Example:
 

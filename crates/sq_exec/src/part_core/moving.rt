@@ -26,6 +26,7 @@ impl<S: FamilyStore> PartCore<S> {
     /// Takes room for what the next Begin adds.
     pub fn reserve_begin(&mut self) -> Result<(), AllocError>
         ensures same { self.new.core ≡ self.old.core }
+        ensures numbering { self.new.numbering ≡ self.old.numbering }
         ensures ok { OnOk result (self.new.has_room ≡ true) }
     {
         reserve_work(&mut self.outs)
@@ -36,7 +37,8 @@ impl<S: FamilyStore> PartCore<S> {
     pub fn begun(&mut self, seg: SegId, node: NodeId, pull: u32)
         requires room { self.old.has_room ≡ true }
         requires exists { seg < length self.old.core.recon.segments }
-        ensures { self.new.core ≡ begun_core self.old.core seg node pull }
+        ensures core { self.new.core ≡ begun_core self.old.core seg node pull }
+        ensures numbering { self.new.numbering ≡ self.old.numbering }
     {
         let at = seg.number() as usize;
         let dst = self.recon.segments()[at].dst;
@@ -64,6 +66,7 @@ impl<S: FamilyStore> PartCore<S> {
         ensures ok { IfOk result (λ note. CutsFor self.old.core dst note self.new.core) }
         ensures refusal { IfErr result (λ fault. fault ≡ cut_fault (out_at self.old.core dst)) }
         ensures err { OnErr result (self.new.core ≡ self.old.core) }
+        ensures numbering { self.new.numbering ≡ self.old.numbering }
     {
         let at = usize::from(dst.number());
         if at >= self.outs.len() {
@@ -80,6 +83,7 @@ impl<S: FamilyStore> PartCore<S> {
     pub fn take_outbox(&mut self, dst: PartId) -> Option<Chunk>
         ensures chunk { result ≡ (out_at self.old.core dst).outbox }
         ensures core { self.new.core ≡ with_out self.old.core dst (record (out_at self.old.core dst) { outbox = None }) }
+        ensures numbering { self.new.numbering ≡ self.old.numbering }
     {
         let at = usize::from(dst.number());
         if at >= self.outs.len() {
@@ -92,7 +96,8 @@ impl<S: FamilyStore> PartCore<S> {
     pub fn put_outbox(&mut self, dst: PartId, chunk: Chunk)
         requires exists { dst < length self.old.core.outs }
         requires empty { (out_at self.old.core dst).outbox ≡ None }
-        ensures { self.new.core ≡ with_out self.old.core dst (record (out_at self.old.core dst) { outbox = Some chunk }) }
+        ensures core { self.new.core ≡ with_out self.old.core dst (record (out_at self.old.core dst) { outbox = Some chunk }) }
+        ensures numbering { self.new.numbering ≡ self.old.numbering }
     {
         self.outs[usize::from(dst.number())].put_outbox(chunk);
     }
@@ -104,6 +109,7 @@ impl<S: FamilyStore> PartCore<S> {
         ensures ok { OnOk result (self.new.core ≡ with_inbox self.old.core src (Some chunk)) }
         ensures chunk_returned { IfErr result (λ back. back ≡ chunk) }
         ensures err { OnErr result (self.new.core ≡ self.old.core) }
+        ensures numbering { self.new.numbering ≡ self.old.numbering }
     {
         let inbox = &mut self.inboxes[usize::from(src.number())];
         if inbox.is_some() {
@@ -131,6 +137,7 @@ impl<S: FamilyStore> PartCore<S> {
         ensures ok { IfOk result (λ note. LoadsFrom self.old.core src note self.new.core) }
         ensures refusal { IfErr result (λ fault. fault ≡ load_fault self.old.core src) }
         ensures err { OnErr result (self.new.core ≡ self.old.core) }
+        ensures numbering { self.new.numbering ≡ self.old.numbering }
     {
         let from = usize::from(src.number());
         if from >= self.inboxes.len() {

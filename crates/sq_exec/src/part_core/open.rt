@@ -3,7 +3,7 @@ ghost use Rattle.std.specs.Prelude.{◌≡◌, true, replicate, length, map, IfO
 ghost use Rattle.std.specs.List.{list_all};
 ghost use Rattle.sq_exec.specs.GivenUp.{none_given_up};
 ghost use Rattle.sq_exec.specs.OutLink.{new_out_link};
-ghost use Rattle.sq_exec.specs.CoreValue.{opened_core, has_ends};
+ghost use Rattle.sq_exec.specs.CoreValue.{opened_core, entered_core, has_ends};
 
 use crate::given_up::GivenUp;
 use crate::out_link::OutLink;
@@ -59,6 +59,7 @@ impl<S: FamilyStore> PartCore<S> {
             recon: places.recon,
             limit: opening.config().limit,
             started: false,
+            stage: 0,
             store,
             waiting: Waiting::new(alloc, next),
             outs: places.outs,
@@ -66,6 +67,24 @@ impl<S: FamilyStore> PartCore<S> {
             given_up: places.given_up,
             loaded: places.loaded,
         })
+    }
+
+    /// A partition in a stage of the move, at which nothing was begun and nothing was loaded, with these families. Its
+    /// move hasn't started. Where there is no memory the families come back.
+    pub fn open_in_stage(
+        alloc: Global,
+        opening: &Opening,
+        part: PartId,
+        stage: u64,
+        store: S,
+    ) -> Result<PartCore<S>, S>
+        ensures ok { IfOk result (λ opened. opened.core ≡ entered_core stage (opened_core opening.now part (S.contents store))) }
+        ensures numbering { IfOk result (λ opened. opened.numbering ≡ record { numbers = []; next = 0 }) }
+        ensures store_returned { IfErr result (λ back. S.contents back ≡ S.contents store) }
+    {
+        let mut opened = PartCore::open(alloc, opening, part, store)?;
+        opened.enter(stage);
+        Ok(opened)
     }
 }
 

@@ -99,6 +99,7 @@ impl<S: FamilyStore> PartCore<S> {
             leaf,
             src: segment.src,
             dst: segment.dst,
+            stage: self.recon.stage_of(seg),
             given_up: self.given_up[at].has(leaf),
             loaded: is_loaded(&self.loaded[at], root),
         })
@@ -109,7 +110,7 @@ impl<S: FamilyStore> PartCore<S> {
         ensures { result ≡ is_coming_from self.now.core found.now }
     {
         match found {
-            Some(at) => self.started && at.dst == self.part && !at.loaded,
+            Some(at) => self.started && at.stage == self.stage && at.dst == self.part && !at.loaded,
             None => false,
         }
     }
@@ -121,6 +122,9 @@ impl<S: FamilyStore> PartCore<S> {
         let Some(at) = found else {
             return self.plan.owner(root);
         };
+        if at.stage < self.stage {
+            return at.dst;
+        }
         let has_left = at.src == self.part && at.given_up;
         let has_come = at.src != self.part && at.dst == self.part && at.loaded;
         if has_left || has_come { at.dst } else { at.src }

@@ -1,11 +1,12 @@
 // Opening a run.
-ghost use Rattle.std.specs.Prelude.{◌≡◌, ◌≢◌, ℕ, ◌+◌, ◌<◌, ◌≤◌, length, slice_set, None, MatchOption, IfOk, OnOk};
-ghost use Rattle.sq_ranges.specs.ReconValue.{AreLinks};
+ghost use Rattle.std.specs.Prelude.{◌≡◌, ◌≢◌, ℕ, ◌+◌, ◌<◌, ◌≤◌, ◌==◌, length, map, filter, slice_get, slice_set, Some, None, MatchOption, IfOk, OnOk};
+ghost use Rattle.sq_ranges.specs.ReconValue.{stage_on};
+ghost use Rattle.sq_link.specs.Values.{LinkValue};
 ghost use Rattle.sq_pull.specs.Seats.{AreSeatsOf};
 ghost use Rattle.sq_pull.specs.declared.numbers.TheConstants.{MAX_OWNERS};
 ghost use Rattle.sq_node.specs.Ends.{link_from, send_end, recv_end, AreSendEnds, AreRecvEnds};
-ghost use Rattle.sq_node.specs.FabricValue.{AreFirst, IsFabric};
-ghost use Rattle.sq_node.specs.Opened.{AreFirstSeats, AreNewSeats, GaveEach, AreNewLinks, HasAllEnds, HasSendEnds, HasRecvEnds, LeavesSendEnds, LeavesRecvEnds, HaveSentNothing, HaveReceivedNothing, IsFabricOf, IsNewNode, AreNewNodes, IsNewPump, AreNewPumps, IsOpened};
+ghost use Rattle.sq_node.specs.FabricValue.{ends_of, AreFirst, IsFabric};
+ghost use Rattle.sq_node.specs.Opened.{AreFirstSeats, AreNewSeats, GaveEach, HasAllEnds, HasSendEnds, HasRecvEnds, LeavesSendEnds, LeavesRecvEnds, HaveSentNothing, HaveReceivedNothing, IsFabricOf, IsNewNode, AreNewNodes, IsNewPump, AreNewPumps, IsOpened};
 
 use super::{Fabric, JOB_PLACES, REQUEST_PLACES};
 use crate::ends::{Receiver, RecvEnd, SendEnd, Sender};
@@ -15,10 +16,13 @@ use sq_link::Link;
 use sq_opened::open_partition;
 use sq_plan::PartId;
 use sq_pull::Pump;
-use sq_ranges::{Opening, Recon};
+use sq_ranges::{Link as Between, Opening, Recon};
 use sq_status::{StatusTree, TreeSeat};
 use std::alloc::{AllocError, Global};
 use std::sync::atomic::AtomicU64;
+
+// The stage in which a run opens.
+const FIRST_STAGE: u64 = 0;
 
 // The ends of links that aren't handed out, each where its link stands.
 #[derive(Drop)]
@@ -61,10 +65,13 @@ fn open_fabric(alloc: Global, opening: &Opening) -> Result<(Fabric, Ends), Alloc
     ensures ends { IfOk result (λ opened. HasAllEnds opened.0.links opened.1.sends.items opened.1.recvs.items) }
 {
     let parts = opening.old_plan().parts();
-    let (trees, seats) = open_trees(alloc, opening.recon().segments().len())?;
-    let (links, ends) = open_links(alloc, opening.recon(), opening.config().capacity)?;
+    let recon = opening.recon();
+    let (trees, seats) = open_trees(alloc, recon.segments().len())?;
+    let between = stage_links(alloc, recon, FIRST_STAGE, recon.links())?;
+    let (links, ends) = open_links(alloc, between.as_slice(), opening.config().capacity)?;
     let fabric = Fabric {
-        recon: opening.recon().clone()?,
+        recon: recon.clone()?,
+        stage: FIRST_STAGE,
         parts,
         trees,
         seats,
@@ -92,16 +99,37 @@ fn open_trees(alloc: Global, count: usize) -> Result<(Vec<StatusTree>, Vec<TreeS
     Ok((trees, seats))
 }
 
-// The links of a reconfiguration, each of which holds this many chunks, with their ends.
-fn open_links(alloc: Global, recon: &Recon, capacity: u64) -> Result<(Vec<Link>, Ends), AllocError>
+// Those of these links along which keys go in a stage.
+fn stage_links(
+    alloc: Global,
+    recon: &Recon,
+    stage: u64,
+    links: &[Between],
+) -> Result<Vec<Between>, AllocError>
+    ensures { IfOk result (λ kept. kept.items ≡ filter (λ link. stage_on recon.now link.src link.dst == stage) links.now) }
+{
+    links
+        .iter()
+        .copied()
+        .filter(|link| recon.stage_on(link.src, link.dst) == stage)
+        .collect(alloc)
+}
+
+// Links between these partitions, each of which holds this many chunks, with their ends.
+fn open_links(
+    alloc: Global,
+    between: &[Between],
+    capacity: u64,
+) -> Result<(Vec<Link>, Ends), AllocError>
     requires { 0 < capacity }
-    ensures links { IfOk result (λ opened. AreNewLinks recon.now.ranges capacity opened.0.items) }
+    ensures links { IfOk result (λ opened. map ends_of opened.0.items ≡ between.now) }
+    ensures capacities { IfOk result (λ opened. (i : ℕ) (link : LinkValue) → slice_get opened.0.items i ≡ Some link → link.capacity ≡ capacity) }
     ensures ends { IfOk result (λ opened. HasAllEnds opened.0.items opened.1.sends.items opened.1.recvs.items) }
 {
     let mut links = Vec::new(alloc);
     let mut sends = Vec::new(alloc);
     let mut recvs = Vec::new(alloc);
-    for (at, ends) in recon.links().iter().enumerate() {
+    for (at, ends) in between.iter().enumerate() {
         let (link, send, recv) = Link::open(alloc, ends.src, ends.dst, capacity)?;
         links.push(link)?;
         sends.push(Sender::new(Some(SendEnd {

@@ -3,14 +3,14 @@ ghost use Rattle.std.specs.Prelude.{◌≡◌, ℕ, ◌<◌, true, false, length
 ghost use Rattle.sq_chunk.specs.ChunkValue.{IsChunk};
 ghost use Rattle.sq_exec.specs.CoreValue.{out_at, inbox_at};
 ghost use Rattle.sq_exec.specs.OutLink.{may_cut};
-ghost use Rattle.sq_exec.specs.Moving.{may_load};
 ghost use Rattle.sq_ranges.specs.OpeningValue.{OpeningValue};
 ghost use Rattle.sq_ranges.specs.Opening.{IsOpening};
+ghost use Rattle.sq_node_model.specs.BeganWith.{BeganWith};
 ghost use Rattle.sq_node_model.specs.Cores.{HasNoneToLoad};
 ghost use Rattle.sq_node.specs.FabricValue.{FabricValue};
 ghost use Rattle.sq_node.specs.NodeState.{IsNodeOf, node_value};
 ghost use Rattle.sq_node.specs.Holds.{HoldsUnder, KeepsAll};
-ghost use Rattle.sq_node.specs.Steps.{Sends, Receives, HasNoneToSend, HasNoneToReceive, CutStep, SendStep, RecvStep, LoadStep};
+ghost use Rattle.sq_node.specs.Steps.{Sends, Receives, HasNoneToSend, HasNoneToReceive, CutStep, SendStep, RecvStep, LoadStep, may_load_now};
 
 use super::Node;
 use crate::fabric::Fabric;
@@ -112,13 +112,14 @@ impl Node {
     }
 
     /// Loads the chunk of the first partition from which one came that can be loaded.
-    pub fn step_load(&mut self) -> Stepped
+    pub fn step_load(&mut self, fabric: &Fabric) -> Stepped
+        requires { IsNodeOf fabric.now self.old }
         ensures step { LoadStep self.old result self.new }
-        ensures of { (fabric : FabricValue) → IsNodeOf fabric self.old → IsNodeOf fabric self.new }
+        ensures of { IsNodeOf fabric.now self.new }
         ensures holds { KeepsAll self.old self.new }
-        ensures nothing { result ≡ Stepped.Nothing → (o : OpeningValue) → IsOpening o → HoldsUnder o self.old → (src : ℕ) → HasNoneToLoad o (node_value self.old) src }
+        ensures nothing { result ≡ Stepped.Nothing → (o : OpeningValue) (began : BeganWith) → IsOpening o → HoldsUnder o began self.old → (src : ℕ) → HasNoneToLoad o began.stage (node_value self.old) src }
     {
-        let Some(src) = self.next_load() else {
+        let Some(src) = self.next_load(fabric) else {
             return Stepped::Nothing;
         };
         if self.to_complete.reserve(1).is_err() {
@@ -134,19 +135,31 @@ impl Node {
     }
 
     // The first partition from which a chunk came that can be loaded.
-    fn next_load(&self) -> Option<PartId>
-        ensures some { IfSome result (λ src. may_load self.now.core src ≡ true) }
+    fn next_load(&self, fabric: &Fabric) -> Option<PartId>
+        requires { IsNodeOf fabric.now self.now }
+        ensures some { IfSome result (λ src. may_load_now self.now.core src ≡ true) }
         ensures chunk { IfSome result (λ src. IfSome (inbox_at self.now.core src) IsChunk) }
         ensures chunks { IfNone result ((src : ℕ) → IfSome (inbox_at self.now.core src) IsChunk) }
         ensures each { length self.now.core.loaded ≡ length self.now.core.recon.segments }
-        ensures none { IfNone result ((src : ℕ) → may_load self.now.core src ≡ false) }
+        ensures none { IfNone result ((src : ℕ) → may_load_now self.now.core src ≡ false) }
     {
         for number in 0..self.core.parts() {
             let src = PartId::new(number);
-            if self.core.may_load(src) {
+            if self.may_load_from(fabric, src) {
                 return Some(src);
             }
         }
         None
+    }
+
+    // Whether a chunk came from a partition that can be loaded, and keys come from it in the running stage.
+    fn may_load_from(&self, fabric: &Fabric, src: PartId) -> bool
+        requires { IsNodeOf fabric.now self.now }
+        ensures may { result ≡ may_load_now self.now.core src }
+        ensures chunk { IfSome (inbox_at self.now.core src) IsChunk }
+    {
+        let may = self.core.may_load(src);
+        let runs = fabric.recon().stage_on(src, self.core.part()) == fabric.stage();
+        runs && may
     }
 }

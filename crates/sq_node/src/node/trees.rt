@@ -23,7 +23,7 @@ use sq_tree::{NodeId, Status};
 use std::sync::Wait;
 
 impl Node {
-    /// Takes a request, and begins the node that it names. One that names a segment which doesn't leave here, a bad node,
+    /// Takes a request, and begins the node that it names. One that names a segment which doesn't leave here in the running stage, a bad node,
     /// or a node that isn't claimed for its pull is dropped.
     pub fn step_request<R: Wait>(&mut self, rt: &R, fabric: &Fabric) -> Stepped
         requires { IsNodeOf fabric.now self.old }
@@ -52,7 +52,7 @@ impl Node {
         Stepped::Nothing
     }
 
-    // The node that a request names, unless its segment doesn't leave here or is complete.
+    // The node that a request names, unless its segment doesn't leave here in the running stage, or is complete.
     fn named(&self, fabric: &Fabric, request: Request) -> Option<TreeNode>
         requires { IsNodeOf fabric.now self.now }
         ensures { IfSome result (λ named. IsOutward self.now.core named.seg named.node) }
@@ -60,7 +60,8 @@ impl Node {
         let seg = SegId::new(request.seg)?;
         let node = NodeId::new(request.node)?;
         let segment = fabric.recon().segments().get(seg.index())?;
-        if segment.src == self.core.part() && !self.is_complete(seg) {
+        let runs = fabric.recon().stage_of(seg) == fabric.stage();
+        if segment.src == self.core.part() && runs && !self.is_complete(seg) {
             Some(TreeNode { seg, node })
         } else {
             None

@@ -31,7 +31,7 @@ impl Node {
         self.step_cut();
         self.step_send(rt, fabric);
         self.step_recv(rt, fabric);
-        self.step_load();
+        self.step_load(fabric);
         self.step_complete(fabric);
         self.step_resume(rt, fabric);
     }

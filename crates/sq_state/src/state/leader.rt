@@ -3,20 +3,26 @@ ghost use Rattle.std.specs.Prelude.{◌≡◌, ℕ, ◌<◌, ◌≤◌, [], leng
 ghost use Rattle.sq_leader.specs.Segments.{is_whole};
 ghost use Rattle.sq_leader.specs.declared.leader.Leader.{Leader};
 ghost use Rattle.sq_ranges.specs.declared.segment.TheConstants.{SEGMENT_LIMIT};
+ghost use Rattle.sq_ranges.specs.ReconValue.{no_moves};
+ghost use Rattle.sq_exec.specs.CoreValue.{entered_core};
 ghost use Rattle.sq_tree.specs.Status.{reading};
 ghost use Rattle.sq_tree.specs.Tree.{status_at};
 ghost use Rattle.sq_tree.specs.Reading.{is_complete_reading};
-ghost use Rattle.sq_transition.specs.LeaderResults.{prepare_result, start_result, report_result, finish_result, started_core};
-ghost use Rattle.sq_state.specs.Results.{answer_of, report_refused};
+ghost use Rattle.sq_transition.specs.LeaderResults.{prepare_result, start_result, report_result, next_result, finish_result, fold_result, started_core};
+ghost use Rattle.sq_state.specs.Results.{answer_of, report_refused, next_refused};
 ghost use Rattle.sq_state.specs.Sound.{IsSound};
 
 use crate::state::State;
 use sq_exec::PartCore;
-use sq_leader::{Idle, Leader, Report, ReportFault};
-use sq_model::{Answer, Refusal};
+use sq_leader::{Idle, Leader, NextFault, Report, ReportFault};
+use sq_model::{Answer, Phase, Refusal};
+use sq_ranges::{Recon, SEGMENT_LIMIT};
 use sq_store::SlabStore;
 use sq_tree::PlainTree;
 use std::mem;
+
+// How many segments there are at most, as the length of an array.
+const SEGMENTS: usize = SEGMENT_LIMIT as usize;
 
 impl State {
     /// Records that a partition is ready, which it may say until the move starts.
@@ -72,8 +78,11 @@ impl State {
         match self.take_leader() {
             Leader::Moving(moving) => {
                 let whole = whole_segments(&self.trees);
-                match Report::made(part, &self.old_plan, &self.recon, &whole) {
-                    Ok(report) => self.go_on(Leader::Moving(moving.report(report))),
+                match Report::made(part, &self.old_plan, &self.recon, moving.stage(), &whole) {
+                    Ok(report) => match moving.report(report) {
+                        Ok(moving) => self.go_on(Leader::Moving(moving)),
+                        Err(_) => unreachable!(),
+                    },
                     Err(fault) => self.stay(Leader::Moving(moving), report_refusal(fault)),
                 }
             }
@@ -81,13 +90,33 @@ impl State {
         }
     }
 
-    /// Ends the move, once every partition into which a segment moves has reported.
+    /// Runs the next stage, once every partition into which a segment of this one moves has reported, and tells each
+    /// partition.
+    pub(crate) fn next(&mut self) -> Result<Answer, Refusal>
+        requires { IsSound self.old }
+        ensures { (answer_of result, self.new) ≡ next_result self.old }
+    {
+        match self.take_leader() {
+            Leader::Moving(moving) => match moving.next() {
+                Ok(moving) => {
+                    enter_all(&mut self.cores, moving.stage());
+                    self.go_on(Leader::Moving(moving))
+                }
+                Err(refused) => {
+                    self.stay(Leader::Moving(refused.leader), next_refusal(refused.fault))
+                }
+            },
+            other => self.stay(other, Refusal::NotMoving),
+        }
+    }
+
+    /// Ends the move in its last stage, once every partition into which a segment of that moves has reported.
     pub(crate) fn finish(&mut self) -> Result<Answer, Refusal>
         requires { IsSound self.old }
         ensures { (answer_of result, self.new) ≡ finish_result self.old }
     {
         match self.take_leader() {
-            Leader::Moving(moving) => match moving.finish(&self.recon) {
+            Leader::Moving(moving) => match moving.finish() {
                 Ok(ended) => self.go_on(Leader::Ended(ended)),
                 Err(refused) => self.stay(Leader::Moving(refused.leader), Refusal::NotFinished),
             },
@@ -95,12 +124,25 @@ impl State {
         }
     }
 
+    /// Folds the logs of a partition, once the reconfiguration has ended.
+    pub(crate) fn fold(&mut self, part: u64) -> Result<Answer, Refusal>
+        requires { IsSound self.old }
+        ensures { (answer_of result, self.new) ≡ fold_result self.old part }
+    {
+        self.check_part(part)?;
+        let Phase::Ended = self.phase() else {
+            return Err(Refusal::NotFinished);
+        };
+        self.cores[part as usize].fold();
+        Ok(Answer::Done)
+    }
+
     // Takes the leader out for a call; an idle one stands there meanwhile.
     fn take_leader(&mut self) -> Leader
         ensures leader { result ≡ self.old.leader }
-        ensures after { self.new ≡ record self.old { leader = Leader.Idle self.old.old.parts } }
+        ensures after { self.new ≡ record self.old { leader = Leader.Idle (record { parts = (self.old).old.parts; recon = no_moves }) } }
     {
-        let meanwhile = Leader::Idle(Idle::new(&self.old_plan));
+        let meanwhile = Leader::Idle(Idle::new(&self.old_plan, Recon::nothing(self.alloc)));
         mem::replace(&mut self.leader, meanwhile)
     }
 
@@ -132,16 +174,35 @@ fn start_all(cores: &mut [PartCore<SlabStore>])
     }
 }
 
+// Tells each partition which stage runs.
+fn enter_all(cores: &mut [PartCore<SlabStore>], stage: u64)
+    ensures { map (λ part. part.core) cores.new ≡ map (entered_core stage) (map (λ part. part.core) cores.old) }
+{
+    for core in cores.iter_mut() {
+        core.enter(stage);
+    }
+}
+
 // Which segments are whole, by their trees.
-fn whole_segments(trees: &[PlainTree]) -> [bool; 256]
+fn whole_segments(trees: &[PlainTree]) -> [bool; SEGMENTS]
     requires { length trees.now ≤ SEGMENT_LIMIT }
     ensures { (seg : ℕ) → seg < length trees.now → is_whole result seg ≡ is_complete_reading (reading (status_at (slice_index_or trees.now seg [])) 1) }
 {
-    let mut whole = [false; 256];
+    let mut whole = [false; SEGMENTS];
     for (seg, tree) in trees.iter().enumerate() {
         whole[seg] = tree.all_complete();
     }
     whole
+}
+
+// Why the next stage doesn't run.
+fn next_refusal(fault: NextFault) -> Refusal
+    ensures { result ≡ next_refused fault }
+{
+    match fault {
+        NextFault::LastStage => Refusal::LastStage,
+        NextFault::NotFinished => Refusal::NotFinished,
+    }
 }
 
 // Why a report is refused.

@@ -4,7 +4,7 @@ ghost use Rattle.std.specs.Option.{option_copied};
 ghost use Rattle.sq_transition.specs.WorldValue.{link_index};
 ghost use Rattle.sq_model.specs.declared.step.Step.{Step};
 ghost use Rattle.sq_transition.specs.LinkResults.{push_result, pop_result, cut_result, load_result};
-ghost use Rattle.sq_state.specs.Results.{answer_of, cut_refused, load_refused, families_of};
+ghost use Rattle.sq_state.specs.Results.{answer_of, running_link, cut_refused, load_refused, families_of};
 ghost use Rattle.sq_transition.specs.Transition.{IsResult};
 ghost use Rattle.sq_state.specs.Sound.{IsSound};
 
@@ -20,9 +20,7 @@ impl State {
         ensures { (answer_of result, self.new) ≡ push_result self.old src dst }
     {
         self.check_moving()?;
-        let Some(at) = self.link_at(src, dst) else {
-            return Err(Refusal::NoSuchLink);
-        };
+        let at = self.running_link(src, dst)?;
         let queue = &self.queues[at];
         let (source, dst) = (usize::from(queue.src().number()), queue.dst());
         if self.cores[source].outbox(dst).is_none() {
@@ -44,9 +42,7 @@ impl State {
         ensures { (answer_of result, self.new) ≡ pop_result self.old src dst }
     {
         self.check_moving()?;
-        let Some(at) = self.link_at(src, dst) else {
-            return Err(Refusal::NoSuchLink);
-        };
+        let at = self.running_link(src, dst)?;
         let queue = &self.queues[at];
         let (src, destination) = (queue.src(), usize::from(queue.dst().number()));
         if self.cores[destination].inbox(src).is_some() {
@@ -67,9 +63,7 @@ impl State {
         ensures { IsResult (Step.Cut src dst) self.old (cut_result self.old src dst) (answer_of result) self.new }
     {
         self.check_moving()?;
-        let Some(at) = self.link_at(src, dst) else {
-            return Err(Refusal::NoSuchLink);
-        };
+        let at = self.running_link(src, dst)?;
         let queue = &self.queues[at];
         let dst = queue.dst();
         let source = &mut self.cores[usize::from(queue.src().number())];
@@ -88,9 +82,7 @@ impl State {
         ensures { IsResult (Step.Load src dst) self.old (load_result self.old src dst) (answer_of result) self.new }
     {
         self.check_moving()?;
-        let Some(at) = self.link_at(src, dst) else {
-            return Err(Refusal::NoSuchLink);
-        };
+        let at = self.running_link(src, dst)?;
         let queue = &self.queues[at];
         let src = queue.src();
         let destination = &mut self.cores[usize::from(queue.dst().number())];
@@ -98,6 +90,21 @@ impl State {
         match destination.load(src) {
             Ok(note) => Ok(Answer::WasLoaded { note, families }),
             Err(fault) => Err(load_refusal(fault)),
+        }
+    }
+
+    // Where the link from one partition to another stands; a refusal where the running stage has no such link.
+    fn running_link(&self, src: u64, dst: u64) -> Result<usize, Refusal>
+        ensures { result ≡ running_link self.now src dst }
+    {
+        let Some(at) = self.link_at(src, dst) else {
+            return Err(Refusal::NoSuchLink);
+        };
+        let queue = &self.queues[at];
+        if self.recon.stage_on(queue.src(), queue.dst()) == self.stage() {
+            Ok(at)
+        } else {
+            Err(Refusal::NoSuchLink)
         }
     }
 

@@ -19,6 +19,7 @@ use std::alloc::{AllocError, Global};
 // What a state has beside its opening.
 #[derive(Drop)]
 struct Fresh {
+    moves: Recon,
     cores: Vec<PartCore<SlabStore>>,
     trees: Vec<PlainTree>,
     queues: Vec<Queue>,
@@ -35,7 +36,7 @@ impl State {
             return Err(opening);
         };
         let parts = opening.into_parts();
-        let leader = Leader::Idle(Idle::new(&parts.old));
+        let leader = Leader::Idle(Idle::new(&parts.old, fresh.moves));
         Ok(State {
             alloc,
             tables: parts.schema.tables(),
@@ -54,10 +55,12 @@ impl State {
 // What a state has beside this opening.
 fn fresh_state(alloc: Global, opening: &Opening) -> Result<Fresh, AllocError>
     ensures cores { IfOk result (λ fresh. map (λ part. part.core) fresh.cores.items ≡ map (opened_part opening.now) (range_with_len 0 opening.now.old.parts)) }
+    ensures moves { IfOk result (λ fresh. fresh.moves ≡ opening.now.recon) }
     ensures trees { IfOk result (λ fresh. AreNewTrees opening.now.recon.segments fresh.trees.items) }
     ensures queues { IfOk result (λ fresh. AreNewQueues opening.now.recon.ranges fresh.queues.items) }
 {
     Ok(Fresh {
+        moves: opening.recon().clone()?,
         cores: open_partitions(alloc, opening)?,
         trees: trees(alloc, opening.recon().segments())?,
         queues: queues(alloc, opening.recon())?,

@@ -1,7 +1,7 @@
 // What is read of a world.
 ghost use Rattle.std.specs.Prelude.{◌≡◌, slice_get};
 ghost use Rattle.std.specs.Option.{option_copied};
-ghost use Rattle.sq_transition.specs.WorldValue.{link_of, under_way};
+ghost use Rattle.sq_transition.specs.WorldValue.{running_stage, link_of, under_way};
 ghost use Rattle.sq_transition.specs.Leading.{phase_of};
 ghost use Rattle.sq_state.specs.Readers.{store_at, chunk_at, status_there};
 
@@ -23,6 +23,17 @@ impl State {
             Leader::Preparing(_) => Phase::Preparing,
             Leader::Moving(_) => Phase::Moving,
             Leader::Ended(_) => Phase::Ended,
+        }
+    }
+
+    /// The stage that runs: 0 before the start, and the last once the move has ended.
+    pub fn stage(&self) -> u64
+        ensures { result ≡ running_stage self.now }
+    {
+        match &self.leader {
+            Leader::Idle(_) | Leader::Preparing(_) => 0,
+            Leader::Moving(moving) => moving.stage(),
+            Leader::Ended(ended) => ended.stage(),
         }
     }
 

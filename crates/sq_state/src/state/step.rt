@@ -25,7 +25,9 @@ impl State {
             Step::Load { src, dst } => self.load(*src, *dst),
             Step::Complete { seg, node, pull } => self.complete(*seg, *node, *pull),
             Step::Report(part) => self.report(*part),
+            Step::Next => self.next(),
             Step::Finish => self.finish(),
+            Step::Fold(part) => self.fold(*part),
             Step::Status { seg, node } => self.status_of(*seg, *node),
         };
         match result {

@@ -1,9 +1,9 @@
-use Rattle.std.proofs.Common.{get_or, sym, ap, ◌∙◌, arith, true≢false, ◌==◌, eqb-true, eq-eqb}
+use Rattle.std.proofs.Common.{get_or, sym, ap, ap₂, ◌∙◌, arith, true≢false, ◌==◌, eqb-true, eq-eqb}
 use Rattle.std.proofs.lemmas.Bool.{and_parts, and_from}
-use Rattle.std.specs.Prelude.{Contains}
 use Rattle.sq_ranges.specs.declared.recon.Link.{Link}
+use Rattle.sq_ranges.specs.ReconValue.{stage_on}
 use Rattle.sq_node_model.specs.Gathered.{GatheredLink}
-use Rattle.sq_audit.specs.Fits.{ends_of}
+use Rattle.sq_audit.specs.Fits.{ends_of, IsKnownLink}
 use Rattle.sq_audit.proofs.Listing.{item_at}
 use Rattle.sq_audit.proofs.Each.{each_more, each_done, each_fails}
 use Rattle.sq_audit.proofs.Parts.{same_link}
@@ -11,9 +11,10 @@ use Rattle.sq_audit.proofs.fits.are_known.Goals as goal
 
 pub returns-then-not-contains : goal.returns-then-not-contains
 returns-then-not-contains c =
-    each_fails (λ (at : GatheredLink). Contains c.args.links.now (ends_of at)) c.args.gathered.now c.loop-link.link-index c.link-item.result
+    each_fails (λ (at : GatheredLink). IsKnownLink c.args.recon.now c.args.stage c.args.links.now at) c.args.gathered.now c.loop-link.link-index c.link-item.result
     (item_at c.args.gathered.now c.loop-link.link-index c.link-item.result c.link-item.is c.loop-link-test.true)
-    (λ has.
+    (λ is.
+    let has = is.0 in
     let ends = ends_of c.link-item.result in
     let at = has.2 in
     let src = ap (λ (l : Link). l.src) at ∙ sym (ap (λ (l : GatheredLink). l.src) c.link.view_is) in
@@ -21,9 +22,18 @@ returns-then-not-contains c =
     let one = get_or c.args.links.now has.0 ends in
     true≢false (sym (and_from (one.src == c.link.inside.src) (one.dst == c.link.inside.dst) (eq-eqb one.src c.link.inside.src src) (eq-eqb one.dst c.link.inside.dst dst)) ∙ c.if-not-contains.ensures.cases has.0 ends (omega arith) has.1))
 
+pub returns-then-stage_on-stage : goal.returns-then-stage_on-stage
+returns-then-stage_on-stage c =
+    each_fails (λ (at : GatheredLink). IsKnownLink c.args.recon.now c.args.stage c.args.links.now at) c.args.gathered.now c.loop-link.link-index c.link-item.result
+    (item_at c.args.gathered.now c.loop-link.link-index c.link-item.result c.link-item.is c.loop-link-test.true)
+    (λ is.
+    let src = ap (λ (l : GatheredLink). l.src) c.link.view_is in
+    let dst = ap (λ (l : GatheredLink). l.dst) c.link.view_is in
+    c.if-stage_on-stage.true (c.stage_on.ensures.stage ∙ ap₂ (stage_on c.args.recon.now) src dst ∙ is.1))
+
 pub loop-link-preserved : goal.loop-link-preserved
 loop-link-preserved c =
-    each_more (λ (at : GatheredLink). Contains c.args.links.now (ends_of at)) c.args.gathered.now c.loop-link.link-index c.link-item.result c.loop-link.invariant
+    each_more (λ (at : GatheredLink). IsKnownLink c.args.recon.now c.args.stage c.args.links.now at) c.args.gathered.now c.loop-link.link-index c.link-item.result c.loop-link.invariant
     (item_at c.args.gathered.now c.loop-link.link-index c.link-item.result c.link-item.is c.loop-link-test.true)
     (let ends = ends_of c.link-item.result in
     let found = c.if-not-contains.ensures.cases in
@@ -31,7 +41,8 @@ loop-link-preserved c =
     let parts = and_parts (one.src == c.link.inside.src) (one.dst == c.link.inside.dst) (found.2 ends) in
     let src = eqb-true one.src c.link.inside.src parts.0 ∙ ap (λ (l : GatheredLink). l.src) c.link.view_is in
     let dst = eqb-true one.dst c.link.inside.dst parts.1 ∙ ap (λ (l : GatheredLink). l.dst) c.link.view_is in
-    (found.0, found.1, same_link src dst))
+    let here = ap₂ (stage_on c.args.recon.now) (sym (ap (λ (l : GatheredLink). l.src) c.link.view_is)) (sym (ap (λ (l : GatheredLink). l.dst) c.link.view_is)) in
+    ((found.0, found.1, same_link src dst), here ∙ sym c.stage_on.ensures.stage ∙ c.if-stage_on-stage.false))
 
 pub returns : goal.returns
-returns c = each_done (λ (at : GatheredLink). Contains c.args.links.now (ends_of at)) c.args.gathered.now c.loop-link.link-index c.loop-link.invariant c.loop-link-test.false
+returns c = each_done (λ (at : GatheredLink). IsKnownLink c.args.recon.now c.args.stage c.args.links.now at) c.args.gathered.now c.loop-link.link-index c.loop-link.invariant c.loop-link-test.false

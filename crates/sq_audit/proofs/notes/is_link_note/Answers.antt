@@ -1,16 +1,60 @@
-use Rattle.std.proofs.Common.{rules, ◌≡◌, List, [], sym, ap, ap₂, ◌∙◌}
+use Rattle.std.proofs.Common.{rules, ◌≡◌, true, List, [], sym, ap, ap₂, ◌∙◌, true≢false, eqb-true, eq-eqb}
 use Rattle.std.specs.Prelude.{slice_get, slice_index_or}
 use Rattle.std.specs.Option.{option_copied}
+use Rattle.std.proofs.lemmas.Bool.{and_parts, and_from}
 use Rattle.sq_tree.specs.declared.status.Status.{Status}
 use Rattle.sq_tree.specs.Status.{is_begun}
 use Rattle.sq_tree.specs.Tree.{status_at}
 use Rattle.sq_ranges.specs.declared.recon.Range.{Range}
-use Rattle.sq_ranges.specs.ReconValue.{ReconValue}
-use Rattle.sq_model.specs.Links.{goes}
+use Rattle.sq_ranges.specs.ReconValue.{ReconValue, stage_on}
+use Rattle.sq_model.specs.Links.{goes, is_on_link}
 use Rattle.sq_node_model.specs.Gathered.{GatheredLink, GatheredValue}
+use Rattle.sq_node_model.specs.Stages.{runs_in}
 use Rattle.sq_node_model.specs.Spots.{word_in}
 use Rattle.sq_audit.proofs.Each.{looked_up}
 use Rattle.sq_audit.proofs.notes.is_link_note.Goals as goal
+use Rattle.sq_audit.proofs.notes.is_link_note.Goals.{After-goes, After-stage_on}
+
+-- whether the note's segment goes along the link
+goes_along : (c : After-goes) → c.goes.result ≡ is_on_link c.args.opening.now c.args.link.now.src c.args.link.now.dst c.args.note.now.seg
+goes_along c =
+    let o = c.args.opening.now in
+    let note = c.args.note.now in
+    let src = ap (λ (l : GatheredLink). l.src) c.link.view_is in
+    let dst = ap (λ (l : GatheredLink). l.dst) c.link.view_is in
+    let segments : c.segments.result.now ≡ o.recon.segments = c.segments.ensures.segments ∙ ap (λ (r : ReconValue). r.segments) c.recon.ensures.recon in
+    let segment : option_copied c.get-segment.result ≡ slice_get o.recon.segments note.seg =
+    looked_up c.segments.result.now c.index.result c.get-segment.result c.get-segment.ensures.lookup ∙ ap₂ (λ (ss : List Range) k. slice_get ss k) segments c.index.ensures.place in
+    c.goes.ensures ∙ (λ k. goes (segment k) (src k) (dst k))
+
+-- the stage of the link
+stage_is : (c : After-stage_on) → c.stage_on.result ≡ stage_on c.args.opening.now.recon c.args.link.now.src c.args.link.now.dst
+stage_is c =
+    let src = ap (λ (l : GatheredLink). l.src) c.link.view_is in
+    let dst = ap (λ (l : GatheredLink). l.dst) c.link.view_is in
+    c.stage_on.ensures.stage ∙ (λ k. stage_on (c.recon-2.ensures.recon k) (src k) (dst k))
+
+pub returns-then-not-goes : goal.returns-then-not-goes
+returns-then-not-goes c =
+    let o = c.args.opening.now in
+    let g = c.args.g.now in
+    let link = c.args.link.now in
+    let along = goes_along (goal.at.returns-then-not-goes c).After-goes in (
+      (λ e. absurd (true≢false (sym e))),
+      (λ is. absurd (true≢false (sym (and_parts (is_on_link o link.src link.dst c.args.note.now.seg) (runs_in o g.stage link.src link.dst) is.segment).0 ∙ sym along ∙ c.if-not-goes.true))),
+    )
+
+pub returns-then-stage_on-g : goal.returns-then-stage_on-g
+returns-then-stage_on-g c =
+    let o = c.args.opening.now in
+    let g = c.args.g.now in
+    let link = c.args.link.now in
+    let stage = stage_is (goal.at.returns-then-stage_on-g c).After-stage_on in (
+      (λ e. absurd (true≢false (sym e))),
+      (λ is.
+          let runs = (and_parts (is_on_link o link.src link.dst c.args.note.now.seg) (runs_in o g.stage link.src link.dst) is.segment).1 in
+          absurd (c.if-stage_on-g.true (stage ∙ eqb-true (stage_on o.recon link.src link.dst) g.stage runs ∙ sym (ap (λ (v : GatheredValue). v.stage) c.g.view_is)))),
+    )
 
 pub returns : goal.returns
 returns c =
@@ -22,16 +66,15 @@ returns c =
     let dst : c.link.inside.dst ≡ link.dst = ap (λ (l : GatheredLink). l.dst) c.link.view_is in
     let from : note.src ≡ c.link.inside.src = search rules in
     let to : note.dst ≡ c.link.inside.dst = search rules in
-    let segments : c.segments.result.now ≡ o.recon.segments = c.segments.ensures.segments ∙ ap (λ (r : ReconValue). r.segments) c.recon.ensures.recon in
-    let segment : option_copied c.get-segment.result ≡ slice_get o.recon.segments note.seg =
-    looked_up c.segments.result.now c.index.result c.get-segment.result c.get-segment.ensures.lookup ∙ ap₂ (λ (ss : List Range) k. slice_get ss k) segments c.index.ensures.place in
+    let along : is_on_link o link.src link.dst note.seg ≡ true = sym (goes_along (goal.at.returns c).After-goes) ∙ c.if-not-goes.false in
+    let stage : stage_on o.recon link.src link.dst ≡ g.stage = sym (stage_is (goal.at.returns c).After-stage_on) ∙ c.if-stage_on-g.false ∙ ap (λ (v : GatheredValue). v.stage) c.g.view_is in
     let words : c.deref.result.now ≡ g.words = c.deref.ensures.value ∙ ap (λ (g : GatheredValue). g.words) c.g.view_is in
     let status : c.status_of.result ≡ word_in g note.seg note.node = c.status_of.ensures.status ∙ ap (λ (ws : List (List Status)). status_at (slice_index_or ws note.seg []) note.node) words in
     let begun : c.is_begun.result ≡ is_begun (word_in g note.seg note.node) = c.is_begun.ensures ∙ ap is_begun status in (
       (λ e. record {
         comes_from = from ∙ src;
         goes_to = to ∙ dst;
-        segment = (λ k. goes (sym segment k) (sym src k) (sym dst k)) ∙ sym c.goes.ensures ∙ c.if-not-goes.false;
+        segment = and_from (is_on_link o link.src link.dst note.seg) (runs_in o g.stage link.src link.dst) along (eq-eqb (stage_on o.recon link.src link.dst) g.stage stage);
         node = c.status_of.ensures.node;
         begun = sym begun ∙ e;
       }),

@@ -1,4 +1,4 @@
-use Rattle.std.proofs.Common.{◌≡◌, ◌≤◌, slice_get, Some, true, false, List, IsPermutation, length, find, sym, ap, ◌∙◌, subst}
+use Rattle.std.proofs.Common.{◌≡◌, ◌≤◌, ℕ, slice_get, Some, true, false, List, IsPermutation, length, find, sym, ap, ◌∙◌, subst}
 use Rattle.std.specs.List.{flat_map}
 use Rattle.std.specs.Bool.{Decides}
 use Rattle.std.proofs.lemmas.List.{length-map}
@@ -27,11 +27,13 @@ entry_there c =
 
 -- whether it stands where the note over its root key tells
 stands : (c : After-is_placed) → let located = c.located-item.result in let root = located.family.now.root in
-    Decides c.is_placed.result (IsAtPart (spot_of located.site) (part_by c.args.opening.now root (find (is_over root) (marked_in c.in_ok-spans.spans.items))))
+    Decides c.is_placed.result (IsAtPart (spot_of located.site) (part_by c.args.opening.now c.args.g.now.stage root (find (is_over root) (marked_in c.in_ok-spans.spans.items))))
 stands c =
     let located = c.located-item.result in
     let root = located.family.now.root in
-    subst (λ (spans : List Span). Decides c.is_placed.result (IsAtPart (spot_of located.site) (part_by c.args.opening.now root (find (is_over root) (marked_in spans))))) c.deref-in-loop-located.ensures.value c.is_placed.ensures
+    let stage = ap (λ (g : GatheredValue). g.stage) c.g.view_is in
+    subst (λ (i : ℕ). Decides c.is_placed.result (IsAtPart (spot_of located.site) (part_by c.args.opening.now i root (find (is_over root) (marked_in c.in_ok-spans.spans.items))))) stage
+    (subst (λ (spans : List Span). Decides c.is_placed.result (IsAtPart (spot_of located.site) (part_by c.args.opening.now c.g.inside.stage root (find (is_over root) (marked_in spans))))) c.deref-in-loop-located.ensures.value c.is_placed.ensures)
 
 pub is_placed-requires : goal.is_placed-requires
 is_placed-requires c =
@@ -44,14 +46,14 @@ returns-then-not-is_placed c =
     let entries = entries_of c.args.all.now in
     let at = goal.at.returns-then-not-is_placed c in
     placed_are c.args.opening.now c.args.g.now c.requires.parts c.requires.links c.requires.apart notes (shuffled at.In_ok-spans) entries c.requires.listed false
-    (each_fails (λ (entry : Entry). IsAtPart entry.0 (part_by c.args.opening.now entry.1.root (find (is_over entry.1.root) notes))) entries c.loop-located.located-index (entry_of c.located-item.result) (entry_there at.After-is_placed)
+    (each_fails (λ (entry : Entry). IsAtPart entry.0 (part_by c.args.opening.now c.args.g.now.stage entry.1.root (find (is_over entry.1.root) notes))) entries c.loop-located.located-index (entry_of c.located-item.result) (entry_there at.After-is_placed)
     (refuted c.is_placed.result (stands at.After-is_placed) c.if-not-is_placed.true))
 
 pub loop-located-preserved : goal.loop-located-preserved
 loop-located-preserved c =
     let notes = marked_in c.in_ok-spans.spans.items in
     let at = (goal.at.loop-located-preserved c).After-is_placed in
-    each_more (λ (entry : Entry). IsAtPart entry.0 (part_by c.args.opening.now entry.1.root (find (is_over entry.1.root) notes))) (entries_of c.args.all.now) c.loop-located.located-index (entry_of c.located-item.result) c.loop-located.invariant
+    each_more (λ (entry : Entry). IsAtPart entry.0 (part_by c.args.opening.now c.args.g.now.stage entry.1.root (find (is_over entry.1.root) notes))) (entries_of c.args.all.now) c.loop-located.located-index (entry_of c.located-item.result) c.loop-located.invariant
     (entry_there at) (shown c.is_placed.result (stands at) c.if-not-is_placed.false)
 
 pub returns : goal.returns
@@ -60,4 +62,4 @@ returns c =
     let all = c.args.all.now in
     let whole : length (entries_of all) ≤ c.loop-located.located-index = subst (λ n. n ≤ c.loop-located.located-index) (sym (length-map all entry_of)) c.loop-located-test.false in
     placed_are c.args.opening.now c.args.g.now c.requires.parts c.requires.links c.requires.apart notes (shuffled (goal.at.returns c).In_ok-spans) (entries_of all) c.requires.listed true
-    (each_done (λ (entry : Entry). IsAtPart entry.0 (part_by c.args.opening.now entry.1.root (find (is_over entry.1.root) notes))) (entries_of all) c.loop-located.located-index c.loop-located.invariant whole)
+    (each_done (λ (entry : Entry). IsAtPart entry.0 (part_by c.args.opening.now c.args.g.now.stage entry.1.root (find (is_over entry.1.root) notes))) (entries_of all) c.loop-located.located-index c.loop-located.invariant whole)

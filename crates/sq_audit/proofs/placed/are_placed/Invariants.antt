@@ -6,4 +6,4 @@ use Rattle.sq_audit.proofs.placed.are_placed.Given as goal
 abbrev pub invariant-loop-located : goal.invariant-loop-located
 invariant-loop-located l =
     (i : ℕ) (entry : Entry) → i < l.located-index → slice_get (entries_of l.all) i ≡ Some entry
-    → IsAtPart entry.0 (part_by l.opening entry.1.root (find (is_over entry.1.root) (marked_in l.spans.items)))
+    → IsAtPart entry.0 (part_by l.opening l.g.stage entry.1.root (find (is_over entry.1.root) (marked_in l.spans.items)))

@@ -1,33 +1,55 @@
-use Rattle.std.proofs.Common.{◌≡◌, ◌||◌, not, true, false, length, arith, sym, ◌∙◌, below_more}
+use Rattle.std.proofs.Common.{◌≡◌, ◌<◌, ◌||◌, ◌&&◌, ◌==◌, not, true, false, List, length, get_or, arith, sym, ap, ◌∙◌, below_more}
+use Rattle.std.proofs.lemmas.Bool.{eq-eqb, ne_eqb, or_right}
+use Rattle.sq_ranges.specs.declared.recon.Range.{Range}
+use Rattle.sq_ranges.specs.ReconValue.{stage_in}
 use Rattle.sq_leader.specs.Segments.{is_into, is_whole}
-use Rattle.sq_leader.proofs.Wholes.{all_pass, one_fails, missing, moves_elsewhere, not_missing}
+use Rattle.sq_leader.proofs.Wholes.{all_pass, one_fails, is_missing-at, moves_elsewhere}
 use Rattle.sq_leader.proofs.report.has_all.Goals as goal
-use Rattle.sq_leader.proofs.report.has_all.Goals.{else-eq-via-then-eq+else-not-is_whole, else-eq-via-else-eq}
+use Rattle.sq_leader.proofs.report.has_all.Goals.{else-eq-via-then-eq+then-stage_on-stage+else-not-is_whole, else-eq-via-then-eq+else-stage_on-stage, else-eq-via-else-eq}
 
 pub returns-then-not-is_whole : goal.returns-then-not-is_whole
 returns-then-not-is_whole c =
-    let segments = c.args.segments.now in
+    let recon = c.args.recon.now in
+    let stage = c.args.stage in
     let whole = c.args.whole.now in
     let part = c.args.part in
     let seg = c.loop-seg.seg in
+    let segment = c.segment-item.result in
+    let same = c.segments-segment-items.ensures.segments in
+    let there : seg < length recon.segments = omega (arith, c.loop-seg-test.true, ap (λ (list : List Range). length list) same) in
+    let is : segment ≡ get_or recon.segments seg segment = c.segment-item.is ∙ ap (λ (list : List Range). get_or list seg segment) same in
+    let now : (stage_in recon segment == stage) ≡ true = eq-eqb (stage_in recon segment) stage (sym c.stage_on.ensures.stage ∙ c.if-stage_on-stage.true) in
+    let here : (segment.dst == part) ≡ true = sym c.eq.ensures ∙ c.if-eq.true in
     let absent : is_whole whole seg ≡ false = sym c.is_whole.ensures ∙ c.if-not-is_whole.true in
-    sym (one_fails (λ k. not (is_into segments part k) || is_whole whole k) (length segments) seg (omega arith) (missing segments whole part seg c.index-segments-seg.result (omega arith) c.index-segments-seg.is (sym c.eq.ensures ∙ c.if-eq.true) absent))
+    sym (one_fails (λ k. not (is_into recon stage part k) || is_whole whole k) (length recon.segments) seg there
+    (is_missing-at recon stage part seg whole segment there is ∙ (λ i. not (now i && here i) || absent i)))
 
 pub loop-seg-preserved : goal.loop-seg-preserved
 loop-seg-preserved c =
-    let segments = c.args.segments.now in
+    let recon = c.args.recon.now in
+    let stage = c.args.stage in
     let whole = c.args.whole.now in
     let part = c.args.part in
     let seg = c.loop-seg.seg in
-    let here : (not (is_into segments part seg) || is_whole whole seg) ≡ true = elim c.else-eq.branch [
-      | else-eq-via-then-eq+else-not-is_whole b ↦ not_missing (is_into segments part seg) (is_whole whole seg) (sym b.is_whole.ensures ∙ b.if-not-is_whole.false)
-      | else-eq-via-else-eq b ↦ moves_elsewhere segments whole part seg c.index-segments-seg.result (omega arith) c.index-segments-seg.is (sym c.eq.ensures ∙ b.if-eq.false)
+    let segment = c.segment-item.result in
+    let same = c.segments-segment-items.ensures.segments in
+    let there : seg < length recon.segments = omega (arith, c.loop-seg-test.true, ap (λ (list : List Range). length list) same) in
+    let is : segment ≡ get_or recon.segments seg segment = c.segment-item.is ∙ ap (λ (list : List Range). get_or list seg segment) same in
+    let test = is_missing-at recon stage part seg whole segment there is in
+    let here : (not (is_into recon stage part seg) || is_whole whole seg) ≡ true = elim c.else-eq.branch [
+      | else-eq-via-then-eq+then-stage_on-stage+else-not-is_whole b ↦
+          or_right (not (is_into recon stage part seg)) (is_whole whole seg) (sym b.is_whole.ensures ∙ b.if-not-is_whole.false)
+      | else-eq-via-then-eq+else-stage_on-stage b ↦
+          let other : (stage_in recon segment == stage) ≡ false = ne_eqb (stage_in recon segment) stage (λ now. b.if-stage_on-stage.false (b.stage_on.ensures.stage ∙ now)) in
+          test ∙ (λ i. not (other i && (segment.dst == part)) || is_whole whole seg)
+      | else-eq-via-else-eq b ↦
+          test ∙ moves_elsewhere (stage_in recon segment == stage) (segment.dst == part) (is_whole whole seg) (sym c.eq.ensures ∙ b.if-eq.false)
     ] in
-    below_more (λ k. (not (is_into segments part k) || is_whole whole k) ≡ true) seg c.loop-seg.invariant here
+    below_more (λ k. (not (is_into recon stage part k) || is_whole whole k) ≡ true) seg c.loop-seg.invariant here
 
 pub returns : goal.returns
 returns c =
-    let segments = c.args.segments.now in
+    let recon = c.args.recon.now in
     let whole = c.args.whole.now in
-    let part = c.args.part in
-    sym (all_pass (λ k. not (is_into segments part k) || is_whole whole k) 0 (length segments) (λ k low high. c.loop-seg.invariant k (omega arith)))
+    let same = ap (λ (list : List Range). length list) c.segments-segment-items.ensures.segments in
+    sym (all_pass (λ k. not (is_into recon c.args.stage c.args.part k) || is_whole whole k) 0 (length recon.segments) (λ k low high. c.loop-seg.invariant k (omega (arith, c.loop-seg-test.false, same, high))))

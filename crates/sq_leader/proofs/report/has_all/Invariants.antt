@@ -2,6 +2,6 @@ use Rattle.std.proofs.Common.{◌≡◌, ℕ, ◌<◌, ◌||◌, not, true}
 use Rattle.sq_leader.specs.Segments.{is_into, is_whole}
 use Rattle.sq_leader.proofs.report.has_all.Given as goal
 
--- each segment so far that moves into the partition is whole
+-- each segment so far that moves into the partition in the stage is whole
 abbrev pub invariant-loop-seg : goal.invariant-loop-seg
-invariant-loop-seg l = (k : ℕ) → k < l.seg → (not (is_into l.segments l.part k) || is_whole l.whole k) ≡ true
+invariant-loop-seg l = (k : ℕ) → k < l.seg → (not (is_into l.recon l.stage l.part k) || is_whole l.whole k) ≡ true

@@ -1,7 +1,8 @@
+use Rattle.sq_ranges.specs.declared.segment.TheConstants.{SEGMENT_LIMIT}
 use Rattle.sq_live.specs.Outcome.{is_moved}
 use Rattle.sq_live.proofs.Leading.{AreMarked}
 use Rattle.sq_live.proofs.judging.moved_segments.Given as goal
 
 -- of the segments so far those are marked that are complete
 abbrev pub invariant-loop-seg : goal.invariant-loop-seg
-invariant-loop-seg l = AreMarked 256 l.seg (is_moved l.words) l.moved
+invariant-loop-seg l = AreMarked SEGMENT_LIMIT l.seg (is_moved l.words) l.moved

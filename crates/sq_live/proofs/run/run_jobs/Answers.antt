@@ -1,6 +1,8 @@
 use Rattle.std.proofs.Common.{List, sym, subst, arith}
 use Rattle.std.specs.Prelude.{All}
 use Rattle.sq_pull.specs.Pump.{PumpValue}
+use Rattle.sq_node_model.specs.BeganWith.{first_began}
+use Rattle.sq_node_model.proofs.Began.{first_can}
 use Rattle.sq_node.specs.NodeState.{NodeState, IsNodeOf}
 use Rattle.sq_node.specs.FabricValue.{IsFabric}
 use Rattle.sq_driver.specs.Nodes.{AllDriven}
@@ -8,7 +10,7 @@ use Rattle.sq_driver.specs.Pumps.{IsPumpOf, AllPumpsDriven}
 use Rattle.sq_driver.proofs.Opening.{opened_nodes, opened_pumps}
 use Rattle.sq_gather.specs.Gathered.{AreAllOf, AllHold}
 use Rattle.sq_gather.proofs.AllOf.{all_of_opened}
-use Rattle.sq_live.proofs.Driven.{written, all_driven, hold_driven}
+use Rattle.sq_live.proofs.Driven.{written, all_driven, begins, hold_driven}
 use Rattle.sq_live.proofs.run.run_jobs.Goals as goal
 
 pub run_workers-requires-clause-nodes : goal.run_workers-requires-clause-nodes
@@ -41,4 +43,6 @@ returns-in-Ok g c =
     let node_count = c.run_workers.ensures.nodes.count in
     let all_nodes = written c.in_ok-fabric.nodes.items c.run_workers.new.nodes c.in_ok-fabric.nodes.len (omega (arith, node_count, c.deref_mut.ensures.len)) in
     let hold = hold_driven c.args.opening.now c.args.pumps fabric c.in_ok-fabric.nodes.items c.run_workers.new.nodes c.in_ok-fabric.pumps.items is c.in_ok-fabric.ensures nodes in
-    c.in-Ok.ensures.placed c.args.opening.now is c.in_ok-fabric.ensures.shared (subst (λ (l : List NodeState). AllHold c.args.opening.now l) (sym all_nodes) hold)
+    let o = c.args.opening.now in
+    let shared = c.in_ok-fabric.ensures.shared in
+    c.in-Ok.ensures.placed o (first_began o) is shared (begins o fabric shared) (first_can o) (subst (λ (l : List NodeState). AllHold o (first_began o) l) (sym all_nodes) hold)

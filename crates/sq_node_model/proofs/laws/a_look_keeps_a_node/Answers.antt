@@ -2,4 +2,4 @@ use Rattle.sq_node_model.proofs.CoreBegun.{core_looked}
 use Rattle.sq_node_model.proofs.laws.a_look_keeps_a_node.Goals as goal
 
 pub returns : goal.returns
-returns c = core_looked
+returns c = λ o began. core_looked {began = began} o

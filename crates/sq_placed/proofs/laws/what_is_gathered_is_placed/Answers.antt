@@ -1,5 +1,9 @@
 use Rattle.sq_placed.proofs.Placed.{is_placed}
+use Rattle.sq_placed.proofs.Families.{go_on}
 use Rattle.sq_placed.proofs.laws.what_is_gathered_is_placed.Goals as goal
 
 pub returns : goal.returns
-returns c = λ o nodes g is gathers. is_placed o is nodes g gathers
+returns c = record {
+  placed = λ o began nodes g is can gathers. is_placed o began is nodes g gathers can;
+  grows = λ o began nodes g is can gathers. go_on o began is nodes g gathers;
+}

@@ -1,7 +1,7 @@
-use Rattle.std.proofs.Common.{◌≡◌, [], ◌∷◌, ◌++◌, length, sym, ap, ◌∙◌, arith}
+use Rattle.std.proofs.Common.{◌≡◌, ◌<◌, ◌≤◌, [], ◌∷◌, ◌++◌, length, sym, ap, subst, ◌∙◌, arith}
 use Rattle.std.proofs.lemmas.Bool.{le-leb, lt-leb}
-use Rattle.sq_ranges.specs.declared.segment.TheConstants.{SEGMENT_LIMIT}
 use Rattle.sq_ranges.specs.ReconValue.{segments_of}
+use Rattle.sq_ranges.specs.Between.{segment_limit}
 use Rattle.sq_ranges.specs.Moves.{moves_of}
 use Rattle.sq_ranges.proofs.Cuts.{length-segments_of-append, length-segments_of-push, split_more, split_all}
 use Rattle.sq_ranges.proofs.Sweeps.{runs_within}
@@ -19,8 +19,8 @@ segment_count-count-requires-clause-within c =
     let next = c.in-Some.ensures.next ahead.1 ahead.3 in
     (runs_within c.loop-run.sweep c.in-Some.run' ahead.1 next.0 ahead.3 next.1).1
 
-pub returns-then-count-gt-SEGMENT_LIMIT : goal.returns-then-count-gt-SEGMENT_LIMIT
-returns-then-count-gt-SEGMENT_LIMIT c =
+pub returns-then-count-limit : goal.returns-then-count-limit
+returns-then-count-limit c =
     let width = c.args.width in
     let moves = moves_of c.args.old.now c.args.new.now in
     let ahead = c.loop-run.invariant.ahead in
@@ -29,8 +29,9 @@ returns-then-count-gt-SEGMENT_LIMIT c =
     let is : moves ≡ done ++ next.0 = split_more moves ahead.0 ahead.1 next.0 c.in-Some.run' ahead.2 next.1 in
     let long = ap (λ ranges. length (segments_of width ranges)) is ∙ length-segments_of-append width done next.0 in
     let more = length-segments_of-push width ahead.0 c.in-Some.run' in
-    let over = c.if-count-gt-SEGMENT_LIMIT.true in
-    sym (lt-leb (length (segments_of width moves)) SEGMENT_LIMIT (omega (arith, long, more, ahead.4, over, c.segment_count-count.ensures.count)))
+    let over = c.if-count-limit.true in
+    let limit = c.segment_limit-limit.ensures.limit ∙ ap segment_limit c.version.ensures in
+    sym (lt-leb (length (segments_of width moves)) (segment_limit c.args.new.now.version) (subst (λ n. n < length (segments_of width moves)) limit (omega (arith, long, more, ahead.4, over, c.segment_count-count.ensures.count))))
 
 pub loop-run-preserved : goal.loop-run-preserved
 loop-run-preserved c =
@@ -40,7 +41,7 @@ loop-run-preserved c =
     let more = length-segments_of-push c.args.width ahead.0 c.in-Some.run' in
     record {
       ahead = (ahead.0 ++ c.in-Some.run' ∷ [], next.0, split_more moves ahead.0 ahead.1 next.0 c.in-Some.run' ahead.2 next.1, next.2, omega (arith, more, ahead.4, c.segment_count-count.ensures.count));
-      few = omega (arith, c.if-count-gt-SEGMENT_LIMIT.false);
+      few = omega (arith, c.if-count-limit.false);
     }
 
 pub returns : goal.returns
@@ -49,4 +50,5 @@ returns c =
     let ahead = c.loop-run.invariant.ahead in
     let none = c.in_default.ensures.next ahead.1 ahead.3 in
     let all = ap (λ ranges. length (segments_of c.args.width ranges)) (split_all moves ahead.0 ahead.1 ahead.2 none) in
-    sym (le-leb (length (segments_of c.args.width moves)) SEGMENT_LIMIT (omega (arith, all, ahead.4, c.loop-run.invariant.few)))
+    let limit = c.segment_limit-limit.ensures.limit ∙ ap segment_limit c.version.ensures in
+    sym (le-leb (length (segments_of c.args.width moves)) (segment_limit c.args.new.now.version) (subst (λ n. length (segments_of c.args.width moves) ≤ n) limit (omega (arith, all, ahead.4, c.loop-run.invariant.few))))

@@ -1,6 +1,5 @@
 use Rattle.std.proofs.Common.{◌≡◌, ◌≤◌, ◌++◌, List, length}
 use Rattle.sq_ranges.specs.declared.recon.Range.{Range}
-use Rattle.sq_ranges.specs.declared.segment.TheConstants.{SEGMENT_LIMIT}
 use Rattle.sq_ranges.specs.ReconValue.{segments_of}
 use Rattle.sq_ranges.specs.Moves.{moves_of}
 use Rattle.sq_ranges.specs.Sweep.{HasAhead, left}
@@ -9,7 +8,7 @@ use Rattle.sq_ranges.proofs.cut.fits.Given as goal
 abbrev pub invariant-loop-run : goal.invariant-loop-run
 invariant-loop-run l = record {
   ahead : (done : List Range) × (rest : List Range) × (moves_of l.old l.new ≡ done ++ rest) × HasAhead l.sweep rest × (l.count ≡ length (segments_of l.width done));
-  few : l.count ≤ SEGMENT_LIMIT;
+  few : l.count ≤ l.limit;
 }
 
 abbrev pub decreases-loop-run : goal.decreases-loop-run

@@ -6,7 +6,8 @@ use Rattle.std.proofs.lemmas.Option.{same_Some}
 use Rattle.sq_waiting.specs.Index.{is_between}
 use Rattle.sq_waiting.specs.Waiting.{txns_of}
 use Rattle.sq_exec.specs.Runs.{runs_with}
-use Rattle.sq_exec.proofs.Loads.{on_err, came_loadable, was_loaded, runs_kept, all_kept, same_waiting, more_by, none_more, loads_kept, as_was}
+use Rattle.sq_exec.specs.CoreValue.{PartCoreValue}
+use Rattle.sq_exec.proofs.Loads.{on_err, came_loadable, was_loaded, runs_kept, all_kept, same_waiting, same_numbering, more_by, none_more, loads_kept, as_was}
 use Rattle.sq_exec.proofs.part_core.PartCore.load.Goals as goal
 
 pub index_mut-runs-requires : goal.index_mut-runs-requires
@@ -72,3 +73,16 @@ invariant_of-self-2 g c =
     c.index_mut.ensures.value (c.index_mut.ensures.value ∙ get_or_default c.self.inside.inboxes.items c.from-from.result c.index_mut.result.now c.index.result.now (omega arith) ∙ sym c.index.ensures ∙ c.in-Some.is) given.1 given.2 (c.number-2.ensures.number ∙ ap (λ (n : Note). n.seg) c.note-covered.ensures) c.index_mut-runs.ensures.value (c.add.ensures ∙ ap (λ runs. runs_with runs c.in_ok-note.note) c.reserve.ensures.items) given.3 in
     loads_kept c.self.view_is c.args.src c.in_ok-note.note _ loads c.self.inside.waiting c.make_due.new.self c.note-covered.result
     (c.note-covered.ensures ∙ ap (λ (chunk : ChunkValue). chunk.note) (same_Some c.in-Some.chunk chunk (sym here ∙ given.1))) c.in_ok-make_due.ensures.ok c.self.invariant
+
+pub returns-in_err-make_due-clause-numbering : goal.returns-in_err-make_due-clause-numbering
+returns-in_err-make_due-clause-numbering g c = same_numbering c.self.inside.waiting c.make_due.new.self c.in_err-make_due.ensures.err ∙ ap (λ (v : PartCoreValue). v.numbering) c.self.view_is
+
+pub returns-in_err-note-clause-numbering : goal.returns-in_err-note-clause-numbering
+returns-in_err-note-clause-numbering g c =
+    same_numbering c.self.inside.waiting c.make_due.new.self (more_by (λ a. is_between c.note-covered.result.lo c.note-covered.result.hi (a.txn).root) c.in_ok-make_due.ensures.ok)
+    ∙ ap (λ (v : PartCoreValue). v.numbering) c.self.view_is
+
+pub returns-clause-numbering : goal.returns-clause-numbering
+returns-clause-numbering g c =
+    same_numbering c.self.inside.waiting c.make_due.new.self (more_by (λ a. is_between c.note-covered.result.lo c.note-covered.result.hi (a.txn).root) c.in_ok-make_due.ensures.ok)
+    ∙ ap (λ (v : PartCoreValue). v.numbering) c.self.view_is

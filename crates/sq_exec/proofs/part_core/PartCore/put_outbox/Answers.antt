@@ -2,8 +2,8 @@ use Rattle.std.proofs.Common.{Some, ◌∙◌, refl}
 use Rattle.sq_exec.proofs.Ends.{core_changed}
 use Rattle.sq_exec.proofs.part_core.PartCore.put_outbox.Goals as goal
 
-pub returns : goal.returns
-returns g c =
+pub returns-clause-core : goal.returns-clause-core
+returns-clause-core g c =
     let outs = c.self.inside.outs.items in
     let same = c.from.ensures ∙ c.number.ensures in
     core_changed c.self.view_is outs refl (λ out. record out { outbox = Some c.args.chunk }) c.from.result c.args.dst c.index_mut.result.now c.put_outbox.new.self

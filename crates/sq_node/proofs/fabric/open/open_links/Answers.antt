@@ -11,7 +11,7 @@ use Rattle.sq_node.proofs.fabric.open.open_links.Goals as goal
 
 pub loop-at-preserved : goal.loop-at-preserved
 loop-at-preserved c =
-    let items = c.links-ends-items.result.now in
+    let items = c.args.between.now in
     let links = c.loop-at.links.items in
     let sends = c.loop-at.sends.items in
     let recvs = c.loop-at.recvs.items in
@@ -19,11 +19,11 @@ loop-at-preserved c =
     let link = c.in_ok-link.link in
     let send = c.in_ok-link.send in
     let recv = c.in_ok-link.recv in
-    let end = c.ends-item.result in
+    let end = c.index-between-at.result in
     let out : c.push-in-loop-at.new.self.items ≡ sends ++ Some (record { link = at; pass = send }) ∷ [] = c.in_ok-push-2.ensures.items ∙ ap (λ (e : Option SendEnd). sends ++ e ∷ []) c.new.ensures in
     let into : c.push-in-loop-at-2.new.self.items ≡ recvs ++ Some (record { link = at; pass = recv }) ∷ [] = c.in_ok-push-3.ensures.items ∙ ap (λ (e : Option RecvEnd). recvs ++ e ∷ []) c.new-in-loop-at.ensures in
     record {
-      links = ap (map ends_of) c.in_ok-push.ensures.items ∙ links_more items links at end link c.loop-at.invariant.links c.loop-at-test.true c.ends-item.is c.in_ok-link.ensures.link.0 c.in_ok-link.ensures.link.1;
+      links = ap (map ends_of) c.in_ok-push.ensures.items ∙ links_more items links at end link c.loop-at.invariant.links c.loop-at-test.true c.index-between-at.is c.in_ok-link.ensures.link.0 c.in_ok-link.ensures.link.1;
       capacities = λ i one there.
           ⊎_elim (λ (before : slice_get links i ≡ Some one). c.loop-at.invariant.capacities i one before)
           (λ (now : (i ≡ length links) × (link ≡ one)). ap (λ (l : LinkValue). l.capacity) (sym now.1) ∙ c.in_ok-link.ensures.link.2)

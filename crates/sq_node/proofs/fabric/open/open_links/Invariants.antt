@@ -8,7 +8,7 @@ use Rattle.sq_node.proofs.fabric.open.open_links.Given as goal
 -- the links so far are there, with their ends
 abbrev pub invariant-loop-at : goal.invariant-loop-at
 invariant-loop-at l = record {
-  links : map ends_of l.links.items ≡ take l.at l.ends-items;
+  links : map ends_of l.links.items ≡ take l.at l.between;
   capacities : (i : ℕ) (link : LinkValue) → slice_get l.links.items i ≡ Some link → link.capacity ≡ l.capacity;
   ends : HasAllEnds l.links.items l.sends.items l.recvs.items;
 }

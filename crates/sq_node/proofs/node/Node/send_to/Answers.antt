@@ -27,7 +27,7 @@ pub invariant_of-self-in-Err : goal.invariant_of-self-in-Err
 invariant_of-self-in-Err g c =
     let inside = c.self.inside in
     let same : c.put_outbox.new.self.core ≡ inside.core.core =
-    put_back inside.core.core c.take_outbox.new.self.core c.put_outbox.new.self.core c.args.dst c.in-Some.chunk c.in-Err.back c.in-Some.ensures.chunk c.in-Err.ensures.refused.0 c.take_outbox.ensures.core c.put_outbox.ensures in
+    put_back inside.core.core c.take_outbox.new.self.core c.put_outbox.new.self.core c.args.dst c.in-Some.chunk c.in-Err.back c.in-Some.ensures.chunk c.in-Err.ensures.refused.0 c.take_outbox.ensures.core c.put_outbox.ensures.core in
     same_loads inside.core.core c.put_outbox.new.self.core inside.seats.items inside.to_complete.items inside.complete.items
     (ap (λ (core : CoreValue). core.recon) same) (ap (λ (core : CoreValue). core.loaded) same) c.self.invariant
 
@@ -35,7 +35,7 @@ pub returns-in-Err : goal.returns-in-Err
 returns-in-Err g c =
     let inside = c.self.inside in
     let same : c.put_outbox.new.self.core ≡ inside.core.core =
-    put_back inside.core.core c.take_outbox.new.self.core c.put_outbox.new.self.core c.args.dst c.in-Some.chunk c.in-Err.back c.in-Some.ensures.chunk c.in-Err.ensures.refused.0 c.take_outbox.ensures.core c.put_outbox.ensures in
+    put_back inside.core.core c.take_outbox.new.self.core c.put_outbox.new.self.core c.args.dst c.in-Some.chunk c.in-Err.back c.in-Some.ensures.chunk c.in-Err.ensures.refused.0 c.take_outbox.ensures.core c.put_outbox.ensures.core in
     let at = c.from.result in
     let sends = inside.sends.items in
     let read = c.index_mut.result.now in

@@ -1,5 +1,7 @@
 use Rattle.std.proofs.Common.{◌≡◌, ℕ, List, true, ◌++◌, ◌∷◌, [], length, sym, ap, ◌∙◌, subst}
-use Rattle.std.specs.Prelude.{Option, IfSome, Bool, if◌then◌else◌}
+use Rattle.std.proofs.lemmas.Bool.{and_parts}
+use Rattle.sq_ranges.specs.ReconValue.{stage_on}
+use Rattle.std.specs.Prelude.{◌==◌, Option, IfSome, Bool, if◌then◌else◌}
 use Rattle.sq_exec.specs.CoreValue.{CoreValue}
 use Rattle.sq_chunk.specs.ChunkValue.{ChunkValue, IsChunk}
 use Rattle.sq_exec.specs.Moving.{may_load, LoadsFrom}
@@ -18,9 +20,10 @@ settles : (c : In-Ok) (more : List (ℕ × ℕ)) → let note = c.in-Ok.note in 
     more ≡ (if note.last then pending ++ (note.seg, note.node) ∷ [] else pending) → IsNode c.load.new.self.core c.self.inside.seats.items more c.self.inside.complete.items
 settles c more more_is =
     let inside = c.self.inside in
+    let core = c.args.self.now.core in
     let core_is = ap (λ (node : NodeState). node.core) c.self.view_is in
     after_load inside.core.core c.load.new.self.core c.in-Some.src c.in-Ok.note c.in-Ok.ensures.ok
-    (subst (λ (core : CoreValue). length core.loaded ≡ length core.recon.segments) (sym core_is) c.in-Some.ensures.each) (subst (λ (core : CoreValue). may_load core c.in-Some.src ≡ true) (sym core_is) c.in-Some.ensures.some)
+    (subst (λ (core : CoreValue). length core.loaded ≡ length core.recon.segments) (sym core_is) c.in-Some.ensures.each) (subst (λ (core : CoreValue). may_load core c.in-Some.src ≡ true) (sym core_is) (and_parts (stage_on core.recon c.in-Some.src core.part == core.stage) (may_load core c.in-Some.src) c.in-Some.ensures.some).1)
     inside.seats.items inside.to_complete.items more inside.complete.items more_is c.self.invariant
 
 -- the node loaded the chunk
@@ -71,7 +74,7 @@ pub returns-in_default-clause-nothing : goal.returns-in_default-clause-nothing
 returns-in_default-clause-nothing c = λ nothing. none_to_load c.args.self.now c.in_default.ensures.none c.in_default.ensures.chunks
 
 pub returns-then-note-clause-of : goal.returns-then-note-clause-of
-returns-then-note-clause-of c = λ fabric of. load_stays fabric c.args.self.now Did _ (returns-then-note-clause-step c) of
+returns-then-note-clause-of c = load_stays c.args.fabric.now c.args.self.now Did _ (returns-then-note-clause-step c) c.requires
 
 pub returns-else-note-clause-of : goal.returns-else-note-clause-of
-returns-else-note-clause-of c = λ fabric of. load_stays fabric c.args.self.now Did _ (returns-else-note-clause-step c) of
+returns-else-note-clause-of c = load_stays c.args.fabric.now c.args.self.now Did _ (returns-else-note-clause-step c) c.requires

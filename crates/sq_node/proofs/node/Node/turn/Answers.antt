@@ -10,9 +10,6 @@ step_job-requires g c = subst (IsNodeOf c.args.fabric.now) (sym c.send_pending.e
 pub step_send-requires : goal.step_send-requires
 step_send-requires g c = c.step_cut.ensures.of c.args.fabric.now c.step_request.ensures.of
 
-pub step_complete-requires : goal.step_complete-requires
-step_complete-requires g c = c.step_load.ensures.of c.args.fabric.now c.step_recv.ensures.of
-
 pub returns-clause-steps : goal.returns-clause-steps
 returns-clause-steps g c =
     record {
@@ -34,13 +31,13 @@ returns-clause-steps g c =
     }
 
 pub returns-clause-holds : goal.returns-clause-holds
-returns-clause-holds g c = λ o is h.
-    let began = subst (HoldsUnder o) (sym c.send_pending.ensures) h in
-    let jobbed = c.step_job.ensures.holds o is began in
-    let asked = c.step_request.ensures.holds o is jobbed in
-    let cut = c.step_cut.ensures.holds o is asked in
-    let sent = c.step_send.ensures.holds o is cut in
-    let received = c.step_recv.ensures.holds o is sent in
-    let loaded = c.step_load.ensures.holds o is received in
-    let completed = c.step_complete.ensures.holds o is loaded in
-    c.step_resume.ensures.holds o is completed
+returns-clause-holds g c = λ o b is h.
+    let began = subst (HoldsUnder o b) (sym c.send_pending.ensures) h in
+    let jobbed = c.step_job.ensures.holds o b is began in
+    let asked = c.step_request.ensures.holds o b is jobbed in
+    let cut = c.step_cut.ensures.holds o b is asked in
+    let sent = c.step_send.ensures.holds o b is cut in
+    let received = c.step_recv.ensures.holds o b is sent in
+    let loaded = c.step_load.ensures.holds o b is received in
+    let completed = c.step_complete.ensures.holds o b is loaded in
+    c.step_resume.ensures.holds o b is completed

@@ -7,7 +7,7 @@ use Rattle.sq_plan.proofs.plan.Plan.owner.Goals as goal
 
 pub index-requires : goal.index-requires
 index-requires c =
-    let plan : PlanValue = record { parts = c.self.inside.parts; ranges = c.self.inside.ranges.items } in
+    let plan : PlanValue = record { version = c.self.inside.version; parts = c.self.inside.parts; ranges = c.self.inside.ranges.items } in
     let found = find_at_point plan c.as_slice.result.now c.number-key.result c.partition_point-at.result (record { lo = 0; hi = 0; owner = 0 }) c.self.invariant c.as_slice.ensures.value c.number-key.ensures.bound c.partition_point-at.ensures.bound
     (c.partition_point-at.ensures.partitioned (λ range. leb range.hi c.number-key.result) (always_returns_same _ _ _ (λ a r f k. search rules))) in
     let n = c.as_slice.ensures.len in
@@ -16,7 +16,7 @@ index-requires c =
 
 pub returns : goal.returns
 returns c =
-    let plan : PlanValue = record { parts = c.self.inside.parts; ranges = c.self.inside.ranges.items } in
+    let plan : PlanValue = record { version = c.self.inside.version; parts = c.self.inside.parts; ranges = c.self.inside.ranges.items } in
     let found = find_at_point plan c.as_slice.result.now c.number-key.result c.partition_point-at.result c.index.result.now c.self.invariant c.as_slice.ensures.value c.number-key.ensures.bound c.partition_point-at.ensures.bound
     (c.partition_point-at.ensures.partitioned (λ range. leb range.hi c.number-key.result) (always_returns_same _ _ _ (λ a r f k. search rules))) in
     let owns = owner_found plan c.number-key.result c.index.result.now c.self.invariant (found.1 ∙ ap Some (sym c.index.ensures)) in

@@ -6,35 +6,35 @@ use Rattle.sq_ranges.proofs.recon.Recon.extent.Goals as goal
 
 pub leaf_start-requires-clause-within : goal.leaf_start-requires-clause-within
 leaf_start-requires-clause-within c =
-    let recon : ReconValue = record { width = c.self.inside.width; ranges = c.self.inside.ranges.items; segments = c.self.inside.segments.items } in
+    let recon : ReconValue = record { width = c.self.inside.width; ranges = c.self.inside.ranges.items; segments = c.self.inside.segments.items; auto = c.self.inside.auto } in
     let there = c.in_ok-segment.ensures.lookup.3 in
     let at = segment_read recon.segments c.as_slice.result.now c.index.result c.in_ok-segment.segment.now c.as_slice.ensures.value there.0 (there.1 c.in_ok-segment.segment.now) in
-    (segment_stands recon c.self.invariant.0 c.index.result c.in_ok-segment.segment.now at.2).high
+    (segment_stands recon c.self.invariant.recon c.index.result c.in_ok-segment.segment.now at.2).high
 
 pub leaf_start-requires-clause-some : goal.leaf_start-requires-clause-some
 leaf_start-requires-clause-some c =
-    let recon : ReconValue = record { width = c.self.inside.width; ranges = c.self.inside.ranges.items; segments = c.self.inside.segments.items } in
+    let recon : ReconValue = record { width = c.self.inside.width; ranges = c.self.inside.ranges.items; segments = c.self.inside.segments.items; auto = c.self.inside.auto } in
     let there = c.in_ok-segment.ensures.lookup.3 in
     let at = segment_read recon.segments c.as_slice.result.now c.index.result c.in_ok-segment.segment.now c.as_slice.ensures.value there.0 (there.1 c.in_ok-segment.segment.now) in
-    omega (arith, (segment_stands recon c.self.invariant.0 c.index.result c.in_ok-segment.segment.now at.2).some)
+    omega (arith, (segment_stands recon c.self.invariant.recon c.index.result c.in_ok-segment.segment.now at.2).some)
 
 pub leaf_start-requires-2-clause-within : goal.leaf_start-requires-2-clause-within
 leaf_start-requires-2-clause-within c =
-    let recon : ReconValue = record { width = c.self.inside.width; ranges = c.self.inside.ranges.items; segments = c.self.inside.segments.items } in
+    let recon : ReconValue = record { width = c.self.inside.width; ranges = c.self.inside.ranges.items; segments = c.self.inside.segments.items; auto = c.self.inside.auto } in
     let there = c.in_ok-segment.ensures.lookup.3 in
     let at = segment_read recon.segments c.as_slice.result.now c.index.result c.in_ok-segment.segment.now c.as_slice.ensures.value there.0 (there.1 c.in_ok-segment.segment.now) in
-    (segment_stands recon c.self.invariant.0 c.index.result c.in_ok-segment.segment.now at.2).high
+    (segment_stands recon c.self.invariant.recon c.index.result c.in_ok-segment.segment.now at.2).high
 
 pub leaf_start-requires-2-clause-some : goal.leaf_start-requires-2-clause-some
 leaf_start-requires-2-clause-some c =
-    let recon : ReconValue = record { width = c.self.inside.width; ranges = c.self.inside.ranges.items; segments = c.self.inside.segments.items } in
+    let recon : ReconValue = record { width = c.self.inside.width; ranges = c.self.inside.ranges.items; segments = c.self.inside.segments.items; auto = c.self.inside.auto } in
     let there = c.in_ok-segment.ensures.lookup.3 in
     let at = segment_read recon.segments c.as_slice.result.now c.index.result c.in_ok-segment.segment.now c.as_slice.ensures.value there.0 (there.1 c.in_ok-segment.segment.now) in
-    omega (arith, (segment_stands recon c.self.invariant.0 c.index.result c.in_ok-segment.segment.now at.2).some)
+    omega (arith, (segment_stands recon c.self.invariant.recon c.index.result c.in_ok-segment.segment.now at.2).some)
 
 pub returns : goal.returns
 returns c =
-    let recon : ReconValue = record { width = c.self.inside.width; ranges = c.self.inside.ranges.items; segments = c.self.inside.segments.items } in
+    let recon : ReconValue = record { width = c.self.inside.width; ranges = c.self.inside.ranges.items; segments = c.self.inside.segments.items; auto = c.self.inside.auto } in
     let segment = c.in_ok-segment.segment.now in
     let there = c.in_ok-segment.ensures.lookup.3 in
     let at = segment_read recon.segments c.as_slice.result.now c.index.result segment c.as_slice.ensures.value there.0 (there.1 segment) in

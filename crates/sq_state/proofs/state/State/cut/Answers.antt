@@ -13,10 +13,10 @@ use Rattle.sq_state.proofs.state.State.cut.Goals.{After-from, in-Ok, in-Err}
 
 -- the link, and the partition at its source
 at_source : (c : After-from) (part : PartCoreValue) → part ≡ get_or c.self.inside.cores.items c.from.result part
-    → let queue = c.index-queue.result.now in AtEnd c.args.self.now c.self.inside.cores.items c.args.src c.args.dst c.in-Some.at queue.src queue.dst c.from.result c.dst-dst.result queue part
+    → let queue = c.index-queue.result.now in AtEnd c.args.self.now c.self.inside.cores.items c.args.src c.args.dst c.in_ok-at.at queue.src queue.dst c.from.result c.dst-dst.result queue part
 at_source c part is =
-    at_end (ap (λ (v : WorldValue). v.cores) c.self.view_is) c.requires c.in_ok-check_moving.ensures c.in-Some.ensures
-    (c.index-queue.ensures ∙ ap (λ (v : WorldValue). get_or v.queues c.in-Some.at c.index-queue.result.now) c.self.view_is)
+    at_end (ap (λ (v : WorldValue). v.cores) c.self.view_is) c.requires c.in_ok-check_moving.ensures c.in_ok-at.ensures
+    (c.index-queue.ensures ∙ ap (λ (v : WorldValue). get_or v.queues c.in_ok-at.at c.index-queue.result.now) c.self.view_is)
     (c.from.ensures ∙ c.number.ensures ∙ c.src.ensures) c.dst-dst.ensures is
 
 pub returns : goal.returns

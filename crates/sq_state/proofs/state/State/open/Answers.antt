@@ -1,5 +1,4 @@
 use Rattle.std.proofs.Common.{ap, ◌∙◌}
-use Rattle.sq_plan.specs.PlanValue.{PlanValue}
 use Rattle.sq_leader.specs.declared.leader.Leader.TheVariants.{Idle}
 use Rattle.sq_state.proofs.Opened.{opened_holds}
 use Rattle.sq_state.proofs.state.State.open.Goals as goal
@@ -14,7 +13,7 @@ returns-clause-opened c =
       new = moved.new;
       recon = moved.recon;
       config = moved.config;
-      leader = ap Idle (c.new.ensures ∙ ap (λ (plan : PlanValue). plan.parts) moved.old);
+      leader = ap Idle (c.new.ensures ∙ (λ i. record { parts = (moved.old i).parts; recon = fresh.moves i }));
       cores = fresh.cores;
       trees = fresh.trees;
       queues = fresh.queues;

@@ -10,21 +10,21 @@ use Rattle.sq_state.proofs.state.State.pop.Goals.{After-from-destination}
 
 -- the link, and the partition at its destination
 at_destination : (c : After-from-destination) (part : PartCoreValue) → part ≡ get_or c.self.inside.cores.items c.from-destination.result part
-    → let queue = c.index-queue.result.now in AtEnd c.args.self.now c.self.inside.cores.items c.args.src c.args.dst c.in-Some.at queue.dst queue.src c.from-destination.result c.src-src.result queue part
+    → let queue = c.index-queue.result.now in AtEnd c.args.self.now c.self.inside.cores.items c.args.src c.args.dst c.in_ok-at.at queue.dst queue.src c.from-destination.result c.src-src.result queue part
 at_destination c part is =
-    at_end (ap (λ (v : WorldValue). v.cores) c.self.view_is) c.requires c.in_ok-check_moving.ensures c.in-Some.ensures
-    (c.index-queue.ensures ∙ ap (λ (v : WorldValue). get_or v.queues c.in-Some.at c.index-queue.result.now) c.self.view_is)
+    at_end (ap (λ (v : WorldValue). v.cores) c.self.view_is) c.requires c.in_ok-check_moving.ensures c.in_ok-at.ensures
+    (c.index-queue.ensures ∙ ap (λ (v : WorldValue). get_or v.queues c.in_ok-at.at c.index-queue.result.now) c.self.view_is)
     (c.from-destination.ensures ∙ c.number.ensures ∙ c.dst.ensures) c.src-src.ensures is
 
 pub returns-then-is_some : goal.returns-then-is_some
 returns-then-is_some c =
     pop_full (at_destination (goal.at.returns-then-is_some c).After-from-destination c.index.result.now c.index.ensures) c.inbox.result c.inbox.ensures.chunk (sym c.if-is_some.ensures)
 
-pub returns-in_default-pop : goal.returns-in_default-pop
-returns-in_default-pop c =
-    ap (λ (v : WorldValue). (Refused LinkEmpty, record v { queues = set v.queues c.in-Some.at c.pop.new.self })) c.self.view_is
-    ∙ pop_empty (at_destination (goal.at.returns-in_default-pop c).After-from-destination c.index.result.now c.index.ensures) c.inbox.result c.index_mut.result.now c.pop.new.self c.inbox.ensures.chunk (sym c.if-is_some.ensures)
-    (c.index_mut.ensures.value ∙ ap (λ (v : WorldValue). get_or v.queues c.in-Some.at c.index_mut.result.now) c.self.view_is) c.in_default-pop.ensures
+pub returns-in_default : goal.returns-in_default
+returns-in_default c =
+    ap (λ (v : WorldValue). (Refused LinkEmpty, record v { queues = set v.queues c.in_ok-at.at c.pop.new.self })) c.self.view_is
+    ∙ pop_empty (at_destination (goal.at.returns-in_default c).After-from-destination c.index.result.now c.index.ensures) c.inbox.result c.index_mut.result.now c.pop.new.self c.inbox.ensures.chunk (sym c.if-is_some.ensures)
+    (c.index_mut.ensures.value ∙ ap (λ (v : WorldValue). get_or v.queues c.in_ok-at.at c.index_mut.result.now) c.self.view_is) c.in_default.ensures
 
 pub index_mut-requires-2 : goal.index_mut-requires-2
 index_mut-requires-2 c =
@@ -44,7 +44,7 @@ unreachable-requires c =
 pub returns : goal.returns
 returns c =
     let parts = map core_of (set c.self.inside.cores.items c.from-destination.result c.put_inbox.new.self) in
-    ap (λ (v : WorldValue). (Done, record v { cores = parts; queues = set v.queues c.in-Some.at c.pop.new.self })) c.self.view_is
-    ∙ pop_done (at_destination (goal.at.returns c).After-from-destination c.index_mut-2.result.now c.index_mut-2.ensures.value) c.in-Some-pop.chunk c.inbox.result c.index.result.now c.put_inbox.new.self c.index_mut.result.now c.pop.new.self
+    ap (λ (v : WorldValue). (Done, record v { cores = parts; queues = set v.queues c.in_ok-at.at c.pop.new.self })) c.self.view_is
+    ∙ pop_done (at_destination (goal.at.returns c).After-from-destination c.index_mut-2.result.now c.index_mut-2.ensures.value) c.in-Some.chunk c.inbox.result c.index.result.now c.put_inbox.new.self c.index_mut.result.now c.pop.new.self
     c.index.ensures c.inbox.ensures.chunk (sym c.if-is_some.ensures)
-    (c.index_mut.ensures.value ∙ ap (λ (v : WorldValue). get_or v.queues c.in-Some.at c.index_mut.result.now) c.self.view_is) c.in-Some-pop.ensures c.in-Ok.ensures.ok
+    (c.index_mut.ensures.value ∙ ap (λ (v : WorldValue). get_or v.queues c.in_ok-at.at c.index_mut.result.now) c.self.view_is) c.in-Some.ensures c.in-Ok.ensures.ok

@@ -28,17 +28,18 @@ told c =
     told_of c.args.self.now c.deref.result.now c.whole_segments-whole.result (c.deref.ensures.value ∙ ap (λ (v : WorldValue). v.trees) opened) c.whole_segments-whole.ensures
 
 -- so the report is made of the world
-made : (c : After-made) → let w = c.args.self.now in c.made.result ≡ made_answer w.old w.recon c.whole_segments-whole.result c.args.part
-made c = c.made.ensures.answer ∙ ap (λ (v : WorldValue). made_answer v.old v.recon c.whole_segments-whole.result c.args.part) (c.self.view_is ∙ c.take_leader.ensures.after)
+made : (c : After-made) → let w = c.args.self.now in c.made.result ≡ made_answer w.old w.recon (c.in-Moving.moving).stage c.whole_segments-whole.result c.args.part
+made c =
+    c.made.ensures.answer ∙ ap (λ (v : WorldValue). made_answer v.old v.recon c.stage.result c.whole_segments-whole.result c.args.part) (c.self.view_is ∙ c.take_leader.ensures.after)
+    ∙ ap (λ n. made_answer c.args.self.now.old c.args.self.now.recon n c.whole_segments-whole.result c.args.part) c.stage.ensures
 
-pub returns-in-Ok : goal.returns-in-Ok
-returns-in-Ok c =
+pub returns-in-Ok-report : goal.returns-in-Ok-report
+returns-in-Ok-report c =
     let w = c.args.self.now in
-    let at = (goal.at.returns-in-Ok c).After-made in
+    let at = (goal.at.returns-in-Ok-report c).After-made in
     (λ i. (answer_of (c.go_on.ensures.answer i), c.go_on.ensures.after i))
-    ∙ ap (λ (v : WorldValue). (Done, record v { leader = Moving c.report.result })) c.take_leader.ensures.after
-    ∙ ap (λ (reported : List Bool). (Done, record w { leader = Moving reported })) c.report.ensures
-    ∙ report_went w c.requires c.whole_segments-whole.result (told at) c.in-Moving.moving c.args.part c.in-Ok.report (sym c.in-Moving.ensures.leader) (sym c.in-Ok.is ∙ made at)
+    ∙ ap (λ (v : WorldValue). (Done, record v { leader = Moving c.in-Ok-report.moving })) c.take_leader.ensures.after
+    ∙ report_went w c.requires c.whole_segments-whole.result (told at) c.in-Moving.moving c.args.part c.in-Ok.report c.in-Ok-report.moving (sym c.in-Moving.ensures.leader) (sym c.in-Ok.is ∙ made at) c.in-Ok-report.ensures
 
 pub returns-in-Err : goal.returns-in-Err
 returns-in-Err c =

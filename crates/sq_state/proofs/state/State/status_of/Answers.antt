@@ -12,4 +12,4 @@ returns c =
     let is : tree ≡ get_or w.trees seg tree =
     c.index-tree.ensures ∙ ap (λ i. get_or c.self.inside.trees.items i tree) c.index.ensures.place ∙ ap (λ (v : WorldValue). get_or v.trees seg tree) c.self.view_is in
     status_told w c.args.seg c.args.node seg c.in_ok-node.node tree c.status.result c.reads.result c.requires
-    (node_here w c.args.seg c.args.node seg c.in_ok-node.node c.in_ok-seg.ensures c.in_ok-node.ensures) is c.status.ensures.status c.reads.ensures.reading
+    (node_here w c.args.seg c.args.node seg c.in_ok-node.node c.in_ok-seg.ensures.named c.in_ok-node.ensures) is c.status.ensures.status c.reads.ensures.reading

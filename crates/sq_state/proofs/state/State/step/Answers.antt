@@ -1,8 +1,8 @@
 use Rattle.std.proofs.Common.{inl}
-use Rattle.sq_model.specs.declared.step.Step.TheVariants.{Prepare, Start, Submit, Resume, Split, Claim, Begin, Cut, Push, Pop, Load, Complete, Report, Finish, Status}
+use Rattle.sq_model.specs.declared.step.Step.TheVariants.{Prepare, Start, Submit, Resume, Split, Claim, Begin, Cut, Push, Pop, Load, Complete, Report, Next, Finish, Fold, Status}
 use Rattle.sq_state.proofs.Steps.{done_by}
 use Rattle.sq_state.proofs.state.State.step.Goals as goal
-use Rattle.sq_state.proofs.state.State.step.Goals.{in-Prepare, in-Start, in-Submit, in-Resume, in-Split, in-Claim, in-Begin, in-Cut, in-Push, in-Pop, in-Load, in-Complete, in-Report, in-Finish, in-Status}
+use Rattle.sq_state.proofs.state.State.step.Goals.{in-Prepare, in-Start, in-Submit, in-Resume, in-Split, in-Claim, in-Begin, in-Cut, in-Push, in-Pop, in-Load, in-Complete, in-Report, in-Next, in-Finish, in-Fold, in-Status}
 
 pub returns-in-Ok : goal.returns-in-Ok
 returns-in-Ok c =
@@ -25,6 +25,8 @@ returns-in-Ok c =
       | in-Load b ↦ done_by old new b.load-result.new.self asked (Load b.in-Load.src b.in-Load.dst) whole b.load-result.result answer b.in-Load.is c.in-Ok.is b.result-is b.self-is b.load-result.ensures
       | in-Complete b ↦ done_by old new b.complete-result.new.self asked (Complete b.in-Complete.seg b.in-Complete.node b.in-Complete.pull) whole b.complete-result.result answer b.in-Complete.is c.in-Ok.is b.result-is b.self-is (inl b.complete-result.ensures)
       | in-Report b ↦ done_by old new b.report-result.new.self asked (Report b.in-Report.part) whole b.report-result.result answer b.in-Report.is c.in-Ok.is b.result-is b.self-is (inl b.report-result.ensures)
+      | in-Next b ↦ done_by old new b.next-result.new.self asked Next whole b.next-result.result answer b.in-Next.is c.in-Ok.is b.result-is b.self-is (inl b.next-result.ensures)
       | in-Finish b ↦ done_by old new b.finish-result.new.self asked Finish whole b.finish-result.result answer b.in-Finish.is c.in-Ok.is b.result-is b.self-is (inl b.finish-result.ensures)
+      | in-Fold b ↦ done_by old new b.fold-result.new.self asked (Fold b.in-Fold.part) whole b.fold-result.result answer b.in-Fold.is c.in-Ok.is b.result-is b.self-is (inl b.fold-result.ensures)
       | in-Status b ↦ done_by old new old asked (Status b.in-Status.seg b.in-Status.node) whole b.status_of-result.result answer b.in-Status.is c.in-Ok.is b.result-is b.self-is (inl b.status_of-result.ensures)
     ]

@@ -14,7 +14,7 @@ loop-core-preserved c =
     let before = map core_of c.args.cores.now in
     let within : i < length before = omega (arith, length-map c.args.cores.now core_of) in
     let more : suc i ≡ i + 1 = omega arith in
-    seen_changed core_of c.loop-core.cores no_core started_core i i c.core-item.result c.start.new.self refl c.core-item.is (c.start.ensures ∙ ap (λ (part : PartCoreValue). started_core part.core) (sym c.core-item.is))
+    seen_changed core_of c.loop-core.cores no_core started_core i i c.core-item.result c.start.new.self refl c.core-item.is (c.start.ensures.core ∙ ap (λ (part : PartCoreValue). started_core part.core) (sym c.core-item.is))
     ∙ ap (λ (cores : List CoreValue). set cores i (started_core (get_or cores i no_core))) c.loop-core.invariant
     ∙ changed_next started_core i before no_core within
     ∙ ap (λ n. changed started_core n before) more

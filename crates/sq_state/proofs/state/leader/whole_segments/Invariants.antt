@@ -1,6 +1,7 @@
 use Rattle.std.proofs.Common.{◌≡◌, ℕ, ◌<◌, [], length}
 use Rattle.std.specs.Prelude.{slice_index_or}
 use Rattle.sq_leader.specs.Segments.{is_whole}
+use Rattle.sq_ranges.specs.declared.segment.TheConstants.{SEGMENT_LIMIT}
 use Rattle.sq_tree.specs.Status.{reading}
 use Rattle.sq_tree.specs.Tree.{status_at}
 use Rattle.sq_tree.specs.Reading.{is_complete_reading}
@@ -9,6 +10,6 @@ use Rattle.sq_state.proofs.state.leader.whole_segments.Given as goal
 -- each segment so far is told
 abbrev pub invariant-loop-seg : goal.invariant-loop-seg
 invariant-loop-seg l = record {
-  room : length l.whole ≡ 256;
+  room : length l.whole ≡ SEGMENT_LIMIT;
   each : (seg : ℕ) → seg < l.seg → is_whole l.whole seg ≡ is_complete_reading (reading (status_at (slice_index_or l.trees seg [])) 1);
 }

@@ -8,6 +8,6 @@ pub returns-in-Ok-clause-ok : goal.returns-in-Ok-clause-ok
 returns-in-Ok-clause-ok c =
     let enters =
     subst (λ root. SetsEntry root c.self.inside.next true c.args.is_due c.self.inside.by_root c.self.inside.due c.enter.new.by_root c.enter.new.due) (c.number-root.ensures.number ∙ c.root.ensures) c.in_ok-enter.ensures.ok in
-    arrivals_last c.self.inside.txns c.self.inside.by_root c.self.inside.due c.self.inside.next c.self.invariant c.args.txn c.args.is_due c.insert.new.self c.enter.new.by_root c.enter.new.due
+    arrivals_last c.self.inside.txns c.self.inside.by_root c.self.inside.due c.self.inside.due_below c.self.inside.next c.self.invariant c.args.txn c.args.is_due c.insert.new.self c.enter.new.by_root c.enter.new.due
     c.in-Ok.ensures.updates.0 enters c.in-Ok.ensures.entries
     ∙ ap (λ w. with_last w c.args.txn c.args.is_due) c.self.view_is

@@ -1,0 +1,45 @@
+-- A partition enters a stage.
+use Rattle.std.proofs.Common.{◌≡◌, ℕ, Bool, true, false, ◌||◌, List, [], ◌∷◌, map, refl, ap, ◌∙◌}
+use Rattle.std.specs.Prelude.{◌&&◌, is_some}
+use Rattle.std.specs.List.{list_all}
+use Rattle.sq_schema.specs.TxnValue.{TxnValue}
+use Rattle.sq_ranges.specs.ReconValue.{leaf_at}
+use Rattle.sq_waiting.specs.Waiting.{Arrival, WaitingValue, txns_of, numbers_of, due_if, with_due}
+use Rattle.sq_exec.specs.CoreValue.{CoreValue, Numbering, PartCoreValue, entered_core}
+use Rattle.sq_exec.specs.Location.{is_coming}
+use Rattle.sq_exec.specs.Kept.{is_due_here, IsCore}
+use Rattle.sq_exec.proofs.Loads.{same_waiting, same_numbering, more_by}
+
+-- whatever comes here, all are due once all were made due
+all_are_due : (core : CoreValue) (arrivals : List Arrival) → list_all (is_due_here core) (map (due_if (λ a. true)) arrivals) ≡ true
+all_are_due core [] = refl
+all_are_due core (a ∷ arrivals) = λ k. due a.is_due (is_coming core (a.txn).root) k && all_are_due core arrivals k
+  where
+    due : (x y : Bool) → ((x || true) || y) ≡ true
+    due true y = refl
+    due false y = refl
+
+module _ (stage : ℕ) (old new : WaitingValue) (all : new ≡ with_due (λ a. true) old) where
+  same_txns : txns_of new.arrivals ≡ txns_of old.arrivals
+  same_txns = same_waiting old new (more_by (λ a. true) all)
+
+  -- the partition keeps what holds of it
+  pub entered_kept : (core : CoreValue) → txns_of old.arrivals ≡ core.waiting → IsCore core old.arrivals → IsCore (record core { stage = stage; waiting = txns_of new.arrivals }) new.arrivals
+  entered_kept core waiting_is is =
+      let entered : CoreValue = record core { stage = stage; waiting = txns_of new.arrivals } in
+      record {
+        outs = is.outs;
+        inboxes = is.inboxes;
+        given_up = is.given_up;
+        loaded = is.loaded;
+        ends = is.ends;
+        moving = ap (list_all (λ (txn : TxnValue). is_some (leaf_at core.recon txn.root))) (same_txns ∙ waiting_is) ∙ is.moving;
+        due = ap (λ (w : WaitingValue). list_all (is_due_here entered) w.arrivals) all ∙ all_are_due entered old.arrivals;
+      }
+
+  -- and is in the stage, with all else as it was
+  pub was_entered : {seen now : PartCoreValue} → seen ≡ now → txns_of old.arrivals ≡ seen.core.waiting → ◌≡◌ {A = Numbering} (record { numbers = numbers_of old.arrivals; next = old.next }) seen.numbering
+      → ◌≡◌ {A = PartCoreValue} (record seen { core = record seen.core { stage = stage; waiting = txns_of new.arrivals }; numbering = record { numbers = numbers_of new.arrivals; next = new.next } }) (record now { core = entered_core stage now.core })
+  was_entered {seen} view_is waiting_is numbering_is =
+      (λ k. record seen { core = record seen.core { stage = stage; waiting = (same_txns ∙ waiting_is) k }; numbering = (same_numbering old new (more_by (λ a. true) all) ∙ numbering_is) k })
+      ∙ ap (λ (v : PartCoreValue). record v { core = entered_core stage v.core }) view_is

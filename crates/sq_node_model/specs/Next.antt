@@ -1,0 +1,29 @@
+-- The stage after the one that was gathered.
+use Rattle.std.specs.Prelude.{◌≡◌, ℕ, ◌+◌, Bool, true, slice_get, Some}
+use Rattle.sq_tree.specs.Status.{reading}
+use Rattle.sq_tree.specs.Reading.{is_complete_reading}
+use Rattle.sq_ranges.specs.declared.recon.Range.{Range}
+use Rattle.sq_ranges.specs.ReconValue.{stage_in}
+use Rattle.sq_ranges.specs.OpeningValue.{OpeningValue}
+use Rattle.sq_model.specs.Staged.{owner_in}
+use Rattle.sq_node_model.specs.BeganWith.{BeganWith}
+use Rattle.sq_node_model.specs.declared.spot.Spot.TheVariants.{Store}
+use Rattle.sq_node_model.specs.Gathered.{GatheredValue}
+use Rattle.sq_node_model.specs.Spots.{word_in, family_at_spot}
+
+-- the segment is complete: its node 1 reads complete
+abbrev pub is_whole_in : GatheredValue → ℕ → Bool
+is_whole_in g seg = is_complete_reading (reading (word_in g seg) 1)
+
+-- the segments of the stage that was gathered are complete
+abbrev pub IsStageDone : OpeningValue → GatheredValue → Type 0
+IsStageDone o g =
+    (seg : ℕ) (segment : Range) → slice_get o.recon.segments seg ≡ Some segment → stage_in o.recon segment ≡ g.stage → is_whole_in g seg ≡ true
+
+-- the next stage begins with the families where they are now, and with all receipts so far
+abbrev pub next_began : OpeningValue → GatheredValue → BeganWith
+next_began o g = record {
+  stage = g.stage + 1;
+  families = λ root. family_at_spot g (Store (owner_in o (g.stage + 1) root)) root;
+  receipts = g.receipts;
+}

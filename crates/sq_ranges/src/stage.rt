@@ -1,0 +1,46 @@
+// The stages of a move.
+ghost use Rattle.std.specs.Prelude.{◌≡◌, ◌≤◌, map, length, IfOk};
+ghost use Rattle.sq_ranges.specs.ReconValue.{place_on, place_of};
+
+use crate::recon::Range;
+use sq_plan::PartId;
+use std::alloc::{AllocError, Global};
+
+// How many numbers a partition may have.
+const PART_NUMBERS: usize = 256;
+
+/// The place of a partition among those to which another gives keys, in key order; 0 where it isn't among them.
+pub(crate) fn place_on(ranges: &[Range], src: PartId, dst: PartId) -> u64
+    ensures place { result ≡ place_on ranges.now src dst }
+    ensures bound { result ≤ length ranges.now }
+{
+    let mut seen = [false; PART_NUMBERS];
+    let mut place = 0;
+    for range in ranges {
+        if range.src == src {
+            if range.dst == dst {
+                return place;
+            }
+            let other = usize::from(range.dst.number());
+            if !seen[other] {
+                seen[other] = true;
+                place += 1;
+            }
+        }
+    }
+    0
+}
+
+/// For each segment the place of its destination among those of its source.
+pub(crate) fn places(
+    alloc: Global,
+    ranges: &[Range],
+    segments: &[Range],
+) -> Result<Vec<u64>, AllocError>
+    ensures { IfOk result (λ places. places.items ≡ map (place_of ranges.now) segments.now) }
+{
+    segments
+        .iter()
+        .map(|segment| place_on(ranges, segment.src, segment.dst))
+        .collect(alloc)
+}

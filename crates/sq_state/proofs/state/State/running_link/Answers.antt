@@ -1,0 +1,31 @@
+-- The link that was found has the ends that were asked for.
+use Rattle.std.proofs.Common.{◌≡◌, get_or, sym, ap, ◌∙◌}
+use Rattle.std.proofs.lemmas.Bool.{eq-eqb, ne_eqb}
+use Rattle.sq_ranges.specs.ReconValue.{stage_on}
+use Rattle.sq_transition.specs.WorldValue.{WorldValue}
+use Rattle.sq_state.proofs.LinkSteps.{ends_found, link_of_stage}
+use Rattle.sq_state.proofs.state.State.running_link.Goals as goal
+use Rattle.sq_state.proofs.state.State.running_link.Goals.{After-stage}
+
+-- the stage that was read is the link's
+stage_read : (c : After-stage) → c.stage_on.result ≡ stage_on c.args.self.now.recon c.args.src c.args.dst
+stage_read c =
+    let w = c.args.self.now in
+    let queue = c.index-queue.result.now in
+    let ends = ends_found w c.args.src c.args.dst c.in-Some.at queue c.in-Some.ensures (c.index-queue.ensures ∙ ap (λ (v : WorldValue). get_or v.queues c.in-Some.at queue) c.self.view_is) in
+    let src = c.src.ensures ∙ ends.0 in
+    let dst = c.dst.ensures ∙ ends.1 in
+    let opened = c.self.view_is in
+    c.stage_on.ensures.stage ∙ (λ i. stage_on (opened i).recon (src i) (dst i))
+
+pub returns-then-stage_on-stage : goal.returns-then-stage_on-stage
+returns-then-stage_on-stage c =
+    let w = c.args.self.now in
+    let read = stage_read (goal.at.returns-then-stage_on-stage c).After-stage in
+    link_of_stage w c.args.src c.args.dst c.in-Some.at _ (eq-eqb _ _ (sym read ∙ c.if-stage_on-stage.true ∙ c.stage.ensures)) c.in-Some.ensures
+
+pub returns-else-stage_on-stage : goal.returns-else-stage_on-stage
+returns-else-stage_on-stage c =
+    let w = c.args.self.now in
+    let read = stage_read (goal.at.returns-else-stage_on-stage c).After-stage in
+    link_of_stage w c.args.src c.args.dst c.in-Some.at _ (ne_eqb _ _ (λ same. c.if-stage_on-stage.false (read ∙ same ∙ sym c.stage.ensures))) c.in-Some.ensures
