@@ -81,14 +81,14 @@ output() {
     printf '%s\n' 'way 0 1 1 0 1 6 8 last 1' "in 6 $puts 0.0=1/61"
 }
 
-# Gives the program the inputs, and leaves what it wrote for each in a file.
+# Gives the program the inputs, and leaves what it wrote for each in a file, which is empty where it wrote nothing.
 run_inputs() {
     local texts
     mkdir "$room/inputs" "$room/outputs"
     for texts in $(seq "$fewest" "$most"); do input "$texts" > "$room/inputs/$texts"; done
     (cd "$top/crates/squall" && rt try --cases "$room/inputs" --fail-alloc "$failing" -- run) \
         > "$room/all" 2> "$room/said" || { cat "$room/said" >&2; exit 1; }
-    awk -v folder="$room/outputs/" '/^== / { file = folder $2; next } { print > file }' "$room/all"
+    awk -v folder="$room/outputs/" '/^== / { close(file); file = folder $2; printf "" > file; next } { print > file }' "$room/all"
 }
 
 run_inputs

@@ -207,6 +207,46 @@ fn short_reads_and_writes(rt: HostRuntime) -> Result<(), Fail> {
     Ok(())
 }
 
+// A reader that is interrupted twice before each read that another one makes.
+#[derive(Drop)]
+struct Interrupted<'a> {
+    reader: Drip<'a>,
+    times: u32,
+}
+
+impl Read for Interrupted<'_> {
+    fn read(&mut self, buf: &mut [u8]) -> io::Result<usize> {
+        if self.times < 2 {
+            self.times += 1;
+            return Err(io::Error::from(ErrorKind::Interrupted));
+        }
+        self.times = 0;
+        self.reader.read(buf)
+    }
+}
+
+// A read that is interrupted is made again, and what is written is the same.
+#[test]
+fn interrupted_reads(rt: HostRuntime) -> Result<(), Fail> {
+    for most in SIZES {
+        let mut reader = Interrupted {
+            reader: Drip {
+                rest: INPUT,
+                most,
+                fails: false,
+            },
+            times: 0,
+        };
+        let mut output = Vec::new(rt.alloc());
+        let ending = run(rt.alloc(), &mut reader, &mut output)?;
+        assert!(rt;
+            ending == Ending::Done && output.as_slice() == OUTPUT,
+            "by {most}"
+        );
+    }
+    Ok(())
+}
+
 // A header, and a script that takes a node, with all that is written for them.
 const HEADER: &[u8] = b"old {\"version\":1,\"partitions\":2,\"ranges\":[[0,4294967296,0]]}
 new {\"version\":1,\"partitions\":2,\"ranges\":[[0,4,0],[4,8,1],[8,4294967296,0]]}
