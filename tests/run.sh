@@ -87,12 +87,12 @@ compare() {
     judge "$1" "$status" "$3" "$room/said"
 }
 
-# compare_live NAME: gives an input of tests/lives to `squall live`.
+# compare_live NAME [OPTION]: gives an input of tests/lives to `squall live`, with this option besides its own.
 compare_live() {
     local path=$tests/lives/$1 status=0 line= last words=()
     if [ -e "$path.status" ]; then read -r status _ _ line < "$path.status" || true; fi
     if [ -e "$path.words" ]; then read -r -a words < "$path.words"; fi
-    give "$path.in" live "${words[@]}"
+    give "$path.in" live "${words[@]}" "${@:2}"
     last=$(cat "$path.out")
     if [ -e "$path.err" ]; then
         cp "$path.err" "$room/said"
@@ -102,18 +102,43 @@ compare_live() {
             *) : > "$room/said" ;;
         esac
     fi
-    judge "live $1" "$status" "$path.out" "$room/said"
+    judge "live $*" "$status" "$path.out" "$room/said"
 }
 
-# Live runs: each stored input once, and the longest one a hundred times, since threads may go in another order each time.
+# Live runs: each stored input once, those in several stages once more with folds, which change no line, and the longest
+# one in one stage a hundred times, since threads may go in another order each time.
 try_lives() {
     local input times=0
     for input in "$tests"/lives/*.in; do
         input=$(basename "$input")
         compare_live "${input%.in}"
     done
+    for input in as_many_segments_as_there_may_be five_partitions_in_four_stages jobs_of_each_stage moves_in_three_stages \
+        moves_in_two_stages sixty_four_partitions_and_16_pumps; do
+        compare_live "$input" --fold
+    done
     while [ "$times" -lt 100 ]; do
         compare_live four_partitions_round
+        times=$((times + 1))
+    done
+}
+
+# A move of five partitions in four stages under as many jobs as there may be, a hundred times: with one pump and with 16,
+# with folds and without.
+try_live_rounds() {
+    local times=0 id pumps fold
+    sed '/^txn /d' "$tests/lives/five_partitions_in_four_stages.in" > "$room/jobs.in"
+    for ((id = 0; id < 4096; id++)); do
+        echo "txn $((id % 5)) $id $((2 * (id * 37 % 100))) add 0 0 1"
+    done >> "$room/jobs.in"
+    echo 'sound 100 families 4096 committed' > "$room/wanted"
+    while [ "$times" -lt 25 ]; do
+        for pumps in 1 16; do
+            for fold in '' --fold; do
+                give "$room/jobs.in" live --turns 1000000000 --pumps "$pumps" ${fold:+"$fold"}
+                judge "live round with $pumps pumps $fold" 0 "$room/wanted" /dev/null
+            done
+        done
         times=$((times + 1))
     done
 }
@@ -154,10 +179,10 @@ compare_all() {
     done
 }
 
-# example WORD NAME: the example of this name in examples/, given to this subcommand.
+# example WORD NAME [OPTION]: the example of this name in examples/, given to this subcommand, with this option.
 example() {
-    give "$examples/$2.txt" "$1"
-    judge "examples/$2" 0 "$examples/$2.out" /dev/null
+    give "$examples/$2.txt" "$1" "${@:3}"
+    judge "examples/$2${*:3}" 0 "$examples/$2.out" /dev/null
 }
 
 # help_example WORD: the example in a subcommand's help text, pasted: the lines up to END are given, and those behind
@@ -178,6 +203,8 @@ try_examples() {
     example ranges ranges
     help_example ranges
     example live live-move
+    example live staged-live-move
+    example live staged-live-move --fold
     help_example live
 }
 
@@ -323,6 +350,8 @@ try_command_lines() {
     answer turns_that_are_no_number 2 live --turns many
     answer turns_twice 2 live --turns 1 --turns 2
     answer turns_without_a_number 2 live --turns
+    answer fold_twice 2 live --fold --fold
+    answer fold_with_a_value 2 live --fold=yes
     answer version_of_run 2 run --version
 }
 
@@ -375,6 +404,7 @@ for program in "${programs[@]}"; do
     compare_all "$room/limits" run
     try_examples
     try_lives
+    try_live_rounds
     try_live_limits
     try_ends
     try_streams

@@ -19,3 +19,6 @@ pub mod Ending
 pub mod Spanning
 pub mod Placing
 pub mod Fitting
+pub mod Tables
+pub mod Among
+pub mod Folds

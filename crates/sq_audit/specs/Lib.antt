@@ -9,3 +9,5 @@ pub mod Fits
 pub mod Notes
 pub mod Words
 pub mod Spans
+pub mod Rows
+pub mod Folding

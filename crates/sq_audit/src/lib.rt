@@ -1,9 +1,12 @@
 //! The audit of what a run left: where its families are, and whether they and the receipts are what the run was to give.
+//! And what is folded of it between stages.
 #![tactic(auto)]
 
 mod answered;
 mod by_id;
 mod fits;
+mod folded;
+mod folding;
 mod index;
 mod job;
 pub mod laws;
@@ -12,11 +15,14 @@ mod notes;
 mod passes;
 mod placed;
 mod spans;
+mod table;
 mod tiles;
 mod told;
 mod verdict;
 mod words;
 
+pub use folded::{Folded, Unchanged, Unfolded};
+pub use folding::fold;
 pub use job::Job;
 pub use passes::audit;
 pub use verdict::{Defect, Verdict};

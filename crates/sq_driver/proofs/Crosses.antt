@@ -25,6 +25,8 @@ use Rattle.sq_status.specs.contracts.tree.TreeSeat.TheInside as Held
 use Rattle.sq_status.proofs.tree.StatusTree.TheSendSync as tree
 use Rattle.sq_link.specs.contracts.link.Link as Link
 use Rattle.sq_link.proofs.link.Link.TheSendSync as link
+use Rattle.sq_node.specs.contracts.receipt.Receipt as Receipt
+use Rattle.sq_node.proofs.receipt.Receipt.TheSendSync as receipt
 use Rattle.sq_node.specs.contracts.fabric.Fabric as Fabric
 use Rattle.sq_node.specs.contracts.fabric.Fabric.TheInside as Shared
 
@@ -57,7 +59,10 @@ fabric_sync =
               vec_sync TreeSeat.the_row tree_seat,
               (
                 vec_sync Link.the_row link.the_sync,
-                (vec_sync _ (queue_sync Request.the_row request.the_send), (vec_sync _ (queue_sync Txn.the_row txn.the_send), (atomic.the_sync, (atomic.the_sync, tt)))),
+                (
+                  vec_sync Receipt.the_row receipt.the_sync,
+                  (vec_sync _ (queue_sync Request.the_row request.the_send), (vec_sync _ (queue_sync Txn.the_row txn.the_send), (atomic.the_sync, (atomic.the_sync, tt)))),
+                ),
               ),
             ),
           ),

@@ -3,11 +3,13 @@ ghost use Rattle.std.specs.Prelude.{ℕ, List, All};
 ghost use Rattle.sq_ranges.specs.OpeningValue.{OpeningValue};
 ghost use Rattle.sq_ranges.specs.Opening.{IsOpening};
 ghost use Rattle.sq_pull.specs.Pump.{PumpValue};
+ghost use Rattle.sq_store.specs.StoreValue.{StoreValue};
+ghost use Rattle.sq_node_model.specs.NodeValue.{ReceiptValue};
 ghost use Rattle.sq_node_model.specs.BeganWith.{BeganWith, first_began};
 ghost use Rattle.sq_node.specs.FabricValue.{FabricValue};
 ghost use Rattle.sq_node.specs.NodeState.{NodeState, IsNodeOf};
 ghost use Rattle.sq_node.specs.Holds.{HoldsUnder};
-ghost use Rattle.sq_node.specs.Opened.{IsOpened};
+ghost use Rattle.sq_node.specs.Opened.{IsOpened, IsResumed};
 ghost use Rattle.sq_driver.specs.Nodes.{AllDriven};
 ghost use Rattle.sq_driver.specs.Pumps.{IsPumpOf, AllPumpsDriven};
 
@@ -20,6 +22,14 @@ pub fn opened_workers_can_be_driven()
         → IsOpened o count fabric nodes pumps → All (IsPumpOf fabric) pumps }
     ensures hold { (o : OpeningValue) (count : ℕ) (fabric : FabricValue) (nodes : List NodeState) (pumps : List PumpValue)
         → IsOpened o count fabric nodes pumps → All (HoldsUnder o (first_began o)) nodes }
+{}
+
+/// The nodes and the pumps that a stage of a run begins with can be driven.
+pub fn resumed_workers_can_be_driven()
+    ensures nodes { (o : OpeningValue) (stage : ℕ) (stores : List StoreValue) (receipts : List ReceiptValue) (count : ℕ) (fabric : FabricValue) (nodes : List NodeState) (pumps : List PumpValue)
+        → IsResumed o stage stores receipts count fabric nodes pumps → All (IsNodeOf fabric) nodes }
+    ensures pumps { (o : OpeningValue) (stage : ℕ) (stores : List StoreValue) (receipts : List ReceiptValue) (count : ℕ) (fabric : FabricValue) (nodes : List NodeState) (pumps : List PumpValue)
+        → IsResumed o stage stores receipts count fabric nodes pumps → All (IsPumpOf fabric) pumps }
 {}
 
 /// What a node keeps holds of all nodes of a run once they were driven, under each opening, and each beginning of a stage,

@@ -8,8 +8,8 @@ use sq_pull::{Pump, PumpTurn};
 use std::sync::Wait;
 use std::thread;
 
-/// Drives a pump: it takes this many turns. It ends before where it is done: there was nothing to claim in any segment, and
-/// nothing is pending. And it ends where the gate says so, which is asked before each turn. After a turn in which nothing was
+/// Drives a pump: it takes this many turns. It ends before where it is done: there was nothing to claim in any segment of the
+/// running stage, and nothing is pending. And it ends where the gate says so, which is asked before each turn. After a turn in which nothing was
 /// claimed, other threads go first.
 pub fn drive_pump<R: Wait, G: Gate>(rt: &R, fabric: &Fabric, pump: &mut Pump, turns: u64, gate: &G)
     requires { AreSeatsOf fabric.now.trees pump.old.seats }

@@ -34,6 +34,7 @@ pub record HasAdded (old : GatheringValue) (nodes : List NodeState) (new : Gathe
   pub stores : new.stores ≡ old.stores ++ map (λ (node : NodeState). node.core.store) nodes
   pub receipts : new.receipts ≡ old.receipts ++ flat_map (λ (node : NodeState). node.receipts) nodes
   pub owners : new.owners ≡ old.owners ++ map (λ (node : NodeState). node.seats) nodes
+  pub left : new.left ≡ old.left
   pub room : KeepsRoom old.room new.room
 
 pub has_added : (old : GatheringValue) (nodes : List NodeState) (new : GatheringValue) → AddsNodes old nodes new → HasAdded old nodes new
@@ -41,6 +42,7 @@ has_added old [] new adds = record {
   stores = ap (λ (g : GatheringValue). g.stores) adds ∙ sym (append-nil old.stores);
   receipts = ap (λ (g : GatheringValue). g.receipts) adds ∙ sym (append-nil old.receipts);
   owners = ap (λ (g : GatheringValue). g.owners) adds ∙ sym (append-nil old.owners);
+  left = ap (λ (g : GatheringValue). g.left) adds;
   room = record {
     stores = omega (arith, ap (λ (g : GatheringValue). g.room.stores) adds);
     receipts = omega (arith, ap (λ (g : GatheringValue). g.room.receipts) adds);
@@ -57,6 +59,7 @@ has_added old (node ∷ nodes) new adds =
       receipts = rest.receipts ∙ ap (λ (list : List ReceiptValue). list ++ flat_map (λ (node : NodeState). node.receipts) nodes) one.receipts
           ∙ append_assoc old.receipts node.receipts (flat_map (λ (node : NodeState). node.receipts) nodes);
       owners = rest.owners ∙ ap (λ (list : List (List SeatValue)). list ++ map (λ (node : NodeState). node.seats) nodes) one.owners ∙ append_assoc old.owners (node.seats ∷ []) (map (λ (node : NodeState). node.seats) nodes);
+      left = rest.left ∙ one.left;
       room = record {
         stores = omega (arith, one.room.stores, rest.room.stores);
         receipts = omega (arith, one.room.receipts, rest.room.receipts);

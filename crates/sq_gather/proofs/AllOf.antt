@@ -1,9 +1,12 @@
 -- What a run opens with is all of it, and its pumps stay its pumps.
-use Rattle.std.proofs.Common.{◌≡◌, ℕ, ◌+◌, ◌<◌, true, false, ◌&&◌, ◌==◌, List, [], map, Option, Some, None, refl, sym, ap, ◌∙◌, subst, arith}
+use Rattle.std.proofs.Common.{◌≡◌, ℕ, ◌+◌, ◌<◌, true, false, ◌&&◌, ◌==◌, List, [], length, map, Option, Some, None, refl, sym, ap, ◌∙◌, subst, arith}
 use Rattle.std.specs.Prelude.{slice_get}
 use Rattle.std.specs.Option.{option_map_or}
+use Rattle.std.specs.List.{range_with_len}
 use Rattle.std.proofs.lemmas.Bool.{and_parts, eqb-true}
+use Rattle.std.proofs.lemmas.List.{length-map}
 use Rattle.std.proofs.lemmas.List.Elements.{All-contains}
+use Rattle.std.proofs.lemmas.List.FromFn.{length-range_with_len}
 use Rattle.atomic_table.specs.Seated.{TableId}
 use Rattle.sq_ranges.specs.declared.recon.Range.{Range}
 use Rattle.sq_ranges.specs.ReconValue.{ReconValue, is_link, stage_on}
@@ -12,8 +15,10 @@ use Rattle.sq_ranges.specs.OpeningValue.{OpeningValue}
 use Rattle.sq_ranges.specs.Opening.{IsOpening}
 use Rattle.sq_model.proofs.Keys.{source_below, destination_below}
 use Rattle.sq_model.proofs.Lists.{any_in, Contains-slice_get}
+use Rattle.sq_store.specs.StoreValue.{StoreValue}
 use Rattle.sq_link.specs.Values.{LinkValue}
 use Rattle.sq_exec.specs.CoreValue.{CoreValue}
+use Rattle.sq_opened.specs.Opened.{opened_part}
 use Rattle.sq_status.specs.declared.view.View.{View}
 use Rattle.sq_status.specs.View.{fresh}
 use Rattle.sq_status.specs.Seat.{SeatValue}
@@ -23,7 +28,7 @@ use Rattle.sq_placed.proofs.Lists.{map_at, at_map}
 use Rattle.sq_node_model.proofs.Members.{Contains-map}
 use Rattle.sq_node.specs.FabricValue.{FabricValue, IsFabric, AreStageLinks, ends_of}
 use Rattle.sq_node.specs.NodeState.{NodeState}
-use Rattle.sq_node.specs.Opened.{AreFirstSeats, AreNewSeats, IsOpened}
+use Rattle.sq_node.specs.Opened.{AreFirstSeats, AreNewSeats, IsFabricOf, AreNewNodes, AreNewPumps, IsOpened, opened_stores}
 use Rattle.sq_gather.specs.Gathered.{IsPumpOf, AreAllOf}
 
 -- a link of an opening leads from one of its partitions to another
@@ -55,20 +60,29 @@ new_pump_of fabric pump new =
       completed = λ seg. completed_none fabric.trees pump.seats new seg (slice_get pump.seats seg) refl;
     }
 
-pub all_of_opened : (o : OpeningValue) (count : ℕ) (fabric : FabricValue) (nodes : List NodeState) (pumps : List PumpValue) → IsOpening o → IsFabric fabric → IsOpened o count fabric nodes pumps → AreAllOf fabric nodes pumps
-all_of_opened o count fabric nodes pumps opening is opened =
+-- new nodes of all partitions and new pumps are all of a run whose seats were all given to them
+pub all_of_new : (o : OpeningValue) (count : ℕ) (stores : List StoreValue) (fabric : FabricValue) (nodes : List NodeState) (pumps : List PumpValue) → IsOpening o → IsFabric fabric → IsFabricOf o fabric → length stores ≡ o.old.parts
+    → AreFirstSeats (o.old.parts + count) fabric.trees fabric.seats → AreNewNodes o fabric stores nodes → AreNewPumps fabric count pumps → AreAllOf fabric nodes pumps
+all_of_new o count stores fabric nodes pumps opening is shared whole seats each_node each_pump =
     record {
-      seats = subst (λ (given : ℕ). AreFirstSeats given fabric.trees fabric.seats) (λ k. sym opened.each_node.all k + sym opened.each_pump.all k) opened.seats;
-      count = opened.each_node.all ∙ sym opened.shared.parts;
+      seats = subst (λ (given : ℕ). AreFirstSeats given fabric.trees fabric.seats) (omega (arith, each_node.all, whole, each_pump.all)) seats;
+      count = each_node.all ∙ whole ∙ sym shared.parts;
       ends = λ i link there.
-          let below = ends_below o opening fabric.stage fabric.links (subst (λ (recon : ReconValue). AreStageLinks recon fabric.stage (map ends_of fabric.links)) opened.shared.recon is.links) i link there in
-          let parts = opened.shared.parts in (
+          let below = ends_below o opening fabric.stage fabric.links (subst (λ (recon : ReconValue). AreStageLinks recon fabric.stage (map ends_of fabric.links)) shared.recon is.links) i link there in
+          let parts = shared.parts in (
             omega (arith, below.0, parts),
             omega (arith, below.1, parts),
           );
-      each_node = λ part node there. let new = opened.each_node.each part node there in (new.of, ap (λ (core : CoreValue). core.part) new.core);
-      each_pump = λ i pump there. new_pump_of fabric pump (opened.each_pump.each i pump there).seats;
+      each_node = λ part node there. let new = each_node.each part node there in (new.of, ap (λ (core : CoreValue). core.part) new.core);
+      each_pump = λ i pump there. new_pump_of fabric pump (each_pump.each i pump there).seats;
     }
+
+-- what a run opens with is all of it
+pub all_of_opened : (o : OpeningValue) (count : ℕ) (fabric : FabricValue) (nodes : List NodeState) (pumps : List PumpValue) → IsOpening o → IsFabric fabric → IsOpened o count fabric nodes pumps → AreAllOf fabric nodes pumps
+all_of_opened o count fabric nodes pumps opening is opened =
+    all_of_new o count (opened_stores o) fabric nodes pumps opening is opened.shared
+    (length-map (range_with_len 0 o.old.parts) (λ part. (opened_part o part).store) ∙ length-range_with_len 0 o.old.parts)
+    opened.seats opened.each_node opened.each_pump
 
 -- what the seat of a segment began is what it had begun, where all together have
 seat_before : (part : SeatValue → List (ℕ × ℕ)) (old new : List SeatValue) → map part new ≡ map part old → (seg : ℕ) (seat : SeatValue) → slice_get new seg ≡ Some seat → (before : SeatValue) × (slice_get old seg ≡ Some before) × (part before ≡ part seat)

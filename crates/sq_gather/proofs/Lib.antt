@@ -1,12 +1,17 @@
 pub mod Adding
 pub mod AllOf
 pub mod Closing
+pub mod Opens
+pub mod Running
+pub mod StageDone
 pub mod Staged
 pub mod Filling
 pub mod Joined
 pub mod Joining
 pub mod Linked
 pub mod Lists
+pub mod NodeReads
 pub mod Placing
 pub mod Putting
+pub mod Waits
 pub mod Whole

@@ -20,11 +20,11 @@ use Rattle.sq_node_model.specs.Placed.{IsPlaced, GoOn}
 use Rattle.sq_placed.proofs.Lists.{stands_at, map_at}
 use Rattle.sq_placed.proofs.Placed.{is_placed}
 use Rattle.sq_placed.proofs.Families.{go_on}
-use Rattle.sq_node.specs.FabricValue.{FabricValue, IsFabric, AreStageLinks, ends_of}
+use Rattle.sq_node.specs.FabricValue.{FabricValue, HasBegun, IsFabric, AreStageLinks, ends_of}
 use Rattle.sq_node.specs.NodeState.{NodeState, views_of, node_value}
 use Rattle.sq_node.specs.Opened.{IsFabricOf}
 use Rattle.sq_gather.specs.Trees.{view_with}
-use Rattle.sq_gather.specs.Gathered.{AreAllOf, IsGathered, HasBegun, AllHold, owners_of, closed_ends}
+use Rattle.sq_gather.specs.Gathered.{AreAllOf, IsGathered, AllHold, owners_of, closed_ends}
 use Rattle.sq_gather.proofs.Lists.{map_twice, flat_map_none}
 use Rattle.sq_ranges.proofs.LinksFrom.{one_each, each_link}
 use Rattle.sq_gather.proofs.Staged.{ranges_in, linked_in, as_links}
@@ -84,7 +84,7 @@ module _ (fabric : FabricValue) (nodes : List NodeState) (pumps : List PumpValue
       parts = λ p node there. let at = map_at node_value nodes p node there in ap (λ (n : NodeValue). n.part) (sym at.2) ∙ (all.each_node p at.0 at.1).1;
       holds = λ p node there. let at = map_at node_value nodes p node there in subst (NodeHolds o began) at.2 (hold p at.0 at.1);
       stores = gathered.stores ∙ sym (map_twice (λ (node : NodeValue). node.store) node_value nodes);
-      receipts = gathered.receipts ∙ sym (flat_map-map (λ (node : NodeValue). node.receipts) node_value nodes)
+      receipts = gathered.receipts ∙ ap (λ (list : List ReceiptValue). fabric.receipts ++ list) (sym (flat_map-map (λ (node : NodeValue). node.receipts) node_value nodes))
           ∙ ap (λ (past : List ReceiptValue). past ++ flat_map (λ (node : NodeValue). node.receipts) (map node_value nodes)) (sym begun.receipts);
       each_link = each_of_links;
       links = gathered.links;

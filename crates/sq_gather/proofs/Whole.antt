@@ -27,15 +27,45 @@ use Rattle.sq_gather.specs.Links.{IsClosed, HaveEnds}
 use Rattle.sq_gather.specs.Links.{AreClosed as AreClosedLinks}
 use Rattle.sq_gather.specs.Trees.{AllAreSeatsOf, AwaitOwners}
 use Rattle.sq_gather.specs.Trees.{AreClosed as AreClosedTrees}
-use Rattle.sq_gather.specs.GatheringValue.{GatheringValue, IsReserved, IsAddable, AddsNodes, IsClosable}
+use Rattle.sq_gather.specs.GatheringValue.{GatheringValue, AreReserved, IsReserved, AddsReceipts, IsAddable, HasRoomFor, AddsNodes, IsClosable}
 use Rattle.sq_gather.specs.Gathered.{AreAllOf, IsGathered, owners_of, closed_ends}
 use Rattle.sq_gather.proofs.Lists.{maps_same}
 use Rattle.sq_gather.proofs.Filling.{HasSource, HasDestination, AreFilled}
 use Rattle.sq_gather.proofs.Adding.{HasAdded, has_added, addable, all_filled}
 
-module _ (fabric : FabricValue) (nodes : List NodeState) (pumps : List PumpValue) (is : IsFabric fabric) (all : AreAllOf fabric nodes pumps) (none : GatheringValue) (reserved : IsReserved fabric nodes (length pumps) none) where
+-- there is room for the receipts of earlier stages, and for the rest once they are added
+module _ (fabric : FabricValue) (nodes : List NodeState) (pumps : ℕ) (none : GatheringValue) (reserved : IsReserved [] fabric nodes pumps none) (past : List ReceiptValue) (of : past ≡ fabric.receipts) where
+  pub room_for_past : length none.receipts + length past ≤ none.room.receipts
+  room_for_past = omega (arith, reserved.room.receipts, ap length reserved.receipts, ap length of)
+
+  pub with_past : (new : GatheringValue) → AddsReceipts none past new → IsReserved fabric.receipts fabric nodes pumps new
+  with_past new adds =
+      let room = adds.room in
+      record {
+        stores = ap (λ (g : GatheringValue). g.stores) adds.is ∙ reserved.stores;
+        receipts = ap (λ (g : GatheringValue). g.receipts) adds.is ∙ ap (λ (list : List ReceiptValue). list ++ past) reserved.receipts ∙ of;
+        owners = ap (λ (g : GatheringValue). g.owners) adds.is ∙ reserved.owners;
+        ends = subst (λ (g : GatheringValue). AreReserved fabric.links g.ends) (sym adds.is) reserved.ends;
+        left = ap (λ (g : GatheringValue). g.left) adds.is ∙ reserved.left;
+        room = record {
+          stores = omega (arith, reserved.room.stores, room.stores);
+          receipts = omega (arith, reserved.room.receipts, room.receipts);
+          owners = omega (arith, reserved.room.owners, room.owners);
+          links = omega (arith, reserved.room.links, room.links);
+          trees = room.trees ∙ reserved.room.trees;
+        };
+      }
+
+module _ (fabric : FabricValue) (nodes : List NodeState) (pumps : List PumpValue) (is : IsFabric fabric) (all : AreAllOf fabric nodes pumps) (none : GatheringValue) (reserved : IsReserved fabric.receipts fabric nodes (length pumps) none) where
   pub each_addable : (part : ℕ) (node : NodeState) → slice_get nodes part ≡ Some node → IsAddable (length none.ends) node
   each_addable part node there = addable fabric is node (all.each_node part node there).0 (length none.ends) reserved.ends.count
+
+  pub room_for_nodes : HasRoomFor none nodes
+  room_for_nodes = record {
+    stores = omega (arith, reserved.room.stores, ap length reserved.stores);
+    receipts = omega (arith, reserved.room.receipts, ap length reserved.receipts);
+    owners = omega (arith, reserved.room.owners, ap length reserved.owners);
+  }
 
   none_filled : AreFilled fabric.links [] none.ends
   none_filled = record {
@@ -175,7 +205,7 @@ module _ (fabric : FabricValue) (nodes : List NodeState) (pumps : List PumpValue
                 ∙ (λ k. option_to_list ((has.destination.inbox ∙ ap (inbox_at has.to.core) (sym closes.src)) k) ++ (closes.queue ++ option_to_list ((has.source.outbox ∙ ap (λ (dst : ℕ). (out_at has.from.core dst).outbox) (sym closes.dst)) k)));
           }
 
-      module _ (g : GatheredValue) (stores : g.stores ≡ whole.stores) (receipts : g.receipts ≡ whole.receipts) (stage : g.stage ≡ fabric.stage) (links : AreClosedLinks fabric.links whole.ends g.links) (words : AreClosedTrees fabric.seats whole.owners g.words) where
+      module _ (g : GatheredValue) (stores : g.stores ≡ whole.stores) (receipts : g.receipts ≡ whole.receipts) (left : length g.left ≡ whole.left) (stage : g.stage ≡ fabric.stage) (links : AreClosedLinks fabric.links whole.ends g.links) (words : AreClosedTrees fabric.seats whole.owners g.words) where
         pub is_gathered : IsGathered fabric nodes pumps g
         is_gathered = record {
           stage = stage;
@@ -192,4 +222,5 @@ module _ (fabric : FabricValue) (nodes : List NodeState) (pumps : List PumpValue
               let left : (e : LinkEndsValue) × (slice_get whole.ends i ≡ Some e) = stands_at whole.ends i (omega (arith, links.count, filled.count)) in
               closed_link i link.0 left.0 closed (has_nodes i link.0 left.0 link.1 left.1) (links.each i link.0 left.0 closed link.1 left.1 closed_there);
           words = subst (λ (owners : List (List SeatValue)). AreClosedTrees fabric.seats owners g.words) owners_are words;
+          left = left ∙ ap (λ (g : GatheringValue). g.left) pumped ∙ has.left ∙ reserved.left;
         }

@@ -40,19 +40,15 @@ owners_of nodes pumps = map (λ node. node.seats) nodes ++ map (λ pump. pump.se
 abbrev pub closed_ends : GatheredLink → Link
 closed_ends link = record { src = link.src; dst = link.dst }
 
--- this is gathered of these nodes and pumps: the stage of the run, their families, their receipts, the links of the run, each with what its two nodes and its queue left of it, and the statuses that all seats together made
+-- this is gathered of these nodes and pumps: the stage of the run, their families, the receipts of earlier stages and then theirs, the links of the run, each with what its two nodes and its queue left of it, the statuses that all seats together made, and for each partition a list of jobs
 pub record IsGathered (fabric : FabricValue) (nodes : List NodeState) (pumps : List PumpValue) (g : GatheredValue) : Type 0 where
   pub stage : g.stage ≡ fabric.stage
   pub stores : g.stores ≡ map (λ node. node.core.store) nodes
-  pub receipts : g.receipts ≡ flat_map (λ node. node.receipts) nodes
+  pub receipts : g.receipts ≡ fabric.receipts ++ flat_map (λ node. node.receipts) nodes
   pub ends : map closed_ends g.links ≡ map ends_of fabric.links
   pub links : (i : ℕ) (link : GatheredLink) → slice_get g.links i ≡ Some link → IsClosedLink (map node_value nodes) link
   pub words : AreClosed fabric.seats (owners_of nodes pumps) g.words
-
--- a stage that begins so is the run's, which has no receipts of earlier ones
-pub record HasBegun (began : BeganWith) (fabric : FabricValue) : Type 0 where
-  pub stage : began.stage ≡ fabric.stage
-  pub receipts : began.receipts ≡ []
+  pub left : length g.left ≡ fabric.parts
 
 -- of each node all holds that a node keeps
 abbrev pub AllHold : OpeningValue → BeganWith → List NodeState → Type 0

@@ -21,18 +21,19 @@ pub record RoomValue : Type 0 where
   pub links : ℕ
   pub trees : ℕ
 
--- the families by partition, the receipts, the seats by owner, and what the ends of each link left of it
+-- the families by partition, the receipts, the seats by owner, what the ends of each link left of it, and for how many partitions there are lists of jobs
 pub record GatheringValue : Type 0 where
   pub stores : List StoreValue
   pub receipts : List ReceiptValue
   pub owners : List (List SeatValue)
   pub ends : List LinkEndsValue
+  pub left : ℕ
   pub room : RoomValue
 
 -- there is room for all of a run with these nodes and this many pumps
 pub record IsRoomFor (fabric : FabricValue) (nodes : List NodeState) (pumps : ℕ) (room : RoomValue) : Type 0 where
   pub stores : length nodes ≤ room.stores
-  pub receipts : sum_by (λ node. length node.receipts) nodes ≤ room.receipts
+  pub receipts : length fabric.receipts + sum_by (λ node. length node.receipts) nodes ≤ room.receipts
   pub owners : length nodes + pumps ≤ room.owners
   pub links : length fabric.links ≤ room.links
   pub trees : room.trees ≡ length fabric.recon.segments
@@ -42,12 +43,13 @@ pub record AreReserved (links : List LinkValue) (ends : List LinkEndsValue) : Ty
   pub count : length ends ≡ length links
   pub each : (i : ℕ) (link : LinkValue) (left : LinkEndsValue) → slice_get links i ≡ Some link → slice_get ends i ≡ Some left → left ≡ no_ends (link.capacity + 2)
 
--- nothing is gathered, and there is room for all
-pub record IsReserved (fabric : FabricValue) (nodes : List NodeState) (pumps : ℕ) (gathering : GatheringValue) : Type 0 where
+-- these receipts are gathered and nothing else, and there is room for all
+pub record IsReserved (past : List ReceiptValue) (fabric : FabricValue) (nodes : List NodeState) (pumps : ℕ) (gathering : GatheringValue) : Type 0 where
   pub stores : gathering.stores ≡ []
-  pub receipts : gathering.receipts ≡ []
+  pub receipts : gathering.receipts ≡ past
   pub owners : gathering.owners ≡ []
   pub ends : AreReserved fabric.links gathering.ends
+  pub left : gathering.left ≡ fabric.parts
   pub room : IsRoomFor fabric nodes pumps gathering.room
 
 -- there is as much room as there was
@@ -57,6 +59,11 @@ pub record KeepsRoom (old new : RoomValue) : Type 0 where
   pub owners : old.owners ≤ new.owners
   pub links : old.links ≤ new.links
   pub trees : new.trees ≡ old.trees
+
+-- these receipts are added
+pub record AddsReceipts (old : GatheringValue) (receipts : List ReceiptValue) (new : GatheringValue) : Type 0 where
+  pub is : new ≡ record old { receipts = old.receipts ++ receipts; room = new.room }
+  pub room : KeepsRoom old.room new.room
 
 -- a node has an end for each partition, each of one of this many links, no two of one link
 pub record IsAddable (links : ℕ) (node : NodeState) : Type 0 where
@@ -81,6 +88,7 @@ pub record AddsNode (old : GatheringValue) (node : NodeState) (new : GatheringVa
   pub between : List LinkEndsValue
   pub sources : SourcesPut node.sends node.core.outs 0 old.ends between
   pub destinations : DestinationsPut node.recvs node.core.inboxes 0 between new.ends
+  pub left : new.left ≡ old.left
   pub room : KeepsRoom old.room new.room
 
 -- what these nodes left is added, one after another

@@ -1,6 +1,8 @@
 pub mod Ends
 pub mod Gathered
 pub mod GatheringValue
+pub mod Grown
 pub mod LinkEnds
 pub mod Links
+pub mod Reopened
 pub mod Trees

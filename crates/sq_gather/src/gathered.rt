@@ -1,6 +1,7 @@
 // What is gathered of a run.
 use crate::links::ClosedLink;
 use sq_node::Receipt;
+use sq_schema::Txn;
 use sq_store::SlabStore;
 use sq_tree::{NODES, Status};
 use std::marker::Model;
@@ -18,9 +19,13 @@ pub struct Gathered {
     pub words: Vec<[Status; NODES]>,
     /// The receipts, partition by partition, each partition's in the order in which they were written.
     pub receipts: Vec<Receipt>,
+    /// For each partition the jobs that weren't answered: those that waited there, those that were pending for it, and those
+    /// in its queue.
+    pub left: Vec<Vec<Txn>>,
 }
 
 impl Model for Gathered {
+    ghost use Rattle.std.specs.Prelude.{map};
     ghost use Rattle.std.specs.Coded.{codes};
     ghost use Rattle.sq_store.proofs.Codes.{store_coded};
     ghost use Rattle.sq_node_model.specs.Gathered.{GatheredValue};
@@ -29,5 +34,5 @@ impl Model for Gathered {
 
     ghost coded = { Prim.hlevel (codes, store_coded) };
 
-    ghost view = { λ g. record { stage = g.stage; stores = g.stores.items; links = g.links.items; words = g.words.items; receipts = g.receipts.items } };
+    ghost view = { λ g. record { stage = g.stage; stores = g.stores.items; links = g.links.items; words = g.words.items; receipts = g.receipts.items; left = map (λ jobs. jobs.items) g.left.items } };
 }

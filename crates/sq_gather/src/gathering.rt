@@ -3,17 +3,20 @@ ghost use Rattle.std.specs.Prelude.{◌≡◌, ℕ, ◌+◌, ◌<◌, ◌≤◌,
 ghost use Rattle.sq_node.specs.NodeState.{NodeState};
 ghost use Rattle.sq_gather.specs.Links.{AreClosed as AreClosedLinks};
 ghost use Rattle.sq_gather.specs.Trees.{AreClosed as AreClosedTrees};
-ghost use Rattle.sq_gather.specs.GatheringValue.{IsAddable, HasRoomFor, AreReserved, IsReserved, AddsNode, AddsNodes, IsClosable};
+ghost use Rattle.sq_gather.specs.GatheringValue.{IsAddable, HasRoomFor, AreReserved, IsReserved, AddsReceipts, AddsNode, AddsNodes, IsClosable};
 
 use crate::ends::{put_destinations, put_sources};
 use crate::gathered::Gathered;
+use crate::left::{add_posts, add_queued, add_waiting, reserve_left};
 use crate::link_ends::LinkEnds;
 use crate::links::{ClosedLink, close_links};
 use crate::trees::close_trees;
+use crossbeam_queue::ArrayQueue;
 use sq_exec::CoreParts;
 use sq_link::Link;
 use sq_node::{Fabric, Node, NodeParts, Receipt};
 use sq_pull::Pump;
+use sq_schema::Txn;
 use sq_status::{StatusTree, TreeSeat};
 use sq_store::SlabStore;
 use sq_tree::{NODES, Status};
@@ -30,6 +33,7 @@ pub(crate) struct Gathering {
     ends: Vec<LinkEnds>,
     links: Vec<ClosedLink>,
     words: Vec<[Status; NODES]>,
+    left: Vec<Vec<Txn>>,
 }
 
 impl Model for Gathering {
@@ -47,6 +51,7 @@ impl Model for Gathering {
       receipts = g.receipts.items;
       owners = map (λ owner. owner.items) g.owners.items;
       ends = g.ends.items;
+      left = length g.left.items;
       room = record {
         stores = vec_capacity g.stores;
         receipts = vec_capacity g.receipts;
@@ -60,16 +65,17 @@ impl Model for Gathering {
 }
 
 impl Gathering {
-    // Room for all that these nodes and this many pumps left.
+    // Room for the receipts of earlier stages, and for all that these nodes and this many pumps left.
     pub(crate) fn reserve(
         alloc: Global,
         fabric: &Fabric,
         nodes: &[Node],
         pumps: usize,
     ) -> Result<Gathering, AllocError>
-        ensures { IfOk result (IsReserved fabric.now nodes.now pumps) }
+        ensures { IfOk result (IsReserved [] fabric.now nodes.now pumps) }
     {
-        let receipts = count_receipts(nodes).ok_or(AllocError)?;
+        let past = fabric.receipts().len();
+        let receipts = count_receipts(past, nodes).ok_or(AllocError)?;
         let owners = nodes.len().checked_add(pumps).ok_or(AllocError)?;
         let trees = fabric.recon().segments().len();
         Ok(Gathering {
@@ -79,7 +85,18 @@ impl Gathering {
             ends: reserve_ends(alloc, fabric.links())?,
             links: Vec::with_capacity(alloc, fabric.links().len())?,
             words: vec![in alloc; [Status::Free; NODES]; trees]?,
+            left: reserve_left(alloc, fabric.parts(), nodes)?,
         })
+    }
+
+    // Adds receipts of earlier stages.
+    pub(crate) fn add_receipts(&mut self, mut receipts: Vec<Receipt>)
+        requires { length self.old.receipts + length receipts.items ≤ self.old.room.receipts }
+        ensures { AddsReceipts self.old receipts.items self.new }
+    {
+        let Ok(()) = self.receipts.append(&mut receipts) else {
+            unreachable!()
+        };
     }
 
     // Adds what the nodes left.
@@ -102,18 +119,20 @@ impl Gathering {
         ensures { AddsNode self.old node self.new }
     {
         let NodeParts {
+            part,
             core,
             seats,
             sends,
             recvs,
             mut receipts,
+            posts,
             ..
         } = node.into_parts();
         let CoreParts {
             store,
+            waiting,
             inboxes,
             outs,
-            ..
         } = core;
         self.stores.push_reserved(store);
         let Ok(()) = self.receipts.append(&mut receipts) else {
@@ -122,6 +141,15 @@ impl Gathering {
         self.owners.push_reserved(seats);
         put_sources(&mut self.ends, sends, outs);
         put_destinations(&mut self.ends, recvs, inboxes);
+        add_waiting(&mut self.left, part, waiting);
+        add_posts(&mut self.left, posts);
+    }
+
+    // Adds the jobs of the queues.
+    pub(crate) fn add_jobs<R: Wait>(&mut self, rt: &R, queues: Vec<ArrayQueue<Txn>>)
+        ensures { self.new ≡ self.old }
+    {
+        add_queued(rt, &mut self.left, queues);
     }
 
     // Adds the seats of the pumps.
@@ -158,6 +186,7 @@ impl Gathering {
         ensures receipts { result.receipts ≡ self.receipts }
         ensures links { AreClosedLinks links.items self.ends result.links }
         ensures words { AreClosedTrees first.items self.owners result.words }
+        ensures left { length result.left ≡ self.left }
     {
         Gathered {
             stage,
@@ -165,15 +194,16 @@ impl Gathering {
             receipts: self.receipts,
             links: close_links(rt, links, self.ends, self.links),
             words: close_trees(trees, first, self.owners, self.words),
+            left: self.left,
         }
     }
 }
 
-// How many receipts the nodes have together.
-fn count_receipts(nodes: &[Node]) -> Option<usize>
-    ensures { IfSome result (λ count. count ≡ sum_by (λ node. length node.receipts) nodes.now) }
+// How many receipts the nodes have together with so many of earlier stages.
+fn count_receipts(past: usize, nodes: &[Node]) -> Option<usize>
+    ensures { IfSome result (λ count. count ≡ past + sum_by (λ node. length node.receipts) nodes.now) }
 {
-    let mut count: usize = 0;
+    let mut count = past;
     for node in nodes {
         count = count.checked_add(node.receipts().len())?;
     }

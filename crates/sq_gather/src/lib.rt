@@ -5,13 +5,18 @@ mod ends;
 mod gathered;
 mod gathering;
 pub mod laws;
+mod left;
 mod link_ends;
 mod links;
+mod reopened;
 mod run;
+mod stage_done;
 mod trees;
 
 pub use gathered::Gathered;
 pub use link_ends::LinkEnds;
 pub use links::{ClosedLink, close_link, close_links};
+pub use reopened::reopen;
 pub use run::{Ungathered, gather};
+pub use stage_done::reads_complete;
 pub use trees::close_trees;

@@ -4,8 +4,9 @@ ghost use Rattle.sq_ranges.specs.OpeningValue.{OpeningValue};
 ghost use Rattle.sq_ranges.specs.Opening.{IsOpening};
 ghost use Rattle.sq_node_model.specs.Placed.{IsPlaced, GoOn};
 ghost use Rattle.sq_node_model.specs.BeganWith.{BeganWith, CanBegin};
+ghost use Rattle.sq_node.specs.FabricValue.{HasBegun};
 ghost use Rattle.sq_node.specs.Opened.{IsFabricOf};
-ghost use Rattle.sq_gather.specs.Gathered.{AreAllOf, IsGathered, HasBegun, AllHold};
+ghost use Rattle.sq_gather.specs.Gathered.{AreAllOf, IsGathered, AllHold};
 
 use crate::gathered::Gathered;
 use crate::gathering::Gathering;
@@ -26,7 +27,7 @@ pub struct Ungathered {
 }
 
 /// Gathers what a run left, once its threads are done: all of its nodes, in the order of their partitions, and all of its
-/// pumps. Each tree and each link is closed, and what they left is put together.
+/// pumps. Each tree and each link is closed, and what they left is put together, behind the receipts of earlier stages.
 ///
 /// All memory is taken first. Where there is none, what was handed in comes back as it was.
 pub fn gather<R: Wait>(
@@ -56,9 +57,13 @@ pub fn gather<R: Wait>(
         trees,
         seats,
         links,
+        receipts,
+        jobs,
         ..
     } = fabric.into_parts();
+    gathering.add_receipts(receipts);
     gathering.add_nodes(nodes);
+    gathering.add_jobs(rt, jobs);
     gathering.add_pumps(pumps);
     Ok(gathering.close(rt, stage, trees, seats, links))
 }

@@ -1,7 +1,8 @@
 // The states of the leader from the start of the move on.
-ghost use Rattle.std.specs.Prelude.{◌≡◌, ◌≤◌, OnOk};
+ghost use Rattle.std.specs.Prelude.{◌≡◌, ◌<◌, ◌≤◌, OnOk};
 ghost use Rattle.std.specs.List.{AllPass};
 ghost use Rattle.sq_plan.specs.declared.plan.TheConstants.{MAX_PARTS};
+ghost use Rattle.sq_ranges.specs.ReconValue.{stages};
 ghost use Rattle.sq_leader.specs.Marks.{is_marked};
 ghost use Rattle.sq_leader.specs.Segments.{is_heard, have_reported};
 ghost use Rattle.sq_leader.specs.Leader.{first_stage, report_answer, following, next_answer, finish_answer};
@@ -69,9 +70,10 @@ impl Moving {
         &self.recon
     }
 
-    /// The running stage.
+    /// The running stage, one of those in which the ranges move.
     pub fn stage(&self) -> u64
-        ensures { result ≡ self.now.stage }
+        ensures stage { result ≡ self.now.stage }
+        ensures within { result < stages self.now.recon }
     {
         self.stage
     }

@@ -1,30 +1,31 @@
--- Which partitions have told the leader, and when it ends the move.
-use Rattle.std.proofs.Common.{◌≡◌, inl, inr, ℕ, ◌+◌, ◌<◌, ◌≤◌, Bool, true, false, List, length, get_or, refl, sym, ap, ◌∙◌, subst, arith, get_or-set_same, get_or-set_other, eq-eqb}
-use Rattle.std.specs.Prelude.{◌&&◌, ◌||◌, ◌==◌, not, nat_le, nat_lt, slice_set, Ok, Err, if◌then◌else◌, unwrap_or}
+-- Which partitions have told the leader, and what it does then.
+use Rattle.std.proofs.Common.{◌≡◌, inl, inr, ℕ, ◌+◌, ◌<◌, ◌≤◌, Bool, true, false, List, length, get_or, refl, sym, ap, ◌∙◌, subst, arith, get_or-set_same, get_or-set_other, eq-eqb, eqb-true}
+use Rattle.std.specs.Prelude.{◌&&◌, ◌||◌, ◌==◌, not, nat_le, nat_lt, slice_set, slice_get, Option, Some, None, Result, Ok, Err, if◌then◌else◌, unwrap_or}
 use Rattle.std.specs.Result.{is_ok, result_ok}
-use Rattle.std.specs.List.{list_all, range_with_len}
+use Rattle.std.specs.List.{list_all}
 use Rattle.std.specs.Cmp.{both_ways}
 use Rattle.std.proofs.lemmas.Bool.{and_from, and_parts, lt-ltb, le-ltb, ltb-true, leb-false, or_right, true≢false, cases_eq}
 use Rattle.std.proofs.lemmas.List.{length-set, length-replicate}
-use Rattle.std.proofs.lemmas.List.FromFn.{length-range_with_len, get_or-range_with_len}
 use Rattle.std.proofs.lemmas.List.Sums.{AllPass-from_list_all, list_all-from_AllPass}
-use Rattle.std.proofs.lemmas.Option.{slice_get-get_or}
+use Rattle.std.proofs.lemmas.Option.{slice_get-get_or, slice_get_within, get_or_from_slice_get}
 use Rattle.sq_ranges.specs.declared.recon.Range.{Range}
-use Rattle.sq_ranges.specs.ReconValue.{ReconValue, stage_in, stages}
+use Rattle.sq_ranges.specs.ReconValue.{ReconValue, stage_in, stages, of_stage}
 use Rattle.sq_ranges.specs.OpeningValue.{OpeningValue}
 use Rattle.sq_ranges.specs.Opening.{IsOpening}
 use Rattle.sq_leader.specs.Marks.{none_marked, is_marked, with_mark, all_marked}
-use Rattle.sq_leader.specs.Segments.{is_into, is_whole, has_all, have_reported}
+use Rattle.sq_leader.specs.Segments.{goes_into, is_into, is_whole, has_all, have_reported}
 use Rattle.sq_leader.specs.LeaderValue.{IdleValue, PreparingValue, StageValue}
 use Rattle.sq_leader.specs.declared.fault.PrepareFault.{PrepareFault}
 use Rattle.sq_leader.specs.declared.fault.FinishFault.{FinishFault}
+use Rattle.sq_leader.specs.declared.fault.NextFault.{NextFault}
+use Rattle.sq_leader.specs.declared.fault.NextFault.TheVariants.{LastStage, NotFinished}
 use Rattle.sq_leader.specs.declared.leader.Refused.{Refused}
-use Rattle.sq_leader.specs.Leader.{first_prepare_answer, first_stage, is_last, finish_answer}
+use Rattle.sq_leader.specs.Leader.{first_prepare_answer, is_last, next_stage, next_answer, finish_answer}
 use Rattle.sq_leader.proofs.Marked.{is_marked-none_marked, all_marked-by_part}
-use Rattle.sq_leader.proofs.Wholes.{all_pass, is_into-at, each_whole}
+use Rattle.sq_leader.proofs.Wholes.{all_pass, each_whole}
 use Rattle.sq_model.proofs.Keys.{ends_below}
-use Rattle.sq_live.specs.Leading.{are_whole, LeadsFirst, HaveReported, HasEnded}
-use Rattle.sq_live.proofs.OneStage.{stage_in-first, one_stage, is_into-first}
+use Rattle.sq_live.specs.declared.leader.Led.TheVariants.{Next, Ended, Missing}
+use Rattle.sq_live.specs.Leading.{leading, LeadsStage, HaveReported, HasHeard, AreComplete, Leads}
 
 -- the partitions below this number have prepared
 pub record ArePrepared (parts part : ℕ) (prepared : List Bool) : Type 0 where
@@ -102,127 +103,170 @@ module _ (many : ℕ) (holds : ℕ → Bool) where
     ];
   }
 
-abbrev no_range : Range
-no_range = record { lo = 0; hi = 0; src = 0; dst = 0 }
+-- of the partitions below this number those have reported in the stage that may
+pub record AreHeard (o : OpeningValue) (stage : ℕ) (whole : List Bool) (next : ℕ) (at : StageValue) : Type 0 where
+  pub leads : LeadsStage o stage at
+  pub marks : AreMarked o.old.parts next (has_all o.recon stage whole) at.reported
 
--- an answer that is chosen by a test
-chosen : {T E : Type 0} (test : Bool) (value found : T) (fault : E) → Ok found ≡ (if test then Ok value else Err fault) → (test ≡ true) × (found ≡ value)
-chosen true value found fault is = (refl, ap (λ answer. unwrap_or (result_ok answer) value) is)
-chosen false value found fault is = absurd (true≢false (ap is_ok is))
-
-refused : {T E : Type 0} (test : Bool) (value : T) (fault found : E) → Err found ≡ (if test then Ok value else Err fault) → test ≡ false
-refused true value fault found is = absurd (true≢false (sym (ap is_ok is)))
-refused false value fault found is = refl
-
--- of the partitions below this number those have reported that may
-pub record AreHeard (o : OpeningValue) (whole : List Bool) (next : ℕ) (at : StageValue) : Type 0 where
-  pub leads : LeadsFirst o at
-  pub marks : AreMarked o.old.parts next (has_all o.recon 0 whole) at.reported
-
-module _ (o : OpeningValue) (whole : List Bool) where
-  same_has_all : (next : ℕ) (at : StageValue) → AreHeard o whole next at → has_all o.recon 0 whole next ≡ has_all at.recon at.stage whole next
+module _ (o : OpeningValue) (stage : ℕ) (whole : List Bool) where
+  same_has_all : (next : ℕ) (at : StageValue) → AreHeard o stage whole next at → has_all o.recon stage whole next ≡ has_all at.recon at.stage whole next
   same_has_all next at so_far = λ i. has_all (sym so_far.leads.recon_is i) (sym so_far.leads.stage_is i) whole next
 
-  pub none_heard : (at : StageValue) → at ≡ first_stage o.old.parts o.recon → AreHeard o whole 0 at
-  none_heard at is = subst (AreHeard o whole 0) (sym is) (record {
+  pub none_heard : (at : StageValue) → at ≡ leading o stage → AreHeard o stage whole 0 at
+  none_heard at is = subst (AreHeard o stage whole 0) (sym is) (record {
     leads = record { recon_is = refl; stage_is = refl };
-    marks = none_yet o.old.parts (has_all o.recon 0 whole);
+    marks = none_yet o.old.parts (has_all o.recon stage whole);
   })
 
   -- one more may and did
-  pub one_heard : (next : ℕ) (at : StageValue) → next < o.old.parts → AreHeard o whole next at → has_all at.recon at.stage whole next ≡ true
-      → AreHeard o whole (next + 1) (record at { reported = with_mark at.reported next })
+  pub one_heard : (next : ℕ) (at : StageValue) → next < o.old.parts → AreHeard o stage whole next at → has_all at.recon at.stage whole next ≡ true
+      → AreHeard o stage whole (next + 1) (record at { reported = with_mark at.reported next })
   one_heard next at lt so_far may = record {
     leads = record { recon_is = so_far.leads.recon_is; stage_is = so_far.leads.stage_is };
-    marks = set_next o.old.parts (has_all o.recon 0 whole) next at.reported true lt so_far.marks (sym (same_has_all next at so_far ∙ may));
+    marks = set_next o.old.parts (has_all o.recon stage whole) next at.reported true lt so_far.marks (sym (same_has_all next at so_far ∙ may));
   }
 
   -- one more may not
-  pub one_unheard : (next : ℕ) (at : StageValue) → AreHeard o whole next at → has_all at.recon at.stage whole next ≡ false → AreHeard o whole (next + 1) at
+  pub one_unheard : (next : ℕ) (at : StageValue) → AreHeard o stage whole next at → has_all at.recon at.stage whole next ≡ false → AreHeard o stage whole (next + 1) at
   one_unheard next at so_far may_not = record {
     leads = so_far.leads;
-    marks = pass_next o.old.parts (has_all o.recon 0 whole) next at.reported so_far.marks (same_has_all next at so_far ∙ may_not);
+    marks = pass_next o.old.parts (has_all o.recon stage whole) next at.reported so_far.marks (same_has_all next at so_far ∙ may_not);
   }
 
   -- they all told it
-  pub all_heard : (next : ℕ) (at : StageValue) → next ≡ o.old.parts → AreHeard o whole next at → HaveReported o whole at
+  pub all_heard : (next : ℕ) (at : StageValue) → next ≡ o.old.parts → AreHeard o stage whole next at → HaveReported o stage whole at
   all_heard next at is so_far = record {
     leads = so_far.leads;
     parts = so_far.marks.length_is;
-    each = λ k. so_far.marks.each k ∙ ap (λ n. nat_lt k n && has_all o.recon 0 whole k) is;
+    each = λ k. so_far.marks.each k ∙ ap (λ n. nat_lt k n && has_all o.recon stage whole k) is;
   }
 
-module _ (o : OpeningValue) (one_part : o.recon.auto ≡ false) (whole : List Bool) (at : StageValue) (have : HaveReported o whole at) where
-  -- a segment into a partition that reported is whole
-  pub heard_whole : (part seg : ℕ) → is_marked at.reported part ≡ true → is_into o.recon 0 part seg ≡ true → is_whole whole seg ≡ true
-  heard_whole part seg marked =
-      each_whole o.recon 0 whole part (and_parts (nat_lt part o.old.parts) (has_all o.recon 0 whole part) (sym (have.each part) ∙ marked)).1 seg
+-- the segment of this number moves in the stage
+record IsOfStage (recon : ReconValue) (stage seg : ℕ) (segment : Range) : Type 0 where
+  there : slice_get recon.segments seg ≡ Some segment
+  is : stage_in recon segment ≡ stage
 
-  -- the destination of a segment has it among those that move into it
-  into_dst : (seg : ℕ) → seg < length o.recon.segments → is_into o.recon 0 (get_or o.recon.segments seg no_range).dst seg ≡ true
-  into_dst seg lt =
-      let segment = get_or o.recon.segments seg no_range in
-      is_into-at o.recon 0 segment.dst seg no_range lt
-      ∙ and_from (stage_in o.recon segment == 0) (segment.dst == segment.dst)
-      (eq-eqb (stage_in o.recon segment) 0 (stage_in-first o.recon one_part segment))
-      (eq-eqb segment.dst segment.dst refl)
+module _ (recon : ReconValue) (stage part seg : ℕ) where
+  -- it moves into its destination then
+  into_dst : (segment : Range) → IsOfStage recon stage seg segment → is_into recon stage segment.dst seg ≡ true
+  into_dst segment of =
+      ap (λ found. goes_into (of_stage recon stage found) segment.dst) of.there
+      ∙ ap (λ now. goes_into (if now then Some segment else None) segment.dst) (eq-eqb (stage_in recon segment) stage of.is)
+      ∙ eq-eqb segment.dst segment.dst refl
 
-  -- each segment moves in the running stage, which is the last
-  same_auto : at.recon.auto ≡ false
-  same_auto = ap (λ (recon : ReconValue). recon.auto) have.leads.recon_is ∙ one_part
-
-  last_runs : is_last at ≡ true
-  last_runs = eq-eqb (at.stage + 1) (stages at.recon) (ap (λ n. n + 1) have.leads.stage_is ∙ sym (one_stage at.recon same_auto))
-
-  all_run : have_reported at ≡ list_all (λ segment. is_marked at.reported segment.dst) o.recon.segments
-  all_run =
-      (λ i. list_all (λ segment. not (runs segment i) || is_marked at.reported segment.dst) at.recon.segments)
-      ∙ ap (λ (recon : ReconValue). list_all (λ segment. is_marked at.reported segment.dst) recon.segments) have.leads.recon_is
+  -- and what moves into a partition in the stage is such a segment
+  of_into : (found : Option Range) → slice_get recon.segments seg ≡ found → goes_into (of_stage recon stage found) part ≡ true → (segment : Range) × IsOfStage recon stage seg segment
+  of_into None there goes = absurd (true≢false (sym goes))
+  of_into (Some segment) there goes = of_now (stage_in recon segment == stage) refl goes
     where
-      runs : (segment : Range) → (stage_in at.recon segment == at.stage) ≡ true
-      runs segment = eq-eqb (stage_in at.recon segment) at.stage (stage_in-first at.recon same_auto segment ∙ sym have.leads.stage_is)
+      of_now : (now : Bool) → (stage_in recon segment == stage) ≡ now → goes_into (if now then Some segment else None) part ≡ true → (s : Range) × IsOfStage recon stage seg s
+      of_now true runs goes = (segment, record { there = there; is = eqb-true (stage_in recon segment) stage runs })
+      of_now false runs goes = absurd (true≢false (sym goes))
 
-  -- where each partition reported into which a segment moves, each segment is whole
-  pub whole_if_reported : have_reported at ≡ true → are_whole (length o.recon.segments) whole ≡ true
-  whole_if_reported all = all_pass (is_whole whole) 0 (length o.recon.segments) (λ seg low high.
+module _ (o : OpeningValue) (stage : ℕ) (whole : List Bool) (at : StageValue) (have : HaveReported o stage whole at) where
+  -- a segment into a partition that reported is whole
+  heard_whole : (part seg : ℕ) → is_marked at.reported part ≡ true → is_into o.recon stage part seg ≡ true → is_whole whole seg ≡ true
+  heard_whole part seg marked =
+      each_whole o.recon stage whole part (and_parts (nat_lt part o.old.parts) (has_all o.recon stage whole part) (sym (have.each part) ∙ marked)).1 seg
+
+  hears : HasHeard o stage (is_whole whole) at
+  hears = record { leads = have.leads; heard = heard_whole }
+
+  -- the segment moves in another stage, or its destination reported
+  abbrev is_told : Range → Bool
+  is_told segment = not (stage_in o.recon segment == stage) || is_marked at.reported segment.dst
+
+  all_told : have_reported at ≡ list_all is_told o.recon.segments
+  all_told = λ i. list_all (λ segment. not (stage_in (have.leads.recon_is i) segment == have.leads.stage_is i) || is_marked at.reported segment.dst) (have.leads.recon_is i).segments
+
+  -- where each partition reported into which a segment of the stage moves, each such segment is whole
+  whole_if_reported : have_reported at ≡ true → AreComplete o stage (is_whole whole)
+  whole_if_reported all seg segment there is =
       let segments = o.recon.segments in
-      let lt : seg < length segments = omega (arith, high) in
-      heard_whole (get_or segments seg no_range).dst seg
-      (AllPass-from_list_all (λ segment. is_marked at.reported segment.dst) segments (sym all_run ∙ all) seg no_range lt)
-      (into_dst seg lt))
+      let here = get_or_from_slice_get segments seg segment segment there in
+      let told : is_told segment ≡ true = ap is_told (sym here) ∙ AllPass-from_list_all is_told segments (sym all_told ∙ all) seg segment (slice_get_within segments seg segment there) in
+      let marked : is_marked at.reported segment.dst ≡ true = ap (λ now. not now || is_marked at.reported segment.dst) (sym (eq-eqb (stage_in o.recon segment) stage is)) ∙ told in
+      heard_whole segment.dst seg marked (into_dst o.recon stage segment.dst seg segment (record { there = there; is = is }))
 
-  -- and where each is whole, each of them reported
-  reported_if_whole : IsOpening o → are_whole (length o.recon.segments) whole ≡ true → have_reported at ≡ true
+  -- and where each is whole, each of those partitions reported
+  reported_if_whole : IsOpening o → AreComplete o stage (is_whole whole) → have_reported at ≡ true
   reported_if_whole is all =
       let segments = o.recon.segments in
-      let count = length segments in
-      all_run ∙ list_all-from_AllPass (λ segment. is_marked at.reported segment.dst) segments (λ seg d lt.
+      all_told ∙ list_all-from_AllPass is_told segments (λ seg d lt.
       let segment = get_or segments seg d in
       let below : segment.dst < o.old.parts = (ends_below o is seg segment (slice_get-get_or segments seg d lt)).1 in
-      let each : has_all o.recon 0 whole segment.dst ≡ true = all_pass (λ k. not (is_into o.recon 0 segment.dst k) || is_whole whole k) 0 count (λ k low high.
-      let at : get_or (range_with_len 0 count) k 0 ≡ k = get_or-range_with_len 0 count k 0 (omega (arith, high)) ∙ omega arith in
-      or_right (not (is_into o.recon 0 segment.dst k)) (is_whole whole k)
-      (ap (is_whole whole) (sym at) ∙ AllPass-from_list_all (is_whole whole) (range_with_len 0 count) all k 0 (omega (arith, high, length-range_with_len 0 count)))) in
-      have.each segment.dst ∙ and_from (nat_lt segment.dst o.old.parts) (has_all o.recon 0 whole segment.dst) (lt-ltb segment.dst o.old.parts below) each)
+      or_right (not (stage_in o.recon segment == stage)) (is_marked at.reported segment.dst)
+      (have.each segment.dst ∙ and_from (nat_lt segment.dst o.old.parts) (has_all o.recon stage whole segment.dst) (lt-ltb segment.dst o.old.parts below) (has_each segment.dst)))
+    where
+      whole_or_away : (part seg : ℕ) (into : Bool) → is_into o.recon stage part seg ≡ into → (not into || is_whole whole seg) ≡ true
+      whole_or_away part seg true goes =
+          let (segment, of) = of_into o.recon stage part seg (slice_get o.recon.segments seg) refl goes in
+          all seg segment of.there of.is
+      whole_or_away part seg false goes = refl
 
-  -- the leader ends the move just where each segment is whole
-  ends_if_whole : IsOpening o → have_reported at ≡ are_whole (length o.recon.segments) whole
-  ends_if_whole is = both_ways (have_reported at) (are_whole (length o.recon.segments) whole) whole_if_reported (reported_if_whole is)
+      has_each : (part : ℕ) → has_all o.recon stage whole part ≡ true
+      has_each part = all_pass (λ k. not (is_into o.recon stage part k) || is_whole whole k) 0 (length o.recon.segments) (λ k low high. whole_or_away part k (is_into o.recon stage part k) refl)
 
-  module _ (ended : StageValue) (went : Ok ended ≡ finish_answer at) where
-    choice : (is_last at && have_reported at ≡ true) × (ended ≡ at)
-    choice = chosen (is_last at && have_reported at) at ended _ went
+  -- ---- what the leader answers
 
-    pub ended_whole : IsOpening o → true ≡ are_whole (length o.recon.segments) whole
-    ended_whole is = sym (and_parts (is_last at) (have_reported at) choice.0).1 ∙ ends_if_whole is
+  -- the next stage begins with a leader to which none has reported
+  next_leads : next_stage at ≡ leading o (stage + 1)
+  next_leads = λ i. record { reported = none_marked (have.parts i); stage = have.leads.stage_is i + 1; recon = have.leads.recon_is i }
 
-    pub has_ended : HasEnded o (is_whole whole) ended
-    has_ended = subst (HasEnded o (is_whole whole)) (sym choice.1) (record {
-      leads = have.leads;
-      heard = λ part seg marked into. heard_whole part seg marked (is_into-first o.recon one_part part seg ∙ into);
-      ended = sym went ∙ ap Ok choice.1;
-    })
+  went : (found : StageValue) → Ok found ≡ next_answer at → (have_reported at ≡ true) × (found ≡ next_stage at)
+  went found is = chosen _ _ (is_last at) (have_reported at) is
+    where
+      chosen : {E : Type 0} (a b : E) (last all : Bool) → Ok found ≡ (if last then Err a else (if all then Ok (next_stage at) else Err b)) → (all ≡ true) × (found ≡ next_stage at)
+      chosen a b true all is = absurd (true≢false (ap is_ok is))
+      chosen a b false true is = (refl, ap (λ answer. unwrap_or (result_ok answer) (next_stage at)) is)
+      chosen a b false false is = absurd (true≢false (ap is_ok is))
 
-  pub refused_missing : (found : Refused StageValue FinishFault) → Err found ≡ finish_answer at → IsOpening o → false ≡ are_whole (length o.recon.segments) whole
-  refused_missing found went is =
-      sym (ap (λ last. last && have_reported at) (sym last_runs) ∙ refused (is_last at && have_reported at) at _ found went) ∙ ends_if_whole is
+  pub goes_on : (found : StageValue) → Ok found ≡ next_answer at → Leads o stage (is_whole whole) (Next found)
+  goes_on found is =
+      let (all, next) = went found is in
+      (next ∙ next_leads, whole_if_reported all, at, record { hears = hears; next = sym is ∙ ap Ok (next ∙ next_leads) })
+
+  -- it ends the move
+  pub ends : (found : StageValue) → Ok found ≡ finish_answer at → Leads o stage (is_whole whole) Ended
+  ends found is =
+      let (both, same) = chosen _ (is_last at && have_reported at) is in
+      let (last, all) = and_parts (is_last at) (have_reported at) both in
+      let counted : at.stage + 1 ≡ stages at.recon = eqb-true (at.stage + 1) (stages at.recon) last in
+      (subst (λ (n : ℕ × ReconValue). n.0 + 1 ≡ stages n.1) (λ i. (have.leads.stage_is i, have.leads.recon_is i)) counted, whole_if_reported all, at, record { hears = hears; ended = sym is ∙ ap Ok same })
+    where
+      chosen : {E : Type 0} (a : E) (may : Bool) → Ok found ≡ (if may then Ok at else Err a) → (may ≡ true) × (found ≡ at)
+      chosen a true is = (refl, ap (λ answer. unwrap_or (result_ok answer) at) is)
+      chosen a false is = absurd (true≢false (ap is_ok is))
+
+  -- a report is missing
+  misses : IsOpening o → have_reported at ≡ false → Leads o stage (is_whole whole) Missing
+  misses is none = λ all. true≢false (sym (reported_if_whole is all) ∙ none)
+
+  -- in the last stage, where it doesn't end the move
+  pub stays_last : IsOpening o → is_last at ≡ true → (found : Refused StageValue FinishFault) → Err found ≡ finish_answer at → Leads o stage (is_whole whole) Missing
+  stays_last is last found answer = misses is (ap (λ b. b && have_reported at) (sym last) ∙ chosen _ (is_last at && have_reported at) answer)
+    where
+      chosen : (a : Refused StageValue FinishFault) (may : Bool) → Err found ≡ (if may then Ok at else Err a) → may ≡ false
+      chosen a true is = absurd (true≢false (sym (ap is_ok is)))
+      chosen a false is = refl
+
+  -- in another one, where it doesn't go on; and the leader stays as it was
+  refused : (found : Refused StageValue NextFault) → Err found ≡ next_answer at → (found.leader ≡ at) × (found.fault ≡ NotFinished → have_reported at ≡ false)
+  refused found answer = chosen (is_last at) (have_reported at) answer
+    where
+      fault_of : Result StageValue (Refused StageValue NextFault) → Refused StageValue NextFault
+      fault_of (Ok value) = found
+      fault_of (Err fault) = fault
+
+      chosen : (last all : Bool)
+          → Err found ≡ (if last then Err (record { leader = at; fault = LastStage }) else (if all then Ok (next_stage at) else Err (record { leader = at; fault = NotFinished })))
+          → (found.leader ≡ at) × (found.fault ≡ NotFinished → all ≡ false)
+      chosen true all is = let same = ap fault_of is in (ap (λ (r : Refused StageValue NextFault). r.leader) same, λ unfinished. absurd (let both = sym (ap (λ (r : Refused StageValue NextFault). r.fault) same) ∙ unfinished in cc))
+      chosen false true is = absurd (true≢false (sym (ap is_ok is)))
+      chosen false false is = (ap (λ r. (fault_of r).leader) is, λ unfinished. refl)
+
+  pub stays_between : IsOpening o → (found : Refused StageValue NextFault) → Err found ≡ next_answer at → found.fault ≡ NotFinished → Leads o stage (is_whole whole) Missing
+  stays_between is found answer unfinished = misses is ((refused found answer).1 unfinished)
+
+  pub same_stage : (found : Refused StageValue NextFault) → Err found ≡ next_answer at → found.leader.stage ≡ stage
+  same_stage found answer = ap (λ (s : StageValue). s.stage) (refused found answer).0 ∙ have.leads.stage_is

@@ -2,9 +2,10 @@ mod JobIds
 mod JobRuns
 pub mod Driven
 mod ReceiptIds
-mod NodeReads
 mod Counts
 mod LiveRuns
-mod OneStage
 mod Leading
 mod Moved
+mod Commits
+mod Accounts
+mod Passing

@@ -1,24 +1,26 @@
--- Which segments are complete, by marks of them: how many, and whether each is.
-use Rattle.std.proofs.Common.{◌≡◌, inl, inr, ℕ, suc, ◌+◌, ◌<◌, ◌≤◌, Bool, true, false, List, [], ◌∷◌, length, take, get_or, refl, sym, ap, ◌∙◌, true≢false, arith}
-use Rattle.std.specs.Prelude.{◌&&◌, cond, count_by, slice_get, Result, Ok, Err, IfOk}
-use Rattle.std.specs.Result.{is_ok}
+-- Which segments are complete, by marks of them, and how many.
+use Rattle.std.proofs.Common.{◌≡◌, ◌⊎◌, inl, inr, ℕ, zero, suc, ◌+◌, ◌<◌, ◌≤◌, Bool, true, false, List, [], ◌∷◌, length, get_or, refl, sym, ap, ◌∙◌, true≢false, arith}
+use Rattle.std.specs.Prelude.{◌&&◌, ◌||◌, cond, count_by, nat_lt, slice_get, Some}
 use Rattle.std.specs.List.{list_all, range_with_len}
-use Rattle.std.proofs.lemmas.Bool.{cases_Bool, cases_lt, both_ways, and_parts}
-use Rattle.std.proofs.lemmas.List.{get_or-take, length-take-le}
-use Rattle.std.proofs.lemmas.List.FromFn.{length-range_with_len}
-use Rattle.std.proofs.lemmas.List.Sums.{count_by-le-length}
-use Rattle.std.proofs.lemmas.Option.{slice_get_past}
-use Rattle.sq_tree.specs.declared.status.Status.{Status}
+use Rattle.std.proofs.lemmas.Bool.{cases_Bool, cases_lt, and_parts, lt-ltb, ltb-true, or_left, or_right, or_cases}
+use Rattle.std.proofs.lemmas.List.FromFn.{length-range_with_len, get_or-range_with_len}
+use Rattle.std.proofs.lemmas.List.Sums.{count_by-le-length, AllPass-from_list_all}
+use Rattle.std.proofs.lemmas.Option.{slice_get-get_or, slice_get_within, slice_get_past}
 use Rattle.sq_ranges.specs.declared.recon.Range.{Range}
+use Rattle.sq_ranges.specs.ReconValue.{stage_in, stage_at, stage_found, stages, of_stage}
 use Rattle.sq_ranges.specs.OpeningValue.{OpeningValue}
+use Rattle.sq_ranges.specs.Opening.{IsOpening}
+use Rattle.sq_ranges.proofs.Stages.{stage_below}
+use Rattle.sq_leader.proofs.Wholes.{all_pass}
 use Rattle.sq_leader.specs.LeaderValue.{StageValue}
-use Rattle.sq_leader.specs.Segments.{goes_into, is_whole}
-use Rattle.sq_leader.proofs.Marked.{same_within}
+use Rattle.sq_leader.specs.Segments.{goes_into, is_into}
+use Rattle.sq_model.proofs.Keys.{linked}
 use Rattle.sq_node_model.specs.Gathered.{GatheredValue}
-use Rattle.sq_audit.specs.declared.job.Job.{Job}
+use Rattle.sq_node_model.specs.Next.{is_whole_in, IsStageDone}
 use Rattle.sq_audit.proofs.Knowing.{count_first}
-use Rattle.sq_live.specs.Leading.{are_whole, HasEnded}
-use Rattle.sq_live.specs.Outcome.{answered_count, is_moved, moved_count, IsDone}
+use Rattle.sq_live.specs.Leading.{AreComplete, HasHeard, HasGoneOn, HasEnded}
+use Rattle.sq_live.specs.Outcome.{has_moved, moved_count}
+use Rattle.sq_live.specs.Judged.{MarksMoved, marked_count}
 
 -- all are counted where all pass
 all_counted : {X : Type 0} (p : X → Bool) (xs : List X) → list_all p xs ≡ true → count_by p xs ≡ length xs
@@ -46,71 +48,98 @@ one_uncounted p (x ∷ xs) fails = elim (cases_Bool (p x)) [
       e
 ]
 
--- marks are counted by their numbers
-counted_by_number : (marks : List Bool) (p : ℕ → Bool) (a : ℕ) → ((i : ℕ) → i < length marks → get_or marks i false ≡ p (a + i))
-    → count_by (λ mark. mark) marks ≡ count_by p (range_with_len a (length marks))
-counted_by_number [] p a same = refl
-counted_by_number (mark ∷ marks) p a same =
-    let here : mark ≡ p a = same 0 (omega arith) ∙ ap p (omega arith) in
-    let rest : count_by (λ m. m) marks ≡ count_by p (range_with_len (a + 1) (length marks)) =
-    counted_by_number marks p (a + 1) (λ i lt. same (suc i) (omega arith) ∙ ap p (omega arith)) in
-    count_first (λ (m : Bool). m) mark marks
-    ∙ ap (λ b. cond b 1 0 + count_by (λ (m : Bool). m) marks) here
-    ∙ ap (λ n. cond (p a) 1 0 + n) rest
-    ∙ sym (count_first p a (range_with_len (a + 1) (length marks)))
+-- tests of each number of a range that agree count as many
+same_count : (p q : ℕ → Bool) (a n : ℕ) → ((k : ℕ) → a ≤ k → k < a + n → p k ≡ q k) → count_by p (range_with_len a n) ≡ count_by q (range_with_len a n)
+same_count p q a zero each = refl
+same_count p q a (suc n) each =
+    let rest : count_by p (range_with_len (a + 1) n) ≡ count_by q (range_with_len (a + 1) n) = same_count p q (a + 1) n (λ k low high. each k (omega arith) (omega arith)) in
+    count_first p a (range_with_len (a + 1) n)
+    ∙ ap (λ b. cond b 1 0 + count_by p (range_with_len (a + 1) n)) (each a (omega arith) (omega arith))
+    ∙ ap (λ n. cond (q a) 1 0 + n) rest
+    ∙ sym (count_first q a (range_with_len (a + 1) n))
 
-module _ (words : List (List Status)) (marks : List Bool) (n most : ℕ) (few : n ≤ most) (room : most ≤ length marks) (each : (seg : ℕ) → seg < most → is_whole marks seg ≡ is_moved words seg) where
-  -- as many are marked as are complete
-  pub marks_counted : count_by (λ is_complete. is_complete) (take n marks) ≡ moved_count n words
-  marks_counted =
-      let many : length (take n marks) ≡ n = length-take-le n marks (omega (arith, few, room)) in
-      counted_by_number (take n marks) (is_moved words) 0 (λ i lt.
-      let low : i < n = omega (arith, lt, many) in
-      get_or-take n marks i false low ∙ each i (omega (arith, low, few)) ∙ ap (is_moved words) (omega arith))
-      ∙ ap (λ k. count_by (is_moved words) (range_with_len 0 k)) many
-
-  marked_moved : are_whole n marks ≡ list_all (is_moved words) (range_with_len 0 n)
-  marked_moved = same_within (is_whole marks) (is_moved words) 0 n (λ k low high. each k (omega (arith, high, few)))
-
-  -- all are complete where all are marked
-  pub all_moved : true ≡ are_whole n marks → moved_count n words ≡ n
-  all_moved all = all_counted (is_moved words) (range_with_len 0 n) (sym marked_moved ∙ sym all) ∙ length-range_with_len 0 n
-
-  -- and fewer where one isn't
-  pub one_unmoved : false ≡ are_whole n marks → moved_count n words < n
-  one_unmoved not_all =
-      let fewer = one_uncounted (is_moved words) (range_with_len 0 n) (sym marked_moved ∙ sym not_all) in
-      omega (arith, fewer, length-range_with_len 0 n)
-
--- a segment that moves somewhere is one of them
-goes_within : (segments : List Range) (part seg : ℕ) → goes_into (slice_get segments seg) part ≡ true → seg < length segments
-goes_within segments part seg goes = elim (cases_lt seg (length segments)) [
-  | inl lt ↦ lt
-  | inr past ↦ absurd (both_ways (goes_into (slice_get segments seg) part) (ap (λ found. goes_into found part) (slice_get_past segments seg past)) goes)
+-- a number below another, or the same, or above it
+below_or_at : (a b : ℕ) → a ≤ b → (a < b) ⊎ (a ≡ b)
+below_or_at a b le = elim (cases_lt a b) [
+  | inl lt ↦ inl lt
+  | inr ge ↦ inr (omega (arith, le, ge))
 ]
 
--- the leader ended the move by what is complete, if it did by marks of it
-pub ended_by : (o : OpeningValue) (by is_complete : ℕ → Bool) (at : StageValue) → ((seg : ℕ) → seg < length o.recon.segments → by seg ≡ is_complete seg) → HasEnded o by at → HasEnded o is_complete at
-ended_by o by is_complete at same has = record {
-  leads = has.leads;
-  heard = λ part seg marked into. sym (same seg (goes_within o.recon.segments part seg into)) ∙ has.heard part seg marked into;
-  ended = has.ended;
-}
+module _ (o : OpeningValue) (g : GatheredValue) (is : IsOpening o) where
+  -- where marks tell which segments are complete, as many count
+  pub marks_counted : (moved : List Bool) → MarksMoved g.words moved → marked_count o.recon g.stage moved ≡ moved_count o g
+  marks_counted moved each = same_count _ (has_moved o g) 0 (length o.recon.segments) (λ seg low high.
+      let few = is.few_segments in
+      ap (λ b. nat_lt (stage_at o.recon seg) g.stage || b) (each seg (omega (arith, high, few))))
 
--- the answer that isn't an error
-ok_there : {T E : Type 0} (answer : Result T E) (P : T → Type 0) → is_ok answer ≡ true → IfOk answer P → (value : T) × P value
-ok_there (Ok value) P is holds = (value, holds)
-ok_there (Err fault) P is holds = absurd (true≢false (sym is))
+  -- after the last stage, each segment counts once those of the stage are complete
+  pub all_moved : g.stage + 1 ≡ stages o.recon → IsStageDone o g → moved_count o g ≡ length o.recon.segments
+  all_moved last done =
+      let segments = o.recon.segments in
+      all_counted (has_moved o g) (range_with_len 0 (length segments)) (all_pass (has_moved o g) 0 (length segments) (λ seg low high.
+      has seg (omega (arith, high))))
+      ∙ length-range_with_len 0 (length segments)
+    where
+      has : (seg : ℕ) → seg < length o.recon.segments → has_moved o g seg ≡ true
+      has seg lt =
+          let segments = o.recon.segments in
+          let none : Range = record { lo = 0; hi = 0; src = 0; dst = 0 } in
+          let segment = get_or segments seg none in
+          let there = slice_get-get_or segments seg none lt in
+          let at : stage_at o.recon seg ≡ stage_in o.recon segment = ap (stage_found o.recon) there in
+          let below : stage_in o.recon segment < stages o.recon = stage_below o.recon segment.src segment.dst (linked o is seg segment there) in
+          elim (below_or_at (stage_in o.recon segment) g.stage (omega (arith, below, last))) [
+            | inl earlier ↦ or_left (nat_lt (stage_at o.recon seg) g.stage) (is_whole_in g seg) (ap (λ n. nat_lt n g.stage) at ∙ lt-ltb (stage_in o.recon segment) g.stage earlier)
+            | inr now ↦ or_right (nat_lt (stage_at o.recon seg) g.stage) (is_whole_in g seg) (done seg segment there now)
+          ]
 
--- each job is answered and each segment is complete, where the leader went on to the end
-pub done : {E : Type 0} (o : OpeningValue) (g : GatheredValue) (jobs : List Job) (marks : List Bool) (leader : Result StageValue E) (most : ℕ)
-    → length o.recon.segments ≤ most → most ≤ length marks → ((seg : ℕ) → seg < most → is_whole marks seg ≡ is_moved g.words seg)
-    → answered_count g.receipts jobs ≡ length jobs → is_ok leader ≡ true → is_ok leader ≡ are_whole (length o.recon.segments) marks → IfOk leader (HasEnded o (is_whole marks)) → IsDone o g jobs
-done o g jobs marks leader most few room each answered is when ended =
-    let (at, has) = ok_there leader (HasEnded o (is_whole marks)) is ended in
-    record {
-      answered = answered;
-      moved = all_moved g.words marks (length o.recon.segments) most few room each (sym is ∙ when);
-      leader = at;
-      ended = ended_by o (is_whole marks) (is_moved g.words) at (λ seg lt. each seg (omega (arith, few, lt))) has;
-    }
+  -- where one of the stage isn't complete, fewer count than there are
+  pub one_unmoved : (IsStageDone o g → ⊥) → moved_count o g < length o.recon.segments
+  one_unmoved missing = elim (cases_Bool (list_all (has_moved o g) (range_with_len 0 (length o.recon.segments)))) [
+    | inl all ↦ absurd (missing (λ seg segment there now. of_all seg segment there now all))
+    | inr fails ↦
+        let fewer = one_uncounted (has_moved o g) (range_with_len 0 (length o.recon.segments)) fails in
+        omega (arith, fewer, length-range_with_len 0 (length o.recon.segments))
+  ]
+    where
+      of_all : (seg : ℕ) (segment : Range) → slice_get o.recon.segments seg ≡ Some segment → stage_in o.recon segment ≡ g.stage
+          → list_all (has_moved o g) (range_with_len 0 (length o.recon.segments)) ≡ true → is_whole_in g seg ≡ true
+      of_all seg segment there now all =
+          let count = length o.recon.segments in
+          let lt = slice_get_within o.recon.segments seg segment there in
+          let at : get_or (range_with_len 0 count) seg 0 ≡ seg = get_or-range_with_len 0 count seg 0 lt ∙ omega arith in
+          let here : has_moved o g seg ≡ true = ap (has_moved o g) (sym at) ∙ AllPass-from_list_all (has_moved o g) (range_with_len 0 count) all seg 0 (omega (arith, length-range_with_len 0 count, lt)) in
+          elim (or_cases (nat_lt (stage_at o.recon seg) g.stage) (is_whole_in g seg) here) [
+            | inl earlier ↦
+                let under = ltb-true (stage_at o.recon seg) g.stage earlier in
+                let same : stage_at o.recon seg ≡ g.stage = ap (stage_found o.recon) there ∙ now in
+                absurd (omega (arith, under, same))
+            | inr whole ↦ whole
+          ]
+
+-- ---- what the leader heard of marks, it heard of what is complete
+
+module _ (o : OpeningValue) (stage : ℕ) (by is_complete : ℕ → Bool) (same : (seg : ℕ) → seg < length o.recon.segments → by seg ≡ is_complete seg) where
+  pub complete_by : AreComplete o stage by → AreComplete o stage is_complete
+  complete_by all seg segment there is = sym (same seg (slice_get_within o.recon.segments seg segment there)) ∙ all seg segment there is
+
+  pub marked_by : AreComplete o stage is_complete → AreComplete o stage by
+  marked_by all seg segment there is = same seg (slice_get_within o.recon.segments seg segment there) ∙ all seg segment there is
+
+  heard_by : (at : StageValue) → HasHeard o stage by at → HasHeard o stage is_complete at
+  heard_by at has = record {
+    leads = has.leads;
+    heard = λ part seg marked into. sym (same seg (goes_within part seg into)) ∙ has.heard part seg marked into;
+  }
+    where
+      goes_within : (part seg : ℕ) → is_into o.recon stage part seg ≡ true → seg < length o.recon.segments
+      goes_within part seg goes = elim (cases_lt seg (length o.recon.segments)) [
+        | inl lt ↦ lt
+        | inr past ↦ absurd (true≢false (sym goes ∙ ap (λ found. goes_into (of_stage o.recon stage found) part) (slice_get_past o.recon.segments seg past)))
+      ]
+
+  pub gone_on_by : (at : StageValue) → HasGoneOn o stage by at → HasGoneOn o stage is_complete at
+  gone_on_by at has = record { hears = heard_by at has.hears; next = has.next }
+
+  pub ended_by : (at : StageValue) → HasEnded o stage by at → HasEnded o stage is_complete at
+  ended_by at has = record { hears = heard_by at has.hears; ended = has.ended }

@@ -1,16 +1,29 @@
 -- What is looked up of what was gathered.
-use Rattle.std.specs.Prelude.{◌≡◌, ℕ, ◌==◌, List, [], slice_index_or}
-use Rattle.std.specs.List.{list_any}
+use Rattle.std.specs.Prelude.{◌≡◌, ℕ, ◌<◌, ◌==◌, ◌||◌, Bool, nat_lt, List, [], length, slice_index_or, count_by}
+use Rattle.std.specs.List.{list_any, range_with_len}
 use Rattle.std.specs.Ordering.{nat_cmp}
 use Rattle.std.specs.BTreeSet.{BTreeSet, contains}
 use Rattle.sq_tree.specs.declared.status.Status.{Status}
-use Rattle.sq_tree.specs.Tree.{status_at, IsGrown}
+use Rattle.sq_tree.specs.Reading.{is_complete_reading}
+use Rattle.sq_tree.specs.Status.{reading}
+use Rattle.sq_tree.specs.Tree.{status_at}
+use Rattle.sq_ranges.specs.declared.segment.TheConstants.{SEGMENT_LIMIT}
+use Rattle.sq_ranges.specs.ReconValue.{ReconValue, stage_at}
+use Rattle.sq_leader.specs.Segments.{is_whole}
 use Rattle.sq_node_model.specs.NodeValue.{ReceiptValue}
 
 -- the set has just the ids of these receipts
 abbrev pub HasIdsOf : List ReceiptValue → BTreeSet ℕ → Type 0
 HasIdsOf receipts ids = (id : ℕ) → contains nat_cmp ids id ≡ list_any (λ receipt. receipt.id == id) receipts
 
--- the statuses of each segment come of a free tree by steps that went
-abbrev pub AreGrown : List (List Status) → Type 0
-AreGrown words = (seg : ℕ) → IsGrown (status_at (slice_index_or words seg []))
+-- the segment of this number is complete: its node 1 reads complete
+abbrev pub is_moved : List (List Status) → ℕ → Bool
+is_moved words seg = is_complete_reading (reading (status_at (slice_index_or words seg [])) 1)
+
+-- just the segments are marked that are complete
+abbrev pub MarksMoved : List (List Status) → List Bool → Type 0
+MarksMoved words moved = (seg : ℕ) → seg < SEGMENT_LIMIT → is_whole moved seg ≡ is_moved words seg
+
+-- how many segments moved in an earlier stage than this, or are marked
+abbrev pub marked_count : ReconValue → ℕ → List Bool → ℕ
+marked_count recon stage moved = count_by (λ seg. nat_lt (stage_at recon seg) stage || is_whole moved seg) (range_with_len 0 (length recon.segments))

@@ -1,29 +1,54 @@
--- The leader of a live run, which moves in one stage: whom it heard, and that it ended the move.
-use Rattle.std.specs.Prelude.{◌≡◌, ℕ, ◌&&◌, Bool, IsTrue, nat_lt, List, length, slice_get, Ok}
-use Rattle.std.specs.List.{list_all, range_with_len}
+-- The leader of a live run: whom it heard in a stage, and that it went on to the next, or ended the move.
+use Rattle.std.specs.Prelude.{◌≡◌, ℕ, ◌+◌, ◌&&◌, Bool, true, IsTrue, nat_lt, List, length, slice_get, Some, Ok}
+use Rattle.sq_ranges.specs.declared.recon.Range.{Range}
+use Rattle.sq_ranges.specs.ReconValue.{stage_in, stages}
 use Rattle.sq_ranges.specs.OpeningValue.{OpeningValue}
 use Rattle.sq_leader.specs.LeaderValue.{StageValue}
-use Rattle.sq_leader.specs.Marks.{is_marked}
-use Rattle.sq_leader.specs.Segments.{goes_into, is_whole, has_all}
-use Rattle.sq_leader.specs.Leader.{finish_answer}
+use Rattle.sq_leader.specs.Marks.{none_marked, is_marked}
+use Rattle.sq_leader.specs.Segments.{is_into, has_all}
+use Rattle.sq_leader.specs.Leader.{next_answer, finish_answer}
+use Rattle.sq_live.specs.declared.leader.Led.{Led}
+use Rattle.sq_live.specs.declared.leader.Led.TheVariants.{Next, Ended, Missing}
 
--- each of this many segments is whole
-abbrev pub are_whole : ℕ → List Bool → Bool
-are_whole segments whole = list_all (is_whole whole) (range_with_len 0 segments)
+-- the leader of what the opening moves at the start of a stage: none has reported
+abbrev pub leading : OpeningValue → ℕ → StageValue
+leading o stage = record { reported = none_marked o.old.parts; stage = stage; recon = o.recon }
 
--- the leader leads the first stage of what the opening moves
-pub record LeadsFirst (o : OpeningValue) (at : StageValue) : Type 0 where
+-- the leader leads this stage of what the opening moves
+pub record LeadsStage (o : OpeningValue) (stage : ℕ) (at : StageValue) : Type 0 where
   pub recon_is : at.recon ≡ o.recon
-  pub stage_is : at.stage ≡ 0
+  pub stage_is : at.stage ≡ stage
 
--- just those partitions reported of which each segment that moves there is whole
-pub record HaveReported (o : OpeningValue) (whole : List Bool) (at : StageValue) : Type 0 where
-  pub leads : LeadsFirst o at
+-- just those partitions reported of which each segment that moves there in the stage is whole
+pub record HaveReported (o : OpeningValue) (stage : ℕ) (whole : List Bool) (at : StageValue) : Type 0 where
+  pub leads : LeadsStage o stage at
   pub parts : length at.reported ≡ o.old.parts
-  pub each : (part : ℕ) → is_marked at.reported part ≡ (nat_lt part o.old.parts && has_all o.recon 0 whole part)
+  pub each : (part : ℕ) → is_marked at.reported part ≡ (nat_lt part o.old.parts && has_all o.recon stage whole part)
 
--- the leader ended the move: partitions reported, each only where all segments that move into it are complete, and that was enough
-pub record HasEnded (o : OpeningValue) (is_complete : ℕ → Bool) (at : StageValue) : Type 0 where
-  pub leads : LeadsFirst o at
-  pub heard : (part seg : ℕ) → IsTrue (is_marked at.reported part) → IsTrue (goes_into (slice_get o.recon.segments seg) part) → IsTrue (is_complete seg)
+-- partitions reported in the stage, each only where all segments that move into it then are complete
+pub record HasHeard (o : OpeningValue) (stage : ℕ) (is_complete : ℕ → Bool) (at : StageValue) : Type 0 where
+  pub leads : LeadsStage o stage at
+  pub heard : (part seg : ℕ) → IsTrue (is_marked at.reported part) → IsTrue (is_into o.recon stage part seg) → IsTrue (is_complete seg)
+
+-- the leader went on to the next stage, for which those reports were enough
+pub record HasGoneOn (o : OpeningValue) (stage : ℕ) (is_complete : ℕ → Bool) (at : StageValue) : Type 0 where
+  pub hears : HasHeard o stage is_complete at
+  pub next : next_answer at ≡ Ok (leading o (stage + 1))
+
+-- the leader ended the move after its last stage, for which those reports were enough
+pub record HasEnded (o : OpeningValue) (stage : ℕ) (is_complete : ℕ → Bool) (at : StageValue) : Type 0 where
+  pub hears : HasHeard o stage is_complete at
   pub ended : finish_answer at ≡ Ok at
+
+-- each segment of the stage is complete
+abbrev pub AreComplete : OpeningValue → ℕ → (ℕ → Bool) → Type 0
+AreComplete o stage is_complete =
+    (seg : ℕ) (segment : Range) → slice_get o.recon.segments seg ≡ Some segment → stage_in o.recon segment ≡ stage → is_complete seg ≡ true
+
+-- what the leader does after a stage: where each segment of it is complete it goes on, or ends the move after the last one
+abbrev pub Leads : OpeningValue → ℕ → (ℕ → Bool) → Led → Type 0
+Leads o stage is_complete (Next moving) =
+    (moving ≡ leading o (stage + 1)) × AreComplete o stage is_complete × (at : StageValue) × HasGoneOn o stage is_complete at
+Leads o stage is_complete Ended =
+    (stage + 1 ≡ stages o.recon) × AreComplete o stage is_complete × (at : StageValue) × HasEnded o stage is_complete at
+Leads o stage is_complete Missing = AreComplete o stage is_complete → ⊥

@@ -1,5 +1,5 @@
 -- Live runs: what is written for an input.
-use Rattle.std.specs.Prelude.{◌≡◌, ◌≢◌, ◌⊎◌, ℕ, false, List, [], Option, Ok, Err}
+use Rattle.std.specs.Prelude.{◌≡◌, ◌≢◌, ◌⊎◌, ℕ, Bool, List, [], Option, Ok, Err}
 use Rattle.std.specs.Io.KnownBytes.{Appends}
 use Rattle.sq_ranges.specs.OpeningValue.{OpeningValue}
 use Rattle.sq_lines.specs.Pieces.{PieceValue}
@@ -9,7 +9,7 @@ use Rattle.sq_text.specs.Header.{header_of, Opens}
 use Rattle.sq_text.specs.Texts.{fault_line}
 use Rattle.sq_world.specs.Input.{IsGiven}
 use Rattle.sq_node_model.specs.Gathered.{GatheredValue}
-use Rattle.sq_node_model.specs.Placed.{IsPlaced}
+use Rattle.sq_node_model.specs.BeganWith.{BeganWith}
 use Rattle.sq_audit.specs.declared.job.Job.{Job}
 use Rattle.sq_live.specs.declared.fault.LiveFault.{LiveFault}
 use Rattle.sq_live.specs.declared.fault.LiveFault.TheVariants.{Input}
@@ -18,7 +18,9 @@ use Rattle.sq_live.specs.declared.ending.LiveEnding.{LiveEnding}
 use Rattle.sq_live.specs.declared.ending.LiveEnding.TheVariants.{Done, Fault}
 use Rattle.sq_live.specs.Faults.{live_fault_number, out_of_memory}
 use Rattle.sq_live.specs.JobLines.{jobs_in}
+use Rattle.sq_live.specs.Account.{AccountValue}
 use Rattle.sq_live.specs.Outcome.{outcome_line, outcome_status, CameTo}
+use Rattle.sq_live.specs.Stages.{RanFrom, HavePassed}
 
 -- the pieces spell a header with this opening, and then these jobs of its partitions
 pub record SpellJobs (tables : ℕ) (given : List PieceValue) (o : OpeningValue) (jobs : List Job) : Type 0 where
@@ -44,29 +46,31 @@ pub record HasJobFault (tables : ℕ) (given : List PieceValue) (fault : LiveFau
 abbrev pub HaveFault : ℕ → List PieceValue → LiveFault → Type 0
 HaveFault tables given fault = HasHeaderFault tables given fault ⊎ HasJobFault tables given fault
 
--- the same opening, with all that moves in one stage
-abbrev pub in_one_part : OpeningValue → OpeningValue
-in_one_part o = record o { recon = record (o.recon) { auto = false } }
-
--- jobs were run from an opening. Whatever the threads did, what was gathered of them is placed, and this is what it came to
-pub record WereRun (o : OpeningValue) (jobs : List Job) (outcome : Outcome) : Type 0 where
+-- jobs were run from an opening, stage by stage, with or without folds between them. Whatever the threads did, what each stage left is placed and goes on from what it began with, and this is what the last one came to
+pub record WereRun (folds : Bool) (o : OpeningValue) (jobs : List Job) (outcome : Outcome) : Type 0 where
+  -- what the stages before the last one left, the latest first
+  pub earlier : List GatheredValue
+  pub account : AccountValue
+  pub began : BeganWith
+  pub passed : HavePassed folds o jobs earlier account began
   pub gathered : GatheredValue
-  pub placed : IsPlaced o gathered
-  pub came : CameTo o gathered jobs outcome
+  pub ran : RanFrom account.opening began gathered
+  pub came : CameTo folds account gathered outcome
 
--- the jobs that the pieces spell were run, all that moves in one stage, and came to this, or the pieces have this fault
-abbrev pub EndsLive : ℕ → List PieceValue → LiveEnding → Type 0
-EndsLive tables given (Done outcome) = (o : OpeningValue) × (jobs : List Job) × SpellJobs tables given o jobs × WereRun (in_one_part o) jobs outcome
-EndsLive tables given (Fault fault) = HaveFault tables given fault
+-- the jobs that the pieces spell were run and came to this, or the pieces have this fault
+abbrev pub EndsLive : Bool → ℕ → List PieceValue → LiveEnding → Type 0
+EndsLive folds tables given (Done outcome) = (o : OpeningValue) × (jobs : List Job) × SpellJobs tables given o jobs × WereRun folds o jobs outcome
+EndsLive folds tables given (Fault fault) = HaveFault tables given fault
 
 -- the line that is written
 abbrev pub ending_line : LiveEnding → List ℕ
 ending_line (Done outcome) = outcome_line outcome
 ending_line (Fault fault) = fault_line (live_fault_number fault)
 
--- what a reader gives ends so, and the line of that goes to the end of what a writer holds
-abbrev pub RunsLive : ℕ → Option (List ℕ) → Option (List ℕ) → Option (List ℕ) → LiveEnding → Type 0
-RunsLive tables known before now ending = (given : List PieceValue) × IsGiven known given × EndsLive tables given ending × Appends before now (ending_line ending)
+-- what a reader gives ends so, with or without folds between stages, and the line of that goes to the end of what a writer holds
+abbrev pub RunsLive : Bool → ℕ → Option (List ℕ) → Option (List ℕ) → Option (List ℕ) → LiveEnding → Type 0
+RunsLive folds tables known before now ending =
+    (given : List PieceValue) × IsGiven known given × EndsLive folds tables given ending × Appends before now (ending_line ending)
 
 -- what can come of a reader of lines spells these jobs
 abbrev pub ComesToSpell : ℕ → LinesValue → OpeningValue → List Job → Type 0

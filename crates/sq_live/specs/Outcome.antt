@@ -1,23 +1,24 @@
--- What live runs come to, by what was gathered of them.
-use Rattle.std.specs.Prelude.{◌≡◌, ◌⊎◌, ℕ, ◌^◌, ◌<◌, ◌==◌, Bool, List, [], ◌∷◌, length, slice_index_or, sum_by, count_by, codes, decimal}
+-- What live runs come to, by what was gathered of their last stage and what is counted of those before.
+use Rattle.std.specs.Prelude.{◌≡◌, ◌⊎◌, ℕ, ◌+◌, ◌^◌, ◌<◌, ◌==◌, ◌||◌, Bool, true, nat_lt, List, [], ◌∷◌, length, sum_by, count_by, codes, decimal}
 use Rattle.std.specs.List.{list_any, range_with_len}
 use Rattle.std.specs.FinMap.{len}
-use Rattle.sq_tree.specs.declared.status.Status.{Status}
-use Rattle.sq_tree.specs.Reading.{is_complete_reading}
-use Rattle.sq_tree.specs.Status.{reading}
-use Rattle.sq_tree.specs.Tree.{status_at}
+use Rattle.sq_ranges.specs.ReconValue.{stage_at, stages}
 use Rattle.sq_ranges.specs.OpeningValue.{OpeningValue}
 use Rattle.sq_leader.specs.LeaderValue.{StageValue}
 use Rattle.sq_text.specs.Texts.{line}
 use Rattle.sq_node_model.specs.NodeValue.{ReceiptValue}
 use Rattle.sq_node_model.specs.Receipts.{is_commit}
 use Rattle.sq_node_model.specs.Gathered.{GatheredValue}
+use Rattle.sq_node_model.specs.Next.{is_whole_in, IsStageDone}
 use Rattle.sq_audit.specs.declared.job.Job.{Job}
+use Rattle.sq_audit.specs.declared.verdict.Defect.{Defect}
 use Rattle.sq_audit.specs.Defects.{defect_number, IsFirst}
 use Rattle.sq_audit.specs.Sound.{IsSound}
+use Rattle.sq_audit.specs.Folding.{answered_jobs}
 use Rattle.sq_live.specs.declared.outcome.Outcome.{Outcome}
 use Rattle.sq_live.specs.declared.outcome.Outcome.TheVariants.{Sound, Stopped, Unsound}
-use Rattle.sq_live.specs.Leading.{HasEnded}
+use Rattle.sq_live.specs.Account.{AccountValue}
+use Rattle.sq_live.specs.Leading.{HasGoneOn, HasEnded}
 
 -- the line of an outcome
 abbrev pub outcome_line : Outcome → List ℕ
@@ -39,13 +40,13 @@ is_answered receipts job = list_any (λ receipt. receipt.id == job.txn.id) recei
 abbrev pub answered_count : List ReceiptValue → List Job → ℕ
 answered_count receipts jobs = count_by (is_answered receipts) jobs
 
--- the segment of this number is complete: its node 1 reads complete. One of which no statuses were gathered isn't
-abbrev pub is_moved : List (List Status) → ℕ → Bool
-is_moved words seg = is_complete_reading (reading (status_at (slice_index_or words seg [])) 1)
+-- the segment of this number is complete: it moved in an earlier stage than the one that was gathered, or its node 1 reads complete; one of which no statuses were gathered doesn't
+abbrev pub has_moved : OpeningValue → GatheredValue → ℕ → Bool
+has_moved o g seg = nat_lt (stage_at o.recon seg) g.stage || is_whole_in g seg
 
--- how many of this many segments are complete
-abbrev pub moved_count : ℕ → List (List Status) → ℕ
-moved_count segments words = count_by (is_moved words) (range_with_len 0 segments)
+-- how many segments are complete
+abbrev pub moved_count : OpeningValue → GatheredValue → ℕ
+moved_count o g = count_by (has_moved o g) (range_with_len 0 (length o.recon.segments))
 
 -- how many receipts are of commits
 abbrev pub commit_count : List ReceiptValue → ℕ
@@ -56,30 +57,44 @@ abbrev pub family_count : GatheredValue → ℕ
 family_count g = sum_by (λ store. len store) g.stores
 
 -- each job is answered, each segment is complete, and the leader ended the move
-pub record IsDone (o : OpeningValue) (g : GatheredValue) (jobs : List Job) : Type 0 where
-  pub answered : answered_count g.receipts jobs ≡ length jobs
-  pub moved : moved_count (length o.recon.segments) g.words ≡ length o.recon.segments
+pub record IsDone (account : AccountValue) (g : GatheredValue) : Type 0 where
+  pub answered : answered_count g.receipts account.jobs ≡ length account.jobs
+  pub moved : moved_count account.opening g ≡ length account.opening.recon.segments
   -- the leader as it was in the end
   pub leader : StageValue
-  pub ended : HasEnded o (is_moved g.words) leader
+  pub ended : HasEnded account.opening g.stage (is_whole_in g) leader
 
--- a job isn't answered, or a segment isn't complete: there are so many of each
-pub record HasStopped (o : OpeningValue) (g : GatheredValue) (jobs : List Job) (answered posted complete segments : ℕ) : Type 0 where
-  pub answered_is : answered ≡ answered_count g.receipts jobs
-  pub posted_is : posted ≡ length jobs
-  pub complete_is : complete ≡ moved_count (length o.recon.segments) g.words
-  pub segments_are : segments ≡ length o.recon.segments
-  pub stopped : (answered < posted) ⊎ (complete < segments)
+-- why a run stopped: a segment of the stage isn't complete, or after the last stage a job isn't answered
+abbrev pub WhyStopped : AccountValue → GatheredValue → Type 0
+WhyStopped account g =
+    (IsStageDone account.opening g → ⊥)
+    ⊎ ((g.stage + 1 ≡ stages account.opening.recon) × (answered_count g.receipts account.jobs < length account.jobs))
 
--- a run is sound, and has so many families and receipts of commits
-pub record IsFoundSound (o : OpeningValue) (g : GatheredValue) (jobs : List Job) (families committed : ℕ) : Type 0 where
-  pub is_done : IsDone o g jobs
-  pub sound : IsSound o g jobs
+-- the run stopped: of all jobs so many are answered, in logs that were folded or with a receipt now, and of all segments so many are complete
+pub record HasStopped (account : AccountValue) (g : GatheredValue) (answered posted complete segments : ℕ) : Type 0 where
+  pub answered_is : answered ≡ account.answered + answered_count g.receipts account.jobs
+  pub posted_is : posted ≡ account.answered + length account.jobs
+  pub complete_is : complete ≡ moved_count account.opening g
+  pub segments_are : segments ≡ length account.opening.recon.segments
+  pub why : WhyStopped account g
+  pub missing : (answered < posted) ⊎ (complete < segments)
+
+-- a run is sound, has so many families now, and so many receipts of commits, in logs that were folded or now
+pub record IsFoundSound (account : AccountValue) (g : GatheredValue) (families committed : ℕ) : Type 0 where
+  pub is_done : IsDone account g
+  pub sound : IsSound account.opening g account.jobs
   pub families_are : family_count g < 2 ^ 64 → families ≡ family_count g
-  pub committed_are : committed ≡ commit_count g.receipts
+  pub committed_are : committed ≡ account.committed + commit_count g.receipts
 
--- this is what a run of these jobs comes to, of which this was gathered
-abbrev pub CameTo : OpeningValue → GatheredValue → List Job → Outcome → Type 0
-CameTo o g jobs (Sound families committed) = IsFoundSound o g jobs families committed
-CameTo o g jobs (Stopped answered posted complete segments) = HasStopped o g jobs answered posted complete segments
-CameTo o g jobs (Unsound defect) = IsDone o g jobs × IsFirst o g jobs defect
+-- an audit found this defect first: that of the fold between two stages, or that of all jobs in the end
+abbrev pub IsFoundUnsound : Bool → AccountValue → GatheredValue → Defect → Type 0
+IsFoundUnsound folds account g defect =
+    ((folds ≡ true) × (leader : StageValue) × HasGoneOn account.opening g.stage (is_whole_in g) leader
+    × IsFirst account.opening g (answered_jobs g.receipts account.jobs) defect)
+    ⊎ (IsDone account g × IsFirst account.opening g account.jobs defect)
+
+-- this is what a run comes to whose last stage left this; the logs are folded between stages, or not
+abbrev pub CameTo : Bool → AccountValue → GatheredValue → Outcome → Type 0
+CameTo folds account g (Sound families committed) = IsFoundSound account g families committed
+CameTo folds account g (Stopped answered posted complete segments) = HasStopped account g answered posted complete segments
+CameTo folds account g (Unsound defect) = IsFoundUnsound folds account g defect

@@ -1,20 +1,20 @@
 // Live runs, from bytes to bytes.
-ghost use Rattle.std.specs.Prelude.{◌≡◌, ◌≤◌, false, List, IfOk, IfErr, OnOk};
+ghost use Rattle.std.specs.Prelude.{◌≤◌, List, IfOk, IfErr, OnOk};
 ghost use Rattle.std.specs.Io.KnownBytes.{Appends};
-ghost use Rattle.sq_pull.specs.declared.numbers.TheConstants.{MAX_OWNERS};
+ghost use Rattle.sq_pull.specs.declared.numbers.TheConstants.{MAX_PUMPS};
 ghost use Rattle.sq_lines.specs.Pieces.{PieceValue};
 ghost use Rattle.sq_lines.specs.Coming.{CanCome};
 ghost use Rattle.sq_world.specs.Input.{IsGiven};
 ghost use Rattle.sq_live.specs.Jobs.{HavePartitions};
 ghost use Rattle.sq_live.specs.Live.{EndsLive, WereRun, ending_line, RunsLive, ComesToSpell, ComesToFail};
 
+use crate::account::Account;
 use crate::ending::LiveEnding;
 use crate::fault::LiveFault;
 use crate::job_list::{JobList, read_jobs};
-use crate::judging::judge;
 use crate::leader::start_move;
 use crate::outcome::{Outcome, write_outcome};
-use crate::run::run_jobs;
+use crate::stages::{Manner, run_stages};
 use crate::watch::Watch;
 use sq_lines::LineReader;
 use sq_ranges::Opening;
@@ -30,13 +30,14 @@ use std::thread::Threads;
 /// Reads an input, runs its jobs in threads while rows move, audits what is left, and writes one line of what that comes to.
 ///
 /// The input is a header, as [`read_header`] has it for a schema of [`MAX_TABLES`] tables, and jobs, as [`read_jobs`] has
-/// them. Where it has a fault, no thread is started, and the line tells the fault. Else each partition and each pump runs in
-/// a thread of its own, each of them up to so many turns, and asks `watch` before each step. All that moves does so in one
-/// stage, whatever the plan says. Where memory runs out, the line is that of its fault.
+/// them. Where it has a fault, no thread is started, and the line tells the fault. Else the stages of the move run one after
+/// another: each partition and each pump runs in a thread of its own, each of them up to so many turns in a stage, and asks
+/// `watch` before each step. A stage whose segments aren't all complete then stops the run. With `folds` the jobs that are
+/// answered are audited between two stages, and the logs folded. Where memory runs out, the line is that of its fault.
 ///
 /// An error is a write or a flush that failed.
 ///
-/// Whatever the threads do, what they leave is placed, and the line says `sound` only where the audit found it so.
+/// Whatever the threads do, what they leave is placed, and the line says `sound` only where each audit found it so.
 pub fn live<T: Threads + Wait + Sync, R: Read, W: Write, G: Watch>(
     rt: &T,
     alloc: Global,
@@ -44,12 +45,18 @@ pub fn live<T: Threads + Wait + Sync, R: Read, W: Write, G: Watch>(
     writer: &mut W,
     turns: u64,
     pumps: u32,
+    folds: bool,
     watch: &G,
 ) -> Result<LiveEnding, WriteFault>
-    requires { pumps ≤ MAX_OWNERS }
-    ensures { IfOk result (RunsLive MAX_TABLES (R.remaining reader.old) (W.contents writer.old) (W.contents writer.new)) }
+    requires { pumps ≤ MAX_PUMPS }
+    ensures { IfOk result (RunsLive folds MAX_TABLES (R.remaining reader.old) (W.contents writer.old) (W.contents writer.new)) }
 {
-    let ending = end_input(rt, alloc, reader, turns, pumps, watch);
+    let manner = Manner {
+        turns,
+        pumps,
+        folds,
+    };
+    let ending = end_input(rt, alloc, reader, manner, watch);
     write_ending(writer, ending)?;
     writer.flush()?;
     Ok(ending)
@@ -70,15 +77,14 @@ fn end_input<T: Threads + Wait + Sync, R: Read, G: Watch>(
     rt: &T,
     alloc: Global,
     reader: &mut R,
-    turns: u64,
-    pumps: u32,
+    manner: Manner,
     watch: &G,
 ) -> LiveEnding
-    requires { pumps ≤ MAX_OWNERS }
-    ensures { (given : List PieceValue) × IsGiven (R.remaining reader.old) given × EndsLive MAX_TABLES given result }
+    requires { manner.pumps ≤ MAX_PUMPS }
+    ensures { (given : List PieceValue) × IsGiven (R.remaining reader.old) given × EndsLive manner.folds MAX_TABLES given result }
 {
     match LineReader::new(alloc, reader) {
-        Ok(mut lines) => end_lines(rt, alloc, &mut lines, turns, pumps, watch),
+        Ok(mut lines) => end_lines(rt, alloc, &mut lines, manner, watch),
         Err(error) => LiveEnding::Fault(LiveFault::from(error)),
     }
 }
@@ -88,21 +94,17 @@ fn end_lines<T: Threads + Wait + Sync, R: Read, G: Watch>(
     rt: &T,
     alloc: Global,
     lines: &mut LineReader<R>,
-    turns: u64,
-    pumps: u32,
+    manner: Manner,
     watch: &G,
 ) -> LiveEnding
-    requires { pumps ≤ MAX_OWNERS }
-    ensures { (given : List PieceValue) × CanCome lines.old given × EndsLive MAX_TABLES given result }
+    requires { manner.pumps ≤ MAX_PUMPS }
+    ensures { (given : List PieceValue) × CanCome lines.old given × EndsLive manner.folds MAX_TABLES given result }
 {
     match read_input(alloc, lines) {
-        Ok((opening, jobs)) => {
-            let opening = opening.in_one_part();
-            match run_input(rt, alloc, &opening, &jobs, turns, pumps, watch) {
-                Ok(outcome) => LiveEnding::Done(outcome),
-                Err(error) => LiveEnding::Fault(LiveFault::from(error)),
-            }
-        }
+        Ok((opening, jobs)) => match run_input(rt, alloc, opening, jobs, manner, watch) {
+            Ok(outcome) => LiveEnding::Done(outcome),
+            Err(error) => LiveEnding::Fault(LiveFault::from(error)),
+        },
         Err(fault) => LiveEnding::Fault(fault),
     }
 }
@@ -124,26 +126,24 @@ fn read_input<R: Read>(
     Ok((opening, jobs))
 }
 
-// What a run of jobs from an opening comes to. The move starts before the first thread does; once the last has ended, the
-// leader hears the reports, and ends the move where each segment is complete.
+// What a run of jobs from an opening comes to. The move starts before the first thread does.
 fn run_input<T: Threads + Wait + Sync, G: Watch>(
     rt: &T,
     alloc: Global,
-    opening: &Opening,
-    jobs: &JobList,
-    turns: u64,
-    pumps: u32,
+    opening: Opening,
+    jobs: JobList,
+    manner: Manner,
     watch: &G,
 ) -> Result<Outcome, AllocError>
-    requires pumps { pumps ≤ MAX_OWNERS }
-    requires partitions { HavePartitions opening.now.old.parts jobs.now }
-    requires one_part { opening.now.recon.auto ≡ false }
-    ensures { IfOk result (WereRun opening.now jobs.now) }
+    requires pumps { manner.pumps ≤ MAX_PUMPS }
+    requires partitions { HavePartitions opening.old.parts jobs }
+    ensures { IfOk result (WereRun manner.folds opening jobs) }
 {
-    let moving = start_move(opening)?;
+    let moving = start_move(&opening)?;
     let segments = opening.recon().segments().len();
     watch.begins(jobs.as_slice().len() as u64, segments as u64);
-    let ran = run_jobs(rt, alloc, opening, jobs.as_slice(), turns, pumps, watch);
+    let account = Account::new(opening, jobs);
+    let outcome = run_stages(rt, alloc, account, moving, manner, watch);
     watch.ends();
-    judge(alloc, opening, moving, &ran?, jobs.as_slice())
+    outcome
 }

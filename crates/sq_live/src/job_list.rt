@@ -61,6 +61,15 @@ impl JobList {
         &self.jobs
     }
 
+    /// The jobs, in the order of their lines.
+    pub fn into_jobs(self) -> Vec<Job>
+        ensures jobs { result.items ≡ self }
+        ensures differ { IdsDiffer result.items }
+        ensures few { length result.items ≤ MAX_JOBS }
+    {
+        self.jobs
+    }
+
     // Adds the job that a line spells.
     fn add_line(
         &mut self,

@@ -1,68 +1,89 @@
-// What a live run came to, by what was gathered of it.
-ghost use Rattle.std.specs.Prelude.{◌≡◌, ◌≤◌, ◌<◌, ◌*◌, ◌^◌, ℕ, false, length, sum_by, count_by, IfOk};
+// What a live run came to, by what was gathered of its last stage.
+ghost use Rattle.std.specs.Prelude.{◌≡◌, ◌≤◌, ◌<◌, ◌+◌, ◌^◌, ◌||◌, nat_lt, Bool, length, sum_by, IfOk};
 ghost use Rattle.std.specs.FinMap.{len};
-ghost use Rattle.sq_tree.specs.Status.{reading_within};
-ghost use Rattle.sq_tree.specs.Tree.{status_at, IsGrown};
 ghost use Rattle.sq_ranges.specs.declared.segment.TheConstants.{SEGMENT_LIMIT};
+ghost use Rattle.sq_ranges.specs.ReconValue.{stages, stage_at};
+ghost use Rattle.sq_leader.specs.LeaderValue.{StageValue};
 ghost use Rattle.sq_leader.specs.Segments.{is_whole};
-ghost use Rattle.sq_leader.specs.Leader.{first_stage};
-ghost use Rattle.sq_audit.specs.Answers.{IdsDiffer};
-ghost use Rattle.sq_tree.specs.Reading.{is_complete_reading};
-ghost use Rattle.sq_live.specs.Outcome.{answered_count, is_moved, commit_count, CameTo};
-ghost use Rattle.sq_live.specs.Judged.{HasIdsOf, AreGrown};
+ghost use Rattle.sq_node_model.specs.Next.{is_whole_in, IsStageDone};
+ghost use Rattle.sq_gather.specs.Grown.{AreGrown};
+ghost use Rattle.sq_live.specs.Leading.{HasEnded};
+ghost use Rattle.sq_live.specs.Outcome.{answered_count, commit_count, CameTo, WhyStopped};
+ghost use Rattle.sq_live.specs.Judged.{HasIdsOf, MarksMoved, marked_count};
 
-use crate::leader::end_move;
+use crate::account::Account;
 use crate::outcome::Outcome;
 use sq_audit::{Job, Verdict, audit};
-use sq_gather::Gathered;
-use sq_leader::Moving;
+use sq_gather::{Gathered, reads_complete};
 use sq_node::Receipt;
-use sq_ranges::{Opening, SEGMENT_LIMIT};
+use sq_ranges::{Recon, SEGMENT_LIMIT, SegId};
 use sq_schema::Reply;
 use sq_store::SlabStore;
 use sq_tree::{NODES, NodeId, Status};
 use std::alloc::{AllocError, Global};
 use std::collections::BTreeSet;
 
-// How many segments there are at most, as the length of an array.
+/// How many segments there are at most, as the length of an array.
 const SEGMENTS: usize = SEGMENT_LIMIT as usize;
 
-/// What a run of these jobs came to, of which this was gathered. `moving` is the leader of its move, to which nobody has
-/// reported, and all that moves does so in one stage: each partition reports now into which all segments that move are
-/// complete. The run is audited only where each
-/// job is answered and the leader ends the move, which it does just where each segment is complete; and it is sound only
-/// where the audit found it so.
-pub fn judge(
+/// What a run came to whose last stage left this, where the leader ended the move. `moved` marks the segments that are
+/// complete. The run is audited only where each job is answered, and it is sound only where the audit found it so.
+pub(crate) fn judge_end(
     alloc: Global,
-    opening: &Opening,
-    moving: Moving,
+    account: &Account,
     g: &Gathered,
-    jobs: &[Job],
+    moved: &[bool],
 ) -> Result<Outcome, AllocError>
-    requires moving { moving ≡ first_stage opening.now.old.parts opening.now.recon }
-    requires one_part { opening.now.recon.auto ≡ false }
-    requires ids { IdsDiffer jobs.now }
-    requires grown { AreGrown g.now.words }
-    ensures { IfOk result (CameTo opening.now g.now jobs.now) }
+    requires moved { MarksMoved g.now.words moved.now }
+    requires last { g.now.stage + 1 ≡ stages account.now.opening.recon }
+    requires done { IsStageDone account.now.opening g.now }
+    requires ended { (at : StageValue) × HasEnded account.now.opening g.now.stage (is_whole_in g.now) at }
+    ensures { IfOk result (λ outcome. (folds : Bool) → CameTo folds account.now g.now outcome) }
 {
-    let answered = count_answered(alloc, &g.receipts, jobs)?;
-    let segments = opening.recon().segments().len();
-    let moved = moved_segments(&g.words);
-    let leader = end_move(moving, opening, &moved);
-    if answered < jobs.len() || leader.is_err() {
-        return Ok(Outcome::Stopped {
-            answered: answered as u64,
-            jobs: jobs.len() as u64,
-            complete: count_complete(&moved[..segments]) as u64,
-            segments: segments as u64,
-        });
+    // For the proof alone: what the account has is an opening.
+    let _recon = account.opening.recon();
+    let answered = count_answered(alloc, &g.receipts, &account.jobs)?;
+    if answered < account.jobs.len() {
+        return Ok(stopped(account, g, moved, answered));
     }
-    match audit(opening, g, jobs)? {
+    match audit(&account.opening, g, &account.jobs)? {
         Verdict::Sound => Ok(Outcome::Sound {
             families: count_families(&g.stores),
-            committed: count_commits(&g.receipts),
+            committed: account.committed + count_commits(&g.receipts),
         }),
         Verdict::Unsound(defect) => Ok(Outcome::Unsound(defect)),
+    }
+}
+
+/// What a run came to that stopped after a stage, of which a segment isn't complete.
+pub(crate) fn judge_stopped(
+    alloc: Global,
+    account: &Account,
+    g: &Gathered,
+    moved: &[bool],
+) -> Result<Outcome, AllocError>
+    requires moved { MarksMoved g.now.words moved.now }
+    requires missing { IsStageDone account.now.opening g.now → ⊥ }
+    ensures { IfOk result (λ outcome. (folds : Bool) → CameTo folds account.now g.now outcome) }
+{
+    let answered = count_answered(alloc, &g.receipts, &account.jobs)?;
+    Ok(stopped(account, g, moved, answered))
+}
+
+// A run that stopped, of whose jobs so many have a receipt now.
+fn stopped(account: &Account, g: &Gathered, moved: &[bool], answered: usize) -> Outcome
+    requires moved { MarksMoved g.now.words moved.now }
+    requires answered { answered ≡ answered_count g.now.receipts account.now.jobs }
+    requires most { answered ≤ length account.now.jobs }
+    requires why { WhyStopped account.now g.now }
+    ensures { (folds : Bool) → CameTo folds account.now g.now result }
+{
+    let recon = account.opening.recon();
+    Outcome::Stopped {
+        answered: account.answered + answered as u64,
+        jobs: account.answered + account.jobs.len() as u64,
+        complete: count_complete(recon, g.stage, moved),
+        segments: recon.segments().len() as u64,
     }
 }
 
@@ -92,10 +113,10 @@ fn ids_of(alloc: Global, receipts: &[Receipt]) -> Result<BTreeSet<u64>, AllocErr
     Ok(ids)
 }
 
-// Which segments are complete. One without statuses isn't.
-fn moved_segments(words: &[[Status; NODES]]) -> [bool; SEGMENTS]
+/// Which segments are complete. One without statuses isn't.
+pub(crate) fn moved_segments(words: &[[Status; NODES]]) -> [bool; SEGMENTS]
     requires { AreGrown words.now }
-    ensures { (seg : ℕ) → seg < SEGMENT_LIMIT → is_whole result seg ≡ is_moved words.now seg }
+    ensures { MarksMoved words.now result }
 {
     let mut moved = [false; SEGMENTS];
     for seg in 0..words.len().min(SEGMENTS) {
@@ -104,26 +125,27 @@ fn moved_segments(words: &[[Status; NODES]]) -> [bool; SEGMENTS]
     moved
 }
 
-// How many of these are complete.
-fn count_complete(moved: &[bool]) -> usize
-    ensures { result ≡ count_by (λ is_complete. is_complete) moved.now }
+// How many segments moved in an earlier stage than this, or are marked.
+fn count_complete(recon: &Recon, stage: u64, moved: &[bool]) -> u64
+    ensures { result ≡ marked_count recon.now stage moved.now }
 {
-    moved.iter().filter(|is_complete| **is_complete).count()
+    let mut count = 0;
+    for number in 0..recon.segments().len() as u64 {
+        let Some(seg) = SegId::new(number) else {
+            unreachable!()
+        };
+        if is_counted(recon, stage, moved, seg) {
+            count += 1;
+        }
+    }
+    count
 }
 
-// Whether a live node reads complete, looked for at any depth that reaches the leaves: it is complete, or it is split and both
-// of its halves read so.
-fn reads_complete(statuses: &[Status; NODES], node: NodeId) -> bool
-    requires { IsGrown (status_at statuses.now) }
-    ensures { (depth : ℕ) → 32 ≤ node * 2 ^ depth → result ≡ is_complete_reading (reading_within depth (status_at statuses.now) node) }
+// Whether a segment moved in an earlier stage than this, or is marked.
+fn is_counted(recon: &Recon, stage: u64, moved: &[bool], seg: SegId) -> bool
+    ensures { result ≡ (nat_lt (stage_at recon.now seg) stage || is_whole moved.now seg) }
 {
-    match statuses[node.index()] {
-        Status::Complete(_) => true,
-        Status::Split => {
-            reads_complete(statuses, node.low_half()) && reads_complete(statuses, node.high_half())
-        }
-        Status::Free | Status::Claimed(_) | Status::Partial(_) => false,
-    }
+    recon.stage_of(seg) < stage || moved.get(seg.index()).copied().unwrap_or(false)
 }
 
 // How many families all stores have.
@@ -137,9 +159,10 @@ fn count_families(stores: &[SlabStore]) -> u64
     count
 }
 
-// How many receipts are of commits.
-fn count_commits(receipts: &[Receipt]) -> u64
-    ensures { result ≡ commit_count receipts.now }
+/// How many receipts are of commits.
+pub(crate) fn count_commits(receipts: &[Receipt]) -> u64
+    ensures commits { result ≡ commit_count receipts.now }
+    ensures most { result ≤ length receipts.now }
 {
     let mut count = 0;
     for receipt in receipts {

@@ -1,19 +1,29 @@
-// The leader of a live run, which moves in one stage.
-ghost use Rattle.std.specs.Prelude.{◌≡◌, length, true, false, IfOk};
-ghost use Rattle.std.specs.Result.{is_ok};
+// The leader of a live run.
+ghost use Rattle.std.specs.Prelude.{◌≡◌, length, true, IfOk};
 ghost use Rattle.sq_leader.specs.Marks.{all_marked};
 ghost use Rattle.sq_leader.specs.Segments.{is_whole};
-ghost use Rattle.sq_leader.specs.Leader.{first_stage};
-ghost use Rattle.sq_live.specs.Leading.{are_whole, HaveReported, HasEnded};
+ghost use Rattle.sq_leader.specs.Leader.{is_last};
+ghost use Rattle.sq_live.specs.Leading.{leading, HaveReported, Leads};
 
-use sq_leader::{Ended, Idle, Moving, Preparing, Report};
+use sq_leader::{Idle, Moving, NextFault, Preparing, Report};
 use sq_plan::Plan;
 use sq_ranges::{Opening, Recon};
 use std::alloc::AllocError;
 
+/// What the leader does after a stage.
+#[derive(Drop)]
+pub(crate) enum Led {
+    /// It goes on to the next stage.
+    Next(Moving),
+    /// It ended the move: the stage was the last.
+    Ended,
+    /// It waits: a segment of the stage isn't complete.
+    Missing,
+}
+
 /// Starts the move of an opening, for which each partition has prepared. None has reported then.
 pub(crate) fn start_move(opening: &Opening) -> Result<Moving, AllocError>
-    ensures { IfOk result (λ moving. moving ≡ first_stage opening.now.old.parts opening.now.recon) }
+    ensures { IfOk result (λ moving. moving ≡ leading opening.now 0) }
 {
     let recon = opening.recon().clone()?;
     match prepare_all(opening.old_plan(), recon).start() {
@@ -41,26 +51,42 @@ fn prepare_all(plan: &Plan, recon: Recon) -> Preparing
     preparing
 }
 
-/// Ends the move of an opening, where each segment is whole: `whole` tells it of each segment by its number, and a segment
-/// of which it tells nothing isn't whole. Each partition reports first that may.
-pub(crate) fn end_move(moving: Moving, opening: &Opening, whole: &[bool]) -> Result<Ended, Moving>
-    requires moving { moving ≡ first_stage opening.now.old.parts opening.now.recon }
-    requires one_part { opening.now.recon.auto ≡ false }
-    ensures when { is_ok result ≡ are_whole (length opening.now.recon.segments) whole.now }
-    ensures ended { IfOk result (HasEnded opening.now (is_whole whole.now)) }
+/// Goes on after the running stage where each segment of it is whole: to the next stage, or to the end of the move after the
+/// last one. `whole` tells it of each segment by its number, and a segment of which it tells nothing isn't whole. Each
+/// partition reports first that may.
+pub(crate) fn lead_on(moving: Moving, opening: &Opening, whole: &[bool]) -> Led
+    requires { moving ≡ leading opening.now moving.stage }
+    ensures { Leads opening.now moving.stage (is_whole whole.now) result }
 {
     // For the proof alone: what was handed in is an opening.
     let _recon = opening.recon();
-    match hear_reports(moving, opening, whole).finish() {
-        Ok(ended) => Ok(ended),
-        Err(refused) => Err(refused.leader),
+    match hear_reports(moving, opening, whole).next() {
+        Ok(moving) => Led::Next(moving),
+        Err(refused) => match refused.fault {
+            NextFault::NotFinished => Led::Missing,
+            NextFault::LastStage => end_move(refused.leader, opening, whole),
+        },
+    }
+}
+
+// Ends the move in its last stage, where each segment of it is whole.
+fn end_move(moving: Moving, opening: &Opening, whole: &[bool]) -> Led
+    requires reported { HaveReported opening.now moving.stage whole.now moving }
+    requires last { is_last moving ≡ true }
+    ensures { Leads opening.now moving.stage (is_whole whole.now) result }
+{
+    // For the proof alone: what was handed in is an opening.
+    let _recon = opening.recon();
+    match moving.finish() {
+        Ok(_) => Led::Ended,
+        Err(_) => Led::Missing,
     }
 }
 
 // The leader once each partition has reported that may.
 fn hear_reports(mut moving: Moving, opening: &Opening, whole: &[bool]) -> Moving
-    requires { moving ≡ first_stage opening.now.old.parts opening.now.recon }
-    ensures { HaveReported opening.now whole.now result }
+    requires { moving ≡ leading opening.now moving.stage }
+    ensures { HaveReported opening.now moving.stage whole.now result }
 {
     for part in 0..u64::from(opening.old_plan().parts()) {
         let stage = moving.stage();

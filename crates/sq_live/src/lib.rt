@@ -1,22 +1,24 @@
-//! Live runs: the jobs of an input are posted to partitions that run in threads while their rows move, and what is left
-//! is gathered and audited.
+//! Live runs: the jobs of an input are posted to partitions that run in threads while their rows move, stage by stage, and
+//! what is left is gathered and audited.
 #![tactic(auto)]
 
+mod account;
+mod continuing;
 mod ending;
 mod fault;
 mod input;
 mod job_list;
 mod judging;
+pub mod laws;
 mod leader;
 mod outcome;
-mod run;
+mod stages;
 mod watch;
 
 pub use ending::LiveEnding;
 pub use fault::{JobFault, JobLineFault, LiveFault};
 pub use input::live;
 pub use job_list::{JobList, MAX_JOBS, read_jobs};
-pub use judging::judge;
 pub use outcome::{Outcome, write_outcome};
 pub use sq_audit::Job;
 pub use watch::Watch;

@@ -10,14 +10,14 @@ use std::io::Write;
 /// What a live run comes to.
 #[derive(Clone, Copy, Debug, PartialEq, Eq)]
 pub enum Outcome {
-    /// Each job is answered, each segment is complete, and the audit of what was gathered found it sound.
+    /// Each job is answered, each segment is complete, and each audit found what was gathered sound.
     Sound {
         /// How many families all stores have.
         families: u64,
-        /// How many receipts are of commits.
+        /// How many jobs were committed, in whichever stage.
         committed: u64,
     },
-    /// A job isn't answered, or a segment isn't complete. What was gathered wasn't audited.
+    /// A segment of a stage isn't complete, or after the last stage a job isn't answered. What that stage left wasn't audited.
     Stopped {
         /// How many jobs are answered.
         answered: u64,
@@ -28,7 +28,8 @@ pub enum Outcome {
         /// How many segments there are.
         segments: u64,
     },
-    /// Each job is answered, each segment is complete, and this is the first defect of what was gathered.
+    /// This is the first defect that an audit found: once each job is answered and each segment is complete, or between two
+    /// stages whose logs were to be folded.
     Unsound(Defect),
 }
 

@@ -1,28 +1,29 @@
 -- The nodes of trees that are to be completed, once one of them was, or none.
-use Rattle.std.proofs.Common.{◌≡◌, ℕ, ◌<◌, Bool, true, false, List, length, refl, sym, ap, ◌∙◌, subst, inl, inr, ⊎_elim}
+use Rattle.std.proofs.Common.{◌≡◌, ℕ, ◌<◌, Bool, true, false, List, [], length, refl, sym, ap, ◌∙◌, subst, inl, inr, ⊎_elim, arith}
 use Rattle.std.specs.Prelude.{◌⊎◌, ◌≢◌, ◌==◌, Contains, remove, slice_get}
 use Rattle.std.proofs.lemmas.Bool.Decides.{eqb_tells}
 use Rattle.std.proofs.lemmas.Option.{same_Some}
 use Rattle.sq_model.proofs.Lists.{Contains-slice_get, slice_get-Contains}
-use Rattle.sq_status.specs.declared.view.View.{View}
 use Rattle.sq_status.specs.Seat.{SeatValue}
 use Rattle.sq_exec.specs.Runs.{is_whole}
 use Rattle.sq_exec.specs.CoreValue.{CoreValue, loaded_at}
 use Rattle.sq_node_model.proofs.Members.{set_new, removed_stood, removed_kept}
-use Rattle.sq_node.specs.Settled.{IsSettled, HasSettled, IsNode}
+use Rattle.sq_node.specs.Settled.{HasSettled, IsNode}
 use Rattle.sq_node.specs.NodeState.{NodeState}
 use Rattle.sq_node.specs.Steps.{Completes}
 use Rattle.sq_node.specs.Looks.{SeatsLooked, HasNoneToComplete, LooksAndCompletes, CompletesOne, CompletesNone}
-use Rattle.sq_node.proofs.Looked.{settled_at, settled_seats, settled_completed, settled_none, completes_settles}
+use Rattle.sq_node.proofs.Known.{AllKnowNoLess, knows_completed, known_at, known_looked, known_then, settled_seats, seen_seats}
+use Rattle.sq_node.proofs.Looked.{settled_none, completes_settles}
 
 pub after_none : (core : CoreValue) (old new : List SeatValue) (nodes left : List (ℕ × ℕ)) (complete : List Bool) → CompletesNone old nodes new left → IsNode core old nodes complete → IsNode core new left complete
 after_none core old new nodes left complete none is =
     record {
       flags = is.flags;
+      seen = seen_seats old new complete (known_looked old new none.looked) is.seen;
       exists = λ seg n there. is.exists seg n (subst (λ (xs : List (ℕ × ℕ)). Contains xs (seg, n)) none.rest there);
       whole = λ seg n there. is.whole seg n (subst (λ (xs : List (ℕ × ℕ)). Contains xs (seg, n)) none.rest there);
       each = λ seg n whole. ⊎_elim (λ (there : Contains nodes (seg, n)). inl (subst (λ (xs : List (ℕ × ℕ)). Contains xs (seg, n)) (sym none.rest) there))
-          (λ (settled : HasSettled old seg n). inr (settled_seats old new none.looked seg n settled)) (is.each seg n whole);
+          (λ (settled : HasSettled old seg n). inr (settled_seats old new (known_looked old new none.looked) seg n settled)) (is.each seg n whole);
     }
 
 -- no node with its last chunk loaded is to be completed
@@ -30,6 +31,14 @@ pub none_of_all : (core : CoreValue) (old new : List SeatValue) (nodes left : Li
     → (seg n : ℕ) → is_whole (loaded_at core seg) n ≡ true → HasNoneToComplete old new seg n
 none_of_all core old new nodes left complete none is seg n whole =
     ⊎_elim (λ (there : Contains nodes (seg, n)). none.none there.0 seg n (slice_get-Contains nodes (seg, n) there)) (λ (settled : HasSettled old seg n). settled_none old new none.looked seg n settled) (is.each seg n whole)
+
+-- where none is to be completed each of that kind is settled
+pub all_settled : (core : CoreValue) (seats : List SeatValue) (nodes : List (ℕ × ℕ)) (complete : List Bool) → nodes ≡ [] → IsNode core seats nodes complete
+    → (seg n : ℕ) → is_whole (loaded_at core seg) n ≡ true → HasSettled seats seg n
+all_settled core seats nodes complete none is seg n whole =
+    ⊎_elim
+    (λ (there : Contains nodes (seg, n)). let among : Contains [] (seg, n) = subst (λ (xs : List (ℕ × ℕ)). Contains xs (seg, n)) none there in absurd (omega (arith, among.1)))
+    (λ (settled : HasSettled seats seg n). settled) (is.each seg n whole)
 
 module _ (core : CoreValue) (old new : List SeatValue) (nodes left : List (ℕ × ℕ)) (at : ℕ) (complete : List Bool) (one : CompletesOne old nodes at new left) (is : IsNode core old nodes complete) where
   -- what is left stood there
@@ -39,11 +48,9 @@ module _ (core : CoreValue) (old new : List SeatValue) (nodes left : List (ℕ �
       let stood = removed_stood nodes one.place among.0 (seg, n) (slice_get-Contains (remove nodes one.place) (seg, n) among) in
       Contains-slice_get nodes stood.place (seg, n) stood.there
 
-  settles : (v w : View) → LooksAndCompletes v one.node w → (n : ℕ) → IsSettled v n → IsSettled w n
-  settles v w told n settled = settled_completed v w n one.node told settled
-
-  still : (seg n : ℕ) → HasSettled old seg n → HasSettled new seg n
-  still seg n settled = settled_at at (λ v w. LooksAndCompletes v one.node w) one.between new settles one.completed seg n (settled_seats old one.between one.looked seg n settled)
+  known : AllKnowNoLess old new
+  known = known_then old one.between new (known_looked old one.between one.looked)
+      (known_at at (λ v w. LooksAndCompletes v one.node w) one.between new (λ v w told. knows_completed v w one.node told) one.completed)
 
   -- the node that was completed is settled
   now_settled : HasSettled new at one.node
@@ -69,9 +76,10 @@ module _ (core : CoreValue) (old new : List SeatValue) (nodes left : List (ℕ �
   after_one =
       record {
         flags = is.flags;
+        seen = seen_seats old new complete known is.seen;
         exists = λ seg n there. is.exists seg n (was_there seg n there);
         whole = λ seg n there. is.whole seg n (was_there seg n there);
-        each = λ seg n whole. ⊎_elim (λ (there : Contains nodes (seg, n)). left_or_settled seg n there) (λ (settled : HasSettled old seg n). inr (still seg n settled)) (is.each seg n whole);
+        each = λ seg n whole. ⊎_elim (λ (there : Contains nodes (seg, n)). left_or_settled seg n there) (λ (settled : HasSettled old seg n). inr (settled_seats old new known seg n settled)) (is.each seg n whole);
       }
 
   stood : Contains nodes (at, one.node)

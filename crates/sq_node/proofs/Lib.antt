@@ -1,7 +1,10 @@
 pub mod Settles
 pub mod Sending
+pub mod Known
 pub mod Looked
 pub mod Completing
+pub mod Seen
+pub mod Resting
 pub mod Served
 pub mod Stays
 pub mod Taken
@@ -11,3 +14,4 @@ pub mod NewNodes
 pub mod Bridges
 pub mod Keeps
 pub mod Told
+pub mod Rooms

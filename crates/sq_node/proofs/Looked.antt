@@ -1,8 +1,7 @@
 -- Looks at nodes, and what they leave as it was.
-use Rattle.std.proofs.Common.{◌≡◌, ℕ, ◌+◌, ◌<◌, Bool, true, false, List, [], ◌∷◌, ◌++◌, length, get_or, Some, refl, sym, ap, ◌∙◌, subst, inl, inr, ⊎_elim, append_assoc, arith}
-use Rattle.std.specs.Prelude.{◌⊎◌, ◌≢◌, ◌==◌, slice_get, slice_set, Result, Ok, Err, is_ok, MatchResult, MatchBool}
-use Rattle.std.proofs.lemmas.Bool.{eqb-true}
-use Rattle.std.proofs.lemmas.Bool.Decides.{eqb_tells}
+use Rattle.std.proofs.Common.{◌≡◌, ℕ, ◌+◌, ◌*◌, ◌<◌, Bool, true, false, IsTrue, List, [], ◌∷◌, ◌++◌, length, get_or, Some, refl, sym, ap, ◌∙◌, subst, inl, inr, ⊎_elim, append_assoc, arith}
+use Rattle.std.specs.Prelude.{◌⊎◌, ◌≢◌, slice_get, slice_set, Result, Ok, Err, is_ok, MatchResult, MatchBool}
+use Rattle.std.proofs.lemmas.Bool.{eqb-true, lt-leb, cases_Bool}
 use Rattle.std.proofs.lemmas.List.{length-set}
 use Rattle.std.proofs.lemmas.List.Elements.{Contains-append_right, Contains-append_left}
 use Rattle.std.proofs.lemmas.Option.{same_Some, slice_get_within, slice_get-get_or}
@@ -12,7 +11,11 @@ use Rattle.sq_tree.specs.declared.fault.BeginFault.{BeginFault}
 use Rattle.sq_tree.specs.declared.fault.BeginFault.TheVariants as begin
 use Rattle.sq_tree.specs.declared.fault.CompleteFault.{CompleteFault}
 use Rattle.sq_tree.specs.declared.fault.CompleteFault.TheVariants as complete
+use Rattle.sq_tree.specs.declared.node.TheConstants.{LEAVES}
+use Rattle.sq_tree.specs.Node.{is_node, is_above}
 use Rattle.sq_tree.specs.Status.{is_past}
+use Rattle.sq_tree.proofs.Nested.{node_bounds, node_within, halves_of}
+use Rattle.sq_tree.proofs.Covering.{high_half}
 use Rattle.sq_model.proofs.Lists.{Contains-first}
 use Rattle.sq_status.specs.declared.view.View.{View}
 use Rattle.sq_status.specs.View.{HasSeen}
@@ -23,11 +26,9 @@ use Rattle.sq_status.specs.Seat.{SeatValue, IsSameSeat}
 use Rattle.sq_pull.specs.Seats.{AreSeatsOf, StepsAt}
 use Rattle.sq_pull.proofs.Stepped.{steps_at, seats_stay}
 use Rattle.sq_node_model.proofs.Members.{set_stood, set_kept, set_new}
-use Rattle.sq_node.specs.Settled.{IsSettled, HasSettled}
+use Rattle.sq_node.specs.Settled.{IsSettled, HasSettled, SawComplete}
 use Rattle.sq_node.specs.Looks.{OnlyLooked, SeatsLooked, FoundElse, HasNoneToComplete, LooksOnly, LooksAndCompletes}
-
-eq_or_not : (a b : ℕ) → (a ≡ b) ⊎ (a ≢ b)
-eq_or_not a b = ⊎_elim (λ (same : ((a == b) ≡ true) × (a ≡ b)). inl same.1) (λ (apart : ((a == b) ≡ false) × (a ≢ b)). inr apart.1) (eqb_tells a b)
+use Rattle.sq_node.proofs.Known.{KnowsNoLess, knows_looked, eq_or_not, settled_known, complete_known}
 
 -- a look is only a look
 pub found_looks : (v : View) (n : ℕ) (st : Status) (w : View) → Found v n st w → OnlyLooked v w
@@ -104,52 +105,23 @@ begun_or_not v w n pull (Err begin.WrongPull) refused = found_looks v n (Claimed
 
 -- what is settled stays so
 pub settled_looked : (v w : View) (n : ℕ) → OnlyLooked v w → IsSettled v n → IsSettled w n
-settled_looked v w n looked settled =
-    subst (λ (u : View). IsSettled u n) (sym looked.after) (by_kind settled)
-  where
-    by_kind : IsSettled v n → IsSettled (record v { looked = looked.looks ++ v.looked }) n
-    by_kind (inl completed) = inl completed
-    by_kind (inr (inl split)) = inr (inl (Contains-append_right looked.looks v.looked (n, Split) split))
-    by_kind (inr (inr done)) = inr (inr (done.0, Contains-append_right looked.looks v.looked (n, Complete done.0) done.1))
-
-pub settled_begun : (v w : View) (n m pull : ℕ) → Won v m (Partial pull) w → IsSettled v n → IsSettled w n
-settled_begun v w n m pull won settled = subst (λ (u : View). IsSettled u n) (sym won.after) settled
-
-pub settled_completed : (v w : View) (n m : ℕ) → LooksAndCompletes v m w → IsSettled v n → IsSettled w n
-settled_completed v w n m told settled =
-    let pull = told.0 in
-    let between = told.1 in
-    subst (λ (u : View). IsSettled u n) (sym told.3.after) (by_kind (settled_looked v between n told.2 settled))
-  where
-    by_kind : IsSettled told.1 n → IsSettled (record told.1 { completed = (m, told.0) ∷ told.1.completed }) n
-    by_kind (inl completed) = inl (completed.0, Contains-append_right ((m, told.0) ∷ []) told.1.completed (n, completed.0) completed.1)
-    by_kind (inr seen) = inr seen
+settled_looked v w n looked settled = settled_known v w n (knows_looked v w looked) settled
 
 pub completes_settles : (v w : View) (n : ℕ) → LooksAndCompletes v n w → IsSettled w n
 completes_settles v w n told = subst (λ (u : View). IsSettled u n) (sym told.3.after) (inl (told.0, Contains-first (n, told.0) told.1.completed))
 
--- and at each seat
-pub settled_at : (seg : ℕ) (steps : View → View → Type 0) (old new : List SeatValue) → ((v w : View) → steps v w → (n : ℕ) → IsSettled v n → IsSettled w n) → StepsAt seg steps old new
-    → (s n : ℕ) → HasSettled old s n → HasSettled new s n
-settled_at seg steps old new stays step s n settled =
-    by_place (eq_or_not s seg)
-  where
-    by_place : (s ≡ seg) ⊎ (s ≢ seg) → HasSettled new s n
-    by_place (inl same) =
-        let before : settled.0 ≡ step.before = same_Some settled.0 step.before (sym settled.1 ∙ ap (slice_get old) same ∙ step.there) in (
-          step.after,
-          ap (λ (seats : List SeatValue). slice_get seats s) step.others ∙ ap (slice_get (slice_set old seg step.after)) same ∙ set_new old seg step.after step.before step.there,
-          stays step.before.view step.after.view step.told n (subst (λ (seat : SeatValue). IsSettled seat.view n) before settled.2),
-        )
-    by_place (inr apart) =
-        (settled.0, ap (λ (seats : List SeatValue). slice_get seats s) step.others ∙ set_kept old seg s step.after settled.0 settled.1 apart, settled.2)
+-- a node that was found complete is seen so, and a split one where its halves are
+pub seen_itself : (v w : View) (n pull : ℕ) → Found v n (Complete pull) w → SawComplete w n
+seen_itself v w n pull found = λ leaf above. record { node = n; pull = pull; above = above; seen = seen_then v n (Complete pull) w found }
 
-pub settled_seats : (old new : List SeatValue) → SeatsLooked old new → (s n : ℕ) → HasSettled old s n → HasSettled new s n
-settled_seats old new looked s n settled =
-    let within : s < length new = omega (arith, slice_get_within old s settled.0 settled.1, looked.count) in
-    let after = get_or new s settled.0 in
-    let there : slice_get new s ≡ Some after = slice_get-get_or new s settled.0 within in
-    (after, there, settled_looked settled.0.view after.view n (looked.each s settled.0 after settled.1 there).1 settled.2)
+pub seen_halves : (v w : View) (n low high : ℕ) → IsTrue (is_node low) → n < LEAVES → low ≡ 2 * n → high ≡ 2 * n + 1 → KnowsNoLess v w → SawComplete v low → SawComplete w high → SawComplete w n
+seen_halves v w n low high node inner low_is high_is knows saw_low saw_high = λ leaf above.
+    let bounds = node_bounds low node in
+    let half = halves_of n (node_within n (omega (arith, bounds.0, low_is)) (omega (arith, inner))) (lt-leb LEAVES n inner) in
+    ⊎_elim
+    (λ (first : is_above (2 * n) leaf ≡ true). complete_known v w low knows saw_low leaf (ap (λ (m : ℕ). is_above m leaf) low_is ∙ first))
+    (λ (past : is_above (2 * n) leaf ≡ false). saw_high leaf (ap (λ (m : ℕ). is_above m leaf) high_is ∙ high_half n leaf half above past))
+    (cases_Bool (is_above (2 * n) leaf))
 
 -- more looks at one seat
 pub seats_looked_at : (seg : ℕ) (steps : View → View → Type 0) (old cur new : List SeatValue) → ((v w : View) → steps v w → OnlyLooked v w) → SeatsLooked old cur → StepsAt seg steps cur new → SeatsLooked old new

@@ -2,7 +2,7 @@
 use Rattle.std.proofs.Common.{◌≡◌, ℕ, zero, suc, ◌+◌, ◌<◌, ◌≤◌, List, [], ◌∷◌, ◌++◌, length, get_or, map, take, Option, Some, None, refl, sym, ap, ◌∙◌, subst, ⊎_elim, length-append, arith}
 use Rattle.std.proofs.lemmas.Bool.{cases_lt}
 use Rattle.std.proofs.lemmas.List.{length-map, length-take, map-append, take_more}
-use Rattle.std.specs.Prelude.{◌==◌, ◌&&◌, Bool, true, filter, Contains}
+use Rattle.std.specs.Prelude.{◌==◌, Bool, true, filter, Contains}
 use Rattle.std.proofs.lemmas.Bool.{cases_Bool, and_parts, and_from}
 use Rattle.std.proofs.lemmas.List.Kept.{IsStrictlySortedBy-filter}
 use Rattle.sq_model.proofs.Lists.{Contains-nothing, Contains-first, Contains-later, Contains-cases, Contains-filter, filter-first, filter-other}
@@ -15,12 +15,14 @@ use Rattle.sq_node.specs.Ends.{no_link, link_at}
 use Rattle.sq_node.specs.FabricValue.{ends_of, AreStageLinks}
 use Rattle.sq_node.specs.Opened.{HasAllEnds}
 
-before : {X : Type 0} (xs : List X) (x d : X) (k : ℕ) → k < length xs → get_or (xs ++ x ∷ []) k d ≡ get_or xs k d
+-- an element of a list stands where it stood once one more is added
+pub before : {X : Type 0} (xs : List X) (x d : X) (k : ℕ) → k < length xs → get_or (xs ++ x ∷ []) k d ≡ get_or xs k d
 before [] x d k lt = absurd (omega (arith, lt))
 before (y ∷ xs) x d zero lt = refl
 before (y ∷ xs) x d (suc k) lt = before xs x d k (omega (arith, lt))
 
-last : {X : Type 0} (xs : List X) (x d : X) → get_or (xs ++ x ∷ []) (length xs) d ≡ x
+-- and that stands behind them
+pub last : {X : Type 0} (xs : List X) (x d : X) → get_or (xs ++ x ∷ []) (length xs) d ≡ x
 last [] x d = refl
 last (y ∷ xs) x d = last xs x d
 

@@ -1,8 +1,10 @@
--- Nodes that are opened one after another.
-use Rattle.std.proofs.Common.{◌≡◌, ℕ, suc, ◌+◌, ◌<◌, true, false, List, [], ◌∷◌, ◌++◌, length, get_or, map, Option, Some, None, refl, sym, ap, ◌∙◌, subst, ⊎_elim, length-append, arith}
-use Rattle.std.specs.Prelude.{◌==◌, ◌&&◌, Bool, if◌then◌else◌, nat_lt, ◌⊎◌, ◌≢◌, slice_get, Result, Ok, Err, IfOk}
+-- Nodes and pumps that are opened one after another.
+use Rattle.std.proofs.Common.{◌≡◌, ℕ, zero, suc, ◌+◌, ◌<◌, true, false, List, [], ◌∷◌, ◌++◌, length, replicate, get_or, map, Option, Some, None, refl, sym, ap, ◌∙◌, subst, ⊎_elim, true≢false, length-append, arith}
+use Rattle.std.specs.Prelude.{◌==◌, ◌&&◌, Bool, Contains, if◌then◌else◌, nat_lt, ◌≢◌, slice_get, slice_index_or}
 use Rattle.std.specs.Option.{option_map_or}
+use Rattle.std.specs.FinMap.{empty}
 use Rattle.std.proofs.lemmas.List.{length-replicate}
+use Rattle.std.proofs.lemmas.List.FromFn.{length-map-range_with_len, get_or-map-range_with_len}
 use Rattle.std.proofs.lemmas.Option.{same_Some, slice_get_within, slice_get-get_or}
 use Rattle.atomic_table.specs.Seated.{TableId}
 use Rattle.sq_ranges.specs.OpeningValue.{OpeningValue}
@@ -20,24 +22,48 @@ use Rattle.std.proofs.lemmas.Bool.Decides.{nat_tests}
 use Rattle.sq_model.specs.Place.{source}
 use Rattle.sq_store.specs.StoreValue.{StoreValue}
 use Rattle.sq_node_model.proofs.Staged.{key_stage, unmoved_source}
-use Rattle.sq_node_model.specs.BeganWith.{is_opened, opening_family, first_began}
-use Rattle.sq_node_model.specs.Cores.{OpensWith}
-use Rattle.sq_node_model.proofs.Began.{first_can}
-use Rattle.sq_node_model.specs.Cores.{IsUnused}
+use Rattle.sq_node_model.specs.NodeValue.{ReceiptValue}
+use Rattle.sq_node_model.specs.BeganWith.{BeganWith, CanBegin, is_opened, opening_family, first_began}
+use Rattle.sq_node_model.specs.Cores.{staged_core, OpensWith, IsUnused}
 use Rattle.sq_node_model.proofs.CoreNew.{core_new, get_or-same}
 use Rattle.sq_node_model.proofs.Members.{push_stood}
 use Rattle.sq_node.specs.declared.ends.SendEnd.{SendEnd}
 use Rattle.sq_node.specs.declared.ends.RecvEnd.{RecvEnd}
-use Rattle.sq_node.specs.Ends.{send_end, recv_end, AreSendEnds, AreRecvEnds}
-use Rattle.sq_node.specs.FabricValue.{FabricValue}
+use Rattle.sq_node.specs.Ends.{send_end, recv_end}
+use Rattle.sq_node.specs.FabricValue.{FabricValue, HasBegun}
 use Rattle.sq_node.specs.NodeState.{NodeState, IsNodeOf, views_of, sent_by, received_by}
+use Rattle.sq_node.specs.Holds.{HoldsUnder}
+use Rattle.sq_node.specs.Settled.{IsNode}
 use Rattle.sq_pull.specs.Pump.{PumpValue}
-use Rattle.sq_node.specs.Opened.{IsNewPump, AreNewPumps, AreFirstSeats, AreNewSeats, GaveEach, HasEnds, LeavesEnds, HaveSentNothing, HaveReceivedNothing, IsFabricOf, IsNewNode, AreNewNodes}
+use Rattle.sq_node.specs.Opened.{IsNewPump, AreNewPumps, AreFirstSeats, AreNewSeats, GaveEach, HasEnds, LeavesEnds, HaveSentNothing, HaveReceivedNothing, AreNewSends, AreNewRecvs, IsFabricOf, IsNewNode, AreNewNodes, AllOpenWith, AllHoldUnder, IsResumed, opened_stores, started_core}
+use Rattle.sq_node.proofs.NewLinks.{before, last}
 
--- nothing is loaded at a partition that opens
-pub not_whole : (o : OpeningValue) (part : ℕ) (core : CoreValue) → core ≡ opened_part o part → (seg n : ℕ) → is_whole (loaded_at core seg) n ≡ false
-not_whole o part core is seg n =
+-- nothing is loaded at a partition as a stage begins
+pub not_whole : (o : OpeningValue) (stage part : ℕ) (store : StoreValue) (core : CoreValue) → core ≡ staged_core o stage part store → (seg n : ℕ) → is_whole (loaded_at core seg) n ≡ false
+not_whole o stage part store core is seg n =
     ap (λ (opened : CoreValue). is_whole (loaded_at opened seg) n) is ∙ ap (λ (runs : List Run). is_whole runs n) (get_or-same (length o.recon.segments) seg [])
+
+-- no flag is set at first
+unset : (count seg : ℕ) → slice_get (replicate count false) seg ≡ Some true → ⊥
+unset zero seg set = cc
+unset (suc count) zero set = cc
+unset (suc count) (suc seg) set = unset count seg set
+
+-- where nothing was loaded and no flag is set
+pub new_is_node : (core : CoreValue) (seats : List SeatValue) (pending : List (ℕ × ℕ)) (complete : List Bool) → pending ≡ [] → complete ≡ replicate (length core.recon.segments) false
+    → ((seg n : ℕ) → is_whole (loaded_at core seg) n ≡ false) → IsNode core seats pending complete
+new_is_node core seats pending complete none flags fresh =
+    let count = length core.recon.segments in
+    record {
+      flags = ap length flags ∙ length-replicate count false;
+      seen = λ seg set. absurd (unset count seg (ap (λ (list : List Bool). slice_get list seg) (sym flags) ∙ set));
+      exists = λ seg n there. absurd (no_pending seg n there);
+      whole = λ seg n there. absurd (no_pending seg n there);
+      each = λ seg n whole. absurd (true≢false (sym whole ∙ fresh seg n));
+    }
+  where
+    no_pending : (seg n : ℕ) → Contains pending (seg, n) → ⊥
+    no_pending seg n there = let among : Contains [] (seg, n) = subst (λ (xs : List (ℕ × ℕ)). Contains xs (seg, n)) none there in omega (arith, among.1)
 
 unused : (trees : List TableId) (seats : List SeatValue) (sends : List (Option SendEnd)) (recvs : List (Option RecvEnd)) → AreNewSeats trees seats → HaveSentNothing sends → HaveReceivedNothing recvs
     → IsUnused (views_of seats) (sent_by sends) (received_by recvs)
@@ -81,17 +107,25 @@ owned_opens o part store owned root =
     ∙ swap_tests (is_opened o root) (source o root == part) (opening_family o root)
     ∙ ap (λ p. if p == part then if is_opened o root then Some (opening_family o root) else None else None) (sym (unmoved_source o 0 root (none_earlier (key_stage o root))))
 
--- a node is new that is made of a partition that opens, of new seats and of ends that nothing was sent and received by
-pub new_node : (o : OpeningValue) (fabric : FabricValue) (part : ℕ) (core : CoreValue) (seats : List SeatValue) (sends : List (Option SendEnd)) (recvs : List (Option RecvEnd)) (node : NodeState)
-    → IsFabricOf o fabric → part < o.old.parts → core ≡ opened_part o part → HasOwned o part core.store → AreNewSeats fabric.trees seats
-    → AreSendEnds fabric.links part sends × HaveSentNothing sends × (length sends ≡ fabric.parts) → AreRecvEnds fabric.links part recvs × HaveReceivedNothing recvs × (length recvs ≡ fabric.parts)
-    → node ≡ record { core = record core { started = true }; seats = seats; sends = sends; recvs = recvs; receipts = []; claims = 0 } → IsNewNode o fabric part node
-new_node o fabric part core seats sends recvs node shared below opened owned new out into is =
-    subst (IsNewNode o fabric part) (sym (is ∙ ap (λ (c : CoreValue). record { core = record c { started = true }; seats = seats; sends = sends; recvs = recvs; receipts = []; claims = 0 }) opened))
+-- so they are for each partition
+pub all_owned_open : (o : OpeningValue) → ((part : ℕ) → part < o.old.parts → HasOwned o part (opened_part o part).store) → AllOpenWith o (first_began o) (opened_stores o)
+all_owned_open o owned part store there =
+    let opened : ℕ → StoreValue = λ p. (opened_part o p).store in
+    let within : part < o.old.parts = let lt = slice_get_within (opened_stores o) part store there in omega (arith, length-map-range_with_len opened 0 o.old.parts) in
+    let stood = slice_get-get_or (opened_stores o) part empty (let lt = slice_get_within (opened_stores o) part store there in lt) in
+    let is : opened part ≡ store = sym (get_or-map-range_with_len opened 0 o.old.parts part part empty within (omega arith)) ∙ same_Some (get_or (opened_stores o) part empty) store (sym stood ∙ there) in
+    subst (OpensWith o (first_began o) part) is (owned_opens o part (opened part) (owned part within))
+
+-- a node is new that is made of a partition as the stage begins, of new seats and of ends that nothing was sent and received by
+pub new_node : (o : OpeningValue) (fabric : FabricValue) (part : ℕ) (store : StoreValue) (core : CoreValue) (seats : List SeatValue) (sends : List (Option SendEnd)) (recvs : List (Option RecvEnd)) (node : NodeState)
+    → IsFabricOf o fabric → part < o.old.parts → core ≡ staged_core o fabric.stage part store → AreNewSeats fabric.trees seats → AreNewSends fabric part sends → AreNewRecvs fabric part recvs
+    → node ≡ record { core = record core { started = true }; seats = seats; sends = sends; recvs = recvs; receipts = []; claims = 0 } → IsNewNode fabric (started_core o fabric.stage part store) node
+new_node o fabric part store core seats sends recvs node shared below opened new out into is =
+    subst (IsNewNode fabric (started_core o fabric.stage part store)) (sym (is ∙ ap (λ (c : CoreValue). record { core = record c { started = true }; seats = seats; sends = sends; recvs = recvs; receipts = []; claims = 0 }) opened))
     (record {
       of = record {
         recon = sym shared.recon;
-        stage = sym shared.stage;
+        stage = refl;
         parts = sym shared.parts;
         below = subst (λ (parts : ℕ). part < parts) (sym shared.parts) below;
         seats = new.of;
@@ -106,36 +140,50 @@ new_node o fabric part core seats sends recvs node shared below opened owned new
       recvs = into.1;
       receipts = refl;
       claims = refl;
-      holds = record {
-        core = record { plan = refl; recon = refl; stage = refl; outs = length-replicate o.old.parts new_out_link; given_up = length-replicate (length o.recon.segments) none_given_up; loaded = length-replicate (length o.recon.segments) [] };
-        holds = core_new o (first_began o) (first_can o) part (opened_part o part).store below (owned_opens o part (opened_part o part).store (subst (λ (c : CoreValue). HasOwned o part c.store) opened owned)) (views_of seats) (sent_by sends) (received_by recvs) (unused fabric.trees seats sends recvs new out.1 into.1);
-      };
     })
 
--- it is new whatever seats the fabric keeps
-same_node : (o : OpeningValue) (fabric : FabricValue) (seats : List SeatValue) (part : ℕ) (node : NodeState) → IsNewNode o fabric part node → IsNewNode o (record fabric { seats = seats }) part node
-same_node o fabric seats part node new =
+-- it is new whatever seats and receipts the fabric keeps
+pub same_node : (fabric : FabricValue) (seats : List SeatValue) (receipts : List ReceiptValue) (core : CoreValue) (node : NodeState) → IsNewNode fabric core node → IsNewNode (record fabric { seats = seats; receipts = receipts }) core node
+same_node fabric seats receipts core node new =
     let of = new.of in
-    let still : IsNodeOf (record fabric { seats = seats }) node =
+    let still : IsNodeOf (record fabric { seats = seats; receipts = receipts }) node =
     record { recon = of.recon; stage = of.stage; parts = of.parts; below = of.below; seats = of.seats; sends = of.sends; recvs = of.recvs; all_sends = of.all_sends; all_recvs = of.all_recvs } in
-    record { of = still; core = new.core; seats = new.seats; sends = new.sends; recvs = new.recvs; receipts = new.receipts; claims = new.claims; holds = new.holds }
+    record { of = still; core = new.core; seats = new.seats; sends = new.sends; recvs = new.recvs; receipts = new.receipts; claims = new.claims }
 
-pub same_nodes : (o : OpeningValue) (old new : FabricValue) (count : ℕ) (nodes : List NodeState) → new ≡ record old { seats = new.seats } → AreNewNodes o old count nodes → AreNewNodes o new count nodes
-same_nodes o old new count nodes same are =
-    subst (λ (fabric : FabricValue). AreNewNodes o fabric count nodes) (sym same)
-    (record { all = are.all; each = λ part node there. same_node o old new.seats part node (are.each part node there) })
+-- the fabric is the other, whatever seats and receipts each keeps
+abbrev pub IsAlike : FabricValue → FabricValue → Type 0
+IsAlike old new = new ≡ record old { seats = new.seats; receipts = new.receipts }
 
--- one more node
-pub more_nodes : (o : OpeningValue) (old new : FabricValue) (count : ℕ) (nodes : List NodeState) (node : NodeState) → new ≡ record old { seats = new.seats } → AreNewNodes o old count nodes → IsNewNode o old count node
-    → AreNewNodes o new (count + 1) (nodes ++ node ∷ [])
-more_nodes o old new count nodes node same are made =
-    same_nodes o old new (count + 1) (nodes ++ node ∷ []) same
-    (record {
-      all = length-append nodes (node ∷ []) ∙ ap (λ (n : ℕ). n + 1) are.all;
-      each = λ part one there. ⊎_elim (λ (before : slice_get nodes part ≡ Some one). are.each part one before)
-          (λ (last : (part ≡ length nodes) × (node ≡ one)). subst (λ (k : ℕ). IsNewNode o old k one) (sym are.all ∙ sym last.0) (subst (IsNewNode o old count) last.1 made))
+pub alike : (old new : FabricValue) → new ≡ record old { seats = new.seats } → IsAlike old new
+alike old new same = λ k. record (same k) { seats = new.seats; receipts = new.receipts }
+
+pub same_nodes : (o : OpeningValue) (old new : FabricValue) (stores : List StoreValue) (nodes : List NodeState) → IsAlike old new → AreNewNodes o old stores nodes → AreNewNodes o new stores nodes
+same_nodes o old new stores nodes same are =
+    subst (λ (fabric : FabricValue). AreNewNodes o fabric stores nodes) (sym same)
+    (record { all = are.all; each = λ part node there. same_node old new.seats new.receipts (started_core o old.stage part (slice_index_or stores part empty)) node (are.each part node there) })
+
+pub same_new : (o : OpeningValue) (old new : FabricValue) (part : ℕ) (store : StoreValue) (node : NodeState) → IsAlike old new → IsNewNode old (started_core o old.stage part store) node → IsNewNode new (started_core o new.stage part store) node
+same_new o old new part store node same made =
+    subst (λ (fabric : FabricValue). IsNewNode fabric (started_core o fabric.stage part store) node) (sym same) (same_node old new.seats new.receipts (started_core o old.stage part store) node made)
+
+-- one more node, of a partition with one more store
+pub more_nodes : (o : OpeningValue) (fabric : FabricValue) (stores : List StoreValue) (store : StoreValue) (nodes : List NodeState) (node : NodeState) → AreNewNodes o fabric stores nodes
+    → IsNewNode fabric (started_core o fabric.stage (length stores) store) node → AreNewNodes o fabric (stores ++ store ∷ []) (nodes ++ node ∷ [])
+more_nodes o fabric stores store nodes node are made =
+    record {
+      all = length-append nodes (node ∷ []) ∙ ap (λ (n : ℕ). n + 1) are.all ∙ sym (length-append stores (store ∷ []));
+      each = λ part one there. ⊎_elim
+          (λ (earlier : slice_get nodes part ≡ Some one).
+          let lt = slice_get_within nodes part one earlier in
+          let within : part < length stores = omega (arith, are.all) in
+          subst (λ (s : StoreValue). IsNewNode fabric (started_core o fabric.stage part s) one) (sym (before stores store empty part within)) (are.each part one earlier))
+          (λ (end : (part ≡ length nodes) × (node ≡ one)).
+          let here : length stores ≡ part = sym are.all ∙ sym end.0 in
+          let store_is : store ≡ slice_index_or (stores ++ store ∷ []) part empty = sym (last stores store empty) ∙ ap (λ (k : ℕ). get_or (stores ++ store ∷ []) k empty) here in
+          subst (IsNewNode fabric (started_core o fabric.stage part (slice_index_or (stores ++ store ∷ []) part empty))) end.1
+          (subst (λ (core : CoreValue). IsNewNode fabric core node) (λ k. started_core o fabric.stage (here k) (store_is k)) made))
           (push_stood nodes node part one there);
-    })
+    }
 
 gave_trees : (old new : List SeatValue) → GaveEach old new → map (λ (seat : SeatValue). seat.tree) new ≡ map (λ (seat : SeatValue). seat.tree) old
 gave_trees [] [] gives = refl
@@ -168,33 +216,63 @@ left_ends links part_of end_of old new part other leaves apart has =
       each = λ i lt own. leaves.each i (λ same. apart (sym same ∙ own)) ∙ has.each i lt own;
     }
 
--- a node that is opened with these is new, where there is memory for it
-pub opened_node : {E : Type 0} (o : OpeningValue) (fabric : FabricValue) (part : ℕ) (core : CoreValue) (seats : List SeatValue) (sends : List (Option SendEnd)) (recvs : List (Option RecvEnd)) (result : Result NodeState E)
-    → IsFabricOf o fabric → part < o.old.parts → core ≡ opened_part o part → HasOwned o part core.store → AreNewSeats fabric.trees seats
-    → AreSendEnds fabric.links part sends × HaveSentNothing sends × (length sends ≡ fabric.parts) → AreRecvEnds fabric.links part recvs × HaveReceivedNothing recvs × (length recvs ≡ fabric.parts)
-    → IfOk result (λ node. node.core ≡ record core { started = true }) → IfOk result (λ node. node.seats ≡ seats) → IfOk result (λ node. node.sends ≡ sends) → IfOk result (λ node. node.recvs ≡ recvs)
-    → IfOk result (λ node. node.receipts ≡ []) → IfOk result (λ node. node.claims ≡ 0) → IfOk result (IsNewNode o fabric part)
-opened_node o fabric part core seats sends recvs (Ok node) shared below opened owned new out into is_core is_seats is_sends is_recvs is_receipts is_claims =
-    new_node o fabric part core seats sends recvs node shared below opened owned new out into
-    (λ k. record { core = is_core k; seats = is_seats k; sends = is_sends k; recvs = is_recvs k; receipts = is_receipts k; claims = is_claims k })
-opened_node o fabric part core seats sends recvs (Err fault) shared below opened owned new out into is_core is_seats is_sends is_recvs is_receipts is_claims = tt
+-- of a new node all holds under each beginning of its stage in which its root keys were given its families
+new_holds : (o : OpeningValue) (began : BeganWith) (fabric : FabricValue) (part : ℕ) (store : StoreValue) (node : NodeState) → part < o.old.parts → HasBegun began fabric → CanBegin o began → OpensWith o began part store
+    → IsNewNode fabric (started_core o fabric.stage part store) node → HoldsUnder o began node
+new_holds o began fabric part store node below begun can opens new =
+    let core : node.core ≡ started_core o began.stage part store = new.core ∙ ap (λ stage. started_core o stage part store) (sym begun.stage) in
+    subst (HoldsUnder o began) {x = record { core = started_core o began.stage part store; seats = node.seats; sends = node.sends; recvs = node.recvs; receipts = []; claims = node.claims }} {y = node}
+    (λ k. record { core = sym core k; seats = node.seats; sends = node.sends; recvs = node.recvs; receipts = sym new.receipts k; claims = node.claims })
+    (record {
+      core = record { plan = refl; recon = refl; stage = refl; outs = length-replicate o.old.parts new_out_link; given_up = length-replicate (length o.recon.segments) none_given_up; loaded = length-replicate (length o.recon.segments) [] };
+      holds = core_new o began can part store below opens (views_of node.seats) (sent_by node.sends) (received_by node.recvs) (unused fabric.trees node.seats node.sends node.recvs new.seats new.sends new.recvs);
+    })
 
--- what is shared fits an opening whatever seats it keeps
-pub same_shared : (o : OpeningValue) (old new : FabricValue) → new ≡ record old { seats = new.seats } → IsFabricOf o old → IsFabricOf o new
+-- so it does of all nodes of a stage that begins
+pub new_nodes_hold : (o : OpeningValue) (began : BeganWith) (fabric : FabricValue) (stores : List StoreValue) (nodes : List NodeState) → length stores ≡ o.old.parts → HasBegun began fabric → CanBegin o began → AllOpenWith o began stores
+    → AreNewNodes o fabric stores nodes → AllHoldUnder o began nodes
+new_nodes_hold o began fabric stores nodes count begun can opens are part node there =
+    let lt = slice_get_within nodes part node there in
+    let within : part < length stores = omega (arith, are.all) in
+    let store = slice_index_or stores part empty in
+    new_holds o began fabric part store node (omega (arith, count)) begun can (opens part store (slice_get-get_or stores part empty within)) (are.each part node there)
+
+-- what is shared fits an opening whatever seats and receipts it keeps
+pub same_shared : (o : OpeningValue) (old new : FabricValue) → IsAlike old new → IsFabricOf o old → IsFabricOf o new
 same_shared o old new same shared =
-    subst (IsFabricOf o) (sym same) (record { recon = shared.recon; stage = shared.stage; parts = shared.parts; capacity = shared.capacity })
+    subst (IsFabricOf o) (sym same) (record { recon = shared.recon; parts = shared.parts; capacity = shared.capacity })
+
+-- a pump is new whatever seats and receipts the fabric keeps
+same_pump : (fabric : FabricValue) (seats : List SeatValue) (receipts : List ReceiptValue) (number : ℕ) (pump : PumpValue) → IsNewPump fabric number pump → IsNewPump (record fabric { seats = seats; receipts = receipts }) number pump
+same_pump fabric seats receipts number pump new = record { numbered = new.numbered; wins = new.wins; seats = new.seats; round = new.round }
+
+pub same_pumps : (old new : FabricValue) (count : ℕ) (pumps : List PumpValue) → IsAlike old new → AreNewPumps old count pumps → AreNewPumps new count pumps
+same_pumps old new count pumps same are =
+    subst (λ (fabric : FabricValue). AreNewPumps fabric count pumps) (sym same)
+    (record { all = are.all; each = λ number pump there. same_pump old new.seats new.receipts number pump (are.each number pump there) })
 
 -- one more pump
-pub more_pumps : (old new : FabricValue) (count : ℕ) (pumps : List PumpValue) (pump : PumpValue) → new ≡ record old { seats = new.seats } → AreNewPumps old count pumps → IsNewPump old count pump
+pub more_pumps : (old new : FabricValue) (count : ℕ) (pumps : List PumpValue) (pump : PumpValue) → IsAlike old new → AreNewPumps old count pumps → IsNewPump old count pump
     → AreNewPumps new (count + 1) (pumps ++ pump ∷ [])
 more_pumps old new count pumps pump same are made =
     subst (λ (fabric : FabricValue). AreNewPumps fabric (count + 1) (pumps ++ pump ∷ [])) (sym same)
     (record {
       all = length-append pumps (pump ∷ []) ∙ ap (λ (n : ℕ). n + 1) are.all;
-      each = λ number one there. ⊎_elim (λ (before : slice_get pumps number ≡ Some one). same_pump number one (are.each number one before))
-          (λ (last : (number ≡ length pumps) × (pump ≡ one)). same_pump number one (subst (λ (k : ℕ). IsNewPump old k one) (sym are.all ∙ sym last.0) (subst (IsNewPump old count) last.1 made)))
+      each = λ number one there. ⊎_elim (λ (before : slice_get pumps number ≡ Some one). same_pump old new.seats new.receipts number one (are.each number one before))
+          (λ (last : (number ≡ length pumps) × (pump ≡ one)). same_pump old new.seats new.receipts number one (subst (λ (k : ℕ). IsNewPump old k one) (sym are.all ∙ sym last.0) (subst (IsNewPump old count) last.1 made)))
           (push_stood pumps pump number one there);
     })
-  where
-    same_pump : (number : ℕ) (one : PumpValue) → IsNewPump old number one → IsNewPump (record old { seats = new.seats }) number one
-    same_pump number one new = record { numbered = new.numbered; wins = new.wins; seats = new.seats }
+
+-- a stage that begins keeps whatever receipts are handed in
+pub told_run : (o : OpeningValue) (stage : ℕ) (stores : List StoreValue) (receipts : List ReceiptValue) (count : ℕ) (fabric : FabricValue) (nodes : List NodeState) (pumps : List PumpValue) → IsResumed o stage stores [] count fabric nodes pumps
+    → IsResumed o stage stores receipts count (record fabric { receipts = receipts }) nodes pumps
+told_run o stage stores receipts count fabric nodes pumps run =
+    let now = record fabric { receipts = receipts } in
+    record {
+      shared = same_shared o fabric now refl run.shared;
+      stage = run.stage;
+      receipts = refl;
+      seats = run.seats;
+      each_node = same_nodes o fabric now stores nodes refl run.each_node;
+      each_pump = same_pumps fabric now count pumps refl run.each_pump;
+    }

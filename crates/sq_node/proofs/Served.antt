@@ -1,7 +1,6 @@
 -- Transactions that a partition took, and their receipts.
-use Rattle.std.proofs.Common.{◌≡◌, ℕ, ◌+◌, ◌-◌, ◌<◌, ◌≤◌, Bool, true, false, List, [], ◌∷◌, ◌++◌, length, get_or, Option, Some, None, Result, Ok, Err, refl, sym, ap, ◌∙◌, subst, inl, inr, true≢false, arith}
-use Rattle.std.specs.Prelude.{◌⊎◌, ◌==◌, if◌then◌else◌, unwrap_or, remove, slice_get, IfOk, OnErr}
-use Rattle.std.specs.FinMap.{get, insert}
+use Rattle.std.proofs.Common.{◌≡◌, ℕ, ◌+◌, ◌-◌, ◌<◌, Bool, true, false, List, [], ◌∷◌, ◌++◌, length, Option, Result, Ok, Err, refl, sym, ap, ◌∙◌, subst, inl, inr, true≢false, arith}
+use Rattle.std.specs.Prelude.{◌==◌, if◌then◌else◌, unwrap_or, IfOk, OnErr}
 use Rattle.sq_schema.specs.TxnValue.{TxnValue}
 use Rattle.sq_schema.specs.declared.txn.Reply.{Reply}
 use Rattle.sq_schema.specs.declared.txn.Reply.TheVariants.{Committed, Aborted}
@@ -13,27 +12,26 @@ use Rattle.sq_exec.specs.declared.outcome.Outcome.TheVariants.{Done, Moved, Wait
 use Rattle.sq_exec.specs.declared.outcome.Resumed.{Resumed}
 use Rattle.sq_exec.specs.CoreValue.{CoreValue}
 use Rattle.sq_exec.specs.Location.{route}
-use Rattle.sq_exec.specs.Serving.{served, IsTaken, IsMadeToWait, IsServed, IsResumed}
-use Rattle.std.proofs.lemmas.List.Elements.{Contains-append_right}
-use Rattle.sq_tree.specs.declared.status.Status.TheVariants.{Split, Complete}
+use Rattle.sq_exec.specs.Serving.{served, IsTaken, IsResumed}
 use Rattle.sq_ranges.specs.ReconValue.{ReconValue}
 use Rattle.sq_status.specs.declared.view.View.{View}
 use Rattle.sq_status.specs.declared.tree.walks.LeafClaim.{LeafClaim}
 use Rattle.sq_status.specs.declared.tree.walks.LeafClaim.TheVariants as at
-use Rattle.sq_status.specs.Walks.{WalkedTo}
 use Rattle.sq_status.specs.Seat.{SeatValue}
 use Rattle.sq_pull.specs.declared.numbers.TheConstants.{MAX_CLAIMS}
+use Rattle.sq_pull.specs.Numbers.{reactive_pull}
 use Rattle.sq_pull.specs.Seats.{StepsAt, ClaimsLeaf}
-use Rattle.sq_pull.specs.Puller.{PullerValue, HasPulled, next_reactive}
+use Rattle.sq_pull.specs.Puller.{PullerValue, RoomyPuller, HasPulled, next_reactive}
 use Rattle.sq_pull.specs.declared.puller.ReactivePull.{ReactivePull}
 use Rattle.sq_pull.specs.declared.puller.ReactivePull.TheVariants as pull
 use Rattle.sq_node_model.specs.NodeValue.{ReceiptValue}
 use Rattle.sq_node_model.specs.Steps.{receipt_of}
 use Rattle.sq_node.specs.NodeState.{NodeState, position_before}
-use Rattle.sq_node.specs.Settled.{IsSettled, HasSettled, IsNode}
+use Rattle.sq_node.specs.Settled.{IsNode}
 use Rattle.sq_node.specs.Steps.{ClaimsAt}
 use Rattle.sq_node.proofs.Settles.{same_loads}
-use Rattle.sq_node.proofs.Looked.{found_looks, settled_looked, settled_at}
+use Rattle.sq_node.proofs.Known.{KnowsNoLess, AllKnowNoLess, knows_then, knows_looked, knows_walked, known_at, known_same}
+use Rattle.sq_node.proofs.Looked.{found_looks}
 
 less_one : (n : ℕ) → n + 1 - 1 ≡ n
 less_one n = omega arith
@@ -101,59 +99,62 @@ pub receipt_same : (old : StoreValue) (txn : TxnValue) (reply : Reply) (after : 
     → position_before after reply ≡ log_length old txn.root → receipt ≡ receipt_of old txn reply
 receipt_same old txn reply after receipt is position = is ∙ (λ k. record { id = txn.id; root = txn.root; position = position k; reply = reply })
 
--- a claim leaves what is settled
-walked : (leaf levels : ℕ) (v u : View) (n : ℕ) → WalkedTo leaf levels v u → IsSettled v n → IsSettled u n
-walked leaf levels v u n walk settled = subst (λ (w : View). IsSettled w n) (sym walk.3.after) (by_kind settled)
-  where
-    by_kind : IsSettled v n → IsSettled (record v { split = walk.0 ++ v.split; looked = walk.1 ++ v.looked }) n
-    by_kind (inl completed) = inl completed
-    by_kind (inr (inl split)) = inr (inl (Contains-append_right walk.1 v.looked (n, Split) split))
-    by_kind (inr (inr done)) = inr (inr (done.0, Contains-append_right walk.1 v.looked (n, Complete done.0) done.1))
-
-claims_settle : (leaf pull : ℕ) (claim : LeafClaim) (v w : View) → ClaimsLeaf leaf pull claim v w → (n : ℕ) → IsSettled v n → IsSettled w n
-claims_settle leaf pull (at.Claimed m) v w told n settled =
+-- a claim leaves what a seat knows
+knows_claimed : (leaf pull : ℕ) (claim : LeafClaim) (v w : View) → ClaimsLeaf leaf pull claim v w → KnowsNoLess v w
+knows_claimed leaf pull (at.Claimed m) v w told =
     let walk = told.walk.1 in
-    subst (λ (u : View). IsSettled u n) (sym walk.2.after) (walked leaf 0 v walk.0 n walk.1 settled)
-claims_settle leaf pull (at.Held m st) v w told n settled =
+    knows_then v walk.0 w (knows_walked leaf 0 v walk.0 walk.1)
+    (subst (KnowsNoLess walk.0) (sym walk.2.after) (record { looked = λ n st seen. seen; completed = λ n other done. done }))
+knows_claimed leaf pull (at.Held m st) v w told =
     let walk = told.walk.2 in
-    settled_looked walk.1 w n (found_looks walk.1 m st w walk.4) (walked leaf walk.0 v walk.1 n walk.3 settled)
+    knows_then v walk.1 w (knows_walked leaf walk.0 v walk.1 walk.3) (knows_looked walk.1 w (found_looks walk.1 m st w walk.4))
 
-settled_claim : (seg leaf pull : ℕ) (claim : LeafClaim) (old new : List SeatValue) → StepsAt seg (ClaimsLeaf leaf pull claim) old new → (s n : ℕ) → HasSettled old s n → HasSettled new s n
-settled_claim seg leaf pull claim old new steps = settled_at seg (ClaimsLeaf leaf pull claim) old new (λ v w told m is. claims_settle leaf pull claim v w told m is) steps
+known_claim : (seg leaf pull : ℕ) (claim : LeafClaim) (old new : List SeatValue) → StepsAt seg (ClaimsLeaf leaf pull claim) old new → AllKnowNoLess old new
+known_claim seg leaf pull claim old new steps = known_at seg (ClaimsLeaf leaf pull claim) old new (λ v w told. knows_claimed leaf pull claim v w told) steps
 
-settled_still : (old new : List SeatValue) → new ≡ old → (s n : ℕ) → HasSettled old s n → HasSettled new s n
-settled_still old new same s n settled = subst (λ (seats : List SeatValue). HasSettled seats s n) (sym same) settled
+-- and so does a reactive pull
+pub known_pulled : {E : Type 0} (recon : ReconValue) (seg leaf : ℕ) (old new : PullerValue) (seats after : List SeatValue) (result : Result ReactivePull E) (P Q : Type 0)
+    → IfOk result (HasPulled recon seg leaf old seats new after) → OnErr result (P × Q × (after ≡ seats)) → AllKnowNoLess seats after
+known_pulled recon seg leaf old new seats after (Ok (pull.Won m)) P Q told err = known_claim seg leaf (next_reactive old) (at.Claimed m) seats after told.1
+known_pulled recon seg leaf old new seats after (Ok (pull.Held m st)) P Q told err = known_claim seg leaf (next_reactive old) (at.Held m st) seats after told.1
+known_pulled recon seg leaf old new seats after (Ok pull.Spent) P Q told err = known_same seats after told.2
+known_pulled recon seg leaf old new seats after (Err fault) P Q told err = known_same seats after err.2
 
--- what is settled stays so with a reactive pull
-pub settled_pulled : {E : Type 0} (recon : ReconValue) (seg leaf : ℕ) (old new : PullerValue) (seats after : List SeatValue) (result : Result ReactivePull E) (P Q : Type 0)
-    → IfOk result (HasPulled recon seg leaf old seats new after) → OnErr result (P × Q × (after ≡ seats)) → (s n : ℕ) → HasSettled seats s n → HasSettled after s n
-settled_pulled recon seg leaf old new seats after (Ok (pull.Won m)) P Q told err = settled_claim seg leaf (next_reactive old) (at.Claimed m) seats after told.1
-settled_pulled recon seg leaf old new seats after (Ok (pull.Held m st)) P Q told err = settled_claim seg leaf (next_reactive old) (at.Held m st) seats after told.1
-settled_pulled recon seg leaf old new seats after (Ok pull.Spent) P Q told err = settled_still seats after told.2
-settled_pulled recon seg leaf old new seats after (Err fault) P Q told err = settled_still seats after err.2
+-- it is the same partition's
+pub pulled_part : {E : Type 0} (recon : ReconValue) (seg leaf : ℕ) (old new : RoomyPuller) (seats after : List SeatValue) (result : Result ReactivePull E) (P Q : Type 0)
+    → IfOk result (HasPulled recon seg leaf old.puller seats new.puller after) → OnErr result (P × (new ≡ old) × Q) → new.puller.part ≡ old.puller.part
+pulled_part recon seg leaf old new seats after (Ok (pull.Won m)) P Q told err = told.2
+pulled_part recon seg leaf old new seats after (Ok (pull.Held m st)) P Q told err = ap (λ (puller : PullerValue). puller.part) told.2
+pulled_part recon seg leaf old new seats after (Ok pull.Spent) P Q told err = ap (λ (puller : PullerValue). puller.part) told.1
+pulled_part recon seg leaf old new seats after (Err fault) P Q told err = ap (λ (roomy : RoomyPuller). roomy.puller.part) err.1
+
+-- a claim for the next reactive pull of a node
+next_pull : (seg leaf : ℕ) (claim : LeafClaim) (puller : PullerValue) (before after : NodeState) → before.core.part ≡ puller.part → before.claims ≡ puller.wins.count
+    → StepsAt seg (ClaimsLeaf leaf (next_reactive puller) claim) before.seats after.seats → StepsAt seg (ClaimsLeaf leaf (reactive_pull before.core.part before.claims) claim) before.seats after.seats
+next_pull seg leaf claim puller before after own was steps =
+    let next : next_reactive puller ≡ reactive_pull before.core.part before.claims = λ k. reactive_pull (sym own k) (sym was k) in
+    subst (λ (pull : ℕ). StepsAt seg (ClaimsLeaf leaf pull claim) before.seats after.seats) next steps
 
 -- what a reactive pull claims for a node, where there is room for its request
 pub pulled_claims : {E : Type 0} (recon : ReconValue) (seg leaf : ℕ) (old new : PullerValue) (before after : NodeState) (result : Result ReactivePull E) (has_room : Bool)
-    → before.claims ≡ old.wins.count → after.claims ≡ new.wins.count → has_room ≡ true
+    → before.core.part ≡ old.part → before.claims ≡ old.wins.count → after.claims ≡ new.wins.count → has_room ≡ true
     → IfOk result (HasPulled recon seg leaf old before.seats new after.seats) → OnErr result (has_room ≡ false) → ClaimsAt seg leaf before after
-pulled_claims recon seg leaf old new before after (Ok (pull.Won m)) has_room was is room told err =
+pulled_claims recon seg leaf old new before after (Ok (pull.Won m)) has_room own was is room told err =
     inl
     (record {
-      pull = next_reactive old;
       claim = at.Claimed m;
       few = subst (λ (count : ℕ). count < MAX_CLAIMS) (sym was) told.0;
-      seats = told.1;
+      seats = next_pull seg leaf (at.Claimed m) old before after own was told.1;
       counts = is ∙ told.3.2.count ∙ told.3.1.count ∙ ap (λ (count : ℕ). count + 1) (sym was);
     })
-pulled_claims recon seg leaf old new before after (Ok (pull.Held m st)) has_room was is room told err =
+pulled_claims recon seg leaf old new before after (Ok (pull.Held m st)) has_room own was is room told err =
     inl
     (record {
-      pull = next_reactive old;
       claim = at.Held m st;
       few = subst (λ (count : ℕ). count < MAX_CLAIMS) (sym was) told.0;
-      seats = told.1;
+      seats = next_pull seg leaf (at.Held m st) old before after own was told.1;
       counts = is ∙ ap (λ (puller : PullerValue). puller.wins.count) told.2 ∙ sym was;
     })
-pulled_claims recon seg leaf old new before after (Ok pull.Spent) has_room was is room told err =
+pulled_claims recon seg leaf old new before after (Ok pull.Spent) has_room own was is room told err =
     inr (was ∙ told.0, (told.2, is ∙ ap (λ (puller : PullerValue). puller.wins.count) told.1 ∙ sym was))
-pulled_claims recon seg leaf old new before after (Err fault) has_room was is room told err = absurd (true≢false (sym room ∙ err))
+pulled_claims recon seg leaf old new before after (Err fault) has_room own was is room told err = absurd (true≢false (sym room ∙ err))

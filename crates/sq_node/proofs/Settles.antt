@@ -18,7 +18,8 @@ use Rattle.sq_exec.specs.Runs.{is_whole, runs_with}
 use Rattle.sq_exec.specs.CoreValue.{CoreValue, with_inbox, loaded_at}
 use Rattle.sq_exec.specs.Moving.{can_load, can_load_in, may_load, begun_core, begun_in, CutsFor, LoadsFrom}
 use Rattle.sq_exec.proofs.Runs.{whole-runs_with}
-use Rattle.sq_node.specs.Settled.{IsNode, HasSettled}
+use Rattle.sq_node.specs.Settled.{IsNode, HasSettled, AreSeen}
+use Rattle.sq_node.proofs.Known.{AllKnowNoLess, settled_seats, seen_seats}
 
 -- they are the same where nothing more was loaded
 pub same_loads : (old new : CoreValue) (seats : List SeatValue) (pending : List (ℕ × ℕ)) (complete : List Bool) → new.recon ≡ old.recon → new.loaded ≡ old.loaded
@@ -26,6 +27,7 @@ pub same_loads : (old new : CoreValue) (seats : List SeatValue) (pending : List 
 same_loads old new seats pending complete recon loads is =
     record {
       flags = is.flags ∙ ap (λ (r : ReconValue). length r.segments) (sym recon);
+      seen = is.seen;
       exists = λ seg n there. subst (λ (r : ReconValue). seg < length r.segments) (sym recon) (is.exists seg n there);
       whole = λ seg n there. ap (runs seg n) loads ∙ is.whole seg n there;
       each = λ seg n whole. is.each seg n (sym (ap (runs seg n) loads) ∙ whole);
@@ -34,20 +36,21 @@ same_loads old new seats pending complete recon loads is =
     runs : ℕ → ℕ → List (List Run) → Bool
     runs seg n loaded = is_whole (loaded_at (record old { loaded = loaded }) seg) n
 
--- and with as many flags
-pub other_flags : (core : CoreValue) (seats : List SeatValue) (pending : List (ℕ × ℕ)) (old new : List Bool) → length new ≡ length old → IsNode core seats pending old → IsNode core seats pending new
-other_flags core seats pending old new same is = record { flags = same ∙ is.flags; exists = is.exists; whole = is.whole; each = is.each }
-
--- and where the seats know no less
-pub other_seats : (core : CoreValue) (seats more : List SeatValue) (pending : List (ℕ × ℕ)) (complete : List Bool) → ((s n : ℕ) → HasSettled seats s n → HasSettled more s n)
-    → IsNode core seats pending complete → IsNode core more pending complete
-other_seats core seats more pending complete stays is =
+-- and where the seats know no less, and set flags only of what they found complete
+pub other_flags : (core : CoreValue) (seats more : List SeatValue) (pending : List (ℕ × ℕ)) (complete noted : List Bool) → length noted ≡ length complete → AllKnowNoLess seats more
+    → (AreSeen seats complete → AreSeen more noted) → IsNode core seats pending complete → IsNode core more pending noted
+other_flags core seats more pending complete noted same known sees is =
     record {
-      flags = is.flags;
+      flags = same ∙ is.flags;
+      seen = sees is.seen;
       exists = is.exists;
       whole = is.whole;
-      each = λ seg n whole. ⊎_elim (λ (there : Contains pending (seg, n)). inl there) (λ (settled : HasSettled seats seg n). inr (stays seg n settled)) (is.each seg n whole);
+      each = λ seg n whole. ⊎_elim (λ (there : Contains pending (seg, n)). inl there) (λ (settled : HasSettled seats seg n). inr (settled_seats seats more known seg n settled)) (is.each seg n whole);
     }
+
+pub other_seats : (core : CoreValue) (seats more : List SeatValue) (pending : List (ℕ × ℕ)) (complete : List Bool) → AllKnowNoLess seats more
+    → IsNode core seats pending complete → IsNode core more pending complete
+other_seats core seats more pending complete known is = other_flags core seats more pending complete complete refl known (seen_seats seats more complete known) is
 
 pub after_cut : (old new : CoreValue) (dst : ℕ) (note : Note) (seats : List SeatValue) (pending : List (ℕ × ℕ)) (complete : List Bool) → CutsFor old dst note new
     → IsNode old seats pending complete → IsNode new seats pending complete
@@ -109,6 +112,7 @@ module _ (old new : CoreValue) (src : ℕ) (note : Note) (loads : LoadsFrom old 
   after_load seats pending more complete more_is is =
       record {
         flags = is.flags ∙ ap (λ (r : ReconValue). length r.segments) (sym recon_is);
+        seen = is.seen;
         exists = λ seg n there. subst (λ (r : ReconValue). seg < length r.segments) (sym recon_is) (among (λ s m. s < length old.recon.segments) is.exists (λ _. exists) seg n there);
         whole = λ seg n there. whole_after seg n ∙ among (λ s m. (is_whole (loaded_at old s) m || ((note.seg == s) && ((note.node == m) && note.last))) ≡ true)
             (λ s m held. ap (λ (b : Bool). b || ((note.seg == s) && ((note.node == m) && note.last))) (is.whole s m held))
@@ -155,12 +159,23 @@ after_put old new src inbox (Ok done) seats pending complete ok err =
 after_put old new src inbox (Err back) seats pending complete ok err =
     same_loads old new seats pending complete (ap (λ (core : CoreValue). core.recon) err) (ap (λ (core : CoreValue). core.loaded) err)
 
+pub put_part : (old new : CoreValue) (src : ℕ) (inbox : Option ChunkValue) (result : Result (Unit {0}) ChunkValue) → OnOk result (new ≡ with_inbox old src inbox) → OnErr result (new ≡ old) → new.part ≡ old.part
+put_part old new src inbox (Ok done) ok err = ap (λ (core : CoreValue). core.part) ok
+put_part old new src inbox (Err back) ok err = ap (λ (core : CoreValue). core.part) err
+
+pub begun_part : (core : CoreValue) (seg n pull : ℕ) → (begun_core core seg n pull).part ≡ core.part
+begun_part core seg n pull = by_segment (slice_get core.recon.segments seg)
+  where
+    by_segment : (segment : Option Range) → (begun_in core seg n pull segment).part ≡ core.part
+    by_segment None = refl
+    by_segment (Some segment) = refl
+
 pub after_begun : (old new : CoreValue) (seg n pull : ℕ) (seats more : List SeatValue) (pending : List (ℕ × ℕ)) (complete : List Bool) → new ≡ begun_core old seg n pull
-    → ((s m : ℕ) → HasSettled seats s m → HasSettled more s m) → IsNode old seats pending complete → IsNode new more pending complete
-after_begun old new seg n pull seats more pending complete begun stays is =
+    → AllKnowNoLess seats more → IsNode old seats pending complete → IsNode new more pending complete
+after_begun old new seg n pull seats more pending complete begun known is =
     let recon : new.recon ≡ old.recon = ap (λ (core : CoreValue). core.recon) begun ∙ same_recon (slice_get old.recon.segments seg) in
     let loads : new.loaded ≡ old.loaded = ap (λ (core : CoreValue). core.loaded) begun ∙ same_loaded (slice_get old.recon.segments seg) in
-    other_seats new seats more pending complete stays (same_loads old new seats pending complete recon loads is)
+    other_seats new seats more pending complete known (same_loads old new seats pending complete recon loads is)
   where
     same_recon : (segment : Option Range) → (begun_in old seg n pull segment).recon ≡ old.recon
     same_recon None = refl

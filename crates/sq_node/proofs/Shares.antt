@@ -1,9 +1,9 @@
 -- Seats that are shared out, one of each tree.
-use Rattle.std.proofs.Common.{◌≡◌, ℕ, ◌+◌, ◌<◌, ◌≤◌, true, false, List, [], ◌∷◌, ◌++◌, length, get_or, map, take, Some, refl, sym, ap, ◌∙◌, subst, ⊎_elim, length-append, arith}
-use Rattle.std.specs.Prelude.{◌⊎◌, ◌≢◌, slice_get, slice_set}
+use Rattle.std.proofs.Common.{◌≡◌, ℕ, ◌+◌, ◌<◌, ◌≤◌, false, List, [], ◌∷◌, ◌++◌, length, get_or, map, take, Some, refl, sym, ap, ◌∙◌, ⊎_elim, arith}
+use Rattle.std.specs.Prelude.{◌≢◌, slice_get, slice_set}
 use Rattle.std.proofs.lemmas.Bool.{cases_lt}
 use Rattle.std.proofs.lemmas.List.{length-map, length-set, map-append, take_more, get_or-map, get_or_default}
-use Rattle.std.proofs.lemmas.Option.{same_Some, slice_get_within, slice_get_read, slice_get-get_or}
+use Rattle.std.proofs.lemmas.Option.{same_Some, slice_get_within, slice_get_read}
 use Rattle.std.proofs.Math.Seq.{map-set_same}
 use Rattle.atomic_table.specs.Seated.{TableId}
 use Rattle.sq_status.specs.declared.view.View.{View}
@@ -12,7 +12,7 @@ use Rattle.sq_status.specs.Seat.{SeatValue}
 use Rattle.sq_pull.specs.Seats.{AreSeatsOf}
 use Rattle.sq_node_model.proofs.Members.{set_stood, set_kept, set_new, push_stood}
 use Rattle.sq_node.specs.FabricValue.{AreFirst}
-use Rattle.sq_node.specs.Opened.{AreFirstSeats, AreNewSeats, GaveEach, first_view}
+use Rattle.sq_node.specs.Opened.{AreFirstSeats, GaveEach, first_view}
 
 abbrev gave_one : SeatValue → SeatValue
 gave_one seat = record { tree = seat.tree; view = gave seat.view }

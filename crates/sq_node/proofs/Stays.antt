@@ -157,7 +157,7 @@ complete_stays fabric old Nothing new step of =
     core_stays fabric old new _ step.0.after refl refl (same_part old.core) (looked_seats fabric.trees old.seats new.seats step.0.seats of.seats) of
 complete_stays fabric old Memory new step of = absurd step
 
-taken_part : (waits : Bool) (old new : CoreValue) (txn : TxnValue) (outcome : Outcome) → IsTaken waits old txn outcome new → SamePart old new
+pub taken_part : (waits : Bool) (old new : CoreValue) (txn : TxnValue) (outcome : Outcome) → IsTaken waits old txn outcome new → SamePart old new
 taken_part true old new txn outcome taken =
     record { part = ap (λ (c : CoreValue). c.part) taken.last; plan = ap (λ (c : CoreValue). c.plan) taken.last; recon = ap (λ (c : CoreValue). c.recon) taken.last; stage = ap (λ (c : CoreValue). c.stage) taken.last }
 taken_part false old new txn outcome taken =

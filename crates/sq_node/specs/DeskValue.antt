@@ -1,5 +1,5 @@
 -- The jobs of a node.
-use Rattle.std.specs.Prelude.{ℕ, Bool, List}
+use Rattle.std.specs.Prelude.{Bool, List}
 use Rattle.sq_node_model.specs.NodeValue.{ReceiptValue}
 use Rattle.sq_node.specs.declared.desk.Post.{Post}
 

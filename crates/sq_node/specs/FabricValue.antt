@@ -8,8 +8,10 @@ use Rattle.sq_ranges.specs.ReconValue.{ReconValue, is_link, stage_on, link_cmp}
 use Rattle.sq_link.specs.Values.{LinkValue}
 use Rattle.sq_status.specs.Seat.{SeatValue}
 use Rattle.sq_pull.specs.Seats.{AreSeatsOf}
+use Rattle.sq_node_model.specs.NodeValue.{ReceiptValue}
+use Rattle.sq_node_model.specs.BeganWith.{BeganWith}
 
--- what moves, which stage runs, how many partitions there are, for each segment its tree and the seat that the tree was opened with, and the links
+-- what moves, which stage runs, how many partitions there are, for each segment its tree and the seat that the tree was opened with, the links, and the receipts of earlier stages
 pub record FabricValue : Type 0 where
   pub recon : ReconValue
   pub stage : ℕ
@@ -17,6 +19,12 @@ pub record FabricValue : Type 0 where
   pub trees : List TableId
   pub seats : List SeatValue
   pub links : List LinkValue
+  pub receipts : List ReceiptValue
+
+-- the stage began so: it is the one that the run is in, and the receipts so far are the run's
+pub record HasBegun (began : BeganWith) (fabric : FabricValue) : Type 0 where
+  pub stage : began.stage ≡ fabric.stage
+  pub receipts : began.receipts ≡ fabric.receipts
 
 abbrev pub ends_of : LinkValue → Link
 ends_of link = record { src = link.src; dst = link.dst }

@@ -5,5 +5,7 @@ pub mod Settled
 pub mod NodeState
 pub mod Looks
 pub mod Steps
+pub mod Idle
 pub mod Opened
+pub mod Left
 pub mod Holds

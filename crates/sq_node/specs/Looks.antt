@@ -1,5 +1,5 @@
 -- Looks at the nodes of trees, and nodes that are completed after looks.
-use Rattle.std.specs.Prelude.{◌≡◌, ◌⊎◌, ℕ, ◌<◌, false, List, ◌++◌, length, remove, slice_get, Some, Contains}
+use Rattle.std.specs.Prelude.{◌≡◌, ◌⊎◌, ℕ, false, List, ◌++◌, length, remove, slice_get, Some, Contains}
 use Rattle.sq_tree.specs.declared.status.Status.{Status}
 use Rattle.sq_tree.specs.declared.status.Status.TheVariants.{Complete}
 use Rattle.sq_tree.specs.Status.{is_partial}

@@ -1,5 +1,7 @@
 -- What a run opens with.
 use Rattle.std.specs.Prelude.{◌≡◌, ◌≢◌, ℕ, ◌+◌, ◌<◌, true, false, List, [], length, map, slice_get, slice_index_or, Option, Some, None}
+use Rattle.std.specs.FinMap.{empty}
+use Rattle.std.specs.List.{range_with_len}
 use Rattle.atomic_table.specs.Seated.{TableId}
 use Rattle.sq_ranges.specs.ReconValue.{ReconValue}
 use Rattle.sq_ranges.specs.OpeningValue.{OpeningValue}
@@ -7,22 +9,29 @@ use Rattle.sq_link.specs.Values.{LinkValue}
 use Rattle.sq_status.specs.declared.view.View.{View}
 use Rattle.sq_status.specs.View.{fresh, gave}
 use Rattle.sq_status.specs.Seat.{SeatValue}
+use Rattle.sq_store.specs.StoreValue.{StoreValue}
 use Rattle.sq_exec.specs.CoreValue.{CoreValue}
 use Rattle.sq_opened.specs.Opened.{opened_part}
 use Rattle.sq_pull.specs.Seats.{AreSeatsOf}
 use Rattle.sq_pull.specs.Wins.{no_wins}
-use Rattle.sq_pull.specs.Pump.{PumpValue}
-use Rattle.sq_node_model.specs.BeganWith.{first_began}
+use Rattle.sq_pull.specs.Pump.{PumpValue, stage_round}
+use Rattle.sq_node_model.specs.NodeValue.{ReceiptValue}
+use Rattle.sq_node_model.specs.BeganWith.{BeganWith, first_began}
+use Rattle.sq_node_model.specs.Cores.{staged_core, OpensWith}
 use Rattle.sq_node.specs.declared.ends.SendEnd.{SendEnd}
 use Rattle.sq_node.specs.declared.ends.RecvEnd.{RecvEnd}
-use Rattle.sq_node.specs.Ends.{link_at, send_end, recv_end}
-use Rattle.sq_node.specs.FabricValue.{FabricValue, ends_of, AreStageLinks}
+use Rattle.sq_node.specs.Ends.{link_at, send_end, recv_end, AreSendEnds, AreRecvEnds}
+use Rattle.sq_node.specs.FabricValue.{FabricValue, HasBegun, ends_of, AreStageLinks}
 use Rattle.sq_node.specs.NodeState.{NodeState, IsNodeOf}
 use Rattle.sq_node.specs.Holds.{HoldsUnder}
 
--- a partition whose move has started
-abbrev pub started_part : OpeningValue → ℕ → CoreValue
-started_part o part = record (opened_part o part) { started = true }
+-- a partition with these families as a stage begins, whose move has started
+abbrev pub started_core : OpeningValue → ℕ → ℕ → StoreValue → CoreValue
+started_core o stage part store = record (staged_core o stage part store) { started = true }
+
+-- the families of each partition before the move
+abbrev pub opened_stores : OpeningValue → List StoreValue
+opened_stores o = map (λ part. (opened_part o part).store) (range_with_len 0 o.old.parts)
 
 -- the view of a tree's first seat, which has given out this many seats
 abbrev pub first_view : ℕ → View
@@ -94,43 +103,68 @@ HaveSentNothing sends = (dst : ℕ) (end : SendEnd) → send_end sends dst ≡ S
 abbrev pub HaveReceivedNothing : List (Option RecvEnd) → Type 0
 HaveReceivedNothing recvs = (src : ℕ) (end : RecvEnd) → recv_end recvs src ≡ Some end → end.pass.received ≡ []
 
--- a node of an opening, to which nothing has happened: what a node keeps holds of it
-pub record IsNewNode (o : OpeningValue) (fabric : FabricValue) (part : ℕ) (node : NodeState) : Type 0 where
+-- a partition's ends that it sends by and that it receives by, of links along which nothing went
+abbrev pub AreNewSends : FabricValue → ℕ → List (Option SendEnd) → Type 0
+AreNewSends fabric part sends = AreSendEnds fabric.links part sends × HaveSentNothing sends × (length sends ≡ fabric.parts)
+
+abbrev pub AreNewRecvs : FabricValue → ℕ → List (Option RecvEnd) → Type 0
+AreNewRecvs fabric part recvs = AreRecvEnds fabric.links part recvs × HaveReceivedNothing recvs × (length recvs ≡ fabric.parts)
+
+-- a node with this partition, to which nothing has happened
+pub record IsNewNode (fabric : FabricValue) (started : CoreValue) (node : NodeState) : Type 0 where
   pub of : IsNodeOf fabric node
-  pub core : node.core ≡ started_part o part
+  pub core : node.core ≡ started
   pub seats : AreNewSeats fabric.trees node.seats
   pub sends : HaveSentNothing node.sends
   pub recvs : HaveReceivedNothing node.recvs
   pub receipts : node.receipts ≡ []
   pub claims : node.claims ≡ 0
-  pub holds : HoldsUnder o (first_began o) node
 
--- what a run shares fits an opening, whose first stage runs: what moves, how many partitions there are, and how many chunks a link holds
+-- what a run shares fits an opening: what moves, how many partitions there are, and how many chunks a link holds
 pub record IsFabricOf (o : OpeningValue) (fabric : FabricValue) : Type 0 where
   pub recon : fabric.recon ≡ o.recon
-  pub stage : fabric.stage ≡ 0
   pub parts : fabric.parts ≡ o.old.parts
   pub capacity : (i : ℕ) (link : LinkValue) → slice_get fabric.links i ≡ Some link → link.capacity ≡ o.config.capacity
 
--- the nodes of the first partitions of an opening, to which nothing has happened
-pub record AreNewNodes (o : OpeningValue) (fabric : FabricValue) (count : ℕ) (nodes : List NodeState) : Type 0 where
-  pub all : length nodes ≡ count
-  pub each : (part : ℕ) (node : NodeState) → slice_get nodes part ≡ Some node → IsNewNode o fabric part node
+-- for each of these families the node of their partition, to which nothing has happened
+pub record AreNewNodes (o : OpeningValue) (fabric : FabricValue) (stores : List StoreValue) (nodes : List NodeState) : Type 0 where
+  pub all : length nodes ≡ length stores
+  pub each : (part : ℕ) (node : NodeState) → slice_get nodes part ≡ Some node → IsNewNode fabric (started_core o fabric.stage part (slice_index_or stores part empty)) node
 
--- the pump of a number, to which nothing has happened
+-- of each node all holds that a node keeps
+abbrev pub AllHoldUnder : OpeningValue → BeganWith → List NodeState → Type 0
+AllHoldUnder o began nodes = (part : ℕ) (node : NodeState) → slice_get nodes part ≡ Some node → HoldsUnder o began node
+
+-- each partition opens with the families that were given to the root keys that it owns
+abbrev pub AllOpenWith : OpeningValue → BeganWith → List StoreValue → Type 0
+AllOpenWith o began stores = (part : ℕ) (store : StoreValue) → slice_get stores part ≡ Some store → OpensWith o began part store
+
+-- the pump of a number, to which nothing has happened: its round has the segments of the running stage
 pub record IsNewPump (fabric : FabricValue) (number : ℕ) (pump : PumpValue) : Type 0 where
   pub numbered : pump.number ≡ number
   pub wins : pump.wins ≡ no_wins
   pub seats : AreNewSeats fabric.trees pump.seats
+  pub round : pump.round ≡ stage_round fabric.recon fabric.stage (length pump.seats)
 
 -- this many pumps, to which nothing has happened
 pub record AreNewPumps (fabric : FabricValue) (count : ℕ) (pumps : List PumpValue) : Type 0 where
   pub all : length pumps ≡ count
   pub each : (number : ℕ) (pump : PumpValue) → slice_get pumps number ≡ Some pump → IsNewPump fabric number pump
 
--- a run opens with a node for each partition and with this many pumps, and all seats are handed out
+-- a stage of a run begins with a node for each partition, which has these families, with these receipts of earlier stages and with this many pumps, and all seats are handed out
+pub record IsResumed (o : OpeningValue) (i : ℕ) (stores : List StoreValue) (told : List ReceiptValue) (count : ℕ) (fabric : FabricValue) (nodes : List NodeState) (pumps : List PumpValue) : Type 0 where
+  pub shared : IsFabricOf o fabric
+  pub stage : fabric.stage ≡ i
+  pub receipts : fabric.receipts ≡ told
+  pub seats : AreFirstSeats (o.old.parts + count) fabric.trees fabric.seats
+  pub each_node : AreNewNodes o fabric stores nodes
+  pub each_pump : AreNewPumps fabric count pumps
+
+-- a run opens in its first stage with a node for each partition, of which all holds, and with this many pumps, and all seats are handed out
 pub record IsOpened (o : OpeningValue) (count : ℕ) (fabric : FabricValue) (nodes : List NodeState) (pumps : List PumpValue) : Type 0 where
   pub shared : IsFabricOf o fabric
+  pub begun : HasBegun (first_began o) fabric
   pub seats : AreFirstSeats (o.old.parts + count) fabric.trees fabric.seats
-  pub each_node : AreNewNodes o fabric o.old.parts nodes
+  pub each_node : AreNewNodes o fabric (opened_stores o) nodes
   pub each_pump : AreNewPumps fabric count pumps
+  pub hold : AllHoldUnder o (first_began o) nodes

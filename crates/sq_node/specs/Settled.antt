@@ -1,6 +1,7 @@
 -- What a node knows of the nodes of trees whose last chunk was loaded.
 use Rattle.std.specs.Prelude.{◌≡◌, ◌⊎◌, ℕ, ◌<◌, Bool, true, List, length, slice_get, Some, Contains}
 use Rattle.sq_tree.specs.declared.status.Status.TheVariants.{Split, Complete}
+use Rattle.sq_tree.specs.Node.{is_above}
 use Rattle.sq_status.specs.declared.view.View.{View}
 use Rattle.sq_status.specs.View.{HasSeen}
 use Rattle.sq_status.specs.Seat.{SeatValue}
@@ -15,9 +16,31 @@ IsSettled v n = ((pull : ℕ) × Contains v.completed (n, pull)) ⊎ (HasSeen v 
 abbrev pub HasSettled : List SeatValue → ℕ → ℕ → Type 0
 HasSettled seats seg n = (seat : SeatValue) × (slice_get seats seg ≡ Some seat) × IsSettled seat.view n
 
--- there is a flag for each segment; and the nodes that are to be completed are of segments, have their last chunk loaded, and are all of that kind that aren't settled
+-- the seat found a node above the leaf complete
+pub record SawLeafComplete (v : View) (leaf : ℕ) : Type 0 where
+  pub node : ℕ
+  pub pull : ℕ
+  pub above : is_above node leaf ≡ true
+  pub seen : HasSeen v node (Complete pull)
+
+-- the seat found each leaf of a node complete
+abbrev pub SawComplete : View → ℕ → Type 0
+SawComplete v n = (leaf : ℕ) → is_above n leaf ≡ true → SawLeafComplete v leaf
+
+-- the seat of a segment found the whole segment complete
+pub record SawSegmentComplete (seats : List SeatValue) (seg : ℕ) : Type 0 where
+  pub seat : SeatValue
+  pub there : slice_get seats seg ≡ Some seat
+  pub seen : SawComplete seat.view 1
+
+-- each segment whose flag is set was found complete
+abbrev pub AreSeen : List SeatValue → List Bool → Type 0
+AreSeen seats complete = (seg : ℕ) → slice_get complete seg ≡ Some true → SawSegmentComplete seats seg
+
+-- there is a flag for each segment, set only where it was found complete; and the nodes that are to be completed are of segments, have their last chunk loaded, and are all of that kind that aren't settled
 pub record IsNode (core : CoreValue) (seats : List SeatValue) (to_complete : List (ℕ × ℕ)) (complete : List Bool) : Type 0 where
   pub flags : length complete ≡ length core.recon.segments
+  pub seen : AreSeen seats complete
   pub exists : (seg n : ℕ) → Contains to_complete (seg, n) → seg < length core.recon.segments
   pub whole : (seg n : ℕ) → Contains to_complete (seg, n) → is_whole (loaded_at core seg) n ≡ true
   pub each : (seg n : ℕ) → is_whole (loaded_at core seg) n ≡ true → Contains to_complete (seg, n) ⊎ HasSettled seats seg n

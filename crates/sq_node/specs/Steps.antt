@@ -1,16 +1,12 @@
 -- What each step of a node does to it.
-use Rattle.std.specs.Prelude.{◌≡◌, ℕ, Bool, ◌+◌, ◌<◌, ◌==◌, ◌&&◌, ◌⊎◌, true, false, List, [], ◌∷◌, ◌++◌, length, slice_get, slice_set, slice_index_or, Option, Some, None, IsSome, is_some, Contains}
+use Rattle.std.specs.Prelude.{◌≡◌, ℕ, Bool, ◌+◌, ◌<◌, ◌==◌, ◌&&◌, ◌⊎◌, true, false, List, length, slice_get, slice_set, Some, None, IsSome, is_some}
 use Rattle.crossbeam_queue.specs.Fifo.{Held}
 use Rattle.sq_schema.specs.TxnValue.{TxnValue}
-use Rattle.sq_schema.specs.declared.txn.Reply.{Reply}
-use Rattle.sq_tree.specs.declared.status.Status.{Status}
 use Rattle.sq_tree.specs.declared.status.Status.TheVariants.{Partial}
 use Rattle.sq_tree.specs.Node.{is_node}
-use Rattle.sq_tree.specs.Status.{is_partial}
 use Rattle.sq_ranges.specs.declared.recon.Range.{Range}
 use Rattle.sq_ranges.specs.ReconValue.{stage_on, stage_in}
-use Rattle.sq_status.specs.declared.view.View.{View}
-use Rattle.sq_status.specs.Plays.{Found, Won}
+use Rattle.sq_status.specs.Plays.{Won}
 use Rattle.sq_status.specs.Seat.{SeatValue}
 use Rattle.sq_chunk.specs.declared.chunk.Note.{Note}
 use Rattle.sq_chunk.specs.ChunkValue.{ChunkValue, IsChunk}
@@ -19,13 +15,14 @@ use Rattle.sq_exec.specs.CoreValue.{CoreValue, out_at, with_out, inbox_at, with_
 use Rattle.sq_exec.specs.OutLink.{may_cut}
 use Rattle.sq_exec.specs.Runs.{is_whole}
 use Rattle.sq_exec.specs.Moving.{begun_core, may_load, CutsFor, LoadsFrom}
-use Rattle.sq_exec.specs.Serving.{must_wait, resume_refusal, IsTaken, IsResumed}
+use Rattle.sq_exec.specs.Serving.{must_wait, submit_refusal, resume_refusal, IsTaken, IsResumed}
 use Rattle.sq_exec.specs.declared.outcome.Outcome.{Outcome}
 use Rattle.sq_exec.specs.declared.outcome.Outcome.TheVariants.{Done, Moved, Waits}
 use Rattle.sq_exec.specs.declared.outcome.Resumed.{Resumed}
 use Rattle.sq_status.specs.declared.tree.walks.LeafClaim.{LeafClaim}
 use Rattle.sq_status.specs.declared.tree.walks.LeafClaim.TheVariants as leaf_claim
 use Rattle.sq_pull.specs.declared.numbers.TheConstants.{MAX_CLAIMS}
+use Rattle.sq_pull.specs.Numbers.{reactive_pull}
 use Rattle.sq_pull.specs.Seats.{StepsAt, ClaimsLeaf}
 use Rattle.sq_node.specs.declared.ends.SendEnd.{SendEnd}
 use Rattle.sq_node.specs.declared.ends.RecvEnd.{RecvEnd}
@@ -43,9 +40,14 @@ pub record Cuts (old : NodeState) (dst : ℕ) (new : NodeState) : Type 0 where
   pub cut : CutsFor old.core dst note new.core
   pub after : new ≡ record old { core = new.core }
 
+-- there is nothing to cut for this partition, or its outbox holds a chunk
+abbrev pub HasNoneToCut : CoreValue → ℕ → Type 0
+HasNoneToCut core dst = may_cut (out_at core dst) ≡ false
+
+-- for the first partition for which there is one to cut
 abbrev pub CutStep : NodeState → Stepped → NodeState → Type 0
-CutStep old Did new = (dst : ℕ) × Cuts old dst new
-CutStep old Nothing new = (new ≡ old) × ((dst : ℕ) → may_cut (out_at old.core dst) ≡ false)
+CutStep old Did new = (dst : ℕ) × Cuts old dst new × ((lower : ℕ) → lower < dst → HasNoneToCut old.core lower)
+CutStep old Nothing new = (new ≡ old) × ((dst : ℕ) → HasNoneToCut old.core dst)
 CutStep old Memory new = new ≡ old
 
 -- the chunk for this partition was sent
@@ -63,8 +65,9 @@ HasNoneToSend fabric node dst =
     ⊎ ((send_end node.sends dst ≡ None)
     ⊎ ((end : SendEnd) × (send_end node.sends dst ≡ Some end) × Held (link_at fabric.links end.link).capacity (IsEndOf end.pass.sent)))
 
+-- for the first partition to which one can go
 abbrev pub SendStep : FabricValue → NodeState → Stepped → NodeState → Type 0
-SendStep fabric old Did new = (dst : ℕ) × Sends old dst new
+SendStep fabric old Did new = (dst : ℕ) × Sends old dst new × ((lower : ℕ) → lower < dst → HasNoneToSend fabric old lower)
 SendStep fabric old Nothing new = (new ≡ old) × ((dst : ℕ) → HasNoneToSend fabric old dst)
 SendStep fabric old Memory new = ⊥
 
@@ -84,8 +87,9 @@ HasNoneToReceive node src =
     ⊎ ((recv_end node.recvs src ≡ None)
     ⊎ ((end : RecvEnd) × (recv_end node.recvs src ≡ Some end) × Held 0 (ComesAfter end.pass.received)))
 
+-- from the first partition from which one can come
 abbrev pub RecvStep : NodeState → Stepped → NodeState → Type 0
-RecvStep old Did new = (src : ℕ) × Receives old src new
+RecvStep old Did new = (src : ℕ) × Receives old src new × ((lower : ℕ) → lower < src → HasNoneToReceive old lower)
 RecvStep old Nothing new = (new ≡ old) × ((src : ℕ) → HasNoneToReceive old src)
 RecvStep old Memory new = ⊥
 
@@ -101,8 +105,9 @@ pub record Loads (old : NodeState) (src : ℕ) (new : NodeState) : Type 0 where
   pub sound : IsChunk load.chunk
   pub after : new ≡ record old { core = new.core }
 
+-- that of the first partition from which one came that can be loaded
 abbrev pub LoadStep : NodeState → Stepped → NodeState → Type 0
-LoadStep old Did new = (src : ℕ) × Loads old src new
+LoadStep old Did new = (src : ℕ) × Loads old src new × ((lower : ℕ) → lower < src → may_load_now old.core lower ≡ false)
 LoadStep old Nothing new = (new ≡ old) × ((src : ℕ) → may_load_now old.core src ≡ false)
 LoadStep old Memory new = new ≡ old
 
@@ -155,12 +160,11 @@ abbrev pub claims_after : LeafClaim → ℕ → ℕ
 claims_after (leaf_claim.Claimed n) claims = claims + 1
 claims_after (leaf_claim.Held n st) claims = claims
 
--- the leaf of a segment was claimed for some pull, or found to have one
+-- the leaf of a segment was claimed for the partition's next reactive pull, or found to have one
 pub record ClaimsOne (seg leaf : ℕ) (old new : NodeState) : Type 0 where
-  pub pull : ℕ
   pub claim : LeafClaim
   pub few : old.claims < MAX_CLAIMS
-  pub seats : StepsAt seg (ClaimsLeaf leaf pull claim) old.seats new.seats
+  pub seats : StepsAt seg (ClaimsLeaf leaf (reactive_pull old.core.part old.claims) claim) old.seats new.seats
   pub counts : new.claims ≡ claims_after claim old.claims
 
 -- the seats are as they were, and so is what they won
@@ -177,10 +181,11 @@ ClaimsFor (Done reply) old new = ClaimsNone old new
 ClaimsFor (Moved to) old new = ClaimsNone old new
 ClaimsFor (Waits seg leaf) old new = ClaimsAt seg leaf old new
 
--- a job was submitted, and has its receipt if it ran
+-- a job was submitted that the partition doesn't refuse, and has its receipt if it ran
 pub record Submits (old new : NodeState) : Type 0 where
   pub txn : TxnValue
   pub outcome : Outcome
+  pub accepted : submit_refusal old.core txn ≡ None
   pub taken : IsTaken (must_wait old.core txn.root) old.core txn outcome new.core
   pub claims : ClaimsFor outcome old new
   pub after : new ≡ record old { core = new.core; seats = new.seats; claims = new.claims; receipts = receipts_after old.core.store txn outcome old.receipts }

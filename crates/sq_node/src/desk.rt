@@ -1,5 +1,5 @@
 // The jobs that a node answered, and those that it has to post on.
-ghost use Rattle.std.specs.Prelude.{◌≡◌, ◌↔◌, ◌++◌, ◌∷◌, [], true, IsTrue, OnOk};
+ghost use Rattle.std.specs.Prelude.{◌≡◌, ◌↔◌, ◌++◌, ◌∷◌, [], true, length, IsTrue, OnOk};
 
 use crate::fabric::Fabric;
 use crate::receipt::Receipt;
@@ -46,6 +46,14 @@ impl Desk {
             receipts: Vec::new(alloc),
             posts: VecDeque::new(alloc),
         }
+    }
+
+    /// These jobs are to be posted on, and no others.
+    pub(crate) fn keep(&mut self, posts: VecDeque<Post>)
+        ensures receipts { self.new.receipts ≡ self.old.receipts }
+        ensures posts { self.new.posts ≡ posts.items }
+    {
+        self.posts = posts;
     }
 
     /// The receipts, in the order in which they were added.
@@ -96,6 +104,13 @@ impl Desk {
                 self.posts.push_back_reserved(Post { to, job });
             }
         }
+    }
+
+    /// How many jobs are left to post on.
+    pub(crate) fn pending(&self) -> usize
+        ensures { result ≡ length self.now.posts }
+    {
+        self.posts.len()
     }
 
     /// Whether no job is left to post on.

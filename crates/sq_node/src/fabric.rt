@@ -1,7 +1,9 @@
 // What the nodes of a run share.
-ghost use Rattle.std.specs.Prelude.{◌≡◌, ◌<◌, IfErr};
+ghost use Rattle.std.specs.Prelude.{◌≡◌, ◌↔◌, ◌+◌, ◌<◌, ◌≤◌, IsTrue, IfErr};
+ghost use Rattle.sq_ranges.specs.ReconValue.{stages};
 ghost use Rattle.sq_node.specs.FabricValue.{IsFabric};
 
+use crate::receipt::Receipt;
 use crossbeam_queue::ArrayQueue;
 use sq_link::Link;
 use sq_plan::PartId;
@@ -13,7 +15,11 @@ use std::marker::Model;
 use std::sync::Wait;
 use std::sync::atomic::{AtomicU64, Ordering};
 
+mod left;
 mod open;
+mod resumed;
+
+pub use resumed::Unresumed;
 
 /// How many requests the queue of a partition holds.
 pub const REQUEST_PLACES: usize = 256;
@@ -21,8 +27,8 @@ pub const REQUEST_PLACES: usize = 256;
 /// How many jobs the queue of a partition holds.
 pub const JOB_PLACES: usize = 4096;
 
-/// What the nodes of a run share by `&`: the split trees, the links, and for each partition a queue of requests to begin
-/// nodes and a queue of jobs. To a contract it is a `FabricValue`.
+/// What the nodes of a run share by `&`: the split trees, the links, for each partition a queue of requests to begin
+/// nodes and a queue of jobs, and the receipts of earlier stages. To a contract it is a `FabricValue`.
 #[derive(Drop)]
 pub struct Fabric {
     recon: Recon,
@@ -31,6 +37,7 @@ pub struct Fabric {
     trees: Vec<StatusTree>,
     seats: Vec<TreeSeat>,
     links: Vec<Link>,
+    receipts: Vec<Receipt>,
     requests: Vec<ArrayQueue<Request>>,
     jobs: Vec<ArrayQueue<Txn>>,
     posted: AtomicU64,
@@ -42,9 +49,9 @@ impl Model for Fabric {
 
     ghost Value = { FabricValue };
 
-    ghost view = { λ f. record { recon = f.recon; stage = f.stage; parts = f.parts; trees = f.trees.items; seats = f.seats.items; links = f.links.items } };
+    ghost view = { λ f. record { recon = f.recon; stage = f.stage; parts = f.parts; trees = f.trees.items; seats = f.seats.items; links = f.links.items; receipts = f.receipts.items } };
 
-    ghost invariant = { λ f. IsFabric (record { recon = f.recon; stage = f.stage; parts = f.parts; trees = f.trees.items; seats = f.seats.items; links = f.links.items }) };
+    ghost invariant = { λ f. IsFabric (record { recon = f.recon; stage = f.stage; parts = f.parts; trees = f.trees.items; seats = f.seats.items; links = f.links.items; receipts = f.receipts.items }) };
 }
 
 /// What a run shared, once its threads are joined.
@@ -60,6 +67,8 @@ pub struct FabricParts {
     pub seats: Vec<TreeSeat>,
     /// The links.
     pub links: Vec<Link>,
+    /// The receipts of earlier stages, in the order in which they were handed in.
+    pub receipts: Vec<Receipt>,
     /// For each partition the requests that weren't taken.
     pub requests: Vec<ArrayQueue<Request>>,
     /// For each partition the jobs that weren't taken.
@@ -117,7 +126,8 @@ impl Fabric {
         }
     }
 
-    /// Posts a job to a partition. It comes back where that queue was full at one moment of the call.
+    /// Posts a job to a partition. It comes back where that queue was full at one moment of the call. That there is such
+    /// a partition is a condition and no refusal, since a caller has its numbers from the plan.
     pub fn post<R: Wait>(&self, rt: &R, part: PartId, job: Txn) -> Result<(), Txn>
         requires { part < self.now.parts }
         ensures { IfErr result (λ back. back ≡ job) }
@@ -131,7 +141,8 @@ impl Fabric {
         put
     }
 
-    /// Asks a partition to begin a node. The request comes back where that queue was full at one moment of the call.
+    /// Asks a partition to begin a node. The request comes back where that queue was full at one moment of the call. That
+    /// there is such a partition is a condition and no refusal, since a caller has its numbers from the plan.
     pub fn request<R: Wait>(&self, rt: &R, part: PartId, request: Request) -> Result<(), Request>
         requires { part < self.now.parts }
         ensures { IfErr result (λ back. back ≡ request) }
@@ -148,6 +159,20 @@ impl Fabric {
         answered == self.posted.load(Ordering::SeqCst)
     }
 
+    /// The receipts of earlier stages.
+    pub fn receipts(&self) -> &[Receipt]
+        ensures { result.now ≡ self.now.receipts }
+    {
+        &self.receipts
+    }
+
+    /// Whether the stage that runs is the last one.
+    pub(crate) fn is_last_stage(&self) -> bool
+        ensures { IsTrue result ↔ (stages self.now.recon ≤ self.now.stage + 1) }
+    {
+        self.stage >= self.recon.stages() - 1
+    }
+
     /// What was shared.
     pub fn into_parts(self) -> FabricParts
         ensures recon { result.recon ≡ self.recon }
@@ -155,6 +180,7 @@ impl Fabric {
         ensures trees { result.trees.items ≡ self.trees }
         ensures seats { result.seats.items ≡ self.seats }
         ensures links { result.links.items ≡ self.links }
+        ensures receipts { result.receipts.items ≡ self.receipts }
         ensures fabric { IsFabric self }
     {
         FabricParts {
@@ -163,6 +189,7 @@ impl Fabric {
             trees: self.trees,
             seats: self.seats,
             links: self.links,
+            receipts: self.receipts,
             requests: self.requests,
             jobs: self.jobs,
         }

@@ -11,7 +11,7 @@ mod stepped;
 
 pub use desk::Post;
 pub use ends::{Receiver, RecvEnd, SendEnd, Sender};
-pub use fabric::{Fabric, FabricParts};
+pub use fabric::{Fabric, FabricParts, JOB_PLACES, Unresumed};
 pub use node::{Node, NodeParts};
 pub use receipt::Receipt;
 pub use stepped::Stepped;

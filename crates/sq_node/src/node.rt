@@ -1,5 +1,5 @@
 // Nodes.
-ghost use Rattle.std.specs.Prelude.{◌≡◌, ◌<◌, ℕ, true, false, [], length, IfOk};
+ghost use Rattle.std.specs.Prelude.{◌≡◌, ◌<◌, ℕ, true, false, [], length, replicate};
 ghost use Rattle.sq_exec.specs.CoreValue.{loaded_at};
 ghost use Rattle.sq_exec.specs.Runs.{is_whole};
 ghost use Rattle.sq_pull.specs.declared.numbers.TheConstants.{MAX_OWNERS};
@@ -14,7 +14,7 @@ use sq_ranges::SegId;
 use sq_status::TreeSeat;
 use sq_store::SlabStore;
 use sq_tree::NodeId;
-use std::alloc::{AllocError, Global};
+use std::alloc::Global;
 use std::collections::VecDeque;
 use std::marker::Model;
 
@@ -42,6 +42,7 @@ pub struct Node {
 }
 
 impl Model for Node {
+    ghost use Rattle.std.specs.Prelude.{◌≡◌};
     ghost use Rattle.std.specs.Coded.{codes};
     ghost use Rattle.sq_store.proofs.Codes.{store_coded};
     ghost use Rattle.sq_node.specs.NodeState.{NodeState};
@@ -60,42 +61,55 @@ impl Model for Node {
       claims = n.puller.puller.wins.count;
     } };
 
-    ghost invariant = { λ n. IsNode n.core.core n.seats.items n.to_complete.items n.complete.items };
+    ghost invariant = { λ n. (n.puller.puller.part ≡ n.core.core.part) × IsNode n.core.core n.seats.items n.to_complete.items n.complete.items };
+}
+
+/// What a node has in a run besides its partition.
+#[derive(Drop)]
+pub(crate) struct Place {
+    /// For each segment its seat at the tree.
+    pub seats: Vec<TreeSeat>,
+    /// For each partition its end of the link to it.
+    pub sends: Vec<Sender>,
+    /// For each partition its end of the link from it.
+    pub recvs: Vec<Receiver>,
+    /// For each segment whether node 1 was seen to read complete.
+    pub complete: Vec<bool>,
 }
 
 impl Node {
-    /// A node of a partition, with a seat at each tree and its ends of the links. Its move has started.
-    pub(crate) fn open(
-        alloc: Global,
-        mut core: PartCore<SlabStore>,
-        seats: Vec<TreeSeat>,
-        sends: Vec<Sender>,
-        recvs: Vec<Receiver>,
-    ) -> Result<Node, AllocError>
+    /// The node of a partition at this place of a run. Its move has started.
+    pub(crate) fn open(alloc: Global, mut core: PartCore<SlabStore>, place: Place) -> Node
         requires part { core.core.part < MAX_OWNERS }
         requires fresh { (seg n : ℕ) → is_whole (loaded_at core.core seg) n ≡ false }
-        requires seats { length seats.items ≡ length core.core.recon.segments }
-        ensures core { IfOk result (λ node. node.core ≡ record core.core { started = true }) }
-        ensures seats { IfOk result (λ node. node.seats ≡ seats.items) }
-        ensures sends { IfOk result (λ node. node.sends ≡ sends.items) }
-        ensures recvs { IfOk result (λ node. node.recvs ≡ recvs.items) }
-        ensures receipts { IfOk result (λ node. node.receipts ≡ []) }
-        ensures claims { IfOk result (λ node. node.claims ≡ 0) }
+        requires flags { place.complete.items ≡ replicate (length core.core.recon.segments) false }
+        ensures core { result.core ≡ record core.core { started = true } }
+        ensures seats { result.seats ≡ place.seats.items }
+        ensures sends { result.sends ≡ place.sends.items }
+        ensures recvs { result.recvs ≡ place.recvs.items }
+        ensures receipts { result.receipts ≡ [] }
+        ensures claims { result.claims ≡ 0 }
     {
-        let complete = vec![in alloc; false; seats.len()]?;
         let puller = Puller::new(alloc, core.part());
         core.start();
-        Ok(Node {
+        Node {
             core,
-            seats,
-            sends,
-            recvs,
+            seats: place.seats,
+            sends: place.sends,
+            recvs: place.recvs,
             desk: Desk::new(alloc),
             puller,
             to_complete: Vec::new(alloc),
-            complete,
+            complete: place.complete,
             completes_segment: false,
-        })
+        }
+    }
+
+    /// These jobs are to be posted on from here, and no others.
+    pub(crate) fn keep_posts(&mut self, posts: VecDeque<Post>)
+        ensures { self.new ≡ self.old }
+    {
+        self.desk.keep(posts);
     }
 
     /// The receipts of the jobs that it answered, in the order in which they were written.
@@ -103,6 +117,11 @@ impl Node {
         ensures { result.now ≡ self.now.receipts }
     {
         self.desk.receipts()
+    }
+
+    /// How many jobs it has to post on.
+    pub fn pending_jobs(&self) -> usize {
+        self.desk.pending()
     }
 
     /// Its partition.

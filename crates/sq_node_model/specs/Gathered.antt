@@ -1,6 +1,7 @@
 -- What is gathered of all nodes once their threads are done, with the trees and the links closed.
 use Rattle.std.specs.Prelude.{◌≡◌, ℕ, ◌<◌, ◌==◌, ◌&&◌, List, [], ◌∷◌, ◌++◌, length, map, position, slice_get, slice_index_or, Some, is_some, option_to_list}
 use Rattle.std.specs.List.{flat_map}
+use Rattle.sq_schema.specs.TxnValue.{TxnValue}
 use Rattle.sq_tree.specs.declared.status.Status.{Status}
 use Rattle.sq_store.specs.StoreValue.{StoreValue}
 use Rattle.sq_chunk.specs.declared.chunk.Note.{Note}
@@ -20,13 +21,14 @@ pub record GatheredLink : Type 0 where
   pub notes : List Note
   pub under_way : List ChunkValue
 
--- which stage ran, the families by partition, the links, the statuses of the tree nodes by segment, and all receipts
+-- which stage ran, the families by partition, the links, the statuses of the tree nodes by segment, all receipts, and by partition the jobs that weren't answered
 pub record GatheredValue : Type 0 where
   pub stage : ℕ
   pub stores : List StoreValue
   pub links : List GatheredLink
   pub words : List (List Status)
   pub receipts : List ReceiptValue
+  pub left : List (List TxnValue)
 
 -- there is one link from a partition to another where a range moves in the stage, and no other
 pub record HasEachLink (o : OpeningValue) (i : ℕ) (links : List GatheredLink) : Type 0 where

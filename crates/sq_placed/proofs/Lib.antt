@@ -9,6 +9,6 @@ pub mod Places
 pub mod Families
 pub mod Receipts
 pub mod Placed
-mod Next
-mod Folded
+pub mod Next
+pub mod Folded
 mod Empty

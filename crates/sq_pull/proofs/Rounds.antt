@@ -1,16 +1,18 @@
 -- A pump stays one in its turns.
-use Rattle.std.proofs.Common.{◌≡◌, ℕ, zero, suc, ◌+◌, ◌<◌, ◌≤◌, Bool, true, false, List, [], ◌∷◌, ◌++◌, length, Some, None, refl, sym, ap, ◌∙◌, subst, arith}
-use Rattle.std.specs.Prelude.{nat_lt, ◌&&◌}
+use Rattle.std.proofs.Common.{◌≡◌, ℕ, zero, suc, ◌+◌, ◌<◌, ◌≤◌, Bool, true, false, List, [], ◌∷◌, ◌++◌, length, Some, None, refl, sym, ap, ◌∙◌, subst, append-nil, arith}
+use Rattle.std.specs.Prelude.{nat_lt, ◌==◌, ◌&&◌, if◌then◌else◌, filter}
 use Rattle.std.specs.List.{list_all, range_with_len}
-use Rattle.std.proofs.lemmas.Bool.{lt-ltb, and_parts}
-use Rattle.std.proofs.lemmas.List.{length-set}
+use Rattle.std.proofs.lemmas.Bool.{lt-ltb, and_parts, eq-eqb}
+use Rattle.std.proofs.lemmas.List.{length-set, map-id}
+use Rattle.std.proofs.lemmas.List.FromFn.{map-range_with_len_more}
+use Rattle.std.proofs.lemmas.List.Elements.{filter-append}
 use Rattle.std.proofs.lemmas.List.Folds.{list_all-append}
 use Rattle.sq_status.specs.declared.view.View.{View}
 use Rattle.sq_status.specs.Seat.{SeatValue}
-use Rattle.sq_ranges.specs.ReconValue.{ReconValue}
+use Rattle.sq_ranges.specs.ReconValue.{ReconValue, stage_at}
 use Rattle.sq_ranges.specs.declared.segment.TheConstants.{SEGMENT_LIMIT}
 use Rattle.sq_pull.specs.declared.numbers.TheConstants.{MAX_OWNERS}
-use Rattle.sq_pull.specs.Pump.{PumpValue, new_pump, next_asynchronous, WinsNext, SkipsNext, OnlySends, IsPump}
+use Rattle.sq_pull.specs.Pump.{PumpValue, stage_round, new_pump, next_asynchronous, WinsNext, SkipsNext, OnlySends, IsPump}
 use Rattle.sq_pull.specs.Seats.{StepsAt, ClaimsAny}
 use Rattle.sq_pull.specs.Wins.{AreWonClaims}
 use Rattle.sq_pull.proofs.Claimed.{claims_stay, claims_added, claims_sent}
@@ -36,10 +38,40 @@ have_seats-range count first zero few = refl
 have_seats-range count first (suc n) few =
     let here : nat_lt first count ≡ true = lt-ltb first count (omega arith) in rw here (have_seats-range count (first + 1) n (omega arith))
 
+-- what holds of all elements holds of those that a filter keeps
+list_all-filter : (p keeps : ℕ → Bool) (xs : List ℕ) → list_all p xs ≡ true → list_all p (filter keeps xs) ≡ true
+list_all-filter p keeps [] all = refl
+list_all-filter p keeps (x ∷ xs) all =
+    let parts = and_parts (p x) (list_all p xs) all in
+    kept parts.0 (list_all-filter p keeps xs parts.1) (keeps x) refl
+  where
+    kept : p x ≡ true → list_all p (filter keeps xs) ≡ true → (b : Bool) → keeps x ≡ b → list_all p (filter keeps (x ∷ xs)) ≡ true
+    kept first rest true is = rw (is, first) rest
+    kept first rest false is = rw is rest
+
+-- one more segment is in the round of a stage where it runs in the stage, and else the round is as it was
+pub stage_round-more : (recon : ReconValue) (stage n : ℕ) → stage_round recon stage (n + 1) ≡ stage_round recon stage n ++ filter (λ seg. stage_at recon seg == stage) (n ∷ [])
+stage_round-more recon stage n =
+    let more : range_with_len 0 (n + 1) ≡ range_with_len 0 n ++ n ∷ [] = simp map-id at (map-range_with_len_more (λ (k : ℕ). k) 0 n n (omega arith)) in
+    ap (filter (λ seg. stage_at recon seg == stage)) more ∙ filter-append (λ seg. stage_at recon seg == stage) (range_with_len 0 n) (n ∷ [])
+
+-- where the segment runs in the stage, the round has it
+pub stage_round-kept : (recon : ReconValue) (stage n : ℕ) → stage_at recon n ≡ stage → stage_round recon stage (n + 1) ≡ stage_round recon stage n ++ n ∷ []
+stage_round-kept recon stage n is = stage_round-more recon stage n ∙ ap (λ (b : Bool). stage_round recon stage n ++ (if b then n ∷ [] else [])) (eq-eqb (stage_at recon n) stage is)
+
+-- where it doesn't, the round is as it was
+pub stage_round-left : (recon : ReconValue) (stage n : ℕ) → (stage_at recon n == stage) ≡ false → stage_round recon stage (n + 1) ≡ stage_round recon stage n
+stage_round-left recon stage n is = stage_round-more recon stage n ∙ ap (λ (b : Bool). stage_round recon stage n ++ (if b then n ∷ [] else [])) is ∙ append-nil (stage_round recon stage n)
+
 -- a new one is one
-pub IsPump-new : (number : ℕ) (seats : List SeatValue) → number < MAX_OWNERS → length seats ≤ SEGMENT_LIMIT → IsPump (new_pump number seats)
-IsPump-new number seats small few =
-    record { number = small; segments = have_seats-range (length seats) 0 (length seats) (omega arith); few = few; claims = λ k d inside. absurd (omega arith) }
+pub IsPump-new : (recon : ReconValue) (stage number : ℕ) (seats : List SeatValue) → number < MAX_OWNERS → length seats ≤ SEGMENT_LIMIT → IsPump (new_pump recon stage number seats)
+IsPump-new recon stage number seats small few =
+    record {
+      number = small;
+      segments = list_all-filter (λ seg. nat_lt seg (length seats)) (λ seg. stage_at recon seg == stage) (range_with_len 0 (length seats)) (have_seats-range (length seats) 0 (length seats) (omega arith));
+      few = few;
+      claims = λ k d inside. absurd (omega arith);
+    }
 
 length-steps : (seg : ℕ) (steps : View → View → Type 0) (old new : List SeatValue) → StepsAt seg steps old new → length old ≡ length new
 length-steps seg steps old new step = sym (ap length step.others ∙ length-set old seg step.after)

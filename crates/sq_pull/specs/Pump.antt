@@ -1,8 +1,8 @@
 -- A pump, which claims what is free, segment by segment, and what becomes of a turn of it.
-use Rattle.std.specs.Prelude.{◌≡◌, ℕ, ◌<◌, ◌≤◌, ◌⊎◌, true, nat_lt, List, [], ◌∷◌, ◌++◌, length, Some, None}
+use Rattle.std.specs.Prelude.{◌≡◌, ℕ, ◌<◌, ◌≤◌, ◌⊎◌, true, ◌==◌, nat_lt, List, [], ◌∷◌, ◌++◌, length, filter, Some, None}
 use Rattle.std.specs.List.{list_all, range_with_len}
 use Rattle.sq_ranges.specs.declared.segment.TheConstants.{SEGMENT_LIMIT}
-use Rattle.sq_ranges.specs.ReconValue.{ReconValue}
+use Rattle.sq_ranges.specs.ReconValue.{ReconValue, stage_at}
 use Rattle.sq_status.specs.Seat.{SeatValue}
 use Rattle.sq_pull.specs.declared.numbers.TheConstants.{MAX_OWNERS, MAX_CLAIMS}
 use Rattle.sq_pull.specs.declared.pump.PumpTurn.{PumpTurn}
@@ -18,9 +18,13 @@ pub record PumpValue : Type 0 where
   pub seats : List SeatValue
   pub round : List ℕ
 
--- a pump that has won nothing. Its round has all segments
-abbrev pub new_pump : ℕ → List SeatValue → PumpValue
-new_pump number seats = record { number = number; wins = no_wins; seats = seats; round = range_with_len 0 (length seats) }
+-- those of the first segments that run in a stage, in their order
+abbrev pub stage_round : ReconValue → ℕ → ℕ → List ℕ
+stage_round recon stage count = filter (λ seg. stage_at recon seg == stage) (range_with_len 0 count)
+
+-- a pump that has won nothing. Its round has all segments of the stage
+abbrev pub new_pump : ReconValue → ℕ → ℕ → List SeatValue → PumpValue
+new_pump recon stage number seats = record { number = number; wins = no_wins; seats = seats; round = stage_round recon stage (length seats) }
 
 -- the pull that it claims with next
 abbrev pub next_asynchronous : PumpValue → ℕ

@@ -11,7 +11,7 @@ mod seats;
 mod shared;
 mod wins;
 
-pub use numbers::{MAX_CLAIMS, MAX_OWNERS};
+pub use numbers::{MAX_CLAIMS, MAX_OWNERS, MAX_PUMPS};
 pub use puller::{Puller, ReactivePull};
 pub use pump::{Pump, PumpTurn};
 pub use request::{PendingRequest, Request};

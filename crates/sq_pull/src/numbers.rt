@@ -7,6 +7,9 @@ use sq_plan::PartId;
 /// How many partitions may pull, and how many pumps there may be.
 pub const MAX_OWNERS: u32 = 64;
 
+/// How many pumps a run has at most.
+pub const MAX_PUMPS: u32 = 16;
+
 /// How many claims a partition or a pump wins at most: up to here its pull numbers have 32 bits.
 pub const MAX_CLAIMS: u32 = 33_554_432;
 

@@ -1,8 +1,8 @@
 // Pumps.
 ghost use Rattle.std.specs.Prelude.{◌≡◌, ◌≢◌, ◌↔◌, ◌<◌, ◌≤◌, [], true, length, map, IsTrue, IfOk, IfErr, OnErr};
-ghost use Rattle.std.specs.List.{range_with_len};
 ghost use Rattle.sq_ranges.specs.declared.segment.TheConstants.{SEGMENT_LIMIT};
 ghost use Rattle.sq_pull.specs.Seats.{AreSeatsOf, OnlyClaimed};
+ghost use Rattle.sq_pull.specs.Pump.{stage_round};
 
 use crate::numbers::{MAX_CLAIMS, MAX_OWNERS, pump_pull};
 use crate::request::{PendingRequest, Request};
@@ -10,7 +10,7 @@ use crate::seats::claim_any;
 use crate::shared::Shared;
 use crate::wins::Wins;
 use crossbeam_queue::ArrayQueue;
-use sq_ranges::SegId;
+use sq_ranges::{Recon, SegId};
 use sq_status::TreeSeat;
 use sq_tree::NodeId;
 use std::alloc::{AllocError, Global};
@@ -29,8 +29,8 @@ pub enum PumpTurn {
     Spent,
 }
 
-/// A pump: it claims nodes for asynchronous pulls, in one segment after another, until each leaf has a pull. To a
-/// contract it is a `PumpValue`.
+/// A pump: it claims nodes for asynchronous pulls, in one segment of the running stage after another, until each leaf
+/// has a pull. To a contract it is a `PumpValue`.
 #[derive(Drop)]
 pub struct Pump {
     number: u32,
@@ -52,15 +52,21 @@ impl Model for Pump {
 impl Pump {
     ghost use Rattle.sq_pull.specs.Pump.{new_pump, IsPump, ClaimsNext, HasTurned, OnlySends};
 
-    /// The pump of this number, which has won no claim. Its seats are of the segments in their order, and its round
-    /// begins with the first. Where there is no memory for the round, the seats come back.
-    pub fn new(alloc: Global, number: u32, seats: Vec<TreeSeat>) -> Result<Pump, Vec<TreeSeat>>
+    /// The pump of this number, which has won no claim. Its seats are of the segments in their order, and its round has
+    /// those of the stage. Where there is no memory for the round, the seats come back.
+    pub fn new(
+        alloc: Global,
+        recon: &Recon,
+        stage: u64,
+        number: u32,
+        seats: Vec<TreeSeat>,
+    ) -> Result<Pump, Vec<TreeSeat>>
         requires number { number < MAX_OWNERS }
         requires seats { length seats.items ≤ SEGMENT_LIMIT }
-        ensures new { IfOk result (λ pump. pump ≡ new_pump number seats.items) }
+        ensures new { IfOk result (λ pump. pump ≡ new_pump recon.now stage number seats.items) }
         ensures refused { IfErr result (λ back. back.items ≡ seats.items) }
     {
-        let Ok(round) = whole_round(alloc, seats.len()) else {
+        let Ok(round) = stage_round(alloc, recon, stage, seats.len()) else {
             return Err(seats);
         };
         Ok(Pump {
@@ -85,8 +91,8 @@ impl Pump {
         self.wins.pending()
     }
 
-    /// Whether there is nothing left to do: each leaf of each segment had a pull when the pump looked there last, and
-    /// each request is sent.
+    /// Whether there is nothing left to do: each leaf of each segment of its stage had a pull when the pump looked there
+    /// last, and each request is sent.
     pub fn is_done(&self) -> bool
         ensures { IsTrue result ↔ (self.now.round ≡ []) × (self.now.wins.pending ≡ []) }
     {
@@ -158,17 +164,24 @@ impl Pump {
     }
 }
 
-// The first segments, in their order.
-fn whole_round(alloc: Global, count: usize) -> Result<VecDeque<SegId>, AllocError>
+// Those of the first segments that run in a stage, in their order.
+fn stage_round(
+    alloc: Global,
+    recon: &Recon,
+    stage: u64,
+    count: usize,
+) -> Result<VecDeque<SegId>, AllocError>
     requires { count ≤ SEGMENT_LIMIT }
-    ensures { IfOk result (λ round. round.items ≡ range_with_len 0 count) }
+    ensures { IfOk result (λ round. round.items ≡ stage_round recon.now stage count) }
 {
     let mut round = VecDeque::new(alloc);
     for number in 0..count as u64 {
         let Some(seg) = SegId::new(number) else {
             unreachable!()
         };
-        round.push_back(seg)?;
+        if recon.stage_of(seg) == stage {
+            round.push_back(seg)?;
+        }
     }
     Ok(round)
 }

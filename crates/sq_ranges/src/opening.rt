@@ -1,5 +1,7 @@
 // What a world opens with.
-ghost use Rattle.std.specs.Prelude.{◌≡◌, false, None, MatchResult, IfOk, IfErr};
+ghost use Rattle.std.specs.Prelude.{◌≡◌, ◌≤◌, ℕ, [], false, None, MatchResult, IfOk, IfErr};
+ghost use Rattle.sq_schema.specs.declared.root.TheConstants.{ROOT_END};
+ghost use Rattle.sq_schema.specs.Table.{rows_in};
 
 use crate::fault::OpeningFault;
 use crate::given::moves_and_table;
@@ -189,14 +191,16 @@ impl Opening {
         &self.parts.table
     }
 
-    /// The same opening, with all that moves in one stage.
-    pub fn in_one_part(self) -> Opening
-        ensures { result ≡ record self { recon = record (self.recon) { auto = false } } }
+    /// The same opening with other rows.
+    pub fn with_table(self, table: Table) -> Opening
+        requires { (root : ℕ) → ROOT_END ≤ root → rows_in table root ≡ [] }
+        ensures { result ≡ record self { table = table } }
     {
-        let recon = self.parts.recon.in_one_part();
+        // For the proof alone: a table is by rising root key, and each has some rows.
+        let _rows = table.iter();
         Opening {
             parts: OpeningParts {
-                recon,
+                table,
                 ..self.parts
             },
         }

@@ -228,16 +228,6 @@ impl Recon {
             .unwrap_or(0)
     }
 
-    /// The same ranges and segments, all of them in one stage.
-    pub fn in_one_part(self) -> Recon
-        ensures { result ≡ record self { auto = false } }
-    {
-        Recon {
-            auto: false,
-            ..self
-        }
-    }
-
     /// The root keys of a node of a segment; `None` where there is no such segment.
     pub fn extent(&self, seg: SegId, node: NodeId) -> Option<Extent>
         ensures { result ≡ extent_at self.now seg node }

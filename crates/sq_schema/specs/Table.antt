@@ -37,3 +37,7 @@ RefusesBy fault Memory = fault ≡ None
 -- the table with one more row
 abbrev pub with_given : RowTable → ℕ → RowKey → RowValue → RowTable
 with_given table root key row k = if root == k then with_row (table k) key row else table k
+
+-- the table with these rows of a root key, in place of those that it had
+abbrev pub with_rows : RowTable → ℕ → RowList → RowTable
+with_rows table root rows k = if root == k then rows else table k

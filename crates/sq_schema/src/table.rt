@@ -8,7 +8,7 @@ ghost use Rattle.sq_schema.specs.declared.schema.TheConstants.{MAX_TABLES};
 ghost use Rattle.sq_schema.specs.Effect.{replay, table_after};
 ghost use Rattle.sq_schema.specs.Refusals.{row_fault};
 ghost use Rattle.sq_schema.specs.Rows.{is_rooted};
-ghost use Rattle.sq_schema.specs.Table.{rows_in, is_opening, row_given_fault, RefusesBy, with_given};
+ghost use Rattle.sq_schema.specs.Table.{rows_in, is_opening, row_given_fault, RefusesBy, with_given, with_rows};
 
 use crate::fault::RowFault;
 use crate::pending::{RunOutcome, run};
@@ -144,6 +144,17 @@ impl Table {
             unreachable!()
         };
         rows.insert(key, row)
+    }
+
+    /// Gives a root key these rows, in place of those that it has: some rows, of which those of other tables stand under
+    /// the root row. Where there is no memory nothing changes.
+    pub fn set(&mut self, root: Root, rows: Rows) -> Result<(), AllocError>
+        requires { is_opening rows ≡ true }
+        ensures ok { OnOk result ((k : ℕ) → rows_in self.new k ≡ with_rows (rows_in self.old) root rows k) }
+        ensures err { OnErr result (self.new ≡ self.old) }
+    {
+        drop(self.rows.insert(root, rows)?);
+        Ok(())
     }
 
     /// Runs transactions one after another, each on the rows of its root key. Where there is no memory nothing

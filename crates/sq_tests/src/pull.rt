@@ -21,6 +21,12 @@ const FOUR_KEYS: &str =
 // The root keys 0 to 39 go from partition 0 to partition 1, in two segments.
 const FORTY_KEYS: &str = r#"{"version":1,"partitions":2,"ranges":[[0,40,1],[40,4294967296,0]]}"#;
 
+// Three partitions, before the first gives four root keys to the second, and then four to the third.
+const OF_THREE: &str = r#"{"version":1,"partitions":3,"ranges":[[0,4294967296,0]]}"#;
+
+const IN_TWO_STAGES: &str =
+    r#"{"version":2,"partitions":3,"ranges":[[0,4,1],[4,8,2],[8,4294967296,0]],"stages":"auto"}"#;
+
 // What moves, what all that pull share, the reactive pulls of partition 1 with its seats, and pump 0.
 #[derive(Drop)]
 struct Setting {
@@ -59,14 +65,18 @@ impl Setting {
     fn opened(alloc: Global, new: &str, capacity: usize) -> Result<Setting, Fail>
         requires { 0 < capacity }
     {
-        let old = Plan::read(alloc, ALL.as_bytes())?;
-        let new = Plan::read(alloc, new.as_bytes())?;
-        let recon = Recon::between(alloc, &old, &new, 1)?;
+        Setting::in_stage(alloc, moves(alloc, ALL, new)?, 0, capacity)
+    }
+
+    // The same of this that moves, where the pump is of a stage.
+    fn in_stage(alloc: Global, recon: Recon, stage: u64, capacity: usize) -> Result<Setting, Fail>
+        requires { 0 < capacity }
+    {
         if recon.segments().is_empty() {
             return Err("nothing moves")?;
         }
         let (trees, seats, others) = fresh_trees(alloc, recon.segments().len())?;
-        let Ok(pump) = Pump::new(alloc, 0, others) else {
+        let Ok(pump) = Pump::new(alloc, &recon, stage, 0, others) else {
             return Err("no memory for a pump")?;
         };
         Ok(Setting {
@@ -146,6 +156,13 @@ impl Setting {
         let node = NodeId::new(number).ok_or("no node")?;
         Ok(self.trees[0].look(&mut self.seats[0], node))
     }
+}
+
+// What moves between the plans of these texts.
+fn moves(alloc: Global, old: &str, new: &str) -> Result<Recon, Fail> {
+    let old = Plan::read(alloc, old.as_bytes())?;
+    let new = Plan::read(alloc, new.as_bytes())?;
+    Ok(Recon::between(alloc, &old, &new, 1)?)
 }
 
 // Trees with nothing claimed, and two seats of each.
@@ -255,6 +272,20 @@ fn a_pump_goes_round_its_segments(rt: HostRuntime) -> Result<(), Fail> {
     Ok(())
 }
 
+// In each of two stages it claims in the one segment of that stage, and in no other.
+#[test]
+fn a_pump_claims_in_its_stage_alone(rt: HostRuntime) -> Result<(), Fail> {
+    for stage in [0, 1] {
+        let recon = moves(rt.alloc(), OF_THREE, IN_TWO_STAGES)?;
+        let mut setting = Setting::in_stage(rt.alloc(), recon, stage, 16)?;
+        assert!(rt; setting.answer(&rt, Call::Turn)? == Answer::Won(stage, 1));
+        assert!(rt; setting.answer(&rt, Call::Turn)? == Answer::Nothing);
+        assert!(rt; setting.pump.is_done());
+        assert!(rt; setting.are_sent(&rt, 0, &[(stage, 1, 0)]));
+    }
+    Ok(())
+}
+
 #[test]
 fn a_pump_sends_later_what_finds_no_room(rt: HostRuntime) -> Result<(), Fail> {
     let mut setting = Setting::opened(rt.alloc(), FORTY_KEYS, 1)?;
@@ -282,7 +313,8 @@ fn a_puller_sends_later_what_finds_no_room(rt: HostRuntime) -> Result<(), Fail> 
 #[test]
 fn a_pump_gives_its_seats_back(rt: HostRuntime) -> Result<(), Fail> {
     let (_trees, _seats, others) = fresh_trees(rt.alloc(), 2)?;
-    let Ok(pump) = Pump::new(rt.alloc(), 15, others) else {
+    let recon = moves(rt.alloc(), ALL, FORTY_KEYS)?;
+    let Ok(pump) = Pump::new(rt.alloc(), &recon, 0, 15, others) else {
         return Err("no memory for a pump")?;
     };
     assert!(rt; !pump.is_done());

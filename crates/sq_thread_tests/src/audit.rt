@@ -4,9 +4,10 @@ ghost use Rattle.sq_audit.specs.Answers.{IdsDiffer};
 
 use crate::node::PAIR;
 use crate::run::{Run, job, read_opening};
-use sq_audit::{Job, Verdict, audit};
+use crate::text::text_of;
+use sq_audit::{Defect, Folded, Job, Unfolded, Verdict, audit, fold};
 use sq_gather::Gathered;
-use sq_ranges::Extent;
+use sq_ranges::{Extent, Opening};
 use sq_schema::{Family, Root, Row, RowKey, Rows};
 use sq_store::{FamilyStore, SlabStore, StoreAnswer, StoreCommand, run_store};
 use std::alloc::Global;
@@ -18,12 +19,12 @@ const FIRST: &str = "txn 0 1 5 get 0 0";
 
 const SECOND: &str = "txn 0 2 9 check 0 0 99";
 
-// The jobs of the run.
-fn jobs(alloc: Global) -> Result<Vec<Job>, Fail>
+// Two jobs.
+fn jobs(alloc: Global, first: &str, second: &str) -> Result<Vec<Job>, Fail>
     ensures { IfOk result (λ jobs. IdsDiffer jobs.items) }
 {
-    let first = job(alloc, FIRST)?;
-    let second = job(alloc, SECOND)?;
+    let first = job(alloc, first)?;
+    let second = job(alloc, second)?;
     if first.txn.id() == second.txn.id() {
         return Err("two jobs have one id")?;
     }
@@ -144,7 +145,7 @@ const DEFECTS: [(Change, Option<u16>); 9] = [
 fn each_change_has_its_defect(rt: HostRuntime) -> Result<(), Fail> {
     let alloc = rt.alloc();
     let opening = read_opening(alloc, PAIR)?;
-    let jobs = jobs(alloc)?;
+    let jobs = jobs(alloc, FIRST, SECOND)?;
     for (change, want) in DEFECTS {
         let mut gathered = worked(&rt, alloc)?;
         make(alloc, &mut gathered, change)?;
@@ -196,4 +197,85 @@ fn a_pull_is_audited(rt: HostRuntime) -> Result<(), Fail> {
         assert!(rt; found == want, "after {turns} turns");
     }
     Ok(())
+}
+
+// A job that adds 1 at partition 0, before its root key moves.
+const ADD: &str = "txn 0 1 5 add 0 0 1";
+
+// Another of the same id and root key.
+const ADD_MORE: &str = "txn 0 1 5 add 0 0 2";
+
+// What is gathered of the run of the first of these jobs, of which a pump moves all.
+fn moved<R: Wait>(rt: &R, alloc: Global) -> Result<Gathered, Fail> {
+    let mut run = Run::opened(alloc, PAIR, 1)?;
+    run.post(rt, alloc, ADD)?;
+    run.turn(rt, 0)?;
+    run.turn_pump(rt, 0)?;
+    for turn in 0..8 {
+        run.turn(rt, turn % 2)?;
+    }
+    run.gathered(rt, alloc)
+}
+
+// What is folded of it with this job and with one that wasn't posted.
+fn folded<R: Wait>(rt: &R, alloc: Global, line: &str) -> Result<Result<Folded, Unfolded>, Fail> {
+    let opening = read_opening(alloc, PAIR)?;
+    let gathered = moved(rt, alloc)?;
+    let posted = one_job(alloc, ADD)?;
+    fold_sound(alloc, opening, gathered, &posted, jobs(alloc, line, PULL)?)
+}
+
+// Folds what was gathered with these jobs, if it is sound with the jobs that were posted, and complete.
+fn fold_sound(
+    alloc: Global,
+    opening: Opening,
+    gathered: Gathered,
+    posted: &[Job],
+    jobs: Vec<Job>,
+) -> Result<Result<Folded, Unfolded>, Fail>
+    requires posted { IdsDiffer posted.now }
+    requires jobs { IdsDiffer jobs.items }
+{
+    let Verdict::Sound = audit(&opening, &gathered, posted)? else {
+        return Err("it isn't sound")?;
+    };
+    if !gathered.is_stage_done(&opening) {
+        return Err("it isn't complete")?;
+    }
+    Ok(fold(alloc, opening, gathered, jobs))
+}
+
+const FOLDED: &str = "at 1 5 0 0.0=11/-
+note 0 1 0 0 1 4 8 true
+node 1 Complete(0)
+";
+
+// The rows are in the base and in the opening, and the job that wasn't posted is left.
+#[test]
+fn a_log_is_folded(rt: HostRuntime) -> Result<(), Fail> {
+    let alloc = rt.alloc();
+    let Ok(folded) = folded(&rt, alloc, ADD)? else {
+        return Err("it isn't folded")?;
+    };
+    assert_eq!(rt; text_of(alloc, &folded.gathered)?.as_str(), FOLDED);
+    let root = Root::new(5).ok_or("no root key")?;
+    let rows = folded.opening.table().rows(root).ok_or("no rows")?;
+    let row = rows.get(RowKey::ROOT).ok_or("no row")?;
+    assert!(rt; row.number() == 11);
+    assert!(rt; folded.jobs.len() == 1);
+    assert!(rt; folded.jobs.iter().all(|job| job.txn.id() == 9));
+    Ok(())
+}
+
+// A receipt that isn't the answer to its job is told, and nothing is folded.
+#[test]
+fn a_fold_is_refused(rt: HostRuntime) -> Result<(), Fail> {
+    let alloc = rt.alloc();
+    match folded(&rt, alloc, ADD_MORE)? {
+        Err(Unfolded::Unsound(defect)) => {
+            assert!(rt; defect == Defect::ReceiptUnknown);
+            Ok(())
+        }
+        _ => Err("no defect is found")?,
+    }
 }

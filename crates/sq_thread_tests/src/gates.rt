@@ -151,6 +151,34 @@ impl Gate for After {
 
 impl Watch for After {}
 
+/// Ends each worker once so many segments are complete.
+#[derive(Drop)]
+pub struct Enough {
+    segments: u64,
+    complete: AtomicU64,
+}
+
+impl Enough {
+    /// Ends them once this many are.
+    pub fn new(segments: u64) -> Enough {
+        Enough {
+            segments,
+            complete: AtomicU64::new(0),
+        }
+    }
+}
+
+impl Gate for Enough {
+    fn pass(&self, _who: u64, step: NodeStep) -> bool {
+        if step == NodeStep::SegmentComplete {
+            self.complete.fetch_add(1, Ordering::SeqCst);
+        }
+        self.complete.load(Ordering::SeqCst) < self.segments
+    }
+}
+
+impl Watch for Enough {}
+
 /// Counts what it is told of a live run: the jobs and the segments at its beginning, and those that are done.
 #[derive(Drop)]
 pub struct Counter {

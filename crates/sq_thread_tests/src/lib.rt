@@ -19,4 +19,6 @@ mod round;
 #[cfg(test)]
 mod run;
 #[cfg(test)]
+mod stages;
+#[cfg(test)]
 mod text;

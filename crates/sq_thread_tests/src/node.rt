@@ -67,37 +67,87 @@ fn won(node: u64) -> Result<PumpTurn, Fail> {
     Ok(PumpTurn::Won(seg, NodeId::new(node).ok_or("no node")?))
 }
 
-// A queue of jobs holds 4,096. What finds it full comes back to who posts it, and a node keeps it until there is room.
-#[test]
-fn a_job_that_finds_a_full_queue_is_kept(rt: HostRuntime) -> Result<(), Fail> {
-    let alloc = rt.alloc();
-    let mut run = Run::opened(alloc, PAIR, 0)?;
+// A job that finds no row at the root key 9 of partition 0, whose log doesn't grow by it.
+const CHECK: &str = "txn 0 1 9 check 0 0 1";
+
+// A run whose queue of jobs to partition 0 is full: it has 4,096 places, and one more job comes back.
+fn full_of_jobs<R: Wait>(rt: &R, alloc: Global) -> Result<Run, Fail> {
+    let run = Run::opened(alloc, PAIR, 0)?;
     for _job in 0..4096 {
-        run.post(&rt, alloc, "txn 0 1 9 check 0 0 1")?;
+        run.post(rt, alloc, CHECK)?;
     }
-    assert!(rt; !run.has_posted(&rt, alloc, "txn 0 1 9 check 0 0 1")?);
-    run.post(&rt, alloc, "txn 1 2 9 check 0 0 1")?;
-    for part in [1, 0, 1] {
-        run.turn(&rt, part)?;
+    if run.has_posted(rt, alloc, CHECK)? {
+        return Err("there are more places")?;
     }
-    assert!(rt; run.receipts() == 1);
+    Ok(run)
+}
+
+// A job that comes back doesn't count as posted: once those in the queue are answered, all are.
+#[test]
+fn a_job_that_comes_back_is_not_counted(rt: HostRuntime) -> Result<(), Fail> {
+    let mut run = full_of_jobs(&rt, rt.alloc())?;
     for _turn in 0..4096 {
+        assert!(rt; !run.is_answered());
         run.turn(&rt, 0)?;
     }
-    assert!(rt; run.receipts() == 4097);
+    assert!(rt; run.receipts() == 4096 && run.is_answered());
     Ok(())
 }
 
-// A queue of requests holds 256. The pull of a node that finds it full is asked for once there is room.
+// The jobs 2 to 4, as partition 0 answers them behind those that were in its queue.
+const IN_ORDER: &str = "receipt 9 0 commit 2 none
+receipt 9 1 commit 3 none
+receipt 9 2 commit 4 none
+";
+
+// Jobs of another partition that find its queue full stay in their order, however often they are tried, and go once there
+// is room.
+#[test]
+fn jobs_that_find_a_full_queue_are_kept(rt: HostRuntime) -> Result<(), Fail> {
+    let alloc = rt.alloc();
+    let mut run = full_of_jobs(&rt, alloc)?;
+    for id in 2..5 {
+        run.post(&rt, alloc, &format!(in alloc; "txn 1 {id} 9 get 0 0")?)?;
+    }
+    for _turn in 0..5 {
+        run.turn(&rt, 1)?;
+    }
+    for _turn in 0..4099 {
+        run.turn(&rt, 0)?;
+        run.turn(&rt, 1)?;
+    }
+    assert!(rt; run.receipts() == 4099 && run.is_answered());
+    assert!(rt; run.text_of_receipts(alloc, 0)?.as_str().ends_with(IN_ORDER));
+    Ok(())
+}
+
+// A request that names no segment.
+const NO_SEGMENT: Request = Request {
+    seg: 9,
+    node: 1,
+    pull: 2,
+};
+
+// How many places the queue of requests to a partition has left. It is full then.
+fn places_left<R: Wait>(rt: &R, run: &Run, part: u8) -> Result<u64, Fail> {
+    for taken in 0..1000 {
+        if !run.has_requested(rt, part, NO_SEGMENT)? {
+            return Ok(taken);
+        }
+    }
+    Err("the queue isn't full")?
+}
+
+// A queue of requests holds 256. The pull of a node that finds it full is tried again until there is room.
 #[test]
 fn a_request_that_finds_a_full_queue_is_kept(rt: HostRuntime) -> Result<(), Fail> {
     let alloc = rt.alloc();
     let mut run = Run::opened(alloc, PAIR, 0)?;
-    let (seg, node, pull) = (9, 1, 2);
-    for _request in 0..256 {
-        run.request(&rt, 0, Request { seg, node, pull })?;
-    }
+    assert!(rt; places_left(&rt, &run, 0)? == 256);
     run.post(&rt, alloc, "txn 1 9 5 get 0 0")?;
+    for _turn in 0..3 {
+        run.turn(&rt, 1)?;
+    }
     for _turn in 0..260 {
         run.turn(&rt, 1)?;
         run.turn(&rt, 0)?;
@@ -106,6 +156,36 @@ fn a_request_that_finds_a_full_queue_is_kept(rt: HostRuntime) -> Result<(), Fail
         run.text_of_receipts(alloc, 1)?.as_str(),
         "receipt 5 0 commit 9 10/-\n"
     );
+    Ok(())
+}
+
+// Three partitions, each of which gives four root keys to another one.
+const ROUND: &str = r#"old {"version":1,"partitions":3,"ranges":[[0,4,0],[4,8,1],[8,4294967296,2]]}
+new {"version":1,"partitions":3,"ranges":[[0,4,1],[4,8,2],[8,12,0],[12,4294967296,2]]}
+config 1 64 1
+"#;
+
+// A partition, a job there that waits, and the places that the pull leaves in the queue of each partition.
+const PULLS: [(u8, &str, [u64; 3]); 3] = [
+    (1, "txn 1 1 0 get 0 0", [255, 256, 256]),
+    (2, "txn 2 1 4 get 0 0", [256, 255, 256]),
+    (0, "txn 0 1 8 get 0 0", [256, 256, 255]),
+];
+
+// The request of a pull goes to the partition that its segment leaves, and to no other.
+#[test]
+fn a_request_goes_to_the_source_alone(rt: HostRuntime) -> Result<(), Fail> {
+    let alloc = rt.alloc();
+    for (part, line, left) in PULLS {
+        let mut run = Run::opened(alloc, ROUND, 0)?;
+        run.post(&rt, alloc, line)?;
+        // The turn of the partition takes this one, and leaves there what comes behind it.
+        run.request(&rt, part, NO_SEGMENT)?;
+        run.turn(&rt, usize::from(part))?;
+        for (to, places) in (0u8..3).zip(&left) {
+            assert!(rt; places_left(&rt, &run, to)? == *places, "{line} to {to}");
+        }
+    }
     Ok(())
 }
 

@@ -1,6 +1,6 @@
 // Runs, made by hand or by their workers.
 ghost use Rattle.std.specs.Prelude.{◌≡◌, ◌≤◌};
-ghost use Rattle.sq_pull.specs.declared.numbers.TheConstants.{MAX_OWNERS};
+ghost use Rattle.sq_pull.specs.declared.numbers.TheConstants.{MAX_PUMPS};
 ghost use Rattle.sq_node.specs.NodeState.{IsNodeOf};
 ghost use Rattle.sq_gather.specs.Gathered.{AreAllOf};
 
@@ -52,7 +52,7 @@ pub struct Run {
 impl Run {
     /// The run of a header, with this many pumps.
     pub fn opened(alloc: Global, header: &str, pumps: u32) -> Result<Run, Fail>
-        requires { pumps ≤ MAX_OWNERS }
+        requires { pumps ≤ MAX_PUMPS }
     {
         let opening = read_opening(alloc, header)?;
         Ok(Run::of(alloc, &opening, pumps)?)
@@ -60,17 +60,24 @@ impl Run {
 
     /// The run of an opening, with this many pumps.
     pub fn of(alloc: Global, opening: &Opening, pumps: u32) -> Result<Run, AllocError>
-        requires { pumps ≤ MAX_OWNERS }
+        requires { pumps ≤ MAX_PUMPS }
     {
         let (fabric, nodes, pumps) = Fabric::open(alloc, opening, pumps)?;
         // For the proof: what holds of each opening and each fabric, which these say.
         let _recon = opening.recon();
         let _links = fabric.links();
-        Ok(Run {
+        Ok(Run::new(fabric, nodes, pumps))
+    }
+
+    /// The run of these, which are all.
+    pub fn new(fabric: Fabric, nodes: Vec<Node>, pumps: Vec<Pump>) -> Run
+        requires { AreAllOf fabric nodes.items pumps.items }
+    {
+        Run {
             fabric,
             nodes,
             pumps,
-        })
+        }
     }
 
     /// Posts the transaction of a line to the partition that the line names.
@@ -93,13 +100,24 @@ impl Run {
 
     /// Asks a partition to begin a node of a segment for a pull.
     pub fn request<R: Wait>(&self, rt: &R, part: u8, request: Request) -> Result<(), Fail> {
+        if self.has_requested(rt, part, request)? {
+            Ok(())
+        } else {
+            Err("the queue is full")?
+        }
+    }
+
+    /// The same, and whether the queue had room for it.
+    pub fn has_requested<R: Wait>(&self, rt: &R, part: u8, request: Request) -> Result<bool, Fail> {
         if part >= self.fabric.parts() {
             return Err("no such partition")?;
         }
-        match self.fabric.request(rt, PartId::new(part), request) {
-            Ok(()) => Ok(()),
-            Err(_) => Err("the queue is full")?,
-        }
+        Ok(self.fabric.request(rt, PartId::new(part), request).is_ok())
+    }
+
+    /// Whether as many jobs were answered as were posted.
+    pub fn is_answered(&self) -> bool {
+        self.fabric.is_answered()
     }
 
     /// A turn of the node of a partition.

@@ -35,7 +35,7 @@ pub record EndsAs {E : Type 0} (Holds : E → Type 0) (status_of : Result E Writ
 abbrev pub EndsLine : Line → Option (List ℕ) → Option (List ℕ) → Option (List ℕ) → ℕ → Type 0
 EndsLine Run known before now = EndsAs (Runs MAX_TABLES known before now) exit_status
 EndsLine Ranges known before now = EndsAs (Lists MAX_TABLES known before now) exit_status
-EndsLine (Live turns pumps) known before now = EndsAs (RunsLive MAX_TABLES known before now) live_status
+EndsLine (Live turns pumps folds) known before now = EndsAs (RunsLive folds MAX_TABLES known before now) live_status
 
 -- the words have no fault, and what their subcommand asks for ended with this status
 pub record IsCarriedOut (asked : Option (Text × List Row)) (kinds : Kinds) (known before now : Option (List ℕ)) (status : ℕ) : Type 0 where

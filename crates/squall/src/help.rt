@@ -96,6 +96,11 @@ places of the new plan: a job pulls the rows that it waits for, and pumps, each 
 thread too, claim the rest in the background. In a turn a thread makes each of
 its steps once.
 
+A move in several stages runs them one after another, each with all of its turns,
+and a stage whose rows haven't all moved then stops the run. With --fold what is
+answered is audited between two stages, and the logs are folded: a row stays, and
+what was written of it before doesn't.
+
 Standard output gets one line:
 
 sound F families N committed           all is done, and the audit of what is

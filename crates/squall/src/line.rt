@@ -5,11 +5,11 @@ ghost use Rattle.clap.specs.Walk.{one_of, rows_of, rule_of};
 ghost use Rattle.clap.specs.Simple.{new_shape, subcommand_of};
 ghost use Rattle.clap.specs.Words.{FailsBy, app_of, fault_of, shape_of};
 ghost use Rattle.clap.specs.declared.builder.command.Command.TheViews.{out-Command};
-ghost use Rattle.squall.specs.Line.{program, squall, option_rule, live_shape, NumberOf, IsLiveLine, IsLineOf, IsWithin};
+ghost use Rattle.squall.specs.Line.{program, squall, option_rule, flag_rule, numbered_shape, live_shape, NumberOf, FlagOf, IsLiveLine, IsLineOf, IsWithin};
 
 use crate::help;
 use clap::builder::ValueParser;
-use clap::{Arg, ArgMatches, Command, Error, value_parser};
+use clap::{Arg, ArgAction, ArgMatches, Command, Error, value_parser};
 use std::alloc::{AllocError, Global};
 use std::convert::AsStr;
 
@@ -26,6 +26,8 @@ pub enum Line {
         turns: u64,
         /// How many pumps there are.
         pumps: u32,
+        /// Whether the logs are folded between stages.
+        folds: bool,
     },
 }
 
@@ -84,15 +86,26 @@ fn option<'a>(
         .default_value(default)
 }
 
-// The subcommand that runs jobs in threads.
-fn live<'a>(alloc: Global) -> Result<Command<'a>, AllocError>
-    ensures shape { IfOk result (λ command. shape_of command ≡ live_shape) }
+// An option that takes no value.
+fn flag<'a>(alloc: Global, name: &'a str, help: &'a str) -> Arg<'a>
+    ensures rule { rule_of result ≡ flag_rule name.entry.now }
+    ensures local { result.global ≡ false }
+{
+    Arg::new(alloc, name)
+        .long(name)
+        .help(help)
+        .action(ArgAction::SetTrue)
+}
+
+// The subcommand that runs jobs in threads, with its options for numbers.
+fn numbered<'a>(alloc: Global) -> Result<Command<'a>, AllocError>
+    ensures shape { IfOk result (λ command. shape_of command ≡ numbered_shape) }
     ensures local { IfOk result (λ command. (out-Command command).has_globals ≡ false) }
 {
     let turns = option(
         alloc,
         "turns",
-        "How many turns each thread takes at most",
+        "How many turns each thread takes at most in a stage",
         value_parser!(u64).range(1..=1_000_000_000),
         "1000000",
     );
@@ -111,6 +124,19 @@ fn live<'a>(alloc: Global) -> Result<Command<'a>, AllocError>
     )
     .arg(turns)?
     .arg(pumps)
+}
+
+// The subcommand that runs jobs in threads.
+fn live<'a>(alloc: Global) -> Result<Command<'a>, AllocError>
+    ensures shape { IfOk result (λ command. shape_of command ≡ live_shape) }
+    ensures local { IfOk result (λ command. (out-Command command).has_globals ≡ false) }
+{
+    let fold = flag(
+        alloc,
+        "fold",
+        "Audit what is answered between two stages, and fold the logs",
+    );
+    numbered(alloc)?.arg(fold)
 }
 
 // The program's command, with a subcommand for each line.
@@ -162,6 +188,7 @@ fn live_line(options: &ArgMatches<'_>) -> Line
     Line::Live {
         turns,
         pumps: pumps as u32,
+        folds: options.get_flag("fold"),
     }
 }
 

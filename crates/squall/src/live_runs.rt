@@ -1,6 +1,6 @@
 // Live runs, what is said of them, and their exit status.
 ghost use Rattle.std.specs.Prelude.{◌≡◌, ◌≤◌};
-ghost use Rattle.sq_pull.specs.declared.numbers.TheConstants.{MAX_OWNERS};
+ghost use Rattle.sq_pull.specs.declared.numbers.TheConstants.{MAX_PUMPS};
 ghost use Rattle.sq_schema.specs.declared.schema.TheConstants.{MAX_TABLES};
 ghost use Rattle.sq_live.specs.Live.{RunsLive};
 ghost use Rattle.squall.specs.Session.{live_status, EndsAs};
@@ -22,10 +22,11 @@ pub fn live_run<T: Threads + Wait + Sync + Eprint + AllocGlobal, R: Read, W: Wri
     writer: &mut W,
     turns: u64,
     pumps: u32,
+    folds: bool,
     shows_progress: bool,
 ) -> u8
-    requires { pumps ≤ MAX_OWNERS }
-    ensures { EndsAs (RunsLive MAX_TABLES (R.remaining reader.old) (W.contents writer.old) (W.contents writer.new)) live_status result }
+    requires { pumps ≤ MAX_PUMPS }
+    ensures { EndsAs (RunsLive folds MAX_TABLES (R.remaining reader.old) (W.contents writer.old) (W.contents writer.new)) live_status result }
 {
     let ran = if shows_progress {
         live(
@@ -35,10 +36,20 @@ pub fn live_run<T: Threads + Wait + Sync + Eprint + AllocGlobal, R: Read, W: Wri
             writer,
             turns,
             pumps,
+            folds,
             &Progress::new(rt),
         )
     } else {
-        live(rt, rt.alloc(), reader, writer, turns, pumps, &OpenGate)
+        live(
+            rt,
+            rt.alloc(),
+            reader,
+            writer,
+            turns,
+            pumps,
+            folds,
+            &OpenGate,
+        )
     };
     explain_live(rt, ran);
     live_status(ran)

@@ -44,9 +44,13 @@ fn obey<T: Threads + Wait + Sync + Print + Eprint + AllocGlobal, S: AsStr, R: Re
     match line_of(rt.alloc(), words) {
         Ok(Line::Run) => script(rt, reader, writer),
         Ok(Line::Ranges) => listing(rt, reader, writer),
-        Ok(Line::Live { turns, pumps }) => {
-            live_run(rt, reader, writer, turns, pumps, at_terminal)
-        }
+        Ok(
+            Line::Live {
+                turns,
+                pumps,
+                folds,
+            },
+        ) => live_run(rt, reader, writer, turns, pumps, folds, at_terminal),
         Err(error) => print_usage(rt, &error),
     }
 }

@@ -1,23 +1,26 @@
-// Opening a run.
-ghost use Rattle.std.specs.Prelude.{◌≡◌, ◌≢◌, ℕ, ◌+◌, ◌<◌, ◌≤◌, ◌==◌, length, map, filter, slice_get, slice_set, Some, None, MatchOption, IfOk, OnOk};
+// Opening a run, and a stage of it.
+ghost use Rattle.std.specs.Prelude.{◌≡◌, ◌≢◌, ℕ, ◌+◌, ◌<◌, ◌≤◌, ◌==◌, false, [], length, replicate, map, filter, slice_get, slice_set, Some, None, MatchOption, IfOk, IfErr, OnOk, OnErr, vec_capacity};
+ghost use Rattle.sq_opened.specs.Opened.{opened_part, HasOwned};
 ghost use Rattle.sq_ranges.specs.ReconValue.{stage_on};
 ghost use Rattle.sq_link.specs.Values.{LinkValue};
 ghost use Rattle.sq_pull.specs.Seats.{AreSeatsOf};
-ghost use Rattle.sq_pull.specs.declared.numbers.TheConstants.{MAX_OWNERS};
+ghost use Rattle.sq_pull.specs.declared.numbers.TheConstants.{MAX_PUMPS};
 ghost use Rattle.sq_node.specs.Ends.{link_from, send_end, recv_end, AreSendEnds, AreRecvEnds};
 ghost use Rattle.sq_node.specs.FabricValue.{ends_of, AreFirst, IsFabric};
-ghost use Rattle.sq_node.specs.Opened.{AreFirstSeats, AreNewSeats, GaveEach, HasAllEnds, HasSendEnds, HasRecvEnds, LeavesSendEnds, LeavesRecvEnds, HaveSentNothing, HaveReceivedNothing, IsFabricOf, IsNewNode, AreNewNodes, IsNewPump, AreNewPumps, IsOpened};
+ghost use Rattle.sq_node.specs.Opened.{AreFirstSeats, AreNewSeats, GaveEach, HasAllEnds, HasSendEnds, HasRecvEnds, LeavesSendEnds, LeavesRecvEnds, HaveSentNothing, HaveReceivedNothing, AreNewSends, AreNewRecvs, IsFabricOf, IsNewNode, AreNewNodes, IsNewPump, AreNewPumps, IsResumed, IsOpened, opened_stores, started_core};
 
 use super::{Fabric, JOB_PLACES, REQUEST_PLACES};
 use crate::ends::{Receiver, RecvEnd, SendEnd, Sender};
-use crate::node::Node;
+use crate::node::{Node, Place};
 use crossbeam_queue::ArrayQueue;
+use sq_exec::PartCore;
 use sq_link::Link;
 use sq_opened::open_partition;
 use sq_plan::PartId;
 use sq_pull::Pump;
 use sq_ranges::{Link as Between, Opening, Recon};
 use sq_status::{StatusTree, TreeSeat};
+use sq_store::SlabStore;
 use std::alloc::{AllocError, Global};
 use std::sync::atomic::AtomicU64;
 
@@ -32,19 +35,20 @@ struct Ends {
 }
 
 impl Fabric {
-    /// What a run shares, its nodes, and this many pumps. The move has started.
+    /// What a run shares, its nodes, and this many pumps, in the first stage. The move has started.
     pub fn open(
         alloc: Global,
         opening: &Opening,
         pumps: u32,
     ) -> Result<(Fabric, Vec<Node>, Vec<Pump>), AllocError>
-        requires { pumps ≤ MAX_OWNERS }
+        requires { pumps ≤ MAX_PUMPS }
         ensures { IfOk result (λ opened. IsOpened opening.now pumps opened.0 opened.1.items opened.2.items) }
     {
-        let (mut fabric, ends) = open_fabric(alloc, opening)?;
-        let nodes = open_nodes(alloc, opening, &mut fabric, ends)?;
-        let pumps = open_pumps(alloc, pumps, &mut fabric)?;
-        Ok((fabric, nodes, pumps))
+        let stores = open_stores(alloc, opening)?;
+        match open_run(alloc, opening, FIRST_STAGE, stores, pumps) {
+            Ok((fabric, nodes, pumps)) => Ok((fabric, nodes, pumps)),
+            Err(_) => Err(AllocError),
+        }
     }
 
     // A seat at each tree.
@@ -58,24 +62,66 @@ impl Fabric {
     }
 }
 
-// What a run shares, with the ends of its links.
-fn open_fabric(alloc: Global, opening: &Opening) -> Result<(Fabric, Ends), AllocError>
+// The families of each partition before the move.
+fn open_stores(alloc: Global, opening: &Opening) -> Result<Vec<SlabStore>, AllocError>
+    ensures stores { IfOk result (λ stores. stores.items ≡ opened_stores opening.now) }
+    ensures owned { OnOk result ((part : ℕ) → part < opening.now.old.parts → HasOwned opening.now part (opened_part opening.now part).store) }
+{
+    let mut stores = Vec::new(alloc);
+    for number in 0..opening.old_plan().parts() {
+        let core = open_partition(alloc, opening, PartId::new(number))?;
+        stores.push(core.close().store)?;
+    }
+    Ok(stores)
+}
+
+// What a stage of a run shares, the nodes of partitions that have these families, and this many pumps. Where there is no
+// memory the families come back.
+pub(super) fn open_run(
+    alloc: Global,
+    opening: &Opening,
+    stage: u64,
+    mut stores: Vec<SlabStore>,
+    pumps: u32,
+) -> Result<(Fabric, Vec<Node>, Vec<Pump>), Vec<SlabStore>>
+    requires stores { length stores.items ≡ opening.now.old.parts }
+    requires pumps { pumps ≤ MAX_PUMPS }
+    ensures run { IfOk result (λ run. IsResumed opening.now stage stores.items [] pumps run.0 run.1.items run.2.items) }
+    ensures back { IfErr result (λ back. back.items ≡ stores.items) }
+{
+    let Ok((mut fabric, mut ends)) = open_fabric(alloc, opening, stage) else {
+        return Err(stores);
+    };
+    let Ok(pumps) = open_pumps(alloc, pumps, &mut fabric) else {
+        return Err(stores);
+    };
+    match open_nodes(alloc, opening, &mut fabric, &mut ends, &mut stores) {
+        Ok(nodes) => Ok((fabric, nodes, pumps)),
+        Err(_) => Err(stores),
+    }
+}
+
+// What a stage of a run shares, with the ends of its links.
+fn open_fabric(alloc: Global, opening: &Opening, stage: u64) -> Result<(Fabric, Ends), AllocError>
     ensures fabric { IfOk result (λ opened. IsFabricOf opening.now opened.0) }
+    ensures stage { IfOk result (λ opened. opened.0.stage ≡ stage) }
+    ensures receipts { IfOk result (λ opened. opened.0.receipts ≡ []) }
     ensures seats { IfOk result (λ opened. AreFirstSeats 0 opened.0.trees opened.0.seats) }
     ensures ends { IfOk result (λ opened. HasAllEnds opened.0.links opened.1.sends.items opened.1.recvs.items) }
 {
     let parts = opening.old_plan().parts();
     let recon = opening.recon();
     let (trees, seats) = open_trees(alloc, recon.segments().len())?;
-    let between = stage_links(alloc, recon, FIRST_STAGE, recon.links())?;
+    let between = stage_links(alloc, recon, stage, recon.links())?;
     let (links, ends) = open_links(alloc, between.as_slice(), opening.config().capacity)?;
     let fabric = Fabric {
         recon: recon.clone()?,
-        stage: FIRST_STAGE,
+        stage,
         parts,
         trees,
         seats,
         links,
+        receipts: Vec::new(alloc),
         requests: queues(alloc, parts, REQUEST_PLACES)?,
         jobs: queues(alloc, parts, JOB_PLACES)?,
         posted: AtomicU64::new(0),
@@ -180,57 +226,111 @@ fn share_all(
     Ok(shared)
 }
 
-// The node of each partition.
+// For each of these families the node of their partition; the families then are with them. Where there is no memory the
+// families stay.
 fn open_nodes(
     alloc: Global,
     opening: &Opening,
     fabric: &mut Fabric,
-    mut ends: Ends,
+    ends: &mut Ends,
+    stores: &mut Vec<SlabStore>,
 ) -> Result<Vec<Node>, AllocError>
     requires fabric { IsFabricOf opening.now fabric.old }
-    requires seats { AreFirstSeats 0 fabric.old.trees fabric.old.seats }
-    requires ends { HasAllEnds fabric.old.links ends.sends.items ends.recvs.items }
+    requires stores { length stores.old.items ≤ opening.now.old.parts }
+    requires sends { (part : ℕ) → part < length stores.old.items → HasSendEnds fabric.old.links ends.old.sends.items part }
+    requires recvs { (part : ℕ) → part < length stores.old.items → HasRecvEnds fabric.old.links ends.old.recvs.items part }
     ensures same { fabric.new ≡ record fabric.old { seats = fabric.new.seats } }
-    ensures seats { OnOk result (AreFirstSeats opening.now.old.parts fabric.new.trees fabric.new.seats) }
-    ensures nodes { IfOk result (λ nodes. AreNewNodes opening.now fabric.new opening.now.old.parts nodes.items) }
+    ensures seats { OnOk result ((given : ℕ) → AreFirstSeats given fabric.old.trees fabric.old.seats → AreFirstSeats (given + length stores.old.items) fabric.new.trees fabric.new.seats) }
+    ensures nodes { IfOk result (λ nodes. AreNewNodes opening.now fabric.new stores.old.items nodes.items) }
+    ensures room { IfOk result (λ nodes. opening.now.old.parts ≤ vec_capacity nodes) }
+    ensures back { OnErr result (stores.new.items ≡ stores.old.items) }
+    ensures capacity { vec_capacity stores.new ≡ vec_capacity stores.old }
 {
-    let mut nodes = Vec::new(alloc);
-    for number in 0..fabric.parts() {
-        let part = PartId::new(number);
-        nodes.push(open_node(alloc, opening, fabric, &mut ends, part)?)?;
+    let parts = fabric.parts();
+    let Some(store) = stores.pop() else {
+        return Vec::with_capacity(alloc, usize::from(parts));
+    };
+    let part = PartId::new(stores.len() as u8);
+    let node = match open_node(alloc, opening, fabric, ends, part, store) {
+        Ok(node) => node,
+        Err(store) => {
+            stores.push_reserved(store);
+            return Err(AllocError);
+        }
+    };
+    match open_nodes(alloc, opening, fabric, ends, stores) {
+        Ok(mut nodes) => {
+            nodes.push_reserved(node);
+            Ok(nodes)
+        }
+        Err(_) => {
+            stores.push_reserved(node.into_parts().core.store);
+            Err(AllocError)
+        }
     }
-    Ok(nodes)
 }
 
-// The node of a partition.
+// The node of a partition that has these families. Where there is no memory they come back.
 fn open_node(
     alloc: Global,
     opening: &Opening,
     fabric: &mut Fabric,
     ends: &mut Ends,
     part: PartId,
-) -> Result<Node, AllocError>
+    store: SlabStore,
+) -> Result<Node, SlabStore>
     requires fabric { IsFabricOf opening.now fabric.old }
     requires part { part < opening.now.old.parts }
     requires sends { HasSendEnds fabric.old.links ends.old.sends.items part }
     requires recvs { HasRecvEnds fabric.old.links ends.old.recvs.items part }
     ensures same { fabric.new ≡ record fabric.old { seats = fabric.new.seats } }
     ensures gave { OnOk result (GaveEach fabric.old.seats fabric.new.seats) }
-    ensures node { IfOk result (IsNewNode opening.now fabric.old part) }
+    ensures node { IfOk result (IsNewNode fabric.old (started_core opening.now fabric.old.stage part store)) }
     ensures sends { OnOk result (LeavesSendEnds fabric.old.links ends.old.sends.items part ends.new.sends.items) }
     ensures recvs { OnOk result (LeavesRecvEnds fabric.old.links ends.old.recvs.items part ends.new.recvs.items) }
+    ensures back { IfErr result (λ back. back ≡ store) }
 {
-    let core = open_partition(alloc, opening, part)?;
+    let Ok(place) = open_place(alloc, fabric, ends, part) else {
+        return Err(store);
+    };
+    let core = PartCore::open_in_stage(alloc, opening, part, fabric.stage(), store)?;
+    Ok(Node::open(alloc, core, place))
+}
+
+// The place of a partition's node.
+fn open_place(
+    alloc: Global,
+    fabric: &mut Fabric,
+    ends: &mut Ends,
+    part: PartId,
+) -> Result<Place, AllocError>
+    requires sends { HasSendEnds fabric.old.links ends.old.sends.items part }
+    requires recvs { HasRecvEnds fabric.old.links ends.old.recvs.items part }
+    ensures same { fabric.new ≡ record fabric.old { seats = fabric.new.seats } }
+    ensures gave { OnOk result (GaveEach fabric.old.seats fabric.new.seats) }
+    ensures seats { IfOk result (λ place. AreNewSeats fabric.old.trees place.seats.items) }
+    ensures sends { IfOk result (λ place. AreNewSends fabric.old part place.sends.items) }
+    ensures recvs { IfOk result (λ place. AreNewRecvs fabric.old part place.recvs.items) }
+    ensures flags { IfOk result (λ place. place.complete.items ≡ replicate (length fabric.old.recon.segments) false) }
+    ensures left_sends { OnOk result (LeavesSendEnds fabric.old.links ends.old.sends.items part ends.new.sends.items) }
+    ensures left_recvs { OnOk result (LeavesRecvEnds fabric.old.links ends.old.recvs.items part ends.new.recvs.items) }
+{
     let seats = fabric.share_seats(alloc)?;
     let parts = fabric.parts();
     let sends = take_sends(alloc, parts, fabric.links(), &mut ends.sends, part)?;
     let recvs = take_recvs(alloc, parts, fabric.links(), &mut ends.recvs, part)?;
-    Node::open(alloc, core, seats, sends, recvs)
+    let complete = vec![in alloc; false; fabric.recon().segments().len()]?;
+    Ok(Place {
+        seats,
+        sends,
+        recvs,
+        complete,
+    })
 }
 
 // This many pumps.
 fn open_pumps(alloc: Global, count: u32, fabric: &mut Fabric) -> Result<Vec<Pump>, AllocError>
-    requires { count ≤ MAX_OWNERS }
+    requires { count ≤ MAX_PUMPS }
     ensures same { fabric.new ≡ record fabric.old { seats = fabric.new.seats } }
     ensures seats { OnOk result ((given : ℕ) → AreFirstSeats given fabric.old.trees fabric.old.seats → AreFirstSeats (given + count) fabric.new.trees fabric.new.seats) }
     ensures pumps { IfOk result (λ pumps. AreNewPumps fabric.new count pumps.items) }
@@ -244,13 +344,13 @@ fn open_pumps(alloc: Global, count: u32, fabric: &mut Fabric) -> Result<Vec<Pump
 
 // The pump of a number.
 fn open_pump(alloc: Global, fabric: &mut Fabric, number: u32) -> Result<Pump, AllocError>
-    requires { number < MAX_OWNERS }
+    requires { number < MAX_PUMPS }
     ensures same { fabric.new ≡ record fabric.old { seats = fabric.new.seats } }
     ensures gave { OnOk result (GaveEach fabric.old.seats fabric.new.seats) }
     ensures pump { IfOk result (IsNewPump fabric.old number) }
 {
     let seats = fabric.share_seats(alloc)?;
-    match Pump::new(alloc, number, seats) {
+    match Pump::new(alloc, &fabric.recon, fabric.stage, number, seats) {
         Ok(pump) => Ok(pump),
         Err(_) => Err(AllocError),
     }

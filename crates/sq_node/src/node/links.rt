@@ -10,7 +10,7 @@ ghost use Rattle.sq_node_model.specs.Cores.{HasNoneToLoad};
 ghost use Rattle.sq_node.specs.FabricValue.{FabricValue};
 ghost use Rattle.sq_node.specs.NodeState.{IsNodeOf, node_value};
 ghost use Rattle.sq_node.specs.Holds.{HoldsUnder, KeepsAll};
-ghost use Rattle.sq_node.specs.Steps.{Sends, Receives, HasNoneToSend, HasNoneToReceive, CutStep, SendStep, RecvStep, LoadStep, may_load_now};
+ghost use Rattle.sq_node.specs.Steps.{Sends, Receives, HasNoneToCut, HasNoneToSend, HasNoneToReceive, CutStep, SendStep, RecvStep, LoadStep, may_load_now};
 
 use super::Node;
 use crate::fabric::Fabric;
@@ -37,7 +37,8 @@ impl Node {
     // The first partition for which a chunk can be cut.
     fn next_cut(&self) -> Option<PartId>
         ensures some { IfSome result (λ dst. may_cut (out_at self.now.core dst) ≡ true) }
-        ensures none { IfNone result ((dst : ℕ) → may_cut (out_at self.now.core dst) ≡ false) }
+        ensures first { IfSome result (λ dst. (lower : ℕ) → lower < dst → HasNoneToCut self.now.core lower) }
+        ensures none { IfNone result ((dst : ℕ) → HasNoneToCut self.now.core dst) }
     {
         for number in 0..self.core.parts() {
             let dst = PartId::new(number);
@@ -138,6 +139,7 @@ impl Node {
     fn next_load(&self, fabric: &Fabric) -> Option<PartId>
         requires { IsNodeOf fabric.now self.now }
         ensures some { IfSome result (λ src. may_load_now self.now.core src ≡ true) }
+        ensures first { IfSome result (λ src. (lower : ℕ) → lower < src → may_load_now self.now.core lower ≡ false) }
         ensures chunk { IfSome result (λ src. IfSome (inbox_at self.now.core src) IsChunk) }
         ensures chunks { IfNone result ((src : ℕ) → IfSome (inbox_at self.now.core src) IsChunk) }
         ensures each { length self.now.core.loaded ≡ length self.now.core.recon.segments }

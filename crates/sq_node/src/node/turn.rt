@@ -1,13 +1,19 @@
 // Turns of a node.
-ghost use Rattle.std.specs.Prelude.{◌≡◌, ◌<◌, List, length, map};
+ghost use Rattle.std.specs.Prelude.{◌≡◌, ℕ, ◌+◌, ◌<◌, ◌≤◌, true, List, [], length, map, slice_get, Some, IsTrue};
+ghost use Rattle.sq_ranges.specs.declared.recon.Range.{Range};
+ghost use Rattle.sq_ranges.specs.ReconValue.{stages};
 ghost use Rattle.sq_status.specs.Seat.{IsSameSeat};
 ghost use Rattle.sq_waiting.specs.Waiting.{Arrival, txns_of};
+ghost use Rattle.sq_exec.specs.CoreValue.{loaded_at};
 ghost use Rattle.sq_exec.specs.Kept.{IsCore};
+ghost use Rattle.sq_exec.specs.Runs.{is_whole};
 ghost use Rattle.sq_pull.specs.Seats.{AreSeatsOf, StepsAt};
 ghost use Rattle.sq_node.specs.NodeState.{IsNodeOf};
 ghost use Rattle.sq_node.specs.Holds.{KeepsAll};
 ghost use Rattle.sq_node.specs.Looks.{OnlyLooked, SeatsLooked};
+ghost use Rattle.sq_node.specs.Settled.{HasSettled, SawComplete, SawSegmentComplete, AreSeen};
 ghost use Rattle.sq_node.specs.Steps.{Turns, Looks};
+ghost use Rattle.sq_node.specs.Idle.{IsQuiet, IsIdle, takes_part};
 
 use super::{Node, NodeParts};
 use crate::fabric::Fabric;
@@ -44,27 +50,21 @@ impl Node {
         self.puller.send_pending(rt, fabric.shared().requests);
     }
 
-    /// Whether nothing is pending or under way here and no transaction waits, each segment that leaves or comes here
-    /// is complete, and each job that was posted is answered. It looks at the words of a segment until node 1 reads
-    /// complete, and never again.
+    /// Whether nothing is pending or under way here, and each segment of the running stage that leaves or comes here is
+    /// complete. At the last stage it asks besides that no transaction waits and that each job that was posted is
+    /// answered. It looks at the words of a segment until node 1 reads complete, and never again.
     pub fn idle(&mut self, fabric: &Fabric) -> bool
         requires { IsNodeOf fabric.now self.old }
         ensures looks { Looks self.old self.new }
+        ensures idle { IsTrue result → IsIdle self.new }
         ensures of { IsNodeOf fabric.now self.new }
         ensures holds { KeepsAll self.old self.new }
     {
-        if !fabric.is_answered() || !self.is_at_rest(fabric) {
+        if !self.is_at_rest() || !self.has_answered(fabric) {
             return false;
         }
         let part = self.core.part();
-        let segments = fabric.recon().segments();
-        see_all_complete(
-            fabric.trees(),
-            &mut self.seats,
-            &mut self.complete,
-            segments,
-            part,
-        )
+        see_all_complete(fabric, &mut self.seats, &mut self.complete, part)
     }
 
     /// What it had.
@@ -103,40 +103,66 @@ impl Node {
         }
     }
 
-    // Whether nothing is pending or under way here, and no transaction waits.
-    fn is_at_rest(&self, fabric: &Fabric) -> bool {
+    // Whether no transaction waits here and each job that was posted is answered. Before the last stage this isn't asked: what
+    // is left goes on in the next one.
+    fn has_answered(&self, fabric: &Fabric) -> bool
+        ensures { IsTrue result → stages fabric.now.recon ≤ fabric.now.stage + 1 → self.now.core.waiting ≡ [] }
+    {
+        !fabric.is_last_stage() || (fabric.is_answered() && !self.core.has_waiting())
+    }
+
+    // Whether nothing is pending or under way here.
+    fn is_at_rest(&self) -> bool
+        ensures quiet { IsTrue result → (other : ℕ) → IsQuiet self.now.core other }
+        ensures settled { IsTrue result → (seg n : ℕ) → is_whole (loaded_at self.now.core seg) n ≡ true → HasSettled self.now.seats seg n }
+    {
         self.desk.is_sent()
             && self.puller.pending().is_empty()
             && self.to_complete.is_empty()
-            && !self.core.has_waiting()
-            && (0..fabric.parts()).all(|number| self.is_quiet(PartId::new(number)))
+            && self.is_quiet()
+    }
+
+    // Whether nothing is under way here.
+    fn is_quiet(&self) -> bool
+        ensures { IsTrue result → (other : ℕ) → IsQuiet self.now.core other }
+    {
+        for number in 0..self.core.parts() {
+            if !self.is_quiet_with(PartId::new(number)) {
+                return false;
+            }
+        }
+        true
     }
 
     // Whether nothing is under way here between this partition and another.
-    fn is_quiet(&self, part: PartId) -> bool {
+    fn is_quiet_with(&self, part: PartId) -> bool
+        ensures { IsTrue result → IsQuiet self.now.core part }
+    {
         self.core.inbox(part).is_none()
             && self.core.outbox(part).is_none()
             && !self.core.may_cut(part)
     }
 }
 
-// Whether each segment that leaves or comes to a partition is complete. One that was seen to be so isn't looked at again.
+// Whether each segment of the running stage that leaves or comes to a partition is complete. One that was seen to be so
+// isn't looked at again.
 fn see_all_complete(
-    trees: &[StatusTree],
+    fabric: &Fabric,
     seats: &mut Vec<TreeSeat>,
     complete: &mut Vec<bool>,
-    segments: &[Range],
     part: PartId,
 ) -> bool
-    requires seats { AreSeatsOf trees.now seats.old.items }
-    requires trees { length trees.now ≡ length segments.now }
-    requires flags { length complete.old.items ≡ length segments.now }
+    requires seats { AreSeatsOf fabric.now.trees seats.old.items }
+    requires flags { length complete.old.items ≡ length fabric.now.recon.segments }
     ensures looked { SeatsLooked seats.old.items seats.new.items }
     ensures flags { length complete.new.items ≡ length complete.old.items }
+    ensures seen { AreSeen seats.old.items complete.old.items → AreSeen seats.new.items complete.new.items }
+    ensures complete { IsTrue result → (seg : ℕ) (segment : Range) → slice_get fabric.now.recon.segments seg ≡ Some segment → takes_part fabric.now.recon fabric.now.stage part segment ≡ true → slice_get complete.new.items seg ≡ Some true }
 {
+    let trees = fabric.trees();
+    let segments = fabric.recon().segments();
     for at in 0..segments.len() {
-        let segment = &segments[at];
-        if complete[at] || (segment.src != part && segment.dst != part) {
+        if complete[at] || !is_of(fabric, &segments[at], part) {
             continue;
         }
         if !see_complete_at(trees, seats, complete, at) {
@@ -144,6 +170,14 @@ fn see_all_complete(
         }
     }
     true
+}
+
+// Whether a segment runs in the running stage, and leaves or comes to a partition.
+fn is_of(fabric: &Fabric, segment: &Range, part: PartId) -> bool
+    ensures { result ≡ takes_part fabric.now.recon fabric.now.stage part segment.now }
+{
+    (segment.src == part || segment.dst == part)
+        && fabric.recon().stage_on(segment.src, segment.dst) == fabric.stage()
 }
 
 // Whether the whole of a segment reads complete. Where it does, its flag tells so from then on.
@@ -159,6 +193,9 @@ pub(super) fn see_complete_at(
     ensures seats { AreSeatsOf trees.now seats.new.items }
     ensures looked { StepsAt at OnlyLooked seats.old.items seats.new.items }
     ensures flags { length complete.new.items ≡ length complete.old.items }
+    ensures seen { AreSeen seats.old.items complete.old.items → AreSeen seats.new.items complete.new.items }
+    ensures set { IsTrue result → slice_get complete.new.items at ≡ Some true }
+    ensures kept { (seg : ℕ) → slice_get complete.old.items seg ≡ Some true → slice_get complete.new.items seg ≡ Some true }
 {
     let reads = read_complete_at(trees, seats, at);
     if reads {
@@ -173,6 +210,7 @@ fn read_complete_at(trees: &[StatusTree], seats: &mut Vec<TreeSeat>, at: usize) 
     requires segment { at < length trees.now }
     ensures seats { AreSeatsOf trees.now seats.new.items }
     ensures looked { StepsAt at OnlyLooked seats.old.items seats.new.items }
+    ensures complete { IsTrue result → SawSegmentComplete seats.new.items at }
 {
     reads_complete(&trees[at], &mut seats[at], NodeId::WHOLE)
 }
@@ -182,6 +220,7 @@ fn reads_complete(tree: &StatusTree, seat: &mut TreeSeat, node: NodeId) -> bool
     requires { seat.old.tree ≡ tree.now }
     ensures seat { IsSameSeat seat.old seat.new }
     ensures looked { OnlyLooked seat.old.view seat.new.view }
+    ensures complete { IsTrue result → SawComplete seat.new.view node }
 {
     match tree.look(seat, node) {
         Status::Complete(_) => true,

@@ -1,44 +1,68 @@
-use Rattle.std.proofs.Common.{◌≡◌, ◌∙◌, ℕ, List, length, subst, rules}
+use Rattle.std.proofs.Common.{◌≡◌, ◌∙◌, ℕ, List, [], length, sym, subst, rules}
 use Rattle.sq_link.specs.Values.{LinkValue}
 use Rattle.sq_status.specs.Seat.{SeatValue}
 use Rattle.sq_node.specs.NodeState.{NodeState}
 use Rattle.sq_gather.specs.Links.{AreClosed as AreClosedLinks}
 use Rattle.sq_gather.specs.Trees.{AreClosed as AreClosedTrees}
-use Rattle.sq_gather.specs.GatheringValue.{IsReserved}
+use Rattle.sq_gather.specs.GatheringValue.{GatheringValue, IsReserved, AddsNodes}
 use Rattle.sq_gather.specs.Gathered.{IsGathered}
-use Rattle.sq_gather.proofs.Whole.{each_addable, room_for_pumps, closable_with, is_gathered}
+use Rattle.sq_gather.proofs.Whole.{room_for_past, with_past, each_addable, room_for_nodes, room_for_pumps, closable_with, is_gathered}
 use Rattle.sq_gather.proofs.Placing.{placed, goes_on}
 use Rattle.sq_gather.proofs.run.gather.Goals as goal
-use Rattle.sq_gather.proofs.run.gather.Goals.{In-Ok}
+use Rattle.sq_gather.proofs.run.gather.Goals.{In-Ok, After-add_receipts}
 use Rattle.sq_gather.proofs.run.gather.Given.{Over}
 
 -- what was reserved is for all nodes and pumps
-reserved : (g : Over) (c : In-Ok g) → IsReserved c.args.fabric c.args.nodes.items (length c.args.pumps.items) c.in-Ok.gathering
+reserved : (g : Over) (c : In-Ok g) → IsReserved [] c.args.fabric c.args.nodes.items (length c.args.pumps.items) c.in-Ok.gathering
 reserved g c =
     let count : c.len.result ≡ length c.args.pumps.items = search rules in
-    subst (λ (all : List NodeState × ℕ). IsReserved c.args.fabric all.0 all.1 c.in-Ok.gathering) (λ i. (c.deref.ensures.value i, count i)) c.in-Ok.ensures
+    subst (λ (all : List NodeState × ℕ). IsReserved [] c.args.fabric all.0 all.1 c.in-Ok.gathering) (λ i. (c.deref.ensures.value i, count i)) c.in-Ok.ensures
+
+pub add_receipts-requires : goal.add_receipts-requires
+add_receipts-requires g c =
+    room_for_past c.args.fabric c.args.nodes.items (length c.args.pumps.items) c.in-Ok.gathering (reserved g (goal.at.add_receipts-requires g c).In-Ok)
+    c.into_parts-stage.result.receipts.items c.into_parts-stage.ensures.receipts
+
+-- and still is once the receipts of earlier stages are added
+begins : (g : Over) (c : After-add_receipts g) → IsReserved [] c.args.fabric c.args.nodes.items (length c.args.pumps.items) c.in-Ok.gathering
+    → IsReserved c.args.fabric.receipts c.args.fabric c.args.nodes.items (length c.args.pumps.items) c.add_receipts.new.self
+begins g c none =
+    with_past c.args.fabric c.args.nodes.items (length c.args.pumps.items) c.in-Ok.gathering none
+    c.into_parts-stage.result.receipts.items c.into_parts-stage.ensures.receipts c.add_receipts.new.self c.add_receipts.ensures
+
+-- the nodes are added still where their jobs are
+added : (nodes : List NodeState) (none before after : GatheringValue) → AddsNodes none nodes before → after ≡ before → AddsNodes none nodes after
+added nodes none before after adds same = subst (AddsNodes none nodes) (sym same) adds
 
 pub add_nodes-requires-clause-ends : goal.add_nodes-requires-clause-ends
 add_nodes-requires-clause-ends g c =
-    each_addable c.args.fabric c.args.nodes.items c.args.pumps.items c.into_parts-stage.ensures.fabric c.requires c.in-Ok.gathering
-    (reserved g (goal.at.add_nodes-requires-clause-ends g c).In-Ok)
+    each_addable c.args.fabric c.args.nodes.items c.args.pumps.items c.into_parts-stage.ensures.fabric c.requires c.add_receipts.new.self
+    (begins g (goal.at.add_nodes-requires-clause-ends g c).After-add_receipts (reserved g (goal.at.add_nodes-requires-clause-ends g c).In-Ok))
+
+pub add_nodes-requires-clause-room : goal.add_nodes-requires-clause-room
+add_nodes-requires-clause-room g c =
+    room_for_nodes c.args.fabric c.args.nodes.items c.args.pumps.items c.into_parts-stage.ensures.fabric c.requires c.add_receipts.new.self
+    (begins g (goal.at.add_nodes-requires-clause-room g c).After-add_receipts (reserved g (goal.at.add_nodes-requires-clause-room g c).In-Ok))
 
 pub add_pumps-requires : goal.add_pumps-requires
 add_pumps-requires g c =
-    room_for_pumps c.args.fabric c.args.nodes.items c.args.pumps.items c.into_parts-stage.ensures.fabric c.requires c.in-Ok.gathering
-    (reserved g (goal.at.add_pumps-requires g c).In-Ok) c.add_nodes.new.self c.add_nodes.ensures
+    room_for_pumps c.args.fabric c.args.nodes.items c.args.pumps.items c.into_parts-stage.ensures.fabric c.requires c.add_receipts.new.self
+    (begins g (goal.at.add_pumps-requires g c).After-add_receipts (reserved g (goal.at.add_pumps-requires g c).In-Ok)) c.add_jobs.new.self
+    (added c.args.nodes.items c.add_receipts.new.self c.add_nodes.new.self c.add_jobs.new.self c.add_nodes.ensures c.add_jobs.ensures)
 
 pub close-requires : goal.close-requires
 close-requires g c =
-    closable_with c.args.fabric c.args.nodes.items c.args.pumps.items c.into_parts-stage.ensures.fabric c.requires c.in-Ok.gathering
-    (reserved g (goal.at.close-requires g c).In-Ok) c.add_nodes.new.self c.add_nodes.ensures c.add_pumps.new.self c.add_pumps.ensures
+    closable_with c.args.fabric c.args.nodes.items c.args.pumps.items c.into_parts-stage.ensures.fabric c.requires c.add_receipts.new.self
+    (begins g (goal.at.close-requires g c).After-add_receipts (reserved g (goal.at.close-requires g c).In-Ok)) c.add_jobs.new.self
+    (added c.args.nodes.items c.add_receipts.new.self c.add_nodes.new.self c.add_jobs.new.self c.add_nodes.ensures c.add_jobs.ensures) c.add_pumps.new.self c.add_pumps.ensures
     _ _ _ c.into_parts-stage.ensures.trees c.into_parts-stage.ensures.seats c.into_parts-stage.ensures.links
 
 pub returns-clause-gathered : goal.returns-clause-gathered
 returns-clause-gathered g c =
-    is_gathered c.args.fabric c.args.nodes.items c.args.pumps.items c.into_parts-stage.ensures.fabric c.requires c.in-Ok.gathering
-    (reserved g (goal.at.returns-clause-gathered g c).In-Ok) c.add_nodes.new.self c.add_nodes.ensures
-    c.add_pumps.new.self c.add_pumps.ensures c.close.result c.close.ensures.stores c.close.ensures.receipts
+    is_gathered c.args.fabric c.args.nodes.items c.args.pumps.items c.into_parts-stage.ensures.fabric c.requires c.add_receipts.new.self
+    (begins g (goal.at.returns-clause-gathered g c).After-add_receipts (reserved g (goal.at.returns-clause-gathered g c).In-Ok)) c.add_jobs.new.self
+    (added c.args.nodes.items c.add_receipts.new.self c.add_nodes.new.self c.add_jobs.new.self c.add_nodes.ensures c.add_jobs.ensures)
+    c.add_pumps.new.self c.add_pumps.ensures c.close.result c.close.ensures.stores c.close.ensures.receipts c.close.ensures.left
     (c.close.ensures.stage ∙ c.into_parts-stage.ensures.stage)
     (subst (λ (links : List LinkValue). AreClosedLinks links c.add_pumps.new.self.ends c.close.result.links) c.into_parts-stage.ensures.links c.close.ensures.links)
     (subst (λ (seats : List SeatValue). AreClosedTrees seats c.add_pumps.new.self.owners c.close.result.words) c.into_parts-stage.ensures.seats c.close.ensures.words)

@@ -1,14 +1,9 @@
-use Rattle.sq_live.proofs.Leading.{ended_whole, has_ended, refused_missing}
+use Rattle.sq_live.proofs.Leading.{ends, stays_last}
 use Rattle.sq_live.proofs.leader.end_move.Goals as goal
 
-pub returns-in-Ok-clause-when : goal.returns-in-Ok-clause-when
-returns-in-Ok-clause-when c =
-    ended_whole c.args.opening.now c.requires.one_part c.args.whole.now c.hear_reports.result c.hear_reports.ensures c.in-Ok.ended c.in-Ok.ensures.answer c.recon-recon.ensures.set_up.opening
+pub returns-in-Ok : goal.returns-in-Ok
+returns-in-Ok c = ends c.args.opening.now c.args.moving.stage c.args.whole.now c.args.moving c.requires.reported c.in-Ok.field-0 c.in-Ok.ensures.answer
 
-pub returns-in-Ok-clause-ended : goal.returns-in-Ok-clause-ended
-returns-in-Ok-clause-ended c =
-    has_ended c.args.opening.now c.requires.one_part c.args.whole.now c.hear_reports.result c.hear_reports.ensures c.in-Ok.ended c.in-Ok.ensures.answer
-
-pub returns-in-Err-clause-when : goal.returns-in-Err-clause-when
-returns-in-Err-clause-when c =
-    refused_missing c.args.opening.now c.requires.one_part c.args.whole.now c.hear_reports.result c.hear_reports.ensures c.in-Err.refused c.in-Err.ensures.answer c.recon-recon.ensures.set_up.opening
+pub returns : goal.returns
+returns c =
+    stays_last c.args.opening.now c.args.moving.stage c.args.whole.now c.args.moving c.requires.reported c.recon-recon.ensures.set_up.opening c.requires.last c.in-Err.field-0 c.in-Err.ensures.answer

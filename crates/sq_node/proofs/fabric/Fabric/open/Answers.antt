@@ -1,14 +1,31 @@
-use Rattle.sq_node.proofs.NewNodes.{same_nodes, same_shared}
+use Rattle.std.proofs.Common.{[], ◌∙◌, ap, sym, subst, length, List}
+use Rattle.std.proofs.lemmas.List.FromFn.{length-map-range_with_len}
+use Rattle.sq_store.specs.StoreValue.{StoreValue}
+use Rattle.sq_opened.specs.Opened.{opened_part}
+use Rattle.sq_node_model.specs.BeganWith.{first_began}
+use Rattle.sq_node_model.proofs.Began.{first_can}
+use Rattle.sq_node.specs.FabricValue.{HasBegun}
+use Rattle.sq_node.specs.Opened.{IsResumed, opened_stores}
+use Rattle.sq_node.proofs.NewNodes.{all_owned_open, new_nodes_hold}
 use Rattle.sq_node.proofs.fabric.Fabric.open.Goals as goal
 
-pub returns : goal.returns
-returns c =
+pub open_run-requires-clause-stores : goal.open_run-requires-clause-stores
+open_run-requires-clause-stores c =
     let o = c.args.opening.now in
-    let nodes = c.open_nodes.new.fabric in
-    let pumps = c.open_pumps.new.fabric in
+    ap length c.in_ok-stores.ensures.stores ∙ length-map-range_with_len (λ part. (opened_part o part).store) 0 o.old.parts
+
+pub returns-in-Ok : goal.returns-in-Ok
+returns-in-Ok c =
+    let o = c.args.opening.now in
+    let fabric = c.in-Ok.fabric in
+    let nodes = c.in-Ok.nodes.items in
+    let run = subst (λ (stores : List StoreValue). IsResumed o 0 stores [] c.args.pumps fabric nodes c.in-Ok.pumps.items) c.in_ok-stores.ensures.stores c.in-Ok.ensures.run in
+    let begun : HasBegun (first_began o) fabric = record { stage = sym run.stage; receipts = sym run.receipts } in
     record {
-      shared = same_shared o nodes pumps c.open_pumps.ensures.same (same_shared o c.in_ok-fabric.fabric nodes c.open_nodes.ensures.same c.in_ok-fabric.ensures.fabric);
-      seats = c.in_ok-pumps.ensures.seats o.old.parts c.in_ok-nodes.ensures.seats;
-      each_node = same_nodes o nodes pumps o.old.parts c.in_ok-nodes.nodes.items c.open_pumps.ensures.same c.in_ok-nodes.ensures.nodes;
-      each_pump = c.in_ok-pumps.ensures.pumps;
+      shared = run.shared;
+      begun = begun;
+      seats = run.seats;
+      each_node = run.each_node;
+      each_pump = run.each_pump;
+      hold = new_nodes_hold o (first_began o) fabric (opened_stores o) nodes (length-map-range_with_len (λ part. (opened_part o part).store) 0 o.old.parts) begun (first_can o) (all_owned_open o c.in_ok-stores.ensures.owned) run.each_node;
     }

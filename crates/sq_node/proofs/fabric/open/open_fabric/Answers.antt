@@ -1,12 +1,11 @@
-use Rattle.std.proofs.Common.{◌≡◌, ℕ, ◌≤◌, List, length, map, refl, sym, ap, ◌∙◌, subst, subst₂}
+use Rattle.std.proofs.Common.{◌≡◌, ◌≤◌, List, length, sym, ap, ◌∙◌, subst, subst₂}
 use Rattle.sq_plan.specs.PlanValue.{PlanValue}
-use Rattle.sq_ranges.specs.declared.recon.Range.{Range}
 use Rattle.sq_ranges.specs.declared.segment.TheConstants.{SEGMENT_LIMIT}
 use Rattle.sq_ranges.specs.declared.opening.Config.{Config}
 use Rattle.sq_ranges.specs.ReconValue.{ReconValue}
 use Rattle.sq_ranges.specs.declared.recon.Link.{Link}
 use Rattle.sq_status.specs.declared.view.View.{View}
-use Rattle.sq_node.specs.FabricValue.{ends_of, AreStageLinks}
+use Rattle.sq_node.specs.FabricValue.{AreStageLinks}
 use Rattle.sq_node.proofs.NewLinks.{stage_links_are}
 use Rattle.sq_node.proofs.fabric.open.open_fabric.Goals as goal
 
@@ -18,14 +17,13 @@ invariant_of-fabric c =
       trees = c.in_ok-trees.ensures.count ∙ ap length c.segments.ensures.segments ∙ ap (λ (r : ReconValue). length r.segments) (c.recon-recon.ensures.recon ∙ sym recon);
       seats = c.in_ok-trees.ensures.seats.of;
       first = λ seg seat there. ap (λ (v : View). v.first) (c.in_ok-trees.ensures.seats.each seg seat there);
-      links = subst₂ (λ (r : ReconValue) (links : List Link). AreStageLinks r 0 links) (c.recon-recon.ensures.recon ∙ sym recon) (sym (c.in_ok-links.ensures.links ∙ c.as_slice.ensures.value ∙ c.in_ok-between.ensures))
-          (stage_links_are c.recon-recon.result.now 0 c.links.result.now c.links.ensures);
+      links = subst₂ (λ (r : ReconValue) (links : List Link). AreStageLinks r c.args.stage links) (c.recon-recon.ensures.recon ∙ sym recon) (sym (c.in_ok-links.ensures.links ∙ c.as_slice.ensures.value ∙ c.in_ok-between.ensures))
+          (stage_links_are c.recon-recon.result.now c.args.stage c.links.result.now c.links.ensures);
     }
 
 pub returns-clause-fabric : goal.returns-clause-fabric
 returns-clause-fabric c =
     record {
-      stage = refl;
       recon = c.in_ok-clone.ensures.cases ∙ c.recon-recon.ensures.recon;
       parts = c.parts-parts.ensures.parts ∙ ap (λ (p : PlanValue). p.parts) c.old_plan.ensures.plan;
       capacity = λ i link there. c.in_ok-links.ensures.capacities i link there ∙ ap (λ (f : Config). f.capacity) c.config.ensures.config;

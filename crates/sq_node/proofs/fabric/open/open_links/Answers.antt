@@ -1,4 +1,4 @@
-use Rattle.std.proofs.Common.{◌≡◌, ℕ, ◌+◌, List, [], ◌∷◌, ◌++◌, Option, Some, map, take, sym, ap, ◌∙◌, subst, ⊎_elim, length, arith}
+use Rattle.std.proofs.Common.{◌≡◌, List, [], ◌∷◌, ◌++◌, Option, Some, map, sym, ap, ◌∙◌, subst, ⊎_elim, length, arith}
 use Rattle.std.specs.Prelude.{slice_get}
 use Rattle.sq_link.specs.Values.{LinkValue}
 use Rattle.sq_node.specs.declared.ends.SendEnd.{SendEnd}

@@ -1,4 +1,4 @@
-use Rattle.std.proofs.Common.{◌≡◌, ℕ, map, take, length, Some}
+use Rattle.std.proofs.Common.{◌≡◌, ℕ, map, take, Some}
 use Rattle.std.specs.Prelude.{slice_get}
 use Rattle.sq_link.specs.Values.{LinkValue}
 use Rattle.sq_node.specs.FabricValue.{ends_of}

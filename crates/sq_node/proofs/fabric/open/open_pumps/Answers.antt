@@ -1,9 +1,8 @@
-use Rattle.std.proofs.Common.{◌≡◌, ℕ, ◌+◌, ◌≤◌, List, sym, ap, ◌∙◌, subst, arith}
+use Rattle.std.proofs.Common.{◌≡◌, ℕ, ◌+◌, List, sym, ap, ◌∙◌, subst, arith}
 use Rattle.atomic_table.specs.Seated.{TableId}
-use Rattle.sq_status.specs.Seat.{SeatValue}
 use Rattle.sq_node.specs.FabricValue.{FabricValue}
 use Rattle.sq_node.specs.Opened.{AreFirstSeats, AreNewPumps}
-use Rattle.sq_node.proofs.NewNodes.{gave_one_more, more_pumps}
+use Rattle.sq_node.proofs.NewNodes.{alike, gave_one_more, more_pumps}
 use Rattle.sq_node.proofs.fabric.open.open_pumps.Goals as goal
 
 pub loop-number-preserved : goal.loop-number-preserved
@@ -19,7 +18,7 @@ loop-number-preserved c =
           (subst (λ (trees : List TableId). AreFirstSeats (given + number + 1) trees new.seats) (sym (ap (λ (f : FabricValue). f.trees) c.open_pump.ensures.same))
           (gave_one_more (given + number) old.trees old.seats new.seats (c.loop-number.invariant.seats given first) c.in_ok-open_pump.ensures.gave));
       pumps = subst (AreNewPumps new (number + 1)) (sym c.in_ok-push.ensures.items)
-          (more_pumps old new number c.loop-number.pumps.items c.in_ok-open_pump.field-0 c.open_pump.ensures.same c.loop-number.invariant.pumps c.in_ok-open_pump.ensures.pump);
+          (more_pumps old new number c.loop-number.pumps.items c.in_ok-open_pump.field-0 (alike old new c.open_pump.ensures.same) c.loop-number.invariant.pumps c.in_ok-open_pump.ensures.pump);
     }
 
 pub returns-clause-seats : goal.returns-clause-seats

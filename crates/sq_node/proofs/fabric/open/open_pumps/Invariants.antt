@@ -1,5 +1,4 @@
 use Rattle.std.proofs.Common.{◌≡◌, ℕ, ◌+◌}
-use Rattle.sq_node.specs.FabricValue.{FabricValue}
 use Rattle.sq_node.specs.Opened.{AreFirstSeats, AreNewPumps}
 use Rattle.sq_node.proofs.fabric.open.open_pumps.Given as goal
 

@@ -1,4 +1,4 @@
-use Rattle.std.proofs.Common.{◌≡◌, ℕ, ◌+◌, List, [], ◌∷◌, ◌++◌, length, sym, ap, ◌∙◌, subst, length-append}
+use Rattle.std.proofs.Common.{ℕ, ◌+◌, List, [], ◌∷◌, ◌++◌, length, sym, ap, ◌∙◌, subst, length-append}
 use Rattle.atomic_table.specs.Seated.{TableId}
 use Rattle.sq_status.specs.Seat.{SeatValue}
 use Rattle.sq_node.specs.Opened.{AreFirstSeats}

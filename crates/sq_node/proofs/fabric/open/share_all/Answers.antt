@@ -1,4 +1,4 @@
-use Rattle.std.proofs.Common.{◌≡◌, ℕ, ◌≤◌, ◌+◌, List, length, sym, ap, ◌∙◌, subst, arith}
+use Rattle.std.proofs.Common.{◌+◌, List, sym, subst}
 use Rattle.std.specs.Prelude.{slice_set}
 use Rattle.sq_status.specs.Seat.{SeatValue}
 use Rattle.sq_node.proofs.Shares.{Shares, shared_of, shared_first, shares_more, all_shared}

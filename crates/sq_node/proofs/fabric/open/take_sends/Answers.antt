@@ -1,7 +1,6 @@
-use Rattle.std.proofs.Common.{◌≡◌, ℕ, length, sym, ap, ◌∙◌, Option, subst}
-use Rattle.std.specs.Prelude.{◌==◌, MatchOption, Some, None, slice_set, List}
+use Rattle.std.proofs.Common.{◌≡◌, ℕ, length, subst}
+use Rattle.std.specs.Prelude.{◌==◌, MatchOption, None, slice_set}
 use Rattle.std.proofs.lemmas.Bool.{eq-eqb}
-use Rattle.sq_node.specs.declared.ends.SendEnd.{SendEnd}
 use Rattle.sq_node.specs.Ends.{link_at, link_from, send_end}
 use Rattle.sq_node.specs.Opened.{new_send_end}
 use Rattle.sq_node.proofs.Taken.{takes_one, found_link}

@@ -1,18 +1,25 @@
-use Rattle.std.proofs.Common.{rules}
+use Rattle.std.proofs.Common.{rules, ◌≡◌, ◌+◌, ◌≤◌, ℕ, sym, ap, ◌∙◌, subst}
+use Rattle.std.specs.Prelude.{slice_get}
+use Rattle.sq_ranges.specs.ReconValue.{ReconValue, stages}
 use Rattle.sq_node.specs.declared.stepped.Stepped.TheVariants.{Nothing}
+use Rattle.sq_node.specs.NodeState.{NodeState}
+use Rattle.sq_node.specs.Settled.{AreSeen}
+use Rattle.sq_node.specs.Idle.{IsIdle, takes_part}
 use Rattle.sq_node.proofs.Stays.{request_stays}
 use Rattle.sq_node.proofs.Keeps.{looks_keep}
-use Rattle.sq_node.proofs.Settles.{other_seats, other_flags}
-use Rattle.sq_node.proofs.Looked.{settled_seats}
+use Rattle.sq_node.proofs.Settles.{other_flags}
+use Rattle.sq_node.proofs.Known.{AllKnowNoLess, known_looked, settled_seats}
 use Rattle.sq_node.proofs.node.Node.idle.Goals as goal
 
 pub invariant_of-self : goal.invariant_of-self
 invariant_of-self c =
     let inside = c.self.inside in
     let old = inside.seats.items in
-    let new = c.see_all_complete.new.seats.items in
-    other_flags inside.core.core new inside.to_complete.items inside.complete.items c.see_all_complete.new.complete.items c.see_all_complete.ensures.flags
-    (other_seats inside.core.core old new inside.to_complete.items inside.complete.items (settled_seats old new c.see_all_complete.ensures.looked) c.self.invariant)
+    let new = c.see_all_complete.new.seats.items in (
+      c.self.invariant.0,
+      other_flags inside.core.core old new inside.to_complete.items inside.complete.items c.see_all_complete.new.complete.items c.see_all_complete.ensures.flags
+          (known_looked old new c.see_all_complete.ensures.looked) c.see_all_complete.ensures.seen c.self.invariant.1,
+    )
 
 pub returns-clause-looks : goal.returns-clause-looks
 returns-clause-looks c = search rules
@@ -22,3 +29,25 @@ returns-clause-holds c = looks_keep c.args.self.now _ (returns-clause-looks c)
 
 pub returns-clause-of : goal.returns-clause-of
 returns-clause-of c = request_stays c.args.fabric.now c.args.self.now Nothing _ (returns-clause-looks c) c.requires
+
+pub returns-clause-idle : goal.returns-clause-idle
+returns-clause-idle c = λ complete.
+    let new = c.see_all_complete.new.seats.items in
+    let node = c.args.self.now in
+    let fabric = c.args.fabric.now in
+    let rest = c.is_at_rest.ensures in
+    let known : AllKnowNoLess node.seats new = subst (λ (n : NodeState). AllKnowNoLess n.seats new) c.self.view_is (known_looked c.self.inside.seats.items new c.see_all_complete.ensures.looked) in
+    let seen : AreSeen new c.see_all_complete.new.complete.items = c.see_all_complete.ensures.seen c.self.invariant.1.seen in
+    let own : c.part-part.result ≡ node.core.part = c.part-part.ensures ∙ ap (λ (n : NodeState). n.core.part) c.self.view_is in
+    subst IsIdle (sym (ap (λ (n : NodeState). record n { seats = new }) c.self.view_is))
+    (record {
+      quiet = rest.quiet c.if-not-is_at_rest.false;
+      settled = λ seg n whole. settled_seats node.seats new known seg n (rest.settled c.if-not-is_at_rest.false seg n whole);
+      complete = λ seg segment there part.
+          seen seg
+          (c.see_all_complete.ensures.complete complete seg segment (ap (λ (recon : ReconValue). slice_get recon.segments seg) (sym c.requires.recon) ∙ there)
+          ((λ k. takes_part (sym c.requires.recon k) (sym c.requires.stage k) (own k) segment) ∙ part));
+      waiting = λ last.
+          c.has_answered.ensures c.if-not-has_answered.false
+          (subst (λ (recon : ReconValue). stages recon ≤ fabric.stage + 1) c.requires.recon (subst (λ (stage : ℕ). stages node.core.recon ≤ stage + 1) c.requires.stage last));
+    })

@@ -1,4 +1,4 @@
-use Rattle.std.proofs.Common.{◌≡◌, ◌<◌, List, length, Option, Some, None, get_or, set, sym, ap, ◌∙◌, subst, arith}
+use Rattle.std.proofs.Common.{◌≡◌, ◌<◌, List, length, Option, None, get_or, set, sym, ap, ◌∙◌, subst, arith}
 use Rattle.std.proofs.lemmas.List.{set-get_or}
 use Rattle.crossbeam_queue.specs.Fifo.{Held}
 use Rattle.sq_link.specs.Values.{LinkValue}
@@ -13,23 +13,29 @@ use Rattle.sq_node.proofs.node.Node.send_to.Goals as goal
 
 pub invariant_of-self : goal.invariant_of-self
 invariant_of-self g c =
-    let inside = c.self.inside in
-    same_loads inside.core.core c.take_outbox.new.self.core inside.seats.items inside.to_complete.items inside.complete.items
-    (ap (λ (core : CoreValue). core.recon) c.take_outbox.ensures.core) (ap (λ (core : CoreValue). core.loaded) c.take_outbox.ensures.core) c.self.invariant
+    let inside = c.self.inside in (
+      c.self.invariant.0 ∙ sym (ap (λ (core : CoreValue). core.part) c.take_outbox.ensures.core),
+      same_loads inside.core.core c.take_outbox.new.self.core inside.seats.items inside.to_complete.items inside.complete.items
+          (ap (λ (core : CoreValue). core.recon) c.take_outbox.ensures.core) (ap (λ (core : CoreValue). core.loaded) c.take_outbox.ensures.core) c.self.invariant.1,
+    )
 
 pub invariant_of-self-in-Ok : goal.invariant_of-self-in-Ok
 invariant_of-self-in-Ok g c =
-    let inside = c.self.inside in
-    same_loads inside.core.core c.take_outbox.new.self.core inside.seats.items inside.to_complete.items inside.complete.items
-    (ap (λ (core : CoreValue). core.recon) c.take_outbox.ensures.core) (ap (λ (core : CoreValue). core.loaded) c.take_outbox.ensures.core) c.self.invariant
+    let inside = c.self.inside in (
+      c.self.invariant.0 ∙ sym (ap (λ (core : CoreValue). core.part) c.take_outbox.ensures.core),
+      same_loads inside.core.core c.take_outbox.new.self.core inside.seats.items inside.to_complete.items inside.complete.items
+          (ap (λ (core : CoreValue). core.recon) c.take_outbox.ensures.core) (ap (λ (core : CoreValue). core.loaded) c.take_outbox.ensures.core) c.self.invariant.1,
+    )
 
 pub invariant_of-self-in-Err : goal.invariant_of-self-in-Err
 invariant_of-self-in-Err g c =
     let inside = c.self.inside in
     let same : c.put_outbox.new.self.core ≡ inside.core.core =
-    put_back inside.core.core c.take_outbox.new.self.core c.put_outbox.new.self.core c.args.dst c.in-Some.chunk c.in-Err.back c.in-Some.ensures.chunk c.in-Err.ensures.refused.0 c.take_outbox.ensures.core c.put_outbox.ensures.core in
-    same_loads inside.core.core c.put_outbox.new.self.core inside.seats.items inside.to_complete.items inside.complete.items
-    (ap (λ (core : CoreValue). core.recon) same) (ap (λ (core : CoreValue). core.loaded) same) c.self.invariant
+    put_back inside.core.core c.take_outbox.new.self.core c.put_outbox.new.self.core c.args.dst c.in-Some.chunk c.in-Err.back c.in-Some.ensures.chunk c.in-Err.ensures.refused.0 c.take_outbox.ensures.core c.put_outbox.ensures.core in (
+      c.self.invariant.0 ∙ sym (ap (λ (core : CoreValue). core.part) same),
+      same_loads inside.core.core c.put_outbox.new.self.core inside.seats.items inside.to_complete.items inside.complete.items
+          (ap (λ (core : CoreValue). core.recon) same) (ap (λ (core : CoreValue). core.loaded) same) c.self.invariant.1,
+    )
 
 pub returns-in-Err : goal.returns-in-Err
 returns-in-Err g c =

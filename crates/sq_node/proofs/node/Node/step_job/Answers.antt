@@ -1,8 +1,8 @@
-use Rattle.std.proofs.Common.{rules, ◌≡◌, refl, true, [], ◌∷◌, ◌++◌, length, sym, ap, ◌∙◌, subst}
+use Rattle.std.proofs.Common.{rules, ◌≡◌, refl, true, [], ◌∷◌, ◌++◌, None, length, sym, ap, ◌∙◌, subst}
 use Rattle.sq_ranges.specs.ReconValue.{ReconValue}
 use Rattle.sq_exec.specs.declared.outcome.Outcome.{Outcome}
 use Rattle.sq_exec.specs.declared.outcome.Outcome.TheVariants.{Done, Waits}
-use Rattle.sq_exec.specs.Serving.{must_wait, IsTaken}
+use Rattle.sq_exec.specs.Serving.{must_wait, submit_refusal, IsTaken}
 use Rattle.sq_store.specs.StoreValue.{log_length}
 use Rattle.sq_pull.specs.Puller.{PullerValue}
 use Rattle.sq_node_model.specs.Steps.{receipt_of, receipts_after}
@@ -11,8 +11,9 @@ use Rattle.sq_node.specs.Settled.{IsNode}
 use Rattle.sq_node.specs.Steps.{ClaimsAt}
 use Rattle.sq_node.specs.declared.stepped.Stepped.TheVariants.{Did}
 use Rattle.sq_node.proofs.Told.{job_told}
+use Rattle.sq_node.proofs.Stays.{taken_part}
 use Rattle.sq_node.proofs.Settles.{other_seats}
-use Rattle.sq_node.proofs.Served.{after_taken, submitted_position, receipt_same, settled_pulled, pulled_claims}
+use Rattle.sq_node.proofs.Served.{after_taken, submitted_position, receipt_same, known_pulled, pulled_part, pulled_claims}
 use Rattle.sq_node.proofs.node.Node.step_job.Goals as goal
 use Rattle.sq_node.proofs.node.Node.step_job.Goals.{In-Ok, In-Waits}
 use Rattle.sq_node.proofs.node.Node.step_job.Given.{Over}
@@ -25,22 +26,32 @@ reactive-requires-clause-trees g c =
 job_taken : (g : Over) (c : In-Ok g) → let inside = c.self.inside in IsNode c.submit.new.self.core inside.seats.items inside.to_complete.items inside.complete.items
 job_taken g c =
     let inside = c.self.inside in
-    after_taken (must_wait inside.core.core c.in-Some.job.root) inside.core.core c.submit.new.self.core c.in-Some.job c.in-Ok.outcome inside.seats.items inside.to_complete.items inside.complete.items c.in-Ok.ensures.ok c.self.invariant
+    after_taken (must_wait inside.core.core c.in-Some.job.root) inside.core.core c.submit.new.self.core c.in-Some.job c.in-Ok.outcome inside.seats.items inside.to_complete.items inside.complete.items c.in-Ok.ensures.ok c.self.invariant.1
+
+-- its pulls are the partition's still
+job_part : (g : Over) (c : In-Ok g) → c.reserve-else-is_err.new.self.puller.part ≡ c.submit.new.self.core.part
+job_part g c =
+    let old = c.self.inside.core.core in
+    let taken = taken_part (must_wait old c.in-Some.job.root) old c.submit.new.self.core c.in-Some.job c.in-Ok.outcome c.in-Ok.ensures.ok in
+    ap (λ (puller : PullerValue). puller.part) c.reserve-else-is_err.ensures.same ∙ c.self.invariant.0 ∙ sym taken.part
 
 pub invariant_of-self-in-Done : goal.invariant_of-self-in-Done
-invariant_of-self-in-Done g c = job_taken g (goal.at.invariant_of-self-in-Done g c).In-Ok
+invariant_of-self-in-Done g c = let taken = (goal.at.invariant_of-self-in-Done g c).In-Ok in (job_part g taken, job_taken g taken)
 
 pub invariant_of-self-in-Moved : goal.invariant_of-self-in-Moved
-invariant_of-self-in-Moved g c = job_taken g (goal.at.invariant_of-self-in-Moved g c).In-Ok
+invariant_of-self-in-Moved g c = let taken = (goal.at.invariant_of-self-in-Moved g c).In-Ok in (job_part g taken, job_taken g taken)
 
 pub invariant_of-self-in-Waits : goal.invariant_of-self-in-Waits
 invariant_of-self-in-Waits g c =
     let inside = c.self.inside in
     let new = c.submit.new.self.core in
     let after = c.reactive.new.seats.items in
-    other_seats new inside.seats.items after inside.to_complete.items inside.complete.items
-    (settled_pulled _ c.in-Waits.seg c.in-Waits.leaf _ _ inside.seats.items after c.reactive.result _ _ c.reactive.ensures.pulled c.reactive.ensures.err)
-    (job_taken g (goal.at.invariant_of-self-in-Waits g c).In-Ok)
+    let taken = (goal.at.invariant_of-self-in-Waits g c).In-Ok in (
+      pulled_part _ c.in-Waits.seg c.in-Waits.leaf _ _ inside.seats.items after c.reactive.result _ _ c.reactive.ensures.pulled c.reactive.ensures.err ∙ job_part g taken,
+      other_seats new inside.seats.items after inside.to_complete.items inside.complete.items
+          (known_pulled _ c.in-Waits.seg c.in-Waits.leaf _ _ inside.seats.items after c.reactive.result _ _ c.reactive.ensures.pulled c.reactive.ensures.err)
+          (job_taken g taken),
+    )
 
 pub returns-in-Done : goal.returns-in-Done
 returns-in-Done g c =
@@ -60,6 +71,7 @@ returns-in-Done g c =
     (record {
       txn = job;
       outcome = Done reply;
+      accepted = subst (λ (node : NodeState). submit_refusal node.core job ≡ None) c.self.view_is c.in-Ok.ensures.refused;
       taken = subst (λ (node : NodeState). IsTaken (must_wait node.core job.root) node.core job (Done reply) new) c.self.view_is taken;
       claims = (ap (λ (node : NodeState). node.seats) c.self.view_is, claims ∙ ap (λ (node : NodeState). node.claims) c.self.view_is);
       after = (λ k. record { core = new; seats = seats; sends = inside.sends.items; recvs = inside.recvs.items; receipts = receipts k; claims = c.reserve-else-is_err.new.self.puller.wins.count })
@@ -85,11 +97,13 @@ returns-in-Waits g c =
     let now : NodeState = record { core = new; seats = after; sends = inside.sends.items; recvs = inside.recvs.items; receipts = c.reserve.new.self.receipts; claims = count } in
     let claims : ClaimsAt seg leaf before now =
     pulled_claims _ seg leaf _ _ before now c.reactive.result _
+    (sym (ap (λ (puller : PullerValue). puller.part) c.reserve-else-is_err.ensures.same ∙ c.self.invariant.0))
     (sym (ap (λ (puller : PullerValue). puller.wins.count) c.reserve-else-is_err.ensures.same)) refl (has_room g (goal.at.returns-in-Waits g c).In-Waits) c.reactive.ensures.pulled c.reactive.ensures.memory in
     job_told c.args.fabric.now c.args.self.now Did _ c.requires
     (record {
       txn = job;
       outcome = Waits seg leaf;
+      accepted = subst (λ (node : NodeState). submit_refusal node.core job ≡ None) c.self.view_is c.in-Ok.ensures.refused;
       taken = subst (λ (node : NodeState). IsTaken (must_wait node.core job.root) node.core job (Waits seg leaf) new) c.self.view_is taken;
       claims = subst (λ (node : NodeState). ClaimsAt seg leaf node now) c.self.view_is claims;
       after = (λ k. record { core = new; seats = after; sends = inside.sends.items; recvs = inside.recvs.items; receipts = c.reserve.ensures.receipts k; claims = count })

@@ -17,14 +17,16 @@ use Rattle.sq_node.proofs.node.Node.step_load.Goals.{In-Ok}
 
 -- which nodes are to be completed once the chunk is loaded
 settles : (c : In-Ok) (more : List (ℕ × ℕ)) → let note = c.in-Ok.note in let pending = c.self.inside.to_complete.items in
-    more ≡ (if note.last then pending ++ (note.seg, note.node) ∷ [] else pending) → IsNode c.load.new.self.core c.self.inside.seats.items more c.self.inside.complete.items
+    more ≡ (if note.last then pending ++ (note.seg, note.node) ∷ [] else pending) → (c.self.inside.puller.puller.part ≡ c.load.new.self.core.part) × IsNode c.load.new.self.core c.self.inside.seats.items more c.self.inside.complete.items
 settles c more more_is =
     let inside = c.self.inside in
     let core = c.args.self.now.core in
-    let core_is = ap (λ (node : NodeState). node.core) c.self.view_is in
-    after_load inside.core.core c.load.new.self.core c.in-Some.src c.in-Ok.note c.in-Ok.ensures.ok
-    (subst (λ (core : CoreValue). length core.loaded ≡ length core.recon.segments) (sym core_is) c.in-Some.ensures.each) (subst (λ (core : CoreValue). may_load core c.in-Some.src ≡ true) (sym core_is) (and_parts (stage_on core.recon c.in-Some.src core.part == core.stage) (may_load core c.in-Some.src) c.in-Some.ensures.some).1)
-    inside.seats.items inside.to_complete.items more inside.complete.items more_is c.self.invariant
+    let core_is = ap (λ (node : NodeState). node.core) c.self.view_is in (
+      c.self.invariant.0 ∙ sym (ap (λ (core : CoreValue). core.part) c.in-Ok.ensures.ok.after),
+      after_load inside.core.core c.load.new.self.core c.in-Some.src c.in-Ok.note c.in-Ok.ensures.ok
+          (subst (λ (core : CoreValue). length core.loaded ≡ length core.recon.segments) (sym core_is) c.in-Some.ensures.each) (subst (λ (core : CoreValue). may_load core c.in-Some.src ≡ true) (sym core_is) (and_parts (stage_on core.recon c.in-Some.src core.part == core.stage) (may_load core c.in-Some.src) c.in-Some.ensures.some).1)
+          inside.seats.items inside.to_complete.items more inside.complete.items more_is c.self.invariant.1,
+    )
 
 -- the node loaded the chunk
 loads : (c : In-Ok) → let inside = c.self.inside in
@@ -42,6 +44,7 @@ loads c =
         sound = subst (λ (found : Option ChunkValue). IfSome found IsChunk) load.came c.in-Some.ensures.chunk;
         after = ap (λ (node : NodeState). record node { core = new }) c.self.view_is;
       },
+      c.in-Some.ensures.first,
     )
 
 pub invariant_of-self-then-note : goal.invariant_of-self-then-note

@@ -1,4 +1,4 @@
-use Rattle.std.proofs.Common.{rules, ◌≡◌, ap, ◌∙◌, subst}
+use Rattle.std.proofs.Common.{rules, ◌≡◌, sym, ap, ◌∙◌, subst}
 use Rattle.sq_tree.specs.declared.status.Status.TheVariants.{Partial}
 use Rattle.sq_status.specs.declared.view.View.{View}
 use Rattle.sq_status.specs.Plays.{Won}
@@ -8,8 +8,9 @@ use Rattle.sq_node.specs.NodeState.{NodeState}
 use Rattle.sq_node.specs.Looks.{OnlyLooked, SeatsLooked}
 use Rattle.sq_node.specs.declared.stepped.Stepped.TheVariants.{Did, Nothing}
 use Rattle.sq_node.proofs.Told.{request_told}
-use Rattle.sq_node.proofs.Settles.{after_begun, same_loads, other_seats}
-use Rattle.sq_node.proofs.Looked.{settled_at, settled_begun, settled_looked, seats_looked_at, no_looks}
+use Rattle.sq_node.proofs.Settles.{after_begun, begun_part, same_loads, other_seats}
+use Rattle.sq_node.proofs.Known.{known_at, knows_begun, knows_looked}
+use Rattle.sq_node.proofs.Looked.{seats_looked_at, no_looks}
 use Rattle.sq_node.proofs.node.Node.step_request.Goals as goal
 
 pub invariant_of-self-then-begin : goal.invariant_of-self-then-begin
@@ -20,10 +21,13 @@ invariant_of-self-then-begin g c =
     let old = inside.seats.items in
     let new = c.begin.new.seats.items in
     let steps = λ (v w : View). Won v named.node (Partial pull) w in
-    after_begun inside.core.core c.begin.new.core.core named.seg named.node pull old new inside.to_complete.items inside.complete.items
-    (c.if-begin.ensures.1 ∙ ap (λ (core : CoreValue). begun_core core named.seg named.node pull) c.reserve_begin.ensures.same)
-    (settled_at named.seg steps old new (λ v w won n settled. settled_begun v w n named.node pull won settled) c.if-begin.ensures.0)
-    c.self.invariant
+    let begun = c.if-begin.ensures.1 ∙ ap (λ (core : CoreValue). begun_core core named.seg named.node pull) c.reserve_begin.ensures.same in (
+      c.self.invariant.0 ∙ sym (ap (λ (core : CoreValue). core.part) begun ∙ begun_part inside.core.core named.seg named.node pull),
+      after_begun inside.core.core c.begin.new.core.core named.seg named.node pull old new inside.to_complete.items inside.complete.items
+          begun
+          (known_at named.seg steps old new (λ v w won. knows_begun v w named.node pull won) c.if-begin.ensures.0)
+          c.self.invariant.1,
+    )
 
 pub invariant_of-self-3 : goal.invariant_of-self-3
 invariant_of-self-3 g c =
@@ -31,10 +35,12 @@ invariant_of-self-3 g c =
     let named = c.in-Some-named.named in
     let old = inside.seats.items in
     let new = c.begin.new.seats.items in
-    let same : c.begin.new.core.core ≡ inside.core.core = c.if-begin.ensures.1 ∙ c.reserve_begin.ensures.same in
-    other_seats c.begin.new.core.core old new inside.to_complete.items inside.complete.items
-    (settled_at named.seg OnlyLooked old new (λ v w looked n settled. settled_looked v w n looked settled) c.if-begin.ensures.0)
-    (same_loads inside.core.core c.begin.new.core.core old inside.to_complete.items inside.complete.items (ap (λ (core : CoreValue). core.recon) same) (ap (λ (core : CoreValue). core.loaded) same) c.self.invariant)
+    let same : c.begin.new.core.core ≡ inside.core.core = c.if-begin.ensures.1 ∙ c.reserve_begin.ensures.same in (
+      c.self.invariant.0 ∙ sym (ap (λ (core : CoreValue). core.part) same),
+      other_seats c.begin.new.core.core old new inside.to_complete.items inside.complete.items
+          (known_at named.seg OnlyLooked old new (λ v w looked. knows_looked v w looked) c.if-begin.ensures.0)
+          (same_loads inside.core.core c.begin.new.core.core old inside.to_complete.items inside.complete.items (ap (λ (core : CoreValue). core.recon) same) (ap (λ (core : CoreValue). core.loaded) same) c.self.invariant.1),
+    )
 
 pub returns : goal.returns
 returns g c =

@@ -1,4 +1,5 @@
 use Rattle.std.proofs.Common.{rules, ◌≡◌, [], ◌∷◌, ◌++◌, sym, ap, ◌∙◌, subst}
+use Rattle.sq_exec.specs.CoreValue.{CoreValue}
 use Rattle.sq_exec.specs.declared.outcome.Outcome.{Outcome}
 use Rattle.sq_exec.specs.declared.outcome.Outcome.TheVariants.{Done}
 use Rattle.sq_exec.specs.Serving.{IsResumed}
@@ -14,10 +15,10 @@ use Rattle.sq_node.proofs.node.Node.step_resume.Goals.{In-Ok}
 use Rattle.sq_node.proofs.node.Node.step_resume.Given.{Over}
 
 -- what the node keeps, once the partition took up a transaction
-resumed_keeps : (g : Over) (c : In-Ok g) → let inside = c.self.inside in IsNode c.resume.new.self.core inside.seats.items inside.to_complete.items inside.complete.items
+resumed_keeps : (g : Over) (c : In-Ok g) → let inside = c.self.inside in (inside.puller.puller.part ≡ c.resume.new.self.core.part) × IsNode c.resume.new.self.core inside.seats.items inside.to_complete.items inside.complete.items
 resumed_keeps g c =
     let inside = c.self.inside in
-    after_resumed inside.core.core c.resume.new.self.core c.in-Ok.resumed inside.seats.items inside.to_complete.items inside.complete.items c.in-Ok.ensures.ok c.self.invariant
+    (c.self.invariant.0 ∙ sym (ap (λ (core : CoreValue). core.part) c.in-Ok.ensures.ok.after), after_resumed inside.core.core c.resume.new.self.core c.in-Ok.resumed inside.seats.items inside.to_complete.items inside.complete.items c.in-Ok.ensures.ok c.self.invariant.1)
 
 pub invariant_of-self-in-Done : goal.invariant_of-self-in-Done
 invariant_of-self-in-Done g c = resumed_keeps g (goal.at.invariant_of-self-in-Done g c).In-Ok

@@ -7,5 +7,5 @@ use Rattle.sq_pull.proofs.pump.Pump.new.Goals as goal
 pub invariant_of-result : goal.invariant_of-result
 invariant_of-result c =
     let new : PumpValue = record { number = c.args.number; wins = c.new.result.wins; seats = c.args.seats.items; round = c.in-Ok.round.items } in
-    let same : new ≡ new_pump c.args.number c.args.seats.items = search rules in
-    subst IsPump (sym same) (IsPump-new c.args.number c.args.seats.items c.requires.number c.requires.seats)
+    let same : new ≡ new_pump c.args.recon.now c.args.stage c.args.number c.args.seats.items = search rules in
+    subst IsPump (sym same) (IsPump-new c.args.recon.now c.args.stage c.args.number c.args.seats.items c.requires.number c.requires.seats)

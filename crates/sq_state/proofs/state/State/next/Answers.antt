@@ -19,7 +19,7 @@ returns-in-Ok c =
     let count : c.self.inside.cores.len ≡ length parts = omega (arith, c.enter_all.auto.cores, c.deref_mut.ensures.len) in
     let written : take c.self.inside.cores.len (parts ++ others) ≡ parts = ap (λ n. take n (parts ++ others)) count ∙ take-append_seam parts others in
     let entered : map core_of (take c.self.inside.cores.len (parts ++ others)) ≡ map (entered_core (c.in-Ok.moving).stage) w.cores =
-    ap (map core_of) written ∙ c.enter_all.ensures ∙ ap (λ n. map (entered_core n) (map core_of c.deref_mut.result.now)) c.stage.ensures ∙ ap (λ before. map (entered_core (c.in-Ok.moving).stage) (map core_of before)) c.deref_mut.ensures.value ∙ ap (map (entered_core (c.in-Ok.moving).stage)) cores in
+    ap (map core_of) written ∙ c.enter_all.ensures ∙ ap (λ n. map (entered_core n) (map core_of c.deref_mut.result.now)) c.stage.ensures.stage ∙ ap (λ before. map (entered_core (c.in-Ok.moving).stage) (map core_of before)) c.deref_mut.ensures.value ∙ ap (map (entered_core (c.in-Ok.moving).stage)) cores in
     (λ i. (answer_of (c.go_on.ensures.answer i), c.go_on.ensures.after i))
     ∙ (λ i. (Done, record (opened i) { leader = Moving c.in-Ok.moving; cores = entered i }))
     ∙ next_went w c.requires c.in-Moving.moving (sym c.in-Moving.ensures.leader) c.in-Ok.moving c.in-Ok.ensures.answer

@@ -31,7 +31,7 @@ told c =
 made : (c : After-made) → let w = c.args.self.now in c.made.result ≡ made_answer w.old w.recon (c.in-Moving.moving).stage c.whole_segments-whole.result c.args.part
 made c =
     c.made.ensures.answer ∙ ap (λ (v : WorldValue). made_answer v.old v.recon c.stage.result c.whole_segments-whole.result c.args.part) (c.self.view_is ∙ c.take_leader.ensures.after)
-    ∙ ap (λ n. made_answer c.args.self.now.old c.args.self.now.recon n c.whole_segments-whole.result c.args.part) c.stage.ensures
+    ∙ ap (λ n. made_answer c.args.self.now.old c.args.self.now.recon n c.whole_segments-whole.result c.args.part) c.stage.ensures.stage
 
 pub returns-in-Ok-report : goal.returns-in-Ok-report
 returns-in-Ok-report c =

@@ -1,0 +1,12 @@
+use Rattle.std.proofs.Common.{◌≡◌, ℕ, ◌≤◌, [], take}
+use Rattle.sq_schema.specs.declared.root.TheConstants.{ROOT_END}
+use Rattle.sq_schema.specs.Table.{rows_in}
+use Rattle.sq_audit.specs.Rows.{rows_among}
+use Rattle.sq_audit.proofs.table.table_of.Given as goal
+
+-- the rows of the families of the stores so far are there
+abbrev pub invariant-loop-store : goal.invariant-loop-store
+invariant-loop-store l = record {
+  rows : (root : ℕ) → rows_in l.table root ≡ rows_among [] (take l.store-index l.stores) root;
+  bound : (root : ℕ) → ROOT_END ≤ root → rows_in l.table root ≡ [];
+}

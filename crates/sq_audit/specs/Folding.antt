@@ -1,0 +1,55 @@
+-- What is folded of what was gathered, once the jobs that have a receipt are found sound.
+use Rattle.std.specs.Prelude.{◌≡◌, ℕ, ◌≤◌, Bool, not, nat_lt, List, [], filter, count_by}
+use Rattle.sq_schema.specs.declared.root.TheConstants.{ROOT_END}
+use Rattle.sq_schema.specs.Table.{rows_in}
+use Rattle.sq_ranges.specs.OpeningValue.{OpeningValue}
+use Rattle.sq_node_model.specs.NodeValue.{ReceiptValue}
+use Rattle.sq_node_model.specs.Gathered.{GatheredValue}
+use Rattle.sq_node_model.specs.Placed.{IsPlaced}
+use Rattle.sq_node_model.specs.Next.{IsStageDone}
+use Rattle.sq_node_model.specs.Folded.{folded_opening, folded_gathered, IsFolded}
+use Rattle.sq_audit.specs.declared.job.Job.{Job}
+use Rattle.sq_audit.specs.declared.folded.Folded.{Folded}
+use Rattle.sq_audit.specs.declared.folded.Unfolded.{Unfolded}
+use Rattle.sq_audit.specs.declared.folded.Unfolded.TheVariants.{Unsound, Memory}
+use Rattle.sq_audit.specs.declared.folding.Ready.{Ready}
+use Rattle.sq_audit.specs.Answers.{is_of, IdsDiffer}
+use Rattle.sq_audit.specs.Counts.{Counts}
+use Rattle.sq_audit.specs.Rows.{rows_among}
+use Rattle.sq_audit.specs.Sound.{IsSound}
+use Rattle.sq_audit.specs.Defects.{IsFirst}
+
+-- the job has a receipt among these
+abbrev pub has_receipt : List ReceiptValue → Job → Bool
+has_receipt receipts job = nat_lt 0 (count_by (is_of job.txn) receipts)
+
+-- the jobs that have a receipt
+abbrev pub answered_jobs : List ReceiptValue → List Job → List Job
+answered_jobs receipts jobs = filter (has_receipt receipts) jobs
+
+-- the jobs that have none
+abbrev pub jobs_left : List ReceiptValue → List Job → List Job
+jobs_left receipts jobs = filter (λ job. not (has_receipt receipts job)) jobs
+
+-- the jobs that have a receipt are sound, the table has the rows of the families, and the counts are those of the receipts
+pub record IsReady (o : OpeningValue) (g : GatheredValue) (jobs : List Job) (ready : Ready) : Type 0 where
+  pub sound : IsSound o g (answered_jobs g.receipts jobs)
+  pub counts : Counts g.receipts ready.counts
+  pub rows : (root : ℕ) → rows_in ready.table root ≡ rows_among [] g.stores root
+  pub bound : (root : ℕ) → ROOT_END ≤ root → rows_in ready.table root ≡ []
+
+-- the jobs that have a receipt are sound; folded are the opening, which has the rows of the families that stand, and what was gathered, which is placed there with the segments of its stage complete; and the jobs without a receipt are left, whose ids differ
+pub record IsFold (o : OpeningValue) (g : GatheredValue) (jobs : List Job) (folded : Folded) : Type 0 where
+  pub sound : IsSound o g (answered_jobs g.receipts jobs)
+  pub is_folded : IsFolded o g folded.opening.table folded.gathered.stores
+  pub opening : folded.opening ≡ folded_opening o folded.opening.table
+  pub gathered : folded.gathered ≡ folded_gathered g folded.gathered.stores
+  pub left : folded.jobs.items ≡ jobs_left g.receipts jobs
+  pub differ : IdsDiffer folded.jobs.items
+  pub placed : IsPlaced folded.opening folded.gathered
+  pub done : IsStageDone folded.opening folded.gathered
+
+-- the jobs that have a receipt have this defect first; or there was no memory, and all is as it was
+abbrev pub IsUnfolded : OpeningValue → GatheredValue → List Job → Unfolded → Type 0
+IsUnfolded o g jobs (Unsound defect) = IsFirst o g (answered_jobs g.receipts jobs) defect
+IsUnfolded o g jobs (Memory back) = (back.opening ≡ o) × (back.gathered ≡ g) × (back.jobs.items ≡ jobs)

@@ -1,0 +1,19 @@
+-- The rows of the families of stores, by root key.
+use Rattle.std.specs.Prelude.{ℕ, ◌==◌, if◌then◌else◌, List, length, fold, Option, Some, None}
+use Rattle.std.specs.FinMap.{get}
+use Rattle.sq_schema.specs.Effect.{RowList, RowTable}
+use Rattle.sq_schema.specs.Family.{FamilyValue, rows_of}
+use Rattle.sq_store.specs.StoreValue.{StoreValue}
+
+-- these rows, or the family's in their place where there is one with rows
+abbrev pub rows_with : RowList → Option FamilyValue → RowList
+rows_with rows None = rows
+rows_with rows (Some family) = if length (rows_of family) == 0 then rows else rows_of family
+
+-- the rows of a root key, with the family's in their place where it is the root key's and has some
+abbrev pub rows_beside : RowTable → FamilyValue → RowTable
+rows_beside table family root = if family.root == root then rows_with (table root) (Some family) else table root
+
+-- these rows, or in their place those of the root key's family in the last of the stores that has one with rows
+abbrev pub rows_among : RowList → List StoreValue → ℕ → RowList
+rows_among rows stores root = fold (λ so_far store. rows_with so_far (get store root)) rows stores

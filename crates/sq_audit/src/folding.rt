@@ -1,0 +1,134 @@
+// Folding the logs of what was gathered into the bases of its families.
+ghost use Rattle.std.specs.Prelude.{◌≡◌, ℕ, ◌≤◌, [], map, filter, not, IfOk, IfErr};
+ghost use Rattle.sq_schema.specs.declared.root.TheConstants.{ROOT_END};
+ghost use Rattle.sq_schema.specs.Table.{rows_in};
+ghost use Rattle.sq_store.specs.StoreValue.{folded_store};
+ghost use Rattle.sq_node_model.specs.Next.{IsStageDone};
+ghost use Rattle.sq_node_model.specs.Folded.{folded_opening, folded_gathered};
+ghost use Rattle.sq_audit.specs.Answers.{IdsDiffer};
+ghost use Rattle.sq_audit.specs.Counts.{Counts, is_counted};
+ghost use Rattle.sq_audit.specs.Rows.{rows_among};
+ghost use Rattle.sq_audit.specs.Sound.{IsSound};
+ghost use Rattle.sq_audit.specs.Defects.{IsFirst};
+ghost use Rattle.sq_audit.specs.Folding.{answered_jobs, IsReady, IsFold, IsUnfolded};
+
+use crate::answered::{copy_answered, count, leave_unanswered};
+use crate::folded::{Folded, Unchanged, Unfolded};
+use crate::job::Job;
+use crate::passes::audit;
+use crate::table::table_of;
+use crate::verdict::{Defect, Verdict};
+use sq_gather::Gathered;
+use sq_ranges::Opening;
+use sq_schema::Table;
+use sq_store::{FamilyStore, SlabStore};
+use std::alloc::{AllocError, Global};
+use std::collections::BTreeMap;
+
+/// Folds what was gathered of a stage whose segments are complete: audits the jobs that have a receipt, whose ids differ
+/// as those of all jobs do, and where they are sound gives the families anew from their rows, the opening with these
+/// rows, no receipts, and the jobs without one. Else it tells the first defect; and where there is no memory for it all
+/// comes back as it was.
+pub fn fold(
+    alloc: Global,
+    opening: Opening,
+    gathered: Gathered,
+    jobs: Vec<Job>,
+) -> Result<Folded, Unfolded>
+    requires done { IsStageDone opening gathered }
+    requires ids { IdsDiffer jobs.items }
+    ensures folded { IfOk result (IsFold opening gathered jobs.items) }
+    ensures unfolded { IfErr result (IsUnfolded opening gathered jobs.items) }
+{
+    // For the proof alone: it tells that the opening is set up.
+    let _ = opening.recon();
+    match prepare(alloc, &opening, &gathered, &jobs) {
+        Ok(Ok(ready)) => Ok(finish(alloc, opening, gathered, jobs, ready)),
+        Ok(Err(defect)) => Err(Unfolded::Unsound(defect)),
+        Err(_) => Err(Unfolded::Memory(Unchanged {
+            opening,
+            gathered,
+            jobs,
+        })),
+    }
+}
+
+// What a fold needs: how many receipts there are of each job, and the table of the rows of all families.
+#[derive(Drop)]
+struct Ready {
+    counts: BTreeMap<(u64, u64), u64>,
+    table: Table,
+}
+
+// What a fold needs, where the jobs that have a receipt are sound, or else their first defect.
+fn prepare(
+    alloc: Global,
+    opening: &Opening,
+    g: &Gathered,
+    jobs: &[Job],
+) -> Result<Result<Ready, Defect>, AllocError>
+    requires { IdsDiffer jobs.now }
+    ensures ready { IfOk result (λ judged. IfOk judged (IsReady opening.now g.now jobs.now)) }
+    ensures unsound { IfOk result (λ judged. IfErr judged (IsFirst opening.now g.now (answered_jobs g.now.receipts jobs.now))) }
+{
+    let counts = count(alloc, &g.receipts)?;
+    let answered = copy_answered(alloc, &counts, jobs)?;
+    if let Verdict::Unsound(defect) = audit(opening, g, &answered)? {
+        return Ok(Err(defect));
+    }
+    let table = table_of(alloc, &g.stores)?;
+    Ok(Ok(Ready { counts, table }))
+}
+
+// The opening with the table, what was gathered with its logs folded and without receipts, and the jobs left.
+fn finish(
+    alloc: Global,
+    opening: Opening,
+    gathered: Gathered,
+    mut jobs: Vec<Job>,
+    ready: Ready,
+) -> Folded
+    requires { (root : ℕ) → ROOT_END ≤ root → rows_in ready.table root ≡ [] }
+    ensures opening { result.opening ≡ folded_opening opening ready.table }
+    ensures gathered { result.gathered ≡ folded_gathered gathered (map folded_store gathered.stores) }
+    ensures jobs { result.jobs.items ≡ filter (λ job. not (is_counted ready.counts job)) jobs.items }
+{
+    leave_unanswered(&ready.counts, &mut jobs);
+    Folded {
+        opening: opening.with_table(ready.table),
+        gathered: with_logs_folded(alloc, gathered),
+        jobs,
+    }
+}
+
+// What was gathered, with its logs folded and without receipts.
+fn with_logs_folded(alloc: Global, gathered: Gathered) -> Gathered
+    ensures { result ≡ folded_gathered gathered (map folded_store gathered.stores) }
+{
+    let Gathered {
+        stage,
+        mut stores,
+        links,
+        words,
+        left,
+        ..
+    } = gathered;
+    fold_stores(&mut stores);
+    Gathered {
+        stage,
+        stores,
+        links,
+        words,
+        receipts: Vec::new(alloc),
+        left,
+    }
+}
+
+// Folds the logs of the families of each store.
+fn fold_stores(stores: &mut [SlabStore])
+    ensures { stores.new ≡ map folded_store stores.old }
+{
+    for store in stores.iter_mut() {
+        store.fold();
+    }
+}

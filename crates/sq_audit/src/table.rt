@@ -1,0 +1,46 @@
+// The table of the rows that families have.
+ghost use Rattle.std.specs.Prelude.{◌≡◌, ℕ, ◌≤◌, [], IfOk, OnOk};
+ghost use Rattle.std.specs.FinMap.{get};
+ghost use Rattle.sq_schema.specs.declared.root.TheConstants.{ROOT_END};
+ghost use Rattle.sq_schema.specs.Table.{rows_in};
+ghost use Rattle.sq_audit.specs.Rows.{rows_with, rows_beside, rows_among};
+
+use sq_schema::{Family, Table};
+use sq_store::{FamilyStore, SlabStore};
+use std::alloc::{AllocError, Global};
+
+/// The table of the rows that the families of these stores have.
+pub(crate) fn table_of(alloc: Global, stores: &[SlabStore]) -> Result<Table, AllocError>
+    ensures rows { IfOk result (λ table. (root : ℕ) → rows_in table root ≡ rows_among [] stores.now root) }
+    ensures bound { IfOk result (λ table. (root : ℕ) → ROOT_END ≤ root → rows_in table root ≡ []) }
+{
+    let mut table = Table::new(alloc);
+    for store in stores {
+        add_store(&mut table, store)?;
+    }
+    Ok(table)
+}
+
+// Adds the rows of the families of a store.
+fn add_store(table: &mut Table, store: &SlabStore) -> Result<(), AllocError>
+    ensures rows { OnOk result ((root : ℕ) → rows_in table.new root ≡ rows_with (rows_in table.old root) (get store.now root)) }
+    ensures bound { OnOk result ((root : ℕ) → ROOT_END ≤ root → rows_in table.new root ≡ rows_in table.old root) }
+{
+    let mut at = 0;
+    while let Some(family) = store.walk(at) {
+        add_family(table, family)?;
+        at = family.root().number() + 1;
+    }
+    Ok(())
+}
+
+// Adds the rows of a family, if it has some.
+fn add_family(table: &mut Table, family: &Family) -> Result<(), AllocError>
+    ensures { OnOk result ((root : ℕ) → rows_in table.new root ≡ rows_beside (rows_in table.old) family.now root) }
+{
+    let rows = family.rows();
+    if !rows.is_empty() {
+        table.set(family.root(), rows.clone()?)?;
+    }
+    Ok(())
+}

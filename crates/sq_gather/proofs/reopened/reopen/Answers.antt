@@ -1,0 +1,22 @@
+use Rattle.std.proofs.Common.{◌+◌, subst}
+use Rattle.sq_node_model.specs.BeganWith.{BeganWith, CanBegin}
+use Rattle.sq_node_model.specs.Gathered.{GatheredValue}
+use Rattle.sq_node.specs.FabricValue.{HasBegun}
+use Rattle.sq_node.specs.Opened.{IsResumed, AllOpenWith, AllHoldUnder}
+use Rattle.sq_gather.proofs.Opens.{unused}
+use Rattle.sq_gather.proofs.Running.{run_resumes}
+use Rattle.sq_gather.proofs.reopened.reopen.Goals as goal
+
+pub returns-in-Ok-clause-run : goal.returns-in-Ok-clause-run
+returns-in-Ok-clause-run c =
+    let o = c.args.opening.now in
+    let g = c.args.g in
+    let fabric = c.in-Ok.fabric in
+    let nodes = c.in-Ok.nodes.items in
+    let pumps = c.in-Ok.pumps.items in
+    let opening = c.recon.ensures.set_up.opening in
+    run_resumes o g c.args.pumps fabric nodes pumps opening c.requires.placed c.trees-trees.ensures.fabric
+    (c.the_next_stage_begins.ensures.can o g opening c.requires.placed c.requires.done)
+    (λ q store there. c.the_next_stage_begins.ensures.holds o g q store _ _ _ opening c.requires.placed c.requires.done there unused)
+    (subst (λ (g : GatheredValue). IsResumed o (g.stage + 1) g.stores g.receipts c.args.pumps fabric nodes pumps) c.g.view_is c.in-Ok.ensures.run)
+    (subst (λ (g : GatheredValue). (began : BeganWith) → HasBegun began fabric → CanBegin o began → AllOpenWith o began g.stores → AllHoldUnder o began nodes) c.g.view_is c.in-Ok.ensures.holds)

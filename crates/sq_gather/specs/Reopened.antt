@@ -1,0 +1,40 @@
+-- Runs, and how they go on from one stage to the next.
+use Rattle.std.specs.Prelude.{◌≡◌, ℕ, List, length, slice_get, Some}
+use Rattle.sq_ranges.specs.OpeningValue.{OpeningValue}
+use Rattle.sq_pull.specs.Seats.{AreSeatsOf, OnlyClaimed}
+use Rattle.sq_pull.specs.Pump.{PumpValue}
+use Rattle.sq_node_model.specs.BeganWith.{BeganWith, CanBegin}
+use Rattle.sq_node.specs.FabricValue.{FabricValue, HasBegun}
+use Rattle.sq_node.specs.NodeState.{NodeState, IsNodeOf}
+use Rattle.sq_node.specs.Holds.{KeepsAll}
+use Rattle.sq_node.specs.Opened.{IsFabricOf, AllHoldUnder}
+use Rattle.sq_gather.specs.Gathered.{AreAllOf}
+
+-- a run is in a stage that began so: what it shares fits the opening, the stage could begin so, these are all nodes and all pumps of the run, and what a node keeps holds of each node
+pub record IsRun (o : OpeningValue) (began : BeganWith) (fabric : FabricValue) (nodes : List NodeState) (pumps : List PumpValue) : Type 0 where
+  pub shared : IsFabricOf o fabric
+  pub begun : HasBegun began fabric
+  pub can : CanBegin o began
+  pub all : AreAllOf fabric nodes pumps
+  pub hold : AllHoldUnder o began nodes
+
+-- a node is that of the same partition and of the run still, and what a node keeps holds of it still
+pub record Stays (fabric : FabricValue) (old new : NodeState) : Type 0 where
+  pub part : new.core.part ≡ old.core.part
+  pub of : IsNodeOf fabric new
+  pub holds : KeepsAll old new
+
+-- each node that there is now was one before, and stays
+pub record AllStay (fabric : FabricValue) (old new : List NodeState) : Type 0 where
+  pub count : length new ≡ length old
+  pub each : (part : ℕ) (node : NodeState) → slice_get new part ≡ Some node → (was : NodeState) × (slice_get old part ≡ Some was) × Stays fabric was node
+
+-- a pump is of the run still, and its seats began and completed nothing more
+pub record PumpStays (fabric : FabricValue) (old new : PumpValue) : Type 0 where
+  pub of : AreSeatsOf fabric.trees new.seats
+  pub claims : OnlyClaimed old.seats new.seats
+
+-- each pump that there is now was one before, and stays
+pub record AllPumpsStay (fabric : FabricValue) (old new : List PumpValue) : Type 0 where
+  pub count : length new ≡ length old
+  pub each : (i : ℕ) (pump : PumpValue) → slice_get new i ≡ Some pump → (was : PumpValue) × (slice_get old i ≡ Some was) × PumpStays fabric was pump

@@ -1,0 +1,57 @@
+// Whether the segments of the stage that was gathered are complete.
+ghost use Rattle.std.specs.Prelude.{◌≡◌, ◌≤◌, ◌*◌, ◌^◌, ℕ};
+ghost use Rattle.std.specs.Bool.{Decides};
+ghost use Rattle.sq_tree.specs.Status.{reading_within};
+ghost use Rattle.sq_tree.specs.Reading.{is_complete_reading};
+ghost use Rattle.sq_tree.specs.Tree.{status_at, IsGrown};
+ghost use Rattle.sq_node_model.specs.Next.{is_whole_in, IsStageDone};
+ghost use Rattle.sq_gather.specs.Grown.{AreGrown};
+
+use crate::gathered::Gathered;
+use sq_ranges::{Opening, SegId};
+use sq_tree::{NODES, NodeId, Status};
+
+impl Gathered {
+    /// Whether each segment of the stage that was gathered is complete.
+    pub fn is_stage_done(&self, opening: &Opening) -> bool
+        requires { AreGrown self.now.words }
+        ensures { Decides result (IsStageDone opening.now self.now) }
+    {
+        let recon = opening.recon();
+        for place in 0..recon.segments().len() {
+            let Some(seg) = SegId::new(place as u64) else {
+                unreachable!()
+            };
+            if recon.stage_of(seg) == self.stage && !self.is_whole(seg) {
+                return false;
+            }
+        }
+        true
+    }
+
+    // Whether a segment is complete. One without statuses isn't.
+    fn is_whole(&self, seg: SegId) -> bool
+        requires { AreGrown self.now.words }
+        ensures { result ≡ is_whole_in self.now seg }
+    {
+        match self.words.get(seg.index()) {
+            Some(statuses) => reads_complete(statuses, NodeId::WHOLE),
+            None => false,
+        }
+    }
+}
+
+/// Whether a live node reads complete, looked for at any depth that reaches the leaves: it is complete, or it is split and both
+/// of its halves read so.
+pub fn reads_complete(statuses: &[Status; NODES], node: NodeId) -> bool
+    requires { IsGrown (status_at statuses.now) }
+    ensures { (depth : ℕ) → 32 ≤ node * 2 ^ depth → result ≡ is_complete_reading (reading_within depth (status_at statuses.now) node) }
+{
+    match statuses[node.index()] {
+        Status::Complete(_) => true,
+        Status::Split => {
+            reads_complete(statuses, node.low_half()) && reads_complete(statuses, node.high_half())
+        }
+        Status::Free | Status::Claimed(_) | Status::Partial(_) => false,
+    }
+}

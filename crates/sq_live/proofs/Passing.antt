@@ -1,0 +1,196 @@
+-- A run that comes from stage to stage.
+use Rattle.std.proofs.Common.{◌≡◌, inl, ℕ, ◌+◌, ◌<◌, Bool, true, false, List, [], ◌∷◌, length, refl, sym, ap, ◌∙◌, subst, arith}
+use Rattle.sq_ranges.specs.ReconValue.{ReconValue, stages}
+use Rattle.sq_ranges.specs.OpeningValue.{OpeningValue}
+use Rattle.sq_ranges.specs.Opening.{IsOpening}
+use Rattle.sq_leader.specs.LeaderValue.{StageValue}
+use Rattle.sq_leader.specs.Marks.{none_marked}
+use Rattle.sq_leader.specs.Segments.{is_whole}
+use Rattle.sq_node_model.specs.BeganWith.{BeganWith, first_began}
+use Rattle.sq_node_model.specs.Gathered.{GatheredValue}
+use Rattle.sq_node_model.specs.Placed.{IsPlaced}
+use Rattle.sq_node_model.specs.Next.{is_whole_in, IsStageDone, next_began}
+use Rattle.sq_audit.specs.declared.job.Job.{Job}
+use Rattle.sq_audit.specs.declared.verdict.Defect.{Defect}
+use Rattle.sq_live.specs.declared.continuing.Continued.TheVariants as continued
+use Rattle.sq_live.specs.declared.outcome.Outcome.{Outcome}
+use Rattle.sq_live.specs.declared.outcome.Outcome.TheVariants as outcome
+use Rattle.sq_live.specs.declared.stages.Ready.{Ready}
+use Rattle.sq_live.specs.declared.stages.After.TheVariants as after
+use Rattle.sq_live.specs.Account.{AccountValue, first_account}
+use Rattle.sq_live.specs.declared.leader.Led.TheVariants.{Next, Ended, Missing}
+use Rattle.sq_live.specs.Leading.{leading, AreComplete, HasGoneOn, HasEnded, Leads}
+use Rattle.sq_live.specs.Judged.{MarksMoved}
+use Rattle.sq_live.specs.Stages.{RanFrom, ContinuesWith, Continues, HavePassed, IsReady, ComesAfter}
+use Rattle.sq_live.specs.Live.{WereRun}
+use Rattle.sq_live.proofs.Moved.{complete_by, marked_by, gone_on_by, ended_by}
+
+-- ---- what the leader was told of marks, in the stage that was gathered
+
+-- a stage ran and left this, and the leader was told in that stage of the segments that are marked: they are the complete ones
+pub record WasTold (account : AccountValue) (moving : StageValue) (began : BeganWith) (g : GatheredValue) (moved : List Bool) : Type 0 where
+  pub is : IsOpening account.opening
+  pub ran : RanFrom account.opening began g
+  pub marks : MarksMoved g.words moved
+  pub now : moving.stage ≡ g.stage
+
+module _ (account : AccountValue) (moving : StageValue) (began : BeganWith) (g : GatheredValue) (moved : List Bool) (told : WasTold account moving began g moved) where
+  same : (seg : ℕ) → seg < length account.opening.recon.segments → is_whole moved seg ≡ is_whole_in g seg
+  same seg lt = let few = told.is.few_segments in told.marks seg (omega (arith, lt, few))
+
+  stage_done : AreComplete account.opening moving.stage (is_whole moved) → IsStageDone account.opening g
+  stage_done all = subst (λ (n : ℕ). AreComplete account.opening n (is_whole_in g)) told.now (complete_by account.opening moving.stage (is_whole moved) (is_whole_in g) same all)
+
+  gone_on : (at : StageValue) → HasGoneOn account.opening moving.stage (is_whole moved) at → HasGoneOn account.opening g.stage (is_whole_in g) at
+  gone_on at has = subst (λ (n : ℕ). HasGoneOn account.opening n (is_whole_in g) at) told.now (gone_on_by account.opening moving.stage (is_whole moved) (is_whole_in g) same at has)
+
+  ended : (at : StageValue) → HasEnded account.opening moving.stage (is_whole moved) at → HasEnded account.opening g.stage (is_whole_in g) at
+  ended at has = subst (λ (n : ℕ). HasEnded account.opening n (is_whole_in g) at) told.now (ended_by account.opening moving.stage (is_whole moved) (is_whole_in g) same at has)
+
+  -- it went on
+  module _ (next : StageValue) (led : Leads account.opening moving.stage (is_whole moved) (Next next)) where
+    pub done_before : IsStageDone account.opening g
+    done_before = stage_done led.1
+
+    pub went_on : HasGoneOn account.opening g.stage (is_whole_in g) led.2
+    went_on = gone_on led.2 led.3
+
+    pub leads_next : next ≡ leading account.opening (g.stage + 1)
+    leads_next = led.0 ∙ ap (λ (n : ℕ). leading account.opening (n + 1)) told.now
+
+  -- it ended the move
+  module _ (led : Leads account.opening moving.stage (is_whole moved) Ended) where
+    pub last_stage : g.stage + 1 ≡ stages account.opening.recon
+    last_stage = ap (λ (n : ℕ). n + 1) (sym told.now) ∙ led.0
+
+    pub done_at_last : IsStageDone account.opening g
+    done_at_last = stage_done led.1
+
+    pub has_ended : (at : StageValue) × HasEnded account.opening g.stage (is_whole_in g) at
+    has_ended = (led.2, ended led.2 led.3)
+
+  -- it did neither
+  pub not_done : Leads account.opening moving.stage (is_whole moved) Missing → IsStageDone account.opening g → ⊥
+  not_done none done = none (marked_by account.opening moving.stage (is_whole moved) (is_whole_in g) same (subst (λ (n : ℕ). AreComplete account.opening n (is_whole_in g)) (sym told.now) done))
+
+module _ (o : OpeningValue) (moving : StageValue) (stage : ℕ) (led : moving ≡ leading o stage) where
+  -- a leader leads one of the stages
+  pub one_of_the_stages : moving.stage < stages moving.recon → stage < stages o.recon
+  one_of_the_stages = subst (λ (at : StageValue). at.stage < stages at.recon) led
+
+-- ---- what a run goes on with
+
+-- it is placed, with the segments of the same stage complete, and moves the same
+pub record GoesOnWith (old : AccountValue) (g : GatheredValue) (new : AccountValue) (next : GatheredValue) : Type 0 where
+  pub placed : IsPlaced new.opening next
+  pub done : IsStageDone new.opening next
+  pub all_left : length next.left ≡ new.opening.old.parts
+  pub same_stage : next.stage ≡ g.stage
+  pub same_moves : new.opening.recon ≡ old.opening.recon
+  pub led : (moving : StageValue) → moving ≡ leading old.opening (g.stage + 1) → moving ≡ leading new.opening (next.stage + 1)
+
+module _ (old : AccountValue) (g : GatheredValue) (new : AccountValue) (next : GatheredValue) where
+  pub stays_in_stage : (folds : Bool) → ContinuesWith folds old g new next → next.stage ≡ g.stage
+  stays_in_stage true has = ap (λ (g : GatheredValue). g.stage) (has.gathered ∙ has.is.gathered)
+  stays_in_stage false same = ap (λ (g : GatheredValue). g.stage) same.1
+
+  pub moves_alike : (folds : Bool) → ContinuesWith folds old g new next → new.opening.recon ≡ old.opening.recon
+  moves_alike true has = ap (λ (o : OpeningValue). o.recon) (has.opening ∙ has.is.opening)
+  moves_alike false same = ap (λ (a : AccountValue). a.opening.recon) same.0
+
+  parts_alike : (folds : Bool) → ContinuesWith folds old g new next → new.opening.old.parts ≡ old.opening.old.parts
+  parts_alike true has = ap (λ (o : OpeningValue). o.old.parts) (has.opening ∙ has.is.opening)
+  parts_alike false same = ap (λ (a : AccountValue). a.opening.old.parts) same.0
+
+  as_many_left : (folds : Bool) → ContinuesWith folds old g new next → length next.left ≡ length g.left
+  as_many_left true has = ap (λ (g : GatheredValue). length g.left) (has.gathered ∙ has.is.gathered)
+  as_many_left false same = ap (λ (g : GatheredValue). length g.left) same.1
+
+  still_placed : (folds : Bool) → ContinuesWith folds old g new next → IsPlaced old.opening g → IsPlaced new.opening next
+  still_placed true has placed = subst (λ (p : OpeningValue × GatheredValue). IsPlaced p.0 p.1) (λ i. (sym has.opening i, sym has.gathered i)) has.is.placed
+  still_placed false same placed = subst (λ (p : AccountValue × GatheredValue). IsPlaced p.0.opening p.1) (λ i. (sym same.0 i, sym same.1 i)) placed
+
+  still_done : (folds : Bool) → ContinuesWith folds old g new next → IsStageDone old.opening g → IsStageDone new.opening next
+  still_done true has done = subst (λ (p : OpeningValue × GatheredValue). IsStageDone p.0 p.1) (λ i. (sym has.opening i, sym has.gathered i)) has.is.done
+  still_done false same done = subst (λ (p : AccountValue × GatheredValue). IsStageDone p.0.opening p.1) (λ i. (sym same.0 i, sym same.1 i)) done
+
+  pub goes_on_with : (folds : Bool) → ContinuesWith folds old g new next → IsPlaced old.opening g → IsStageDone old.opening g → length g.left ≡ old.opening.old.parts → GoesOnWith old g new next
+  goes_on_with folds continues placed done left = record {
+    placed = still_placed folds continues placed;
+    done = still_done folds continues done;
+    all_left = as_many_left folds continues ∙ left ∙ sym (parts_alike folds continues);
+    same_stage = stays_in_stage folds continues;
+    same_moves = moves_alike folds continues;
+    led = λ moving led. led ∙ leads_alike (g.stage + 1) ∙ ap (λ (n : ℕ). leading new.opening (n + 1)) (sym (stays_in_stage folds continues));
+  }
+    where
+      leads_alike : (n : ℕ) → leading old.opening n ≡ leading new.opening n
+      leads_alike n = λ i. record { reported = none_marked (sym (parts_alike folds continues) i); stage = n; recon = sym (moves_alike folds continues) i }
+
+-- ---- what comes after a stage
+
+module _ (folds : Bool) (old : AccountValue) (began : BeganWith) (g : GatheredValue) (ran : RanFrom old.opening began g) (at : StageValue) (led : HasGoneOn old.opening g.stage (is_whole_in g) at) where
+  pub next_comes : IsStageDone old.opening g → (new : AccountValue) (next : GatheredValue) → ContinuesWith folds old g new next → (ready : Ready) → ready.account ≡ new → IsReady (next_began new.opening next) ready
+      → ComesAfter folds old began (after.Next ready)
+  next_comes done new next continues ready same is = (
+    g,
+    next_began new.opening next,
+    record {
+      ran = ran;
+      done = done;
+      leader = at;
+      led = led;
+      next = next;
+      continues = subst (λ (a : AccountValue). ContinuesWith folds old g a next) (sym same) continues;
+      later_is = ap (λ (a : AccountValue). next_began a.opening next) (sym same);
+    },
+    is,
+  )
+
+  -- or the fold between the stages found a defect
+  pub unsound_comes : (defect : Defect) → Continues folds old g (continued.Unsound defect) → ComesAfter folds old began (after.Ended (outcome.Unsound defect))
+  unsound_comes defect found = (g, ran, inl (found.0, at, led, found.1))
+
+-- ---- stage by stage
+
+-- stages passed, and the one of this number is ready
+pub record IsAt (folds : Bool) (o : OpeningValue) (jobs : List Job) (stage : ℕ) (ready : Ready) : Type 0 where
+  pub earlier : List GatheredValue
+  pub began : BeganWith
+  pub passed : HavePassed folds o jobs earlier ready.account began
+  pub is_ready : IsReady began ready
+  pub stage_is : began.stage ≡ stage
+  pub moves : ready.account.opening.recon ≡ o.recon
+
+module _ (folds : Bool) (o : OpeningValue) (jobs : List Job) where
+  pub at_first : (ready : Ready) → ready.account ≡ first_account o jobs → IsReady (first_began o) ready → IsAt folds o jobs 0 ready
+  at_first ready account is = record {
+    earlier = [];
+    began = first_began o;
+    passed = (account, refl);
+    is_ready = is;
+    stage_is = refl;
+    moves = ap (λ (a : AccountValue). a.opening.recon) account;
+  }
+
+  module _ (stage : ℕ) (ready : Ready) (at : IsAt folds o jobs stage ready) where
+    pub at_next : (next : Ready) → ComesAfter folds ready.account at.began (after.Next next) → IsAt folds o jobs (stage + 1) next
+    at_next next comes =
+        let (g, later, passed, is) = comes in
+        let gone = stays_in_stage ready.account g next.account passed.next folds passed.continues in
+        record {
+          earlier = g ∷ at.earlier;
+          began = later;
+          passed = (ready.account, at.began, at.passed, passed);
+          is_ready = is;
+          stage_is = ap (λ (b : BeganWith). b.stage) passed.later_is ∙ ap (λ n. n + 1) (gone ∙ passed.ran.stage ∙ at.stage_is);
+          moves = moves_alike ready.account g next.account passed.next folds passed.continues ∙ at.moves;
+        }
+
+    pub were_run : (ending : Outcome) → ComesAfter folds ready.account at.began (after.Ended ending) → WereRun folds o jobs ending
+    were_run ending comes = record { earlier = at.earlier; account = ready.account; began = at.began; passed = at.passed; gathered = comes.0; ran = comes.1; came = comes.2 }
+
+    -- there is such a stage
+    pub is_a_stage : ready.moving.stage < stages ready.moving.recon → stage < stages o.recon
+    is_a_stage within =
+        subst (λ (p : ℕ × ReconValue). p.0 < stages p.1) (λ i. (at.stage_is i, at.moves i)) (one_of_the_stages ready.account.opening ready.moving at.began.stage at.is_ready.led within)

@@ -1,5 +1,0 @@
-use Rattle.std.proofs.Common.{◌-◌}
-use Rattle.sq_live.proofs.judging.+reads_complete.Given as goal
-
-abbrev pub decreases-reads_complete : goal.decreases-reads_complete
-decreases-reads_complete l = 64 - l.node

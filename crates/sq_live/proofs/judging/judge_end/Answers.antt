@@ -1,0 +1,57 @@
+use Rattle.std.proofs.Common.{◌≡◌, ◌≤◌, ◌+◌, ◌<◌, ◌^◌, inr, List, length, ap, ◌∙◌, subst, arith}
+use Rattle.std.specs.Prelude.{sum_by}
+use Rattle.std.specs.FinMap.{len}
+use Rattle.sq_ranges.specs.Opening.{IsOpening}
+use Rattle.sq_ranges.specs.OpeningValue.{OpeningValue}
+use Rattle.sq_store.specs.StoreValue.{StoreValue}
+use Rattle.sq_node_model.specs.Gathered.{GatheredValue}
+use Rattle.sq_audit.specs.declared.job.Job.{Job}
+use Rattle.sq_audit.specs.declared.verdict.Verdict.TheVariants.{Sound, Unsound}
+use Rattle.sq_audit.specs.Defects.{IsVerdict}
+use Rattle.sq_live.specs.Account.{AccountValue}
+use Rattle.sq_live.specs.Outcome.{IsDone, answered_count, commit_count}
+use Rattle.sq_live.proofs.Moved.{all_moved}
+use Rattle.sq_live.proofs.judging.judge_end.Goals as goal
+use Rattle.sq_live.proofs.judging.judge_end.Goals.{In_ok-audit}
+
+is_done : (c : In_ok-audit) → IsDone c.args.account.now c.args.g.now
+is_done c =
+    let account = c.args.account.now in
+    let g = c.args.g.now in
+    let o = account.opening in
+    let is : IsOpening o = subst (λ (a : AccountValue). IsOpening a.opening) c.account.view_is c.recon-recon.ensures.set_up.opening in
+    let receipts = c.deref.ensures.value ∙ ap (λ (g : GatheredValue). g.receipts) c.g.view_is in
+    let jobs = c.deref-2.ensures.value ∙ ap (λ (a : AccountValue). a.jobs) c.account.view_is in
+    let counted = c.in_ok-answered.ensures.answered ∙ (λ i. answered_count (receipts i) (jobs i)) in
+    let most : c.in_ok-answered.answered ≤ length account.jobs = subst (λ (list : List Job). c.in_ok-answered.answered ≤ length list) jobs c.in_ok-answered.ensures.most in
+    let len_is : c.len.result ≡ length c.account.inside.jobs.items = omega (arith, c.len.ensures) in
+    let all = len_is ∙ ap (λ (a : AccountValue). length a.jobs) c.account.view_is in
+    record {
+      answered = omega (arith, counted, most, all, c.if-answered-len.false);
+      moved = all_moved o g is c.requires.last c.requires.done;
+      leader = c.requires.ended.0;
+      ended = c.requires.ended.1;
+    }
+
+pub returns-in-Sound : goal.returns-in-Sound
+returns-in-Sound c = λ folds.
+    let jobs = c.deref-3.ensures.value ∙ ap (λ (a : AccountValue). a.jobs) c.account.view_is in
+    let stores = c.deref-in-Sound.ensures.value ∙ ap (λ (g : GatheredValue). g.stores) c.g.view_is in
+    let commits = c.count_commits.ensures.commits ∙ ap commit_count (c.deref-in-Sound-2.ensures.value ∙ ap (λ (g : GatheredValue). g.receipts) c.g.view_is) in
+    record {
+      is_done = is_done (goal.at.returns-in-Sound c).In_ok-audit;
+      sound = subst (λ (p : OpeningValue × List Job). IsVerdict p.0 c.args.g.now p.1 Sound) (λ i. ((c.account.view_is i).opening, jobs i))
+          (subst (IsVerdict c.account.inside.opening c.args.g.now c.deref-3.result.now) c.in-Sound.is c.in_ok-audit.ensures);
+      families_are =
+          subst (λ (ss : List StoreValue). sum_by (λ store. len store) ss < 2 ^ 64 → c.count_families.result ≡ sum_by (λ store. len store) ss) stores c.count_families.ensures;
+      committed_are = λ i. (c.account.view_is i).committed + commits i;
+    }
+
+pub returns-in-Unsound : goal.returns-in-Unsound
+returns-in-Unsound c = λ folds.
+    let jobs = c.deref-3.ensures.value ∙ ap (λ (a : AccountValue). a.jobs) c.account.view_is in
+    inr (
+      is_done (goal.at.returns-in-Unsound c).In_ok-audit,
+      subst (λ (p : OpeningValue × List Job). IsVerdict p.0 c.args.g.now p.1 (Unsound c.in-Unsound.defect)) (λ i. ((c.account.view_is i).opening, jobs i))
+          (subst (IsVerdict c.account.inside.opening c.args.g.now c.deref-3.result.now) c.in-Unsound.is c.in_ok-audit.ensures),
+    )

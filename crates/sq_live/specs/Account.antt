@@ -1,0 +1,23 @@
+-- What is counted over the stages of a live run.
+use Rattle.std.specs.Prelude.{ℕ, ◌+◌, ◌≤◌, List, length}
+use Rattle.sq_ranges.specs.OpeningValue.{OpeningValue}
+use Rattle.sq_audit.specs.declared.job.Job.{Job}
+use Rattle.sq_audit.specs.Answers.{IdsDiffer}
+use Rattle.sq_live.specs.declared.job_list.TheConstants.{MAX_JOBS}
+
+-- the opening and the jobs that the next audit goes by, and of the logs that were folded: how many jobs were answered, and how many receipts were of commits
+pub record AccountValue : Type 0 where
+  pub opening : OpeningValue
+  pub jobs : List Job
+  pub answered : ℕ
+  pub committed : ℕ
+
+-- before the first stage nothing is folded
+abbrev pub first_account : OpeningValue → List Job → AccountValue
+first_account o jobs = record { opening = o; jobs = jobs; answered = 0; committed = 0 }
+
+-- no two jobs have the same id, there are not too many with those that were answered, and no more commits than those
+pub record IsAccount (account : AccountValue) : Type 0 where
+  pub differ : IdsDiffer account.jobs
+  pub few : account.answered + length account.jobs ≤ MAX_JOBS
+  pub commits : account.committed ≤ account.answered

@@ -1,0 +1,78 @@
+-- From one stage of a live run to the next.
+use Rattle.std.specs.Prelude.{◌≡◌, ◌+◌, ◌++◌, Bool, true, false, List, [], ◌∷◌, length}
+use Rattle.sq_ranges.specs.OpeningValue.{OpeningValue}
+use Rattle.sq_leader.specs.LeaderValue.{StageValue}
+use Rattle.sq_node_model.specs.NodeValue.{ReceiptValue}
+use Rattle.sq_node_model.specs.BeganWith.{BeganWith, first_began}
+use Rattle.sq_node_model.specs.Gathered.{GatheredValue}
+use Rattle.sq_node_model.specs.Placed.{IsPlaced, GoOn}
+use Rattle.sq_node_model.specs.Next.{is_whole_in, IsStageDone, next_began}
+use Rattle.sq_gather.specs.Reopened.{IsRun}
+use Rattle.sq_audit.specs.declared.job.Job.{Job}
+use Rattle.sq_audit.specs.declared.folded.Folded.{Folded}
+use Rattle.sq_audit.specs.Defects.{IsFirst}
+use Rattle.sq_audit.specs.Folding.{IsFold, answered_jobs}
+use Rattle.sq_live.specs.declared.continuing.Continued.{Continued}
+use Rattle.sq_live.specs.declared.continuing.Continued.TheVariants as continued
+use Rattle.sq_live.specs.declared.stages.Ready.{Ready}
+use Rattle.sq_live.specs.declared.stages.After.{After}
+use Rattle.sq_live.specs.declared.stages.After.TheVariants as after
+use Rattle.sq_live.specs.Account.{AccountValue, first_account}
+use Rattle.sq_live.specs.Leading.{leading, HasGoneOn}
+use Rattle.sq_live.specs.Outcome.{commit_count, CameTo}
+
+-- a stage that began so ran, and left this: it is placed, each family goes on from the one that its root key was given, and the receipts so far stand before those of the stage
+pub record RanFrom (o : OpeningValue) (began : BeganWith) (g : GatheredValue) : Type 0 where
+  pub stage : g.stage ≡ began.stage
+  pub placed : IsPlaced o g
+  pub goes_on : GoOn began g
+  pub written : List ReceiptValue
+  pub receipts : g.receipts ≡ began.receipts ++ written
+  pub all_left : length g.left ≡ o.old.parts
+
+-- the jobs with receipts were audited and the logs are folded: both are counted, and what is gone on with is what the fold gave
+pub record HasFolded (old : AccountValue) (g : GatheredValue) (new : AccountValue) (next : GatheredValue) : Type 0 where
+  pub folded : Folded
+  pub is : IsFold old.opening g old.jobs folded
+  pub opening : new.opening ≡ folded.opening
+  pub jobs : new.jobs ≡ folded.jobs.items
+  pub answered : new.answered ≡ old.answered + length (answered_jobs g.receipts old.jobs)
+  pub committed : new.committed ≡ old.committed + commit_count g.receipts
+  pub gathered : next ≡ folded.gathered
+
+-- what a run goes on with after a stage: what the fold gives, or where logs aren't folded all as it is
+abbrev pub ContinuesWith : Bool → AccountValue → GatheredValue → AccountValue → GatheredValue → Type 0
+ContinuesWith true old g new next = HasFolded old g new next
+ContinuesWith false old g new next = (new ≡ old) × (next ≡ g)
+
+-- a run goes on so, or the fold's audit found a defect
+abbrev pub Continues : Bool → AccountValue → GatheredValue → Continued → Type 0
+Continues folds old g (continued.With account gathered) = ContinuesWith folds old g account gathered
+Continues folds old g (continued.Unsound defect) = (folds ≡ true) × IsFirst old.opening g (answered_jobs g.receipts old.jobs) defect
+
+-- a stage that began so left this, with all of its segments complete, the leader went on, and the next stage began with what the run goes on with
+pub record HasPassed (folds : Bool) (old : AccountValue) (began : BeganWith) (g : GatheredValue) (new : AccountValue) (later : BeganWith) : Type 0 where
+  pub ran : RanFrom old.opening began g
+  pub done : IsStageDone old.opening g
+  pub leader : StageValue
+  pub led : HasGoneOn old.opening g.stage (is_whole_in g) leader
+  pub next : GatheredValue
+  pub continues : ContinuesWith folds old g new next
+  pub later_is : later ≡ next_began new.opening next
+
+-- the stages that left these passed, the last of them first, and then a stage began so
+abbrev pub HavePassed : Bool → OpeningValue → List Job → List GatheredValue → AccountValue → BeganWith → Type 0
+HavePassed folds o jobs [] account began = (account ≡ first_account o jobs) × (began ≡ first_began o)
+HavePassed folds o jobs (g ∷ earlier) account began =
+    (old : AccountValue) × (before : BeganWith) × HavePassed folds o jobs earlier old before × HasPassed folds old before g account began
+
+-- a stage that began so is ready to run, and the leader leads it
+pub record IsReady (began : BeganWith) (ready : Ready) : Type 0 where
+  pub run : IsRun ready.account.opening began ready.fabric ready.nodes.items ready.pumps.items
+  pub led : ready.moving ≡ leading ready.account.opening began.stage
+
+-- what comes after a stage that began so: the run ends, or the next stage is ready
+abbrev pub ComesAfter : Bool → AccountValue → BeganWith → After → Type 0
+ComesAfter folds account began (after.Ended outcome) = (g : GatheredValue) × RanFrom account.opening began g × CameTo folds account g outcome
+ComesAfter folds account began (after.Next ready) =
+    (g : GatheredValue) × (later : BeganWith) × HasPassed folds account began g ready.account later × IsReady later ready

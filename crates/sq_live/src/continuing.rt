@@ -1,0 +1,65 @@
+// What a run goes on with after a stage.
+ghost use Rattle.std.specs.Prelude.{IfOk, true};
+ghost use Rattle.sq_node_model.specs.Next.{IsStageDone};
+ghost use Rattle.sq_live.specs.Stages.{Continues};
+
+use crate::account::Account;
+use crate::judging::count_commits;
+use sq_audit::{Defect, Unfolded, fold};
+use sq_gather::Gathered;
+use std::alloc::{AllocError, Global};
+
+/// What a run goes on with after a stage.
+#[derive(Drop)]
+pub(crate) enum Continued {
+    /// With this account, and with what was gathered.
+    With(Account, Gathered),
+    /// With nothing: this is the first defect of what was gathered.
+    Unsound(Defect),
+}
+
+/// What a run goes on with after a stage whose segments are complete: with all as it is, or, if it folds logs, with what
+/// [`fold`] gives, once that is counted.
+pub(crate) fn continue_with(
+    alloc: Global,
+    folds: bool,
+    account: Account,
+    gathered: Gathered,
+) -> Result<Continued, AllocError>
+    requires { IsStageDone account.opening gathered }
+    ensures { IfOk result (Continues folds account gathered) }
+{
+    if folds {
+        fold_logs(alloc, account, gathered)
+    } else {
+        Ok(Continued::With(account, gathered))
+    }
+}
+
+// Folds the logs that were gathered, and counts the jobs that were answered and the receipts of commits.
+fn fold_logs(alloc: Global, account: Account, gathered: Gathered) -> Result<Continued, AllocError>
+    requires { IsStageDone account.opening gathered }
+    ensures { IfOk result (Continues true account gathered) }
+{
+    let Account {
+        opening,
+        jobs,
+        answered,
+        committed,
+    } = account;
+    let posted = jobs.len();
+    let commits = count_commits(&gathered.receipts);
+    match fold(alloc, opening, gathered, jobs) {
+        Ok(folded) => {
+            let account = Account {
+                opening: folded.opening,
+                answered: answered + (posted - folded.jobs.len()) as u64,
+                jobs: folded.jobs,
+                committed: committed + commits,
+            };
+            Ok(Continued::With(account, folded.gathered))
+        }
+        Err(Unfolded::Unsound(defect)) => Ok(Continued::Unsound(defect)),
+        Err(Unfolded::Memory(_)) => Err(AllocError),
+    }
+}

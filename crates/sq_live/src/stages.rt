@@ -1,0 +1,214 @@
+// The stages of a live run.
+ghost use Rattle.std.specs.Prelude.{◌≡◌, ◌≤◌, ◌+◌, length, IfOk};
+ghost use Rattle.sq_pull.specs.declared.numbers.TheConstants.{MAX_PUMPS};
+ghost use Rattle.sq_ranges.specs.OpeningValue.{OpeningValue};
+ghost use Rattle.sq_ranges.specs.Opening.{IsOpening};
+ghost use Rattle.sq_node_model.specs.BeganWith.{BeganWith, first_began};
+ghost use Rattle.sq_node_model.specs.Placed.{IsPlaced};
+ghost use Rattle.sq_node_model.specs.Next.{IsStageDone, next_began};
+ghost use Rattle.sq_gather.specs.Gathered.{AreAllOf};
+ghost use Rattle.sq_gather.specs.Reopened.{IsRun};
+ghost use Rattle.sq_live.specs.Account.{first_account};
+ghost use Rattle.sq_live.specs.Jobs.{HavePartitions};
+ghost use Rattle.sq_live.specs.Leading.{leading};
+ghost use Rattle.sq_live.specs.Stages.{RanFrom, IsReady, ComesAfter};
+ghost use Rattle.sq_live.specs.Live.{WereRun};
+
+use crate::account::Account;
+use crate::continuing::{Continued, continue_with};
+use crate::judging::{judge_end, judge_stopped, moved_segments};
+use crate::leader::{Led, lead_on};
+use crate::outcome::Outcome;
+use sq_audit::Job;
+use sq_driver::{Gate, run_workers};
+use sq_gather::{Gathered, gather, reopen};
+use sq_leader::Moving;
+use sq_node::{Fabric, Node};
+use sq_pull::Pump;
+use std::alloc::{AllocError, Global};
+use std::sync::Wait;
+use std::thread::Threads;
+
+/// How a run is run.
+#[derive(Clone, Copy)]
+pub(crate) struct Manner {
+    /// How many turns each thread takes at most in a stage.
+    pub(crate) turns: u64,
+    /// How many pumps there are.
+    pub(crate) pumps: u32,
+    /// Whether the logs are folded between stages.
+    pub(crate) folds: bool,
+}
+
+/// A stage that is ready to run.
+#[derive(Drop)]
+pub(crate) struct Ready {
+    pub(crate) account: Account,
+    pub(crate) moving: Moving,
+    pub(crate) fabric: Fabric,
+    pub(crate) nodes: Vec<Node>,
+    pub(crate) pumps: Vec<Pump>,
+}
+
+/// What comes after a stage.
+#[derive(Drop)]
+pub(crate) enum After {
+    /// The run ends, and comes to this.
+    Ended(Outcome),
+    /// The next stage is ready.
+    Next(Ready),
+}
+
+/// Runs the jobs of an account stage by stage, from the first to the last one or to the first that stops it: each partition
+/// and each pump runs in a thread of its own, and so again in each stage. What the whole run comes to, whatever the threads
+/// did.
+pub(crate) fn run_stages<R: Threads + Wait + Sync, G: Gate>(
+    rt: &R,
+    alloc: Global,
+    account: Account,
+    moving: Moving,
+    manner: Manner,
+    gate: &G,
+) -> Result<Outcome, AllocError>
+    requires pumps { manner.pumps ≤ MAX_PUMPS }
+    requires first { account ≡ first_account account.opening account.jobs }
+    requires led { moving ≡ leading account.opening 0 }
+    requires partitions { HavePartitions account.opening.old.parts account.jobs }
+    ensures { IfOk result (WereRun manner.folds account.opening account.jobs) }
+{
+    let stages = account.opening.recon().stages();
+    let mut ready = first_ready(rt, alloc, account, moving, manner.pumps)?;
+    for _stage in 0..stages {
+        ready = match run_stage(rt, alloc, ready, manner, gate)? {
+            After::Ended(outcome) => return Ok(outcome),
+            After::Next(next) => next,
+        };
+    }
+    // For the proof alone: the leader is in one of the stages.
+    let _last = ready.moving.stage();
+    unreachable!()
+}
+
+// The first stage, ready to run, with each job posted.
+fn first_ready<R: Wait>(
+    rt: &R,
+    alloc: Global,
+    account: Account,
+    moving: Moving,
+    pumps: u32,
+) -> Result<Ready, AllocError>
+    requires pumps { pumps ≤ MAX_PUMPS }
+    requires led { moving ≡ leading account.opening 0 }
+    requires partitions { HavePartitions account.opening.old.parts account.jobs }
+    ensures account { IfOk result (λ ready. ready.account ≡ account) }
+    ensures ready { IfOk result (IsReady (first_began account.opening)) }
+{
+    let (fabric, nodes, pumps) = Fabric::open(alloc, &account.opening, pumps)?;
+    // For the proof alone: what the account has is an opening.
+    let _recon = account.opening.recon();
+    post_all(rt, &fabric, &account.jobs)?;
+    Ok(Ready {
+        account,
+        moving,
+        fabric,
+        nodes,
+        pumps,
+    })
+}
+
+// Posts each job to its partition. One that its queue doesn't take is dropped, and so not answered: but a queue has as many
+// places as there are jobs at most.
+fn post_all<R: Wait>(rt: &R, fabric: &Fabric, jobs: &[Job]) -> Result<(), AllocError>
+    requires { HavePartitions fabric.now.parts jobs.now }
+{
+    for job in jobs {
+        drop(fabric.post(rt, job.part, job.txn.clone()?));
+    }
+    Ok(())
+}
+
+// Runs a stage to its end, and makes the next one ready where the leader goes on.
+fn run_stage<R: Threads + Wait + Sync, G: Gate>(
+    rt: &R,
+    alloc: Global,
+    ready: Ready,
+    manner: Manner,
+    gate: &G,
+) -> Result<After, AllocError>
+    requires pumps { manner.pumps ≤ MAX_PUMPS }
+    requires ready { (began : BeganWith) × IsReady began ready }
+    ensures { IfOk result (λ after. (began : BeganWith) → IsReady began ready → ComesAfter manner.folds ready.account began after) }
+{
+    let Ready {
+        account,
+        moving,
+        fabric,
+        nodes,
+        pumps,
+    } = ready;
+    // For the proof alone: what the account has is an opening.
+    let _recon = account.opening.recon();
+    let gathered = drive_all(rt, alloc, fabric, nodes, pumps, manner.turns, gate)?;
+    let moved = moved_segments(&gathered.words);
+    match lead_on(moving, &account.opening, &moved) {
+        Led::Next(moving) => match continue_with(alloc, manner.folds, account, gathered)? {
+            Continued::With(account, gathered) => {
+                Ok(After::Next(next_ready(alloc, account, gathered, moving, manner.pumps)?))
+            }
+            Continued::Unsound(defect) => Ok(After::Ended(Outcome::Unsound(defect))),
+        },
+        Led::Ended => Ok(After::Ended(judge_end(alloc, &account, &gathered, &moved)?)),
+        Led::Missing => Ok(After::Ended(judge_stopped(alloc, &account, &gathered, &moved)?)),
+    }
+}
+
+// Drives each partition and each pump in a thread of its own, and gathers what they left. Whatever the threads did, it is
+// placed.
+fn drive_all<R: Threads + Wait + Sync, G: Gate>(
+    rt: &R,
+    alloc: Global,
+    fabric: Fabric,
+    mut nodes: Vec<Node>,
+    mut pumps: Vec<Pump>,
+    turns: u64,
+    gate: &G,
+) -> Result<Gathered, AllocError>
+    requires { AreAllOf fabric nodes.items pumps.items }
+    ensures { IfOk result (λ g. (o : OpeningValue) (began : BeganWith) → IsOpening o → IsRun o began fabric nodes.items pumps.items → RanFrom o began g) }
+{
+    run_workers(rt, &fabric, &mut nodes, &mut pumps, turns, gate);
+    match gather(rt, alloc, fabric, nodes, pumps) {
+        Ok(gathered) => Ok(gathered),
+        Err(_) => Err(AllocError),
+    }
+}
+
+// The stage after the one that was gathered, ready to run.
+fn next_ready(
+    alloc: Global,
+    account: Account,
+    gathered: Gathered,
+    moving: Moving,
+    pumps: u32,
+) -> Result<Ready, AllocError>
+    requires pumps { pumps ≤ MAX_PUMPS }
+    requires placed { IsPlaced account.opening gathered }
+    requires done { IsStageDone account.opening gathered }
+    requires left { length gathered.left ≡ account.opening.old.parts }
+    requires led { moving ≡ leading account.opening (gathered.stage + 1) }
+    ensures account { IfOk result (λ ready. ready.account ≡ account) }
+    ensures ready { IfOk result (IsReady (next_began account.opening gathered)) }
+{
+    // For the proof alone: the leader is in one of the stages.
+    let _stage = moving.stage();
+    match reopen(alloc, &account.opening, gathered, pumps) {
+        Ok((fabric, nodes, pumps)) => Ok(Ready {
+            account,
+            moving,
+            fabric,
+            nodes,
+            pumps,
+        }),
+        Err(_) => Err(AllocError),
+    }
+}

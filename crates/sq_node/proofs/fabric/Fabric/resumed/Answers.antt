@@ -1,0 +1,26 @@
+use Rattle.std.proofs.Common.{rules, ◌≡◌, List, ap, sym, subst, ◌∙◌, length}
+use Rattle.sq_node.specs.FabricValue.{FabricValue}
+use Rattle.sq_node.specs.NodeState.{NodeState}
+use Rattle.sq_node.specs.Opened.{IsResumed}
+use Rattle.sq_node.proofs.NewNodes.{told_run, new_nodes_hold}
+use Rattle.sq_node.proofs.fabric.Fabric.resumed.Goals as goal
+
+pub returns-in-Ok-open_run-clause-run : goal.returns-in-Ok-open_run-clause-run
+returns-in-Ok-open_run-clause-run c =
+    let o = c.args.opening.now in
+    let stores = c.args.stores.items in
+    let told = c.args.receipts.items in
+    let fabric = c.in-Ok-open_run.fabric in
+    let nodes = c.in-Ok-open_run.nodes.items in
+    let pumps = c.in-Ok-open_run.pumps.items in
+    let same : c.post_left.new.fabric ≡ record fabric { receipts = told } = c.post_left.ensures.fabric ∙ ap (λ (f : FabricValue). record f { receipts = told }) c.fabric.view_is in
+    subst (λ (f : FabricValue). IsResumed o c.args.stage stores told c.args.pumps f c.post_left.new.nodes.items pumps) (sym same)
+    (subst (λ (ns : List NodeState). IsResumed o c.args.stage stores told c.args.pumps (record fabric { receipts = told }) ns pumps) (sym c.post_left.ensures.nodes)
+    (told_run o c.args.stage stores told c.args.pumps fabric nodes pumps c.in-Ok-open_run.ensures.run))
+
+pub returns-in-Ok-open_run-clause-holds : goal.returns-in-Ok-open_run-clause-holds
+returns-in-Ok-open_run-clause-holds c = λ began begun can opens.
+    let o = c.args.opening.now in
+    let stores = c.args.stores.items in
+    let count : length stores ≡ o.old.parts = search rules in
+    new_nodes_hold o began c.post_left.new.fabric stores c.post_left.new.nodes.items count begun can opens (returns-in-Ok-open_run-clause-run c).each_node

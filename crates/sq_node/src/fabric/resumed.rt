@@ -1,0 +1,90 @@
+// Going on with a run in a stage.
+ghost use Rattle.std.specs.Prelude.{◌≡◌, ◌↔◌, ◌<◌, ◌≤◌, length, IfOk, IfErr, OnOk, IsTrue};
+ghost use Rattle.sq_ranges.specs.ReconValue.{stages};
+ghost use Rattle.sq_pull.specs.declared.numbers.TheConstants.{MAX_PUMPS};
+ghost use Rattle.sq_node_model.specs.BeganWith.{BeganWith, CanBegin};
+ghost use Rattle.sq_node.specs.FabricValue.{HasBegun};
+ghost use Rattle.sq_node.specs.Opened.{IsResumed, AllOpenWith, AllHoldUnder};
+
+use super::Fabric;
+use super::left::{open_rooms, post_left};
+use super::open::open_run;
+use crate::node::Node;
+use crate::receipt::Receipt;
+use sq_pull::Pump;
+use sq_ranges::Opening;
+use sq_schema::Txn;
+use sq_store::SlabStore;
+use std::alloc::Global;
+
+/// What was handed in for a stage that doesn't begin.
+#[derive(Debug, Drop)]
+pub struct Unresumed {
+    /// The families of each partition.
+    pub stores: Vec<SlabStore>,
+    /// For each partition the jobs that were left at it.
+    pub left: Vec<Vec<Txn>>,
+    /// The receipts of earlier stages.
+    pub receipts: Vec<Receipt>,
+}
+
+impl Fabric {
+    /// What a stage of a run shares, the nodes of partitions that have these families, and this many pumps. The move has
+    /// started. The jobs that were left count as posted, and not as answered: they are in the queue of their partition in
+    /// their order, and those for which it has no place are its node's to post.
+    ///
+    /// Everything comes back where the families or the jobs aren't those of as many partitions as there are, where there
+    /// is no such stage, and where there is no memory.
+    pub fn resumed(
+        alloc: Global,
+        opening: &Opening,
+        stage: u64,
+        stores: Vec<SlabStore>,
+        left: Vec<Vec<Txn>>,
+        receipts: Vec<Receipt>,
+        pumps: u32,
+    ) -> Result<(Fabric, Vec<Node>, Vec<Pump>), Unresumed>
+        requires { pumps ≤ MAX_PUMPS }
+        ensures run { IfOk result (λ run. IsResumed opening.now stage stores.items receipts.items pumps run.0 run.1.items run.2.items) }
+        ensures holds { IfOk result (λ run. (began : BeganWith) → HasBegun began run.0 → CanBegin opening.now began → AllOpenWith opening.now began stores.items → AllHoldUnder opening.now began run.1.items) }
+        ensures fits { OnOk result ((length stores.items ≡ opening.now.old.parts) × (length left.items ≡ opening.now.old.parts) × (stage < stages opening.now.recon)) }
+        ensures stores { IfErr result (λ back. back.stores.items ≡ stores.items) }
+        ensures left { IfErr result (λ back. back.left.items ≡ left.items) }
+        ensures receipts { IfErr result (λ back. back.receipts.items ≡ receipts.items) }
+    {
+        if !fits(opening, stage, stores.len(), left.len()) {
+            return Err(Unresumed {
+                stores,
+                left,
+                receipts,
+            });
+        }
+        let Ok(rooms) = open_rooms(alloc, left.as_slice()) else {
+            return Err(Unresumed {
+                stores,
+                left,
+                receipts,
+            });
+        };
+        match open_run(alloc, opening, stage, stores, pumps) {
+            Ok((mut fabric, mut nodes, pumps)) => {
+                fabric.receipts = receipts;
+                post_left(&mut fabric, &mut nodes, left, rooms);
+                Ok((fabric, nodes, pumps))
+            }
+            Err(stores) => Err(Unresumed {
+                stores,
+                left,
+                receipts,
+            }),
+        }
+    }
+}
+
+// Whether an opening has this stage, and as many partitions as there are stores and lists of jobs.
+fn fits(opening: &Opening, stage: u64, stores: usize, left: usize) -> bool
+    ensures { IsTrue result ↔ (stores ≡ opening.now.old.parts) × (left ≡ opening.now.old.parts) × (stage < stages opening.now.recon) }
+{
+    let parts = usize::from(opening.old_plan().parts());
+    stores == parts && left == parts && stage < opening.recon().stages()
+}
