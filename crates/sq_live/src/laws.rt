@@ -9,6 +9,7 @@ ghost use Rattle.sq_schema.specs.declared.family.TheConstants.{MAX_LOG};
 ghost use Rattle.sq_tree.specs.declared.node.TheConstants.{NODES};
 ghost use Rattle.sq_text.specs.declared.step.TheConstants.{MAX_LINE};
 ghost use Rattle.sq_pull.specs.declared.numbers.TheConstants.{MAX_OWNERS, MAX_PUMPS, MAX_CLAIMS};
+ghost use Rattle.sq_pull.specs.Numbers.{reactive_pull};
 ghost use Rattle.sq_node.specs.declared.fabric.TheConstants.{REQUEST_PLACES, JOB_PLACES};
 ghost use Rattle.sq_live.specs.declared.job_list.TheConstants.{MAX_JOBS};
 
@@ -19,6 +20,8 @@ pub fn the_limits()
     ensures transactions { (MAX_OPS ≡ 64) × (MAX_LOG ≡ 4096) }
     ensures trees { NODES ≡ 63 }
     ensures pulls { (MAX_OWNERS ≡ 64) × (MAX_PUMPS ≡ 16) × (MAX_CLAIMS ≡ 33554432) }
+    // The last partition's first pull.
+    ensures last { reactive_pull 63 0 ≡ 127 }
     ensures queues { (JOB_PLACES ≡ 4096) × (REQUEST_PLACES ≡ 256) }
     ensures jobs { MAX_JOBS ≡ 4096 }
 {}
