@@ -14,6 +14,8 @@
 #   vec     `apply`, `take` and `give` of a `VecStore`, with all families after each; one that is refused is called once more
 #   block   the same of a `SlabStore`
 #
+# All but `run` tell first that they start, so that an output that is empty is a run that died.
+#
 # A step that answered 222 changed nothing: made once more it answers as it was to, and so do all later ones, with the same
 # dump. Of a list or a run at most one step is refused, and the rest is what the rules say of the script without it.
 set -eu
@@ -236,6 +238,7 @@ fn main(rt: HostRuntime) -> Result<(), Fail> {
         run(alloc, &mut reader, &mut writer)?;
         return Ok(());
     }
+    writeln!(writer, "starts")?;
     if call == b'v' || call == b'b' {
         let txns = transactions(alloc)?;
         writeln!(writer, "opened")?;
@@ -291,7 +294,7 @@ CALLS
 # of none.
 of_store() {
     local name answer after before= number=0
-    echo opened
+    printf '%s\n' starts opened
     while IFS='|' read -r name answer after; do
         number=$((number + 1))
         if [ "$number" = "$1" ]; then
@@ -310,10 +313,10 @@ wanted() {
     local out=$top/tests/runs/$2.out
     case $1 in
         steps)
-            echo opened
+            printf '%s\n' starts opened
             if [ "$3" = 0 ]; then cat "$out"; else awk -v step="$3" 'NR == step { print "refused 222" } { print }' "$out"; fi
             ;;
-        list) echo opened; if [ "$3" = 0 ]; then cat "$out"; else list_without "$3"; fi ;;
+        list) printf '%s\n' starts opened; if [ "$3" = 0 ]; then cat "$out"; else list_without "$3"; fi ;;
         run) if [ "$3" = 0 ]; then cat "$out"; else list_without "$3"; fi ;;
         vec | block) of_store "$3" ;;
     esac
@@ -373,9 +376,9 @@ judge() {
     case $1,$got in
         run,'fault 222') met[header]=1; passed=$((passed + 1)); return ;;
         # Refused was a growth of what reads the input, which is no part of the call.
-        steps, | list, | vec, | block,) before=$3; return ;;
+        steps,starts | list,starts | vec,starts | block,starts) before=$3; return ;;
     esac
-    if [ "$1" = list ] && [ "$(grep -n -x back <<< "$got")" = 2:back ]; then
+    if [ "$1" = list ] && [ "$(grep -n -x back <<< "$got")" = 3:back ]; then
         met[back]=1
         got=$(grep -v -x back <<< "$got")
     fi
@@ -383,7 +386,7 @@ judge() {
         vec | block) step=$(refused_call <<< "$got") ;;
         *) step=$(grep -n -m 1 -x 'refused 222' <<< "$got" | cut -d : -f 1 || true) ;;
     esac
-    case $1 in steps | list) if [ -n "$step" ]; then step=$((step - 1)); fi ;; esac
+    case $1 in steps | list) if [ -n "$step" ]; then step=$((step - 2)); fi ;; esac
     if [ "$got" != "$(wanted "$1" "$2" "${step:-0}")" ]; then
         fail "$1 of $2 with $3 spaces, not the wanted output (<) but: $(diff <(wanted "$1" "$2" "${step:-0}") - <<< "$got" | head -n 4)"
         return

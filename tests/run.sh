@@ -293,6 +293,37 @@ try_session() {
     count session "$why"
 }
 
+# One who types a header at the program is told of a line's fault before the next line: of plans that can't be, of a size, of
+# the first row and of a later one.
+try_header_session() {
+    local fault lines running
+    mkfifo "$room/typed"
+    while IFS='|' read -r fault lines; do
+        timeout 60 "$squall" "${1:-run}" < "$room/typed" > "$room/output" 2> "$room/errors" &
+        running=$!
+        exec 9> "$room/typed"
+        tr ';' '\n' <<< "$lines" >&9
+        wait "$running" || true
+        exec 9>&-
+        echo "fault $fault" > "$room/wanted"
+        count "header of ${1:-run} typed up to fault $fault" "$(difference "$room/wanted" "$room/output")"
+    done < <(
+        old='old {"version":1,"partitions":2,"ranges":[[0,4294967296,0]]}'
+        new='new {"version":1,"partitions":2,"ranges":[[0,4096,1],[4096,4294967296,0]]}'
+        echo "101|old {"
+        echo "121|$old;$old"
+        echo "111|$old;${new/2/3};config 8 64 1"
+        echo "112|$old;$new;config 0 64 1"
+        echo "114|$old;$new;config 65536 1 1"
+        echo "115|$old;$new;config 65536 64 0"
+        echo "132|$old;$new;config 65536 64 1;row 4294967296 0 0 1 -"
+        echo "121|$old;$new;config 65536 64 1;row 5 0 0 1"
+        echo "136|$old;$new;config 65536 64 1;row 5 0 0 1 -;row 6 0 0 1 61;row 5 0 0 2 -"
+        echo "137|$old;$new;config 65536 64 1;row 5 0 0 1 -;row 6 1 0 1 -"
+    )
+    rm "$room/typed"
+}
+
 # At a terminal a live run tells how far it is, once when it begins and once for each job that is answered and each segment
 # that is complete, on one line that is blank before the run's own line is written. A carriage return stands before each.
 try_terminal() {
@@ -410,6 +441,8 @@ for program in "${programs[@]}"; do
     try_streams
     try_memory
     try_session
+    try_header_session
+    try_header_session live
     try_terminal
     try_command_lines
 done

@@ -1,11 +1,11 @@
 // Readers of lines.
-ghost use Rattle.std.specs.Prelude.{◌≡◌, ◌≤◌, ◌<◌, [], ◌∷◌, length, ◌==◌, not, true, List, Some, IfOk, IfSome, IfNone};
+ghost use Rattle.std.specs.Prelude.{◌≡◌, ◌≤◌, ◌<◌, [], ◌∷◌, length, ◌==◌, not, true, List, Some, IfOk, IfErr, IfSome, IfNone};
 ghost use Rattle.sq_lines.specs.Pieces.{next_begins, next_line_number, PieceValue};
 ghost use Rattle.sq_lines.specs.Coming.{CanCome, IsUndecided, Gives, Finds, GoesOn, reads_left};
 ghost use Rattle.std.specs.List.{list_all};
 
 use crate::buffer::{MAX_UNENDED, buffer_of, move_to_front, place_of, read_behind};
-use std::alloc::{AllocError, Global};
+use std::alloc::{AllocFailed, Global};
 use std::io::Read;
 use std::marker::Model;
 
@@ -72,18 +72,20 @@ impl<R: Read> Model for LineReader<R> {
 }
 
 impl<R: Read> LineReader<R> {
-    /// The lines of what a reader gives.
-    pub fn new(alloc: Global, reader: R) -> Result<LineReader<R>, AllocError>
-    where
-        R: Drop,
+    /// The lines of what a reader gives. Where there is no memory for its buffer the reader comes back.
+    pub fn new(alloc: Global, reader: R) -> Result<LineReader<R>, AllocFailed<R>>
         ensures held { IfOk result (λ lines. lines.held ≡ []) }
         ensures open { IfOk result (λ lines. lines.reading ≡ Reading.Open) }
         ensures lines { IfOk result (λ lines. lines.lines ≡ MAX_LINES) }
         ensures known { IfOk result (λ lines. lines.known ≡ R.remaining reader) }
+        ensures reader_returned { IfErr result (λ failed. failed.value ≡ reader) }
     {
+        let Ok(buffer) = buffer_of(alloc) else {
+            return Err(AllocFailed { value: reader });
+        };
         Ok(LineReader {
             reader,
-            buffer: buffer_of(alloc)?,
+            buffer,
             piece_start: 0,
             piece_end: 0,
             start: 0,
@@ -92,6 +94,13 @@ impl<R: Read> LineReader<R> {
             reading: Reading::Open,
             lines: MAX_LINES,
         })
+    }
+
+    /// How many lines may still come.
+    pub fn lines_left(&self) -> u32
+        ensures { result ≡ self.now.lines }
+    {
+        self.lines
     }
 
     /// The number of the line that comes next, or in which the input ends; that of the first is 1.

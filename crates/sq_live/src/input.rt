@@ -85,7 +85,7 @@ fn end_input<T: Threads + Wait + Sync, R: Read, G: Watch>(
 {
     match LineReader::new(alloc, reader) {
         Ok(mut lines) => end_lines(rt, alloc, &mut lines, manner, watch),
-        Err(error) => LiveEnding::Fault(LiveFault::from(error)),
+        Err(_) => LiveEnding::Fault(LiveFault::from(AllocError)),
     }
 }
 

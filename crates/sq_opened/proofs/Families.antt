@@ -158,3 +158,13 @@ module _ (plan : PlanValue) (part : ℕ) (entry : ℕ × RowList) (table left : 
 
   pub next_left_out : (owner plan entry.0 == part) ≡ false → before ++ opened_families plan part table ≡ all
   next_left_out other = ap (λ xs. before ++ xs) (sym (ap (opened_families plan part) next ∙ left_out plan part entry table other)) ∙ so_far
+
+-- once the first of the root keys that are left is taken, one more family is there, or as many as before are still to come
+module _ (plan : PlanValue) (part : ℕ) (entry : ℕ × RowList) (table left : TableValue) (next : left ≡ entry ∷ table) where
+  pub one_more : (owner plan entry.0 == part) ≡ true → length (opened_families plan part left) ≡ length (opened_families plan part table) + 1
+  one_more owned =
+      let more : length (opened_families plan part left) ≡ length (opened_family entry ∷ opened_families plan part table) = ap length (ap (opened_families plan part) next ∙ kept plan part entry table owned) in
+      omega (arith, more)
+
+  pub as_many : (owner plan entry.0 == part) ≡ false → length (opened_families plan part left) ≡ length (opened_families plan part table)
+  as_many other = ap length (ap (opened_families plan part) next ∙ left_out plan part entry table other)

@@ -1,5 +1,5 @@
 // The partitions of an opening.
-ghost use Rattle.std.specs.Prelude.{◌≡◌, ℕ, map, IfOk, IsTrue};
+ghost use Rattle.std.specs.Prelude.{◌≡◌, ℕ, length, map, IfOk, IfErr, IsTrue};
 ghost use Rattle.std.specs.List.{range_with_len};
 ghost use Rattle.std.specs.FinMap.{empty};
 ghost use Rattle.sq_chunk.specs.ChunkValue.{are_within};
@@ -37,7 +37,9 @@ pub fn open_partition(
     ensures families { IfOk result (λ opened. HasOwned opening.now part opened.core.store) }
 {
     let families = families(alloc, opening.old_plan(), part, opening.table())?;
-    let store = store(alloc, families)?;
+    let Ok(store) = store(alloc, families) else {
+        return Err(AllocError);
+    };
     match PartCore::open(alloc, opening, part, store) {
         Ok(core) => Ok(core),
         Err(_) => Err(AllocError),
@@ -53,22 +55,33 @@ fn families(
 ) -> Result<Vec<Family>, AllocError>
     ensures { IfOk result (λ families. families.items ≡ opened_families plan.now part table.now) }
 {
-    let mut families = Vec::new(alloc);
+    let mut families = Vec::with_capacity(alloc, owned(plan, part, table))?;
     for (root, rows) in table.iter() {
         if plan.owner(*root) == part {
             let Ok(family) = Family::opened(alloc, *root, rows.clone()?) else {
                 return Err(AllocError);
             };
-            families.push(family)?;
+            families.push_reserved(family);
         }
     }
     Ok(families)
 }
 
-// A store of families whose root keys rise.
-fn store(alloc: Global, families: Vec<Family>) -> Result<SlabStore, AllocError>
+// How many root keys with rows a partition owns.
+fn owned(plan: &Plan, part: PartId, table: &Table) -> usize
+    ensures { result ≡ length (opened_families plan.now part table.now) }
+{
+    let entries = table.iter();
+    // Called for what it ensures, that their number fits.
+    let _ = entries.len();
+    entries.filter(|entry| plan.owner(*entry.0) == part).count()
+}
+
+// A store of families whose root keys rise. Where there is no memory they come back.
+fn store(alloc: Global, families: Vec<Family>) -> Result<SlabStore, Vec<Family>>
     requires { (lo : ℕ) × (hi : ℕ) × IsTrue (are_within lo hi families.items) }
-    ensures { IfOk result (λ store. store ≡ with_families empty families.items) }
+    ensures ok { IfOk result (λ store. store ≡ with_families empty families.items) }
+    ensures families_returned { IfErr result (λ back. back.items ≡ families.items) }
 {
     SlabStore::from_families(alloc, families)
 }

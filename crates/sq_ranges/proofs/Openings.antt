@@ -30,12 +30,16 @@ none-told : (at : ℕ) (fault : Option TxnFault) → option_map (Row at) fault �
 none-told at None e = refl
 none-told at (Some fault) e = absurd (none-some (Row at fault) (sym e))
 
+-- no row is from the end of the root keys on
+abbrev pub AreBelow : TableValue → Type 0
+AreBelow table = (root : ℕ) → ROOT_END ≤ root → rows_in table root ≡ []
+
 -- a table so far, with the rows that are still to be given, numbered from this on
 pub record IsSoFar (tables : ℕ) (rows : List GivenRow) (at : ℕ) (rest : List GivenRow) (table : TableValue) : Type 0 where
   pub fault : rows_fault tables no_rows 0 rows ≡ rows_fault tables (rows_in table) at rest
   pub given : given_rows no_rows rows ≡ given_rows (rows_in table) rest
   pub early : first_fault tables (rows_in table) at rest ≡ None → first_fault tables no_rows 0 rows ≡ None
-  pub below : (root : ℕ) → ROOT_END ≤ root → rows_in table root ≡ []
+  pub below : AreBelow table
 
 -- a row that isn't refused has a root key
 shape-root : (tables : ℕ) (given : GivenRow) → shape_fault tables given ≡ None → given.root < ROOT_END
@@ -44,6 +48,13 @@ shape-root tables given none = ltb-true given.root ROOT_END (from_if _ (nat_lt g
     from_if : (rest : Option TxnFault) (b : Bool) → (if not b then Some BadRoot else rest) ≡ None → b ≡ true
     from_if rest true e = refl
     from_if rest false e = absurd (none-some BadRoot (sym e))
+
+-- no row is from there on, where one more is taken
+pub row-below : (tables at : ℕ) (table now : TableValue) (given : GivenRow) → given_fault tables (rows_in table) at given ≡ None → ((root : ℕ) → rows_in now root ≡ with_one (rows_in table) given root) → AreBelow table → AreBelow now
+row-below tables at table now given none taken below root high =
+    let own : given.root < ROOT_END = shape-root tables given (none-told at (shape_fault tables given) (none-both (option_map (Row at) (shape_fault tables given)) _ none).0) in
+    let apart : given.root ≢ root = omega arith in
+    taken root ∙ rw (ne_eqb given.root root apart) (below root high)
 
 module _ (tables : ℕ) (rows : List GivenRow) (i : ℕ) (table : TableValue) (so_far : IsSoFar tables rows i (drop i rows) table) where
   module _ (given : GivenRow) (within : i < length rows) (here : given ≡ slice_index_or rows i given) where
@@ -60,12 +71,11 @@ module _ (tables : ℕ) (rows : List GivenRow) (i : ℕ) (table : TableValue) (s
     pub so_far-next : (now : TableValue) → given_fault tables (rows_in table) i given ≡ None → ((root : ℕ) → rows_in now root ≡ with_one (rows_in table) given root) → IsSoFar tables rows (i + 1) (drop (i + 1) rows) now
     so_far-next now none taken =
         let same : rows_in now ≡ with_one (rows_in table) given = λ j root. taken root j in
-        let root : given.root < ROOT_END = shape-root tables given (none-told i (shape_fault tables given) (none-both (option_map (Row i) (shape_fault tables given)) _ none).0) in
         record {
           fault = next_fault ∙ ap (λ first. option_or first (rows_fault tables (with_one (rows_in table) given) (i + 1) (drop (i + 1) rows))) none ∙ ap (λ (t : RowTable). rows_fault tables t (i + 1) (drop (i + 1) rows)) (sym same);
           given = next_rows ∙ ap (λ (t : RowTable). given_rows t (drop (i + 1) rows)) (sym same);
           early = λ _. early_none none;
-          below = λ other high. let apart : given.root ≢ other = omega arith in taken other ∙ rw (ne_eqb given.root other apart) (so_far.below other high);
+          below = row-below tables i table now given none taken so_far.below;
         }
 
 -- the rows of a root key, where the first entry is or isn't its own
@@ -79,19 +89,27 @@ not_empty [] some empty = absurd (cc)
 not_empty (entry ∷ rows) some empty = absurd (cc)
 
 -- a table without rows from the end of the root keys on has root keys below it
-pub roots-below : (table : TableValue) → ((root : ℕ) → ROOT_END ≤ root → rows_in table root ≡ []) → AllPass (λ entry. is_opening entry.1) table → AllPass (λ entry. nat_lt entry.0 ROOT_END) table
+pub roots-below : (table : TableValue) → AreBelow table → AllPass (λ entry. is_opening entry.1) table → AllPass (λ entry. nat_lt entry.0 ROOT_END) table
 roots-below [] below opening = All-nil (λ (entry : ℕ × RowList). nat_lt entry.0 ROOT_END ≡ true)
 roots-below (entry ∷ table) below opening =
     let some : is_opening entry.1 ≡ true = All-head (λ (e : ℕ × RowList). is_opening e.1 ≡ true) entry table opening in
     let own : rows_in (entry ∷ table) entry.0 ≡ entry.1 = looks entry table entry.0 ∙ ap (λ b. if b then entry.1 else rows_in table entry.0) (eq-eqb entry.0 entry.0 refl) in
     let head : entry.0 < ROOT_END = head_below entry.0 (λ high. not_empty entry.1 some (sym own ∙ below entry.0 high)) in
-    let rest : (root : ℕ) → ROOT_END ≤ root → rows_in table root ≡ [] = λ root high.
+    let rest : AreBelow table = λ root high.
     let apart : root ≢ entry.0 = omega arith in
     sym (looks entry table root ∙ ap (λ b. if b then entry.1 else rows_in table root) (ne_eqb root entry.0 apart)) ∙ below root high in
     All-cons (λ (e : ℕ × RowList). nat_lt e.0 ROOT_END ≡ true) entry table (lt-ltb entry.0 ROOT_END head) (roots-below table rest (All-tail (λ (e : ℕ × RowList). is_opening e.1 ≡ true) entry table opening))
   where
     head_below : (root : ℕ) → (ROOT_END ≤ root → ⊥) → root < ROOT_END
     head_below root low = elim (cases_lt root ROOT_END) [ inl is ↦ is | inr high ↦ absurd (low high) ]
+
+-- and a table with such root keys alone has none
+pub below-roots : (table : TableValue) → AllPass (λ entry. nat_lt entry.0 ROOT_END) table → AreBelow table
+below-roots [] all root high = refl
+below-roots (entry ∷ table) all root high =
+    let own : entry.0 < ROOT_END = ltb-true entry.0 ROOT_END (All-head (λ (e : ℕ × RowList). nat_lt e.0 ROOT_END ≡ true) entry table all) in
+    let apart : root ≢ entry.0 = omega arith in
+    looks entry table root ∙ ap (λ b. if b then entry.1 else rows_in table root) (ne_eqb root entry.0 apart) ∙ below-roots table (All-tail (λ (e : ℕ × RowList). nat_lt e.0 ROOT_END ≡ true) entry table all) root high
 
 pub so_far-end : (tables : ℕ) (rows : List GivenRow) (i : ℕ) (table : TableValue) → length rows ≤ i → IsSoFar tables rows i (drop i rows) table → is_sorted nat_cmp table ≡ true → AllPass (λ entry. is_opening entry.1) table → (rows_fault tables no_rows 0 rows ≡ None) × IsTableOf rows table
 so_far-end tables rows i table end so_far rising opening =

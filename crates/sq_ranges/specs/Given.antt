@@ -22,6 +22,12 @@ key_of given = record { table = given.table; sub = given.sub }
 abbrev pub row_of : GivenRow → RowValue
 row_of given = record { number = given.number; note = given.note.items }
 
+-- the same row, wherever its note lies in memory
+pub record IsSameRow (given other : GivenRow) : Type 0 where
+  pub root : other.root ≡ given.root
+  pub key : key_of other ≡ key_of given
+  pub row : row_of other ≡ row_of given
+
 -- a table without rows
 abbrev pub no_rows : RowTable
 no_rows root = []

@@ -1,10 +1,10 @@
 // What a world opens with.
-ghost use Rattle.std.specs.Prelude.{◌≡◌, ◌≤◌, ℕ, [], false, None, MatchResult, IfOk, IfErr};
+ghost use Rattle.std.specs.Prelude.{◌≡◌, ◌≤◌, ℕ, [], false, None, MatchResult, IfOk, IfErr, OnOk, OnErr};
 ghost use Rattle.sq_schema.specs.declared.root.TheConstants.{ROOT_END};
 ghost use Rattle.sq_schema.specs.Table.{rows_in};
 
 use crate::fault::OpeningFault;
-use crate::given::moves_and_table;
+use crate::given::{moves, moves_and_table, take};
 use crate::recon::Recon;
 use sq_plan::Plan;
 use sq_schema::{MAX_NOTE, Root, Row, RowKey, Schema, Table, TxnFault};
@@ -34,7 +34,7 @@ pub struct Config {
     pub capacity: u64,
 }
 
-/// An opening row as it is given: any numbers, of which [`Opening::new`] refuses wrong ones.
+/// An opening row as it is given: any numbers, of which an [`Opening`] refuses wrong ones.
 #[derive(Debug, Drop)]
 pub struct GivenRow {
     /// The root key.
@@ -86,6 +86,17 @@ pub struct RefusedOpening {
     pub rows: Vec<GivenRow>,
 }
 
+/// Why two plans make no opening, and the plans.
+#[derive(Debug, Drop)]
+pub struct RefusedPlans {
+    /// Why.
+    pub fault: OpeningFault,
+    /// The plan before the move, as it was given.
+    pub old: Plan,
+    /// The plan after the move, as it was given.
+    pub new: Plan,
+}
+
 impl Model for Opening {
     ghost use Rattle.sq_ranges.specs.OpeningValue.{OpeningValue, opening_of};
     ghost use Rattle.sq_ranges.specs.SetUp.{IsSetUp};
@@ -99,8 +110,8 @@ impl Model for Opening {
 
 impl Opening {
     ghost use Rattle.sq_ranges.specs.SetUp.{IsSetUp};
-    ghost use Rattle.sq_ranges.specs.Given.{IsOpeningOf};
-    ghost use Rattle.sq_ranges.specs.Refused.{opening_fault, early_fault, MayRefuse};
+    ghost use Rattle.sq_ranges.specs.Given.{IsOpeningOf, with_one, IsSameRow};
+    ghost use Rattle.sq_ranges.specs.Refused.{config_fault, given_fault, opening_fault, early_fault, MayRefuse};
 
     /// The opening of two plans with these sizes and rows. Otherwise the plans and the rows come back as they were,
     /// with the first of these faults: those of the plans and the width of a leaf, as [`Recon::fault`] has them; the
@@ -142,6 +153,58 @@ impl Opening {
                 rows,
             }),
         }
+    }
+
+    /// The opening of two plans with these sizes, and without rows. Otherwise the plans come back as they were, with the
+    /// first of these faults: those of the plans and the width of a leaf, as [`Recon::fault`] has them; the bytes of a
+    /// chunk; the chunks of a queue. That memory ran out is told in place of none of these.
+    pub fn without_rows(
+        alloc: Global,
+        schema: Schema,
+        old: Plan,
+        new: Plan,
+        config: Config,
+    ) -> Result<Opening, RefusedPlans>
+        ensures fault { MatchResult result
+            (λ _. config_fault old new config ≡ None)
+            (λ refused. MayRefuse (config_fault old new config) (config_fault old new config) refused.fault) }
+        ensures ok { IfOk result (IsOpeningOf schema old new config []) }
+        ensures set_up { IfOk result IsSetUp }
+        ensures old_returned { IfErr result (λ refused. refused.old ≡ old) }
+        ensures new_returned { IfErr result (λ refused. refused.new ≡ new) }
+    {
+        match moves(alloc, &old, &new, config) {
+            Ok(recon) => Ok(Opening {
+                parts: OpeningParts {
+                    schema,
+                    old,
+                    new,
+                    recon,
+                    config,
+                    table: Table::new(alloc),
+                },
+            }),
+            Err(fault) => Err(RefusedPlans { fault, old, new }),
+        }
+    }
+
+    /// Takes one more opening row, the one with this number. Where it has a fault it comes back, and nothing changes; the
+    /// first of these is told: the root key, the table, the sub key, the note, a row that was given before, and a row
+    /// without its root row. That memory ran out is told in place of none of these.
+    pub fn take_row(&mut self, at: usize, given: GivenRow) -> Result<(), (OpeningFault, GivenRow)>
+        ensures fault { MatchResult result
+            (λ _. given_fault self.old.tables (rows_in self.old.table) at given ≡ None)
+            (λ refused. MayRefuse (given_fault self.old.tables (rows_in self.old.table) at given) (given_fault self.old.tables (rows_in self.old.table) at given) refused.0) }
+        ensures ok { OnOk result ((root : ℕ) → rows_in self.new.table root ≡ with_one (rows_in self.old.table) given root) }
+        ensures rest { self.new ≡ record self.old { table = self.new.table } }
+        ensures err { OnErr result (self.new ≡ self.old) }
+        ensures row_returned { IfErr result (λ refused. IsSameRow given refused.1) }
+    {
+        let tables = self.parts.schema.tables();
+        take(&mut self.parts.table, tables, at, given)?;
+        // For the proof alone: a table is by rising root key, and each has some rows.
+        let _rows = self.parts.table.iter();
+        Ok(())
     }
 
     /// Which tables there are.
@@ -235,6 +298,21 @@ impl GivenRow {
         }
     }
 
+    /// What is given of this row.
+    pub(crate) fn of(root: Root, key: RowKey, row: Row) -> GivenRow
+        ensures root { result.root ≡ root }
+        ensures key { key_of result ≡ key }
+        ensures row { row_of result ≡ row }
+    {
+        GivenRow {
+            root: root.number(),
+            table: key.table,
+            sub: key.sub,
+            number: row.number(),
+            note: row.into_note(),
+        }
+    }
+
     /// Its root key. Refused for the first of these: the root key, the table that isn't one of this many, the sub
     /// key, and the note.
     pub(crate) fn root(&self, tables: u8) -> Result<Root, TxnFault>
@@ -258,7 +336,7 @@ impl GivenRow {
     }
 
     /// The row, with a copy of the note.
-    pub(crate) fn row(&self) -> Result<Row, AllocError>
+    pub(crate) fn copy_of_row(&self) -> Result<Row, AllocError>
         ensures { IfOk result (λ row. row ≡ row_of self.now) }
     {
         Ok(Row::new(self.number, self.note.clone()?))

@@ -52,6 +52,13 @@ impl Row {
     {
         &self.note
     }
+
+    /// Its note, without a copy.
+    pub fn into_note(self) -> Vec<u8>
+        ensures { result.items ≡ self.note }
+    {
+        self.note
+    }
 }
 
 impl Row {

@@ -1,6 +1,6 @@
 -- A slab that is filled with families, and the list of their root keys with their keys in the slab.
-use Rattle.std.proofs.Common.{⊎_elim, ◌≡◌, ℕ, true, false, List, [], ◌∷◌, ◌++◌, refl, sym, ap, subst, ◌∙◌, arith, append-nil}
-use Rattle.std.specs.Prelude.{◌≢◌, ◌<◌, cond, map, unwrap_or, Option, Some, None, option_map}
+use Rattle.std.proofs.Common.{⊎_elim, ◌≡◌, ℕ, true, List, [], ◌∷◌, ◌++◌, refl, sym, ap, subst, ◌∙◌, arith, append-nil}
+use Rattle.std.specs.Prelude.{◌≢◌, ◌<◌, cond, unwrap_or, Option, Some, None, option_map}
 use Rattle.std.specs.Ordering.{nat_cmp, eq_by_cmp}
 use Rattle.std.specs.FinMap.{get, insert, empty, get-empty}
 use Rattle.std.specs.Map.{update_all}
@@ -13,7 +13,7 @@ use Rattle.slab.specs.Slab.{Slab, Updates}
 use Rattle.sq_schema.specs.declared.root.TheConstants.{ROOT_END}
 use Rattle.sq_schema.specs.Family.{FamilyValue}
 use Rattle.sq_store.specs.StoreValue.{StoreValue, absent, with_families, roots_differ, has_none_of}
-use Rattle.sq_store.specs.Indexed.{family_under, indexed, IsLed, IsIndex}
+use Rattle.sq_store.specs.Indexed.{family_under, indexed, IsLed}
 use Rattle.sq_store.specs.PutIn.{IsPutIn}
 use Rattle.sq_store.proofs.Indexes.{Holds, get-indexed}
 use Rattle.sq_store.proofs.Given.{has_none_of-from_each}

@@ -1,6 +1,6 @@
 -- What a store has at each root key once its logs are folded.
 use Rattle.std.proofs.Common.{⊎_elim, ◌≡◌, ℕ, zero, suc, Bool, true, false, List, [], ◌∷◌, ◌++◌, length, take, drop, set, get_or, refl, sym, ap, ◌∙◌, arith}
-use Rattle.std.specs.Prelude.{◌==◌, ◌+◌, ◌<◌, ◌≤◌, ◌≢◌, ◌&&◌, nat_le, nat_lt, not, map, filter, if◌then◌else◌, cond, Option, Some, None}
+use Rattle.std.specs.Prelude.{◌==◌, ◌+◌, ◌<◌, ◌≤◌, ◌≢◌, nat_le, nat_lt, not, map, filter, if◌then◌else◌, cond, Option, Some, None}
 use Rattle.std.specs.Ordering.{nat_cmp, is_lt, eq_by_cmp}
 use Rattle.std.specs.Cmp.{nat_cmp_total, unsigned_tied}
 use Rattle.std.specs.FinMap.{get, entries, get-entries, get-from_entries, is_sorted}

@@ -20,6 +20,7 @@ pub mod Indexes
 pub mod Filled
 pub mod Writes
 pub mod PutsIn
+pub mod MovesIn
 pub mod Codes
 pub mod Folds
 pub mod FoldWrites

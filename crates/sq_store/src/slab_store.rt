@@ -11,6 +11,7 @@ ghost use Rattle.sq_store.specs.InOrder.{AreKeyed, HoldsByRoot};
 ghost use Rattle.sq_store.specs.Merging.{IsPopped};
 ghost use Rattle.sq_store.specs.First.{FirstIs};
 ghost use Rattle.sq_store.specs.PutIn.{IsPutIn};
+ghost use Rattle.sq_store.specs.MovedIn.{IsMovedIn};
 
 use crate::sorted::put_last;
 use crate::store::{Cut, FamilyStore};
@@ -61,13 +62,18 @@ impl SlabStore {
     }
 
     /// A store of these families. Its index is made of all their root keys at once, which leaves no room in its nodes
-    /// unused.
-    pub fn from_families(alloc: Global, mut families: Vec<Family>) -> Result<SlabStore, AllocError>
+    /// unused. Where there is no memory for it they come back in their order.
+    pub fn from_families(alloc: Global, mut families: Vec<Family>) -> Result<SlabStore, Vec<Family>>
         requires { IsTrue (roots_differ families.items) }
-        ensures { IfOk result (λ store. store ≡ with_families empty families.items) }
+        ensures ok { IfOk result (λ store. store ≡ with_families empty families.items) }
+        ensures families_returned { IfErr result (λ back. back.items ≡ families.items) }
     {
-        let mut slab = Slab::with_capacity(alloc, families.len())?;
-        let mut keys = Vec::with_capacity(alloc, families.len())?;
+        let Ok(mut slab) = Slab::with_capacity(alloc, families.len()) else {
+            return Err(families);
+        };
+        let Ok(mut keys) = Vec::with_capacity(alloc, families.len()) else {
+            return Err(families);
+        };
         while let Some(family) = families.pop() {
             let root = family.root();
             // Called for what it ensures, that the number is below `ROOT_END`.
@@ -75,12 +81,17 @@ impl SlabStore {
             let key = slab.insert_reserved(family);
             keys.push_reserved((root, key));
         }
-        let index = index_of(alloc, keys)?;
-        Ok(SlabStore {
-            alloc,
-            families: slab,
-            index,
-        })
+        match index_of(alloc, &keys) {
+            Ok(index) => Ok(SlabStore {
+                alloc,
+                families: slab,
+                index,
+            }),
+            Err(_) => {
+                move_back(&mut slab, keys, &mut families);
+                Err(families)
+            }
+        }
     }
 
     /// How many families there are.
@@ -279,10 +290,22 @@ impl SlabStore {
 }
 
 // The index of these entries.
-fn index_of(alloc: Global, keys: Vec<(Root, usize)>) -> Result<BTreeMap<Root, usize>, AllocError>
-    ensures { IfOk result (IsFromIterResult nat_cmp keys.items) }
+fn index_of(alloc: Global, keys: &[(Root, usize)]) -> Result<BTreeMap<Root, usize>, AllocError>
+    ensures { IfOk result (IsFromIterResult nat_cmp keys.now) }
 {
-    keys.into_iter().collect(alloc)
+    keys.iter().copied().collect(alloc)
+}
+
+// Moves the families of these keys out of a slab again, from the last on, and puts them after those that were left.
+// There is room for them.
+fn move_back(slab: &mut Slab<Family>, mut keys: Vec<(Root, usize)>, families: &mut Vec<Family>)
+    requires moved { (given : List FamilyValue) × IsMovedIn given families.old.items slab.old keys.items }
+    requires room { vec_len families.old + vec_len keys ≤ vec_capacity families.old }
+    ensures { (given : List FamilyValue) → IsMovedIn given families.old.items slab.old keys.items → families.new.items ≡ given }
+{
+    while let Some(entry) = keys.pop() {
+        families.push_reserved(slab.remove(entry.1));
+    }
 }
 
 impl FamilyStore for SlabStore {

@@ -1,9 +1,10 @@
 -- The lines of a header, read one after another.
-use Rattle.std.proofs.Common.{◌≡◌, ℕ, ◌<◌, ◌≤◌, true, false, List, [], ◌∷◌, ◌++◌, length, map, refl, sym, ap, ◌∙◌, subst, append_assoc, arith, ◌≢◌, Vec, Global}
-use Rattle.std.specs.Prelude.{Some, None, Result, Ok, Err, IfOk, codes, nat_lt}
+use Rattle.std.proofs.Common.{◌≡◌, ℕ, ◌<◌, ◌≤◌, true, false, List, [], ◌∷◌, ◌++◌, length, map, refl, sym, ap, ◌∙◌, subst, append_assoc, arith, ◌≢◌, inl}
+use Rattle.std.specs.Prelude.{Some, None, Result, Ok, Err, IfOk, IfErr, codes, nat_lt}
 use Rattle.std.proofs.lemmas.Bool.{le-ltb}
 use Rattle.std.proofs.lemmas.Bool.Decides.{nat_tests}
-use Rattle.std.proofs.lemmas.List.{append-nil, map-append}
+use Rattle.std.proofs.lemmas.List.{map-append}
+use Rattle.sq_ranges.specs.declared.fault.OpeningFault.{OpeningFault}
 use Rattle.sq_ranges.specs.declared.opening.Config.{Config}
 use Rattle.sq_ranges.specs.declared.opening.GivenRow.{GivenRow}
 use Rattle.sq_ranges.specs.OpeningValue.{OpeningValue}
@@ -12,7 +13,6 @@ use Rattle.sq_lines.specs.Pieces.{PieceValue, Line, Rest, Failed, Endless, TooMa
 use Rattle.sq_lines.specs.Coming.{LinesValue, CanCome, GoesOn, Leaves}
 use Rattle.sq_lines.proofs.Comings.{some_pieces}
 use Rattle.sq_text.specs.declared.step.TheConstants.{MAX_LINE}
-use Rattle.sq_text.specs.declared.header.RowLines.{RowLines}
 use Rattle.sq_text.specs.declared.header.FirstLines.{FirstLines}
 use Rattle.sq_text.specs.declared.input_fault.InputFault.{InputFault}
 use Rattle.sq_text.specs.declared.input_fault.InputFault.TheVariants as fault
@@ -20,9 +20,9 @@ use Rattle.sq_text.specs.declared.located.InputLine.{InputLine}
 use Rattle.sq_text.specs.declared.located.InputLine.TheVariants as line
 use Rattle.sq_text.specs.declared.located.LocatedFault.{LocatedFault}
 use Rattle.sq_text.specs.InputFaults.{◌>>=◌, IsRead, IsReadGivenMemory}
-use Rattle.sq_text.specs.Located.{at_line, located}
+use Rattle.sq_text.specs.Located.{at_line, located, of_opening}
 use Rattle.sq_text.specs.HeaderFields.{GivenValue, value_of}
-use Rattle.sq_text.specs.Header.{line_in, next_line, line_as, plan_of, config_of, row_of, RowsValue, row_lines, AreRows, first_lines, AreFirstLines, no_rows, header_with, Opens}
+use Rattle.sq_text.specs.Header.{line_in, next_line, line_as, plan_of, config_of, row_of, RowsValue, row_lines, first_lines, first_of, AreFirstLines, no_rows, header_with, fault_with, IsTaken, Opens, OpensFrom}
 
 -- a line that isn't too long
 pub short_line : (number : ℕ) (line : List ℕ) (others : List PieceValue) → length line ≤ MAX_LINE → next_line (Line number line ∷ others) ≡ Ok (line, others)
@@ -61,7 +61,7 @@ told view fault.ReadFailed wanted e = e
 told view fault.LineTooLong wanted e = e
 
 -- a fault that isn't want of memory is told
-is_told : {X Y : Type 0} (f : InputFault) (view : X → Y) (wanted : Result Y InputFault) → f ≢ fault.Memory → IsReadGivenMemory view (Err f) wanted → wanted ≡ Err f
+pub is_told : {X Y : Type 0} (f : InputFault) (view : X → Y) (wanted : Result Y InputFault) → f ≢ fault.Memory → IsReadGivenMemory view (Err f) wanted → wanted ≡ Err f
 is_told fault.Memory view wanted apart e = absurd (apart refl)
 is_told (fault.Plan f) view wanted apart e = e
 is_told (fault.Opening f) view wanted apart e = e
@@ -123,7 +123,7 @@ row_next (piece ∷ pieces) left value begins e =
     let same : pieces ≡ left = same_left (line_in piece) row_of pieces left value e in
     rw (begins, e, same) refl
 
-row_fails : (mid : List PieceValue) (f : InputFault) → next_begins (codes "row ") mid ≡ true → line_as row_of mid ≡ Err f → row_lines mid ≡ record { rows = []; ending = Err f }
+pub row_fails : (mid : List PieceValue) (f : InputFault) → next_begins (codes "row ") mid ≡ true → line_as row_of mid ≡ Err f → row_lines mid ≡ record { rows = []; ending = Err f }
 row_fails [] f begins e = absurd cc
 row_fails (piece ∷ pieces) f begins e = rw (begins, e) refl
 
@@ -140,25 +140,11 @@ module _ (first now mid new : LinesValue) (rows : List GivenRow) (so_far : RowsS
       let lists : map value_of more ++ (row_lines left).rows ≡ map value_of rows ++ (value_of row ∷ (row_lines left).rows) = ap (λ (l : List GivenValue). l ++ (row_lines left).rows) values ∙ append_assoc (map value_of rows) (value_of row ∷ []) (row_lines left).rows in
       (a.0, a.1, ap (λ (l : List GivenValue). record { rows = l; ending = (row_lines left).ending }) lists ∙ ap (put_before (map value_of rows)) (sym (row_next m.0 left (value_of row) (begins m.0 m.1) m.2)) ∙ a.2)
 
-  pub no_more : ((ps : List PieceValue) → CanCome mid ps → next_begins (codes "row ") ps ≡ false) → (lines : RowLines) → lines.rows.items ≡ rows → lines.ending ≡ Ok tt → Leaves first mid (λ all left. AreRows lines left (row_lines all))
-  no_more none lines same well = λ left can.
+  -- no line of a row comes next
+  pub rows_ended : ((ps : List PieceValue) → CanCome mid ps → next_begins (codes "row ") ps ≡ false) → Leaves first mid (λ all left. put_before (map value_of rows) (no_rows left) ≡ row_lines all)
+  rows_ended none = λ left can.
       let a = so_far left (on.0 left can) in
-      let whole : put_before (map value_of rows) (record { rows = []; ending = Ok left }) ≡ row_lines a.0 = ap (put_before (map value_of rows)) (sym (no_row left (none left can))) ∙ a.2 in
-      (a.0, a.1, record { rows_are = ap (map value_of) same ∙ sym (append-nil (map value_of rows)) ∙ ap (λ (r : RowsValue). r.rows) whole; ending_is = subst (λ e. IsRead (λ x. left) e (row_lines a.0).ending) (sym well) (sym (ap (λ (r : RowsValue). r.ending) whole)) })
-
-  bad_row : (f : InputFault) → ((ps : List PieceValue) → CanCome mid ps → next_begins (codes "row ") ps ≡ true) → Leaves mid new (λ all left. line_as row_of all ≡ Err f) → (lines : RowLines) → lines ≡ record { rows = lines.rows; ending = Err f } → lines.rows.items ≡ rows → Leaves first new (λ all left. AreRows lines left (row_lines all))
-  bad_row f begins reads lines is same = λ left can.
-      let m = reads left can in
-      let a = so_far m.0 (on.0 m.0 m.1) in
-      let whole : put_before (map value_of rows) (record { rows = []; ending = Err f }) ≡ row_lines a.0 = ap (put_before (map value_of rows)) (sym (row_fails m.0 f (begins m.0 m.1) m.2)) ∙ a.2 in
-      (a.0, a.1, record { rows_are = ap (map value_of) same ∙ sym (append-nil (map value_of rows)) ∙ ap (λ (r : RowsValue). r.rows) whole; ending_is = subst (λ e. IsRead (λ x. left) e (row_lines a.0).ending) (sym (ap (λ (l : RowLines). l.ending) is)) (sym (ap (λ (r : RowsValue). r.ending) whole)) })
-
-  pub rows_end : {E : Type 0} (r : Result RowLines E) (f : InputFault) (kept : Vec GivenRow Global) → kept.items ≡ rows → ((ps : List PieceValue) → CanCome mid ps → next_begins (codes "row ") ps ≡ true)
-      → Leaves mid new (λ all left. IsReadGivenMemory {X = GivenRow} {Y = GivenValue × List PieceValue} (λ row. (value_of row, left)) (Err f) (line_as row_of all))
-      → IfOk r (λ lines. lines ≡ record { rows = kept; ending = Err f }) → IfOk r (λ _. f ≢ fault.Memory) → IfOk r (λ lines. Leaves first new (λ all left. AreRows lines left (row_lines all)))
-  rows_end (Err e) f kept same begins reads is told = tt
-  rows_end (Ok lines) f kept same begins reads is apart =
-      bad_row f begins (λ left can. let m = reads left can in (m.0, m.1, is_told f (λ row. (value_of row, left)) (line_as row_of m.0) apart m.2)) lines (is ∙ ap (λ (l : RowLines). record { rows = l.rows; ending = Err f }) (sym is)) (ap (λ (l : RowLines). l.rows.items) is ∙ same)
+      (a.0, a.1, ap (put_before (map value_of rows)) (sym (no_row left (none left can))) ∙ a.2)
 
 -- ---- whole headers
 
@@ -213,14 +199,28 @@ no_memory rows_of tables old new = λ left can. let some = some_pieces old in (s
 pub no_first : (rows_of : List PieceValue → RowsValue) (tables : ℕ) (told : LocatedFault) (v0 v1 : LinesValue) → FirstRead (Err told) v0 v1 → HeaderRead rows_of tables (Err told) v0 v1
 no_first rows_of tables told v0 v1 first = λ left can. let a = first left can in (a.0, a.1, λ apart. rw (a.2 apart) refl)
 
-pub whole_header : (rows_of : List PieceValue → RowsValue) (tables : ℕ) (r : Result OpeningValue LocatedFault) (first : FirstLines) (lines : RowLines) (v0 v1 v2 : LinesValue) → FirstRead (Ok first) v0 v1 → Leaves v1 v2 (λ all left. AreRows lines left (rows_of all))
-    → ((left : List PieceValue) (rows : RowsValue) → AreRows lines left rows → Opens tables r left (Ok (record { first = first; lines = rows }))) → HeaderRead rows_of tables r v0 v2
-whole_header rows_of tables r first lines v0 v1 v2 begins rows opens = λ left can.
+-- plans and sizes that make no opening
+pub plans_refused : (rows_of : List PieceValue → RowsValue) (tables : ℕ) (told : LocatedFault) (first : FirstLines) (v0 v1 : LinesValue) → FirstRead (Ok first) v0 v1
+    → (told.fault ≢ fault.Memory → (cause : OpeningFault) × (fault_with tables first [] ≡ Some cause) × (told ≡ of_opening cause)) → HeaderRead rows_of tables (Err told) v0 v1
+plans_refused rows_of tables told first v0 v1 begins refused = λ left can.
+    let a = begins left can in
+    let whole : header_with rows_of a.0 ≡ Ok (record { first = first; lines = rows_of left }) = rw a.2 refl in
+    (a.0, a.1, subst (Opens tables (Err told) left) (sym whole) (λ apart. let r = refused apart in ([], inl (record { later = (rows_of left).rows; rows_are = refl; cause = r.0; refused = r.1; fault_is = r.2 }))))
+
+-- plans and sizes alone
+pub plans_read : (tables : ℕ) (r : Result OpeningValue LocatedFault) (first : FirstLines) (v0 v1 : LinesValue) → FirstRead (Ok first) v0 v1 → IfOk r (λ o. (first_of o ≡ first) × IsTaken tables first [] o)
+    → IfErr r (λ refused. refused.fault ≢ fault.Memory → (cause : OpeningFault) × (fault_with tables first [] ≡ Some cause) × (refused ≡ of_opening cause)) → HeaderRead no_rows tables r v0 v1
+plans_read tables (Err told) first v0 v1 begins taken refused = plans_refused no_rows tables told first v0 v1 begins refused
+plans_read tables (Ok o) first v0 v1 begins taken refused = λ left can.
+    let a = begins left can in
+    let whole : header_with no_rows a.0 ≡ Ok (record { first = first; lines = no_rows left }) = rw a.2 refl in
+    (a.0, a.1, subst (Opens tables (Ok o) left) (sym whole) ([], record { rows_are = refl; fit = taken.1.fit; ending_is = refl }, taken.1.is))
+
+-- the whole header, whose rows are taken on top of the opening without rows
+pub whole_header : (tables : ℕ) (r : Result OpeningValue LocatedFault) (o : OpeningValue) (first : FirstLines) (v0 v1 v2 : LinesValue) → FirstRead (Ok first) v0 v1 → first_of o ≡ first
+    → Leaves v1 v2 (λ all left. OpensFrom tables o r left (row_lines all)) → HeaderRead row_lines tables r v0 v2
+whole_header tables r o first v0 v1 v2 begins same rows = λ left can.
     let e = rows left can in
     let a = begins e.0 e.1 in
-    let whole : header_with rows_of a.0 ≡ Ok (record { first = first; lines = rows_of e.0 }) = rw a.2 refl in
-    (a.0, a.1, subst (Opens tables r left) (sym whole) (opens left (rows_of e.0) e.2))
-
--- no rows, of which nothing is read
-pub none_of_rows : (lines : RowLines) (v : LinesValue) → lines.rows.items ≡ [] → lines.ending ≡ Ok tt → Leaves v v (λ all left. AreRows lines left (no_rows all))
-none_of_rows lines v none ends = λ left can. (left, can, record { rows_are = ap (map value_of) none; ending_is = subst (λ e. IsRead (λ x. left) e (no_rows left).ending) (sym ends) refl })
+    let whole : header_with row_lines a.0 ≡ Ok (record { first = first; lines = row_lines e.0 }) = rw a.2 refl in
+    (a.0, a.1, subst (Opens tables r left) (ap (λ (f : FirstLines). Ok (record { first = f; lines = row_lines e.0 })) same ∙ sym whole) e.2)

@@ -6,5 +6,6 @@ pub mod Shrinks
 pub mod OpRun
 pub mod Appending
 pub mod HeaderRun
+pub mod Taking
 pub mod Moves
 mod VerbWords

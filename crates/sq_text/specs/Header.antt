@@ -1,5 +1,5 @@
 -- The header of an input: two plans, the sizes, and the opening rows.
-use Rattle.std.specs.Prelude.{◌≡◌, ◌≢◌, ℕ, nat_eq, nat_lt, if◌then◌else◌, List, [], ◌∷◌, length, map, drop, Option, Some, None, Result, Ok, Err, codes, ok_or}
+use Rattle.std.specs.Prelude.{◌≡◌, ◌≢◌, ◌⊎◌, ℕ, nat_eq, nat_lt, if◌then◌else◌, List, [], ◌∷◌, ◌++◌, length, map, drop, Option, Some, None, Result, Ok, Err, codes, ok_or}
 use Rattle.std.specs.List.{starts_with}
 use Rattle.sq_plan.specs.declared.fault.PlanFault.{PlanFault}
 use Rattle.sq_plan.specs.PlanValue.{PlanValue}
@@ -10,7 +10,6 @@ use Rattle.sq_ranges.specs.declared.opening.GivenRow.{GivenRow}
 use Rattle.sq_ranges.specs.OpeningValue.{OpeningValue}
 use Rattle.sq_ranges.specs.Given.{IsOpeningOf}
 use Rattle.sq_ranges.specs.Refused.{opening_fault}
-use Rattle.sq_text.specs.declared.header.RowLines.{RowLines}
 use Rattle.sq_text.specs.declared.header.FirstLines.{FirstLines}
 use Rattle.sq_text.specs.declared.step.TheConstants.{MAX_LINE}
 use Rattle.sq_text.specs.declared.input_fault.InputFault.{InputFault}
@@ -19,7 +18,7 @@ use Rattle.sq_text.specs.declared.located.InputLine.TheVariants as line
 use Rattle.sq_text.specs.declared.located.LocatedFault.{LocatedFault}
 use Rattle.sq_text.specs.Words.{words_of}
 use Rattle.sq_lines.specs.Pieces.{PieceValue, Line, Rest, Failed, Endless, TooMany, bytes_of}
-use Rattle.sq_text.specs.InputFaults.{◌>>=◌, IsRead}
+use Rattle.sq_text.specs.InputFaults.{◌>>=◌}
 use Rattle.sq_text.specs.Located.{at_line, of_opening}
 use Rattle.sq_text.specs.HeaderFields.{GivenValue, value_of, config_in, given_in}
 
@@ -90,11 +89,6 @@ row_lines (piece ∷ pieces) =
     then row_then (line_as row_of (piece ∷ pieces)) (row_lines pieces)
     else record { rows = []; ending = Ok (piece ∷ pieces) }
 
--- rows were read as these lines spell them, and they end so
-pub record AreRows (lines : RowLines) (left : List PieceValue) (wanted : RowsValue) : Type 0 where
-  pub rows_are : map value_of lines.rows.items ≡ wanted.rows
-  pub ending_is : IsRead (λ x. left) lines.ending wanted.ending
-
 -- the plans and the sizes that pieces begin with, and what comes after these three lines
 abbrev pub first_lines : List PieceValue → Result (FirstLines × List PieceValue) LocatedFault
 first_lines pieces = do
@@ -131,25 +125,33 @@ header_of pieces = header_with row_lines pieces
 abbrev pub plans_of : List PieceValue → Result HeaderValue LocatedFault
 plans_of pieces = header_with no_rows pieces
 
--- what comes after the rows, unless they make no opening
-abbrev pub ending_unless : Option OpeningFault → Result (List PieceValue) LocatedFault → Result (List PieceValue) LocatedFault
-ending_unless None ending = ending
-ending_unless (Some fault) ending = Err (of_opening fault)
+-- the fault of an opening of these plans, sizes and rows
+abbrev pub fault_with : ℕ → FirstLines → List GivenRow → Option OpeningFault
+fault_with tables first rows = opening_fault tables first.old first.new first.config rows
 
--- what comes after a header with these rows, or its first fault: that of the opening of these rows, and then that of the line which ends them
-abbrev pub header_ending : ℕ → HeaderValue → List GivenRow → Result (List PieceValue) LocatedFault
-header_ending tables header rows =
-    ending_unless (opening_fault tables header.first.old header.first.new header.first.config rows) (at_line (line.Row (length rows)) header.lines.ending)
-
--- these are the rows of the header, and it ends so
+-- these are the rows of the header, which make an opening, and it ends so
 pub record Ends (tables : ℕ) (header : HeaderValue) (rows : List GivenRow) (ending : Result (List PieceValue) LocatedFault) : Type 0 where
   pub rows_are : map value_of rows ≡ header.lines.rows
-  pub ending_is : header_ending tables header rows ≡ ending
+  pub fit : fault_with tables header.first rows ≡ None
+  pub ending_is : at_line (line.Row (length rows)) header.lines.ending ≡ ending
+
+-- these are the first rows of the header, which make no opening for this fault, whatever rows come behind them
+pub record Refuses (tables : ℕ) (header : HeaderValue) (rows : List GivenRow) (fault : LocatedFault) : Type 0 where
+  pub later : List GivenValue
+  pub rows_are : map value_of rows ++ later ≡ header.lines.rows
+  pub cause : OpeningFault
+  pub refused : fault_with tables header.first rows ≡ Some cause
+  pub fault_is : fault ≡ of_opening cause
 
 -- this fault, with its line, is the first one of a header
 abbrev pub IsFirstFault : ℕ → LocatedFault → Result HeaderValue LocatedFault → Type 0
 IsFirstFault tables fault (Err first) = fault ≡ first
-IsFirstFault tables fault (Ok header) = (rows : List GivenRow) × Ends tables header rows (Err fault)
+IsFirstFault tables fault (Ok header) = (rows : List GivenRow) × (Refuses tables header rows fault ⊎ Ends tables header rows (Err fault))
+
+-- the opening has these plans, sizes and rows, none of which has a fault
+pub record IsTaken (tables : ℕ) (first : FirstLines) (rows : List GivenRow) (o : OpeningValue) : Type 0 where
+  pub fit : fault_with tables first rows ≡ None
+  pub is : IsOpeningOf tables first.old first.new first.config rows o
 
 -- the answer is the opening of a header, with what comes after it, or else its first fault, unless memory ran out
 abbrev pub Opens : ℕ → Result OpeningValue LocatedFault → List PieceValue → Result HeaderValue LocatedFault → Type 0
@@ -157,3 +159,11 @@ Opens tables (Err refused) left header = refused.fault ≢ Memory → IsFirstFau
 Opens tables (Ok opening) left (Err first) = ⊥
 Opens tables (Ok opening) left (Ok header) =
     (rows : List GivenRow) × Ends tables header rows (Ok left) × IsOpeningOf tables header.first.old header.first.new header.first.config rows opening
+
+-- the first three lines of an opening
+abbrev pub first_of : OpeningValue → FirstLines
+first_of o = record { old = o.old; new = o.new; config = o.config }
+
+-- the answer is that of a header with the plans and the sizes of this opening, and with rows
+abbrev pub OpensFrom : ℕ → OpeningValue → Result OpeningValue LocatedFault → List PieceValue → RowsValue → Type 0
+OpensFrom tables o answer left rows = Opens tables answer left (Ok (record { first = first_of o; lines = rows }))

@@ -1,12 +1,13 @@
 // The header of an input.
-ghost use Rattle.std.specs.Prelude.{◌≡◌, ◌≢◌, ◌<◌, codes, List, Ok, Err, IfOk, OnOk};
+ghost use Rattle.std.specs.Prelude.{◌≡◌, ◌≢◌, ◌<◌, codes, [], Some, IfOk, IfErr, OnOk};
 ghost use Rattle.sq_text.specs.Words.{words_of};
-ghost use Rattle.sq_lines.specs.Pieces.{PieceValue};
 ghost use Rattle.sq_lines.specs.Coming.{Leaves};
 ghost use Rattle.sq_text.specs.Faults.{IsParsed, IsParsedGivenMemory};
 ghost use Rattle.sq_text.specs.InputFaults.{IsRead, IsReadGivenMemory};
+ghost use Rattle.sq_ranges.specs.declared.fault.OpeningFault.{OpeningFault};
+ghost use Rattle.sq_text.specs.Located.{of_opening};
 ghost use Rattle.sq_text.specs.HeaderFields.{value_of, config_in, given_in};
-ghost use Rattle.sq_text.specs.Header.{next_line, line_as, behind, plan_of, config_of, row_of, RowsValue, row_lines, AreRows, first_lines, AreFirstLines, header_of, plans_of, Opens};
+ghost use Rattle.sq_text.specs.Header.{next_line, line_as, behind, plan_of, config_of, row_of, row_lines, first_lines, first_of, AreFirstLines, fault_with, header_of, plans_of, IsTaken, Opens, OpensFrom};
 
 use crate::fault::{Malformed, ReadFault};
 use crate::input_fault::InputFault;
@@ -18,7 +19,7 @@ use sq_lines::{LineReader, Next};
 use sq_plan::Plan;
 use sq_ranges::{Config, GivenRow, Opening};
 use sq_schema::{RowKey, Schema};
-use std::alloc::{AllocError, Global};
+use std::alloc::Global;
 use std::io::Read;
 
 // Reads the next line, whose bytes the reader then has.
@@ -140,46 +141,6 @@ fn row_line<R: Read>(alloc: Global, lines: &mut LineReader<R>) -> Result<GivenRo
     row(alloc, lines.piece())
 }
 
-/// The opening rows of a header, and how their lines end.
-#[derive(Drop)]
-struct RowLines {
-    rows: Vec<GivenRow>,
-    ending: Result<(), InputFault>,
-}
-
-impl RowLines {
-    // Rows, and a line after them that spells none, unless memory ran out there.
-    fn ending_by(rows: Vec<GivenRow>, fault: InputFault) -> Result<RowLines, AllocError>
-        ensures lines { IfOk result (λ lines. lines ≡ record { rows = rows; ending = Err fault }) }
-        ensures told { IfOk result (λ _. fault ≢ InputFault.Memory) }
-    {
-        match fault {
-            InputFault::Memory => Err(AllocError),
-            fault => Ok(RowLines {
-                rows,
-                ending: Err(fault),
-            }),
-        }
-    }
-}
-
-// The opening rows, up to the first line that spells none.
-fn row_lines<R: Read>(alloc: Global, lines: &mut LineReader<R>) -> Result<RowLines, AllocError>
-    ensures { IfOk result (λ rows. Leaves lines.old lines.new (λ all left. AreRows rows left (row_lines all))) }
-{
-    let mut rows = Vec::new(alloc);
-    while lines.begins_read(b"row ") {
-        match row_line(alloc, lines) {
-            Ok(row) => rows.push(row)?,
-            Err(fault) => return RowLines::ending_by(rows, fault),
-        }
-    }
-    Ok(RowLines {
-        rows,
-        ending: Ok(()),
-    })
-}
-
 /// What the first three lines of an input spell.
 #[derive(Drop)]
 struct FirstLines {
@@ -209,23 +170,53 @@ fn first_lines<R: Read>(
     }
 }
 
-// The opening of plans, sizes and rows, whose lines end so.
-fn opening(
-    alloc: Global,
-    schema: Schema,
-    first: FirstLines,
-    lines: RowLines,
-) -> Result<Opening, LocatedFault>
-    ensures { (left : List PieceValue) (rows : RowsValue) → AreRows lines left rows → Opens schema result left (Ok (record { first = first; lines = rows })) }
+// The opening of plans and sizes, without rows.
+fn without_rows(alloc: Global, schema: Schema, first: FirstLines) -> Result<Opening, LocatedFault>
+    ensures ok { IfOk result (λ opening. (first_of opening ≡ first) × IsTaken schema first [] opening) }
+    ensures err { IfErr result (λ refused. refused.fault ≢ InputFault.Memory → (cause : OpeningFault) × (fault_with schema first [] ≡ Some cause) × (refused ≡ of_opening cause)) }
 {
     let FirstLines { old, new, config } = first;
-    let RowLines { rows, ending } = lines;
-    let count = rows.len();
-    let opening = Opening::new(alloc, schema, old, new, config, rows)?;
-    match ending {
-        Ok(()) => Ok(opening),
-        Err(fault) => Err(fault.at(InputLine::Row(count))),
+    match Opening::without_rows(alloc, schema, old, new, config) {
+        Ok(opening) => Ok(opening),
+        Err(refused) => Err(LocatedFault::from(refused.fault)),
     }
+}
+
+// The fault of the line of a row, the one with this number. That memory ran out belongs to no line.
+fn of_row_line(fault: InputFault, at: usize) -> LocatedFault
+    ensures fault { result.fault ≡ fault }
+    ensures line { fault ≢ InputFault.Memory → result.line ≡ Some (InputLine.Row at) }
+{
+    match fault {
+        InputFault::Memory => InputFault::Memory.at_no_line(),
+        fault => fault.at(InputLine::Row(at)),
+    }
+}
+
+// The opening with the rows of the lines that begin as a row's line does, each of which is taken as it is read.
+fn with_rows<R: Read>(
+    alloc: Global,
+    schema: Schema,
+    lines: &mut LineReader<R>,
+    mut opening: Opening,
+) -> Result<Opening, LocatedFault>
+    requires { IsTaken schema (first_of opening) [] opening }
+    ensures { Leaves lines.old lines.new (λ all left. OpensFrom schema opening result left (row_lines all)) }
+{
+    // For the proof alone: as many lines as may come have numbers.
+    let _most = lines.lines_left();
+    let mut at = 0;
+    while lines.begins_read(b"row ") {
+        let row = match row_line(alloc, lines) {
+            Ok(row) => row,
+            Err(fault) => return Err(of_row_line(fault, at)),
+        };
+        if let Err((fault, _row)) = opening.take_row(at, row) {
+            return Err(LocatedFault::from(fault));
+        }
+        at += 1;
+    }
+    Ok(opening)
 }
 
 /// The opening that the header of an input spells; the lines that are left are those of the script.
@@ -234,8 +225,9 @@ fn opening(
 /// chunk and the chunks of a link's queue; and then, as long as lines begin with `row `, opening rows:
 /// `row ROOT T S N NOTE`. A refusal is the first fault in the order of the lines, with the line that it belongs to: that
 /// of a plan; a line that is missing or isn't of its form; one with over [`MAX_LINE`] bytes, as soon as they came; a read
-/// that fails; an input with too many lines; and for the plans, the sizes and each row the fault that [`Opening::new`]
-/// finds. [`InputFault::Memory`] may come in place of any answer.
+/// that fails; an input with too many lines; for the plans and the sizes the fault that [`Opening::without_rows`] finds;
+/// and for each row that of [`Opening::take_row`]. [`InputFault::Memory`] may come in place of any answer. Each row is
+/// taken before the next line is read.
 pub fn read_header<R: Read>(
     alloc: Global,
     schema: Schema,
@@ -244,8 +236,8 @@ pub fn read_header<R: Read>(
     ensures { Leaves lines.old lines.new (λ all left. Opens schema result left (header_of all)) }
 {
     let first = first_lines(alloc, lines)?;
-    let rows = row_lines(alloc, lines)?;
-    opening(alloc, schema, first, rows)
+    let opening = without_rows(alloc, schema, first)?;
+    with_rows(alloc, schema, lines, opening)
 }
 
 /// What the first three lines of an input spell, as an opening without rows: those of a header, with the plans and the
@@ -259,9 +251,5 @@ pub fn read_plans<R: Read>(
     ensures { Leaves lines.old lines.new (λ all left. Opens schema result left (plans_of all)) }
 {
     let first = first_lines(alloc, lines)?;
-    let rows = RowLines {
-        rows: Vec::new(alloc),
-        ending: Ok(()),
-    };
-    opening(alloc, schema, first, rows)
+    without_rows(alloc, schema, first)
 }

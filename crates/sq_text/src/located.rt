@@ -3,7 +3,7 @@ ghost use Rattle.std.specs.Prelude.{◌≡◌, ◌+◌, ◌<◌, ◌^◌, None, 
 ghost use Rattle.sq_text.specs.Located.{line_number, located, of_opening};
 
 use crate::input_fault::InputFault;
-use sq_ranges::{OpeningFault, RefusedOpening};
+use sq_ranges::OpeningFault;
 use std::alloc::AllocError;
 use std::fmt;
 use std::fmt::{Display, Formatter, Write};
@@ -84,19 +84,18 @@ impl Display for LocatedFault {
     }
 }
 
-impl From<RefusedOpening> for LocatedFault {
+impl From<OpeningFault> for LocatedFault {
     ghost use Rattle.sq_text.specs.Located.{of_opening};
 
-    ghost from_gives = { λ refused fault. fault ≡ of_opening refused.fault };
+    ghost from_gives = { λ cause fault. fault ≡ of_opening cause };
 
-    fn from(refused: RefusedOpening) -> LocatedFault {
-        let fault = refused.fault;
-        match fault {
+    fn from(cause: OpeningFault) -> LocatedFault {
+        match cause {
             OpeningFault::Memory => InputFault::Memory.at_no_line(),
             OpeningFault::Row(at, _) | OpeningFault::Place(at, _) => {
-                InputFault::Opening(fault).at(InputLine::Row(at))
+                InputFault::Opening(cause).at(InputLine::Row(at))
             }
-            fault => InputFault::Opening(fault).at(InputLine::Config),
+            cause => InputFault::Opening(cause).at(InputLine::Config),
         }
     }
 }

@@ -2,6 +2,7 @@
 use Rattle.std.proofs.Common.{⊎_elim, ◌≡◌, ◌≢◌, ℕ, ◌+◌, ◌<◌, ◌≤◌, Bool, true, false, ◌||◌, List, [], ◌∷◌, ◌++◌, map, length, refl, sym, ap, subst, ◌∙◌, arith}
 use Rattle.std.specs.Prelude.{cond, ◌==◌, ◌&&◌, nat_le, nat_lt, find, is_some, IsSome, Option, Some, None, option_map}
 use Rattle.std.specs.Option.{option_map_or}
+use Rattle.std.specs.List.{list_any}
 use Rattle.std.specs.Ordering.{nat_cmp}
 use Rattle.std.specs.Cmp.{unsigned_tied}
 use Rattle.std.specs.List.Sorted.{IsStrictlySortedBy, IsStrictlyIncreasing}
@@ -160,18 +161,30 @@ module _ (txns : BTreeMap ℕ TxnValue) (by_root : BTreeSet (ℕ × ℕ)) (due :
           first_marked number txn upto (only_due number txn at upto ∙ here) (λ q other found past passes. least q past (sym (only_due q other found past) ∙ passes)) at
 
   -- all that wait are due
-  pub all_indexed : IsIndexed txns by_root due next next
-  all_indexed = record { ordered = is.ordered; left = is.left; bound = omega arith; below = is.below; by_root = is.by_root; due = is.due }
+  module _ (none : BTreeSet ℕ) (empty : none.keys ≡ []) where
+    none_here : (number : ℕ) → set.contains nat_cmp none number ≡ false
+    none_here number = ap (list_any (is_at (nat_cmp number))) empty
 
-  pub all_due : record { arrivals = arrivals_of txns.entries (is_due_in next due); next = next } ≡ with_due (λ a. true) (record { arrivals = seen; next = next })
-  all_due =
-      ap (λ arrivals. record { arrivals = arrivals; next = next })
-      (more_due txns.entries is_marked (is_due_in next due) (λ a. true) is.ordered
-      (λ q txn at. ap (λ b. b || set.contains nat_cmp due q) (lt-ltb q next (is.below q (ap is_some at))) ∙ sym (or_true (is_marked q))))
-    where
-      or_true : (b : Bool) → (b || true) ≡ true
-      or_true true = refl
-      or_true false = refl
+    pub all_indexed : IsIndexed txns by_root none next next
+    all_indexed =
+        record {
+          ordered = is.ordered;
+          left = is.left;
+          bound = omega arith;
+          below = is.below;
+          by_root = is.by_root;
+          due = λ number here. absurd (true≢false (sym here ∙ none_here number));
+        }
+
+    pub all_due : record { arrivals = arrivals_of txns.entries (is_due_in next none); next = next } ≡ with_due (λ a. true) (record { arrivals = seen; next = next })
+    all_due =
+        ap (λ arrivals. record { arrivals = arrivals; next = next })
+        (more_due txns.entries is_marked (is_due_in next none) (λ a. true) is.ordered
+        (λ q txn at. ap (λ b. b || set.contains nat_cmp none q) (lt-ltb q next (is.below q (ap is_some at))) ∙ sym (or_true (is_marked q))))
+      where
+        or_true : (b : Bool) → (b || true) ≡ true
+        or_true true = refl
+        or_true false = refl
 
   -- all of some root keys are due
   module _ (lo hi : ℕ) (now : BTreeSet ℕ) (adds : AddsBetween by_root lo hi due now) where

@@ -151,6 +151,8 @@ impl Waiting {
         ensures { self.new ≡ with_due (λ _. true) self.old }
     {
         self.due_below = self.next;
+        // All of them are below the bound.
+        self.due.clear();
     }
 
     // One more waits, after all others, with the next arrival number.

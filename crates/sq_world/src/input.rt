@@ -33,7 +33,20 @@ pub fn run<R: Read, W: Write>(
 ) -> Result<Ending, WriteFault>
     ensures { IfOk result (Runs MAX_TABLES (R.remaining reader.old) (W.contents writer.old) (W.contents writer.new)) }
 {
-    let ending = run_unflushed(alloc, reader, writer)?;
+    run_and_keep(alloc, reader, writer, &mut None)
+}
+
+/// The same as [`run`], but the world that the header opens isn't freed: it comes into `kept`, in place of what is there,
+/// for a caller who frees it later or leaves it to the system.
+pub fn run_and_keep<R: Read, W: Write>(
+    alloc: Global,
+    reader: &mut R,
+    writer: &mut W,
+    kept: &mut Option<World>,
+) -> Result<Ending, WriteFault>
+    ensures { IfOk result (Runs MAX_TABLES (R.remaining reader.old) (W.contents writer.old) (W.contents writer.new)) }
+{
+    let ending = run_unflushed(alloc, reader, writer, kept)?;
     writer.flush()?;
     Ok(ending)
 }
@@ -43,11 +56,12 @@ fn run_unflushed<R: Read, W: Write>(
     alloc: Global,
     reader: &mut R,
     writer: &mut W,
+    kept: &mut Option<World>,
 ) -> io::Result<Ending>
     ensures { IfOk result (Runs MAX_TABLES (R.remaining reader.old) (W.contents writer.old) (W.contents writer.new)) }
 {
     match LineReader::new(alloc, reader) {
-        Ok(mut lines) => run_lines(alloc, &mut lines, writer),
+        Ok(mut lines) => run_lines(alloc, &mut lines, writer, kept),
         Err(_) => end_by(writer, InputFault::Memory.at_no_line()),
     }
 }
@@ -57,6 +71,7 @@ fn run_lines<R: Read, W: Write>(
     alloc: Global,
     lines: &mut LineReader<R>,
     writer: &mut W,
+    kept: &mut Option<World>,
 ) -> io::Result<Ending>
     ensures { IfOk result (λ ending. (given : List PieceValue) × CanCome lines.old given × (out : List ℕ) × Appends (W.contents writer.old) (W.contents writer.new) out × IsRun MAX_TABLES given out ending) }
 {
@@ -64,7 +79,7 @@ fn run_lines<R: Read, W: Write>(
         unreachable!()
     };
     match open_world(alloc, schema, lines) {
-        Ok(mut world) => run_script(alloc, &schema, &mut world, lines, writer),
+        Ok(world) => run_script(alloc, &schema, kept.insert(world), lines, writer),
         Err(fault) => end_by(writer, fault),
     }
 }

@@ -11,7 +11,7 @@ mod whole_run;
 mod world;
 
 pub use ending::{Ending, WriteFault};
-pub use input::run;
+pub use input::{run, run_and_keep};
 pub use listing::ranges;
 pub use sq_chunk::{Chunk, Note};
 pub use sq_model::{Answer, Phase, Refusal, Step};

@@ -9,9 +9,10 @@ ghost use Rattle.squall.specs.Session.{exit_status, EndsAs, IsUsageStatus};
 use clap::Error;
 use clap::error::ErrorKind;
 use sq_text::{InputFault, LocatedFault};
-use sq_world::{Ending, WriteFault, ranges, run};
+use sq_world::{Ending, WriteFault, ranges, run_and_keep};
 use std::io;
 use std::io::{Read, Write};
+use std::mem::forget;
 
 /// The exit status after a fault, and after a command line that was refused.
 pub const REFUSED: u8 = 2;
@@ -25,7 +26,10 @@ pub fn script<R: Read, W: Write>(
 ) -> u8
     ensures { EndsAs (Runs MAX_TABLES (R.remaining reader.old) (W.contents writer.old) (W.contents writer.new)) exit_status result }
 {
-    let ran = run(rt.alloc(), reader, writer);
+    let mut world = None;
+    let ran = run_and_keep(rt.alloc(), reader, writer, &mut world);
+    // The program ends, and the system takes its memory back sooner than it could be freed.
+    forget(world);
     explain_end(rt, ran);
     exit_status(ran)
 }

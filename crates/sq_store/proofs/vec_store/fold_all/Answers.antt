@@ -1,4 +1,4 @@
-use Rattle.std.proofs.Common.{◌≡◌, length, map, take, drop, ◌++◌, sym, ap, ◌∙◌, arith, append-nil}
+use Rattle.std.proofs.Common.{◌≡◌, length, map, take, ◌++◌, ap, ◌∙◌, arith, append-nil}
 use Rattle.std.proofs.lemmas.List.{take_all, drop_all, length-map}
 use Rattle.sq_schema.specs.Family.{folded}
 use Rattle.sq_store.proofs.vec_store.fold_all.Goals as goal

@@ -1,8 +1,6 @@
-use Rattle.std.proofs.Common.{◌≡◌, ◌+◌, ◌<◌, suc, List, length, map, take, drop, ◌++◌, set, get_or, refl, sym, ap, ◌∙◌, subst, arith, append-nil}
+use Rattle.std.proofs.Common.{◌≡◌, ◌+◌, suc, List, map, ◌++◌, set, get_or, refl, ap, ◌∙◌, arith, append-nil}
 use Rattle.std.proofs.lemmas.List.{take_all, drop_all}
-use Rattle.std.proofs.lemmas.List.{length-set}
 use Rattle.sq_schema.specs.Family.{FamilyValue, folded}
-use Rattle.sq_store.specs.StoreValue.{absent}
 use Rattle.sq_store.proofs.Folds.{folded_to, folded_to_next}
 use Rattle.sq_store.proofs.vec_store.fold_each.Goals as goal
 

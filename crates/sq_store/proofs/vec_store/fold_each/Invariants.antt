@@ -1,5 +1,4 @@
 use Rattle.std.proofs.Common.{◌≡◌}
-use Rattle.sq_schema.specs.Family.{folded}
 use Rattle.sq_store.proofs.Folds.{folded_to}
 use Rattle.sq_store.proofs.vec_store.fold_each.Given as goal
 

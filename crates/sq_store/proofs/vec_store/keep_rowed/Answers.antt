@@ -1,7 +1,5 @@
-use Rattle.std.proofs.Common.{rules, ◌≡◌, ◌==◌, length, ap, ◌∙◌}
-use Rattle.std.specs.Prelude.{not}
+use Rattle.std.proofs.Common.{rules}
 use Rattle.std.proofs.lemmas.Fn.{filter_same}
-use Rattle.sq_schema.specs.Family.{rows_of}
 use Rattle.sq_store.proofs.vec_store.keep_rowed.Goals as goal
 
 pub returns : goal.returns

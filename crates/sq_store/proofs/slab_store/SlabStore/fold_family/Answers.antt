@@ -1,11 +1,8 @@
 use Rattle.std.proofs.Common.{◌≡◌, Some, refl, sym, ap, subst, ◌∙◌}
 use Rattle.std.specs.Prelude.{None, IsSome}
-use Rattle.std.specs.Ordering.{nat_cmp}
 use Rattle.std.specs.FinMap.{get, insert}
-use Rattle.std.specs.BTreeMap as tree
 use Rattle.slab.specs.Slab.{with_value}
-use Rattle.sq_schema.specs.Family.{FamilyValue, folded}
-use Rattle.sq_store.specs.StoreValue.{StoreValue}
+use Rattle.sq_schema.specs.Family.{folded}
 use Rattle.sq_store.proofs.Indexes.{Holds, get_unled}
 use Rattle.sq_store.proofs.FoldWrites.{got, holds_folded}
 use Rattle.sq_store.proofs.slab_store.SlabStore.fold_family.Goals as goal

@@ -1,4 +1,4 @@
-use Rattle.std.proofs.Common.{sym, ap, ◌∙◌}
+use Rattle.std.proofs.Common.{ap, ◌∙◌}
 use Rattle.sq_store.specs.StoreValue.{folded_store}
 use Rattle.sq_store.specs.Listed.{roots_rise, store_of}
 use Rattle.sq_store.proofs.Folds.{rise_folded, store_folded}
