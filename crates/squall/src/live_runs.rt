@@ -5,52 +5,28 @@ ghost use Rattle.sq_schema.specs.declared.schema.TheConstants.{MAX_TABLES};
 ghost use Rattle.sq_live.specs.Live.{RunsLive};
 ghost use Rattle.squall.specs.Session.{live_status, EndsAs};
 
-use crate::progress::Progress;
 use crate::session::{REFUSED, explain_write};
-use sq_driver::OpenGate;
-use sq_live::{LiveEnding, Outcome, live};
+use sq_live::{LiveEnding, Outcome, Watch, live};
 use sq_world::WriteFault;
 use std::io::{Read, Write};
 use std::sync::Wait;
 use std::thread::Threads;
 
 /// Runs the jobs in `reader` in threads, writes what that comes to, and says on standard error what it means, unless the run
-/// is sound. While it runs, standard error tells how far it is, if that is shown. Gives the exit status.
-pub fn live_run<T: Threads + Wait + Sync + Eprint + AllocGlobal, R: Read, W: Write>(
+/// is sound. Its workers ask `watch` before each step. Gives the exit status.
+pub fn live_run<T: Threads + Wait + Sync + Eprint + AllocGlobal, R: Read, W: Write, G: Watch>(
     rt: &T,
     reader: &mut R,
     writer: &mut W,
     turns: u64,
     pumps: u32,
     folds: bool,
-    shows_progress: bool,
+    watch: &G,
 ) -> u8
     requires { pumps ≤ MAX_PUMPS }
     ensures { EndsAs (RunsLive folds MAX_TABLES (R.remaining reader.old) (W.contents writer.old) (W.contents writer.new)) live_status result }
 {
-    let ran = if shows_progress {
-        live(
-            rt,
-            rt.alloc(),
-            reader,
-            writer,
-            turns,
-            pumps,
-            folds,
-            &Progress::new(rt),
-        )
-    } else {
-        live(
-            rt,
-            rt.alloc(),
-            reader,
-            writer,
-            turns,
-            pumps,
-            folds,
-            &OpenGate,
-        )
-    };
+    let ran = live(rt, rt.alloc(), reader, writer, turns, pumps, folds, watch);
     explain_live(rt, ran);
     live_status(ran)
 }

@@ -15,7 +15,10 @@ mod session;
 
 use line::{Line, line_of};
 use live_runs::live_run;
+use progress::Progress;
 use session::{listing, print_usage, refuse_for_memory, refuse_words, script};
+use sq_driver::OpenGate;
+use sq_live::Watch;
 use std::convert::AsStr;
 use std::io::{BufWriter, IsTerminal, Read, Write};
 use std::process::ExitCode;
@@ -24,21 +27,23 @@ use std::sync::Wait;
 use std::thread::Threads;
 use std::{env, io};
 
+// How many bytes go out at a time.
+const WRITE_SIZE: usize = 65_536;
+
 // The words of the command line, of which the first is the program's name.
 fn words_of(rt: &(impl Env + AllocGlobal)) -> io::Result<Vec<String>> {
     let words = env::args(rt)?.collect(rt.alloc())?;
     Ok(words)
 }
 
-// Does what the words of a command line ask for, and gives the exit status. Standard error tells how far a live run is where
-// it is a terminal.
-fn obey<T: Threads + Wait + Sync + Print + Eprint + AllocGlobal, S: AsStr, R: Read, W: Write>(
-    rt: &T,
-    words: &[S],
-    reader: &mut R,
-    writer: &mut W,
-    at_terminal: bool,
-) -> u8
+// Does what the words of a command line ask for, and gives the exit status. Workers of a live run ask `watch` before each step.
+fn obey<
+    T: Threads + Wait + Sync + Print + Eprint + AllocGlobal,
+    S: AsStr,
+    R: Read,
+    W: Write,
+    G: Watch,
+>(rt: &T, words: &[S], reader: &mut R, writer: &mut W, watch: &G) -> u8
     ensures { EndsWith (subcommand_of squall (map S.text words.now)) (fault_of squall (map S.text words.now)) (R.remaining reader.old) (W.contents writer.old) (W.contents writer.new) result }
 {
     match line_of(rt.alloc(), words) {
@@ -50,7 +55,7 @@ fn obey<T: Threads + Wait + Sync + Print + Eprint + AllocGlobal, S: AsStr, R: Re
                 pumps,
                 folds,
             },
-        ) => live_run(rt, reader, writer, turns, pumps, folds, at_terminal),
+        ) => live_run(rt, reader, writer, turns, pumps, folds, watch),
         Err(error) => print_usage(rt, &error),
     }
 }
@@ -61,13 +66,14 @@ fn obey_buffered<
     S: AsStr,
     R: Read,
     W: Write + Drop,
->(rt: &T, words: &[S], reader: &mut R, writer: W, at_terminal: bool) -> u8
+    G: Watch,
+>(rt: &T, words: &[S], reader: &mut R, writer: W, watch: &G) -> u8
     ensures { EndsBuffered (subcommand_of squall (map S.text words.now)) (fault_of squall (map S.text words.now)) (R.remaining reader.old) (W.contents writer) result }
 {
-    let Ok(mut writer) = BufWriter::new(rt.alloc(), writer) else {
+    let Ok(mut writer) = BufWriter::with_capacity(rt.alloc(), WRITE_SIZE, writer) else {
         return refuse_for_memory(rt);
     };
-    let status = obey(rt, words, reader, &mut writer, at_terminal);
+    let status = obey(rt, words, reader, &mut writer, watch);
     // A failed write has left bytes, which a buffer that is dropped would write.
     let (_unbuffered, _unwritten) = writer.into_parts();
     status
@@ -76,8 +82,14 @@ fn obey_buffered<
 fn main(rt: HostRuntime) -> ExitCode {
     let status = match words_of(&rt) {
         Ok(words) => {
-            let at_terminal = rt.stderr().is_terminal();
-            obey_buffered(&rt, &words, &mut rt.reader(), io::writer(&rt), at_terminal)
+            let mut reader = rt.reader();
+            let writer = io::writer(&rt);
+            // At a terminal standard error tells how far a live run is.
+            if rt.stderr().is_terminal() {
+                obey_buffered(&rt, &words, &mut reader, writer, &Progress::new(&rt))
+            } else {
+                obey_buffered(&rt, &words, &mut reader, writer, &OpenGate)
+            }
         }
         Err(error) => refuse_words(&rt, &error),
     };
