@@ -1,5 +1,5 @@
 // Readers of lines.
-ghost use Rattle.std.specs.Prelude.{◌≡◌, ◌≤◌, ◌<◌, [], ◌∷◌, length, ◌==◌, not, true, List, Some, IfOk, IfErr, IfSome, IfNone};
+ghost use Rattle.std.specs.Prelude.{◌≡◌, ◌≤◌, ◌<◌, ◌+◌, [], ◌∷◌, length, ◌==◌, not, true, List, Some, IfOk, IfErr, IfSome, IfNone};
 ghost use Rattle.sq_lines.specs.Pieces.{next_begins, next_line_number, PieceValue};
 ghost use Rattle.sq_lines.specs.Coming.{CanCome, IsUndecided, Gives, Finds, GoesOn, reads_left};
 ghost use Rattle.std.specs.List.{list_all};
@@ -72,35 +72,28 @@ impl<R: Read> Model for LineReader<R> {
 }
 
 impl<R: Read> LineReader<R> {
-    /// The lines of what a reader gives. Where there is no memory for its buffer the reader comes back.
+    /// The lines of what a reader gives. Where there is no memory for the buffer, the reader comes back as it was.
     pub fn new(alloc: Global, reader: R) -> Result<LineReader<R>, AllocFailed<R>>
         ensures held { IfOk result (λ lines. lines.held ≡ []) }
         ensures open { IfOk result (λ lines. lines.reading ≡ Reading.Open) }
         ensures lines { IfOk result (λ lines. lines.lines ≡ MAX_LINES) }
         ensures known { IfOk result (λ lines. lines.known ≡ R.remaining reader) }
-        ensures reader_returned { IfErr result (λ failed. failed.value ≡ reader) }
+        ensures returned { IfErr result (λ refused. refused.value ≡ reader) }
     {
-        let Ok(buffer) = buffer_of(alloc) else {
-            return Err(AllocFailed { value: reader });
-        };
-        Ok(LineReader {
-            reader,
-            buffer,
-            piece_start: 0,
-            piece_end: 0,
-            start: 0,
-            searched: 0,
-            end: 0,
-            reading: Reading::Open,
-            lines: MAX_LINES,
-        })
-    }
-
-    /// How many lines may still come.
-    pub fn lines_left(&self) -> u32
-        ensures { result ≡ self.now.lines }
-    {
-        self.lines
+        match buffer_of(alloc) {
+            Ok(buffer) => Ok(LineReader {
+                reader,
+                buffer,
+                piece_start: 0,
+                piece_end: 0,
+                start: 0,
+                searched: 0,
+                end: 0,
+                reading: Reading::Open,
+                lines: MAX_LINES,
+            }),
+            Err(_) => Err(AllocFailed { value: reader }),
+        }
     }
 
     /// The number of the line that comes next, or in which the input ends; that of the first is 1.
@@ -108,6 +101,13 @@ impl<R: Read> LineReader<R> {
         ensures { result ≡ next_line_number self.now.lines }
     {
         MAX_LINES.saturating_sub(self.lines) + 1
+    }
+
+    /// How many lines may still come.
+    pub fn lines_left(&self) -> u32
+        ensures { result ≡ self.now.lines }
+    {
+        self.lines
     }
 
     /// The bytes of the piece that was given last.
@@ -209,10 +209,11 @@ impl<R: Read> LineReader<R> {
         }
     }
 
-    /// Gives the next piece, and reads as much as is needed to tell it.
+    /// Gives the next piece, and reads as much as is needed to tell it. It takes one line at most.
     pub fn next_read(&mut self, most: usize) -> Next
         requires { most ≤ MAX_UNENDED }
-        ensures { Finds most self.old result self.new }
+        ensures finds { Finds most self.old result self.new }
+        ensures one_line { self.old.lines ≤ self.new.lines + 1 }
     {
         loop {
             match self.next(most) {

@@ -21,7 +21,7 @@ use Rattle.sq_world.specs.Input.{IsGiven}
 
 module _ (tables parts : ℕ) (begin lines : LinesValue) (o : OpeningValue) where
   -- the header of an input, and the jobs behind it
-  pub read_both : (jobs : List Job) → tables ≡ MAX_TABLES → parts ≡ o.old.parts → Leaves begin lines (λ all left. Opens tables (Ok o) left (header_of all)) → AreJobs tables parts lines jobs
+  pub read_both : (jobs : List Job) → tables ≡ MAX_TABLES → parts ≡ o.old.parts → Leaves begin lines (λ all left. Opens tables (Ok o) left (header_of tables all)) → AreJobs tables parts lines jobs
       → ComesToSpell MAX_TABLES begin o jobs
   read_both jobs eight are opens spelled =
       let all = opens spelled.0 spelled.1 in (
@@ -29,13 +29,13 @@ module _ (tables parts : ℕ) (begin lines : LinesValue) (o : OpeningValue) wher
         all.1,
         record {
           left = spelled.0;
-          opens = subst (λ n. Opens n (Ok o) spelled.0 (header_of all.0)) eight all.2;
+          opens = subst (λ n. Opens n (Ok o) spelled.0 (header_of n all.0)) eight all.2;
           spelled = subst (λ n. jobs_in n o.old.parts [] spelled.0 ≡ Ok jobs) eight (subst (λ n. jobs_in tables n [] spelled.0 ≡ Ok jobs) are spelled.2);
         },
       )
 
   -- or a fault of the jobs
-  pub read_no_jobs : (fault : LiveFault) → tables ≡ MAX_TABLES → parts ≡ o.old.parts → Leaves begin lines (λ all left. Opens tables (Ok o) left (header_of all)) → IsFirstFault tables parts lines fault
+  pub read_no_jobs : (fault : LiveFault) → tables ≡ MAX_TABLES → parts ≡ o.old.parts → Leaves begin lines (λ all left. Opens tables (Ok o) left (header_of tables all)) → IsFirstFault tables parts lines fault
       → ComesToFail MAX_TABLES begin fault
   read_no_jobs fault eight are opens first =
       let all = opens first.0 first.1 in (
@@ -44,17 +44,17 @@ module _ (tables parts : ℕ) (begin lines : LinesValue) (o : OpeningValue) wher
         inr (record {
           opening = o;
           left = first.0;
-          opens = subst (λ n. Opens n (Ok o) first.0 (header_of all.0)) eight all.2;
+          opens = subst (λ n. Opens n (Ok o) first.0 (header_of n all.0)) eight all.2;
           first = λ apart. subst (λ n. jobs_in n o.old.parts [] first.0 ≡ Err fault) eight (subst (λ n. jobs_in tables n [] first.0 ≡ Err fault) are (first.2 apart));
         }),
       )
 
 -- or a fault of the header
-pub read_no_header : (tables : ℕ) (begin lines : LinesValue) (located : LocatedFault) → tables ≡ MAX_TABLES → Leaves begin lines (λ all left. Opens tables (Err located) left (header_of all)) → ComesToFail MAX_TABLES begin (Input located)
+pub read_no_header : (tables : ℕ) (begin lines : LinesValue) (located : LocatedFault) → tables ≡ MAX_TABLES → Leaves begin lines (λ all left. Opens tables (Err located) left (header_of tables all)) → ComesToFail MAX_TABLES begin (Input located)
 read_no_header tables begin lines located eight opens =
     let some = some_pieces lines in
     let all = opens some.pieces some.can_come in
-    (all.0, all.1, inl (record { located = located; is = refl; left = some.pieces; opens = subst (λ n. Opens n (Err located) some.pieces (header_of all.0)) eight all.2 }))
+    (all.0, all.1, inl (record { located = located; is = refl; left = some.pieces; opens = subst (λ n. Opens n (Err located) some.pieces (header_of n all.0)) eight all.2 }))
 
 -- there was no memory, whatever the reader gives
 pub none_read : (tables : ℕ) (known : Option (List ℕ)) → (given : List PieceValue) × IsGiven known given × HaveFault tables given out_of_memory

@@ -25,7 +25,7 @@ use Rattle.sq_live.specs.Stages.{RanFrom, HavePassed}
 -- the pieces spell a header with this opening, and then these jobs of its partitions
 pub record SpellJobs (tables : ℕ) (given : List PieceValue) (o : OpeningValue) (jobs : List Job) : Type 0 where
   pub left : List PieceValue
-  pub opens : Opens tables (Ok o) left (header_of given)
+  pub opens : Opens tables (Ok o) left (header_of tables given)
   pub spelled : jobs_in tables o.old.parts [] left ≡ Ok jobs
 
 -- the header has this fault
@@ -33,13 +33,13 @@ pub record HasHeaderFault (tables : ℕ) (given : List PieceValue) (fault : Live
   pub located : LocatedFault
   pub is : fault ≡ Input located
   pub left : List PieceValue
-  pub opens : Opens tables (Err located) left (header_of given)
+  pub opens : Opens tables (Err located) left (header_of tables given)
 
 -- the jobs behind the header have this fault, unless memory ran out
 pub record HasJobFault (tables : ℕ) (given : List PieceValue) (fault : LiveFault) : Type 0 where
   pub opening : OpeningValue
   pub left : List PieceValue
-  pub opens : Opens tables (Ok opening) left (header_of given)
+  pub opens : Opens tables (Ok opening) left (header_of tables given)
   pub first : fault ≢ out_of_memory → jobs_in tables opening.old.parts [] left ≡ Err fault
 
 -- the pieces spell no jobs, for this fault, which is their first, or memory ran out

@@ -14,6 +14,5 @@ pub mod Links
 pub mod Made
 pub mod Search
 pub mod Openings
-pub mod Taken
 pub mod Bools
 pub mod LinksFrom

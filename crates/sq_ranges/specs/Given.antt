@@ -22,24 +22,28 @@ key_of given = record { table = given.table; sub = given.sub }
 abbrev pub row_of : GivenRow → RowValue
 row_of given = record { number = given.number; note = given.note.items }
 
--- the same row, wherever its note lies in memory
-pub record IsSameRow (given other : GivenRow) : Type 0 where
-  pub root : other.root ≡ given.root
-  pub key : key_of other ≡ key_of given
-  pub row : row_of other ≡ row_of given
+-- an opening row: its root key, where it stands within it, and the row itself
+pub record GivenValue : Type 0 where
+  pub root : ℕ
+  pub key : RowKey
+  pub row : RowValue
+
+-- what a given row says
+abbrev pub value_of : GivenRow → GivenValue
+value_of given = record { root = given.root; key = key_of given; row = row_of given }
 
 -- a table without rows
 abbrev pub no_rows : RowTable
 no_rows root = []
 
 -- the table with one more given row
-abbrev pub with_one : RowTable → GivenRow → RowTable
-with_one table given = with_given table given.root (key_of given) (row_of given)
+abbrev pub with_one : RowTable → GivenValue → RowTable
+with_one table given = with_given table given.root given.key given.row
 
 -- the table with these rows, given one after another
 abbrev pub given_rows : RowTable → List GivenRow → RowTable
 given_rows table [] = table
-given_rows table (given ∷ rows) = given_rows (with_one table given) rows
+given_rows table (given ∷ rows) = given_rows (with_one table (value_of given)) rows
 
 -- the table of these rows: its root keys rise, and each has rows under its root row
 pub record IsTableOf (rows : List GivenRow) (table : TableValue) : Type 0 where

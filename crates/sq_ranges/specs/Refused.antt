@@ -15,7 +15,7 @@ use Rattle.sq_ranges.specs.declared.opening.Config.{Config}
 use Rattle.sq_ranges.specs.declared.opening.GivenRow.{GivenRow}
 use Rattle.sq_ranges.specs.Between.{recon_fault}
 use Rattle.sq_ranges.specs.Fault.{of_recon, of_row}
-use Rattle.sq_ranges.specs.Given.{key_of, row_of, no_rows, with_one}
+use Rattle.sq_ranges.specs.Given.{GivenValue, value_of, no_rows, with_one}
 
 -- a chunk may be set to hold this many bytes of families
 abbrev pub is_limit : ℕ → Bool
@@ -36,25 +36,25 @@ abbrev pub config_fault : PlanValue → PlanValue → Config → Option OpeningF
 config_fault old new config = option_or (option_map of_recon (recon_fault old new config.width)) (sizes_fault config)
 
 -- a row of a database with this many tables: its root key, and then its table, its sub key and its note
-abbrev pub shape_fault : ℕ → GivenRow → Option TxnFault
+abbrev pub shape_fault : ℕ → GivenValue → Option TxnFault
 shape_fault tables given =
     if not (nat_lt given.root ROOT_END) then Some BadRoot
-    else row_fault tables (key_of given) (row_of given)
+    else row_fault tables given.key given.row
 
 -- why a given row, the one with this number, isn't taken into a table
-abbrev pub given_fault : ℕ → RowTable → ℕ → GivenRow → Option OpeningFault
+abbrev pub given_fault : ℕ → RowTable → ℕ → GivenValue → Option OpeningFault
 given_fault tables table at given =
-    option_or (option_map (Row at) (shape_fault tables given)) (option_map (of_row at) (row_given_fault (table given.root) (key_of given)))
+    option_or (option_map (Row at) (shape_fault tables given)) (option_map (of_row at) (row_given_fault (table given.root) given.key))
 
 -- the fault of the first row that has one, each taken on top of those before it; the rows are numbered from this on
 abbrev pub rows_fault : ℕ → RowTable → ℕ → List GivenRow → Option OpeningFault
 rows_fault tables table at [] = None
-rows_fault tables table at (given ∷ rows) = option_or (given_fault tables table at given) (rows_fault tables (with_one table given) (at + 1) rows)
+rows_fault tables table at (given ∷ rows) = option_or (given_fault tables table at (value_of given)) (rows_fault tables (with_one table (value_of given)) (at + 1) rows)
 
 -- the fault of the first row, which has this number, where it has one
 abbrev pub first_fault : ℕ → RowTable → ℕ → List GivenRow → Option OpeningFault
 first_fault tables table at [] = None
-first_fault tables table at (given ∷ rows) = given_fault tables table at given
+first_fault tables table at (given ∷ rows) = given_fault tables table at (value_of given)
 
 -- the first fault of an opening: of plans and sizes, and then row by row, the rows numbered from 0
 abbrev pub opening_fault : ℕ → PlanValue → PlanValue → Config → List GivenRow → Option OpeningFault

@@ -1,5 +1,5 @@
 // What an opening is made of, and why it isn't.
-ghost use Rattle.std.specs.Prelude.{◌≡◌, ◌≢◌, ◌≤◌, ℕ, true, Some, None, MatchResult, IfOk, IfErr, OnOk, OnErr};
+ghost use Rattle.std.specs.Prelude.{◌≡◌, ◌≤◌, ℕ, true, None, MatchResult, IfOk, IfErr, OnOk, OnErr};
 ghost use Rattle.std.specs.List.{AllPass};
 ghost use Rattle.std.specs.Ordering.{nat_cmp};
 ghost use Rattle.std.specs.Result.{result_err};
@@ -8,14 +8,14 @@ ghost use Rattle.sq_schema.specs.declared.schema.TheConstants.{MAX_TABLES};
 ghost use Rattle.sq_schema.specs.Table.{rows_in, is_opening};
 ghost use Rattle.sq_plan.specs.PlanValue.{IsPlan};
 ghost use Rattle.sq_ranges.specs.Between.{recon_of, IsReconOf};
-ghost use Rattle.sq_ranges.specs.Given.{no_rows, with_one, given_rows, IsTableOf, IsSameRow};
+ghost use Rattle.sq_ranges.specs.Given.{value_of, no_rows, with_one, given_rows, IsTableOf};
 ghost use Rattle.sq_ranges.specs.Refused.{config_fault, given_fault, rows_fault, first_fault, opening_fault, early_fault, MayRefuse};
 
 use crate::fault::OpeningFault;
 use crate::opening::{Config, GivenRow, MAX_CAPACITY, MAX_LIMIT, MIN_LIMIT};
 use crate::recon::Recon;
 use sq_plan::Plan;
-use sq_schema::{Root, Row, Table};
+use sq_schema::Table;
 use std::alloc::Global;
 
 /// What moves between two plans, and the table of opening rows. No memory is taken before the plans, the sizes and
@@ -42,16 +42,15 @@ pub(crate) fn moves_and_table(
     Ok((recon, table))
 }
 
-/// What moves between two plans. No memory is taken before the plans and the sizes were found fit.
+/// What moves between two plans that can be run with these sizes. No memory is taken before the plans and the sizes
+/// were found fit.
 pub(crate) fn moves(
     alloc: Global,
     old: &Plan,
     new: &Plan,
     config: Config,
 ) -> Result<Recon, OpeningFault>
-    ensures fault { MatchResult result
-        (λ _. config_fault old.now new.now config ≡ None)
-        (λ fault. MayRefuse (config_fault old.now new.now config) (config_fault old.now new.now config) fault) }
+    ensures fault { let fault = config_fault old.now new.now config in MatchResult result (λ _. fault ≡ None) (MayRefuse fault fault) }
     ensures recon { IfOk result (λ recon. (recon ≡ recon_of old.now new.now config.width) × IsReconOf old.now new.now config.width recon) }
     ensures plans { IsPlan old.now × IsPlan new.now }
 {
@@ -86,68 +85,55 @@ fn table_of(alloc: Global, tables: u8, rows: &[GivenRow]) -> Result<Table, Openi
 {
     let mut table = Table::new(alloc);
     for (at, given) in rows.iter().enumerate() {
-        take_copy(&mut table, tables, at, given)?;
+        take(&mut table, tables, at, given)?;
     }
     // Called for what it ensures, that the root keys of the table rise and each has rows.
     let _ = table.iter();
     Ok(table)
 }
 
-// Takes a copy of one row, which has this number, into a table. No memory is taken before the row was found fit.
-fn take_copy(table: &mut Table, tables: u8, at: usize, given: &GivenRow) -> Result<(), OpeningFault>
+// Takes one row, which has this number, into a table. No memory is taken before the row was found fit.
+fn take(table: &mut Table, tables: u8, at: usize, given: &GivenRow) -> Result<(), OpeningFault>
     requires { tables ≤ MAX_TABLES }
     ensures fault { MatchResult result
-        (λ _. given_fault tables (rows_in table.old) at given.now ≡ None)
-        (λ fault. MayRefuse (given_fault tables (rows_in table.old) at given.now) (given_fault tables (rows_in table.old) at given.now) fault) }
-    ensures ok { OnOk result ((root : ℕ) → rows_in table.new root ≡ with_one (rows_in table.old) given.now root) }
+        (λ _. given_fault tables (rows_in table.old) at (value_of given.now) ≡ None)
+        (λ fault. MayRefuse (given_fault tables (rows_in table.old) at (value_of given.now)) (given_fault tables (rows_in table.old) at (value_of given.now)) fault) }
+    ensures ok { OnOk result ((root : ℕ) → rows_in table.new root ≡ with_one (rows_in table.old) (value_of given.now) root) }
 {
-    let root = fit(table, tables, at, given)?;
-    let row = given.copy_of_row()?;
+    let root = match given.root(tables) {
+        Ok(root) => root,
+        Err(fault) => return Err(OpeningFault::Row(at, fault)),
+    };
+    if let Some(fault) = table.fault(root, given.key()) {
+        return Err(OpeningFault::of_row(at, fault));
+    }
+    let row = given.row()?;
     if let Err((fault, _)) = table.insert(root, given.key(), row) {
         return Err(OpeningFault::of_row(at, fault));
     }
     Ok(())
 }
 
-// The root key of a row, which has this number, and would be taken into a table; or why it wouldn't. It takes no memory.
-fn fit(table: &Table, tables: u8, at: usize, given: &GivenRow) -> Result<Root, OpeningFault>
-    ensures fit { MatchResult result
-        (λ root. (given_fault tables (rows_in table.now) at given.now ≡ None) × (root ≡ given.now.root))
-        (λ fault. given_fault tables (rows_in table.now) at given.now ≡ Some fault) }
-    ensures told { IfErr result (λ fault. fault ≢ OpeningFault.Memory) }
-{
-    let root = match given.root(tables) {
-        Ok(root) => root,
-        Err(fault) => return Err(OpeningFault::Row(at, fault)),
-    };
-    match table.fault(root, given.key()) {
-        Some(fault) => Err(OpeningFault::of_row(at, fault)),
-        None => Ok(root),
-    }
-}
-
-/// Takes one row, which has this number, into a table. Where it has a fault it comes back, and nothing changes.
-pub(crate) fn take(
+/// Takes one row, which has this number, into a table, with its note and no copy. Otherwise nothing changes, and the
+/// row comes back.
+pub(crate) fn take_over(
     table: &mut Table,
     tables: u8,
     at: usize,
     given: GivenRow,
 ) -> Result<(), (OpeningFault, GivenRow)>
     requires { tables ≤ MAX_TABLES }
-    ensures fault { MatchResult result
-        (λ _. given_fault tables (rows_in table.old) at given ≡ None)
-        (λ refused. MayRefuse (given_fault tables (rows_in table.old) at given) (given_fault tables (rows_in table.old) at given) refused.0) }
-    ensures ok { OnOk result ((root : ℕ) → rows_in table.new root ≡ with_one (rows_in table.old) given root) }
+    ensures fault { let fault = given_fault tables (rows_in table.old) at (value_of given) in MatchResult result (λ _. fault ≡ None) (λ refused. MayRefuse fault fault refused.0) }
+    ensures ok { OnOk result ((root : ℕ) → rows_in table.new root ≡ with_one (rows_in table.old) (value_of given) root) }
     ensures err { OnErr result (table.new ≡ table.old) }
-    ensures row_returned { IfErr result (λ refused. IsSameRow given refused.1) }
+    ensures row_returned { IfErr result (λ refused. value_of refused.1 ≡ value_of given) }
 {
-    let root = match fit(table, tables, at, &given) {
+    let root = match given.root(tables) {
         Ok(root) => root,
-        Err(fault) => return Err((fault, given)),
+        Err(fault) => return Err((OpeningFault::Row(at, fault), given)),
     };
     let key = given.key();
-    let row = Row::new(given.number, given.note);
-    match table.insert(root, key, row) {
+    match table.insert(root, key, given.into_row()) {
         Ok(()) => Ok(()),
         Err((fault, row)) => Err((
             OpeningFault::of_row(at, fault),

@@ -4,7 +4,7 @@ ghost use Rattle.sq_schema.specs.declared.root.TheConstants.{ROOT_END};
 ghost use Rattle.sq_schema.specs.Table.{rows_in};
 
 use crate::fault::OpeningFault;
-use crate::given::{moves, moves_and_table, take};
+use crate::given::{moves, moves_and_table, take_over};
 use crate::recon::Recon;
 use sq_plan::Plan;
 use sq_schema::{MAX_NOTE, Root, Row, RowKey, Schema, Table, TxnFault};
@@ -34,7 +34,7 @@ pub struct Config {
     pub capacity: u64,
 }
 
-/// An opening row as it is given: any numbers, of which an [`Opening`] refuses wrong ones.
+/// An opening row as it is given: any numbers, of which [`Opening::new`] and [`Opening::take_row`] refuse wrong ones.
 #[derive(Debug, Drop)]
 pub struct GivenRow {
     /// The root key.
@@ -86,7 +86,7 @@ pub struct RefusedOpening {
     pub rows: Vec<GivenRow>,
 }
 
-/// Why two plans make no opening, and the plans.
+/// Why there is no opening without rows, and the plans that it was to be made of.
 #[derive(Debug, Drop)]
 pub struct RefusedPlans {
     /// Why.
@@ -110,7 +110,7 @@ impl Model for Opening {
 
 impl Opening {
     ghost use Rattle.sq_ranges.specs.SetUp.{IsSetUp};
-    ghost use Rattle.sq_ranges.specs.Given.{IsOpeningOf, with_one, IsSameRow};
+    ghost use Rattle.sq_ranges.specs.Given.{IsOpeningOf, value_of, with_one};
     ghost use Rattle.sq_ranges.specs.Refused.{config_fault, given_fault, opening_fault, early_fault, MayRefuse};
 
     /// The opening of two plans with these sizes and rows. Otherwise the plans and the rows come back as they were,
@@ -155,9 +155,9 @@ impl Opening {
         }
     }
 
-    /// The opening of two plans with these sizes, and without rows. Otherwise the plans come back as they were, with the
-    /// first of these faults: those of the plans and the width of a leaf, as [`Recon::fault`] has them; the bytes of a
-    /// chunk; the chunks of a queue. That memory ran out is told in place of none of these.
+    /// The opening of two plans with these sizes, and no rows: [`Opening::take_row`] takes one after another. Otherwise
+    /// the plans come back as they were, with the first fault of the plans and the sizes, as [`Opening::new`] has them.
+    /// That memory ran out is told in place of none of these.
     pub fn without_rows(
         alloc: Global,
         schema: Schema,
@@ -165,9 +165,7 @@ impl Opening {
         new: Plan,
         config: Config,
     ) -> Result<Opening, RefusedPlans>
-        ensures fault { MatchResult result
-            (λ _. config_fault old new config ≡ None)
-            (λ refused. MayRefuse (config_fault old new config) (config_fault old new config) refused.fault) }
+        ensures fault { let fault = config_fault old new config in MatchResult result (λ _. fault ≡ None) (λ refused. MayRefuse fault fault refused.fault) }
         ensures ok { IfOk result (IsOpeningOf schema old new config []) }
         ensures set_up { IfOk result IsSetUp }
         ensures old_returned { IfErr result (λ refused. refused.old ≡ old) }
@@ -188,23 +186,22 @@ impl Opening {
         }
     }
 
-    /// Takes one more opening row, the one with this number. Where it has a fault it comes back, and nothing changes; the
-    /// first of these is told: the root key, the table, the sub key, the note, a row that was given before, and a row
-    /// without its root row. That memory ran out is told in place of none of these.
+    /// Takes one more opening row, with its note and no copy; a fault tells it by this number. Otherwise nothing changes,
+    /// and the row comes back, with its first fault as [`Opening::new`] has them. That memory ran out is told in place of
+    /// none of these.
     pub fn take_row(&mut self, at: usize, given: GivenRow) -> Result<(), (OpeningFault, GivenRow)>
-        ensures fault { MatchResult result
-            (λ _. given_fault self.old.tables (rows_in self.old.table) at given ≡ None)
-            (λ refused. MayRefuse (given_fault self.old.tables (rows_in self.old.table) at given) (given_fault self.old.tables (rows_in self.old.table) at given) refused.0) }
-        ensures ok { OnOk result ((root : ℕ) → rows_in self.new.table root ≡ with_one (rows_in self.old.table) given root) }
-        ensures rest { self.new ≡ record self.old { table = self.new.table } }
+        ensures fault { let fault = given_fault self.old.tables (rows_in self.old.table) at (value_of given) in MatchResult result (λ _. fault ≡ None) (λ refused. MayRefuse fault fault refused.0) }
+        ensures ok { OnOk result ((root : ℕ) → rows_in self.new.table root ≡ with_one (rows_in self.old.table) (value_of given) root) }
+        ensures kept { self.new ≡ record self.old { table = self.new.table } }
         ensures err { OnErr result (self.new ≡ self.old) }
-        ensures row_returned { IfErr result (λ refused. IsSameRow given refused.1) }
+        ensures row_returned { IfErr result (λ refused. value_of refused.1 ≡ value_of given) }
+        ensures set_up { IsSetUp self.new }
     {
         let tables = self.parts.schema.tables();
-        take(&mut self.parts.table, tables, at, given)?;
+        let taken = take_over(&mut self.parts.table, tables, at, given);
         // For the proof alone: a table is by rising root key, and each has some rows.
         let _rows = self.parts.table.iter();
-        Ok(())
+        taken
     }
 
     /// Which tables there are.
@@ -285,7 +282,7 @@ impl Opening {
 
 impl GivenRow {
     ghost use Rattle.std.specs.Prelude.{Some};
-    ghost use Rattle.sq_ranges.specs.Given.{key_of, row_of};
+    ghost use Rattle.sq_ranges.specs.Given.{key_of, row_of, value_of};
     ghost use Rattle.sq_ranges.specs.Refused.{shape_fault};
 
     /// Where it stands within its root key.
@@ -298,27 +295,12 @@ impl GivenRow {
         }
     }
 
-    /// What is given of this row.
-    pub(crate) fn of(root: Root, key: RowKey, row: Row) -> GivenRow
-        ensures root { result.root ≡ root }
-        ensures key { key_of result ≡ key }
-        ensures row { row_of result ≡ row }
-    {
-        GivenRow {
-            root: root.number(),
-            table: key.table,
-            sub: key.sub,
-            number: row.number(),
-            note: row.into_note(),
-        }
-    }
-
     /// Its root key. Refused for the first of these: the root key, the table that isn't one of this many, the sub
     /// key, and the note.
     pub(crate) fn root(&self, tables: u8) -> Result<Root, TxnFault>
         ensures { MatchResult result
-            (λ root. (shape_fault tables self.now ≡ None) × (root ≡ self.now.root))
-            (λ fault. shape_fault tables self.now ≡ Some fault) }
+            (λ root. (shape_fault tables (value_of self.now) ≡ None) × (root ≡ self.now.root))
+            (λ fault. shape_fault tables (value_of self.now) ≡ Some fault) }
     {
         let Some(root) = Root::new(self.root) else {
             return Err(TxnFault::BadRoot);
@@ -335,8 +317,28 @@ impl GivenRow {
         Ok(root)
     }
 
+    // The row, with the note and no copy.
+    pub(crate) fn into_row(self) -> Row
+        ensures { result ≡ row_of self }
+    {
+        Row::new(self.number, self.note)
+    }
+
+    // A row that stands so in its root key, as it was given.
+    pub(crate) fn of(root: Root, key: RowKey, row: Row) -> GivenRow
+        ensures { value_of result ≡ record { root = root; key = key; row = row } }
+    {
+        GivenRow {
+            root: root.number(),
+            table: key.table,
+            sub: key.sub,
+            number: row.number(),
+            note: row.into_note(),
+        }
+    }
+
     /// The row, with a copy of the note.
-    pub(crate) fn copy_of_row(&self) -> Result<Row, AllocError>
+    pub(crate) fn row(&self) -> Result<Row, AllocError>
         ensures { IfOk result (λ row. row ≡ row_of self.now) }
     {
         Ok(Row::new(self.number, self.note.clone()?))

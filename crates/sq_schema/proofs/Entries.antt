@@ -1,11 +1,13 @@
 -- Lists of entries whose keys strictly rise: what stands at a place, and what an edit there does.
-use Rattle.std.proofs.Common.{◌≡◌, ℕ, zero, suc, ◌<◌, ◌≤◌, not, List, [], ◌∷◌, length, get_or, set, Some, None, Ordering, IsTrue, refl, sym, ap, ◌∙◌, inl, inr, arith}
+use Rattle.std.proofs.Common.{◌≡◌, ℕ, zero, suc, ◌<◌, ◌≤◌, not, List, [], ◌∷◌, length, get_or, set, Some, None, Ordering, IsTrue, cond, take, refl, sym, ap, ◌∙◌, inl, inr, arith}
 use Rattle.std.specs.declared.cmp.Ordering.TheVariants.{Less, Equal, Greater}
-use Rattle.std.specs.List.{AllWithin, insert, remove}
-use Rattle.std.specs.List.Sorted.{IsNonDecreasingBy}
-use Rattle.std.specs.Ordering.{is_lt, eq_by_cmp, ordering_reverse, ordering_index}
+use Rattle.std.specs.List.{AllByRecursion, AllWithin, insert, remove}
+use Rattle.std.specs.List.Sorted.{IsNonDecreasingBy, IsStrictlySortedBy}
+use Rattle.std.specs.BTreeMap.{is_at, insert_entry}
+use Rattle.std.specs.Map.{lookup, keys_of, remove_entry}
+use Rattle.std.specs.Ordering.{is_lt, is_eq, match_ordering, eq_by_cmp, ordering_reverse, ordering_index}
 use Rattle.std.specs.Cmp.{IsTotalOrder}
-use Rattle.std.specs.FinMap.Entries.{find, put, where_key, below_all, is_sorted}
+use Rattle.std.specs.FinMap.Entries.{by_order, find, put, where_key, below_all, is_sorted}
 use Rattle.std.proofs.lemmas.Bool.{and_parts, and_from, cases_lt}
 use Rattle.std.proofs.lemmas.Cmp.{alike_right}
 
@@ -121,3 +123,49 @@ module _ {K X : Type 0} (R : K → K → Ordering) (o : IsTotalOrder R) where
         rw (turned R o e.0 k Greater (after 0 e (omega arith) (omega arith))) (ap (λ t. e ∷ t) (where_key_gap es 0 (omega arith) (λ j d low high. absurd (omega arith)) (λ j d low high. after (suc j) d (omega arith) (omega arith))))
     where_key_gap (e ∷ es) (suc at) within before after =
         rw (turned R o e.0 k Less (before 0 e (omega arith) (omega arith))) (ap (λ t. e ∷ t) (where_key_gap es at (omega arith) (λ j d low high. before (suc j) d (omega arith) (omega arith)) (λ j d low high. after (suc j) d (omega arith) (omega arith))))
+
+-- the entries of a map, and what its methods do to them
+module _ {K X : Type 0} (R : K → K → Ordering) where
+  -- a look-up in either of its forms
+  pub find-lookup : (es : List (K × X)) (k : K) → lookup (is_at (R k)) es ≡ find R k es
+  find-lookup [] k = refl
+  find-lookup (e ∷ es) k = ap (cond (is_eq (R k e.0)) (Some e.1)) (find-lookup es k)
+
+  -- the keys rise
+  below_from_keys : (k : K) (es : List (K × X)) → AllByRecursion (λ x. R k x ≡ Less) (keys_of es) → IsTrue (below_all R k es)
+  below_from_keys k [] below = refl
+  below_from_keys k (e ∷ es) below = and_from (is_lt (R k e.0)) (below_all R k es) (ap is_lt below.0) (below_from_keys k es below.1)
+
+  pub sorted_from_keys : (es : List (K × X)) → IsStrictlySortedBy R (keys_of es) → IsTrue (is_sorted R es)
+  unfolding IsStrictlySortedBy
+  sorted_from_keys [] rising = refl
+  sorted_from_keys (e ∷ es) rising = and_from (below_all R e.0 es) (is_sorted R es) (below_from_keys e.0 es rising.0) (sorted_from_keys es rising.1)
+
+  pub insert_entry-put : (es : List (K × X)) (k : K) (v : X) → insert_entry R es k v ≡ put R k v es
+  insert_entry-put [] k v = refl
+  insert_entry-put (e ∷ es) k v =
+      elim (R k e.0) as (λ r. match_ordering r ((k, v) ∷ e ∷ es) ((e.0, v) ∷ es) (e ∷ insert_entry R es k v) ≡ by_order r ((k, v) ∷ e ∷ es) ((e.0, v) ∷ es) (e ∷ put R k v es)) [
+        | Less ↦ refl
+        | Equal ↦ refl
+        | Greater ↦ ap (λ t. e ∷ t) (insert_entry-put es k v)
+      ]
+
+  pub remove_entry-where_key : IsTotalOrder R → (es : List (K × X)) (k : K) → IsTrue (is_sorted R es) → remove_entry (is_at (R k)) es ≡ where_key R (λ x. not (eq_by_cmp R k x)) es
+  remove_entry-where_key o [] k rising = refl
+  remove_entry-where_key o (e ∷ es) k rising =
+      let parts = and_parts (below_all R e.0 es) (is_sorted R es) rising in
+      let left = where_key R (λ x. not (eq_by_cmp R k x)) es in
+      let rest = ap (λ t. e ∷ t) (remove_entry-where_key o es k parts.1) in
+      elim (R k e.0) as (λ r. R k e.0 ≡ r → cond (is_eq r) es (e ∷ remove_entry (is_at (R k)) es) ≡ cond (not (is_eq r)) (e ∷ left) left) [
+        | Less ↦ λ is. rest
+        | Equal ↦ λ tied. sym (where_key_below R o k es (below_tied R o k e.0 es tied parts.0))
+        | Greater ↦ λ is. rest
+      ] refl
+
+  -- the next entry of such a list goes to the end of those before it
+  pub put_next : IsTotalOrder R → (es : List (K × X)) (i : ℕ) (d : K × X) → IsTrue (is_sorted R es) → i < length es → put R (get_or es i d).0 (get_or es i d).1 (take i es) ≡ take (suc i) es
+  put_next o [] i d rising within = absurd (omega arith)
+  put_next o (e ∷ es) zero d rising within = refl
+  put_next o (e ∷ es) (suc i) d rising within =
+      let before = sorted_at R o (e ∷ es) 0 (suc i) d rising (omega arith) within in
+      rw (turned R o e.0 (get_or es i d).0 Less before) (ap (λ t. e ∷ t) (put_next o es i d (and_parts (below_all R e.0 es) (is_sorted R es) rising).1 (omega arith)))

@@ -1,5 +1,5 @@
 -- A family whose log is folded is sound.
-use Rattle.std.proofs.Common.{◌≡◌, ◌≤◌, true, [], refl, ap, ◌∙◌, arith}
+use Rattle.std.proofs.Common.{◌≡◌, [], refl, ap, ◌∙◌, arith}
 use Rattle.std.proofs.lemmas.List.Elements.{All-nil}
 use Rattle.sq_schema.specs.TxnValue.{TxnValue}
 use Rattle.sq_schema.specs.Effect.{RowList}

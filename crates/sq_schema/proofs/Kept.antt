@@ -14,7 +14,7 @@ use Rattle.sq_schema.specs.Writes.{Write, is_sound, is_write, with_write, with_w
 use Rattle.sq_schema.proofs.KeyOrder.{key_cmp_total, same_key}
 
 -- the two forms of a test that is true
-to_T : (b : Bool) → b ≡ true → T b
+pub to_T : (b : Bool) → b ≡ true → T b
 to_T true e = tt
 to_T false e = absurd (cc)
 
@@ -59,6 +59,10 @@ IsRowList-with_write rows key (Some row) new sound = IsRowList-with_row rows key
 pub is_sorted-with_write : (rows : RowList) (key : RowKey) (row : Option RowValue) → is_sorted key_cmp rows ≡ true → is_sorted key_cmp (with_write rows key row) ≡ true
 is_sorted-with_write rows key None rising = is_sorted-without_row rows key rising
 is_sorted-with_write rows key (Some row) rising = is_sorted-with_row rows key row rising
+
+pub is_sorted-with_writes : (rows : RowList) (writes : List Write) → is_sorted key_cmp rows ≡ true → is_sorted key_cmp (with_writes rows writes) ≡ true
+is_sorted-with_writes rows [] rising = rising
+is_sorted-with_writes rows (write ∷ writes) rising = is_sorted-with_writes (with_write rows write.0 write.1) writes (is_sorted-with_write rows write.0 write.1 rising)
 
 pub IsRowList-with_writes : (rows : RowList) (writes : List Write) → AllPass is_write writes → IsRowList rows → IsRowList (with_writes rows writes)
 IsRowList-with_writes rows [] new sound = sound

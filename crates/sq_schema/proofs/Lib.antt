@@ -2,6 +2,7 @@ pub mod Entries
 pub mod Folded
 pub mod Kept
 pub mod Room
+pub mod RowMaps
 pub mod KeyOrder
 pub mod Places
 pub mod Sizes

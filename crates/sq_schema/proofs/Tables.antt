@@ -2,11 +2,10 @@
 use Rattle.std.proofs.Common.{◌≡◌, ℕ, Bool, true, false, cond, not, ◌==◌, ◌&&◌, [], ◌∷◌, length, is_some, arith, Some, None, Option, Result, Ok, Err, OnOk, OnErr, unwrap_or, if◌then◌else◌, inl, inr, refl, sym, ap, ◌∙◌}
 use Rattle.std.specs.declared.cmp.Ordering.TheVariants.{Less, Equal, Greater}
 use Rattle.std.specs.BTreeMap.{is_at, insert_entry}
-use Rattle.std.specs.List.{All, AllByRecursion}
-use Rattle.std.specs.List.Sorted.{IsStrictlySortedBy}
-use Rattle.std.specs.Map.{lookup, keys_of, set_value, remove_entry}
-use Rattle.std.specs.Ordering.{nat_cmp, is_eq, is_lt, eq_by_cmp, match_ordering}
-use Rattle.std.specs.FinMap.Entries.{find, is_sorted, below_all, by_order}
+use Rattle.std.specs.List.{All}
+use Rattle.std.specs.Map.{lookup, set_value, remove_entry}
+use Rattle.std.specs.Ordering.{nat_cmp, is_lt, eq_by_cmp, match_ordering}
+use Rattle.std.specs.FinMap.Entries.{find, by_order}
 use Rattle.std.proofs.lemmas.Bool.{and_from, and_parts, cases_eq, ne_eqb}
 use Rattle.std.proofs.lemmas.Bool.Decides.{nat_tests}
 use Rattle.std.proofs.lemmas.List.Elements.{All-nil, All-cons, All-head, All-tail}
@@ -19,28 +18,14 @@ use Rattle.sq_schema.specs.Rows.{is_rooted}
 use Rattle.sq_schema.specs.declared.fault.RowFault.TheVariants.{RowRepeated, NoRootRow}
 use Rattle.sq_schema.proofs.Rooted.{is_rooted-with_row}
 use Rattle.sq_schema.specs.Table.{TableValue, rows_in, is_opening, row_given_fault, with_given}
+use Rattle.sq_schema.proofs.Entries.{find-lookup}
 use Rattle.sq_schema.proofs.Latest.{nat_eq-cmp}
-
--- a look-up in either of its forms
-pub find-lookup : (table : TableValue) (root : ℕ) → lookup (is_at (nat_cmp root)) table ≡ find nat_cmp root table
-find-lookup [] root = refl
-find-lookup (entry ∷ table) root = ap (cond (is_eq (nat_cmp root entry.0)) (Some entry.1)) (find-lookup table root)
 
 -- what a map holds after a change at one root key
 pub rows_in-updates : (old new : TableValue) (root : ℕ) (rows : Option RowList) → ((k : ℕ) → lookup (is_at (nat_cmp k)) new ≡ cond (is_at (nat_cmp root) k) rows (lookup (is_at (nat_cmp k)) old)) → (k : ℕ) → rows_in new k ≡ (if root == k then unwrap_or rows [] else rows_in old k)
 rows_in-updates old new root rows updates k =
-    ap (λ found. unwrap_or found []) (sym (find-lookup new k) ∙ updates k ∙ ap (λ b. cond b rows (lookup (is_at (nat_cmp k)) old)) (sym (nat_eq-cmp root k)) ∙ ap (λ found. cond (root == k) rows found) (find-lookup old k))
+    ap (λ found. unwrap_or found []) (sym (find-lookup nat_cmp new k) ∙ updates k ∙ ap (λ b. cond b rows (lookup (is_at (nat_cmp k)) old)) (sym (nat_eq-cmp root k)) ∙ ap (λ found. cond (root == k) rows found) (find-lookup nat_cmp old k))
     ∙ elim (root == k) as (λ b. unwrap_or (cond b rows (find nat_cmp k old)) [] ≡ (if b then unwrap_or rows [] else rows_in old k)) [ true ↦ refl | false ↦ refl ]
-
--- the keys of a map rise
-below_from_keys : (root : ℕ) (table : TableValue) → AllByRecursion (λ k. nat_cmp root k ≡ Less) (keys_of table) → below_all nat_cmp root table ≡ true
-below_from_keys root [] below = refl
-below_from_keys root (entry ∷ table) below = and_from (is_lt (nat_cmp root entry.0)) (below_all nat_cmp root table) (ap is_lt below.0) (below_from_keys root table below.1)
-
-pub sorted_from_keys : (table : TableValue) → IsStrictlySortedBy nat_cmp (keys_of table) → is_sorted nat_cmp table ≡ true
-unfolding IsStrictlySortedBy
-sorted_from_keys [] rising = refl
-sorted_from_keys (entry ∷ table) rising = and_from (below_all nat_cmp entry.0 table) (is_sorted nat_cmp table) (below_from_keys entry.0 table rising.0) (sorted_from_keys table rising.1)
 
 -- what holds of all rows holds of them after a change
 module _ (P : RowList → Type 0) where

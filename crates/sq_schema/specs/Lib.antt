@@ -3,6 +3,7 @@ pub mod Keys
 pub mod TxnValue
 pub mod OpList
 pub mod EntryList
+pub mod RowIter
 pub mod Effect
 pub mod Family
 pub mod Refusals

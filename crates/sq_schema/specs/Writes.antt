@@ -1,6 +1,6 @@
 -- Writes of rows that wait to be made.
-use Rattle.std.specs.Prelude.{◌≡◌, ℕ, Bool, true, List, fold, length, Option, Some, None}
-use Rattle.std.specs.List.{AllPass}
+use Rattle.std.specs.Prelude.{◌≡◌, ℕ, Bool, true, ◌==◌, ◌&&◌, List, fold, length, reverse, Option, Some, None}
+use Rattle.std.specs.List.{AllPass, find}
 use Rattle.sq_schema.specs.declared.row.RowKey.{RowKey}
 use Rattle.sq_schema.specs.Values.{RowValue}
 use Rattle.sq_schema.specs.Effect.{RowList, with_row, without_row}
@@ -19,6 +19,10 @@ with_write rows key None = without_row rows key
 -- the rows after these writes, in their order
 abbrev pub with_writes : RowList → List Write → RowList
 with_writes rows writes = fold (λ now write. with_write now write.0 write.1) rows writes
+
+-- the last of these writes that is of this key
+abbrev pub last_write : List Write → RowKey → Option Write
+last_write writes key = find (λ write. (write.0.table == key.table) && (write.0.sub == key.sub)) (reverse writes)
 
 -- a row that is written under this key is sound
 abbrev pub is_sound : RowKey → Option RowValue → Bool

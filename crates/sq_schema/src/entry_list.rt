@@ -1,24 +1,33 @@
 // The rows of a root key in memory.
 ghost use Rattle.std.specs.Prelude.{◌≡◌, ℕ, ◌+◌, ◌<◌, ◌≤◌, true, [], ◌∷◌, length, IsTrue, IfErr, OnOk, OnErr, vec_len, vec_capacity};
+ghost use Rattle.std.specs.Option.{option_copied};
 ghost use Rattle.std.specs.FinMap.Entries.{is_sorted};
 ghost use Rattle.sq_schema.specs.Keys.{key_cmp};
 ghost use Rattle.sq_schema.specs.declared.row.RowKey.{RowKey};
-ghost use Rattle.sq_schema.specs.Effect.{RowList, with_row};
-ghost use Rattle.sq_schema.specs.EntryList.{entries_of, HasRoom, IsOne, StandsAlone};
+ghost use Rattle.sq_schema.specs.Effect.{RowList, row_at, with_row};
+ghost use Rattle.sq_schema.specs.EntryList.{entries_of, HasRoom, IsListed, IsOne, StandsAlone};
 ghost use Rattle.sq_schema.specs.Writes.{with_write, with_writes};
 
 use crate::row::{Row, RowKey};
+use crate::row_iter::RowIter;
+use crate::row_map;
 use crate::rows::place;
 use std::alloc::{AllocError, AllocFailed, Global};
+use std::collections::BTreeMap;
 use std::fmt::{self, Debug, Formatter, Write};
 use std::mem::replace;
 use std::slice;
 
-/// Rows by key in rising order, of which one alone takes no memory of its own: most root keys have one.
+/// The most rows that a list takes new ones beside.
+const MAX_LISTED: usize = 128;
+
+/// Rows by key in rising order, of which one alone takes no memory of its own: most root keys have one. Where they are
+/// many they lie in a map, so that a write costs no more than a search.
 #[derive(Drop)]
 pub(crate) enum EntryList {
     One((RowKey, Row)),
     Many(Vec<(RowKey, Row)>),
+    Map(BTreeMap<RowKey, Row>),
 }
 
 impl EntryList {
@@ -29,19 +38,60 @@ impl EntryList {
         EntryList::Many(Vec::new(alloc))
     }
 
-    /// The rows with their keys.
-    pub(crate) fn as_slice(&self) -> &[(RowKey, Row)]
-        ensures { result.now ≡ entries_of self.now }
+    /// How many rows there are.
+    pub(crate) fn len(&self) -> usize
+        ensures { result ≡ length (entries_of self.now) }
     {
         match self {
-            EntryList::One(row) => slice::from_ref(row),
-            EntryList::Many(rows) => rows,
+            EntryList::One(_) => 1,
+            EntryList::Many(rows) => rows.len(),
+            EntryList::Map(rows) => rows.len(),
+        }
+    }
+
+    /// The rows with their keys, in rising order.
+    pub(crate) fn iter(&self) -> RowIter<'_>
+        ensures { result ≡ entries_of self.now }
+    {
+        match self {
+            EntryList::One(row) => RowIter::of_list(slice::from_ref(row)),
+            EntryList::Many(rows) => RowIter::of_list(rows),
+            EntryList::Map(rows) => RowIter::of_map(rows),
+        }
+    }
+
+    /// The row of a key.
+    pub(crate) fn get(&self, key: RowKey) -> Option<&Row>
+        requires { is_sorted key_cmp (entries_of self.now) ≡ true }
+        ensures { option_copied result ≡ row_at (entries_of self.now) key }
+    {
+        match self {
+            EntryList::One(row) => get(slice::from_ref(row), key),
+            EntryList::Many(rows) => get(rows, key),
+            EntryList::Map(rows) => rows.get(&key),
         }
     }
 
     /// Puts a row, new or in place of the one that stands. Where there is no memory the row comes back.
     pub(crate) fn insert(&mut self, key: RowKey, row: Row) -> Result<(), AllocFailed<Row>>
         requires { is_sorted key_cmp (entries_of self.old) ≡ true }
+        ensures ok { OnOk result (entries_of self.new ≡ with_row (entries_of self.old) key row) }
+        ensures err { OnErr result (entries_of self.new ≡ entries_of self.old) }
+        ensures row_returned { IfErr result (λ failed. failed.value ≡ row) }
+    {
+        if self.grow().is_err() {
+            return Err(AllocFailed { value: row });
+        }
+        match self {
+            EntryList::Map(rows) => row_map::insert(rows, key, row),
+            EntryList::One(_) | EntryList::Many(_) => self.insert_listed(key, row),
+        }
+    }
+
+    // Puts a row into a list.
+    fn insert_listed(&mut self, key: RowKey, row: Row) -> Result<(), AllocFailed<Row>>
+        requires rising { is_sorted key_cmp (entries_of self.old) ≡ true }
+        requires listed { IsListed self.old }
         ensures ok { OnOk result (entries_of self.new ≡ with_row (entries_of self.old) key row) }
         ensures err { OnErr result (entries_of self.new ≡ entries_of self.old) }
         ensures row_returned { IfErr result (λ failed. failed.value ≡ row) }
@@ -66,6 +116,20 @@ impl EntryList {
         ensures ok { OnOk result (entries_of self.new ≡ with_writes (entries_of self.old) writes.items) }
         ensures err { OnErr result (entries_of self.new ≡ entries_of self.old) }
     {
+        self.grow()?;
+        match self {
+            EntryList::Map(rows) => row_map::write_all(rows, &mut writes),
+            EntryList::One(_) | EntryList::Many(_) => self.write_listed(writes),
+        }
+    }
+
+    // Makes these writes in a list.
+    fn write_listed(&mut self, mut writes: Vec<(RowKey, Option<Row>)>) -> Result<(), AllocError>
+        requires rising { is_sorted key_cmp (entries_of self.old) ≡ true }
+        requires listed { IsListed self.old }
+        ensures ok { OnOk result (entries_of self.new ≡ with_writes (entries_of self.old) writes.items) }
+        ensures err { OnErr result (entries_of self.new ≡ entries_of self.old) }
+    {
         if writes.len() == 1 {
             let Some((key, row)) = writes.pop() else {
                 unreachable!()
@@ -79,9 +143,10 @@ impl EntryList {
         Ok(())
     }
 
-    // Makes one write, or none where there is no memory.
+    // Makes one write in a list, or none where there is no memory.
     fn write_one(&mut self, key: RowKey, row: Option<Row>) -> Result<(), AllocError>
-        requires { is_sorted key_cmp (entries_of self.old) ≡ true }
+        requires rising { is_sorted key_cmp (entries_of self.old) ≡ true }
+        requires listed { IsListed self.old }
         ensures ok { OnOk result (entries_of self.new ≡ with_write (entries_of self.old) key row) }
         ensures err { OnErr result (entries_of self.new ≡ entries_of self.old) }
     {
@@ -102,22 +167,43 @@ impl EntryList {
         match self {
             EntryList::One((_, row)) => row,
             EntryList::Many(mut rows) => rows.remove(0).1,
+            EntryList::Map(mut rows) => {
+                let Some((_, row)) = rows.pop_first() else {
+                    unreachable!()
+                };
+                row
+            }
         }
     }
 
-    // Whether no other row stands than that of this key.
+    // Puts the rows of a list that has many into a map.
+    fn grow(&mut self) -> Result<(), AllocError>
+        requires { is_sorted key_cmp (entries_of self.old) ≡ true }
+        ensures { entries_of self.new ≡ entries_of self.old }
+    {
+        if let EntryList::Many(rows) = self
+            && rows.len() >= MAX_LISTED
+        {
+            *self = EntryList::Map(row_map::map_of(*rows.allocator(), rows)?);
+        }
+        Ok(())
+    }
+
+    // Whether no other row stands in a list than that of this key.
     fn stands_alone(&self, key: RowKey) -> bool
         ensures { IsTrue result → StandsAlone (entries_of self.now) key }
     {
         match self {
             EntryList::One((own, _)) => *own == key,
             EntryList::Many(rows) => rows.is_empty(),
+            EntryList::Map(_) => false,
         }
     }
 
     // Makes a write of this key, which takes no memory where no other row stands.
     fn set(&mut self, key: RowKey, row: Option<Row>)
-        requires { StandsAlone (entries_of self.old) key }
+        requires alone { StandsAlone (entries_of self.old) key }
+        requires listed { IsListed self.old }
         ensures { entries_of self.new ≡ with_write (entries_of self.old) key row }
     {
         *self = match row {
@@ -126,21 +212,26 @@ impl EntryList {
         };
     }
 
-    fn alloc(&self) -> Global {
+    fn alloc(&self) -> Global
+        requires { IsListed self.now }
+    {
         match self {
             EntryList::One((_, row)) => row.alloc(),
             EntryList::Many(rows) => *rows.allocator(),
+            EntryList::Map(_) => unreachable!(),
         }
     }
 
-    // Takes room for this many rows more.
+    // Takes room for this many rows more in a list.
     fn reserve(&mut self, more: usize) -> Result<(), AllocError>
+        requires { IsListed self.old }
         ensures rows { entries_of self.new ≡ entries_of self.old }
         ensures room { OnOk result (HasRoom self.new more) }
     {
         match self {
             EntryList::One(_) => self.spread(more),
             EntryList::Many(rows) => reserve(rows, more),
+            EntryList::Map(_) => unreachable!(),
         }
     }
 
@@ -170,7 +261,7 @@ impl EntryList {
     {
         match self {
             EntryList::Many(rows) => write(rows, key, row),
-            EntryList::One(_) => unreachable!(),
+            EntryList::One(_) | EntryList::Map(_) => unreachable!(),
         }
     }
 }
@@ -182,13 +273,25 @@ impl Clone for EntryList {
         match self {
             EntryList::One((key, row)) => Ok(EntryList::One((*key, row.clone()?))),
             EntryList::Many(rows) => Ok(EntryList::Many(rows.clone()?)),
+            EntryList::Map(rows) => Ok(EntryList::Map(rows.clone()?)),
         }
     }
 }
 
 impl Debug for EntryList {
     fn fmt<W: Write>(&self, f: &mut Formatter<W>) -> fmt::Result {
-        f.debug_list().entries(self.as_slice()).finish()
+        f.debug_list().entries(self.iter()).finish()
+    }
+}
+
+// The row of a key in a list.
+fn get(rows: &[(RowKey, Row)], key: RowKey) -> Option<&Row>
+    requires { is_sorted key_cmp rows.now ≡ true }
+    ensures { option_copied result ≡ row_at rows.now key }
+{
+    match place(rows, key) {
+        Ok(at) => Some(&rows[at].1),
+        Err(_) => None,
     }
 }
 

@@ -86,7 +86,7 @@ impl Family {
             } => {
                 let entry = txn.clone()?;
                 self.log.reserve(1)?;
-                self.rows.write_all(writes, size)?;
+                self.rows.write_all(alloc, writes, size)?;
                 self.log.push_reserved(entry);
                 Ok(Reply::Committed(answers))
             }

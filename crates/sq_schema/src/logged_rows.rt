@@ -6,24 +6,24 @@ ghost use Rattle.sq_schema.specs.Writes.{is_write, with_writes};
 
 use crate::row::{Row, RowKey};
 use crate::rows::Rows;
-use std::alloc::AllocError;
+use std::alloc::{AllocError, Global};
 use std::marker::Model;
 
-/// The rows that a log starts from, and the rows now. Up to the first write they are the same and are kept once. To a
-/// contract it is a `LoggedValue`.
+/// The rows that a log starts from, and the rows now. Up to the first write they are the same and are kept once; from
+/// then on the first lie in a box, since most families are never written. To a contract it is a `LoggedValue`.
 #[derive(Debug, Drop)]
 pub(crate) struct LoggedRows {
     rows: Rows,
-    base: Option<Rows>,
+    base: Option<Box<Rows>>,
 }
 
 impl Model for LoggedRows {
-    ghost use Rattle.std.specs.Prelude.{unwrap_or};
+    ghost use Rattle.std.specs.Option.{option_map_or};
     ghost use Rattle.sq_schema.specs.Standing.{LoggedValue};
 
     ghost Value = { LoggedValue };
 
-    ghost view = { λ r. record { base = unwrap_or r.base r.rows; rows = r.rows } };
+    ghost view = { λ r. record { base = option_map_or (λ base. base.value) r.base r.rows; rows = r.rows } };
 }
 
 impl LoggedRows {
@@ -61,6 +61,7 @@ impl LoggedRows {
     /// Makes these writes in their order, or none where there is no memory. The size is that of the rows afterwards.
     pub(crate) fn write_all(
         &mut self,
+        alloc: Global,
         writes: Vec<(RowKey, Option<Row>)>,
         size: u64,
     ) -> Result<(), AllocError>
@@ -74,7 +75,7 @@ impl LoggedRows {
             return Ok(());
         }
         if self.base.is_none() {
-            self.base = Some(self.rows.clone()?);
+            self.base = Some(Box::new(alloc, self.rows.clone()?)?);
         }
         self.rows.write_all(writes, size)
     }

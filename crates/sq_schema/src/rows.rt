@@ -14,6 +14,7 @@ ghost use Rattle.sq_schema.specs.Writes.{is_write, with_write, with_writes};
 use crate::entry_list::EntryList;
 use crate::pending::{RunOutcome, run};
 use crate::row::{Row, RowKey};
+use crate::row_iter::{RowIter, are_equal};
 use crate::txn::{Reply, Txn};
 use std::alloc::{AllocError, AllocFailed, Global};
 use std::marker::Model;
@@ -56,33 +57,29 @@ impl Rows {
         ensures count { result ≡ length self.now }
         ensures sound { IsRowList self.now }
     {
-        self.as_slice().len()
+        self.rows.len()
     }
 
     /// Whether there are none.
     pub fn is_empty(&self) -> bool
         ensures { result ≡ (length self.now == 0) }
     {
-        self.as_slice().is_empty()
+        self.rows.len() == 0
     }
 
     /// The rows with their keys, in rising order.
-    pub fn as_slice(&self) -> &[(RowKey, Row)]
-        ensures all { result.now ≡ self.now }
+    pub fn iter(&self) -> RowIter<'_>
+        ensures all { result ≡ self.now }
         ensures sound { IsRowList self.now }
     {
-        self.rows.as_slice()
+        self.rows.iter()
     }
 
     /// The row of a key.
     pub fn get(&self, key: RowKey) -> Option<&Row>
         ensures { option_copied result ≡ row_at self.now key }
     {
-        let rows = self.rows.as_slice();
-        match place(rows, key) {
-            Ok(at) => Some(&rows[at].1),
-            Err(_) => None,
-        }
+        self.rows.get(key)
     }
 
     /// The size in bytes of a family with these rows: 32, and 24 and the length of the note for each row.
@@ -172,7 +169,7 @@ impl PartialEq for Rows {
     ghost laws = { lists_per (and_per (on_per (λ entry. entry.0) key.laws-law) (on_per (λ entry. entry.1) row.laws-law)) };
 
     fn eq(&self, other: &Rows) -> bool {
-        self.as_slice() == other.as_slice()
+        are_equal(self.iter(), other.iter())
     }
 }
 

@@ -1,14 +1,26 @@
 -- The lines of a header, read one after another.
-use Rattle.std.proofs.Common.{◌≡◌, ℕ, ◌<◌, ◌≤◌, true, false, List, [], ◌∷◌, ◌++◌, length, map, refl, sym, ap, ◌∙◌, subst, append_assoc, arith, ◌≢◌, inl}
-use Rattle.std.specs.Prelude.{Some, None, Result, Ok, Err, IfOk, IfErr, codes, nat_lt}
+use Rattle.std.proofs.Common.{◌≡◌, ℕ, ◌<◌, ◌≤◌, ◌+◌, true, false, List, [], ◌∷◌, length, refl, sym, ap, ◌∙◌, subst, arith, ◌≢◌}
+use Rattle.std.specs.Prelude.{Option, Some, None, IfSome, Result, Ok, Err, codes, nat_lt}
+use Rattle.std.specs.Option.{option_map, option_or}
 use Rattle.std.proofs.lemmas.Bool.{le-ltb}
 use Rattle.std.proofs.lemmas.Bool.Decides.{nat_tests}
-use Rattle.std.proofs.lemmas.List.{map-append}
-use Rattle.sq_ranges.specs.declared.fault.OpeningFault.{OpeningFault}
+use Rattle.std.proofs.lemmas.Option.{none-some, same_Some}
+use Rattle.sq_schema.specs.Effect.{RowTable}
+use Rattle.sq_schema.specs.Table.{TableValue, rows_in, row_given_fault}
+use Rattle.sq_schema.specs.declared.fault.TxnFault.{TxnFault}
+use Rattle.sq_schema.specs.declared.fault.RowFault.{RowFault}
+use Rattle.sq_schema.specs.declared.fault.RowFault.TheVariants as row_faults
+use Rattle.sq_schema.specs.declared.fault.RowFault.TheVariants.{RowRepeated, NoRootRow}
+use Rattle.sq_plan.specs.PlanValue.{PlanValue}
 use Rattle.sq_ranges.specs.declared.opening.Config.{Config}
 use Rattle.sq_ranges.specs.declared.opening.GivenRow.{GivenRow}
+use Rattle.sq_ranges.specs.declared.fault.OpeningFault.{OpeningFault}
+use Rattle.sq_ranges.specs.declared.fault.OpeningFault.TheVariants as opening
 use Rattle.sq_ranges.specs.OpeningValue.{OpeningValue}
-use Rattle.sq_plan.specs.PlanValue.{PlanValue}
+use Rattle.sq_ranges.specs.Between.{recon_of}
+use Rattle.sq_ranges.specs.Fault.{of_row}
+use Rattle.sq_ranges.specs.Given.{GivenValue, value_of, no_rows, with_one, IsOpeningOf}
+use Rattle.sq_ranges.specs.Refused.{config_fault, shape_fault, given_fault, MayRefuse}
 use Rattle.sq_lines.specs.Pieces.{PieceValue, Line, Rest, Failed, Endless, TooMany, bytes_of, next_begins}
 use Rattle.sq_lines.specs.Coming.{LinesValue, CanCome, GoesOn, Leaves}
 use Rattle.sq_lines.proofs.Comings.{some_pieces}
@@ -20,9 +32,8 @@ use Rattle.sq_text.specs.declared.located.InputLine.{InputLine}
 use Rattle.sq_text.specs.declared.located.InputLine.TheVariants as line
 use Rattle.sq_text.specs.declared.located.LocatedFault.{LocatedFault}
 use Rattle.sq_text.specs.InputFaults.{◌>>=◌, IsRead, IsReadGivenMemory}
-use Rattle.sq_text.specs.Located.{at_line, located, of_opening}
-use Rattle.sq_text.specs.HeaderFields.{GivenValue, value_of}
-use Rattle.sq_text.specs.Header.{line_in, next_line, line_as, plan_of, config_of, row_of, RowsValue, row_lines, first_lines, first_of, AreFirstLines, no_rows, header_with, fault_with, IsTaken, Opens, OpensFrom}
+use Rattle.sq_text.specs.Located.{at_line, located, line_number, of_opening}
+use Rattle.sq_text.specs.Header.{line_in, next_line, line_as, plan_of, config_of, row_of, first_lines, IsReadBefore, unless, HeaderValue, plans_of, row_taken, rows_taken, header_of, header_in, Opens}
 
 -- a line that isn't too long
 pub short_line : (number : ℕ) (line : List ℕ) (others : List PieceValue) → length line ≤ MAX_LINE → next_line (Line number line ∷ others) ≡ Ok (line, others)
@@ -61,7 +72,7 @@ told view fault.ReadFailed wanted e = e
 told view fault.LineTooLong wanted e = e
 
 -- a fault that isn't want of memory is told
-pub is_told : {X Y : Type 0} (f : InputFault) (view : X → Y) (wanted : Result Y InputFault) → f ≢ fault.Memory → IsReadGivenMemory view (Err f) wanted → wanted ≡ Err f
+is_told : {X Y : Type 0} (f : InputFault) (view : X → Y) (wanted : Result Y InputFault) → f ≢ fault.Memory → IsReadGivenMemory view (Err f) wanted → wanted ≡ Err f
 is_told fault.Memory view wanted apart e = absurd (apart refl)
 is_told (fault.Plan f) view wanted apart e = e
 is_told (fault.Opening f) view wanted apart e = e
@@ -93,14 +104,10 @@ none_read view read f old new reads = λ left can. let n = reads left can in (n.
 
 -- ---- opening rows
 
--- rows before those of these lines
-abbrev pub put_before : List GivenValue → RowsValue → RowsValue
-put_before rows lines = record { rows = rows ++ lines.rows; ending = lines.ending }
-
 -- no row's line comes next
-no_row : (left : List PieceValue) → next_begins (codes "row ") left ≡ false → row_lines left ≡ record { rows = []; ending = Ok left }
-no_row [] e = refl
-no_row (piece ∷ pieces) e = rw e refl
+no_row : (tables : ℕ) (table : RowTable) (at : ℕ) (left : List PieceValue) → next_begins (codes "row ") left ≡ false → rows_taken tables table at left ≡ Ok (table, left)
+no_row tables table at [] e = refl
+no_row tables table at (piece ∷ pieces) e = rw e refl
 
 abbrev behind_it : {A : Type 0} → List PieceValue → Result (A × List PieceValue) InputFault → List PieceValue
 behind_it none (Ok x) = x.1
@@ -117,40 +124,124 @@ same_left {A} (Ok bytes) read pieces left value e = by_value (read bytes) e
     by_value (Err f) e = absurd cc
     by_value (Ok x) e = ap (behind_it []) e
 
-row_next : (mid left : List PieceValue) (value : GivenValue) → next_begins (codes "row ") mid ≡ true → line_as row_of mid ≡ Ok (value, left) → row_lines mid ≡ put_before (value ∷ []) (row_lines left)
-row_next [] left value begins e = absurd cc
-row_next (piece ∷ pieces) left value begins e =
-    let same : pieces ≡ left = same_left (line_in piece) row_of pieces left value e in
+-- a row that is read, on top of a table
+abbrev taken_on : ℕ → RowTable → ℕ → Result (GivenValue × List PieceValue) InputFault → Result (RowTable × List PieceValue) LocatedFault
+taken_on tables table at r = at_line (line.Row at) r >>= (λ row. unless (given_fault tables table at row.0) (with_one table row.0, row.1))
+
+abbrev behind_taken : List PieceValue → Result (RowTable × List PieceValue) LocatedFault → List PieceValue
+behind_taken none (Ok x) = x.1
+behind_taken none (Err f) = none
+
+-- a row that is taken was read, and what is left is what comes after its line
+row_read : (tables : ℕ) (table now : RowTable) (at : ℕ) (r : Result (GivenValue × List PieceValue) InputFault) (left : List PieceValue) → taken_on tables table at r ≡ Ok (now, left) → (value : GivenValue) × (r ≡ Ok (value, left))
+row_read tables table now at (Err f) left e = absurd cc
+row_read tables table now at (Ok row) left e = (row.0, ap (λ (l : List PieceValue). Ok (row.0, l)) (by_fault (given_fault tables table at row.0) e))
+  where
+    by_fault : (f : Option OpeningFault) → unless {A = RowTable × List PieceValue} f (with_one table row.0, row.1) ≡ Ok (now, left) → row.1 ≡ left
+    by_fault None e = ap (behind_taken []) e
+    by_fault (Some f) e = absurd cc
+
+row_next : (tables : ℕ) (table now : RowTable) (at : ℕ) (mid left : List PieceValue) → next_begins (codes "row ") mid ≡ true → row_taken tables table at mid ≡ Ok (now, left) → rows_taken tables table at mid ≡ rows_taken tables now (at + 1) left
+row_next tables table now at [] left begins e = absurd cc
+row_next tables table now at (piece ∷ pieces) left begins e =
+    let read = row_read tables table now at (line_as row_of (piece ∷ pieces)) left e in
+    let same : pieces ≡ left = same_left (line_in piece) row_of pieces left read.0 read.1 in
     rw (begins, e, same) refl
 
-pub row_fails : (mid : List PieceValue) (f : InputFault) → next_begins (codes "row ") mid ≡ true → line_as row_of mid ≡ Err f → row_lines mid ≡ record { rows = []; ending = Err f }
-row_fails [] f begins e = absurd cc
-row_fails (piece ∷ pieces) f begins e = rw (begins, e) refl
+row_fails : (tables : ℕ) (table : RowTable) (at : ℕ) (mid : List PieceValue) (f : LocatedFault) → next_begins (codes "row ") mid ≡ true → row_taken tables table at mid ≡ Err f → rows_taken tables table at mid ≡ Err f
+row_fails tables table at [] f begins e = absurd cc
+row_fails tables table at (piece ∷ pieces) f begins e = rw (begins, e) refl
 
--- the rows so far, before those that come
-abbrev pub RowsSoFar : LinesValue → LinesValue → List GivenRow → Type 0
-RowsSoFar first now rows = Leaves first now (λ all left. put_before (map value_of rows) (row_lines left) ≡ row_lines all)
+-- a table is the one with a row
+same_table : (table : RowTable) (given : GivenValue) (now : TableValue) → ((root : ℕ) → rows_in now root ≡ with_one table given root) → with_one table given ≡ rows_in now
+same_table table given now taken = λ j root. sym (taken root) j
 
-module _ (first now mid new : LinesValue) (rows : List GivenRow) (so_far : RowsSoFar first now rows) (on : GoesOn now mid) where
-  pub one_more : (row : GivenRow) (more : List GivenRow) → ((ps : List PieceValue) → CanCome mid ps → next_begins (codes "row ") ps ≡ true) → Leaves mid new (λ all left. line_as row_of all ≡ Ok (value_of row, left)) → more ≡ rows ++ row ∷ [] → RowsSoFar first new more
-  one_more row more begins reads grown = λ left can.
+-- a fault of an opening is told, unless it is want of memory
+fault_told : (first : Option OpeningFault) (f : OpeningFault) → MayRefuse first first f → (of_opening f).fault ≢ fault.Memory → first ≡ Some f
+fault_told first opening.Memory may apart = absurd (apart refl)
+fault_told first (opening.Recon f) may apart = may
+fault_told first opening.Limit may apart = may
+fault_told first opening.Capacity may apart = may
+fault_told first (opening.Row at f) may apart = may
+fault_told first (opening.Place at f) may apart = may
+
+-- the row of the next line is taken, or isn't
+abbrev pub RowRead : ℕ → RowTable → ℕ → RowTable → Result Unit LocatedFault → LinesValue → LinesValue → Type 0
+RowRead tables table at now r old new = Leaves old new (λ all left. IsReadBefore (λ _. now) r left (row_taken tables table at all))
+
+module _ (tables : ℕ) (table : RowTable) (at : ℕ) (old new : LinesValue) where
+  pub row_malformed : (now : RowTable) (f : InputFault) → Leaves old new (λ all left. IsReadGivenMemory {X = GivenRow} {Y = GivenValue × List PieceValue} (λ row. (value_of row, left)) (Err f) (line_as row_of all)) → RowRead tables table at now (Err (located f (Some (line.Row at)))) old new
+  row_malformed now f reads = λ left can.
+      let m = reads left can in
+      (m.0, m.1, λ apart. rw (is_told {X = GivenRow} f (λ row. (value_of row, left)) (line_as row_of m.0) apart m.2) refl)
+
+  pub row_unread : (now : RowTable) → RowRead tables table at now (Err (located fault.Memory None)) old new
+  row_unread now = λ left can. let some = some_pieces old in (some.pieces, some.can_come, λ apart. absurd (apart refl))
+
+  module _ (given : GivenRow) (reads : Leaves old new (λ all left. line_as row_of all ≡ Ok (value_of given, left))) where
+    pub row_fits : (now : TableValue) → given_fault tables table at (value_of given) ≡ None → ((root : ℕ) → rows_in now root ≡ with_one table (value_of given) root) → RowRead tables table at (rows_in now) (Ok tt) old new
+    row_fits now none taken = λ left can.
+        let m = reads left can in
+        (m.0, m.1, rw (m.2, none) (ap (λ (t : RowTable). Ok (t, left)) (same_table table (value_of given) now taken)))
+
+    pub row_refused : (now : RowTable) (f : OpeningFault) → MayRefuse (given_fault tables table at (value_of given)) (given_fault tables table at (value_of given)) f → RowRead tables table at now (Err (of_opening f)) old new
+    row_refused now f may = λ left can.
+        let m = reads left can in
+        (m.0, m.1, λ apart. let is : given_fault tables table at (value_of given) ≡ Some f = fault_told (given_fault tables table at (value_of given)) f may apart in rw (m.2, is) refl)
+
+-- the line of a fault of a row is its own
+pub row_line_of : (tables : ℕ) (table : RowTable) (at : ℕ) (given : GivenValue) (f : OpeningFault) → MayRefuse (given_fault tables table at given) (given_fault tables table at given) f → IfSome (of_opening f).line (λ line. line_number line ≡ at + 4)
+row_line_of tables table at given f may = by_fault f may
+  where
+    told : (shape : Option TxnFault) (place : Option RowFault) (f : OpeningFault) → option_or (option_map (opening.Row at) shape) (option_map (of_row at) place) ≡ Some f → IfSome (of_opening f).line (λ line. line_number line ≡ at + 4)
+    told (Some x) place f e = subst (λ (g : OpeningFault). IfSome (of_opening g).line (λ line. line_number line ≡ at + 4)) (same_Some (opening.Row at x) f e) refl
+    told None None f e = absurd (none-some f e)
+    told None (Some RowRepeated) f e = subst (λ (g : OpeningFault). IfSome (of_opening g).line (λ line. line_number line ≡ at + 4)) (same_Some (opening.Place at RowRepeated) f e) refl
+    told None (Some NoRootRow) f e = subst (λ (g : OpeningFault). IfSome (of_opening g).line (λ line. line_number line ≡ at + 4)) (same_Some (opening.Place at NoRootRow) f e) refl
+    told None (Some row_faults.Memory) f e = subst (λ (g : OpeningFault). IfSome (of_opening g).line (λ line. line_number line ≡ at + 4)) (same_Some opening.Memory f e) tt
+
+    by_fault : (f : OpeningFault) → MayRefuse (given_fault tables table at given) (given_fault tables table at given) f → IfSome (of_opening f).line (λ line. line_number line ≡ at + 4)
+    by_fault opening.Memory may = tt
+    by_fault (opening.Recon x) may = told (shape_fault tables given) (row_given_fault (table given.root) given.key) (opening.Recon x) may
+    by_fault opening.Limit may = told (shape_fault tables given) (row_given_fault (table given.root) given.key) opening.Limit may
+    by_fault opening.Capacity may = told (shape_fault tables given) (row_given_fault (table given.root) given.key) opening.Capacity may
+    by_fault (opening.Row n x) may = told (shape_fault tables given) (row_given_fault (table given.root) given.key) (opening.Row n x) may
+    by_fault (opening.Place n x) may = told (shape_fault tables given) (row_given_fault (table given.root) given.key) (opening.Place n x) may
+
+-- an opening with another table, and then another one again
+pub other_table : (o mid now : OpeningValue) → mid ≡ record o { table = mid.table } → now ≡ record mid { table = now.table } → now ≡ record o { table = now.table }
+other_table o mid now before after = after ∙ ap (λ (p : OpeningValue). record p { table = now.table }) before
+
+-- the rows so far were taken, and those that come are taken on top of them
+abbrev pub RowsSoFar : ℕ → RowTable → LinesValue → LinesValue → RowTable → ℕ → Type 0
+RowsSoFar tables table first now taken at = Leaves first now (λ all left. rows_taken tables taken at left ≡ rows_taken tables table 0 all)
+
+pub no_rows_yet : (tables : ℕ) (table : RowTable) (first : LinesValue) (at : ℕ) → at ≡ 0 → RowsSoFar tables table first first table at
+no_rows_yet tables table first at zero = λ left can. (left, can, ap (λ n. rows_taken tables table n left) zero)
+
+module _ (tables : ℕ) (table taken : RowTable) (at : ℕ) (first now mid new : LinesValue) (so_far : RowsSoFar tables table first now taken at) (on : GoesOn now mid) where
+  pub one_more : (more : RowTable) (next : ℕ) → ((ps : List PieceValue) → CanCome mid ps → next_begins (codes "row ") ps ≡ true) → RowRead tables taken at more (Ok tt) mid new → next ≡ at + 1 → RowsSoFar tables table first new more next
+  one_more more next begins reads is = λ left can.
       let m = reads left can in
       let a = so_far m.0 (on.0 m.0 m.1) in
-      let values : map value_of more ≡ map value_of rows ++ value_of row ∷ [] = ap (map value_of) grown ∙ map-append value_of rows (row ∷ []) in
-      let lists : map value_of more ++ (row_lines left).rows ≡ map value_of rows ++ (value_of row ∷ (row_lines left).rows) = ap (λ (l : List GivenValue). l ++ (row_lines left).rows) values ∙ append_assoc (map value_of rows) (value_of row ∷ []) (row_lines left).rows in
-      (a.0, a.1, ap (λ (l : List GivenValue). record { rows = l; ending = (row_lines left).ending }) lists ∙ ap (put_before (map value_of rows)) (sym (row_next m.0 left (value_of row) (begins m.0 m.1) m.2)) ∙ a.2)
+      (a.0, a.1, ap (λ n. rows_taken tables more n left) is ∙ sym (row_next tables taken more at m.0 left (begins m.0 m.1) m.2) ∙ a.2)
 
-  -- no line of a row comes next
-  pub rows_ended : ((ps : List PieceValue) → CanCome mid ps → next_begins (codes "row ") ps ≡ false) → Leaves first mid (λ all left. put_before (map value_of rows) (no_rows left) ≡ row_lines all)
-  rows_ended none = λ left can.
+  pub no_more : ((ps : List PieceValue) → CanCome mid ps → next_begins (codes "row ") ps ≡ false) → Leaves first mid (λ all left. rows_taken tables table 0 all ≡ Ok (taken, left))
+  no_more none = λ left can.
       let a = so_far left (on.0 left can) in
-      (a.0, a.1, ap (put_before (map value_of rows)) (sym (no_row left (none left can))) ∙ a.2)
+      (a.0, a.1, sym a.2 ∙ no_row tables taken at left (none left can))
+
+  pub bad_row : (more : RowTable) (f : LocatedFault) → ((ps : List PieceValue) → CanCome mid ps → next_begins (codes "row ") ps ≡ true) → RowRead tables taken at more (Err f) mid new → Leaves first new (λ all left. f.fault ≢ fault.Memory → rows_taken tables table 0 all ≡ Err f)
+  bad_row more f begins reads = λ left can.
+      let m = reads left can in
+      let a = so_far m.0 (on.0 m.0 m.1) in
+      (a.0, a.1, λ apart. sym a.2 ∙ row_fails tables taken at m.0 f (begins m.0 m.1) (m.2 apart))
 
 -- ---- whole headers
 
 -- a header whose fault this is, or of which nothing is told
 pub refused : {Y : Type 0} (f : InputFault) (line : InputLine) (left : List PieceValue) (wanted : Result (FirstLines × List PieceValue) LocatedFault) (view : Y → Y) (read : Result Y InputFault) → IsReadGivenMemory view (Err f) read → (at_line line read ≡ Err (located f (Some line)) → wanted ≡ Err (located f (Some line)))
-    → AreFirstLines (Err (located f (Some line))) left wanted
+    → IsReadBefore {X = FirstLines} {Y = FirstLines} (λ first. first) (Err (located f (Some line))) left wanted
 refused f line left wanted view read is follows = λ apart. follows (ap (at_line line) (is_told f view read apart is))
 
 -- the next line is read so
@@ -163,7 +254,7 @@ Fails {Y} read f old new = Leaves old new (λ all left. IsReadGivenMemory {X = Y
 
 -- the first three lines are read so
 abbrev pub FirstRead : Result FirstLines LocatedFault → LinesValue → LinesValue → Type 0
-FirstRead r old new = Leaves old new (λ all left. AreFirstLines r left (first_lines all))
+FirstRead r old new = Leaves old new (λ all left. IsReadBefore (λ first. first) r left (first_lines all))
 
 pub no_old : (f : InputFault) (v0 v1 : LinesValue) → Fails (plan_of (codes "old ")) f v0 v1 → FirstRead (Err (located f (Some line.Old))) v0 v1
 no_old f v0 v1 fails = λ left can. let a = fails left can in
@@ -189,38 +280,71 @@ all_three old new config v0 v1 v2 v3 first second third = λ left can.
     let a = first b.0 b.1 in
     (a.0, a.1, rw (a.2, b.2, d.2) refl)
 
--- the header, whose rows are these of what comes after the sizes, is read so
-abbrev pub HeaderRead : (List PieceValue → RowsValue) → ℕ → Result OpeningValue LocatedFault → LinesValue → LinesValue → Type 0
-HeaderRead rows_of tables r old new = Leaves old new (λ all left. Opens tables r left (header_with rows_of all))
+-- the header without rows that the first three lines spell
+abbrev pub PlansRead : ℕ → Result OpeningValue LocatedFault → LinesValue → LinesValue → Type 0
+PlansRead tables r old new = Leaves old new (λ all left. Opens tables r left (plans_of all))
 
-pub no_memory : (rows_of : List PieceValue → RowsValue) (tables : ℕ) (old new : LinesValue) → HeaderRead rows_of tables (Err (located fault.Memory None)) old new
-no_memory rows_of tables old new = λ left can. let some = some_pieces old in (some.pieces, some.can_come, λ apart. absurd (apart refl))
+-- the plans and the sizes that first lines spell have this fault
+abbrev pub fault_of : FirstLines → Option OpeningFault
+fault_of first = config_fault first.old first.new first.config
 
-pub no_first : (rows_of : List PieceValue → RowsValue) (tables : ℕ) (told : LocatedFault) (v0 v1 : LinesValue) → FirstRead (Err told) v0 v1 → HeaderRead rows_of tables (Err told) v0 v1
-no_first rows_of tables told v0 v1 first = λ left can. let a = first left can in (a.0, a.1, λ apart. rw (a.2 apart) refl)
+pub no_first : (tables : ℕ) (told : LocatedFault) (v0 v1 : LinesValue) → FirstRead (Err told) v0 v1 → PlansRead tables (Err told) v0 v1
+no_first tables told v0 v1 first = λ left can. let a = first left can in (a.0, a.1, λ apart. rw (a.2 apart) refl)
 
--- plans and sizes that make no opening
-pub plans_refused : (rows_of : List PieceValue → RowsValue) (tables : ℕ) (told : LocatedFault) (first : FirstLines) (v0 v1 : LinesValue) → FirstRead (Ok first) v0 v1
-    → (told.fault ≢ fault.Memory → (cause : OpeningFault) × (fault_with tables first [] ≡ Some cause) × (told ≡ of_opening cause)) → HeaderRead rows_of tables (Err told) v0 v1
-plans_refused rows_of tables told first v0 v1 begins refused = λ left can.
-    let a = begins left can in
-    let whole : header_with rows_of a.0 ≡ Ok (record { first = first; lines = rows_of left }) = rw a.2 refl in
-    (a.0, a.1, subst (Opens tables (Err told) left) (sym whole) (λ apart. let r = refused apart in ([], inl (record { later = (rows_of left).rows; rows_are = refl; cause = r.0; refused = r.1; fault_is = r.2 }))))
+module _ (tables : ℕ) (first : FirstLines) (v0 v1 : LinesValue) (begins : FirstRead (Ok first) v0 v1) where
+  pub plans_fit : (o : OpeningValue) → fault_of first ≡ None → IsOpeningOf tables first.old first.new first.config [] o → PlansRead tables (Ok o) v0 v1
+  plans_fit o none of = λ left can.
+      let a = begins left can in
+      let old = sym of.old_plan in
+      let new = sym of.new_plan in
+      let config = sym of.sizes in
+      let header : HeaderValue = record { old = first.old; new = first.new; config = first.config; rows = no_rows } in
+      let same : header ≡ header_in o = λ i. record { old = old i; new = new i; config = config i; rows = λ root. sym (of.table root) i } in
+      (a.0, a.1, record { spelled = rw (a.2, none) (ap (λ (h : HeaderValue). Ok (h, left)) same); tables_are = of.tables_are; moves = rw (of.old_plan, of.new_plan, of.sizes) of.moves })
 
--- plans and sizes alone
-pub plans_read : (tables : ℕ) (r : Result OpeningValue LocatedFault) (first : FirstLines) (v0 v1 : LinesValue) → FirstRead (Ok first) v0 v1 → IfOk r (λ o. (first_of o ≡ first) × IsTaken tables first [] o)
-    → IfErr r (λ refused. refused.fault ≢ fault.Memory → (cause : OpeningFault) × (fault_with tables first [] ≡ Some cause) × (refused ≡ of_opening cause)) → HeaderRead no_rows tables r v0 v1
-plans_read tables (Err told) first v0 v1 begins taken refused = plans_refused no_rows tables told first v0 v1 begins refused
-plans_read tables (Ok o) first v0 v1 begins taken refused = λ left can.
-    let a = begins left can in
-    let whole : header_with no_rows a.0 ≡ Ok (record { first = first; lines = no_rows left }) = rw a.2 refl in
-    (a.0, a.1, subst (Opens tables (Ok o) left) (sym whole) ([], record { rows_are = refl; fit = taken.1.fit; ending_is = refl }, taken.1.is))
+  pub plans_refused : (f : OpeningFault) → MayRefuse (fault_of first) (fault_of first) f → PlansRead tables (Err (of_opening f)) v0 v1
+  plans_refused f may = λ left can.
+      let a = begins left can in
+      (a.0, a.1, λ apart. let is : fault_of first ≡ Some f = fault_told (fault_of first) f may apart in rw (a.2, is) refl)
 
--- the whole header, whose rows are taken on top of the opening without rows
-pub whole_header : (tables : ℕ) (r : Result OpeningValue LocatedFault) (o : OpeningValue) (first : FirstLines) (v0 v1 v2 : LinesValue) → FirstRead (Ok first) v0 v1 → first_of o ≡ first
-    → Leaves v1 v2 (λ all left. OpensFrom tables o r left (row_lines all)) → HeaderRead row_lines tables r v0 v2
-whole_header tables r o first v0 v1 v2 begins same rows = λ left can.
-    let e = rows left can in
-    let a = begins e.0 e.1 in
-    let whole : header_with row_lines a.0 ≡ Ok (record { first = first; lines = row_lines e.0 }) = rw a.2 refl in
-    (a.0, a.1, subst (Opens tables r left) (ap (λ (f : FirstLines). Ok (record { first = f; lines = row_lines e.0 })) same ∙ sym whole) e.2)
+-- the line of a fault of an opening is none of the first two
+pub no_early_line : (f : OpeningFault) → IfSome (of_opening f).line (λ line. 3 ≤ line_number line)
+no_early_line opening.Memory = tt
+no_early_line (opening.Recon f) = omega arith
+no_early_line opening.Limit = omega arith
+no_early_line opening.Capacity = omega arith
+no_early_line (opening.Row at f) = omega arith
+no_early_line (opening.Place at f) = omega arith
+
+-- the header is read so
+abbrev pub HeaderRead : ℕ → Result OpeningValue LocatedFault → LinesValue → LinesValue → Type 0
+HeaderRead tables r old new = Leaves old new (λ all left. Opens tables r left (header_of tables all))
+
+pub no_plans : (tables : ℕ) (told : LocatedFault) (v0 v1 : LinesValue) → PlansRead tables (Err told) v0 v1 → HeaderRead tables (Err told) v0 v1
+no_plans tables told v0 v1 plans = λ left can. let a = plans left can in (a.0, a.1, λ apart. rw (a.2 apart) refl)
+
+module _ (tables : ℕ) (o : OpeningValue) (v0 v1 v2 : LinesValue) (plans : PlansRead tables (Ok o) v0 v1) where
+  pub header_fits : (now : OpeningValue) → now ≡ record o { table = now.table } → Leaves v1 v2 (λ all left. rows_taken o.tables (rows_in o.table) 0 all ≡ Ok (rows_in now.table, left)) → HeaderRead tables (Ok now) v0 v2
+  header_fits now kept rows = λ left can.
+      let e = rows left can in
+      let a = plans e.0 e.1 in
+      let taken : rows_taken tables (rows_in o.table) 0 e.0 ≡ Ok (rows_in now.table, left) = subst (λ n. rows_taken n (rows_in o.table) 0 e.0 ≡ Ok (rows_in now.table, left)) a.2.tables_are e.2 in (
+        a.0,
+        a.1,
+        record {
+          spelled = rw (a.2.spelled, taken) (ap (λ (p : OpeningValue). Ok (record { old = p.old; new = p.new; config = p.config; rows = rows_in now.table }, left)) (sym kept));
+          tables_are = ap (λ (p : OpeningValue). p.tables) kept ∙ a.2.tables_are;
+          moves = subst (λ (p : OpeningValue). p.recon ≡ recon_of p.old p.new p.config.width) (sym kept) a.2.moves;
+        },
+      )
+
+  pub header_refused : (f : LocatedFault) → Leaves v1 v2 (λ all left. f.fault ≢ fault.Memory → rows_taken o.tables (rows_in o.table) 0 all ≡ Err f) → HeaderRead tables (Err f) v0 v2
+  header_refused f rows = λ left can.
+      let e = rows left can in
+      let a = plans e.0 e.1 in (
+        a.0,
+        a.1,
+        λ apart.
+            let taken : rows_taken tables (rows_in o.table) 0 e.0 ≡ Err f = subst (λ n. rows_taken n (rows_in o.table) 0 e.0 ≡ Err f) a.2.tables_are (e.2 apart) in
+            rw (a.2.spelled, taken) refl,
+      )

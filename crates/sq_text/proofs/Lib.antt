@@ -6,6 +6,5 @@ pub mod Shrinks
 pub mod OpRun
 pub mod Appending
 pub mod HeaderRun
-pub mod Taking
 pub mod Moves
 mod VerbWords

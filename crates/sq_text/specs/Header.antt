@@ -1,15 +1,17 @@
 -- The header of an input: two plans, the sizes, and the opening rows.
-use Rattle.std.specs.Prelude.{◌≡◌, ◌≢◌, ◌⊎◌, ℕ, nat_eq, nat_lt, if◌then◌else◌, List, [], ◌∷◌, ◌++◌, length, map, drop, Option, Some, None, Result, Ok, Err, codes, ok_or}
+use Rattle.std.specs.Prelude.{◌≡◌, ◌≢◌, ◌≤◌, ◌+◌, ℕ, nat_eq, nat_lt, if◌then◌else◌, List, [], ◌∷◌, length, drop, Option, Some, None, IfSome, Result, Ok, Err, codes, ok_or}
 use Rattle.std.specs.List.{starts_with}
+use Rattle.sq_schema.specs.Effect.{RowTable}
+use Rattle.sq_schema.specs.Table.{rows_in}
 use Rattle.sq_plan.specs.declared.fault.PlanFault.{PlanFault}
 use Rattle.sq_plan.specs.PlanValue.{PlanValue}
 use Rattle.sq_plan.specs.Reading.{plan_in}
 use Rattle.sq_ranges.specs.declared.opening.Config.{Config}
 use Rattle.sq_ranges.specs.declared.fault.OpeningFault.{OpeningFault}
-use Rattle.sq_ranges.specs.declared.opening.GivenRow.{GivenRow}
 use Rattle.sq_ranges.specs.OpeningValue.{OpeningValue}
-use Rattle.sq_ranges.specs.Given.{IsOpeningOf}
-use Rattle.sq_ranges.specs.Refused.{opening_fault}
+use Rattle.sq_ranges.specs.Between.{recon_of}
+use Rattle.sq_ranges.specs.Given.{GivenValue, no_rows, with_one}
+use Rattle.sq_ranges.specs.Refused.{config_fault, given_fault}
 use Rattle.sq_text.specs.declared.header.FirstLines.{FirstLines}
 use Rattle.sq_text.specs.declared.step.TheConstants.{MAX_LINE}
 use Rattle.sq_text.specs.declared.input_fault.InputFault.{InputFault}
@@ -18,9 +20,10 @@ use Rattle.sq_text.specs.declared.located.InputLine.TheVariants as line
 use Rattle.sq_text.specs.declared.located.LocatedFault.{LocatedFault}
 use Rattle.sq_text.specs.Words.{words_of}
 use Rattle.sq_lines.specs.Pieces.{PieceValue, Line, Rest, Failed, Endless, TooMany, bytes_of}
+use Rattle.sq_lines.specs.Coming.{LinesValue}
 use Rattle.sq_text.specs.InputFaults.{◌>>=◌}
-use Rattle.sq_text.specs.Located.{at_line, of_opening}
-use Rattle.sq_text.specs.HeaderFields.{GivenValue, value_of, config_in, given_in}
+use Rattle.sq_text.specs.Located.{at_line, line_number, of_opening}
+use Rattle.sq_text.specs.HeaderFields.{config_in, given_in}
 
 -- the bytes of a line of the header, or why it is none: it has too many bytes, or no end, or a read failed
 abbrev pub line_in : PieceValue → Result (List ℕ) InputFault
@@ -71,24 +74,6 @@ row_of line = do
   text ← behind (codes "row ") line
   ok_or (given_in (words_of text)) BadHeader
 
--- opening rows, and then what comes after them, or the fault of the line that ends them
-pub record RowsValue : Type 0 where
-  pub rows : List GivenValue
-  pub ending : Result (List PieceValue) InputFault
-
--- a row before others
-abbrev pub row_then : Result (GivenValue × List PieceValue) InputFault → RowsValue → RowsValue
-row_then (Ok row) others = record { rows = row.0 ∷ others.rows; ending = others.ending }
-row_then (Err fault) others = record { rows = []; ending = Err fault }
-
--- the rows of the lines that begin as a row's line does, up to the first that spells none
-abbrev pub row_lines : List PieceValue → RowsValue
-row_lines [] = record { rows = []; ending = Ok [] }
-row_lines (piece ∷ pieces) =
-    if starts_with nat_eq (bytes_of piece) (codes "row ")
-    then row_then (line_as row_of (piece ∷ pieces)) (row_lines pieces)
-    else record { rows = []; ending = Ok (piece ∷ pieces) }
-
 -- the plans and the sizes that pieces begin with, and what comes after these three lines
 abbrev pub first_lines : List PieceValue → Result (FirstLines × List PieceValue) LocatedFault
 first_lines pieces = do
@@ -97,73 +82,65 @@ first_lines pieces = do
   config ← at_line line.Config (line_as config_of new.1)
   Ok (record { old = old.0; new = new.0; config = config.0 }, config.1)
 
--- these are the plans and the sizes, with what comes after them, or this is the fault of their lines, unless memory ran out
-abbrev pub AreFirstLines : Result FirstLines LocatedFault → List PieceValue → Result (FirstLines × List PieceValue) LocatedFault → Type 0
-AreFirstLines (Ok first) left wanted = wanted ≡ Ok (first, left)
-AreFirstLines (Err refused) left wanted = refused.fault ≢ Memory → wanted ≡ Err refused
+-- the answer, seen by view, is this, with what comes after it left to be read; or it is the first fault, unless memory ran out
+abbrev pub IsReadBefore : {X Y : Type 0} → (X → Y) → Result X LocatedFault → List PieceValue → Result (Y × List PieceValue) LocatedFault → Type 0
+IsReadBefore view (Ok x) left wanted = wanted ≡ Ok (view x, left)
+IsReadBefore view (Err refused) left wanted = refused.fault ≢ Memory → wanted ≡ Err refused
 
--- a header, as far as it can be read
+-- this, unless an opening has a fault
+abbrev pub unless : {A : Type 0} → Option OpeningFault → A → Result A LocatedFault
+unless None x = Ok x
+unless (Some fault) x = Err (of_opening fault)
+
+-- what a header spells: the plans, the sizes, and the table of its rows
 pub record HeaderValue : Type 0 where
-  pub first : FirstLines
-  pub lines : RowsValue
+  pub old : PlanValue
+  pub new : PlanValue
+  pub config : Config
+  pub rows : RowTable
 
--- no rows, before whatever comes
-abbrev pub no_rows : List PieceValue → RowsValue
-no_rows pieces = record { rows = []; ending = Ok pieces }
-
--- the lines of the plans and of the sizes that pieces begin with, and then the rows that are read so
-abbrev pub header_with : (List PieceValue → RowsValue) → List PieceValue → Result HeaderValue LocatedFault
-header_with rows pieces = do
+-- the header without rows that pieces begin with, and what comes after its three lines; plans and sizes with a fault end it
+abbrev pub plans_of : List PieceValue → Result (HeaderValue × List PieceValue) LocatedFault
+plans_of pieces = do
   first ← first_lines pieces
-  Ok (record { first = first.0; lines = rows first.1 })
+  unless (config_fault first.0.old first.0.new first.0.config) (record { old = first.0.old; new = first.0.new; config = first.0.config; rows = no_rows }, first.1)
 
--- the header that pieces begin with: the lines of the plans and of the sizes, and the rows
-abbrev pub header_of : List PieceValue → Result HeaderValue LocatedFault
-header_of pieces = header_with row_lines pieces
+-- the table with the row of the next line, which has this number, and what comes after it
+abbrev pub row_taken : ℕ → RowTable → ℕ → List PieceValue → Result (RowTable × List PieceValue) LocatedFault
+row_taken tables table at pieces = do
+  row ← at_line (line.Row at) (line_as row_of pieces)
+  unless (given_fault tables table at row.0) (with_one table row.0, row.1)
 
--- the plans and the sizes that pieces begin with: their first three lines
-abbrev pub plans_of : List PieceValue → Result HeaderValue LocatedFault
-plans_of pieces = header_with no_rows pieces
+-- as long as lines begin as a row's line does, their rows are taken one after another, numbered from this on; the first that isn't taken ends it
+abbrev pub rows_taken : ℕ → RowTable → ℕ → List PieceValue → Result (RowTable × List PieceValue) LocatedFault
+rows_taken tables table at [] = Ok (table, [])
+rows_taken tables table at (piece ∷ pieces) =
+    if starts_with nat_eq (bytes_of piece) (codes "row ")
+    then (row_taken tables table at (piece ∷ pieces) >>= (λ taken. rows_taken tables taken.0 (at + 1) pieces))
+    else Ok (table, piece ∷ pieces)
 
--- the fault of an opening of these plans, sizes and rows
-abbrev pub fault_with : ℕ → FirstLines → List GivenRow → Option OpeningFault
-fault_with tables first rows = opening_fault tables first.old first.new first.config rows
+-- the header that pieces begin with, and what comes after it: the plans and the sizes, and then row by row
+abbrev pub header_of : ℕ → List PieceValue → Result (HeaderValue × List PieceValue) LocatedFault
+header_of tables pieces = do
+  plans ← plans_of pieces
+  rows ← rows_taken tables plans.0.rows 0 plans.1
+  Ok (record plans.0 { rows = rows.0 }, rows.1)
 
--- these are the rows of the header, which make an opening, and it ends so
-pub record Ends (tables : ℕ) (header : HeaderValue) (rows : List GivenRow) (ending : Result (List PieceValue) LocatedFault) : Type 0 where
-  pub rows_are : map value_of rows ≡ header.lines.rows
-  pub fit : fault_with tables header.first rows ≡ None
-  pub ending_is : at_line (line.Row (length rows)) header.lines.ending ≡ ending
+-- what a header spells where this is its opening
+abbrev pub header_in : OpeningValue → HeaderValue
+header_in o = record { old = o.old; new = o.new; config = o.config; rows = rows_in o.table }
 
--- these are the first rows of the header, which make no opening for this fault, whatever rows come behind them
-pub record Refuses (tables : ℕ) (header : HeaderValue) (rows : List GivenRow) (fault : LocatedFault) : Type 0 where
-  pub later : List GivenValue
-  pub rows_are : map value_of rows ++ later ≡ header.lines.rows
-  pub cause : OpeningFault
-  pub refused : fault_with tables header.first rows ≡ Some cause
-  pub fault_is : fault ≡ of_opening cause
+-- the opening of what is spelled, for this many tables, with what comes after that left to be read
+pub record IsOpened (tables : ℕ) (o : OpeningValue) (left : List PieceValue) (wanted : Result (HeaderValue × List PieceValue) LocatedFault) : Type 0 where
+  pub spelled : wanted ≡ Ok (header_in o, left)
+  pub tables_are : o.tables ≡ tables
+  pub moves : o.recon ≡ recon_of o.old o.new o.config.width
 
--- this fault, with its line, is the first one of a header
-abbrev pub IsFirstFault : ℕ → LocatedFault → Result HeaderValue LocatedFault → Type 0
-IsFirstFault tables fault (Err first) = fault ≡ first
-IsFirstFault tables fault (Ok header) = (rows : List GivenRow) × (Refuses tables header rows fault ⊎ Ends tables header rows (Err fault))
+-- the answer is the opening of what is spelled, or else the first fault, unless memory ran out
+abbrev pub Opens : ℕ → Result OpeningValue LocatedFault → List PieceValue → Result (HeaderValue × List PieceValue) LocatedFault → Type 0
+Opens tables (Ok opening) left wanted = IsOpened tables opening left wanted
+Opens tables (Err refused) left wanted = refused.fault ≢ Memory → wanted ≡ Err refused
 
--- the opening has these plans, sizes and rows, none of which has a fault
-pub record IsTaken (tables : ℕ) (first : FirstLines) (rows : List GivenRow) (o : OpeningValue) : Type 0 where
-  pub fit : fault_with tables first rows ≡ None
-  pub is : IsOpeningOf tables first.old first.new first.config rows o
-
--- the answer is the opening of a header, with what comes after it, or else its first fault, unless memory ran out
-abbrev pub Opens : ℕ → Result OpeningValue LocatedFault → List PieceValue → Result HeaderValue LocatedFault → Type 0
-Opens tables (Err refused) left header = refused.fault ≢ Memory → IsFirstFault tables refused header
-Opens tables (Ok opening) left (Err first) = ⊥
-Opens tables (Ok opening) left (Ok header) =
-    (rows : List GivenRow) × Ends tables header rows (Ok left) × IsOpeningOf tables header.first.old header.first.new header.first.config rows opening
-
--- the first three lines of an opening
-abbrev pub first_of : OpeningValue → FirstLines
-first_of o = record { old = o.old; new = o.new; config = o.config }
-
--- the answer is that of a header with the plans and the sizes of this opening, and with rows
-abbrev pub OpensFrom : ℕ → OpeningValue → Result OpeningValue LocatedFault → List PieceValue → RowsValue → Type 0
-OpensFrom tables o answer left rows = Opens tables answer left (Ok (record { first = first_of o; lines = rows }))
+-- no line behind the one that a fault belongs to was taken
+abbrev pub StopsAt : LocatedFault → LinesValue → LinesValue → Type 0
+StopsAt refused old new = IfSome refused.line (λ at. old.lines ≤ new.lines + line_number at)

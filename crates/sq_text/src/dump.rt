@@ -11,7 +11,7 @@ use crate::text::Text;
 use sq_chunk::Note;
 use sq_model::Phase;
 use sq_plan::PartId;
-use sq_schema::{Family, Row, RowKey};
+use sq_schema::{Family, RowIter};
 use std::io;
 use std::io::Write;
 
@@ -35,8 +35,8 @@ pub fn write_end<W: Write>(writer: &mut W, phase: Phase) -> io::Result<()>
 }
 
 // Writes rows with their keys, each behind a space.
-fn write_entries<W: Write>(writer: &mut W, entries: &[(RowKey, Row)]) -> io::Result<()>
-    ensures { OnOk result (Appends (W.contents writer.old) (W.contents writer.new) (flat_map (λ entry. 32 ∷ entry_text entry) entries.now)) }
+fn write_entries<W: Write>(writer: &mut W, entries: RowIter<'_>) -> io::Result<()>
+    ensures { OnOk result (Appends (W.contents writer.old) (W.contents writer.new) (flat_map (λ entry. 32 ∷ entry_text entry) entries.entry)) }
 {
     for (key, row) in entries {
         write_entry(writer, *key, row)?;
@@ -60,7 +60,7 @@ fn write_before_rows<W: Write>(writer: &mut W, text: &Text, family: &Family) -> 
     ensures { OnOk result (Appends (W.contents writer.old) (W.contents writer.new) (text.now ++ (flat_map (λ entry. 32 ∷ entry_text entry) (rows_of family.now) ++ (10 ∷ [])))) }
 {
     writer.write_all(text.as_bytes())?;
-    write_entries(writer, family.rows().as_slice())?;
+    write_entries(writer, family.rows().iter())?;
     writer.write_all(b"\n")
 }
 

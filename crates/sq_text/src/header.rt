@@ -1,13 +1,14 @@
 // The header of an input.
-ghost use Rattle.std.specs.Prelude.{◌≡◌, ◌≢◌, ◌<◌, codes, [], Some, IfOk, IfErr, OnOk};
+ghost use Rattle.std.specs.Prelude.{◌≡◌, ◌≤◌, ◌+◌, codes, IfOk, IfErr, IfSome, OnOk};
+ghost use Rattle.sq_schema.specs.Table.{rows_in};
+ghost use Rattle.sq_ranges.specs.Given.{value_of};
 ghost use Rattle.sq_text.specs.Words.{words_of};
 ghost use Rattle.sq_lines.specs.Coming.{Leaves};
 ghost use Rattle.sq_text.specs.Faults.{IsParsed, IsParsedGivenMemory};
 ghost use Rattle.sq_text.specs.InputFaults.{IsRead, IsReadGivenMemory};
-ghost use Rattle.sq_ranges.specs.declared.fault.OpeningFault.{OpeningFault};
-ghost use Rattle.sq_text.specs.Located.{of_opening};
-ghost use Rattle.sq_text.specs.HeaderFields.{value_of, config_in, given_in};
-ghost use Rattle.sq_text.specs.Header.{next_line, line_as, behind, plan_of, config_of, row_of, row_lines, first_lines, first_of, AreFirstLines, fault_with, header_of, plans_of, IsTaken, Opens, OpensFrom};
+ghost use Rattle.sq_text.specs.Located.{line_number};
+ghost use Rattle.sq_text.specs.HeaderFields.{config_in, given_in};
+ghost use Rattle.sq_text.specs.Header.{next_line, line_as, behind, plan_of, config_of, row_of, IsReadBefore, first_lines, row_taken, rows_taken, header_of, plans_of, Opens, StopsAt};
 
 use crate::fault::{Malformed, ReadFault};
 use crate::input_fault::InputFault;
@@ -25,7 +26,8 @@ use std::io::Read;
 // Reads the next line, whose bytes the reader then has.
 fn next_line<R: Read>(lines: &mut LineReader<R>) -> Result<(), InputFault>
     ensures line { Leaves lines.old lines.new (λ all left. IsRead (λ _. (lines.new.piece, left)) result (next_line all)) }
-    ensures fewer { OnOk result (lines.new.lines < lines.old.lines) }
+    ensures one_line { lines.old.lines ≤ lines.new.lines + 1 }
+    ensures fewer { OnOk result (lines.old.lines ≡ lines.new.lines + 1) }
 {
     match lines.next_read(MAX_LINE) {
         Next::Line if lines.piece().len() <= MAX_LINE => Ok(()),
@@ -62,7 +64,8 @@ fn plan_line<R: Read>(
     front: &[u8],
     lines: &mut LineReader<R>,
 ) -> Result<Plan, InputFault>
-    ensures { Leaves lines.old lines.new (λ all left. IsReadGivenMemory (λ plan. (plan, left)) result (line_as (plan_of front.now) all)) }
+    ensures plan { Leaves lines.old lines.new (λ all left. IsReadGivenMemory (λ plan. (plan, left)) result (line_as (plan_of front.now) all)) }
+    ensures one_line { lines.old.lines ≤ lines.new.lines + 1 }
 {
     next_line(lines)?;
     plan(alloc, front, lines.piece())
@@ -96,7 +99,8 @@ fn sizes(line: &[u8]) -> Result<Config, InputFault>
 
 // The sizes of the next line.
 fn config_line<R: Read>(lines: &mut LineReader<R>) -> Result<Config, InputFault>
-    ensures { Leaves lines.old lines.new (λ all left. IsReadGivenMemory (λ config. (config, left)) result (line_as config_of all)) }
+    ensures config { Leaves lines.old lines.new (λ all left. IsReadGivenMemory (λ config. (config, left)) result (line_as config_of all)) }
+    ensures one_line { lines.old.lines ≤ lines.new.lines + 1 }
 {
     next_line(lines)?;
     sizes(lines.piece())
@@ -135,7 +139,8 @@ fn row(alloc: Global, line: &[u8]) -> Result<GivenRow, InputFault>
 // The opening row of the next line.
 fn row_line<R: Read>(alloc: Global, lines: &mut LineReader<R>) -> Result<GivenRow, InputFault>
     ensures row { Leaves lines.old lines.new (λ all left. IsReadGivenMemory (λ row. (value_of row, left)) result (line_as row_of all)) }
-    ensures fewer { OnOk result (lines.new.lines < lines.old.lines) }
+    ensures one_line { lines.old.lines ≤ lines.new.lines + 1 }
+    ensures fewer { OnOk result (lines.old.lines ≡ lines.new.lines + 1) }
 {
     next_line(lines)?;
     row(alloc, lines.piece())
@@ -154,7 +159,9 @@ fn first_lines<R: Read>(
     alloc: Global,
     lines: &mut LineReader<R>,
 ) -> Result<FirstLines, LocatedFault>
-    ensures { Leaves lines.old lines.new (λ all left. AreFirstLines result left (first_lines all)) }
+    ensures first { Leaves lines.old lines.new (λ all left. IsReadBefore (λ first. first) result left (first_lines all)) }
+    ensures stops { IfErr result (λ refused. StopsAt refused lines.old lines.new) }
+    ensures three_lines { lines.old.lines ≤ lines.new.lines + 3 }
 {
     let old = match plan_line(alloc, b"old ", lines) {
         Ok(old) => old,
@@ -170,74 +177,68 @@ fn first_lines<R: Read>(
     }
 }
 
-// The opening of plans and sizes, without rows.
-fn without_rows(alloc: Global, schema: Schema, first: FirstLines) -> Result<Opening, LocatedFault>
-    ensures ok { IfOk result (λ opening. (first_of opening ≡ first) × IsTaken schema first [] opening) }
-    ensures err { IfErr result (λ refused. refused.fault ≢ InputFault.Memory → (cause : OpeningFault) × (fault_with schema first [] ≡ Some cause) × (refused ≡ of_opening cause)) }
-{
-    let FirstLines { old, new, config } = first;
-    match Opening::without_rows(alloc, schema, old, new, config) {
-        Ok(opening) => Ok(opening),
-        Err(refused) => Err(LocatedFault::from(refused.fault)),
-    }
-}
-
-// The fault of the line of a row, the one with this number. That memory ran out belongs to no line.
-fn of_row_line(fault: InputFault, at: usize) -> LocatedFault
-    ensures fault { result.fault ≡ fault }
-    ensures line { fault ≢ InputFault.Memory → result.line ≡ Some (InputLine.Row at) }
-{
-    match fault {
-        InputFault::Memory => InputFault::Memory.at_no_line(),
-        fault => fault.at(InputLine::Row(at)),
-    }
-}
-
-// The opening with the rows of the lines that begin as a row's line does, each of which is taken as it is read.
-fn with_rows<R: Read>(
+// Takes the row of the next line, which has this number, into an opening.
+fn take_row<R: Read>(
     alloc: Global,
-    schema: Schema,
     lines: &mut LineReader<R>,
-    mut opening: Opening,
-) -> Result<Opening, LocatedFault>
-    requires { IsTaken schema (first_of opening) [] opening }
-    ensures { Leaves lines.old lines.new (λ all left. OpensFrom schema opening result left (row_lines all)) }
+    at: usize,
+    opening: &mut Opening,
+) -> Result<(), LocatedFault>
+    ensures row { Leaves lines.old lines.new (λ all left. IsReadBefore (λ _. rows_in opening.new.table) result left (row_taken opening.old.tables (rows_in opening.old.table) at all)) }
+    ensures kept { opening.new ≡ record opening.old { table = opening.new.table } }
+    ensures one_line { lines.old.lines ≤ lines.new.lines + 1 }
+    ensures fewer { OnOk result (lines.old.lines ≡ lines.new.lines + 1) }
+    ensures line { IfErr result (λ refused. IfSome refused.line (λ line. line_number line ≡ at + 4)) }
 {
-    // For the proof alone: as many lines as may come have numbers.
-    let _most = lines.lines_left();
-    let mut at = 0;
-    while lines.begins_read(b"row ") {
-        let row = match row_line(alloc, lines) {
-            Ok(row) => row,
-            Err(fault) => return Err(of_row_line(fault, at)),
-        };
-        if let Err((fault, _row)) = opening.take_row(at, row) {
-            return Err(LocatedFault::from(fault));
-        }
-        at += 1;
+    let given = match row_line(alloc, lines) {
+        Ok(given) => given,
+        Err(InputFault::Memory) => return Err(InputFault::Memory.at_no_line()),
+        Err(fault) => return Err(fault.at(InputLine::Row(at))),
+    };
+    if let Err((fault, _)) = opening.take_row(at, given) {
+        return Err(LocatedFault::from(fault));
     }
-    Ok(opening)
+    Ok(())
+}
+
+// Takes the rows of the next lines, as long as these begin so, into an opening, one after another.
+fn take_rows<R: Read>(
+    alloc: Global,
+    lines: &mut LineReader<R>,
+    opening: &mut Opening,
+) -> Result<(), LocatedFault>
+    ensures rows { Leaves lines.old lines.new (λ all left. IsReadBefore (λ _. rows_in opening.new.table) result left (rows_taken opening.old.tables (rows_in opening.old.table) 0 all)) }
+    ensures kept { opening.new ≡ record opening.old { table = opening.new.table } }
+    ensures stops { IfErr result (λ refused. IfSome refused.line (λ line. lines.old.lines + 3 ≤ lines.new.lines + line_number line)) }
+{
+    let most = lines.lines_left();
+    while lines.begins_read(b"row ") {
+        let at = most - lines.lines_left();
+        take_row(alloc, lines, at as usize, opening)?;
+    }
+    Ok(())
 }
 
 /// The opening that the header of an input spells; the lines that are left are those of the script.
 ///
 /// Its lines are `old JSON` and `new JSON`, each with a plan; `config W L C`, the width of a leaf, the bytes of a
 /// chunk and the chunks of a link's queue; and then, as long as lines begin with `row `, opening rows:
-/// `row ROOT T S N NOTE`. A refusal is the first fault in the order of the lines, with the line that it belongs to: that
-/// of a plan; a line that is missing or isn't of its form; one with over [`MAX_LINE`] bytes, as soon as they came; a read
-/// that fails; an input with too many lines; for the plans and the sizes the fault that [`Opening::without_rows`] finds;
-/// and for each row that of [`Opening::take_row`]. [`InputFault::Memory`] may come in place of any answer. Each row is
-/// taken before the next line is read.
+/// `row ROOT T S N NOTE`. Each line is judged before the next one is read. A refusal is the first fault in the order of
+/// the lines, with the line that it belongs to, behind which none was taken: the fault of a plan; a line that is missing
+/// or isn't of its form; one with over [`MAX_LINE`] bytes, as soon as they came; a read that fails; an input with too many
+/// lines; for the plans and the sizes, at the third line, the fault that [`Opening::without_rows`] finds; and for each row
+/// the one that [`Opening::take_row`] finds. [`InputFault::Memory`] may come in place of any answer.
 pub fn read_header<R: Read>(
     alloc: Global,
     schema: Schema,
     lines: &mut LineReader<R>,
 ) -> Result<Opening, LocatedFault>
-    ensures { Leaves lines.old lines.new (λ all left. Opens schema result left (header_of all)) }
+    ensures header { Leaves lines.old lines.new (λ all left. Opens schema result left (header_of schema all)) }
+    ensures stops { IfErr result (λ refused. StopsAt refused lines.old lines.new) }
 {
-    let first = first_lines(alloc, lines)?;
-    let opening = without_rows(alloc, schema, first)?;
-    with_rows(alloc, schema, lines, opening)
+    let mut opening = read_plans(alloc, schema, lines)?;
+    take_rows(alloc, lines, &mut opening)?;
+    Ok(opening)
 }
 
 /// What the first three lines of an input spell, as an opening without rows: those of a header, with the plans and the
@@ -248,8 +249,13 @@ pub fn read_plans<R: Read>(
     schema: Schema,
     lines: &mut LineReader<R>,
 ) -> Result<Opening, LocatedFault>
-    ensures { Leaves lines.old lines.new (λ all left. Opens schema result left (plans_of all)) }
+    ensures plans { Leaves lines.old lines.new (λ all left. Opens schema result left (plans_of all)) }
+    ensures stops { IfErr result (λ refused. StopsAt refused lines.old lines.new) }
+    ensures three_lines { lines.old.lines ≤ lines.new.lines + 3 }
 {
     let first = first_lines(alloc, lines)?;
-    without_rows(alloc, schema, first)
+    match Opening::without_rows(alloc, schema, first.old, first.new, first.config) {
+        Ok(opening) => Ok(opening),
+        Err(refused) => Err(LocatedFault::from(refused.fault)),
+    }
 }

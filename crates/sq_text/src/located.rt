@@ -87,15 +87,15 @@ impl Display for LocatedFault {
 impl From<OpeningFault> for LocatedFault {
     ghost use Rattle.sq_text.specs.Located.{of_opening};
 
-    ghost from_gives = { λ cause fault. fault ≡ of_opening cause };
+    ghost from_gives = { λ fault told. told ≡ of_opening fault };
 
-    fn from(cause: OpeningFault) -> LocatedFault {
-        match cause {
+    fn from(fault: OpeningFault) -> LocatedFault {
+        match fault {
             OpeningFault::Memory => InputFault::Memory.at_no_line(),
             OpeningFault::Row(at, _) | OpeningFault::Place(at, _) => {
-                InputFault::Opening(cause).at(InputLine::Row(at))
+                InputFault::Opening(fault).at(InputLine::Row(at))
             }
-            cause => InputFault::Opening(cause).at(InputLine::Config),
+            fault => InputFault::Opening(fault).at(InputLine::Config),
         }
     }
 }

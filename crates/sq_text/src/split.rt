@@ -2,7 +2,12 @@
 ghost use Rattle.std.specs.Prelude.{◌≡◌, ◌==◌, [], ◌∷◌, MatchOption, position};
 ghost use Rattle.sq_text.specs.Words.{split_by};
 
-use sq_lines::place_of;
+// The first place of a byte. It is looked for byte by byte, since the words of a line are short.
+fn place_of(byte: u8, bytes: &[u8]) -> Option<usize>
+    ensures { result ≡ position (λ b. b == byte) bytes.now }
+{
+    bytes.iter().position(|b| *b == byte)
+}
 
 // What stands before the first of these bytes, and what stands after it; `None` where there is none.
 pub(crate) fn split_once(byte: u8, bytes: &[u8]) -> Option<(&[u8], &[u8])>

@@ -14,24 +14,19 @@ use Rattle.sq_lines.proofs.Comings.{some_more, some_pieces}
 use Rattle.sq_text.specs.declared.located.LocatedFault.{LocatedFault}
 use Rattle.sq_text.specs.declared.input_fault.InputFault.TheVariants.{Memory}
 use Rattle.sq_text.specs.Located.{located}
-use Rattle.sq_text.specs.Header.{HeaderValue, header_of, Opens}
+use Rattle.sq_text.specs.Header.{header_of, Opens}
 use Rattle.sq_world.specs.declared.ending.Ending.{Ending}
 use Rattle.sq_world.specs.Input.{IsGiven}
 use Rattle.sq_world.specs.Run.{IsFault, IsRun}
 use Rattle.sq_world.specs.Script.{LeadsTo, IsWritten}
 use Rattle.sq_world.proofs.Kept.{kept}
 
--- an opening that is read has the tables of the schema
-tables_of : (tables : ℕ) (o : OpeningValue) (left : List PieceValue) (header : Result HeaderValue LocatedFault) → Opens tables (Ok o) left header → o.tables ≡ tables
-tables_of tables o left (Err first) opens = absurd opens
-tables_of tables o left (Ok header) opens = opens.2.tables_are
-
 abbrev RunsLines : LinesValue → Option (List ℕ) → Option (List ℕ) → Ending → Type 0
 RunsLines lines before now ending = (given : List PieceValue) × CanCome lines given × (out : List ℕ) × Appends before now out × IsRun MAX_TABLES given out ending
 
 -- a script that is run from a header's opening
 pub run_from : {E : Type 0} (r : Result Ending E) (tables : ℕ) (begin lines : LinesValue) (before now : Option (List ℕ)) (w : WorldValue) → tables ≡ MAX_TABLES
-    → (o : OpeningValue) × LeadsTo o [] w × Leaves begin lines (λ all left. Opens tables (Ok o) left (header_of all))
+    → (o : OpeningValue) × LeadsTo o [] w × Leaves begin lines (λ all left. Opens tables (Ok o) left (header_of tables all))
     → IfOk r (λ ending. (o : OpeningValue) (t : Trace) → LeadsTo o t w → o.tables ≡ tables → IsWritten o t lines before now ending)
     → IfOk r (RunsLines begin before now)
 run_from (Err e) tables begin lines before now w eight opens writes = tt
@@ -39,19 +34,19 @@ run_from (Ok ending) tables begin lines before now w eight opens writes =
     let o = opens.0 in
     let some = some_pieces lines in
     let there = opens.2 some.pieces some.can_come in
-    let written = writes o [] opens.1 (tables_of tables o some.pieces (header_of there.0) there.2) in
+    let written = writes o [] opens.1 there.2.tables_are in
     let all = opens.2 written.pieces written.can_come in
-    (all.0, all.1, written.out, written.written, inl (record { opening = o; script = written.pieces; header = subst (λ n. Opens n (Ok o) written.pieces (header_of all.0)) eight all.2; is_opening = opens.1.is_opening; writes = written.writes }))
+    (all.0, all.1, written.out, written.written, inl (record { opening = o; script = written.pieces; header = subst (λ n. Opens n (Ok o) written.pieces (header_of n all.0)) eight all.2; is_opening = opens.1.is_opening; writes = written.writes }))
 
 -- a header that is refused
 pub run_refused : {E : Type 0} (r : Result Ending E) (tables : ℕ) (fault : LocatedFault) (begin lines : LinesValue) (before now : Option (List ℕ)) → tables ≡ MAX_TABLES
-    → Leaves begin lines (λ all left. Opens tables (Err fault) left (header_of all))
+    → Leaves begin lines (λ all left. Opens tables (Err fault) left (header_of tables all))
     → IfOk r (λ ending. (out : List ℕ) × Appends before now out × IsFault fault out ending) → IfOk r (RunsLines begin before now)
 run_refused (Err e) tables fault begin lines before now eight opens wrote = tt
 run_refused (Ok ending) tables fault begin lines before now eight opens wrote =
     let some = some_pieces lines in
     let all = opens some.pieces some.can_come in
-    (all.0, all.1, wrote.0, wrote.1, inr (record { fault = fault; left = some.pieces; header = subst (λ n. Opens n (Err fault) some.pieces (header_of all.0)) eight all.2; wrote = wrote.2 }))
+    (all.0, all.1, wrote.0, wrote.1, inr (record { fault = fault; left = some.pieces; header = subst (λ n. Opens n (Err fault) some.pieces (header_of n all.0)) eight all.2; wrote = wrote.2 }))
 
 -- what is written for the lines of a reader, and how that ends, are as this says
 abbrev pub OfLines : (List PieceValue → List ℕ → Ending → Type 0) → LinesValue → Option (List ℕ) → Option (List ℕ) → Ending → Type 0

@@ -79,7 +79,7 @@ Writes o t (TooMany ∷ others) out ending = IsFault (located TooLong (Some (Lat
 pub record IsRunFrom (tables : ℕ) (given : List PieceValue) (out : List ℕ) (ending : Ending) : Type 0 where
   pub opening : OpeningValue
   pub script : List PieceValue
-  pub header : Opens tables (Ok opening) script (header_of given)
+  pub header : Opens tables (Ok opening) script (header_of tables given)
   pub is_opening : IsOpening opening
   pub writes : Writes opening [] script out ending
 
@@ -87,7 +87,7 @@ pub record IsRunFrom (tables : ℕ) (given : List PieceValue) (out : List ℕ) (
 pub record IsRefused (tables : ℕ) (given : List PieceValue) (out : List ℕ) (ending : Ending) : Type 0 where
   pub fault : LocatedFault
   pub left : List PieceValue
-  pub header : Opens tables (Err fault) left (header_of given)
+  pub header : Opens tables (Err fault) left (header_of tables given)
   pub wrote : IsFault fault out ending
 
 -- what is written for the pieces of an input, and how the run ends

@@ -90,8 +90,8 @@ fn open_world<R: Read>(
     schema: Schema,
     lines: &mut LineReader<R>,
 ) -> Result<World, LocatedFault>
-    ensures world { IfOk result (λ world. (o : OpeningValue) × LeadsTo o [] world × Leaves lines.old lines.new (λ all left. Opens schema (Ok o) left (header_of all))) }
-    ensures fault { IfErr result (λ fault. Leaves lines.old lines.new (λ all left. Opens schema (Err fault) left (header_of all))) }
+    ensures world { IfOk result (λ world. (o : OpeningValue) × LeadsTo o [] world × Leaves lines.old lines.new (λ all left. Opens schema (Ok o) left (header_of schema all))) }
+    ensures fault { IfErr result (λ fault. Leaves lines.old lines.new (λ all left. Opens schema (Err fault) left (header_of schema all))) }
 {
     let opening = read_header(alloc, schema, lines)?;
     match World::from_opening(alloc, opening) {

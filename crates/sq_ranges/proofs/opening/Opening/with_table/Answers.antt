@@ -1,27 +1,6 @@
-use Rattle.sq_ranges.proofs.Openings.{roots-below}
+use Rattle.sq_ranges.specs.OpeningValue.{opening_of}
+use Rattle.sq_ranges.proofs.Openings.{table-set_up}
 use Rattle.sq_ranges.proofs.opening.Opening.with_table.Goals as goal
 
 pub invariant_of-result : goal.invariant_of-result
-invariant_of-result c =
-    record {
-      opening = record {
-        old_plan = c.self.invariant.opening.old_plan;
-        new_plan = c.self.invariant.opening.new_plan;
-        parts = c.self.invariant.opening.parts;
-        moves = c.self.invariant.opening.moves;
-        segments = c.self.invariant.opening.segments;
-        few_segments = c.self.invariant.opening.few_segments;
-        some_width = c.self.invariant.opening.some_width;
-        small_width = c.self.invariant.opening.small_width;
-        some_limit = c.self.invariant.opening.some_limit;
-        some_capacity = c.self.invariant.opening.some_capacity;
-        small_capacity = c.self.invariant.opening.small_capacity;
-      };
-      some_table = c.self.invariant.some_table;
-      few_tables = c.self.invariant.few_tables;
-      width = c.self.invariant.width;
-      small_limit = c.self.invariant.small_limit;
-      rising = c.iter-rows.ensures.rising;
-      rows = c.iter-rows.ensures.opening;
-      roots = roots-below c.args.table c.requires c.iter-rows.ensures.opening;
-    }
+invariant_of-result c = table-set_up (opening_of c.self.inside.parts) c.args.table c.self.invariant c.iter-rows.ensures.rising c.iter-rows.ensures.opening c.requires

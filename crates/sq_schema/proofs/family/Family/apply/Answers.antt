@@ -5,15 +5,11 @@ use Rattle.sq_schema.specs.Family.{FamilyValue}
 use Rattle.sq_schema.specs.Writes.{with_writes}
 use Rattle.sq_schema.proofs.Replay.{IsKept-logged}
 use Rattle.sq_schema.proofs.family.Family.apply.Goals as goal
-use Rattle.sq_schema.proofs.family.Family.apply.Goals.{In-Committed, After-push_reserved}
+use Rattle.sq_schema.proofs.family.Family.apply.Goals.{In-Committed}
 
 -- the operations of the transaction committed
 ran : (c : In-Committed) → ops_outcome 0 c.args.txn.now.ops c.self.inside.rows.rows ≡ Ok (with_writes c.self.inside.rows.rows c.in-Committed.writes.items, c.in-Committed.answers)
 ran c = rw (← c.ops.ensures.ops, ← c.rows.ensures) (rw c.in-Committed.is at c.in_ok-at.ensures).0
-
--- the transaction went to the end of the log
-pushed : (c : After-push_reserved) → c.push_reserved.new.self.items ≡ c.self.inside.log.items ++ c.args.txn.now ∷ []
-pushed c = rw (c.push_reserved.ensures.items, c.reserve.ensures.items) (ap (λ (txn : TxnValue). c.self.inside.log.items ++ txn ∷ []) c.in_ok-entry-in-Committed.ensures.cases)
 
 pub write_all-requires-clause-writes : goal.write_all-requires-clause-writes
 write_all-requires-clause-writes c = (rw c.in-Committed.is at c.in_ok-at.ensures).1
@@ -26,7 +22,8 @@ invariant_of-self-in-Committed c =
     let family : FamilyValue = record { root = c.self.inside.root; base = c.self.inside.rows.base; log = c.self.inside.log.items } in
     let own = c.requires ∙ ap (λ (f : FamilyValue). f.root) (sym c.self.view_is) in
     let after = ap (rows_after c.self.inside.rows.rows) (ran (goal.at.invariant_of-self-in-Committed c).In-Committed) ∙ sym c.in_ok-write_all-in-Committed.ensures.ok in
-    rw (pushed c, c.write_all.ensures.base) (IsKept-logged family c.self.inside.rows.rows c.write_all.new.self.rows c.args.txn.now c.self.invariant (omega arith) own after)
+    let pushed : c.push_reserved.new.self.items ≡ c.self.inside.log.items ++ c.args.txn.now ∷ [] = c.push_reserved.ensures.items ∙ (λ i. c.reserve.ensures.items i ++ c.in_ok-entry-in-Committed.ensures.cases i ∷ []) in
+    rw (pushed, c.write_all.ensures.base) (IsKept-logged family c.self.inside.rows.rows c.write_all.new.self.rows c.args.txn.now c.self.invariant (omega arith) own after)
 
 pub returns-in-Aborted-clause-reply : goal.returns-in-Aborted-clause-reply
 returns-in-Aborted-clause-reply c = rw (← c.self.view_is, ← c.self.invariant.rows, ← c.ops.ensures.ops, ← c.rows.ensures) (sym (ap reply_of (rw c.in-Aborted.is at c.in_ok-at.ensures)))
@@ -38,4 +35,5 @@ returns-in_ok-write_all-in-Committed-clause-reply c =
 pub returns-in_ok-write_all-in-Committed-clause-family : goal.returns-in_ok-write_all-in-Committed-clause-family
 returns-in_ok-write_all-in-Committed-clause-family c =
     let logged_as : List TxnValue → FamilyValue = λ log. record { root = c.self.inside.root; base = c.self.inside.rows.base; log = log } in
-    rw (← c.self.view_is, c.write_all.ensures.base) (ap logged_as (pushed c))
+    let pushed : c.push_reserved.new.self.items ≡ c.self.inside.log.items ++ c.args.txn.now ∷ [] = c.push_reserved.ensures.items ∙ (λ i. c.reserve.ensures.items i ++ c.in_ok-entry-in-Committed.ensures.cases i ∷ []) in
+    rw (← c.self.view_is, c.write_all.ensures.base) (ap logged_as pushed)

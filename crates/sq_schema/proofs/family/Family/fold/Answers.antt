@@ -1,7 +1,4 @@
-use Rattle.std.proofs.Common.{◌≡◌, List, [], sym, ap, ◌∙◌}
-use Rattle.sq_schema.specs.TxnValue.{TxnValue}
-use Rattle.sq_schema.specs.Family.{FamilyValue, rows_of}
-use Rattle.sq_schema.proofs.Applied.{is_rooted-replay_rows}
+use Rattle.sq_schema.specs.Family.{FamilyValue}
 use Rattle.sq_schema.proofs.Folded.{IsKept-folded}
 use Rattle.sq_schema.proofs.family.Family.fold.Goals as goal
 

@@ -8,21 +8,22 @@ use Rattle.std.proofs.lemmas.Map.Entries.{All-lookup}
 use Rattle.std.proofs.lemmas.Map.Steps.{set_value_same}
 use Rattle.sq_schema.specs.Effect.{with_row}
 use Rattle.sq_schema.specs.Table.{TableValue, rows_in, is_opening, row_given_fault, with_given}
-use Rattle.sq_schema.proofs.Tables.{find-lookup, All-set_value, is_opening-inserted, rows_in-updates, rows_in-given, OnOk-map, OnErr-map}
+use Rattle.sq_schema.proofs.Entries.{find-lookup}
+use Rattle.sq_schema.proofs.Tables.{All-set_value, is_opening-inserted, rows_in-updates, rows_in-given, OnOk-map, OnErr-map}
 use Rattle.sq_schema.proofs.table.Table.extend.Goals as goal
 use Rattle.sq_schema.proofs.table.Table.extend.Goals.{In-Some, After-insert}
 
 pub unreachable-requires : goal.unreachable-requires
 unreachable-requires c =
     let value = rw c.in_default.is at c.get_mut.ensures.value in
-    false≢true (ap is_some (value ∙ find-lookup c.self.inside.rows.entries c.args.root ∙ ap (find nat_cmp c.args.root) c.self.view_is) ∙ c.requires.present)
+    false≢true (ap is_some (value ∙ find-lookup nat_cmp c.self.inside.rows.entries c.args.root ∙ ap (find nat_cmp c.args.root) c.self.view_is) ∙ c.requires.present)
 
 -- the rows that stood
 found : (c : In-Some) → lookup (is_at (nat_cmp c.args.root)) c.self.inside.rows.entries ≡ Some c.in-Some.rows.now
 found c = sym (rw c.in-Some.is at c.get_mut.ensures.value)
 
 had : (c : In-Some) → rows_in c.self.inside.rows.entries c.args.root ≡ c.in-Some.rows.now
-had c = ap (λ o. unwrap_or o []) (sym (find-lookup c.self.inside.rows.entries c.args.root) ∙ found c)
+had c = ap (λ o. unwrap_or o []) (sym (find-lookup nat_cmp c.self.inside.rows.entries c.args.root) ∙ found c)
 
 pub invariant_of-self : goal.invariant_of-self
 invariant_of-self c =

@@ -5,17 +5,18 @@ use Rattle.std.specs.FinMap.Entries.{find}
 use Rattle.std.specs.Map.{lookup}
 use Rattle.std.proofs.lemmas.Map.Entries.{All-lookup}
 use Rattle.sq_schema.specs.Table.{is_opening}
+use Rattle.sq_schema.proofs.Entries.{find-lookup}
 use Rattle.sq_schema.proofs.Latest.{IfSome-copied}
-use Rattle.sq_schema.proofs.Tables.{find-lookup, none_above}
+use Rattle.sq_schema.proofs.Tables.{none_above}
 use Rattle.sq_schema.proofs.table.Table.rows.Goals as goal
 
 pub returns-clause-rows : goal.returns-clause-rows
-returns-clause-rows c = c.get.ensures.value ∙ find-lookup c.self.inside.rows.entries c.args.root ∙ ap (find nat_cmp c.args.root) c.self.view_is
+returns-clause-rows c = c.get.ensures.value ∙ find-lookup nat_cmp c.self.inside.rows.entries c.args.root ∙ ap (find nat_cmp c.args.root) c.self.view_is
 
 pub returns-then-lt-clause-rows : goal.returns-then-lt-clause-rows
 returns-then-lt-clause-rows c =
     let above : is_lt (nat_cmp c.in_ok-last.last.now c.args.root) ≡ true = search rules in
-    sym (none_above c.self.inside.rows.entries c.in_ok-last.last.now c.args.root above (c.in_ok-last.ensures.greatest c.args.root)) ∙ find-lookup c.self.inside.rows.entries c.args.root ∙ ap (find nat_cmp c.args.root) c.self.view_is
+    sym (none_above c.self.inside.rows.entries c.in_ok-last.last.now c.args.root above (c.in_ok-last.ensures.greatest c.args.root)) ∙ find-lookup nat_cmp c.self.inside.rows.entries c.args.root ∙ ap (find nat_cmp c.args.root) c.self.view_is
 
 pub returns-clause-opening : goal.returns-clause-opening
 returns-clause-opening c =

@@ -7,8 +7,9 @@ use Rattle.std.proofs.lemmas.List.{nil_from_length}
 use Rattle.sq_schema.specs.Effect.{effect, table_after}
 use Rattle.sq_schema.specs.Rows.{is_rooted}
 use Rattle.sq_schema.specs.Table.{TableValue, rows_in, is_opening}
+use Rattle.sq_schema.proofs.Entries.{find-lookup}
 use Rattle.sq_schema.proofs.Applied.{is_rooted-effect}
-use Rattle.sq_schema.proofs.Tables.{find-lookup, All-insert_entry, All-remove_entry, rows_in-updates, is_rooted-rows_in, rows_in-run, rows_in-twice}
+use Rattle.sq_schema.proofs.Tables.{All-insert_entry, All-remove_entry, rows_in-updates, is_rooted-rows_in, rows_in-run, rows_in-twice}
 use Rattle.sq_schema.proofs.table.Table.run.Goals as goal
 use Rattle.sq_schema.proofs.table.Table.run.Goals.{After-remove, In_ok-run}
 
@@ -21,7 +22,7 @@ ran : (c : In_ok-run) → c.run.new.self ≡ effect (rows_in c.self.inside.rows.
 ran c =
     c.in_ok-run.ensures.ok
     ∙ ap (λ rows. effect rows c.args.txn.now) (c.unwrap_or-rows.ensures ∙ ap (λ rows. unwrap_or c.remove.result rows) c.new.ensures
-    ∙ ap (λ found. unwrap_or found []) (c.remove.ensures.value ∙ find-lookup c.self.inside.rows.entries c.root-root.result)
+    ∙ ap (λ found. unwrap_or found []) (c.remove.ensures.value ∙ find-lookup nat_cmp c.self.inside.rows.entries c.root-root.result)
     ∙ ap (rows_in c.self.inside.rows.entries) c.root-root.ensures)
 
 pub invariant_of-self : goal.invariant_of-self

@@ -5,7 +5,7 @@ use Rattle.sq_schema.specs.EntryList.{entries_of}
 use Rattle.sq_schema.specs.Writes.{with_writes}
 use Rattle.sq_schema.proofs.Kept.{is_sorted-with_write}
 use Rattle.sq_schema.proofs.Room.{HasRoom-fewer}
-use Rattle.sq_schema.proofs.entry_list.EntryList.write_all.Goals as goal
+use Rattle.sq_schema.proofs.entry_list.EntryList.write_listed.Goals as goal
 
 pub loop-key-init : goal.loop-key-init
 loop-key-init c =
@@ -15,7 +15,7 @@ loop-key-init c =
       tt,
       tt,
       rw all (ap (λ rows. with_writes rows c.args.writes.items) kept.rows),
-      rw kept.rows c.requires,
+      rw kept.rows c.requires.rising,
       rw (all, ← count) kept.room,
     )
 

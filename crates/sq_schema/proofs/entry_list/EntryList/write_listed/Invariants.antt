@@ -4,7 +4,7 @@ use Rattle.std.specs.Vec.Iter.{into_iter_items}
 use Rattle.sq_schema.specs.EntryList.{entries_of, HasRoom}
 use Rattle.sq_schema.specs.Keys.{key_cmp}
 use Rattle.sq_schema.specs.Writes.{with_writes}
-use Rattle.sq_schema.proofs.entry_list.EntryList.write_all.Given as goal
+use Rattle.sq_schema.proofs.entry_list.EntryList.write_listed.Given as goal
 
 -- the writes that are left lead to the rows after all of them, and there is room for each
 abbrev pub invariant-loop-key : goal.invariant-loop-key
