@@ -47,6 +47,14 @@ module _ {K X : Type 0} (R : K → K → Ordering) (o : IsTotalOrder R) where
         | inr more ↦ let same : i ≡ j = omega arith in rw same (omega arith)
       ]
 
+  -- where the last key is below a key, each is
+  pub all_below : (k : K) (es : List (K × X)) (at : ℕ) → IsTrue (is_sorted R es) → length es ≡ suc at → ((d : K × X) → R (get_or es at d).0 k ≡ Less) → AllWithin (λ e. R e.0 k ≡ Less) es 0 (length es)
+  all_below k es at rising last below j d low high =
+      elim (cases_lt j at) [
+        | inl before ↦ o.trans (get_or es j d).0 (get_or es at d).0 k (sorted_at es j at d rising before (omega (arith, last))) (below d)
+        | inr from ↦ let same : j ≡ at = omega (arith, last, from, high) in rw same (below d)
+      ]
+
   -- where a key is below a whole list, no key of the list is the key
   pub find_below : (k : K) (es : List (K × X)) → IsTrue (below_all R k es) → find R k es ≡ None
   find_below k [] below = refl

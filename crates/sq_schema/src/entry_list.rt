@@ -18,11 +18,11 @@ use std::fmt::{self, Debug, Formatter, Write};
 use std::mem::replace;
 use std::slice;
 
-/// The most rows that a list takes new ones beside.
-const MAX_LISTED: usize = 128;
+/// From this many rows on a list moves none of them to make a write.
+const MAX_MOVED: usize = 128;
 
-/// Rows by key in rising order, of which one alone takes no memory of its own: most root keys have one. Where they are
-/// many they lie in a map, so that a write costs no more than a search.
+/// Rows by key in rising order, of which one alone takes no memory of its own: most root keys have one. They lie in a
+/// list up to the first write that would move many of them, and from then on in a map.
 #[derive(Drop)]
 pub(crate) enum EntryList {
     One((RowKey, Row)),
@@ -79,7 +79,7 @@ impl EntryList {
         ensures err { OnErr result (entries_of self.new ≡ entries_of self.old) }
         ensures row_returned { IfErr result (λ failed. failed.value ≡ row) }
     {
-        if self.grow().is_err() {
+        if self.moves_many(key, false) && self.grow().is_err() {
             return Err(AllocFailed { value: row });
         }
         match self {
@@ -116,7 +116,12 @@ impl EntryList {
         ensures ok { OnOk result (entries_of self.new ≡ with_writes (entries_of self.old) writes.items) }
         ensures err { OnErr result (entries_of self.new ≡ entries_of self.old) }
     {
-        self.grow()?;
+        let moves_many = writes
+            .iter()
+            .any(|(key, row)| self.moves_many(*key, row.is_none()));
+        if moves_many {
+            self.grow()?;
+        }
         match self {
             EntryList::Map(rows) => row_map::write_all(rows, &mut writes),
             EntryList::One(_) | EntryList::Many(_) => self.write_listed(writes),
@@ -176,14 +181,20 @@ impl EntryList {
         }
     }
 
-    // Puts the rows of a list that has many into a map.
+    // Whether a write of this key moves rows of a list that has many.
+    fn moves_many(&self, key: RowKey, removes: bool) -> bool {
+        match self {
+            EntryList::Many(rows) => rows.len() >= MAX_MOVED && moves_rows(rows, key, removes),
+            EntryList::One(_) | EntryList::Map(_) => false,
+        }
+    }
+
+    // Puts the rows of a list into a map.
     fn grow(&mut self) -> Result<(), AllocError>
         requires { is_sorted key_cmp (entries_of self.old) ≡ true }
         ensures { entries_of self.new ≡ entries_of self.old }
     {
-        if let EntryList::Many(rows) = self
-            && rows.len() >= MAX_LISTED
-        {
+        if let EntryList::Many(rows) = self {
             *self = EntryList::Map(row_map::map_of(*rows.allocator(), rows)?);
         }
         Ok(())
@@ -292,6 +303,16 @@ fn get(rows: &[(RowKey, Row)], key: RowKey) -> Option<&Row>
     match place(rows, key) {
         Ok(at) => Some(&rows[at].1),
         Err(_) => None,
+    }
+}
+
+// Whether a write of this key moves rows of a list: it removes one that isn't the last, or puts a new one before another.
+fn moves_rows(rows: &[(RowKey, Row)], key: RowKey, removes: bool) -> bool {
+    match rows.last() {
+        Some((last, _)) if *last > key => {
+            removes || rows.binary_search_by_key(&key, |(own, _)| *own).is_err()
+        }
+        _ => false,
     }
 }
 

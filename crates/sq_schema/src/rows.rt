@@ -198,6 +198,12 @@ pub(crate) fn place(rows: &[(RowKey, Row)], key: RowKey) -> Result<usize, usize>
     requires { is_sorted key_cmp rows.now ≡ true }
     ensures { IsRowPlace rows.now key result }
 {
+    // Rows are mostly put in rising order, and a key past the last needs no search.
+    if let Some((last, _)) = rows.last()
+        && *last < key
+    {
+        return Err(rows.len());
+    }
     rows.binary_search_by_key(&key, |(key, _)| *key)
 }
 
