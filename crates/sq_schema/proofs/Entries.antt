@@ -4,7 +4,8 @@ use Rattle.std.specs.declared.cmp.Ordering.TheVariants.{Less, Equal, Greater}
 use Rattle.std.specs.List.{AllByRecursion, AllWithin, insert, remove}
 use Rattle.std.specs.List.Sorted.{IsNonDecreasingBy, IsStrictlySortedBy}
 use Rattle.std.specs.BTreeMap.{is_at, insert_entry}
-use Rattle.std.specs.Map.{lookup, keys_of, remove_entry}
+use Rattle.std.specs.Map.{lookup, keys_of, set_value, remove_entry}
+use Rattle.std.specs.Prelude.{IsSome}
 use Rattle.std.specs.Ordering.{is_lt, is_eq, match_ordering, eq_by_cmp, ordering_reverse, ordering_index}
 use Rattle.std.specs.Cmp.{IsTotalOrder}
 use Rattle.std.specs.FinMap.Entries.{by_order, find, put, where_key, below_all, is_sorted}
@@ -169,6 +170,17 @@ module _ {K X : Type 0} (R : K → K → Ordering) where
         | Equal ↦ λ tied. sym (where_key_below R o k es (below_tied R o k e.0 es tied parts.0))
         | Greater ↦ λ is. rest
       ] refl
+
+  -- a new value of a key that has one
+  pub set_value-put : IsTotalOrder R → (es : List (K × X)) (k : K) (v : X) → IsTrue (is_sorted R es) → IsSome (find R k es) → set_value (is_at (R k)) es v ≡ put R k v es
+  set_value-put o [] k v rising stands = absurd (cc)
+  set_value-put o (e ∷ es) k v rising stands =
+      let parts = and_parts (below_all R e.0 es) (is_sorted R es) rising in
+      elim (R k e.0) as (λ r. R k e.0 ≡ r → IsSome (cond (is_eq r) (Some e.1) (find R k es)) → cond (is_eq r) ((e.0, v) ∷ es) (e ∷ set_value (is_at (R k)) es v) ≡ by_order r ((k, v) ∷ e ∷ es) ((e.0, v) ∷ es) (e ∷ put R k v es)) [
+        | Less ↦ λ before stands. let none = find_below R o k es (below_before R o k e.0 es before parts.0) in absurd (cc)
+        | Equal ↦ λ tied stands. refl
+        | Greater ↦ λ after stands. ap (λ t. e ∷ t) (set_value-put o es k v parts.1 stands)
+      ] refl stands
 
   -- the next entry of such a list goes to the end of those before it
   pub put_next : IsTotalOrder R → (es : List (K × X)) (i : ℕ) (d : K × X) → IsTrue (is_sorted R es) → i < length es → put R (get_or es i d).0 (get_or es i d).1 (take i es) ≡ take (suc i) es

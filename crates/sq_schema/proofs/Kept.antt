@@ -18,7 +18,7 @@ pub to_T : (b : Bool) → b ≡ true → T b
 to_T true e = tt
 to_T false e = absurd (cc)
 
-from_T : (b : Bool) → T b → b ≡ true
+pub from_T : (b : Bool) → T b → b ≡ true
 from_T true t = refl
 from_T false t = absurd t
 

@@ -1,44 +1,42 @@
--- What a search among rows finds, and what an edit at that place leaves.
-use Rattle.std.proofs.Common.{◌≡◌, ℕ, suc, true, [], length, get_or, arith, pos, Result, Ok, Err}
-use Rattle.std.specs.declared.cmp.Ordering.TheVariants.{Less}
+-- What a search by key finds among entries whose keys rise, and what an edit at that place leaves.
+use Rattle.std.proofs.Common.{◌≡◌, ◌<◌, ℕ, suc, true, List, length, get_or, arith, Ordering, Result, Ok, Err}
+use Rattle.std.specs.declared.cmp.Ordering.TheVariants.{Less, Equal}
+use Rattle.std.specs.Cmp.{IsTotalOrder}
 use Rattle.std.specs.List.Sorted.{IsSearchInRange, IsBinarySearchResult}
 use Rattle.std.specs.FinMap.Entries.{is_sorted}
-use Rattle.sq_schema.specs.declared.row.RowKey.{RowKey}
-use Rattle.sq_schema.specs.Values.{RowValue}
-use Rattle.sq_schema.specs.Keys.{key_cmp}
-use Rattle.sq_schema.specs.Effect.{RowList}
-use Rattle.sq_schema.specs.Rows.{IsRowPlace}
+use Rattle.sq_schema.specs.Places.{IsAt, IsPlace}
 use Rattle.sq_schema.proofs.Entries.{comparisons_rise, all_below, find_at, put_at, where_key_at, find_gap, put_gap, where_key_gap}
-use Rattle.sq_schema.proofs.KeyOrder.{key_cmp_total}
 
-empty_row : RowValue
-empty_row = record { number = pos 0; note = [] }
+module _ {K X : Type 0} (R : K → K → Ordering) (o : IsTotalOrder R) (es : List (K × X)) (key : K) where
+  -- an entry whose key ties is the key's
+  pub tied_at : (at : ℕ) → X → is_sorted R es ≡ true → at < length es → ((d : K × X) → R (get_or es at d).0 key ≡ Equal) → IsAt R es key at
+  tied_at at x rising within here =
+      record {
+        within = within;
+        found = λ d. find_at R o key es at d rising within (here d);
+        put = λ y d. put_at R o key y es at d rising within (here d);
+        removed = where_key_at R o key es at (key, x) rising within (here (key, x));
+      }
 
--- a binary search by key ends at the key's row, or at the gap for it
-pub searched : (rows : RowList) (key : RowKey) (r : Result ℕ ℕ) → is_sorted key_cmp rows ≡ true → IsSearchInRange r (length rows) → IsBinarySearchResult (λ entry. key_cmp entry.0 key) rows r → IsRowPlace rows key r
-searched rows key (Ok at) rising within here =
-    record {
-      within = within;
-      found = λ d. find_at key_cmp key_cmp_total key rows at d rising within (here d);
-      put = λ row d. put_at key_cmp key_cmp_total key row rows at d rising within (here d);
-      removed = where_key_at key_cmp key_cmp_total key rows at (key, empty_row) rising within (here (key, empty_row));
-    }
-searched rows key (Err at) rising within parted =
-    let sides = parted (comparisons_rise key_cmp key_cmp_total key rows rising) in
-    record {
-      within = within;
-      absent = find_gap key_cmp key_cmp_total key rows at within sides.0 sides.1;
-      put = λ row. put_gap key_cmp key_cmp_total key row rows at within sides.0 sides.1;
-      removed = where_key_gap key_cmp key_cmp_total key rows at within sides.0 sides.1;
-    }
+  -- a binary search by key ends at the key's entry, or at the gap for it
+  pub searched : (r : Result ℕ ℕ) → X → is_sorted R es ≡ true → IsSearchInRange r (length es) → IsBinarySearchResult (λ entry. R entry.0 key) es r → IsPlace R es key r
+  searched (Ok at) x rising within here = tied_at at x rising within here
+  searched (Err at) x rising within parted =
+      let sides = parted (comparisons_rise R o key es rising) in
+      record {
+        within = within;
+        absent = find_gap R o key es at within sides.0 sides.1;
+        put = λ y. put_gap R o key y es at within sides.0 sides.1;
+        removed = where_key_gap R o key es at within sides.0 sides.1;
+      }
 
--- the gap for a key past the last is the end
-pub past_last : (rows : RowList) (key : RowKey) (at : ℕ) → is_sorted key_cmp rows ≡ true → length rows ≡ suc at → ((d : RowKey × RowValue) → key_cmp (get_or rows at d).0 key ≡ Less) → IsRowPlace rows key (Err (length rows))
-past_last rows key at rising last below =
-    let before = all_below key_cmp key_cmp_total key rows at rising last below in
-    record {
-      within = omega arith;
-      absent = find_gap key_cmp key_cmp_total key rows (length rows) (omega arith) before (λ j d low high. absurd (omega (arith, low, high)));
-      put = λ row. put_gap key_cmp key_cmp_total key row rows (length rows) (omega arith) before (λ j d low high. absurd (omega (arith, low, high)));
-      removed = where_key_gap key_cmp key_cmp_total key rows (length rows) (omega arith) before (λ j d low high. absurd (omega (arith, low, high)));
-    }
+  -- the gap for a key past the last is the end
+  pub past_last : (at : ℕ) → is_sorted R es ≡ true → length es ≡ suc at → ((d : K × X) → R (get_or es at d).0 key ≡ Less) → IsPlace R es key (Err (length es))
+  past_last at rising last below =
+      let before = all_below R o key es at rising last below in
+      record {
+        within = omega arith;
+        absent = find_gap R o key es (length es) (omega arith) before (λ j d low high. absurd (omega (arith, low, high)));
+        put = λ y. put_gap R o key y es (length es) (omega arith) before (λ j d low high. absurd (omega (arith, low, high)));
+        removed = where_key_gap R o key es (length es) (omega arith) before (λ j d low high. absurd (omega (arith, low, high)));
+      }

@@ -1,13 +1,15 @@
 -- Tables as functions of the root key.
-use Rattle.std.proofs.Common.{◌≡◌, ℕ, Bool, true, false, cond, not, ◌==◌, ◌&&◌, [], ◌∷◌, length, is_some, arith, Some, None, Option, Result, Ok, Err, OnOk, OnErr, unwrap_or, if◌then◌else◌, inl, inr, refl, sym, ap, ◌∙◌}
+use Rattle.std.proofs.Common.{◌≡◌, ℕ, Bool, true, false, cond, not, ◌==◌, ◌&&◌, [], ◌∷◌, length, is_some, arith, Some, None, Option, Result, Ok, Err, OnOk, OnErr, IfSome, unwrap_or, if◌then◌else◌, inl, inr, refl, sym, ap, subst, ◌∙◌}
 use Rattle.std.specs.declared.cmp.Ordering.TheVariants.{Less, Equal, Greater}
 use Rattle.std.specs.BTreeMap.{is_at, insert_entry}
 use Rattle.std.specs.List.{All}
 use Rattle.std.specs.Map.{lookup, set_value, remove_entry}
 use Rattle.std.specs.Ordering.{nat_cmp, is_lt, eq_by_cmp, match_ordering}
-use Rattle.std.specs.FinMap.Entries.{find, by_order}
+use Rattle.std.specs.FinMap.Entries.{find, find-put, put, by_order, is_sorted-put}
 use Rattle.std.proofs.lemmas.Bool.{and_from, and_parts, cases_eq, ne_eqb}
 use Rattle.std.proofs.lemmas.Bool.Decides.{nat_tests}
+use Rattle.std.proofs.lemmas.Cmp.{nat_cmp_total, eq_by_cmp_equiv}
+use Rattle.std.proofs.lemmas.Map.Entries.{All-lookup}
 use Rattle.std.proofs.lemmas.List.Elements.{All-nil, All-cons, All-head, All-tail}
 use Rattle.sq_schema.specs.declared.row.RowKey.{RowKey}
 use Rattle.sq_schema.specs.Values.{RowValue}
@@ -17,8 +19,9 @@ use Rattle.sq_schema.specs.Keys.{key_cmp}
 use Rattle.sq_schema.specs.Rows.{is_rooted}
 use Rattle.sq_schema.specs.declared.fault.RowFault.TheVariants.{RowRepeated, NoRootRow}
 use Rattle.sq_schema.proofs.Rooted.{is_rooted-with_row}
-use Rattle.sq_schema.specs.Table.{TableValue, rows_in, is_opening, row_given_fault, with_given}
-use Rattle.sq_schema.proofs.Entries.{find-lookup}
+use Rattle.sq_schema.specs.Table.{TableValue, IsTable, rows_in, is_opening, row_given_fault, with_given}
+use Rattle.sq_schema.proofs.Entries.{find-lookup, insert_entry-put}
+use Rattle.sq_schema.proofs.Kept.{to_T, from_T}
 use Rattle.sq_schema.proofs.Latest.{nat_eq-cmp}
 
 -- what a map holds after a change at one root key
@@ -134,3 +137,29 @@ pub rows_in-twice : (table mid now : TableValue) (root : ℕ) (first second : Ro
 rows_in-twice table mid now root first second one two k =
     two k ∙ ap (λ r. if root == k then second else r) (one k)
     ∙ elim (root == k) as (λ b. (if b then second else (if b then first else rows_in table k)) ≡ (if b then second else rows_in table k)) [ true ↦ refl | false ↦ refl ]
+
+-- the rows of each root key, once one was given these
+pub rows_in-put : (table : TableValue) (root : ℕ) (rows : RowList) (k : ℕ) → rows_in (put nat_cmp root rows table) k ≡ (if root == k then rows else rows_in table k)
+rows_in-put table root rows k =
+    ap (λ found. unwrap_or found []) (find-put nat_cmp nat_cmp_total k root rows table)
+    ∙ ap (λ b. unwrap_or (cond b (Some rows) (find nat_cmp k table)) []) ((eq_by_cmp_equiv nat_cmp_total).symm k root ∙ sym (nat_eq-cmp root k))
+    ∙ elim (root == k) as (λ b. unwrap_or (cond b (Some rows) (find nat_cmp k table)) [] ≡ (if b then rows else rows_in table k)) [ true ↦ refl | false ↦ refl ]
+
+-- a table stays one when a root key is given such rows
+pub IsTable-put : (table : TableValue) (root : ℕ) (rows : RowList) → is_opening rows ≡ true → IsTable table → IsTable (put nat_cmp root rows table)
+IsTable-put table root rows opening is =
+    record {
+      opening = subst (λ t. All (λ entry. is_opening entry.1 ≡ true) t) (insert_entry-put nat_cmp table root rows) (All-insert_entry (λ r. is_opening r ≡ true) table root rows opening is.opening);
+      rising = from_T _ (is_sorted-put nat_cmp nat_cmp_total root rows table (to_T _ is.rising));
+    }
+
+-- the rows of a root key that has some
+pub found_opening : (table : TableValue) (root : ℕ) → IsTable table → IfSome (find nat_cmp root table) (λ rows. is_opening rows ≡ true)
+found_opening table root is = rw (find-lookup nat_cmp table root) at (All-lookup (λ rows. is_opening rows ≡ true) (is_at (nat_cmp root)) table is.opening)
+
+-- a table after rows were put, or weren't because memory ran out
+pub IsTable-row : {A E : Type 0} (r : Result A E) (old now : TableValue) (root : ℕ) (key : RowKey) (row : RowValue) → IsTable old → row_given_fault (rows_in old root) key ≡ None
+    → OnOk r (now ≡ put nat_cmp root (with_row (rows_in old root) key row) old) → OnErr r (now ≡ old) → IsTable now
+IsTable-row (Ok x) old now root key row is given ok err =
+    subst IsTable (sym ok) (IsTable-put old root (with_row (rows_in old root) key row) (is_opening-with_row (rows_in old root) key row given (is_rooted-rows_in old root is.opening)) is)
+IsTable-row (Err e) old now root key row is given ok err = subst IsTable (sym err) is

@@ -2,8 +2,9 @@ pub mod Values
 pub mod Keys
 pub mod TxnValue
 pub mod OpList
+pub mod Places
 pub mod EntryList
-pub mod RowIter
+pub mod EntryIter
 pub mod Effect
 pub mod Family
 pub mod Refusals
@@ -13,5 +14,6 @@ pub mod Writes
 pub mod Runs
 pub mod Standing
 pub mod Table
+pub mod RootList
 pub mod Examples
 pub mod Equal

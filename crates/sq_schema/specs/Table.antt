@@ -1,7 +1,8 @@
 -- The opening rows of a database, by root key.
-use Rattle.std.specs.Prelude.{◌≡◌, ℕ, Bool, ◌==◌, ◌&&◌, not, if◌then◌else◌, List, [], length, is_some, unwrap_or, Option, Some, None}
+use Rattle.std.specs.Prelude.{◌≡◌, ℕ, Bool, true, ◌==◌, ◌&&◌, not, if◌then◌else◌, List, [], length, is_some, unwrap_or, Option, Some, None}
+use Rattle.std.specs.List.{AllPass}
 use Rattle.std.specs.Ordering.{nat_cmp}
-use Rattle.std.specs.FinMap.Entries.{find}
+use Rattle.std.specs.FinMap.Entries.{find, is_sorted}
 use Rattle.sq_schema.specs.declared.row.RowKey.{RowKey}
 use Rattle.sq_schema.specs.declared.fault.RowFault.{RowFault}
 use Rattle.sq_schema.specs.declared.fault.RowFault.TheVariants.{RowRepeated, NoRootRow, Memory}
@@ -20,6 +21,11 @@ rows_in table root = unwrap_or (find nat_cmp root table) []
 -- some rows, of which those of other tables stand under the root row
 abbrev pub is_opening : RowList → Bool
 is_opening rows = not (length rows == 0) && is_rooted rows
+
+-- the root keys rise, and each has such rows
+pub record IsTable (table : TableValue) : Type 0 where
+  pub opening : AllPass (λ entry. is_opening entry.1) table
+  pub rising : is_sorted nat_cmp table ≡ true
 
 -- why an opening row is refused: its key was given, or it isn't of the root table and the root row wasn't given
 abbrev pub row_given_fault : RowList → RowKey → Option RowFault

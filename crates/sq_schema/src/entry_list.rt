@@ -8,8 +8,8 @@ ghost use Rattle.sq_schema.specs.Effect.{RowList, row_at, with_row};
 ghost use Rattle.sq_schema.specs.EntryList.{entries_of, HasRoom, IsListed, IsOne, StandsAlone};
 ghost use Rattle.sq_schema.specs.Writes.{with_write, with_writes};
 
+use crate::entry_iter::RowIter;
 use crate::row::{Row, RowKey};
-use crate::row_iter::RowIter;
 use crate::row_map;
 use crate::rows::place;
 use std::alloc::{AllocError, AllocFailed, Global};

@@ -8,13 +8,14 @@ ghost use Rattle.sq_schema.specs.declared.schema.TheConstants.{MAX_NOTE};
 ghost use Rattle.sq_schema.specs.Keys.{key_cmp};
 ghost use Rattle.sq_schema.specs.Effect.{RowList, row_at, with_row, effect, reply};
 ghost use Rattle.sq_schema.specs.Family.{row_size, rows_size};
-ghost use Rattle.sq_schema.specs.Rows.{IsRowList, IsRowPlace};
+ghost use Rattle.sq_schema.specs.Places.{IsPlace};
+ghost use Rattle.sq_schema.specs.Rows.{IsRowList};
 ghost use Rattle.sq_schema.specs.Writes.{is_write, with_write, with_writes};
 
+use crate::entry_iter::{RowIter, are_equal};
 use crate::entry_list::EntryList;
 use crate::pending::{RunOutcome, run};
 use crate::row::{Row, RowKey};
-use crate::row_iter::{RowIter, are_equal};
 use crate::txn::{Reply, Txn};
 use std::alloc::{AllocError, AllocFailed, Global};
 use std::marker::Model;
@@ -196,7 +197,7 @@ impl Clone for Rows {
 // Where the row of a key is, or where it would go.
 pub(crate) fn place(rows: &[(RowKey, Row)], key: RowKey) -> Result<usize, usize>
     requires { is_sorted key_cmp rows.now ≡ true }
-    ensures { IsRowPlace rows.now key result }
+    ensures { IsPlace key_cmp rows.now key result }
 {
     // Rows are mostly put in rising order, and a key past the last needs no search.
     if let Some((last, _)) = rows.last()

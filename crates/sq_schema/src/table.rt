@@ -1,5 +1,5 @@
 // Tables that aren't partitioned.
-ghost use Rattle.std.specs.Prelude.{◌≡◌, ℕ, ◌≤◌, true, [], None, length, MatchResult, IfErr, IfSome, IsSome, OnOk, OnErr};
+ghost use Rattle.std.specs.Prelude.{◌≡◌, ◌==◌, ℕ, true, [], None, length, MatchResult, IfErr, IfSome, IsSome, OnOk, OnErr};
 ghost use Rattle.std.specs.List.{AllPass};
 ghost use Rattle.std.specs.Option.{option_copied};
 ghost use Rattle.std.specs.Ordering.{nat_cmp};
@@ -8,38 +8,39 @@ ghost use Rattle.sq_schema.specs.declared.schema.TheConstants.{MAX_TABLES};
 ghost use Rattle.sq_schema.specs.Effect.{replay, table_after};
 ghost use Rattle.sq_schema.specs.Refusals.{row_fault};
 ghost use Rattle.sq_schema.specs.Rows.{is_rooted};
-ghost use Rattle.sq_schema.specs.Table.{rows_in, is_opening, row_given_fault, RefusesBy, with_given, with_rows};
+ghost use Rattle.sq_schema.specs.Table.{IsTable, rows_in, is_opening, row_given_fault, RefusesBy, with_given, with_rows};
 
+use crate::entry_iter::EntryIter;
 use crate::fault::RowFault;
-use crate::pending::{RunOutcome, run};
 use crate::root::Root;
+use crate::root_list::RootList;
 use crate::row::{Row, RowKey};
 use crate::rows::Rows;
 use crate::txn::Txn;
 use std::alloc::{AllocError, AllocFailed, Global};
-use std::collections::{BTreeMap, btree_map};
+use std::collections::BTreeMap;
 use std::marker::Model;
 
 /// The rows of a database by root key, in one table that isn't partitioned. To a contract it is the list of the root
 /// keys that have rows, in rising order, with these.
 #[derive(Debug, Drop)]
 pub struct Table {
-    rows: BTreeMap<Root, Rows>,
+    rows: RootList,
     alloc: Global,
 }
 
 impl Model for Table {
     ghost use Rattle.std.specs.Prelude.{ℕ, List};
-    ghost use Rattle.std.specs.List.{AllPass};
     ghost use Rattle.sq_schema.specs.Values.{RowValue};
     ghost use Rattle.sq_schema.specs.declared.row.RowKey.{RowKey};
-    ghost use Rattle.sq_schema.specs.Table.{is_opening};
+    ghost use Rattle.sq_schema.specs.RootList.{table_of};
+    ghost use Rattle.sq_schema.specs.Table.{IsTable};
 
     ghost Value = { List (ℕ × List (RowKey × RowValue)) };
 
-    ghost view = { λ t. t.rows.entries };
+    ghost view = { λ t. table_of t.rows };
 
-    ghost invariant = { λ t. AllPass (λ entry. is_opening entry.1) t.rows.entries };
+    ghost invariant = { λ t. IsTable (table_of t.rows) };
 }
 
 impl Table {
@@ -48,7 +49,7 @@ impl Table {
         ensures { result ≡ [] }
     {
         Table {
-            rows: BTreeMap::new(alloc),
+            rows: RootList::new(alloc),
             alloc,
         }
     }
@@ -58,16 +59,11 @@ impl Table {
         ensures rows { option_copied result ≡ find nat_cmp root self.now }
         ensures opening { IfSome result (λ rows. is_opening rows.now ≡ true) }
     {
-        // Most openings list their root keys in rising order, and one past the last needs no search.
-        let (last, _) = self.rows.last_key_value()?;
-        if *last < root {
-            return None;
-        }
-        self.rows.get(&root)
+        self.rows.get(root)
     }
 
     /// The root keys that have rows, in rising order, with these.
-    pub fn iter(&self) -> btree_map::Iter<'_, Root, Rows>
+    pub fn iter(&self) -> EntryIter<'_, Root, Rows>
         ensures all { result ≡ self.now }
         ensures rising { is_sorted nat_cmp self.now ≡ true }
         ensures opening { AllPass (λ entry. is_opening entry.1) self.now }
@@ -122,10 +118,9 @@ impl Table {
     {
         let mut rows = Rows::new(self.alloc);
         rows.insert(key, row)?;
-        if let Err(refused) = self.rows.insert(root, rows) {
-            let (_, rows) = refused.value;
+        if let Err(refused) = self.rows.put(root, rows) {
             return Err(AllocFailed {
-                value: rows.into_first(),
+                value: refused.value.into_first(),
             });
         }
         Ok(())
@@ -140,10 +135,7 @@ impl Table {
         ensures err { OnErr result (self.new ≡ self.old) }
         ensures row_returned { IfErr result (λ refused. refused.value ≡ row) }
     {
-        let Some(rows) = self.rows.get_mut(&root) else {
-            unreachable!()
-        };
-        rows.insert(key, row)
+        self.rows.put_row(root, key, row)
     }
 
     /// Gives a root key these rows, in place of those that it has: some rows, of which those of other tables stand under
@@ -153,8 +145,22 @@ impl Table {
         ensures ok { OnOk result ((k : ℕ) → rows_in self.new k ≡ with_rows (rows_in self.old) root rows k) }
         ensures err { OnErr result (self.new ≡ self.old) }
     {
-        drop(self.rows.insert(root, rows)?);
+        self.rows.put(root, rows)?;
         Ok(())
+    }
+
+    /// How many root keys have rows.
+    pub fn len(&self) -> usize
+        ensures { result ≡ length self.now }
+    {
+        self.rows.len()
+    }
+
+    /// Whether none has.
+    pub fn is_empty(&self) -> bool
+        ensures { result ≡ (length self.now == 0) }
+    {
+        self.len() == 0
     }
 
     /// Runs transactions one after another, each on the rows of its root key. Where there is no memory nothing
@@ -163,28 +169,30 @@ impl Table {
         ensures ok { OnOk result ((k : ℕ) → rows_in self.new k ≡ replay (rows_in self.old) txns.now k) }
         ensures err { OnErr result (self.new ≡ self.old) }
     {
-        let mut table = self.clone()?;
+        let mut rows = self.rows.to_map()?;
         for txn in txns {
-            table.run(txn)?;
+            run(self.alloc, &mut rows, txn)?;
         }
-        *self = table;
+        self.rows = RootList::Mapped(rows);
         Ok(())
     }
+}
 
-    // Runs one transaction. Where there is no memory the rows of its root key are lost.
-    fn run(&mut self, txn: &Txn) -> Result<(), AllocError>
-        ensures ok { OnOk result ((k : ℕ) → rows_in self.new k ≡ table_after (rows_in self.old) txn.now k) }
-    {
-        let root = txn.root();
-        let mut rows = self.rows.remove(&root).unwrap_or(Rows::new(self.alloc));
-        rows.run(self.alloc, txn)?;
-        if !rows.is_empty() {
-            drop(self.rows.insert(root, rows)?);
-        } else {
-            drop(rows);
-        }
-        Ok(())
+// Runs one transaction. Where there is no memory the rows of its root key are lost.
+fn run(alloc: Global, table: &mut BTreeMap<Root, Rows>, txn: &Txn) -> Result<(), AllocError>
+    requires { IsTable table.old.entries }
+    ensures ok { OnOk result ((k : ℕ) → rows_in table.new.entries k ≡ table_after (rows_in table.old.entries) txn.now k) }
+    ensures table { OnOk result (IsTable table.new.entries) }
+{
+    let root = txn.root();
+    let mut rows = table.remove(&root).unwrap_or(Rows::new(alloc));
+    rows.run(alloc, txn)?;
+    if !rows.is_empty() {
+        drop(table.insert(root, rows)?);
+    } else {
+        drop(rows);
     }
+    Ok(())
 }
 
 impl Clone for Table {

@@ -1,10 +1,11 @@
-use Rattle.std.proofs.Common.{◌≡◌, true, ◌-◌, Some, length, get_or, sym, ap, ◌∙◌, arith, rules}
+use Rattle.std.proofs.Common.{◌≡◌, true, [], ◌-◌, pos, Some, length, get_or, sym, ap, ◌∙◌, arith, rules}
 use Rattle.std.specs.Prelude.{slice_get, option_copied}
 use Rattle.std.specs.Ordering.{is_lt}
 use Rattle.std.proofs.lemmas.List.Sorted.{answers_always}
 use Rattle.std.proofs.lemmas.Option.{slice_get_within, get_or_from_slice_get}
 use Rattle.sq_schema.specs.Keys.{key_cmp}
 use Rattle.sq_schema.proofs.Entries.{less_from_test}
+use Rattle.sq_schema.proofs.KeyOrder.{key_cmp_total}
 use Rattle.sq_schema.proofs.Places.{past_last, searched}
 use Rattle.sq_schema.proofs.rows.place.Goals as goal
 
@@ -16,11 +17,11 @@ returns c =
     let at : slice_get rows (length rows - 1) ≡ Some last = sym c.last.ensures.value ∙ ap option_copied c.in-Some.is in
     let within = slice_get_within rows (length rows - 1) last at in
     let below : is_lt (key_cmp last.0 key) ≡ true = search rules in
-    past_last rows key (length rows - 1) c.requires (omega (arith, within))
+    past_last key_cmp key_cmp_total rows key (length rows - 1) c.requires (omega (arith, within))
     (λ d. ap (λ entry. key_cmp entry.0 key) (get_or_from_slice_get rows (length rows - 1) last d at) ∙ less_from_test (key_cmp last.0 key) below)
 
 -- the closure gives an entry's key
 pub returns-2 : goal.returns-2
 returns-2 c =
     let search_by_key = c.binary_search_by_key.ensures in
-    searched c.args.rows.now c.args.key c.binary_search_by_key.result c.requires search_by_key.bound (search_by_key.position (λ entry. entry.0) (answers_always _ _ _ (λ f a r g called. search rules)))
+    searched key_cmp key_cmp_total c.args.rows.now c.args.key c.binary_search_by_key.result (record { number = pos 0; note = [] }) c.requires search_by_key.bound (search_by_key.position (λ entry. entry.0) (answers_always _ _ _ (λ f a r g called. search rules)))

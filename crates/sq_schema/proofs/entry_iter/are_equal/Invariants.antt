@@ -1,6 +1,6 @@
 use Rattle.std.proofs.Common.{◌≡◌, length}
 use Rattle.sq_schema.specs.Equal.{rows_eq}
-use Rattle.sq_schema.proofs.row_iter.are_equal.Given as goal
+use Rattle.sq_schema.proofs.entry_iter.are_equal.Given as goal
 
 -- those that are left tell whether all are equal
 abbrev pub invariant-loop-entry : goal.invariant-loop-entry

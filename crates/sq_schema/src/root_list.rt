@@ -1,0 +1,264 @@
+// The rows of a database in memory, by root key.
+ghost use Rattle.std.specs.Prelude.{◌≡◌, ◌≤◌, true, [], length, IsSome, IfOk, IfErr, OnOk, OnErr};
+ghost use Rattle.std.specs.Option.{option_copied};
+ghost use Rattle.std.specs.Ordering.{nat_cmp};
+ghost use Rattle.std.specs.FinMap.Entries.{find, put, is_sorted};
+ghost use Rattle.sq_schema.specs.declared.schema.TheConstants.{MAX_NOTE};
+ghost use Rattle.sq_schema.specs.Effect.{with_row};
+ghost use Rattle.sq_schema.specs.Places.{IsPlace};
+ghost use Rattle.sq_schema.specs.RootList.{table_of};
+ghost use Rattle.sq_schema.specs.Table.{rows_in};
+
+use crate::entry_iter::EntryIter;
+use crate::root::Root;
+use crate::row::{Row, RowKey};
+use crate::rows::Rows;
+use std::alloc::{AllocError, AllocFailed, Global};
+use std::cmp::Ordering;
+use std::collections::BTreeMap;
+
+/// Root keys with their rows, by rising root key. They lie in a list as long as they come in this order, and from then
+/// on in a map.
+#[derive(Debug, Drop)]
+pub(crate) enum RootList {
+    Listed(Vec<(Root, Rows)>),
+    Mapped(BTreeMap<Root, Rows>),
+}
+
+impl RootList {
+    /// No root keys.
+    pub(crate) fn new(alloc: Global) -> RootList
+        ensures { table_of result ≡ [] }
+    {
+        RootList::Listed(Vec::new(alloc))
+    }
+
+    /// How many root keys there are.
+    pub(crate) fn len(&self) -> usize
+        ensures { result ≡ length (table_of self.now) }
+    {
+        match self {
+            RootList::Listed(rows) => rows.len(),
+            RootList::Mapped(rows) => rows.len(),
+        }
+    }
+
+    /// The root keys with their rows, in rising order.
+    pub(crate) fn iter(&self) -> EntryIter<'_, Root, Rows>
+        ensures { result ≡ table_of self.now }
+    {
+        match self {
+            RootList::Listed(rows) => EntryIter::of_list(rows),
+            RootList::Mapped(rows) => EntryIter::of_map(rows),
+        }
+    }
+
+    /// The rows of a root key.
+    pub(crate) fn get(&self, root: Root) -> Option<&Rows>
+        requires { is_sorted nat_cmp (table_of self.now) ≡ true }
+        ensures { option_copied result ≡ find nat_cmp root (table_of self.now) }
+    {
+        match self {
+            RootList::Listed(rows) => get(rows, root),
+            RootList::Mapped(rows) => rows.get(&root),
+        }
+    }
+
+    /// Gives a root key these rows, in place of those that it has. Where there is no memory they come back.
+    pub(crate) fn put(&mut self, root: Root, rows: Rows) -> Result<(), AllocFailed<Rows>>
+        requires { is_sorted nat_cmp (table_of self.old) ≡ true }
+        ensures ok { OnOk result (table_of self.new ≡ put nat_cmp root rows (table_of self.old)) }
+        ensures err { OnErr result (table_of self.new ≡ table_of self.old) }
+        ensures rows_returned { IfErr result (λ failed. failed.value ≡ rows) }
+    {
+        if self.goes_between(root) && self.spread().is_err() {
+            return Err(AllocFailed { value: rows });
+        }
+        match self {
+            RootList::Listed(list) => put(list, root, rows),
+            RootList::Mapped(map) => put_mapped(map, root, rows),
+        }
+    }
+
+    /// Puts a row of a root key that has some. Where there is no memory the row comes back.
+    pub(crate) fn put_row(
+        &mut self,
+        root: Root,
+        key: RowKey,
+        row: Row,
+    ) -> Result<(), AllocFailed<Row>>
+        requires rising { is_sorted nat_cmp (table_of self.old) ≡ true }
+        requires present { IsSome (find nat_cmp root (table_of self.old)) }
+        requires note { length row.note ≤ MAX_NOTE }
+        ensures ok { OnOk result (table_of self.new ≡ put nat_cmp root (with_row (rows_in (table_of self.old) root) key row) (table_of self.old)) }
+        ensures err { OnErr result (table_of self.new ≡ table_of self.old) }
+        ensures row_returned { IfErr result (λ failed. failed.value ≡ row) }
+    {
+        match self {
+            RootList::Listed(list) => put_row(list, root, key, row),
+            RootList::Mapped(map) => put_row_mapped(map, root, key, row),
+        }
+    }
+
+    /// A map of copies of the rows.
+    pub(crate) fn to_map(&self) -> Result<BTreeMap<Root, Rows>, AllocError>
+        requires { is_sorted nat_cmp (table_of self.now) ≡ true }
+        ensures { IfOk result (λ map. map.entries ≡ table_of self.now) }
+    {
+        match self {
+            RootList::Listed(rows) => map_of(*rows.allocator(), rows),
+            RootList::Mapped(rows) => rows.clone(),
+        }
+    }
+
+    // Whether a root key is new to a list, and goes before another.
+    fn goes_between(&self, root: Root) -> bool {
+        match self {
+            RootList::Listed(rows) => match rows.last() {
+                Some((last, _)) if *last > root => {
+                    rows.binary_search_by_key(&root, |(own, _)| *own).is_err()
+                }
+                _ => false,
+            },
+            RootList::Mapped(_) => false,
+        }
+    }
+
+    // Puts the rows of a list into a map.
+    fn spread(&mut self) -> Result<(), AllocError>
+        requires { is_sorted nat_cmp (table_of self.old) ≡ true }
+        ensures { table_of self.new ≡ table_of self.old }
+    {
+        *self = RootList::Mapped(self.to_map()?);
+        Ok(())
+    }
+}
+
+impl Clone for RootList {
+    ghost is_clone = { λ list copy. table_of copy ≡ table_of list };
+
+    fn clone(&self) -> Result<RootList, AllocError> {
+        match self {
+            RootList::Listed(rows) => Ok(RootList::Listed(rows.clone()?)),
+            RootList::Mapped(rows) => Ok(RootList::Mapped(rows.clone()?)),
+        }
+    }
+}
+
+// Where the rows of a root key are, or where they would go.
+fn place(rows: &[(Root, Rows)], root: Root) -> Result<usize, usize>
+    requires { is_sorted nat_cmp rows.now ≡ true }
+    ensures { IsPlace nat_cmp rows.now root result }
+{
+    // Root keys mostly come in rising order: the last needs no search, and neither does one past it.
+    if let Some((last, _)) = rows.last() {
+        match last.cmp(&root) {
+            Ordering::Less => return Err(rows.len()),
+            Ordering::Equal => return Ok(rows.len() - 1),
+            Ordering::Greater => {}
+        }
+    }
+    rows.binary_search_by_key(&root, |(own, _)| *own)
+}
+
+// The rows of a root key in a list.
+fn get(rows: &[(Root, Rows)], root: Root) -> Option<&Rows>
+    requires { is_sorted nat_cmp rows.now ≡ true }
+    ensures { option_copied result ≡ find nat_cmp root rows.now }
+{
+    match place(rows, root) {
+        Ok(at) => Some(&rows[at].1),
+        Err(_) => None,
+    }
+}
+
+// Gives a root key these rows in a list.
+fn put(list: &mut Vec<(Root, Rows)>, root: Root, rows: Rows) -> Result<(), AllocFailed<Rows>>
+    requires { is_sorted nat_cmp list.old.items ≡ true }
+    ensures ok { OnOk result (list.new.items ≡ put nat_cmp root rows list.old.items) }
+    ensures err { OnErr result (list.new.items ≡ list.old.items) }
+    ensures rows_returned { IfErr result (λ failed. failed.value ≡ rows) }
+{
+    match place(list, root) {
+        Ok(at) => {
+            list[at].1 = rows;
+            Ok(())
+        }
+        Err(at) => match list.insert(at, (root, rows)) {
+            Ok(()) => Ok(()),
+            Err(failed) => Err(AllocFailed {
+                value: failed.value.1,
+            }),
+        },
+    }
+}
+
+// Gives a root key these rows in a map.
+fn put_mapped(
+    map: &mut BTreeMap<Root, Rows>,
+    root: Root,
+    rows: Rows,
+) -> Result<(), AllocFailed<Rows>>
+    ensures ok { OnOk result (map.new.entries ≡ put nat_cmp root rows map.old.entries) }
+    ensures err { OnErr result (map.new.entries ≡ map.old.entries) }
+    ensures rows_returned { IfErr result (λ failed. failed.value ≡ rows) }
+{
+    match map.insert(root, rows) {
+        Ok(_) => Ok(()),
+        Err(failed) => Err(AllocFailed {
+            value: failed.value.1,
+        }),
+    }
+}
+
+// Puts a row of a root key that has some in a list.
+fn put_row(
+    list: &mut Vec<(Root, Rows)>,
+    root: Root,
+    key: RowKey,
+    row: Row,
+) -> Result<(), AllocFailed<Row>>
+    requires rising { is_sorted nat_cmp list.old.items ≡ true }
+    requires present { IsSome (find nat_cmp root list.old.items) }
+    requires note { length row.note ≤ MAX_NOTE }
+    ensures ok { OnOk result (list.new.items ≡ put nat_cmp root (with_row (rows_in list.old.items root) key row) list.old.items) }
+    ensures err { OnErr result (list.new.items ≡ list.old.items) }
+    ensures row_returned { IfErr result (λ failed. failed.value ≡ row) }
+{
+    match place(list, root) {
+        Ok(at) => list[at].1.insert(key, row),
+        Err(_) => unreachable!(),
+    }
+}
+
+// Puts a row of a root key that has some in a map.
+fn put_row_mapped(
+    map: &mut BTreeMap<Root, Rows>,
+    root: Root,
+    key: RowKey,
+    row: Row,
+) -> Result<(), AllocFailed<Row>>
+    requires rising { is_sorted nat_cmp map.old.entries ≡ true }
+    requires present { IsSome (find nat_cmp root map.old.entries) }
+    requires note { length row.note ≤ MAX_NOTE }
+    ensures ok { OnOk result (map.new.entries ≡ put nat_cmp root (with_row (rows_in map.old.entries root) key row) map.old.entries) }
+    ensures err { OnErr result (map.new.entries ≡ map.old.entries) }
+    ensures row_returned { IfErr result (λ failed. failed.value ≡ row) }
+{
+    let Some(rows) = map.get_mut(&root) else {
+        unreachable!()
+    };
+    rows.insert(key, row)
+}
+
+// A map of copies of these rows.
+fn map_of(alloc: Global, list: &[(Root, Rows)]) -> Result<BTreeMap<Root, Rows>, AllocError>
+    requires { is_sorted nat_cmp list.now ≡ true }
+    ensures { IfOk result (λ map. map.entries ≡ list.now) }
+{
+    let mut map = BTreeMap::new(alloc);
+    for (root, rows) in list {
+        map.insert(*root, rows.clone()?)?;
+    }
+    Ok(map)
+}
