@@ -71,10 +71,12 @@ fn families(
 fn owned(plan: &Plan, part: PartId, table: &Table) -> usize
     ensures { result ≡ length (opened_families plan.now part table.now) }
 {
-    let entries = table.iter();
     // Called for what it ensures, that their number fits.
-    let _ = entries.len();
-    entries.filter(|entry| plan.owner(*entry.0) == part).count()
+    let _ = table.len();
+    table
+        .iter()
+        .filter(|entry| plan.owner(*entry.0) == part)
+        .count()
 }
 
 // A store of families whose root keys rise. Where there is no memory they come back.

@@ -11,6 +11,6 @@ pub returns : goal.returns
 returns c =
     let is_owned = λ (entry : ℕ × RowList). owner c.args.plan.now entry.0 == c.args.part in
     count_from_yields_List c.filter.result c.count.result c.count.ensures.ran
-    (YieldsList-from_filter _ is_owned (YieldsList-at c.filter.ensures.source (YieldsList-from_rest c.args.table.now c.iter-entries.ensures.all)) c.filter.ensures.closure
+    (YieldsList-from_filter _ is_owned (YieldsList-at c.filter.ensures.source (YieldsList-from_rest c.args.table.now c.iter.ensures.all)) c.filter.ensures.closure
     (λ x r q k. search (rules, tests)))
     ∙ sym (length-map (filter is_owned c.args.table.now) opened_family)
