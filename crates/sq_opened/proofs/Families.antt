@@ -18,7 +18,7 @@ use Rattle.sq_chunk.specs.ChunkValue.{are_within}
 use Rattle.sq_store.specs.StoreValue.{family_in, with_families}
 use Rattle.sq_store.proofs.Order.{less_from_cmp}
 use Rattle.sq_store.proofs.Rising.{get-with_families}
-use Rattle.sq_opened.specs.Opened.{opened_family, opened_families}
+use Rattle.sq_store.specs.Opened.{opened_family, opened_families}
 
 -- the root keys are this one or later ones
 abbrev from_key : ℕ → TableValue → Bool
@@ -132,39 +132,3 @@ get_opened plan part root hi table rising below each =
     ∙ ap (λ found. if is_some (family_in families root) then family_in families root else found) (get-empty nat_cmp root)
     ∙ only_some (family_in families root)
     ∙ opened_in plan part root table (owner plan root == part) refl each
-
--- a root key's family comes first where the partition owns it, and else it is left out
-pub kept : (plan : PlanValue) (part : ℕ) (entry : ℕ × RowList) (table : TableValue) → (owner plan entry.0 == part) ≡ true
-    → opened_families plan part (entry ∷ table) ≡ opened_family entry ∷ opened_families plan part table
-kept plan part entry table is =
-    ap (λ b. map opened_family (if b then entry ∷ filter (λ (e : ℕ × RowList). owner plan e.0 == part) table else filter (λ (e : ℕ × RowList). owner plan e.0 == part) table))
-    is
-
-pub left_out : (plan : PlanValue) (part : ℕ) (entry : ℕ × RowList) (table : TableValue) → (owner plan entry.0 == part) ≡ false
-    → opened_families plan part (entry ∷ table) ≡ opened_families plan part table
-left_out plan part entry table other =
-    ap (λ b. map opened_family (if b then entry ∷ filter (λ (e : ℕ × RowList). owner plan e.0 == part) table else filter (λ (e : ℕ × RowList). owner plan e.0 == part) table))
-    other
-
--- the families so far, with those of the root keys that are left, once the first of these is taken: it is one more, or it is left out
-module _ (plan : PlanValue) (part : ℕ) (entry : ℕ × RowList) (table left : TableValue) (next : left ≡ entry ∷ table) (before all : List FamilyValue) (so_far : before ++ opened_families plan part left ≡ all) where
-  pub next_kept : (owner plan entry.0 == part) ≡ true → (family : FamilyValue) → family ≡ opened_family entry → (pushed : List FamilyValue) → pushed ≡ before ++ family ∷ [] → pushed ++ opened_families plan part table ≡ all
-  next_kept owned family is pushed push =
-      ap (λ xs. xs ++ opened_families plan part table) push
-      ∙ append_assoc before (family ∷ []) (opened_families plan part table)
-      ∙ ap (λ (x : FamilyValue). before ++ (x ∷ opened_families plan part table)) is
-      ∙ ap (λ xs. before ++ xs) (sym (ap (opened_families plan part) next ∙ kept plan part entry table owned))
-      ∙ so_far
-
-  pub next_left_out : (owner plan entry.0 == part) ≡ false → before ++ opened_families plan part table ≡ all
-  next_left_out other = ap (λ xs. before ++ xs) (sym (ap (opened_families plan part) next ∙ left_out plan part entry table other)) ∙ so_far
-
--- once the first of the root keys that are left is taken, one more family is there, or as many as before are still to come
-module _ (plan : PlanValue) (part : ℕ) (entry : ℕ × RowList) (table left : TableValue) (next : left ≡ entry ∷ table) where
-  pub one_more : (owner plan entry.0 == part) ≡ true → length (opened_families plan part left) ≡ length (opened_families plan part table) + 1
-  one_more owned =
-      let more : length (opened_families plan part left) ≡ length (opened_family entry ∷ opened_families plan part table) = ap length (ap (opened_families plan part) next ∙ kept plan part entry table owned) in
-      omega (arith, more)
-
-  pub as_many : (owner plan entry.0 == part) ≡ false → length (opened_families plan part left) ≡ length (opened_families plan part table)
-  as_many other = ap length (ap (opened_families plan part) next ∙ left_out plan part entry table other)

@@ -1,5 +1,5 @@
 -- A slab that is filled with families, and the list of their root keys with their keys in the slab.
-use Rattle.std.proofs.Common.{⊎_elim, ◌≡◌, ℕ, true, List, [], ◌∷◌, ◌++◌, refl, sym, ap, subst, ◌∙◌, arith, append-nil}
+use Rattle.std.proofs.Common.{⊎_elim, ◌≡◌, ℕ, List, [], ◌∷◌, ◌++◌, refl, sym, ap, ◌∙◌, arith}
 use Rattle.std.specs.Prelude.{◌≢◌, ◌<◌, cond, unwrap_or, Option, Some, None, option_map}
 use Rattle.std.specs.Ordering.{nat_cmp, eq_by_cmp}
 use Rattle.std.specs.FinMap.{get, insert, empty, get-empty}
@@ -12,12 +12,9 @@ use Rattle.slab.specs.Slab as slab
 use Rattle.slab.specs.Slab.{Slab, Updates}
 use Rattle.sq_schema.specs.declared.root.TheConstants.{ROOT_END}
 use Rattle.sq_schema.specs.Family.{FamilyValue}
-use Rattle.sq_store.specs.StoreValue.{StoreValue, absent, with_families, roots_differ, has_none_of}
+use Rattle.sq_store.specs.StoreValue.{StoreValue, absent}
 use Rattle.sq_store.specs.Indexed.{family_under, indexed, IsLed}
-use Rattle.sq_store.specs.PutIn.{IsPutIn}
 use Rattle.sq_store.proofs.Indexes.{Holds, get-indexed}
-use Rattle.sq_store.proofs.Given.{has_none_of-from_each}
-use Rattle.sq_store.proofs.PutsIn.{last_absent, put_last, put_all}
 use Rattle.sq_store.proofs.Keys.{same_store, get-insert_same, get-insert_other, tied, untied}
 
 -- the key that a list has last for a root key
@@ -135,41 +132,3 @@ filled_indexed families keys store index is same ordered =
       };
       view = same_store (indexed families index) store (λ root. get-indexed families index root ∙ ap (option_map (family_under families)) (same root) ∙ sym (is.holds root));
     }
-
--- of given families some are left, and the others were put into the slab from the last on, and listed
-pub record IsFilling (given left : List FamilyValue) (families : Slab FamilyValue) (keys : List (ℕ × ℕ)) : Type 0 where
-  pub store : StoreValue
-  pub roots : List ℕ
-  pub put : IsPutIn empty given left roots store
-  pub filled : IsFilled families keys store
-
-pub filling_none : (given : List FamilyValue) (families : Slab FamilyValue) → families.slots ≡ [] → IsFilling given given families []
-filling_none given families none =
-    record {
-      store = empty;
-      roots = [];
-      put = record { put = []; whole = sym (append-nil given); listed = refl; store = refl };
-      filled = filled_none families none;
-    }
-
-module _ (given : List FamilyValue) (differ : roots_differ given ≡ true) where
-  none : has_none_of empty given ≡ true
-  none = has_none_of-from_each empty given (λ root there. get-empty nat_cmp root)
-
-  -- the last family that is left is put in
-  pub filling_last : (left rest : List FamilyValue) (families now : Slab FamilyValue) (keys : List (ℕ × ℕ)) (root key : ℕ) (family : FamilyValue) → IsFilling given left families keys
-      → left ≡ rest ++ family ∷ [] → root ≡ family.root → family.root < ROOT_END → slab.get families key ≡ None → Updates families now key (Some family) → IsFilling given rest now (keys ++ (root, key) ∷ [])
-  filling_last left rest families now keys root key family is last same within vacant written =
-      let absent_yet = last_absent empty given differ none left rest is.roots is.store is.put family last in
-      record {
-        store = insert is.store family.root family;
-        roots = is.roots ++ family.root ∷ [];
-        put = put_last empty given differ none left rest is.roots is.store is.put family last;
-        filled = subst (λ r. IsFilled now (keys ++ (r, key) ∷ []) (insert is.store family.root family)) (sym same) (filled_more families now keys is.store key family is.filled vacant absent_yet written within);
-      }
-
-  -- an index of all of them makes a store of them
-  pub filling_all : (left : List FamilyValue) (families : Slab FamilyValue) (keys : List (ℕ × ℕ)) (index : BTreeMap ℕ ℕ) → IsFilling given left families keys → left ≡ []
-      → ((root : ℕ) → tree.get nat_cmp index root ≡ key_in keys root) → IsOrdered nat_cmp index → Holds families index (with_families empty given)
-  filling_all left families keys index is done same ordered =
-      subst (Holds families index) (put_all empty given left is.roots is.store is.put done) (filled_indexed families keys is.store index is.filled same ordered)

@@ -18,9 +18,9 @@ pub mod Firsts
 pub mod Walks
 pub mod Indexes
 pub mod Filled
+pub mod Opened
 pub mod Writes
 pub mod PutsIn
-pub mod MovesIn
 pub mod Codes
 pub mod Folds
 pub mod FoldWrites

@@ -110,10 +110,7 @@ module _ (before : StoreValue) (given : List FamilyValue) (differ : roots_differ
 pub put_none : (before : StoreValue) (given : List FamilyValue) → IsPutIn before given given [] before
 put_none before given = record { put = []; whole = sym (append-nil given); listed = refl; store = refl }
 
--- where none is left all were put in, and where none was put in all are left
-pub put_all : (before : StoreValue) (given left : List FamilyValue) (roots : List ℕ) (store : StoreValue) → IsPutIn before given left roots store → left ≡ [] → store ≡ with_families before given
-put_all before given left roots store is none = is.store ∙ ap (with_families before) (sym (is.whole ∙ ap (λ fs. fs ++ is.put) none))
-
+-- where none was put in all are left
 pub took_all : (before : StoreValue) (given left : List FamilyValue) (store : StoreValue) → IsPutIn before given left [] store → (store ≡ before) × (left ≡ given)
 took_all before given left store is = by_case is.put is.whole is.listed is.store
   where

@@ -9,4 +9,4 @@ pub mod Laws
 pub mod Indexed
 pub mod First
 pub mod PutIn
-pub mod MovedIn
+pub mod Opened

@@ -11,7 +11,6 @@ ghost use Rattle.sq_store.specs.InOrder.{AreKeyed, HoldsByRoot};
 ghost use Rattle.sq_store.specs.Merging.{IsPopped};
 ghost use Rattle.sq_store.specs.First.{FirstIs};
 ghost use Rattle.sq_store.specs.PutIn.{IsPutIn};
-ghost use Rattle.sq_store.specs.MovedIn.{IsMovedIn};
 
 use crate::sorted::put_last;
 use crate::store::{Cut, FamilyStore};
@@ -21,6 +20,8 @@ use sq_schema::{ApplyFault, Family, Reply, Root, Txn};
 use std::alloc::{AllocError, Global};
 use std::collections::BTreeMap;
 use std::marker::Model;
+
+mod open;
 
 /// The families of one partition in a slab, with an index from root keys to keys of the slab. A call looks up each
 /// family that it touches, and moves no other, unless the slab grows. To a contract it is a `StoreValue`, a map from
@@ -58,39 +59,6 @@ impl SlabStore {
             alloc,
             families: Slab::new(alloc),
             index: BTreeMap::new(alloc),
-        }
-    }
-
-    /// A store of these families. Its index is made of all their root keys at once, which leaves no room in its nodes
-    /// unused. Where there is no memory for it they come back in their order.
-    pub fn from_families(alloc: Global, mut families: Vec<Family>) -> Result<SlabStore, Vec<Family>>
-        requires { IsTrue (roots_differ families.items) }
-        ensures ok { IfOk result (λ store. store ≡ with_families empty families.items) }
-        ensures families_returned { IfErr result (λ back. back.items ≡ families.items) }
-    {
-        let Ok(mut slab) = Slab::with_capacity(alloc, families.len()) else {
-            return Err(families);
-        };
-        let Ok(mut keys) = Vec::with_capacity(alloc, families.len()) else {
-            return Err(families);
-        };
-        while let Some(family) = families.pop() {
-            let root = family.root();
-            // Called for what it ensures, that the number is below `ROOT_END`.
-            let _ = root.number();
-            let key = slab.insert_reserved(family);
-            keys.push_reserved((root, key));
-        }
-        match index_of(alloc, &keys) {
-            Ok(index) => Ok(SlabStore {
-                alloc,
-                families: slab,
-                index,
-            }),
-            Err(_) => {
-                move_back(&mut slab, keys, &mut families);
-                Err(families)
-            }
         }
     }
 
@@ -294,18 +262,6 @@ fn index_of(alloc: Global, keys: &[(Root, usize)]) -> Result<BTreeMap<Root, usiz
     ensures { IfOk result (IsFromIterResult nat_cmp keys.now) }
 {
     keys.iter().copied().collect(alloc)
-}
-
-// Moves the families of these keys out of a slab again, from the last on, and puts them after those that were left.
-// There is room for them.
-fn move_back(slab: &mut Slab<Family>, mut keys: Vec<(Root, usize)>, families: &mut Vec<Family>)
-    requires moved { (given : List FamilyValue) × IsMovedIn given families.old.items slab.old keys.items }
-    requires room { vec_len families.old + vec_len keys ≤ vec_capacity families.old }
-    ensures { (given : List FamilyValue) → IsMovedIn given families.old.items slab.old keys.items → families.new.items ≡ given }
-{
-    while let Some(entry) = keys.pop() {
-        families.push_reserved(slab.remove(entry.1));
-    }
 }
 
 impl FamilyStore for SlabStore {

@@ -4,8 +4,8 @@ use Rattle.std.proofs.lemmas.List.{length-map}
 use Rattle.std.proofs.lemmas.Iterator.Consumers.{YieldsList-from_rest, YieldsList-from_filter, YieldsList-at, count_from_yields_List}
 use Rattle.sq_schema.specs.Effect.{RowList}
 use Rattle.sq_plan.specs.PlanValue.{owner}
-use Rattle.sq_opened.specs.Opened.{opened_family}
-use Rattle.sq_opened.proofs.partition.owned.Goals as goal
+use Rattle.sq_store.specs.Opened.{opened_family}
+use Rattle.sq_store.proofs.slab_store.open.owned.Goals as goal
 
 pub returns : goal.returns
 returns c =

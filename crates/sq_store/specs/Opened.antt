@@ -1,0 +1,14 @@
+-- The families that a partition opens with.
+use Rattle.std.specs.Prelude.{ℕ, ◌==◌, List, [], map, filter}
+use Rattle.sq_schema.specs.Effect.{RowList}
+use Rattle.sq_schema.specs.Table.{TableValue}
+use Rattle.sq_schema.specs.Family.{FamilyValue}
+use Rattle.sq_plan.specs.PlanValue.{PlanValue, owner}
+
+-- a family that starts from these rows of its root key
+abbrev pub opened_family : ℕ × RowList → FamilyValue
+opened_family entry = record { root = entry.0; base = entry.1; log = [] }
+
+-- the families of the root keys that a partition owns
+abbrev pub opened_families : PlanValue → ℕ → TableValue → List FamilyValue
+opened_families plan part table = map opened_family (filter (λ entry. owner plan entry.0 == part) table)
