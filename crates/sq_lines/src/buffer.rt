@@ -34,7 +34,11 @@ pub(crate) fn buffer_of(alloc: Global) -> Result<Vec<u8>, AllocError>
 pub fn place_of(byte: u8, bytes: &[u8]) -> Option<usize>
     ensures { result ≡ position (λ b. b == byte) bytes.now }
 {
-    memchr(byte, bytes)
+    match bytes {
+        // Most empty lines are found so, without a search.
+        [first, ..] if *first == byte => Some(0),
+        _ => memchr(byte, bytes),
+    }
 }
 
 // Moves the bytes from one place up to another to the front.
