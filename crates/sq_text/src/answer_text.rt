@@ -2,26 +2,31 @@
 ghost use Rattle.std.specs.Prelude.{◌≡◌, ◌≤◌, ◌∷◌, ◌++◌, [], false, length, OnOk};
 ghost use Rattle.std.specs.List.{flat_map, join_with_byte};
 ghost use Rattle.std.specs.Io.KnownBytes.{Appends};
+ghost use Rattle.sq_schema.specs.declared.txn.Reply.TheVariants.{Aborted};
+ghost use Rattle.sq_model.specs.declared.answer.Answer.TheVariants.{Moved, Waits};
 ghost use Rattle.sq_text.specs.Texts.{line, op_answer_text, has_note, cause_text, mark_text, commit_words, reply_words, note_words, status_text, reading_text, node_words, answer_line, refused_line, fault_line};
 
 use crate::row_text::{has_note, put_op_answer, write_op_answer};
-use crate::text::Text;
+use crate::text::{Text, TextOf};
 use sq_chunk::Note;
 use sq_model::Answer;
+use sq_plan::PartId;
+use sq_ranges::SegId;
 use sq_schema::{Cause, OpAnswer, Reply};
-use sq_tree::{Reading, Status};
+use sq_tree::{Leaf, Reading, Status};
 use std::io;
 use std::io::Write;
 
-fn cause_text(cause: Cause) -> &'static str
-    ensures { result.now ≡ cause_text cause }
+fn cause_text(cause: Cause) -> &'static [u8]
+    ensures text { result.now ≡ cause_text cause }
+    ensures size { length result.now ≤ 8 }
 {
     match cause {
-        Cause::Absent => "absent",
-        Cause::Small => "small",
-        Cause::Range => "range",
-        Cause::NoRoot => "noroot",
-        Cause::Children => "children",
+        Cause::Absent => b"absent",
+        Cause::Small => b"small",
+        Cause::Range => b"range",
+        Cause::NoRoot => b"noroot",
+        Cause::Children => b"children",
     }
 }
 
@@ -40,7 +45,7 @@ fn write_short_commit<W: Write>(writer: &mut W, id: u64, answer: &OpAnswer) -> i
     requires { has_note answer.now ≡ false }
     ensures { OnOk result (Appends (W.contents writer.old) (W.contents writer.new) (line (commit_words id (answer.now ∷ [])))) }
 {
-    let mut text = Text::new();
+    let mut text = TextOf::<64>::new();
     text.put_byte(b'\n');
     put_op_answer(&mut text, answer);
     text.put_byte(b' ');
@@ -66,16 +71,28 @@ fn write_commit<W: Write>(writer: &mut W, id: u64, answers: &[OpAnswer]) -> io::
     }
 }
 
+// Writes the line of an abort.
+fn write_abort<W: Write>(writer: &mut W, id: u64, at: usize, cause: Cause) -> io::Result<()>
+    ensures { OnOk result (Appends (W.contents writer.old) (W.contents writer.new) (line (reply_words id (Aborted at cause)))) }
+{
+    let mut text = TextOf::<64>::new();
+    text.put_byte(b'\n');
+    text.put(cause_text(cause));
+    text.put_byte(b' ');
+    text.put_number(at as u64);
+    text.put_byte(b' ');
+    text.put_number(id);
+    text.put(b"abort ");
+    writer.write_all(text.as_bytes())
+}
+
 // Writes the line of what a transaction is answered.
 fn write_reply<W: Write>(writer: &mut W, id: u64, reply: &Reply) -> io::Result<()>
     ensures { OnOk result (Appends (W.contents writer.old) (W.contents writer.new) (line (reply_words id reply.now))) }
 {
     match reply {
         Reply::Committed(answers) => write_commit(writer, id, answers.as_slice()),
-        Reply::Aborted { at, cause } => {
-            let cause = cause_text(*cause);
-            writeln!(writer, "abort {id} {at} {cause}")
-        }
+        Reply::Aborted { at, cause } => write_abort(writer, id, *at, *cause),
     }
 }
 
@@ -151,6 +168,34 @@ fn write_node<W: Write>(writer: &mut W, status: Status, reading: Reading) -> io:
     writeln!(writer, " {reading}")
 }
 
+// Writes the line of a transaction that is sent on.
+fn write_moved<W: Write>(writer: &mut W, id: u64, to: PartId) -> io::Result<()>
+    ensures { OnOk result (Appends (W.contents writer.old) (W.contents writer.new) (answer_line (Moved id to))) }
+{
+    let mut text = TextOf::<64>::new();
+    text.put_byte(b'\n');
+    text.put_number(u64::from(to.number()));
+    text.put_byte(b' ');
+    text.put_number(id);
+    text.put(b"moved ");
+    writer.write_all(text.as_bytes())
+}
+
+// Writes the line of a transaction that waits.
+fn write_waits<W: Write>(writer: &mut W, id: u64, seg: SegId, leaf: Leaf) -> io::Result<()>
+    ensures { OnOk result (Appends (W.contents writer.old) (W.contents writer.new) (answer_line (Waits id seg leaf))) }
+{
+    let mut text = TextOf::<80>::new();
+    text.put_byte(b'\n');
+    text.put_number(leaf.number());
+    text.put_byte(b' ');
+    text.put_number(seg.number());
+    text.put_byte(b' ');
+    text.put_number(id);
+    text.put(b"waits ");
+    writer.write_all(text.as_bytes())
+}
+
 /// Writes the line that a step is answered. An error is the writer's.
 pub fn write_answer<W: Write>(writer: &mut W, answer: &Answer) -> io::Result<()>
     ensures { OnOk result (Appends (W.contents writer.old) (W.contents writer.new) (answer_line answer.now)) }
@@ -158,14 +203,8 @@ pub fn write_answer<W: Write>(writer: &mut W, answer: &Answer) -> io::Result<()>
     match answer {
         Answer::Done => writer.write_all(b"ok\n"),
         Answer::Replied { id, reply } => write_reply(writer, *id, reply),
-        Answer::Moved { id, to } => {
-            let to = to.number();
-            writeln!(writer, "moved {id} {to}")
-        }
-        Answer::Waits { id, seg, leaf } => {
-            let (seg, leaf) = (seg.number(), leaf.number());
-            writeln!(writer, "waits {id} {seg} {leaf}")
-        }
+        Answer::Moved { id, to } => write_moved(writer, *id, *to),
+        Answer::Waits { id, seg, leaf } => write_waits(writer, *id, *seg, *leaf),
         Answer::Resumed { txn, reply } => write_reply(writer, txn.id(), reply),
         Answer::WasCut { note, families } => write_note(writer, b"cut ", note, *families),
         Answer::WasLoaded { note, families } => write_note(writer, b"load ", note, *families),
@@ -178,7 +217,7 @@ pub fn write_answer<W: Write>(writer: &mut W, answer: &Answer) -> io::Result<()>
 pub fn write_refused<W: Write>(writer: &mut W, number: u16) -> io::Result<()>
     ensures { OnOk result (Appends (W.contents writer.old) (W.contents writer.new) (refused_line number)) }
 {
-    let mut text = Text::new();
+    let mut text = TextOf::<32>::new();
     text.put_byte(b'\n');
     text.put_number(u64::from(number));
     text.put(b"refused ");

@@ -57,7 +57,7 @@ impl<'a> Words<'a> {
         ensures { IsParsedGivenMemory (λ row. (row, self.new)) result (row_field self.old) }
     {
         let number = self.signed()?;
-        let word = self.next().ok_or(Malformed)?;
+        let word = self.next_long().ok_or(Malformed)?;
         Ok(Row::new(number, note(alloc, word)?))
     }
 }

@@ -3,10 +3,9 @@ ghost use Rattle.std.specs.Prelude.{◌≡◌, ◌*◌, ◌<◌, ◌≤◌, [], 
 ghost use Rattle.std.specs.Fmt.{digit_glyph, signed_decimal};
 ghost use Rattle.std.specs.List.{flat_map};
 ghost use Rattle.std.specs.Io.KnownBytes.{Appends};
-ghost use Rattle.sq_text.specs.declared.text.TheConstants.{ROOM};
 ghost use Rattle.sq_text.specs.Texts.{hex_byte_text, row_text, op_answer_text, has_note, entry_text};
 
-use crate::text::Text;
+use crate::text::{Text, TextOf};
 use sq_schema::{OpAnswer, Row, RowKey};
 use std::io;
 use std::io::Write;
@@ -53,7 +52,7 @@ fn write_hex<W: Write>(writer: &mut W, bytes: &[u8]) -> io::Result<()>
 }
 
 // Puts a row at the front of a text, but for the digits of its note.
-fn put_row(text: &mut Text, row: &Row)
+fn put_row<const ROOM: usize>(text: &mut TextOf<ROOM>, row: &Row)
     requires { length text.old + 23 ≤ ROOM }
     ensures whole { row.now.note ≡ [] → text.new ≡ row_text row.now ++ text.old }
     ensures before_note { text.old ≡ [] → text.new ++ flat_map hex_byte_text row.now.note ≡ row_text row.now }
@@ -117,7 +116,7 @@ pub(crate) fn has_note(answer: &OpAnswer) -> bool
 }
 
 /// Puts what an operation is answered at the front of a text.
-pub(crate) fn put_op_answer(text: &mut Text, answer: &OpAnswer)
+pub(crate) fn put_op_answer<const ROOM: usize>(text: &mut TextOf<ROOM>, answer: &OpAnswer)
     requires short { has_note answer.now ≡ false }
     requires room { length text.old + 23 ≤ ROOM }
     ensures text { text.new ≡ op_answer_text answer.now ++ text.old }

@@ -1,5 +1,6 @@
 // The steps that lines of the script spell.
-ghost use Rattle.std.specs.Prelude.{◌≡◌, true, Err};
+ghost use Rattle.std.specs.Prelude.{◌≡◌, true, Err, ok_or};
+ghost use Rattle.sq_text.specs.Fields.{value_at_end};
 ghost use Rattle.sq_text.specs.Steps.{pair_field, pull_field, step_with, verb_step, txn_in, submitted, step_in, step_of, begins_txn};
 ghost use Rattle.sq_text.specs.Words.{words_of};
 ghost use Rattle.sq_text.specs.Faults.{IsParsed, IsParsedGivenMemory, IsStep};
@@ -83,14 +84,13 @@ fn step(verb: Verb, words: &mut Words<'_>) -> Result<Step, Malformed>
     }
 }
 
-// The step of a line that begins with a verb.
-fn verb_step(first: &[u8], mut words: Words<'_>) -> Result<Step, Malformed>
-    ensures { IsParsed (λ step. step) result (verb_step first.now words.entry) }
+// The step of a line that begins with this verb.
+fn verb_step(verb: Verb, mut words: Words<'_>) -> Result<Step, LineFault>
+    ensures { result ≡ ok_or (value_at_end (step_with verb words.entry)) LineFault.NotAStep }
 {
-    let verb = Verb::of(first).ok_or(Malformed)?;
     let step = step(verb, &mut words)?;
     match words.next() {
-        Some(_) => Err(Malformed),
+        Some(_) => Err(LineFault::NotAStep),
         None => Ok(step),
     }
 }
@@ -123,9 +123,14 @@ pub fn read_step(alloc: Global, schema: &Schema, line: &[u8]) -> Result<Step, Li
         return Err(LineFault::TooLong);
     }
     let mut words = Words::of(line);
-    match words.next() {
-        Some(b"txn") => submit(alloc, schema, words),
-        Some(first) => Ok(verb_step(first, words)?),
-        None => Err(LineFault::NotAStep),
+    let Some(first) = words.next() else {
+        return Err(LineFault::NotAStep);
+    };
+    if first == b"txn".as_slice() {
+        return submit(alloc, schema, words);
     }
+    let Some(verb) = Verb::of(first) else {
+        return Err(LineFault::NotAStep);
+    };
+    verb_step(verb, words)
 }

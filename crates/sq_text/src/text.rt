@@ -1,24 +1,22 @@
 // Texts that are put together before they are written: each write costs more than the bytes that it writes.
 ghost use Rattle.std.specs.Prelude.{◌≡◌, ◌+◌, ◌<◌, ◌≤◌, [], ◌∷◌, ◌++◌, length, decimal};
 ghost use Rattle.std.specs.Fmt.{signed_decimal};
-ghost use Rattle.sq_text.specs.declared.text.TheConstants.{ROOM};
 
 use itoa::write_digits;
 use std::marker::Model;
 
-/// The most bytes that a text has.
-pub(crate) const ROOM: usize = 192;
-
-/// A text that is put together from its end. To a contract it is the list of its bytes.
+/// A text of at most `ROOM` bytes that is put together from its end. To a contract it is the list of its bytes.
 #[derive(Drop)]
-pub(crate) struct Text {
+pub(crate) struct TextOf<const ROOM: usize> {
     bytes: [u8; ROOM],
     start: usize,
 }
 
-impl Model for Text {
+/// A text with room for each line, or part of a line, that is put together at once.
+pub(crate) type Text = TextOf<192>;
+
+impl<const ROOM: usize> Model for TextOf<ROOM> {
     ghost use Rattle.std.specs.Prelude.{◌≤◌, ℕ, List, drop};
-    ghost use Rattle.sq_text.specs.declared.text.TheConstants.{ROOM};
 
     ghost Value = { List ℕ };
 
@@ -27,12 +25,12 @@ impl Model for Text {
     ghost invariant = { λ t. t.start ≤ ROOM };
 }
 
-impl Text {
+impl<const ROOM: usize> TextOf<ROOM> {
     /// A text without bytes.
-    pub(crate) fn new() -> Text
+    pub(crate) fn new() -> TextOf<ROOM>
         ensures { result ≡ [] }
     {
-        Text {
+        TextOf {
             bytes: [0; ROOM],
             start: ROOM,
         }
@@ -53,7 +51,8 @@ impl Text {
         ensures { self.new ≡ bytes.now ++ self.old }
     {
         let start = self.start - bytes.len();
-        self.bytes[start..self.start].copy_from_slice(bytes);
+        let room = &mut self.bytes[..];
+        room[start..self.start].copy_from_slice(bytes);
         self.start = start;
     }
 
@@ -82,6 +81,7 @@ impl Text {
     pub(crate) fn as_bytes(&self) -> &[u8]
         ensures { result.now ≡ self.now }
     {
-        &self.bytes[self.start..]
+        let room = &self.bytes[..];
+        &room[self.start..]
     }
 }

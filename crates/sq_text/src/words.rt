@@ -1,7 +1,7 @@
 // The words of a line.
 ghost use Rattle.std.specs.Prelude.{◌≡◌, [], ◌∷◌, MatchOption};
 
-use crate::split::split_once;
+use crate::split::{split_once, split_once_far};
 use std::marker::Model;
 
 /// The words of a line that are left to read: the parts between its spaces. To a contract they are a list.
@@ -29,19 +29,35 @@ impl<'a> Words<'a> {
         Words { rest: Some(line) }
     }
 
-    // The next word, if one is left.
+    // The next word, if one is left. Most words are short.
     pub(crate) fn next(&mut self) -> Option<&'a [u8]>
         ensures { MatchOption result ((self.old ≡ []) × (self.new ≡ [])) (λ word. self.old ≡ word.now ∷ self.new) }
     {
         let rest = self.rest?;
-        match split_once(b' ', rest) {
+        Some(self.take(rest, split_once(b' ', rest)))
+    }
+
+    // The same, for a word that may be long.
+    pub(crate) fn next_long(&mut self) -> Option<&'a [u8]>
+        ensures { MatchOption result ((self.old ≡ []) × (self.new ≡ [])) (λ word. self.old ≡ word.now ∷ self.new) }
+    {
+        let rest = self.rest?;
+        Some(self.take(rest, split_once_far(b' ', rest)))
+    }
+
+    // The first of these bytes' words, which are split behind it where it isn't the last; the others are left.
+    fn take(&mut self, bytes: &'a [u8], split: Option<(&'a [u8], &'a [u8])>) -> &'a [u8]
+        requires { MatchOption split (words_of bytes.now ≡ bytes.now ∷ []) (λ x. words_of bytes.now ≡ x.0.now ∷ words_of x.1.now) }
+        ensures { words_of bytes.now ≡ result.now ∷ self.new }
+    {
+        match split {
             Some((word, rest)) => {
                 self.rest = Some(rest);
-                Some(word)
+                word
             }
             None => {
                 self.rest = None;
-                Some(rest)
+                bytes
             }
         }
     }
