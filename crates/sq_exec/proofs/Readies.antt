@@ -13,17 +13,11 @@ use Rattle.sq_waiting.specs.Waiting.{Arrival, txns_of, numbers_of, is_on, is_due
 use Rattle.sq_exec.specs.declared.fault.ResumeFault.{ResumeFault}
 use Rattle.sq_exec.specs.declared.fault.ResumeFault.TheVariants.{NoneReady, LogFull}
 use Rattle.sq_exec.specs.CoreValue.{CoreValue}
-use Rattle.sq_exec.specs.Location.{is_coming}
-use Rattle.sq_exec.specs.Serving.{is_stuck, is_ready, resume_refusal}
+use Rattle.sq_exec.specs.Serving.{is_stuck, is_ready, stays_by, graver, first_ready, resume_refusal}
 use Rattle.sq_exec.specs.Kept.{is_due_here}
-use Rattle.sq_exec.specs.Location.{route}
+use Rattle.sq_exec.specs.Location.{is_coming, route}
 use Rattle.sq_exec.proofs.Coming.{all_follow}
 use Rattle.sq_exec.proofs.Due.{pass_below, pass_unless_due, none_left, from_found, one_more, first_found, position_or_len-map, slice_get-map, position_at, no_position}
-
--- why none is ready, where the rows of all are on their way or not
-abbrev pub fault_of : Bool → ResumeFault
-fault_of true = NoneReady
-fault_of false = LogFull
 
 abbrev pub comes : CoreValue → Arrival → Bool
 comes core a = is_coming core (a.txn).root
@@ -87,15 +81,14 @@ module _ (core : CoreValue) (arrivals : List Arrival) (due : list_all (is_due_he
           ∙ one_more (comes core) from found.arrival arrivals (sorted_from_strictly_increasing (numbers_of arrivals) rises) found.is due
           ∙ ap (λ t. list_all (pass_below (comes core) from) arrivals && is_coming core t.root) found.txn_is
 
-      -- one whose rows are here
-      pub one_here : (fault : ResumeFault) → is_coming core txn.root ≡ false → fault ≡ LogFull → fault ≡ fault_of (list_all (pass_below (comes core) (number + 1)) arrivals)
-      one_here fault here is = is ∙ sym (ap fault_of (more_come ∙ ap (λ b. list_all (pass_below (comes core) from) arrivals && b) here ∙ and_false (list_all (pass_below (comes core) from) arrivals)))
-
-      -- one whose rows are on their way
-      pub one_comes : (fault before : ResumeFault) → is_coming core txn.root ≡ true → before ≡ fault_of (list_all (pass_below (comes core) from) arrivals) → fault ≡ before
-          → fault ≡ fault_of (list_all (pass_below (comes core) (number + 1)) arrivals)
-      one_comes fault before coming was is =
-          is ∙ was ∙ sym (ap fault_of (more_come ∙ ap (λ b. list_all (pass_below (comes core) from) arrivals && b) coming ∙ and_true (list_all (pass_below (comes core) from) arrivals)))
+      -- one that doesn't go
+      pub one_stays : (fault before other : ResumeFault) → other ≡ stays_by (is_coming core txn.root) → before ≡ stays_by (list_all (pass_below (comes core) from) arrivals) → fault ≡ graver before other
+          → fault ≡ stays_by (list_all (pass_below (comes core) (number + 1)) arrivals)
+      one_stays fault before other why was is = is ∙ ap (graver before) why ∙ joined (is_coming core txn.root) ∙ sym (ap stays_by more_come)
+        where
+          joined : (coming : Bool) → graver before (stays_by coming) ≡ stays_by (list_all (pass_below (comes core) from) arrivals && coming)
+          joined true = was ∙ sym (ap stays_by (and_true (list_all (pass_below (comes core) from) arrivals)))
+          joined false = sym (ap stays_by (and_false (list_all (pass_below (comes core) from) arrivals)))
 
       -- one that isn't ready
       pub one_off : is_ready core txn ≡ false → list_all (pass_below (is_off core) from) arrivals ≡ true → list_all (pass_below (is_off core) (number + 1)) arrivals ≡ true
@@ -106,7 +99,7 @@ module _ (core : CoreValue) (arrivals : List Arrival) (due : list_all (is_due_he
 
     -- one that is ready is the first
     pub one_ready : is_ready core txn ≡ true → list_all (pass_below (is_off core) from) arrivals ≡ true
-        → (place : ℕ) × (position (is_ready core) (txns_of arrivals) ≡ Some place) × (slice_get (numbers_of arrivals) place ≡ Some number)
+        → (place : ℕ) × (position (is_ready core) (txns_of arrivals) ≡ Some place) × (slice_get (numbers_of arrivals) place ≡ Some number) × (slice_get (txns_of arrivals) place ≡ Some txn)
     one_ready ready none =
         let first = first_found (is_off core) from found.arrival arrivals found.is off_unless_due none (ap not (ap (is_ready core) found.txn_is ∙ ready)) in
         let place = first.0 in
@@ -115,12 +108,22 @@ module _ (core : CoreValue) (arrivals : List Arrival) (due : list_all (is_due_he
           place,
           position_at (is_ready core) (txns_of arrivals) place at (omega (arith, first.3, length-map arrivals (λ (a : Arrival). a.txn))),
           slice_get-map (λ (a : Arrival). a.number) arrivals place found.arrival first.2 ∙ ap Some found.number_is,
+          slice_get-map (λ (a : Arrival). a.txn) arrivals place found.arrival first.2 ∙ ap Some found.txn_is,
         )
 
+    -- and goes to this partition
+    pub one_goes : (who : ℕ) → who ≡ route core txn.root → is_ready core txn ≡ true → list_all (pass_below (is_off core) from) arrivals ≡ true → core.waiting ≡ txns_of arrivals
+        → option_map (λ (t : TxnValue). route core t.root) (first_ready core) ≡ Some who
+    one_goes who who_is ready none waiting_is =
+        let first = one_ready ready none in
+        let chosen : first_ready core ≡ Some txn =
+        (λ k. option_and_then (slice_get (waiting_is k)) (position (is_ready core) (waiting_is k))) ∙ ap (option_and_then (slice_get (txns_of arrivals))) first.1 ∙ first.3 in
+        ap (option_map (λ (t : TxnValue). route core t.root)) chosen ∙ ap Some (sym who_is)
+
   -- none is ready
-  pub none_is_ready : (from : ℕ) (fault : ResumeFault) → find (is_due_from from) arrivals ≡ None → list_all (pass_below (is_off core) from) arrivals ≡ true → fault ≡ fault_of (list_all (pass_below (comes core) from) arrivals)
+  pub none_is_ready : (from : ℕ) (fault : ResumeFault) → find (is_due_from from) arrivals ≡ None → list_all (pass_below (is_off core) from) arrivals ≡ true → fault ≡ stays_by (list_all (pass_below (comes core) from) arrivals)
       → core.waiting ≡ txns_of arrivals → Some fault ≡ resume_refusal core
-  none_is_ready from fault none off fault_is waiting_is = ap Some (fault_is ∙ ap fault_of all_come) ∙ by_all (list_all (λ txn. is_coming core txn.root) core.waiting) refl
+  none_is_ready from fault none off fault_is waiting_is = ap Some (fault_is ∙ ap stays_by all_come) ∙ by_all (list_all (λ txn. is_coming core txn.root) core.waiting) refl
     where
       all_come : list_all (pass_below (comes core) from) arrivals ≡ list_all (λ txn. is_coming core txn.root) core.waiting
       all_come = none_left (comes core) from arrivals none due ∙ sym (list_all-map (λ (txn : TxnValue). is_coming core txn.root) (λ (a : Arrival). a.txn) arrivals) ∙ ap (list_all (λ txn. is_coming core txn.root)) (sym waiting_is)
@@ -131,9 +134,9 @@ module _ (core : CoreValue) (arrivals : List Arrival) (due : list_all (is_due_he
           ∙ no_position (is_ready core) (txns_of arrivals)
           (list_all-map (λ (txn : TxnValue). not (is_ready core txn)) (λ (a : Arrival). a.txn) arrivals ∙ sym (none_left (is_off core) from arrivals none off_unless_due) ∙ off)
 
-      by_all : (b : Bool) → list_all (λ txn. is_coming core txn.root) core.waiting ≡ b → Some (fault_of (list_all (λ txn. is_coming core txn.root) core.waiting)) ≡ resume_refusal core
-      by_all true all = ap (λ b. Some (fault_of b)) all ∙ sym (ap (λ b. if b then Some NoneReady else if is_none (position (is_ready core) core.waiting) then Some LogFull else None) all)
-      by_all false all = ap (λ b. Some (fault_of b)) all ∙ sym (λ k. if all k then Some NoneReady else if is_none (nowhere k) then Some LogFull else None)
+      by_all : (b : Bool) → list_all (λ txn. is_coming core txn.root) core.waiting ≡ b → Some (stays_by (list_all (λ txn. is_coming core txn.root) core.waiting)) ≡ resume_refusal core
+      by_all true all = ap (λ b. Some (stays_by b)) all ∙ sym (ap (λ b. if b then Some NoneReady else if is_none (position (is_ready core) core.waiting) then Some LogFull else None) all)
+      by_all false all = ap (λ b. Some (stays_by b)) all ∙ sym (λ k. if all k then Some NoneReady else if is_none (nowhere k) then Some LogFull else None)
 
 -- whether one waits for a root key
 pub any-txns : (root : ℕ) (arrivals : List Arrival) → list_any (is_on root) arrivals ≡ list_any (λ txn. txn.root == root) (txns_of arrivals)

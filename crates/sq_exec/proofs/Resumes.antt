@@ -12,10 +12,9 @@ use Rattle.sq_store.specs.StoreValue.{StoreValue}
 use Rattle.sq_waiting.specs.Waiting.{Arrival, txns_of, numbers_of, txn_at, without}
 use Rattle.sq_waiting.proofs.Arrivals.{IsAt, at_number, is_there}
 use Rattle.sq_exec.specs.declared.fault.ResumeFault.TheVariants.{NoneReady, LogFull}
-use Rattle.sq_exec.specs.declared.location.Location.{Location}
 use Rattle.sq_exec.specs.declared.outcome.Outcome.{Outcome}
 use Rattle.sq_exec.specs.CoreValue.{CoreValue, Numbering, PartCoreValue}
-use Rattle.sq_exec.specs.Location.{location, is_coming, route, route_from}
+use Rattle.sq_exec.specs.Location.{is_coming, route}
 use Rattle.sq_exec.specs.Serving.{is_stuck, served, is_ready, first_ready, resume_refusal, resume_takes_memory, IsResumed}
 use Rattle.sq_exec.specs.Kept.{is_due_here}
 use Rattle.sq_exec.specs.Numbering.{IsFirstReady, TakesNumber}
@@ -59,11 +58,14 @@ module _ (core : CoreValue) (place : ℕ) (first : position (is_ready core) core
       let chosen : first_ready core ≡ Some txn = ap (option_and_then (slice_get core.waiting)) first ∙ there in
       ap (λ t. option_map_or (λ txn. route core txn.root == core.part) t false) chosen ∙ eq-eqb (route core txn.root) core.part same
 
--- the partition that the transaction goes to, which was looked up for its root key
-pub routed : {seen now : PartCoreValue} → seen ≡ now → (read txn : TxnValue) (root who : ℕ) (found : Option Location) → read ≡ txn → root ≡ read.root → found ≡ location now.core root → who ≡ route_from now.core root found
-    → who ≡ route seen.core txn.root
-routed {seen} {now} view_is read txn root who found same root_is found_is who_is =
-    who_is ∙ ap (route_from now.core root) found_is ∙ ap (route now.core) (root_is ∙ ap (λ (t : TxnValue). t.root) same) ∙ ap (λ (v : PartCoreValue). route v.core txn.root) (sym view_is)
+-- the partition that the first ready transaction goes to
+routed : {seen now : PartCoreValue} → seen ≡ now → (place who : ℕ) (txn : TxnValue) → position (is_ready now.core) now.core.waiting ≡ Some place → slice_get seen.core.waiting place ≡ Some txn
+    → option_map (λ (t : TxnValue). route now.core t.root) (first_ready now.core) ≡ Some who → who ≡ route seen.core txn.root
+routed {seen} {now} view_is place who txn first there goes =
+    let chosen : first_ready now.core ≡ Some txn = ap (option_and_then (slice_get now.core.waiting)) first ∙ ap (λ (v : PartCoreValue). slice_get v.core.waiting place) (sym view_is) ∙ there in
+    let both : Some (route now.core txn.root) ≡ Some who = sym (ap (option_map (λ (t : TxnValue). route now.core t.root)) chosen) ∙ goes in
+    let same : route now.core txn.root ≡ who = cc in
+    sym same ∙ ap (λ (v : PartCoreValue). route v.core txn.root) (sym view_is)
 
 map-remove : {X Y : Type 0} (f : X → Y) (xs : List X) (i : ℕ) → map f (remove xs i) ≡ remove (map f xs) i
 map-remove f [] zero = refl
@@ -100,28 +102,26 @@ module _ {seen now : PartCoreValue} (view_is : seen ≡ now) (number : ℕ) (rea
     rest_moves p all = ap (λ xs. list_all p (txns_of xs)) at.rest ∙ ap (list_all p) (map-remove (λ (a : Arrival). a.txn) arrivals ready.place) ∙ list_all-remove p (txns_of arrivals) ready.place all
 
     -- the parts of the partition are those of the definition
-    pub was_resumed : (left : List Arrival) → left ≡ without number arrivals → (read again txn : TxnValue) (root who : ℕ) (found : Option Location) (outcome : Outcome) (store : StoreValue)
-        → Some read ≡ txn_at arrivals number → Some again ≡ txn_at arrivals number → Some txn ≡ txn_at arrivals number
-        → root ≡ read.root → found ≡ location now.core root → who ≡ route_from now.core root found
-        → outcome ≡ (served seen.core.part who seen.core.store again).0 → store ≡ (served seen.core.part who seen.core.store again).1
+    pub was_resumed : (left : List Arrival) → left ≡ without number arrivals → (read txn : TxnValue) (who : ℕ) (outcome : Outcome) (store : StoreValue)
+        → Some read ≡ txn_at arrivals number → Some txn ≡ txn_at arrivals number → option_map (λ (t : TxnValue). route now.core t.root) (first_ready now.core) ≡ Some who
+        → outcome ≡ (served seen.core.part who seen.core.store read).0 → store ≡ (served seen.core.part who seen.core.store read).1
         → IsResumed now.core (record { txn = txn; outcome = outcome }) (record seen.core { store = store; waiting = txns_of left })
-    was_resumed left left_is read again txn root who found outcome store read_is again_is txn_is root_is found_is who_is outcome_is store_is =
+    was_resumed left left_is read txn who outcome store read_is txn_is goes outcome_is store_is =
         let core = seen.core in
         let place = ready.place in
         let first : position (is_ready core) core.waiting ≡ Some place = ap (λ (v : PartCoreValue). position (is_ready v.core) v.core.waiting) view_is ∙ ready.first in
         let both : Some read ≡ Some txn = read_is ∙ sym txn_is in
         let same : read ≡ txn = cc in
-        let alike : Some again ≡ Some txn = again_is ∙ sym txn_is in
-        let served_is : again ≡ txn = cc in
-        let who_of : who ≡ route core txn.root = routed view_is read txn root who found same root_is found_is who_is in
+        let there : slice_get core.waiting place ≡ Some txn = ap (λ txns. slice_get txns place) (sym waiting_is) ∙ txn_by_place arrivals place number at txn txn_is in
+        let who_of : who ≡ route core txn.root = routed view_is place who txn ready.first there goes in
         let rest : txns_of left ≡ remove core.waiting place =
         ap txns_of (left_is ∙ at.rest) ∙ map-remove (λ (a : Arrival). a.txn) arrivals place ∙ ap (λ txns. remove txns place) waiting_is in
         subst (λ (v : PartCoreValue). IsResumed v.core (record { txn = txn; outcome = outcome }) (record core { store = store; waiting = txns_of left })) view_is (record {
           place = place;
           first = first;
-          found = ap (λ txns. slice_get txns place) (sym waiting_is) ∙ txn_by_place arrivals place number at txn txn_is;
-          told = outcome_is ∙ (λ k. (served core.part (who_of k) core.store (served_is k)).0);
-          after = λ k. record core { store = (store_is ∙ (λ j. (served core.part (who_of j) core.store (served_is j)).1)) k; waiting = rest k };
+          found = there;
+          told = outcome_is ∙ (λ k. (served core.part (who_of k) core.store (same k)).0);
+          after = λ k. record core { store = (store_is ∙ (λ j. (served core.part (who_of j) core.store (same j)).1)) k; waiting = rest k };
         })
 
     -- the number is taken out with it
@@ -136,11 +136,11 @@ module _ {seen now : PartCoreValue} (view_is : seen ≡ now) (number : ℕ) (rea
     }
 
     -- the one that didn't find memory runs here
-    pub memory_here : (read : TxnValue) (root who here : ℕ) (found : Option Location) → Some read ≡ txn_at arrivals number → root ≡ read.root → found ≡ location now.core root → who ≡ route_from now.core root found
+    pub memory_here : (read : TxnValue) (who here : ℕ) → Some read ≡ txn_at arrivals number → option_map (λ (t : TxnValue). route now.core t.root) (first_ready now.core) ≡ Some who
         → here ≡ seen.core.part → who ≡ here → IsTrue (resume_takes_memory now.core)
-    memory_here read root who here found read_is root_is found_is who_is here_is same =
+    memory_here read who here read_is goes here_is same =
         let core = seen.core in
         let first : position (is_ready core) core.waiting ≡ Some ready.place = ap (λ (v : PartCoreValue). position (is_ready v.core) v.core.waiting) view_is ∙ ready.first in
         let there : slice_get core.waiting ready.place ≡ Some read = ap (λ txns. slice_get txns ready.place) (sym waiting_is) ∙ txn_by_place arrivals ready.place number at read read_is in
         subst (λ (v : PartCoreValue). IsTrue (resume_takes_memory v.core)) view_is
-        (runs_here core ready.place first read there (sym (routed view_is read read root who found refl root_is found_is who_is) ∙ same ∙ here_is))
+        (runs_here core ready.place first read there (sym (routed view_is ready.place who read ready.first there goes) ∙ same ∙ here_is))

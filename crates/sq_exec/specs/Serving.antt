@@ -65,6 +65,17 @@ IsTaken false old txn outcome new = IsServed old txn outcome new
 abbrev pub is_ready : CoreValue → TxnValue → Bool
 is_ready core txn = not (is_coming core txn.root) && not (is_stuck core.part (route core txn.root) core.store txn)
 
+-- why one doesn't go: its rows are on their way, or else the log is full
+abbrev pub stays_by : Bool → ResumeFault
+stays_by true = resume.NoneReady
+stays_by false = resume.LogFull
+
+-- why neither of two goes: that the log is full outweighs rows that are on their way
+abbrev pub graver : ResumeFault → ResumeFault → ResumeFault
+graver fault resume.NoneReady = fault
+graver fault resume.LogFull = resume.LogFull
+graver fault resume.Memory = resume.Memory
+
 -- why no waiting transaction goes
 abbrev pub resume_refusal : CoreValue → Option ResumeFault
 resume_refusal core =

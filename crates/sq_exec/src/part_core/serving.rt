@@ -1,9 +1,9 @@
 // Transactions at a partition.
-ghost use Rattle.std.specs.Prelude.{◌≡◌, true, length, unwrap_or, IfOk, IfErr, OnOk, OnErr, IsErrOf, ◌↔◌, MatchResult, IsTrue};
+ghost use Rattle.std.specs.Prelude.{◌≡◌, true, false, length, Some, option_map, unwrap_or, IfOk, IfErr, OnOk, OnErr, IsErrOf, ◌↔◌, MatchResult, IsTrue};
 ghost use Rattle.std.specs.List.Sorted.{IsStrictlyIncreasing};
 ghost use Rattle.sq_store.specs.StoreValue.{log_length};
-ghost use Rattle.sq_exec.specs.Location.{location, is_coming_from, route_from, waits_for};
-ghost use Rattle.sq_exec.specs.Serving.{is_stuck, served, must_wait, submit_refusal, submit_takes_memory, is_ready, resume_refusal, resume_takes_memory, IsMadeToWait, IsTaken, IsResumed};
+ghost use Rattle.sq_exec.specs.Location.{location, is_coming, is_coming_from, route, route_from, waits_for};
+ghost use Rattle.sq_exec.specs.Serving.{is_stuck, served, must_wait, submit_refusal, submit_takes_memory, is_ready, stays_by, graver, first_ready, resume_refusal, resume_takes_memory, IsMadeToWait, IsTaken, IsResumed};
 ghost use Rattle.sq_exec.specs.Numbering.{numbered, arrival_of, IsFirstReady, TakesNumber};
 
 use crate::fault::{ResumeFault, SubmitFault};
@@ -33,7 +33,7 @@ impl<S: FamilyStore> PartCore<S> {
     {
         let root = txn.root();
         let found = self.location(root);
-        if self.waits_for(root) || self.is_coming(&found) {
+        if self.is_coming(&found) || self.waits_for(root) {
             return self.wait(txn, &found);
         }
         let who = self.route(root, &found);
@@ -57,9 +57,7 @@ impl<S: FamilyStore> PartCore<S> {
         ensures number { OnOk result (TakesNumber self.old self.new) }
         ensures same_numbers { OnErr result (self.new.numbering ≡ self.old.numbering) }
     {
-        let number = self.first_ready()?;
-        let root = self.waiting.txn(number).root();
-        let who = self.route(root, &self.location(root));
+        let (number, who) = self.first_ready()?;
         let Ok(outcome) = serve(&mut self.store, self.part, who, self.waiting.txn(number)) else {
             return Err(ResumeFault::Memory);
         };
@@ -163,33 +161,51 @@ impl<S: FamilyStore> PartCore<S> {
         Ok(Outcome::Waits(at.seg, at.leaf))
     }
 
-    // Whether a waiting transaction can go.
-    fn is_ready(&self, txn: &Txn) -> bool
-        ensures { result ≡ is_ready self.now.core txn.now }
+    // Where a waiting transaction goes; or why it can't go.
+    fn destination(&self, txn: &Txn) -> Result<PartId, ResumeFault>
+        ensures ready { IfOk result (λ _. is_ready self.now.core txn.now ≡ true) }
+        ensures goes { IfOk result (λ who. who ≡ route self.now.core txn.now.root) }
+        ensures stays { IfErr result (λ _. is_ready self.now.core txn.now ≡ false) }
+        ensures why { IfErr result (λ fault. fault ≡ stays_by (is_coming self.now.core txn.now.root)) }
     {
         let root = txn.root();
         let found = self.location(root);
-        !self.is_coming(&found)
-            && !(self.route(root, &found) == self.part && self.position(root) >= MAX_LOG)
+        if self.is_coming(&found) {
+            return Err(ResumeFault::NoneReady);
+        }
+        let who = self.route(root, &found);
+        if who == self.part && self.position(root) >= MAX_LOG {
+            return Err(ResumeFault::LogFull);
+        }
+        Ok(who)
     }
 
-    // The arrival number of the first waiting transaction that can go; or why none can.
-    fn first_ready(&self) -> Result<u64, ResumeFault>
-        ensures ok { IfOk result (IsFirstReady self.now) }
+    // The arrival number of the first waiting transaction that can go, and where it goes; or why none can.
+    fn first_ready(&self) -> Result<(u64, PartId), ResumeFault>
+        ensures ok { IfOk result (λ ready. IsFirstReady self.now ready.0) }
+        ensures goes { IfOk result (λ ready. option_map (λ txn. route self.now.core txn.root) (first_ready self.now.core) ≡ Some ready.1) }
         ensures err { IfErr result (λ fault. Some fault ≡ resume_refusal self.now.core) }
     {
         let mut fault = ResumeFault::NoneReady;
         let mut from = 0;
         while let Some((number, txn)) = self.waiting.next_due(from) {
-            if self.is_ready(txn) {
-                return Ok(number);
-            }
-            if !self.is_coming(&self.location(txn.root())) {
-                fault = ResumeFault::LogFull;
+            match self.destination(txn) {
+                Ok(who) => return Ok((number, who)),
+                Err(other) => fault = graver(fault, other),
             }
             from = number + 1;
         }
         Err(fault)
+    }
+}
+
+// Why none can go of which this is why the others can't, and why one can't.
+fn graver(fault: ResumeFault, other: ResumeFault) -> ResumeFault
+    ensures { result ≡ graver fault other }
+{
+    match other {
+        ResumeFault::NoneReady => fault,
+        _ => other,
     }
 }
 

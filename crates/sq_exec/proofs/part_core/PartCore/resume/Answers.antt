@@ -11,9 +11,6 @@ use Rattle.sq_exec.proofs.part_core.PartCore.resume.Goals as goal
 pub txn-requires : goal.txn-requires
 txn-requires g c = stands c.self.view_is c.in_ok-number.number c.in_ok-number.ensures.ok c.self.inside.waiting.arrivals refl refl
 
-pub txn-requires-2 : goal.txn-requires-2
-txn-requires-2 g c = stands c.self.view_is c.in_ok-number.number c.in_ok-number.ensures.ok c.self.inside.waiting.arrivals refl refl
-
 pub remove-txn-requires : goal.remove-txn-requires
 remove-txn-requires g c = stands c.self.view_is c.in_ok-number.number c.in_ok-number.ensures.ok c.self.inside.waiting.arrivals refl refl
 
@@ -22,8 +19,8 @@ returns-in_default-clause-refused g c = sym (ap (λ r. unwrap_or r Memory) (noth
 
 pub returns-in_default-clause-memory : goal.returns-in_default-clause-memory
 returns-in_default-clause-memory g c = λ same.
-    memory_here c.self.view_is c.in_ok-number.number c.in_ok-number.ensures.ok c.self.inside.waiting.arrivals refl refl c.txn.ensures.rises c.txn.result.now c.root-root.result c.route-who.result c.self.inside.part c.location.result
-    c.txn.ensures.txn c.root-root.ensures c.location.ensures c.route-who.ensures refl c.in_default.ensures.runs
+    memory_here c.self.view_is c.in_ok-number.number c.in_ok-number.ensures.ok c.self.inside.waiting.arrivals refl refl c.txn.ensures.rises c.txn.result.now c.in_ok-number.who c.self.inside.part
+    c.txn.ensures.txn c.in_ok-number.ensures.goes refl c.in_default.ensures.runs
 
 pub invariant_of-self-2 : goal.invariant_of-self-2
 invariant_of-self-2 g c =
@@ -41,8 +38,8 @@ pub returns-clause-ok : goal.returns-clause-ok
 returns-clause-ok g c =
     let arrivals = c.self.inside.waiting.arrivals in
     let store = g.S.FamilyStore.contents c.serve.new.store in
-    was_resumed c.self.view_is c.in_ok-number.number c.in_ok-number.ensures.ok arrivals refl refl c.txn.ensures.rises c.remove-txn.new.self.arrivals (ap (λ (w : WaitingValue). w.arrivals) c.remove-txn.ensures.rest) c.txn.result.now c.txn-2.result.now c.remove-txn.result c.root-root.result c.route-who.result c.location.result c.in-Ok.outcome store
-    c.txn.ensures.txn c.txn-2.ensures.txn c.remove-txn.ensures.txn c.root-root.ensures c.location.ensures c.route-who.ensures c.in-Ok.ensures.outcome c.in-Ok.ensures.store
+    was_resumed c.self.view_is c.in_ok-number.number c.in_ok-number.ensures.ok arrivals refl refl c.txn.ensures.rises c.remove-txn.new.self.arrivals (ap (λ (w : WaitingValue). w.arrivals) c.remove-txn.ensures.rest) c.txn.result.now c.remove-txn.result c.in_ok-number.who c.in-Ok.outcome store
+    c.txn.ensures.txn c.remove-txn.ensures.txn c.in_ok-number.ensures.goes c.in-Ok.ensures.outcome c.in-Ok.ensures.store
 
 pub returns-clause-number : goal.returns-clause-number
 returns-clause-number g c =
