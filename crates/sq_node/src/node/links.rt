@@ -70,6 +70,9 @@ impl Node {
         requires part { dst < fabric.now.parts }
         ensures { MatchBool result (Sends self.old dst self.new) ((self.new ≡ self.old) × HasNoneToSend fabric.now self.old dst) }
     {
+        if self.core.outbox(dst).is_none() {
+            return false;
+        }
         let Some(chunk) = self.core.take_outbox(dst) else {
             return false;
         };
@@ -160,8 +163,6 @@ impl Node {
         ensures may { result ≡ may_load_now self.now.core src }
         ensures chunk { IfSome (inbox_at self.now.core src) IsChunk }
     {
-        let may = self.core.may_load(src);
-        let runs = fabric.recon().stage_on(src, self.core.part()) == fabric.stage();
-        runs && may
+        self.core.may_load(src) && fabric.recon().stage_on(src, self.core.part()) == fabric.stage()
     }
 }

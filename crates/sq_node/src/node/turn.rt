@@ -60,7 +60,7 @@ impl Node {
         ensures of { IsNodeOf fabric.now self.new }
         ensures holds { KeepsAll self.old self.new }
     {
-        if !self.is_at_rest() || !self.has_answered(fabric) {
+        if !self.has_answered(fabric) || !self.is_at_rest() {
             return false;
         }
         let part = self.core.part();
