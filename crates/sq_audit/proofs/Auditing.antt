@@ -1,12 +1,11 @@
 -- What the passes tell, in the words of the clauses.
 use Rattle.std.proofs.Common.{◌≡◌, inl, inr, ⊎_elim, ℕ, zero, suc, ◌<◌, ◌==◌, ◌&&◌, Bool, true, false, List, [], ◌∷◌, length, take, Contains, Option, Some, None, refl, sym, ap, ◌∙◌, subst, arith, true≢false, eqb-true, eq-eqb}
-use Rattle.std.specs.Prelude.{cond, count_by, unwrap_or, not, is_some}
+use Rattle.std.specs.Prelude.{cond, count_by, unwrap_or, not}
 use Rattle.std.specs.List.{AllPass}
 use Rattle.std.specs.Bool.{Decides}
 use Rattle.std.specs.Ordering.{nat_cmp, is_lt, eq_by_cmp}
 use Rattle.std.specs.Cmp.{unsigned_tied}
 use Rattle.std.specs.FinMap.Entries.{find, is_sorted, below_all}
-use Rattle.std.specs.BTreeMap.{BTreeMap, get}
 use Rattle.std.proofs.lemmas.Bool.{cases_Bool, and_parts, ne_eqb}
 use Rattle.std.proofs.lemmas.Bool.Decides.{Decides-like}
 use Rattle.std.proofs.lemmas.List.Elements.{All-tail}
@@ -17,7 +16,7 @@ use Rattle.sq_schema.specs.Table.{TableValue, rows_in, is_opening}
 use Rattle.sq_store.specs.StoreValue.{absent}
 use Rattle.sq_store.proofs.Order.{less_from_cmp}
 use Rattle.sq_ranges.specs.OpeningValue.{OpeningValue}
-use Rattle.sq_model.proofs.Lists.{Contains-nothing, Contains-cases, Contains-first, Contains-later, Contains-slice_get, Contains-filter, kept_in}
+use Rattle.sq_model.proofs.Lists.{Contains-nothing, Contains-cases, Contains-first, Contains-later, Contains-filter, kept_in}
 use Rattle.sq_node_model.specs.NodeValue.{ReceiptValue}
 use Rattle.sq_node_model.specs.BeganWith.{is_opened}
 use Rattle.sq_node_model.specs.Receipts.{is_commit, times_named}
@@ -28,12 +27,13 @@ use Rattle.sq_node_model.specs.Placed.{StandOnce, AllStand, KeepBases, NameEach}
 use Rattle.sq_audit.specs.declared.job.Job.{Job}
 use Rattle.sq_audit.specs.Answers.{AreKnown, IsAnswerTo, IsFamilyOf}
 use Rattle.sq_audit.specs.Located.{Entry, ListsAll}
-use Rattle.sq_audit.specs.Index.{IsIndex, root_of, AgreeOnSpots, HaveFamilies, StartFrom}
+use Rattle.sq_audit.specs.Index.{HasFamily, AgreeOnSpots, HaveFamilies, StartFrom}
 use Rattle.sq_audit.specs.Told.{KnowsAll, is_named, receipts_of}
 use Rattle.sq_audit.proofs.Each.{some_same, no_some}
 use Rattle.sq_audit.proofs.Jobs.{of_parts, of_from}
 use Rattle.sq_audit.proofs.Lists.{nothing_there}
 use Rattle.sq_audit.proofs.Knowing.{count_kept}
+use Rattle.sq_audit.proofs.Indexing.{either_family}
 
 -- what is found in a table is an entry of it
 found_entry : (table : TableValue) (root : ℕ) (rows : RowList) → find nat_cmp root table ≡ Some rows → (entry : ℕ × RowList) × Contains table entry × (entry.0 ≡ root)
@@ -109,114 +109,104 @@ module _ (o : OpeningValue) (g : GatheredValue) (entries : List Entry) (lists : 
       (λ keep entry has. keep entry.0 entry.1.root entry.1 (lists.here entry has))
       decides
 
-  module _ (places : BTreeMap ℕ ℕ) (index : IsIndex root_of entries places) where
-    pub stand_is : (b : Bool) → is_sorted nat_cmp o.table ≡ true → AllPass (λ entry. is_opening entry.1) o.table → Decides b (HaveFamilies o.table places) → Decides b (AllStand o g)
-    stand_is b sorted opening decides =
-        Decides-like b
-        (λ have root opened.
-        let entry = of_opened root (find nat_cmp root o.table) refl opened in
-        at_index root (get nat_cmp places root) refl (subst (λ k. is_some (get nat_cmp places k) ≡ true) entry.2 (have entry.0 entry.1)))
-        (λ all entry has.
-        let rows = entry_found o.table entry sorted has in
-        let some = (and_parts (not (length entry.1 == 0)) _ (opening_at o.table entry opening has)).0 in
-        let stands = all entry.0 (ap (λ (f : Option RowList). not (length (unwrap_or f []) == 0)) rows ∙ some) in
-        is_there entry.0 (get nat_cmp places entry.0) refl (λ none. index.none entry.0 none (stands.0, stands.1) (lists.each stands.0 entry.0 stands.1 stands.2) (lists.keyed stands.0 entry.0 stands.1 stands.2).same_root))
-        decides
+  pub stand_is : (b : Bool) → is_sorted nat_cmp o.table ≡ true → AllPass (λ entry. is_opening entry.1) o.table → Decides b (HaveFamilies o.table entries) → Decides b (AllStand o g)
+  stand_is b sorted opening decides =
+      Decides-like b
+      (λ have root opened.
+      let row = of_opened root (find nat_cmp root o.table) refl opened in
+      let has = have row.0 row.1 in
+      (has.0.0, has.0.1, subst (λ k. StandsAt g has.0.0 k has.0.1) (has.2 ∙ row.2) (lists.here has.0 has.1)))
+      (λ all row has.
+      let rows = entry_found o.table row sorted has in
+      let some = (and_parts (not (length row.1 == 0)) _ (opening_at o.table row opening has)).0 in
+      let stands = all row.0 (ap (λ (f : Option RowList). not (length (unwrap_or f []) == 0)) rows ∙ some) in
+      ((stands.0, stands.1), lists.each stands.0 row.0 stands.1 stands.2, (lists.keyed stands.0 row.0 stands.1 stands.2).same_root))
+      decides
+    where
+      of_opened : (root : ℕ) (found : Option RowList) → find nat_cmp root o.table ≡ found → is_opened o root ≡ true → (row : ℕ × RowList) × Contains o.table row × (row.0 ≡ root)
+      of_opened root None e opened = absurd (true≢false (sym opened ∙ ap (λ (f : Option RowList). not (length (unwrap_or f []) == 0)) e))
+      of_opened root (Some rows) e opened = found_entry o.table root rows e
+
+  module _ (jobs : List Job) (once : StandOnce g) where
+    -- the one family of a root key
+    the_family : (entry : Entry) → Contains entries entry → (family : FamilyValue) → IsFamilyOf g entry.1.root family → family ≡ entry.1
+    the_family entry has family is =
+        let stands = lists.here entry has in
+        ⊎_elim
+        (λ at.
+        let same = once at.0 entry.0 entry.1.root family entry.1 at.1 stands in
+        some_same (sym at.1 ∙ ap (λ (spot : Spot). family_at_spot g spot entry.1.root) same ∙ stands))
+        (λ none. absurd (none.0 entry.0 entry.1 stands))
+        is
+
+    known_one : KnowsAll entries jobs g.receipts → AreKnown g jobs
+    known_one all receipt has = ⊎_elim at none (either_family entries receipt.root)
       where
-        of_opened : (root : ℕ) (found : Option RowList) → find nat_cmp root o.table ≡ found → is_opened o root ≡ true → (entry : ℕ × RowList) × Contains o.table entry × (entry.0 ≡ root)
-        of_opened root None e opened = absurd (true≢false (sym opened ∙ ap (λ (f : Option RowList). not (length (unwrap_or f []) == 0)) e))
-        of_opened root (Some rows) e opened = found_entry o.table root rows e
+        Known : Type 0
+        Known = (job : Job) × (family : FamilyValue) × Contains jobs job × IsFamilyOf g receipt.root family × IsAnswerTo family job.txn receipt
 
-        at_index : (root : ℕ) (place : Option ℕ) → get nat_cmp places root ≡ place → is_some (get nat_cmp places root) ≡ true → (spot : Spot) × (family : FamilyValue) × StandsAt g spot root family
-        at_index root None e there = absurd (true≢false (sym there ∙ ap is_some e))
-        at_index root (Some place) e there =
-            let found = index.found root place e in
-            let one = found.one in
-            (one.0, one.1, subst (λ k. StandsAt g one.0 k one.1) found.key_is (lists.here one (Contains-slice_get entries place one found.there)))
+        at : HasFamily entries receipt.root → Known
+        at found =
+            let one = found.0 in
+            let of = λ (r : ReceiptValue). r.root == one.1.root in
+            let told = (all.logs one found.1).known receipt (Contains-filter of g.receipts receipt has (eq-eqb receipt.root one.1.root (sym found.2))) in
+            (told.0, one.1, told.1, inl (one.0, subst (λ k. StandsAt g one.0 k one.1) found.2 (lists.here one found.1)), told.2)
 
-        is_there : (root : ℕ) (place : Option ℕ) → get nat_cmp places root ≡ place → (get nat_cmp places root ≡ None → ⊥) → is_some (get nat_cmp places root) ≡ true
-        is_there root None e never = absurd (never e)
-        is_there root (Some place) e never = ap is_some e
+        none : (HasFamily entries receipt.root → ⊥) → Known
+        none absent_here =
+            let told = all.nothing receipt has absent_here in
+            let job = told.1.0 in
+            let of = of_parts job.txn receipt told.1.2 in (
+              job,
+              absent receipt.root,
+              told.1.1,
+              inr ((λ spot other stands. absent_here ((spot, other), lists.each spot receipt.root other stands, (lists.keyed spot receipt.root other stands).same_root)), refl),
+              record {
+                id = of.id;
+                root = of.root;
+                within = (let first = told.0 in omega (arith, first));
+                told = told.1.3 ∙ ap (λ (log : List TxnValue). reply (replay_rows [] log) job.txn) (sym (nothing_taken receipt.position));
+                there = λ commits. absurd (no_some job.txn (told.1.4 commits));
+              },
+            )
 
-    module _ (jobs : List Job) (once : StandOnce g) where
-      -- the one family of a root key
-      the_family : (entry : Entry) → Contains entries entry → (family : FamilyValue) → IsFamilyOf g entry.1.root family → family ≡ entry.1
-      the_family entry has family is =
-          let stands = lists.here entry has in
-          ⊎_elim
-          (λ at.
-          let same = once at.0 entry.0 entry.1.root family entry.1 at.1 stands in
-          some_same (sym at.1 ∙ ap (λ (spot : Spot). family_at_spot g spot entry.1.root) same ∙ stands))
-          (λ none. absurd (none.0 entry.0 entry.1 stands))
-          is
+    named_each : KnowsAll entries jobs g.receipts → NameEach g
+    named_each all spot root family stands position =
+        let same = (lists.keyed spot root family stands).same_root in
+        ap (λ k. times_named k position g.receipts) (sym same) ∙ sym (names_are family.root position g.receipts) ∙ (all.logs (spot, family) (lists.each spot root family stands)).named position
 
-      known_one : KnowsAll entries jobs g.receipts → AreKnown g jobs
-      known_one all receipt has = at (get nat_cmp places receipt.root) refl
-        where
-          at : (place : Option ℕ) → get nat_cmp places receipt.root ≡ place
-              → (job : Job) × (family : FamilyValue) × Contains jobs job × IsFamilyOf g receipt.root family × IsAnswerTo family job.txn receipt
-          at (Some place) e =
-              let found = index.found receipt.root place e in
-              let one = found.one in
-              let among = Contains-slice_get entries place one found.there in
-              let of = λ (r : ReceiptValue). r.root == one.1.root in
-              let told = (all.logs one among).known receipt (Contains-filter of g.receipts receipt has (eq-eqb receipt.root one.1.root (sym found.key_is))) in
-              (told.0, one.1, told.1, inl (one.0, subst (λ k. StandsAt g one.0 k one.1) found.key_is (lists.here one among)), told.2)
-          at None e =
-              let none = λ (entry : Entry) (there : Contains entries entry) (same : entry.1.root ≡ receipt.root). index.none receipt.root e entry there same in
-              let told = all.nothing receipt has none in
-              let job = told.1.0 in
-              let of = of_parts job.txn receipt told.1.2 in (
-                job,
-                absent receipt.root,
-                told.1.1,
-                inr ((λ spot other stands. none (spot, other) (lists.each spot receipt.root other stands) (lists.keyed spot receipt.root other stands).same_root), refl),
-                record {
-                  id = of.id;
-                  root = of.root;
-                  within = (let first = told.0 in omega (arith, first));
-                  told = told.1.3 ∙ ap (λ (log : List TxnValue). reply (replay_rows [] log) job.txn) (sym (nothing_taken receipt.position));
-                  there = λ commits. absurd (no_some job.txn (told.1.4 commits));
-                },
-              )
+    knows_from : AreKnown g jobs → NameEach g → KnowsAll entries jobs g.receipts
+    knows_from known named =
+        record {
+          logs = λ entry has.
+              let of = λ (r : ReceiptValue). r.root == entry.1.root in
+              record {
+                known = λ receipt kept.
+                    let among = kept_in of g.receipts receipt kept in
+                    let root = eqb-true receipt.root entry.1.root among.1 in
+                    let is = known receipt among.0 in
+                    let family = the_family entry has is.1 (subst (λ k. IsFamilyOf g k is.1) root is.3) in
+                    (is.0, is.2, subst (λ (f : FamilyValue). IsAnswerTo f is.0.txn receipt) family is.4);
+                named = λ position. names_are entry.1.root position g.receipts ∙ named entry.0 entry.1.root entry.1 (lists.here entry has) position;
+              };
+          nothing = λ receipt has none.
+              let is = known receipt has in
+              ⊎_elim
+              (λ at. absurd (none ((at.0, is.1), lists.each at.0 receipt.root is.1 at.1, (lists.keyed at.0 receipt.root is.1 at.1).same_root)))
+              (λ empty.
+              let answer = subst (λ (f : FamilyValue). IsAnswerTo f is.0.txn receipt) empty.1 is.4 in
+              let within = answer.within in (
+                omega (arith, within),
+                (
+                  is.0,
+                  is.2,
+                  of_from is.0.txn receipt answer.id answer.root,
+                  answer.told ∙ ap (λ (log : List TxnValue). reply (replay_rows [] log) is.0.txn) (nothing_taken receipt.position),
+                  (λ commits. absurd (nothing_there receipt.position is.0.txn (answer.there commits))),
+                ),
+              ))
+              is.3;
+        }
 
-      named_each : KnowsAll entries jobs g.receipts → NameEach g
-      named_each all spot root family stands position =
-          let same = (lists.keyed spot root family stands).same_root in
-          ap (λ k. times_named k position g.receipts) (sym same) ∙ sym (names_are family.root position g.receipts) ∙ (all.logs (spot, family) (lists.each spot root family stands)).named position
-
-      knows_from : AreKnown g jobs → NameEach g → KnowsAll entries jobs g.receipts
-      knows_from known named =
-          record {
-            logs = λ entry has.
-                let of = λ (r : ReceiptValue). r.root == entry.1.root in
-                record {
-                  known = λ receipt kept.
-                      let among = kept_in of g.receipts receipt kept in
-                      let root = eqb-true receipt.root entry.1.root among.1 in
-                      let is = known receipt among.0 in
-                      let family = the_family entry has is.1 (subst (λ k. IsFamilyOf g k is.1) root is.3) in
-                      (is.0, is.2, subst (λ (f : FamilyValue). IsAnswerTo f is.0.txn receipt) family is.4);
-                  named = λ position. names_are entry.1.root position g.receipts ∙ named entry.0 entry.1.root entry.1 (lists.here entry has) position;
-                };
-            nothing = λ receipt has none.
-                let is = known receipt has in
-                ⊎_elim
-                (λ at. absurd (none (at.0, is.1) (lists.each at.0 receipt.root is.1 at.1) (lists.keyed at.0 receipt.root is.1 at.1).same_root))
-                (λ empty.
-                let answer = subst (λ (f : FamilyValue). IsAnswerTo f is.0.txn receipt) empty.1 is.4 in
-                let within = answer.within in (
-                  omega (arith, within),
-                  (
-                    is.0,
-                    is.2,
-                    of_from is.0.txn receipt answer.id answer.root,
-                    answer.told ∙ ap (λ (log : List TxnValue). reply (replay_rows [] log) is.0.txn) (nothing_taken receipt.position),
-                    (λ commits. absurd (nothing_there receipt.position is.0.txn (answer.there commits))),
-                  ),
-                ))
-                is.3;
-          }
-
-      pub known_are : (b : Bool) → Decides b (KnowsAll entries jobs g.receipts) → Decides b (AreKnown g jobs × NameEach g)
-      known_are b decides = Decides-like b (λ all. (known_one all, named_each all)) (λ both. knows_from both.0 both.1) decides
+    pub known_are : (b : Bool) → Decides b (KnowsAll entries jobs g.receipts) → Decides b (AreKnown g jobs × NameEach g)
+    known_are b decides = Decides-like b (λ all. (known_one all, named_each all)) (λ both. knows_from both.0 both.1) decides

@@ -1,18 +1,22 @@
--- The index of families by root key, as it grows.
-use Rattle.std.proofs.Common.{◌≡◌, ⊎_elim, ℕ, ◌+◌, ◌<◌, ◌≤◌, ◌&&◌, Bool, List, length, slice_get, Option, Some, None, refl, sym, ap, ◌∙◌, subst, arith}
+-- The index of jobs by id, as it grows, and the families that root keys have.
+use Rattle.std.proofs.Common.{◌≡◌, ◌⊎◌, inl, inr, ⊎_elim, ℕ, ◌+◌, ◌-◌, ◌<◌, ◌≤◌, nat_lt, Bool, true, false, List, [], ◌∷◌, length, slice_get, Some, None, sym, ap, ◌∙◌, subst, arith, true≢false, ltb-true, ltb-false}
 use Rattle.std.specs.Bool.{Decides}
 use Rattle.std.specs.Ordering.{nat_cmp}
 use Rattle.std.specs.Cmp.{unsigned_tied}
 use Rattle.std.specs.BTreeMap.{BTreeMap, get, Updates}
+use Rattle.std.specs.List.Sorted.{IsNonDecreasingBy, IsPartitionedBy, IsPartitionPoint}
+use Rattle.std.proofs.lemmas.List.Sorted.{IsPartitionedBy-ltb}
 use Rattle.std.proofs.lemmas.Bool.{cases_lt, cases_eq, ne_eqb}
 use Rattle.std.proofs.lemmas.Bool.Decides.{Decides-and, Decides-like}
-use Rattle.std.proofs.lemmas.Option.{slice_get_within}
-use Rattle.sq_model.proofs.Lists.{Contains-slice_get, slice_get-Contains}
+use Rattle.std.proofs.lemmas.Option.{slice_get_within, get_or_from_slice_get}
+use Rattle.sq_placed.proofs.Lists.{at_map, map_at, stands_at}
+use Rattle.sq_model.proofs.Lists.{Contains-nothing, Contains-first, Contains-later, Contains-cases, Contains-slice_get, slice_get-Contains}
+use Rattle.sq_audit.specs.declared.located.Located.{Located}
 use Rattle.sq_audit.specs.declared.located.Site.{Site}
 use Rattle.sq_audit.specs.declared.located.Site.TheVariants.{Store, Chunk}
 use Rattle.sq_audit.specs.contracts.located.SitePartialEq.TheImpl as site
-use Rattle.sq_audit.specs.Located.{Entry, spot_of}
-use Rattle.sq_audit.specs.Index.{IsIndexTo, IsIndex, root_of, IsThere, AgreeTo, AgreeOnSpots}
+use Rattle.sq_audit.specs.Located.{Entry, spot_of, entry_of, entries_of, AreByRoot}
+use Rattle.sq_audit.specs.Index.{IsIndexTo, IsIndex, Agree, HasFamily, AgreeTo, AgreeOnSpots}
 use Rattle.sq_audit.proofs.Each.{same_of, no_some}
 use Rattle.std.specs.Cmp.{unsigned_Decides}
 
@@ -58,50 +62,134 @@ module _ {X : Type 0} (key : X → ℕ) (xs : List X) (upto k : ℕ) (old new : 
             (cases_eq k q);
       }
 
-module _ (entries : List Entry) (upto root : ℕ) (old : BTreeMap ℕ ℕ) (one : Entry) (there : slice_get entries upto ≡ Some one) (is : one.1.root ≡ root)
-    (so_far : IsIndexTo root_of entries upto old) where
-  -- entries before it of its root key are where it is
-  low_spot : (before : Option ℕ) → get nat_cmp old root ≡ before → IsThere entries before one.0 → AgreeTo entries upto
-      → (i : ℕ) (entry : Entry) → i < upto → slice_get entries i ≡ Some entry → entry.1.root ≡ root → entry.0 ≡ one.0
-  low_spot None e spot agree i entry low at root_is = absurd (so_far.none root e i entry low at root_is)
-  low_spot (Some place) e spot agree i entry low at root_is =
-      let found = so_far.found root place e in
-      agree i place entry found.one low (so_far.before root place e) at found.there (root_is ∙ sym found.key_is) ∙ spot found.one found.there
+-- that the root keys don't fall, of entries and of what they are of
+pub rise_entries : (all : List Located) → IsNonDecreasingBy (λ located. located.family.now.root) all → AreByRoot (entries_of all)
+rise_entries all rise i j one other upto at there =
+    let low = map_at entry_of all i one at in
+    let high = map_at entry_of all j other there in
+    let here = get_or_from_slice_get all i low.0 low.0 low.1 in
+    let later = get_or_from_slice_get all j high.0 low.0 high.1 in
+    let le = rise i j low.0 upto (slice_get_within all j high.0 high.1) in
+    let one_root = ap (λ (l : Located). l.family.now.root) here ∙ ap (λ (e : Entry). e.1.root) low.2 in
+    let other_root = ap (λ (l : Located). l.family.now.root) later ∙ ap (λ (e : Entry). e.1.root) high.2 in
+    omega (arith, le, one_root, other_root)
 
-  now_there : (before : Option ℕ) → get nat_cmp old root ≡ before → AgreeTo entries (upto + 1) → IsThere entries before one.0
-  now_there None e agree = tt
-  now_there (Some place) e agree = λ entry at.
-      let found = so_far.found root place e in
-      let low = so_far.before root place e in
-      let same : entry ≡ found.one = same_of entries place place found.one entry found.there at refl in
-      agree place upto entry one (omega (arith, low)) (omega arith) at there (ap (λ (x : Entry). x.1.root) same ∙ found.key_is ∙ sym is)
+pub rise_located : (all : List Located) → AreByRoot (entries_of all) → IsNonDecreasingBy (λ located. located.family.now.root) all
+rise_located all rise i j d upto within =
+    let low = stands_at all i (omega (arith, upto, within)) in
+    let high = stands_at all j within in
+    let here = ap (λ (l : Located). l.family.now.root) (get_or_from_slice_get all i low.0 d low.1) in
+    let later = ap (λ (l : Located). l.family.now.root) (get_or_from_slice_get all j high.0 d high.1) in
+    let le = rise i j (entry_of low.0) (entry_of high.0) upto (at_map entry_of all i low.0 low.1) (at_map entry_of all j high.0 high.1) in
+    omega (arith, le, here, later)
 
-  pub agree_next : (before : Option ℕ) (once here : Bool) → before ≡ get nat_cmp old root → Decides here (IsThere entries before one.0) → Decides once (AgreeTo entries upto)
-      → Decides (once && here) (AgreeTo entries (upto + 1))
-  agree_next before once here old_is decides agrees =
-      Decides-like (once && here)
-      (λ both i j first second low high at also same_root.
-      let spot = low_spot before (sym old_is) both.1 both.0 in
+-- a root key has a family, or it has none
+pub either_family : (entries : List Entry) (root : ℕ) → HasFamily entries root ⊎ (HasFamily entries root → ⊥)
+either_family [] root = inr (λ has. Contains-nothing has.0 has.1)
+either_family (entry ∷ entries) root =
+    elim (cases_eq entry.1.root root) [
+      | inl same ↦ inl (entry, Contains-first entry entries, same)
+      | inr apart ↦ elim (either_family entries root) [
+        | inl has ↦ inl (has.0, Contains-later entry entries has.0 has.1, has.2)
+        | inr none ↦ inr (λ has.
+            ⊎_elim
+            (λ same. apart (ap (λ (e : Entry). e.1.root) same ∙ has.2))
+            (λ later. none (has.0, later, has.2))
+            (Contains-cases entry entries has.0 has.1))
+      ]
+    ]
+
+-- where the families of root keys below one end, the first family of the root key stands
+module _ (all : List Located) (rise : AreByRoot (entries_of all)) (root count : ℕ)
+    (point : IsPartitionedBy (λ located. nat_lt located.family.now.root root) all
+    → IsPartitionPoint (λ located. nat_lt located.family.now.root root ≡ true) (λ located. nat_lt located.family.now.root root ≡ false) all count) where
+  parted : IsPartitionPoint (λ located. nat_lt located.family.now.root root ≡ true) (λ located. nat_lt located.family.now.root root ≡ false) all count
+  parted = point (IsPartitionedBy-ltb (λ located. located.family.now.root) all root (rise_located all rise))
+
+  low : (k : ℕ) (entry : Entry) → slice_get (entries_of all) k ≡ Some entry → k < count → entry.1.root < root
+  low k entry at before =
+      let from = map_at entry_of all k entry at in
+      let here = get_or_from_slice_get all k from.0 from.0 from.1 in
+      let test : nat_lt from.0.family.now.root root ≡ true = ap (λ (l : Located). nat_lt l.family.now.root root) (sym here) ∙ parted.0 k from.0 (omega arith) before in
+      let less = ltb-true from.0.family.now.root root test in
+      let same = ap (λ (e : Entry). e.1.root) from.2 in
+      omega (arith, less, same)
+
+  high : (k : ℕ) (entry : Entry) → slice_get (entries_of all) k ≡ Some entry → count ≤ k → root ≤ entry.1.root
+  high k entry at behind =
+      let from = map_at entry_of all k entry at in
+      let here = get_or_from_slice_get all k from.0 from.0 from.1 in
+      let test : nat_lt from.0.family.now.root root ≡ false = ap (λ (l : Located). nat_lt l.family.now.root root) (sym here) ∙ parted.1 k from.0 behind (slice_get_within all k from.0 from.1) in
+      let from_root = ltb-false from.0.family.now.root root test in
+      let same = ap (λ (e : Entry). e.1.root) from.2 in
+      omega (arith, from_root, same)
+
+  -- a family of the root key stands there or behind
+  behind : (has : HasFamily (entries_of all) root) → count ≤ has.1.0
+  behind has =
       ⊎_elim
-      (λ first_low.
+      (λ before.
+      let less = low has.1.0 has.0 (slice_get-Contains (entries_of all) has.0 has.1) before in
+      let same = has.2 in
+      absurd (omega (arith, less, same)))
+      (λ from. from)
+      (cases_lt has.1.0 count)
+
+  pub first_family : (located : Located) (b : Bool) → slice_get all count ≡ Some located → Decides b (located.family.now.root ≡ root) → Decides b (HasFamily (entries_of all) root)
+  first_family located b at decides =
+      let there = at_map entry_of all count located at in
+      Decides-like b
+      (λ same. (entry_of located, Contains-slice_get (entries_of all) count (entry_of located) there, same))
+      (λ has.
+      let upto = rise count has.1.0 (entry_of located) has.0 (behind has) there (slice_get-Contains (entries_of all) has.0 has.1) in
+      let from = high count (entry_of located) there (omega arith) in
+      let same = has.2 in
+      omega (arith, upto, from, same))
+      decides
+
+  pub no_family : slice_get all count ≡ None → Decides false (HasFamily (entries_of all) root)
+  no_family none = (
+    (λ e. absurd (true≢false (sym e))),
+    (λ has.
+        let found = map_at entry_of all has.1.0 has.0 (slice_get-Contains (entries_of all) has.0 has.1) in
+        let within = slice_get_within all has.1.0 found.0 found.1 in
+        let from = behind has in
+        let last = stands_at all count (omega (arith, within, from)) in
+        absurd (no_some last.0 (sym none ∙ last.1))),
+  )
+
+-- entries before the first but one agree
+pub agree_first : (entries : List Entry) → AgreeTo entries 1
+agree_first entries i j one other low high at there same =
+    ap (λ (e : Entry). e.0) (sym (same_of entries i j one other at there (omega (arith, low, high))))
+
+-- one more entry, which agrees with the one before it
+module _ (entries : List Entry) (rise : AreByRoot entries) (at : ℕ) (some : 1 ≤ at) (before this : Entry) (there : slice_get entries (at - 1) ≡ Some before) (here : slice_get entries at ≡ Some this)
+    (so_far : AgreeTo entries at) where
+  level : Agree before this → (i : ℕ) (one : Entry) → i < at → slice_get entries i ≡ Some one → one.1.root ≡ this.1.root → one.0 ≡ this.0
+  level agree i one low stands same =
+      let upto = rise i (at - 1) one before (omega (arith, low)) stands there in
+      let from = rise (at - 1) at before this (omega (arith, some)) there here in
+      let equal : one.1.root ≡ before.1.root = omega (arith, upto, from, same) in
+      so_far i (at - 1) one before low (omega (arith, some)) stands there equal ∙ agree (sym equal ∙ same)
+
+  pub agree_more : Agree before this → AgreeTo entries (at + 1)
+  agree_more agree i j one other low high stands also same =
       ⊎_elim
-      (λ second_low. both.0 i j first second first_low second_low at also same_root)
-      (λ second_last.
-      let e : second ≡ one = same_of entries upto j one second there also (omega (arith, high, second_last)) in
-      spot i first first_low at (same_root ∙ ap (λ (x : Entry). x.1.root) e ∙ is) ∙ ap (λ (x : Entry). x.0) (sym e))
-      (cases_lt j upto))
-      (λ first_last.
-      let e : first ≡ one = same_of entries upto i one first there at (omega (arith, low, first_last)) in
+      (λ first.
       ⊎_elim
-      (λ second_low. ap (λ (x : Entry). x.0) e ∙ sym (spot j second second_low also (sym same_root ∙ ap (λ (x : Entry). x.1.root) e ∙ is)))
-      (λ second_last. ap (λ (x : Entry). x.0) (e ∙ sym (same_of entries upto j one second there also (omega (arith, high, second_last)))))
-      (cases_lt j upto))
-      (cases_lt i upto))
-      (λ agree. (
-        (λ i j first second low high at also same_root. agree i j first second (omega (arith, low)) (omega (arith, high)) at also same_root),
-        now_there before (sym old_is) agree,
-      ))
-      (Decides-and once here agrees decides)
+      (λ second. so_far i j one other first second stands also same)
+      (λ last.
+      let e : other ≡ this = same_of entries at j this other here also (omega (arith, high, last)) in
+      level agree i one first stands (same ∙ ap (λ (x : Entry). x.1.root) e) ∙ ap (λ (x : Entry). x.0) (sym e))
+      (cases_lt j at))
+      (λ last.
+      let e : one ≡ this = same_of entries at i this one here stands (omega (arith, low, last)) in
+      ⊎_elim
+      (λ second. ap (λ (x : Entry). x.0) e ∙ sym (level agree j other second also (sym same ∙ ap (λ (x : Entry). x.1.root) e)))
+      (λ also_last. ap (λ (x : Entry). x.0) (e ∙ sym (same_of entries at j this other here also (omega (arith, high, also_last)))))
+      (cases_lt j at))
+      (cases_lt i at)
 
 -- the index once all are in it
 pub index_whole : {X : Type 0} (key : X → ℕ) (xs : List X) (upto : ℕ) (places : BTreeMap ℕ ℕ) → length xs ≤ upto → IsIndexTo key xs upto places → IsIndex key xs places

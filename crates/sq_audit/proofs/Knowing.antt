@@ -1,19 +1,16 @@
--- What receipts tell, whatever their order, and what an index tells of root keys without a family.
-use Rattle.std.proofs.Common.{◌≡◌, inl, inr, ℕ, ◌+◌, ◌==◌, ◌&&◌, Bool, List, [], ◌∷◌, filter, Contains, IsPermutation, Option, Some, None, Result, Ok, Err, refl, sym, ap, ◌∙◌, arith}
+-- What receipts tell, whatever their order.
+use Rattle.std.proofs.Common.{◌≡◌, inl, inr, ℕ, ◌+◌, ◌==◌, ◌&&◌, Bool, List, [], ◌∷◌, filter, Contains, IsPermutation, Result, Ok, Err, refl, sym, ap, ◌∙◌, arith}
 use Rattle.std.specs.Prelude.{cond, count_by, IfOk}
 use Rattle.std.specs.Bool.{Decides}
-use Rattle.std.specs.Ordering.{nat_cmp}
-use Rattle.std.specs.BTreeMap.{BTreeMap, get}
 use Rattle.std.proofs.lemmas.Bool.{cases_Bool}
 use Rattle.std.proofs.lemmas.Bool.Decides.{Decides-like}
 use Rattle.std.proofs.lemmas.List.Sums.{sum_by-append}
 use Rattle.std.proofs.lemmas.List.Sorted.{IsPermutation-sym, Contains-permutation, sum_by-IsPermutation}
 use Rattle.sq_schema.specs.Family.{FamilyValue}
-use Rattle.sq_model.proofs.Lists.{Contains-slice_get, Contains-filter, kept_in, filter-first, filter-other}
+use Rattle.sq_model.proofs.Lists.{Contains-filter, kept_in, filter-first, filter-other}
 use Rattle.sq_node_model.specs.NodeValue.{ReceiptValue}
 use Rattle.sq_audit.specs.declared.job.Job.{Job}
 use Rattle.sq_audit.specs.Located.{Entry}
-use Rattle.sq_audit.specs.Index.{IsIndex, root_of}
 use Rattle.sq_audit.specs.Told.{TellsLog, TellLogs, TellNothing, KnowsAll, is_named, receipts_of}
 
 pub count_first : {X : Type 0} (p : X → Bool) (x : X) (xs : List X) → count_by p (x ∷ xs) ≡ cond (p x) 1 0 + count_by p xs
@@ -49,20 +46,8 @@ log_permuted jobs family root xs ys same tells =
 pub logs_permuted : (entries : List Entry) (jobs : List Job) (xs ys : List ReceiptValue) → IsPermutation xs ys → TellLogs entries jobs xs → TellLogs entries jobs ys
 logs_permuted entries jobs xs ys same tell entry has = log_permuted jobs entry.1 entry.1.root xs ys same (tell entry has)
 
-module _ (entries : List Entry) (places : BTreeMap ℕ ℕ) (index : IsIndex root_of entries places) (jobs : List Job) (receipts : List ReceiptValue) where
-  none_at : (root : ℕ) → ((entry : Entry) → Contains entries entry → entry.1.root ≡ root → ⊥) → get nat_cmp places root ≡ None
-  none_at root none = is (get nat_cmp places root) refl
-    where
-      is : (o : Option ℕ) → get nat_cmp places root ≡ o → get nat_cmp places root ≡ None
-      is None e = e
-      is (Some place) e = let found = index.found root place e in absurd (none found.one (Contains-slice_get entries place found.one found.there) found.key_is)
-
-  pub knows_all : (tell : Bool) → TellLogs entries jobs receipts → Decides tell (TellNothing places jobs receipts) → Decides tell (KnowsAll entries jobs receipts)
-  knows_all tell logs nothing =
-      Decides-like tell
-      (λ told. record { logs = logs; nothing = λ r has none. told r has (none_at r.root none) })
-      (λ all r has none. all.nothing r has (λ entry there same. index.none r.root none entry there same))
-      nothing
+pub knows_all : (entries : List Entry) (jobs : List Job) (receipts : List ReceiptValue) (tell : Bool) → TellLogs entries jobs receipts → Decides tell (TellNothing entries jobs receipts) → Decides tell (KnowsAll entries jobs receipts)
+knows_all entries jobs receipts tell logs nothing = Decides-like tell (λ told. record { logs = logs; nothing = told }) (λ all. all.nothing) nothing
 
 pub ok_like : {T E : Type 0} {P Q : T → Type 0} (r : Result T E) → ((x : T) → P x → Q x) → IfOk r P → IfOk r Q
 ok_like (Ok x) f is = f x is

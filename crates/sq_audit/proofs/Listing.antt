@@ -1,5 +1,6 @@
 -- That all families of what was gathered are listed: those of a store by a walk, those of a chunk in their order.
-use Rattle.std.proofs.Common.{◌≡◌, ⊎_elim, ℕ, ◌+◌, ◌<◌, ◌≤◌, ◌==◌, get_or, true, nat_le, nat_lt, if◌then◌else◌, List, [], ◌∷◌, ◌++◌, map, length, slice_get, Contains, Some, None, sym, ap, ◌∙◌, subst, arith, append_assoc, eqb-true, eq-eqb}
+use Rattle.std.proofs.Common.{IsPermutation, ◌≡◌, ⊎_elim, ℕ, ◌+◌, ◌<◌, ◌≤◌, ◌==◌, get_or, true, nat_le, nat_lt, if◌then◌else◌, List, [], ◌∷◌, ◌++◌, map, length, slice_get, Contains, Some, None, sym, ap, ◌∙◌, subst, arith, append_assoc, eqb-true, eq-eqb}
+use Rattle.std.proofs.lemmas.List.Sorted.{IsPermutation-sym, Contains-permutation}
 use Rattle.std.specs.Prelude.{option_and_then, All}
 use Rattle.std.specs.FinMap.{get}
 use Rattle.std.proofs.lemmas.Bool.{cases_lt, and_from, le-leb, lt-ltb, ne_eqb}
@@ -275,3 +276,12 @@ item_of {X} xs ys i x same is within = ap (λ (list : List X). slice_get list i)
 
 pub end_of : {X : Type 0} (xs ys : List X) (i : ℕ) → xs ≡ ys → i ≤ length xs → length xs ≤ i → i ≡ length ys
 end_of xs ys i same upto past = omega (arith, upto, past, ap length same)
+
+-- entries in another order list the same
+pub lists_permuted : (g : GatheredValue) (xs ys : List Entry) → IsPermutation xs ys → ListsAll g xs → ListsAll g ys
+lists_permuted g xs ys same lists =
+    record {
+      here = λ entry has. lists.here entry (Contains-permutation ys xs entry (IsPermutation-sym xs ys same) has);
+      each = λ spot root family stands. Contains-permutation xs ys (spot, family) same (lists.each spot root family stands);
+      keyed = lists.keyed;
+    }

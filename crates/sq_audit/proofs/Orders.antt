@@ -4,7 +4,7 @@ use Rattle.std.specs.declared.cmp.Ordering.{Ordering}
 use Rattle.std.specs.declared.cmp.Ordering.TheVariants.{Less, Equal, Greater}
 use Rattle.std.specs.Ordering.{nat_cmp, bool_cmp, ordering_then, is_lt, is_eq}
 use Rattle.std.specs.Cmp.{IsTotalOrder, unsigned_tied, then_total, on_total, nat_cmp_total, bool_cmp_total}
-use Rattle.std.specs.List.Sorted.{IsSortedByKey, IsNonDecreasingBy, IsPartitionedBy, IsPartitionPoint}
+use Rattle.std.specs.List.Sorted.{IsSortedByKey}
 use Rattle.std.proofs.lemmas.Bool.{cases_Bool, cases_lt, eq-eqb, ne_eqb, ltb-true, ltb-false, leb-true, leb-false}
 use Rattle.std.proofs.lemmas.List.Sorted.{ranks_by, sorted_far, IsNonDecreasingBy-drop, IsPartitionedBy-ltb, IsPartitionedBy-leb}
 use Rattle.std.proofs.lemmas.Option.{slice_get_within, slice_get-get_or, get_or_from_slice_get}
@@ -12,7 +12,6 @@ use Rattle.sq_store.proofs.Order.{cmp_less}
 use Rattle.std.proofs.lemmas.List.{length-map, get_or-map}
 use Rattle.sq_placed.proofs.Lists.{at_map, stands_at}
 use Rattle.sq_model.proofs.Lists.{filter-first, filter-other}
-use Rattle.sq_audit.proofs.Lists.{at_dropped}
 use Rattle.sq_node_model.specs.NodeValue.{ReceiptValue}
 use Rattle.sq_node_model.specs.Receipts.{is_commit}
 use Rattle.sq_audit.specs.Told.{values_of, receipts_of, receipt_key, key_order, ReceiptKey, AreInOrder}
@@ -154,13 +153,6 @@ values_kept (r ∷ receipts) root =
           ∙ sym (filter-other (λ (x : ReceiptValue). x.root == root) r.now (values_of receipts) other)
     ]
 
-pub rise_by_root : (receipts : List (Bor ReceiptValue)) → IsSortedByKey receipt_key key_order (values_of receipts) → IsNonDecreasingBy (λ r. r.now.root) receipts
-rise_by_root receipts sorted i j d upto within =
-    let value = λ (r : Bor ReceiptValue). r.now in
-    roots_rise (values_of receipts) sorted i j (get_or receipts i d).now (get_or receipts j d).now upto
-    (at_map value receipts i (get_or receipts i d) (slice_get-get_or receipts i d (omega (arith, upto, within))))
-    (at_map value receipts j (get_or receipts j d) (slice_get-get_or receipts j d within))
-
 -- what passes stands from one place on, and is this much
 pub kept_run : {X : Type 0} (p : X → Bool) (xs : List X) (from n : ℕ)
     → ((k : ℕ) (x : X) → slice_get xs k ≡ Some x → k < from → p x ≡ false)
@@ -182,45 +174,40 @@ kept_run p (x ∷ xs) (suc from) n low mid high =
     kept_run p xs from n (λ k y at below. low (suc k) y at (omega (arith, below))) (λ k y at above below. mid (suc k) y at (omega (arith, above)) (omega (arith, below))) (λ k y at above. high (suc k) y at (omega (arith, above)))
     ∙ sym (filter-other p x xs (low 0 x refl (omega arith)))
 
--- of receipts by root key those of one stand between two places
-module _ (sorted rest : List (Bor ReceiptValue)) (root from count : ℕ) (rise : IsNonDecreasingBy (λ r. r.now.root) sorted) (rest_is : rest ≡ drop from sorted)
-    (first : IsPartitionedBy (λ r. nat_lt r.now.root root) sorted → IsPartitionPoint (λ r. nat_lt r.now.root root ≡ true) (λ r. nat_lt r.now.root root ≡ false) sorted from)
-    (last : IsPartitionedBy (λ r. nat_le r.now.root root) rest → IsPartitionPoint (λ r. nat_le r.now.root root ≡ true) (λ r. nat_le r.now.root root ≡ false) rest count) where
-  value_at : (xs : List (Bor ReceiptValue)) (k : ℕ) (r : Bor ReceiptValue) → slice_get xs k ≡ Some r → (get_or xs k r).now.root ≡ r.now.root
-  value_at xs k r at = ap (λ (x : Bor ReceiptValue). x.now.root) (get_or_from_slice_get xs k r r at)
+-- of receipts by root key those of one stand from the first that isn't below it to the first that is above
+pub group_is : (sorted : List (Bor ReceiptValue)) (root from end : ℕ) → IsSortedByKey receipt_key key_order (values_of sorted) → from ≤ end
+    → ((k : ℕ) (r : ReceiptValue) → k < from → slice_get (values_of sorted) k ≡ Some r → r.root < root)
+    → ((r : ReceiptValue) → slice_get (values_of sorted) from ≡ Some r → root ≤ r.root)
+    → ((k : ℕ) (r : ReceiptValue) → from ≤ k → k < end → slice_get (values_of sorted) k ≡ Some r → r.root < root + 1)
+    → ((r : ReceiptValue) → slice_get (values_of sorted) end ≡ Some r → root + 1 ≤ r.root)
+    → values_of (take (end - from) (drop from sorted)) ≡ receipts_of root (values_of sorted)
+group_is sorted root from end is_sorted upto below first inside last =
+    ap values_of
+    (kept_run (λ (r : Bor ReceiptValue). r.now.root == root) sorted from (end - from)
+    (λ k r at low.
+    let less = below k r.now low (value k r at) in
+    ne_eqb r.now.root root (λ same. absurd (omega (arith, less, same))))
+    (λ k r at above low.
+    let least = least_from from k r first above at in
+    let most = inside k r.now above (omega (arith, low, upto)) (value k r at) in
+    eq-eqb r.now.root root (omega (arith, least, most)))
+    (λ k r at above.
+    let more = least_from end k r last (omega (arith, above, upto)) at in
+    ne_eqb r.now.root root (λ same. absurd (omega (arith, more, same)))))
+    ∙ values_kept sorted root
+  where
+    value : (k : ℕ) (r : Bor ReceiptValue) → slice_get sorted k ≡ Some r → slice_get (values_of sorted) k ≡ Some r.now
+    value k r at = at_map (λ (x : Bor ReceiptValue). x.now) sorted k r at
 
-  rest_rise : IsNonDecreasingBy (λ r. r.now.root) rest
-  rest_rise = subst (λ (xs : List (Bor ReceiptValue)). IsNonDecreasingBy (λ r. r.now.root) xs) (sym rest_is) (IsNonDecreasingBy-drop (λ r. r.now.root) from sorted rise)
-
-  in_rest : (k : ℕ) (r : Bor ReceiptValue) → slice_get sorted k ≡ Some r → from ≤ k → slice_get rest (k - from) ≡ Some r
-  in_rest k r at above =
-      let shift : k ≡ from + (k - from) = omega (arith, above) in
-      subst (λ (xs : List (Bor ReceiptValue)). slice_get xs (k - from) ≡ Some r) (sym rest_is) (at_dropped sorted from (k - from) r (subst (λ n. slice_get sorted n ≡ Some r) shift at))
-
-  pub group_is : take count rest ≡ filter (λ r. r.now.root == root) sorted
-  group_is =
-      let below = first (IsPartitionedBy-ltb (λ r. r.now.root) sorted root rise) in
-      let upto = last (IsPartitionedBy-leb (λ r. r.now.root) rest root rest_rise) in
-      ap (take count) rest_is
-      ∙ kept_run (λ r. r.now.root == root) sorted from count
-      (λ k r at low.
-      let less = ltb-true (get_or sorted k r).now.root root (below.0 k r (omega arith) low) in
-      let e = value_at sorted k r at in
-      ne_eqb r.now.root root (λ same. absurd (omega (arith, less, e, same))))
-      (λ k r at above low.
-      let within = slice_get_within sorted k r at in
-      let there = in_rest k r at above in
-      let least = ltb-false (get_or sorted k r).now.root root (below.1 k r above within) in
-      let e = value_at sorted k r at in
-      let most = leb-true (get_or rest (k - from) r).now.root root (upto.0 (k - from) r (omega arith) (omega (arith, above, low))) in
-      let f = value_at rest (k - from) r there in
-      eq-eqb r.now.root root (omega (arith, least, e, most, f)))
-      (λ k r at above.
-      let there = in_rest k r at (omega (arith, above)) in
-      let within = slice_get_within rest (k - from) r there in
-      let more = leb-false (get_or rest (k - from) r).now.root root (upto.1 (k - from) r (omega (arith, above)) within) in
-      let f = value_at rest (k - from) r there in
-      ne_eqb r.now.root root (λ same. absurd (omega (arith, more, f, same))))
+    -- what isn't below a root key at one place isn't behind it
+    least_from : {bound : ℕ} (place k : ℕ) (r : Bor ReceiptValue) → ((x : ReceiptValue) → slice_get (values_of sorted) place ≡ Some x → bound ≤ x.root) → place ≤ k → slice_get sorted k ≡ Some r → bound ≤ r.now.root
+    least_from place k r from_bound upto_k at =
+        let there = value k r at in
+        let within = slice_get_within (values_of sorted) k r.now there in
+        let one = stands_at (values_of sorted) place (omega (arith, within, upto_k)) in
+        let rises = roots_rise (values_of sorted) is_sorted place k one.0 r.now upto_k one.1 there in
+        let low = from_bound one.0 one.1 in
+        omega (arith, low, rises)
 
 pub sorted_values : (receipts : List (Bor ReceiptValue)) → IsSortedByKey (λ (r : Bor ReceiptValue). receipt_key r.now) key_order receipts → IsSortedByKey receipt_key key_order (values_of receipts)
 sorted_values receipts sorted k d from within =

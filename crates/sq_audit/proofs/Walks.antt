@@ -168,6 +168,16 @@ module _ (jobs : List Job) (family : FamilyValue) (group : List ReceiptValue) wh
             same_some : {x y : ReceiptValue} → slice_get group i ≡ Some x → slice_get group i ≡ Some y → x ≡ y
             same_some one other = cc
 
+  -- no receipt is walked over yet
+  pub none_walked : WalkedTo 0 0 family.base
+  none_walked =
+      record {
+        rows_are = refl;
+        within = omega arith;
+        known = λ k r low at. absurd (omega (arith, low));
+        named = λ q. sym (none_from q 0 (omega arith));
+      }
+
   -- once all receipts are walked over, the log is told where its end is reached
   pub walk_ends : (i position : ℕ) (rows : RowList) → WalkedTo i position rows → length group ≤ i → position ≡ length family.log → TellsLog jobs family group
   walk_ends i position rows so_far whole ends =

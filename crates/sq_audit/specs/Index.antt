@@ -1,11 +1,10 @@
--- An index from keys to places in a list, and what one of root keys and their families tells.
-use Rattle.std.specs.Prelude.{◌≡◌, ◌<◌, ⊤, ℕ, List, slice_get, Option, Some, None, IsSome, Contains}
+-- An index from keys to places in a list, and what root keys and their families tell.
+use Rattle.std.specs.Prelude.{◌≡◌, ◌<◌, ℕ, List, slice_get, Some, None, Contains}
 use Rattle.std.specs.Ordering.{nat_cmp}
 use Rattle.std.specs.BTreeMap.{BTreeMap, get}
 use Rattle.sq_schema.specs.Effect.{RowList, RowTable}
 use Rattle.sq_schema.specs.Family.{FamilyValue}
 use Rattle.sq_schema.specs.Table.{TableValue}
-use Rattle.sq_node_model.specs.declared.spot.Spot.{Spot}
 use Rattle.sq_audit.specs.Located.{Entry}
 
 -- what stands at this place has this key
@@ -25,14 +24,9 @@ pub record IsIndex {X : Type 0} (key : X → ℕ) (xs : List X) (places : BTreeM
   pub found : (k place : ℕ) → get nat_cmp places k ≡ Some place → HasKeyAt key xs k place
   pub none : (k : ℕ) → get nat_cmp places k ≡ None → (x : X) → Contains xs x → key x ≡ k → ⊥
 
--- the root key of an entry
-abbrev pub root_of : Entry → ℕ
-root_of entry = entry.1.root
-
--- the entry at this place is at the spot, if there is a place
-abbrev pub IsThere : List Entry → Option ℕ → Spot → Type 0
-IsThere entries None spot = ⊤
-IsThere entries (Some place) spot = (entry : Entry) → slice_get entries place ≡ Some entry → entry.0 ≡ spot
+-- two entries of one root key have one spot
+abbrev pub Agree : Entry → Entry → Type 0
+Agree one other = one.1.root ≡ other.1.root → one.0 ≡ other.0
 
 -- entries before a place of one root key have one spot
 abbrev pub AgreeTo : List Entry → ℕ → Type 0
@@ -43,9 +37,13 @@ AgreeTo entries upto =
 abbrev pub AgreeOnSpots : List Entry → Type 0
 AgreeOnSpots entries = (one other : Entry) → Contains entries one → Contains entries other → one.1.root ≡ other.1.root → one.0 ≡ other.0
 
+-- the root key has a family
+abbrev pub HasFamily : List Entry → ℕ → Type 0
+HasFamily entries root = (entry : Entry) × Contains entries entry × (entry.1.root ≡ root)
+
 -- each root key of the table has a family
-abbrev pub HaveFamilies : TableValue → BTreeMap ℕ ℕ → Type 0
-HaveFamilies table places = (entry : ℕ × RowList) → Contains table entry → IsSome (get nat_cmp places entry.0)
+abbrev pub HaveFamilies : TableValue → List Entry → Type 0
+HaveFamilies table entries = (row : ℕ × RowList) → Contains table row → HasFamily entries row.0
 
 -- the family's base is the rows of its root key
 abbrev pub StartsFrom : RowTable → FamilyValue → Type 0

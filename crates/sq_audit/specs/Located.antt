@@ -1,5 +1,5 @@
 -- The families of what was gathered, each with where it is.
-use Rattle.std.specs.Prelude.{◌≡◌, ℕ, List, ◌++◌, map, slice_get, Option, Some, Contains}
+use Rattle.std.specs.Prelude.{◌≡◌, ℕ, ◌≤◌, List, ◌++◌, map, slice_get, Option, Some, Contains}
 use Rattle.sq_schema.specs.Family.{FamilyValue}
 use Rattle.sq_store.specs.StoreValue.{family_in}
 use Rattle.sq_chunk.specs.ChunkValue.{ChunkValue}
@@ -25,6 +25,10 @@ entry_of located = (spot_of located.site, located.family.now)
 
 abbrev pub entries_of : List Located → List Entry
 entries_of all = map entry_of all
+
+-- their root keys don't fall
+abbrev pub AreByRoot : List Entry → Type 0
+AreByRoot entries = (i j : ℕ) (one other : Entry) → i ≤ j → slice_get entries i ≡ Some one → slice_get entries j ≡ Some other → one.1.root ≤ other.1.root
 
 -- these families are just those of their root keys, and their logs are of these
 pub record AreAllOf (family_of : ℕ → Option FamilyValue) (families : List FamilyValue) : Type 0 where

@@ -3,7 +3,6 @@ use Rattle.std.specs.Prelude.{◌≡◌, ◌⊎◌, ◌<◌, ◌==◌, ◌&&◌,
 use Rattle.std.specs.Option.{option_map_or}
 use Rattle.std.specs.declared.cmp.Ordering.{Ordering}
 use Rattle.std.specs.Ordering.{nat_cmp, bool_cmp, ordering_then}
-use Rattle.std.specs.BTreeMap.{BTreeMap, get}
 use Rattle.std.specs.Borrow.{Bor}
 use Rattle.sq_schema.specs.TxnValue.{TxnValue}
 use Rattle.sq_schema.specs.Effect.{RowList, effect, reply}
@@ -14,6 +13,7 @@ use Rattle.sq_node_model.specs.Receipts.{is_commit}
 use Rattle.sq_audit.specs.declared.job.Job.{Job}
 use Rattle.sq_audit.specs.Answers.{is_of, IsAnswerTo}
 use Rattle.sq_audit.specs.Located.{Entry}
+use Rattle.sq_audit.specs.Index.{HasFamily}
 
 -- what references are to
 abbrev pub values_of : List (Bor ReceiptValue) → List ReceiptValue
@@ -67,16 +67,16 @@ abbrev pub TellLogs : List Entry → List Job → List ReceiptValue → Type 0
 TellLogs entries jobs receipts = (entry : Entry) → Contains entries entry → TellsLog jobs entry.1 (receipts_of entry.1.root receipts)
 
 -- a receipt of a root key without a family is of an abort on no rows
-abbrev pub TellsNothing : BTreeMap ℕ ℕ → List Job → ReceiptValue → Type 0
-TellsNothing places jobs receipt = get nat_cmp places receipt.root ≡ None → (receipt.position ≡ 0) × IsAnswered jobs [] None receipt
+abbrev pub TellsNothing : List Entry → List Job → ReceiptValue → Type 0
+TellsNothing entries jobs receipt = (HasFamily entries receipt.root → ⊥) → (receipt.position ≡ 0) × IsAnswered jobs [] None receipt
 
-abbrev pub TellNothing : BTreeMap ℕ ℕ → List Job → List ReceiptValue → Type 0
-TellNothing places jobs receipts = (receipt : ReceiptValue) → Contains receipts receipt → TellsNothing places jobs receipt
+abbrev pub TellNothing : List Entry → List Job → List ReceiptValue → Type 0
+TellNothing entries jobs receipts = (receipt : ReceiptValue) → Contains receipts receipt → TellsNothing entries jobs receipt
 
 -- each family's log is told, and each receipt of a root key without a family is of an abort on no rows
 pub record KnowsAll (entries : List Entry) (jobs : List Job) (receipts : List ReceiptValue) : Type 0 where
   pub logs : TellLogs entries jobs receipts
-  pub nothing : (receipt : ReceiptValue) → Contains receipts receipt → ((entry : Entry) → Contains entries entry → entry.1.root ≡ receipt.root → ⊥) → (receipt.position ≡ 0) × IsAnswered jobs [] None receipt
+  pub nothing : TellNothing entries jobs receipts
 
 -- a receipt's root key, its position, and whether it is of a commit, in order
 abbrev pub ReceiptKey : Type 0

@@ -1,59 +1,65 @@
-// The families of what was gathered by root key, and what is told of each root key: that it has a family, that it has one
+// What is told of root keys, where all families are listed by them: that each of a table has a family, that each has one
 // alone, and that its family starts from its opening rows.
-ghost use Rattle.std.specs.Prelude.{◌<◌, length, IfOk, IfSome};
+ghost use Rattle.std.specs.Prelude.{◌≡◌, nat_lt};
 ghost use Rattle.std.specs.Bool.{Decides};
 ghost use Rattle.sq_schema.specs.Table.{rows_in};
-ghost use Rattle.sq_audit.specs.Located.{spot_of, entries_of};
-ghost use Rattle.sq_audit.specs.Index.{IsIndex, root_of, IsThere, AgreeOnSpots, HaveFamilies, StartsFrom, StartFrom};
+ghost use Rattle.sq_audit.specs.Located.{entry_of, entries_of, AreByRoot};
+ghost use Rattle.sq_audit.specs.Index.{HasFamily, HaveFamilies, Agree, AgreeOnSpots, StartsFrom, StartFrom};
 
-use crate::located::{Located, Site};
-use sq_schema::{Family, Table};
-use std::alloc::{AllocError, Global};
-use std::collections::BTreeMap;
+use crate::located::Located;
+use sq_schema::{Family, Root, Table};
 
-/// For each root key with a family the place of one among all families, and whether the families of each root key are at
-/// one site.
-#[derive(Debug, Drop)]
-pub(crate) struct Index {
-    pub(crate) places: BTreeMap<u64, usize>,
-    pub(crate) once: bool,
-}
-
-/// The index of these families.
-pub(crate) fn index_of(alloc: Global, all: &[Located]) -> Result<Index, AllocError>
-    ensures places { IfOk result (λ index. IsIndex root_of (entries_of all.now) index.places) }
-    ensures once { IfOk result (λ index. Decides index.once (AgreeOnSpots (entries_of all.now))) }
-{
-    let mut places = BTreeMap::new(alloc);
-    let mut once = true;
-    for (at, located) in all.iter().enumerate() {
-        let before = places.insert(located.family.root().number(), at)?;
-        once &= is_there(all, before, located.site);
-    }
-    Ok(Index { places, once })
-}
-
-// Whether the family at this place of them is at the site, if there is such a place.
-fn is_there(all: &[Located], place: Option<usize>, site: Site) -> bool
-    requires { IfSome place (λ place. place < length all.now) }
-    ensures { Decides result (IsThere (entries_of all.now) place (spot_of site)) }
-{
-    match place {
-        Some(place) => all[place].site == site,
-        None => true,
-    }
-}
-
-/// Whether each root key of a table has a family.
-pub(crate) fn have_families(table: &Table, places: &BTreeMap<u64, usize>) -> bool
-    ensures { Decides result (HaveFamilies table.now places.now) }
+/// Whether each root key of a table has one of these families, which are by root key.
+pub(crate) fn have_families(table: &Table, all: &[Located]) -> bool
+    requires { AreByRoot (entries_of all.now) }
+    ensures { Decides result (HaveFamilies table.now (entries_of all.now)) }
 {
     for (root, _) in table.iter() {
-        if !places.contains_key(&root.number()) {
+        if !has_family(all, *root) {
             return false;
         }
     }
     true
+}
+
+/// Whether a root key has one of these families, which are by root key.
+pub(crate) fn has_family(all: &[Located], root: Root) -> bool
+    requires { AreByRoot (entries_of all.now) }
+    ensures { Decides result (HasFamily (entries_of all.now) root) }
+{
+    let count = all.partition_point(
+        |located: &Located| -> bool
+            ensures { result ≡ nat_lt located.now.family.now.root root }
+        { located.family.root() < root },
+    );
+    match all.get(count) {
+        Some(located) => located.family.root() == root,
+        None => false,
+    }
+}
+
+/// Whether these families, which are by root key, are at one site for each root key.
+pub(crate) fn stand_once(all: &[Located]) -> bool
+    requires { AreByRoot (entries_of all.now) }
+    ensures { Decides result (AgreeOnSpots (entries_of all.now)) }
+{
+    for at in 1..all.len() {
+        if !agree(&all[at - 1], &all[at]) {
+            return false;
+        }
+    }
+    true
+}
+
+// Whether two families are at one site, if they have one root key.
+fn agree(one: &Located, other: &Located) -> bool
+    ensures { Decides result (Agree (entry_of one.now) (entry_of other.now)) }
+{
+    if one.family.root() == other.family.root() {
+        one.site == other.site
+    } else {
+        true
+    }
 }
 
 /// Whether each family starts from the rows that the table has of its root key.

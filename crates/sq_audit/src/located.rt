@@ -3,7 +3,7 @@ ghost use Rattle.std.specs.Prelude.{◌≡◌, ◌++◌, ◌∷◌, [], List, ma
 ghost use Rattle.std.specs.FinMap.{get};
 ghost use Rattle.sq_schema.specs.Family.{FamilyValue};
 ghost use Rattle.sq_store.specs.StoreValue.{family_in};
-ghost use Rattle.sq_audit.specs.Located.{spot_of, entries_of, ListsAll, AddsAll, AddsLink};
+ghost use Rattle.sq_audit.specs.Located.{spot_of, entries_of, ListsAll, AreByRoot, AddsAll, AddsLink};
 
 use sq_chunk::Chunk;
 use sq_gather::{ClosedLink, Gathered};
@@ -25,8 +25,18 @@ pub(crate) struct Located<'a> {
     pub(crate) family: &'a Family,
 }
 
-/// All families of what was gathered.
+/// All families of what was gathered, by root key.
 pub(crate) fn locate(alloc: Global, g: &Gathered) -> Result<Vec<Located<'_>>, AllocError>
+    ensures all { IfOk result (λ all. ListsAll g.now (entries_of all.items)) }
+    ensures rise { IfOk result (λ all. AreByRoot (entries_of all.items)) }
+{
+    let mut all = list(alloc, g)?;
+    all.sort_by_key(|located| located.family.root().number())?;
+    Ok(all)
+}
+
+// All families of what was gathered.
+fn list(alloc: Global, g: &Gathered) -> Result<Vec<Located<'_>>, AllocError>
     ensures { IfOk result (λ all. ListsAll g.now (entries_of all.items)) }
 {
     let mut all = Vec::new(alloc);

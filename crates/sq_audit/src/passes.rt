@@ -5,7 +5,7 @@ ghost use Rattle.sq_audit.specs.Defects.{IsVerdict};
 
 use crate::answered::are_answered;
 use crate::fits::fit;
-use crate::index::{have_families, index_of, start_from};
+use crate::index::{have_families, stand_once, start_from};
 use crate::job::Job;
 use crate::located::locate;
 use crate::told::are_known;
@@ -22,11 +22,10 @@ pub fn audit(opening: &Opening, g: &Gathered, jobs: &[Job]) -> Result<Verdict, A
 {
     let alloc = *g.receipts.allocator();
     let all = locate(alloc, g)?;
-    let index = index_of(alloc, &all)?;
-    if !have_families(opening.table(), &index.places) {
+    if !have_families(opening.table(), &all) {
         return Ok(Verdict::Unsound(Defect::RootMissing));
     }
-    if !index.once {
+    if !stand_once(&all) {
         return Ok(Verdict::Unsound(Defect::RootDoubled));
     }
     if !start_from(opening.table(), &all) {
@@ -35,7 +34,7 @@ pub fn audit(opening: &Opening, g: &Gathered, jobs: &[Job]) -> Result<Verdict, A
     if !fit(alloc, opening, g, &all)? {
         return Ok(Verdict::Unsound(Defect::WrongPlace));
     }
-    if !are_known(alloc, &all, &index.places, jobs, &g.receipts)? {
+    if !are_known(alloc, &all, jobs, &g.receipts)? {
         return Ok(Verdict::Unsound(Defect::ReceiptUnknown));
     }
     if !are_answered(alloc, jobs, &g.receipts)? {

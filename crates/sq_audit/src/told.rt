@@ -1,14 +1,16 @@
 // Whether receipts tell what jobs had to be answered, and each position of the logs.
-ghost use Rattle.std.specs.Prelude.{◌≡◌, ◌==◌, [], true, filter, nat_lt, nat_le, option_copied, IfOk};
+ghost use Rattle.std.specs.Prelude.{◌≡◌, ℕ, ◌<◌, ◌≤◌, [], true, length, slice_get, Some, option_copied, IfOk};
 ghost use Rattle.std.specs.Bool.{Decides};
-ghost use Rattle.std.specs.List.Sorted.{IsPermutation, IsSortedByKey, IsNonDecreasingBy};
+ghost use Rattle.std.specs.List.Sorted.{IsPermutation, IsSortedByKey};
+ghost use Rattle.sq_node_model.specs.NodeValue.{ReceiptValue};
 ghost use Rattle.sq_node_model.specs.Receipts.{is_commit};
 ghost use Rattle.sq_audit.specs.Answers.{IdsDiffer};
-ghost use Rattle.sq_audit.specs.Located.{entries_of};
-ghost use Rattle.sq_audit.specs.Index.{IsIndex, root_of};
+ghost use Rattle.sq_audit.specs.Located.{entries_of, AreByRoot};
+ghost use Rattle.sq_audit.specs.Index.{IsIndex};
 ghost use Rattle.sq_audit.specs.Told.{values_of, id_of, receipt_key, key_order, IsAnswered, rows_then, AreInOrder, TellsLog, TellLogs, TellNothing, KnowsAll};
 
 use crate::by_id::{by_id, job_of};
+use crate::index::has_family;
 use crate::job::Job;
 use crate::located::Located;
 use sq_node::Receipt;
@@ -16,17 +18,16 @@ use sq_schema::{Family, Reply, Rows, Txn};
 use std::alloc::{AllocError, Global};
 use std::collections::BTreeMap;
 
-/// Whether each receipt is the answer to a job, and the committed ones name each position of each log once, where `places`
-/// has the place of a family of each root key.
+/// Whether each receipt is the answer to a job, and the committed ones name each position of each log once, where these are
+/// all families, by root key.
 pub(crate) fn are_known(
     alloc: Global,
     all: &[Located],
-    places: &BTreeMap<u64, usize>,
     jobs: &[Job],
     receipts: &[Receipt],
 ) -> Result<bool, AllocError>
     requires ids { IdsDiffer jobs.now }
-    requires places { IsIndex root_of (entries_of all.now) places.now }
+    requires rise { AreByRoot (entries_of all.now) }
     ensures { IfOk result (λ known. Decides known (KnowsAll (entries_of all.now) jobs.now receipts.now)) }
 {
     let ids = by_id(alloc, jobs)?;
@@ -34,10 +35,10 @@ pub(crate) fn are_known(
     if !tell_logs(alloc, all, jobs, &ids, &sorted)? {
         return Ok(false);
     }
-    tell_nothing(alloc, places, jobs, &ids, receipts)
+    tell_nothing(alloc, all, jobs, &ids, receipts)
 }
 
-// Whether receipts, in order, tell the logs of all families.
+// Whether receipts, in order, tell the logs of families that are by root key.
 fn tell_logs(
     alloc: Global,
     all: &[Located],
@@ -48,11 +49,15 @@ fn tell_logs(
     requires ids { IdsDiffer jobs.now }
     requires index { IsIndex id_of jobs.now ids.now }
     requires sorted { IsSortedByKey receipt_key key_order (values_of sorted.now) }
+    requires rise { AreByRoot (entries_of all.now) }
     ensures { IfOk result (λ tell. Decides tell (TellLogs (entries_of all.now) jobs.now (values_of sorted.now))) }
 {
+    let mut from = 0;
     for located in all {
-        let group = group(sorted, located.family.root().number());
-        if !tells_log(alloc, jobs, ids, located.family, group)? {
+        let root = located.family.root().number();
+        from = first_from(sorted, from, root);
+        let end = first_from(sorted, from, root + 1);
+        if !tells_log(alloc, jobs, ids, located.family, &sorted[from..end])? {
             return Ok(false);
         }
     }
@@ -62,17 +67,18 @@ fn tell_logs(
 // Whether the receipts of root keys without a family tell aborts on no rows.
 fn tell_nothing(
     alloc: Global,
-    places: &BTreeMap<u64, usize>,
+    all: &[Located],
     jobs: &[Job],
     ids: &BTreeMap<u64, usize>,
     receipts: &[Receipt],
 ) -> Result<bool, AllocError>
     requires ids { IdsDiffer jobs.now }
     requires index { IsIndex id_of jobs.now ids.now }
-    ensures { IfOk result (λ tell. Decides tell (TellNothing places.now jobs.now receipts.now)) }
+    requires rise { AreByRoot (entries_of all.now) }
+    ensures { IfOk result (λ tell. Decides tell (TellNothing (entries_of all.now) jobs.now receipts.now)) }
 {
     for receipt in receipts {
-        if places.contains_key(&receipt.root.number()) {
+        if has_family(all, receipt.root) {
             continue;
         }
         if !tells_nothing(alloc, jobs, ids, receipt)? {
@@ -112,6 +118,9 @@ fn tells_log(
     requires order { AreInOrder (values_of receipts.now) }
     ensures { IfOk result (λ tells. Decides tells (TellsLog jobs.now family.now (values_of receipts.now))) }
 {
+    if receipts.is_empty() {
+        return Ok(family.log().is_empty());
+    }
     let mut rows = family.base().clone()?;
     let mut position = 0;
     for receipt in receipts {
@@ -198,21 +207,21 @@ fn sort(alloc: Global, receipts: &[Receipt]) -> Result<Vec<&Receipt>, AllocError
     Ok(sorted)
 }
 
-// Of receipts by root key those of one.
-fn group<'a, 'b>(sorted: &'a [&'b Receipt], root: u64) -> &'a [&'b Receipt]
-    requires { IsNonDecreasingBy (λ receipt. receipt.now.root) sorted.now }
-    ensures { result.now ≡ filter (λ receipt. receipt.now.root == root) sorted.now }
+// Of receipts by root key the place of the first one from here on whose root key isn't below this.
+fn first_from(sorted: &[&Receipt], from: usize, root: u64) -> usize
+    requires { from ≤ length sorted.now }
+    ensures from { from ≤ result }
+    ensures within { result ≤ length sorted.now }
+    ensures below { (k : ℕ) (receipt : ReceiptValue) → from ≤ k → k < result → slice_get (values_of sorted.now) k ≡ Some receipt → receipt.root < root }
+    ensures first { (receipt : ReceiptValue) → slice_get (values_of sorted.now) result ≡ Some receipt → root ≤ receipt.root }
 {
-    let from = sorted.partition_point(
-        |receipt: &&Receipt| -> bool
-            ensures { result ≡ nat_lt receipt.now.now.root root }
-        { receipt.root.number() < root },
-    );
-    let rest = &sorted[from..];
-    let count = rest.partition_point(
-        |receipt: &&Receipt| -> bool
-            ensures { result ≡ nat_le receipt.now.now.root root }
-        { receipt.root.number() <= root },
-    );
-    &rest[..count]
+    let mut at = from;
+    while at < sorted.len() {
+        let receipt: &Receipt = sorted[at];
+        if receipt.root.number() >= root {
+            return at;
+        }
+        at += 1;
+    }
+    at
 }

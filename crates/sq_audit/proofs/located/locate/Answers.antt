@@ -1,33 +1,17 @@
-use Rattle.std.proofs.Common.{List, sym, ap, ◌∙◌, subst}
-use Rattle.sq_node_model.specs.Gathered.{GatheredValue}
-use Rattle.sq_audit.specs.Located.{entries_of}
-use Rattle.sq_audit.specs.declared.located.Located.{Located}
-use Rattle.sq_audit.proofs.Listing.{item_of, end_of, StoredTo, LinkedTo, stored_none, stored_next, linked_none, linked_next, listed_all}
+use Rattle.std.proofs.Common.{rules}
+use Rattle.std.proofs.lemmas.List.Sorted.{answers_always, IsPermutation-map, IsNonDecreasingBy-from_sort}
+use Rattle.sq_audit.specs.Located.{entry_of, entries_of}
+use Rattle.sq_audit.proofs.Listing.{lists_permuted}
+use Rattle.sq_audit.proofs.Indexing.{rise_entries}
 use Rattle.sq_audit.proofs.located.locate.Goals as goal
 
-pub loop-part-init : goal.loop-part-init
-loop-part-init c = subst (λ (all : List Located). StoredTo c.args.g.now 0 (entries_of all)) (sym c.new-all.ensures.items) (stored_none c.args.g.now)
+pub returns-clause-all : goal.returns-clause-all
+returns-clause-all c =
+    let old = c.in_ok-all.all.items in
+    let new = c.sort_by_key.new.self.items in
+    lists_permuted c.args.g.now (entries_of old) (entries_of new) (IsPermutation-map entry_of old new c.in_ok-sort_by_key.ensures.permutation) c.in_ok-all.ensures
 
-pub loop-part-preserved : goal.loop-part-preserved
-loop-part-preserved c =
-    let here = c.deref-store-items.ensures.value ∙ ap (λ (g : GatheredValue). g.stores) c.g.view_is in
-    let at = item_of c.deref-store-items.result.now c.args.g.now.stores c.loop-part.part c.store-item.result here c.store-item.is c.loop-part-test.true in
-    stored_next c.args.g.now c.loop-part.part c.store-item.result _ _ at c.loop-part.invariant c.in_ok-add_stored.ensures
-
-pub loop-at-init : goal.loop-at-init
-loop-at-init c =
-    let here = c.deref-store-items.ensures.value ∙ ap (λ (g : GatheredValue). g.stores) c.g.view_is in
-    let all = end_of c.deref-store-items.result.now c.args.g.now.stores c.loop-part.part here c.loop-part.auto.part-end c.loop-part-test.false in
-    linked_none c.args.g.now (entries_of c.loop-part.all.items) (subst (λ k. StoredTo c.args.g.now k (entries_of c.loop-part.all.items)) all c.loop-part.invariant)
-
-pub loop-at-preserved : goal.loop-at-preserved
-loop-at-preserved c =
-    let here = c.deref-link-items.ensures.value ∙ ap (λ (g : GatheredValue). g.links) c.g.view_is in
-    let at = item_of c.deref-link-items.result.now c.args.g.now.links c.loop-at.at c.link-item.result here c.link-item.is c.loop-at-test.true in
-    linked_next c.args.g.now c.loop-at.at c.link-item.result _ _ at c.loop-at.invariant c.in_ok-add_under_way.ensures
-
-pub returns : goal.returns
-returns c =
-    let here = c.deref-link-items.ensures.value ∙ ap (λ (g : GatheredValue). g.links) c.g.view_is in
-    let all = end_of c.deref-link-items.result.now c.args.g.now.links c.loop-at.at here c.loop-at.auto.at-end c.loop-at-test.false in
-    listed_all c.args.g.now (entries_of c.loop-at.all.items) (subst (λ k. LinkedTo c.args.g.now k (entries_of c.loop-at.all.items)) all c.loop-at.invariant)
+pub returns-clause-rise : goal.returns-clause-rise
+returns-clause-rise c =
+    let new = c.sort_by_key.new.self.items in
+    rise_entries new (IsNonDecreasingBy-from_sort (λ located. located.family.now.root) new (c.in_ok-sort_by_key.ensures.sorted (λ located. located.family.now.root) (answers_always _ _ _ (λ f a r g called. search rules))))

@@ -25,5 +25,5 @@ returns c =
     let receipts = c.args.receipts.now in
     let sorted = values_of c.in_ok-sorted.sorted.items in
     let logs = logs_permuted entries jobs sorted receipts (IsPermutation-sym receipts sorted c.in_ok-sorted.ensures.all) (subst (λ (rs : List (Bor ReceiptValue)). TellLogs entries jobs (values_of rs)) c.deref.ensures.value (shown c.in_ok-tell_logs.field-0 c.in_ok-tell_logs.ensures c.if-not-branch.false)) in
-    ok_like {P = λ (tell : Bool). Decides tell (TellNothing c.args.places.now jobs receipts)} {Q = λ (tell : Bool). Decides tell (KnowsAll entries jobs receipts)} c.tell_nothing.result
-    (λ tell nothing. knows_all entries c.args.places.now c.requires.places jobs receipts tell logs nothing) c.tell_nothing.ensures
+    ok_like {P = λ (tell : Bool). Decides tell (TellNothing entries jobs receipts)} {Q = λ (tell : Bool). Decides tell (KnowsAll entries jobs receipts)} c.tell_nothing.result
+    (λ tell nothing. knows_all entries jobs receipts tell logs nothing) c.tell_nothing.ensures

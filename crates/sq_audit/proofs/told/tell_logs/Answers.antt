@@ -1,5 +1,6 @@
-use Rattle.std.proofs.Common.{◌≡◌, ◌≤◌, List, slice_get, Some, length, sym, ap, ◌∙◌, subst}
+use Rattle.std.proofs.Common.{◌≡◌, ℕ, ◌-◌, ◌<◌, ◌≤◌, ⊎_elim, List, take, drop, slice_get, Some, length, sym, ap, ◌∙◌, subst, arith}
 use Rattle.std.specs.Bool.{Decides}
+use Rattle.std.proofs.lemmas.Bool.{cases_lt}
 use Rattle.std.proofs.lemmas.List.{length-map}
 use Rattle.sq_node_model.specs.NodeValue.{ReceiptValue}
 use Rattle.sq_placed.proofs.Lists.{at_map}
@@ -7,44 +8,75 @@ use Rattle.sq_audit.specs.Located.{Entry, entry_of, entries_of}
 use Rattle.sq_audit.specs.Told.{values_of, receipts_of, AreInOrder, TellsLog}
 use Rattle.sq_audit.proofs.Listing.{item_at}
 use Rattle.sq_audit.proofs.Each.{each_more, each_done, each_fails, refuted, shown}
-use Rattle.sq_audit.proofs.Orders.{rise_by_root, group_in_order, values_kept}
+use Rattle.sq_audit.proofs.Orders.{group_is, group_in_order}
 use Rattle.sq_audit.proofs.told.tell_logs.Goals as goal
-use Rattle.sq_audit.proofs.told.tell_logs.Goals.{In_ok-tells_log}
-
-pub group-group-requires : goal.group-group-requires
-group-group-requires c = rise_by_root c.args.sorted.now c.requires.sorted
-
-pub tells_log-requires-clause-order : goal.tells_log-requires-clause-order
-tells_log-requires-clause-order c =
-    let group = ap values_of c.group-group.ensures ∙ values_kept c.args.sorted.now c.number.result in
-    subst AreInOrder (sym group) (group_in_order (values_of c.args.sorted.now) c.number.result c.requires.sorted)
+use Rattle.sq_audit.proofs.told.tell_logs.Goals.{After-first_from-end}
 
 -- the family that is looked at
-entry_there : (c : In_ok-tells_log) → slice_get (entries_of c.args.all.now) c.loop-located.located-index ≡ Some (entry_of c.located-item.result)
+entry_there : (c : After-first_from-end) → slice_get (entries_of c.args.all.now) c.loop-located.located-index ≡ Some (entry_of c.located-item.result)
 entry_there c =
     let at = c.loop-located.located-index in
     at_map entry_of c.args.all.now at c.located-item.result (item_at c.args.all.now at c.located-item.result c.located-item.is c.loop-located-test.true)
 
--- whether the receipts of its root key tell its log
-tells : (c : In_ok-tells_log) → let family = c.located-item.result.family.now in Decides c.in_ok-tells_log.field-0 (TellsLog c.args.jobs.now family (receipts_of family.root (values_of c.args.sorted.now)))
-tells c =
-    let root = c.number.ensures.number ∙ c.root.ensures in
-    let group = ap values_of c.group-group.ensures ∙ values_kept c.args.sorted.now c.number.result ∙ ap (λ k. receipts_of k (values_of c.args.sorted.now)) root in
-    subst (λ (rs : List ReceiptValue). Decides c.in_ok-tells_log.field-0 (TellsLog c.args.jobs.now c.located-item.result.family.now rs)) group c.in_ok-tells_log.ensures
+root_is : (c : After-first_from-end) → c.number-root.result ≡ c.located-item.result.family.now.root
+root_is c = c.number-root.ensures.number ∙ c.root.ensures
+
+-- receipts before the first of its root key are of root keys below it
+below : (c : After-first_from-end) (k : ℕ) (r : ReceiptValue) → k < c.first_from-from.result → slice_get (values_of c.args.sorted.now) k ≡ Some r → r.root < c.number-root.result
+below c k r low at =
+    ⊎_elim
+    (λ before.
+    let less = c.loop-located.invariant.below k c.loop-located.located-index r (entry_of c.located-item.result) before at (omega arith) (entry_there c) in
+    let same = root_is c in
+    omega (arith, less, same))
+    (λ from. c.first_from-from.ensures.below k r from low at)
+    (cases_lt k c.loop-located.from)
+
+-- the receipts of its root key
+group : (c : After-first_from-end) → let from = c.first_from-from.result in
+    values_of (take (c.first_from-end.result - from) (drop from c.args.sorted.now)) ≡ receipts_of c.number-root.result (values_of c.args.sorted.now)
+group c =
+    group_is c.args.sorted.now c.number-root.result c.first_from-from.result c.first_from-end.result c.requires.sorted c.first_from-end.ensures.from
+    (below c) c.first_from-from.ensures.first c.first_from-end.ensures.below c.first_from-end.ensures.first
+
+pub tells_log-requires-clause-order : goal.tells_log-requires-clause-order
+tells_log-requires-clause-order c =
+    let at = (goal.at.tells_log-requires-clause-order c).After-first_from-end in
+    subst AreInOrder (sym (group at)) (group_in_order (values_of c.args.sorted.now) c.number-root.result c.requires.sorted)
+
+-- the receipts that are looked at are those of the family's root key
+of_family : (c : After-first_from-end) → let from = c.first_from-from.result in
+    values_of (take (c.first_from-end.result - from) (drop from c.args.sorted.now)) ≡ receipts_of c.located-item.result.family.now.root (values_of c.args.sorted.now)
+of_family c = group c ∙ ap (λ k. receipts_of k (values_of c.args.sorted.now)) (root_is c)
 
 pub returns-then-not-branch : goal.returns-then-not-branch
 returns-then-not-branch c =
-    let at = (goal.at.returns-then-not-branch c).In_ok-tells_log in
-    each_fails (λ (e : Entry). TellsLog c.args.jobs.now e.1 (receipts_of e.1.root (values_of c.args.sorted.now))) (entries_of c.args.all.now) c.loop-located.located-index (entry_of c.located-item.result) (entry_there at)
-    (refuted c.in_ok-tells_log.field-0 (tells at) c.if-not-branch.true)
+    let at = (goal.at.returns-then-not-branch c).After-first_from-end in
+    let jobs = c.args.jobs.now in
+    let located = c.located-item.result in
+    let told = c.in_ok-tells_log.field-0 in
+    each_fails (λ (e : Entry). TellsLog jobs e.1 (receipts_of e.1.root (values_of c.args.sorted.now))) (entries_of c.args.all.now) c.loop-located.located-index (entry_of located) (entry_there at)
+    (refuted told (subst (λ (rs : List ReceiptValue). Decides told (TellsLog jobs located.family.now rs)) (of_family at) c.in_ok-tells_log.ensures) c.if-not-branch.true)
 
 pub loop-located-preserved : goal.loop-located-preserved
 loop-located-preserved c =
-    let at = (goal.at.loop-located-preserved c).In_ok-tells_log in
-    each_more (λ (e : Entry). TellsLog c.args.jobs.now e.1 (receipts_of e.1.root (values_of c.args.sorted.now))) (entries_of c.args.all.now) c.loop-located.located-index (entry_of c.located-item.result) c.loop-located.invariant
-    (entry_there at) (shown c.in_ok-tells_log.field-0 (tells at) c.if-not-branch.false)
+    let at = (goal.at.loop-located-preserved c).After-first_from-end in
+    let jobs = c.args.jobs.now in
+    let located = c.located-item.result in
+    let told = c.in_ok-tells_log.field-0 in
+    record {
+      told =
+          each_more (λ (e : Entry). TellsLog jobs e.1 (receipts_of e.1.root (values_of c.args.sorted.now))) (entries_of c.args.all.now) c.loop-located.located-index (entry_of located) c.loop-located.invariant.told (entry_there at)
+          (shown told (subst (λ (rs : List ReceiptValue). Decides told (TellsLog jobs located.family.now rs)) (of_family at) c.in_ok-tells_log.ensures) c.if-not-branch.false);
+      within = c.first_from-from.ensures.within;
+      below = λ k i r entry low stands upto there.
+          let less = below at k r low stands in
+          let rises = c.requires.rise c.loop-located.located-index i (entry_of located) entry (omega (arith, upto)) (entry_there at) there in
+          let same = root_is at in
+          omega (arith, less, rises, same);
+    }
 
 pub returns : goal.returns
 returns c =
     let whole : length (entries_of c.args.all.now) ≤ c.loop-located.located-index = subst (λ n. n ≤ c.loop-located.located-index) (sym (length-map c.args.all.now entry_of)) c.loop-located-test.false in
-    each_done (λ (e : Entry). TellsLog c.args.jobs.now e.1 (receipts_of e.1.root (values_of c.args.sorted.now))) (entries_of c.args.all.now) c.loop-located.located-index c.loop-located.invariant whole
+    each_done (λ (e : Entry). TellsLog c.args.jobs.now e.1 (receipts_of e.1.root (values_of c.args.sorted.now))) (entries_of c.args.all.now) c.loop-located.located-index c.loop-located.invariant.told whole

@@ -1,4 +1,4 @@
-use Rattle.std.proofs.Common.{◌≡◌, ◌+◌, ℕ, Bor, List, ◌≤◌, length, slice_get, Option, Some, sym, ap, ◌∙◌, subst, true≢false, eqb-true}
+use Rattle.std.proofs.Common.{◌≡◌, ◌+◌, ℕ, Bor, List, ◌≤◌, length, slice_get, Option, Some, sym, ap, ◌∙◌, subst, arith, true≢false, eqb-true}
 use Rattle.std.specs.Option.{option_copied}
 use Rattle.std.proofs.lemmas.List.{length-map}
 use Rattle.sq_schema.specs.TxnValue.{TxnValue}
@@ -7,7 +7,7 @@ use Rattle.sq_placed.proofs.Lists.{at_map}
 use Rattle.sq_audit.specs.Told.{values_of, IsAnswered, rows_then}
 use Rattle.sq_audit.proofs.Listing.{item_at}
 use Rattle.sq_audit.proofs.Each.{looked_up, refuted, shown, by_cases}
-use Rattle.sq_audit.proofs.Walks.{WalkedTo, step_commit, step_abort, fails_position, fails_answer, walk_ends, fails_end}
+use Rattle.sq_audit.proofs.Walks.{WalkedTo, none_walked, step_commit, step_abort, fails_position, fails_answer, walk_ends, fails_end}
 use Rattle.sq_audit.proofs.told.tells_log.Goals as goal
 use Rattle.sq_audit.proofs.told.tells_log.Goals.{In_ok-is_answered, then-commits, else-commits}
 
@@ -23,7 +23,22 @@ in_place c = sym (ap (λ (x : Bor ReceiptValue). x.now.position) c.receipt.view_
 next_there : (c : In_ok-is_answered) → option_copied c.get-next.result ≡ slice_get c.args.family.now.log c.loop-receipt.position
 next_there c =
     let position = c.loop-receipt.position in
-    looked_up c.log.result.now position c.get-next.result c.get-next.ensures.lookup ∙ ap (λ (l : List TxnValue). slice_get l position) c.log.ensures.log
+    looked_up c.log-in-loop-receipt.result.now position c.get-next.result c.get-next.ensures.lookup ∙ ap (λ (l : List TxnValue). slice_get l position) c.log-in-loop-receipt.ensures.log
+
+-- without receipts the log has to be empty
+pub returns-then-is_empty : goal.returns-then-is_empty
+returns-then-is_empty c =
+    let jobs = c.args.jobs.now in
+    let family = c.args.family.now in
+    let group = values_of c.args.receipts.now in
+    let none = eqb-true (length c.args.receipts.now) 0 (sym c.is_empty.ensures ∙ c.if-is_empty.true) in
+    let count = length-map c.args.receipts.now (λ (x : Bor ReceiptValue). x.now) in
+    let whole : length group ≤ 0 = omega (arith, none, count) in
+    let log = ap length c.log.ensures.log in
+    let walked = none_walked jobs family group in (
+      (λ e. walk_ends jobs family group 0 0 family.base walked whole (sym (eqb-true (length c.log.result.now) 0 (sym c.is_empty-then-is_empty.ensures ∙ e)) ∙ log)),
+      (λ tells. c.is_empty-then-is_empty.ensures ∙ by_cases (length c.log.result.now) 0 (λ apart. fails_end jobs family group 0 0 family.base walked whole (λ same. apart (log ∙ sym same)) tells)),
+    )
 
 pub returns-then-receipt-position : goal.returns-then-receipt-position
 returns-then-receipt-position c =

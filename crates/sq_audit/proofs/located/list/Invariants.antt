@@ -1,6 +1,6 @@
 use Rattle.sq_audit.specs.Located.{entries_of}
 use Rattle.sq_audit.proofs.Listing.{StoredTo, LinkedTo}
-use Rattle.sq_audit.proofs.located.locate.Given as goal
+use Rattle.sq_audit.proofs.located.list.Given as goal
 
 abbrev pub invariant-loop-part : goal.invariant-loop-part
 invariant-loop-part l = StoredTo l.g l.part (entries_of l.all.items)
