@@ -1,0 +1,8 @@
+//! What the numbers of faults, refusals and defects mean, and what to do about them.
+#![tactic(auto)]
+
+mod table;
+mod telling;
+
+pub use table::Entry;
+pub use telling::{entries, entry, write_entries, write_entry};

@@ -1,0 +1,48 @@
+// What is told of numbers.
+ghost use Rattle.std.specs.Prelude.{◌≡◌, OnOk, IfSome, map, option_map};
+ghost use Rattle.std.specs.List.{flat_map};
+ghost use Rattle.std.specs.Io.KnownBytes.{Appends};
+ghost use Rattle.sq_explain.specs.Meanings.{meanings, meaning_of, entry_text};
+
+use crate::table::{ENTRIES, Entry};
+use std::io;
+use std::io::Write;
+
+/// The entries, in the order of their numbers: each number with what it means.
+pub fn entries() -> &'static [Entry]
+    ensures { map (λ entry. (entry.number, entry.meaning.now)) result.now ≡ meanings }
+{
+    &ENTRIES
+}
+
+/// The entry of a number, which says what it means; `None` where no such number is given.
+pub fn entry(number: u16) -> Option<Entry>
+    ensures means { option_map (λ entry. entry.meaning.now) result ≡ meaning_of number }
+    ensures is { IfSome result (λ entry. entry.number ≡ number) }
+{
+    let found = entries().iter().find(|entry| entry.number == number);
+    found.copied()
+}
+
+/// Writes an entry. An error is the writer's.
+pub fn write_entry<W: Write>(writer: &mut W, entry: &Entry) -> io::Result<()>
+    ensures { OnOk result (Appends (W.contents writer.old) (W.contents writer.new) (entry_text entry.now)) }
+{
+    let Entry {
+        number,
+        meaning,
+        given,
+        advice,
+    } = *entry;
+    writeln!(writer, "{number} {meaning}\n    {given}\n    {advice}")
+}
+
+/// Writes entries, one behind the other. An error is the writer's.
+pub fn write_entries<W: Write>(writer: &mut W, entries: &[Entry]) -> io::Result<()>
+    ensures { OnOk result (Appends (W.contents writer.old) (W.contents writer.new) (flat_map entry_text entries.now)) }
+{
+    for entry in entries {
+        write_entry(writer, entry)?;
+    }
+    Ok(())
+}
