@@ -42,6 +42,16 @@ difference() {
     head -n 5 "$room/difference"
 }
 
+# form LINE: the form of a line of the header, as it is said where the line isn't of it.
+form() {
+    case $1 in
+        1) echo "'old PLAN', as in 'old {\"version\":1,\"partitions\":2,\"ranges\":[[0,4294967296,0]]}'" ;;
+        2) echo "'new PLAN', as in 'new {\"version\":1,\"partitions\":2,\"ranges\":[[0,8,1],[8,4294967296,0]]}'" ;;
+        3) echo "'config W L C', as in 'config 1 64 1': root keys in a leaf, bytes in a chunk, chunks on a link" ;;
+        *) echo "'row ROOT T S N NOTE', as in 'row 5 0 0 10 -': root key, table, sub key, number, note" ;;
+    esac
+}
+
 # said NUMBER [LINE]: what is to be said on standard error of the fault of this number, which belongs to this line of the
 # input. The text of a plan's fault begins with 'plan'; which plan it is stands before it.
 said() {
@@ -52,6 +62,7 @@ said() {
         esac
         if [ "$number" = "$1" ]; then echo "squall: ${line}fault $number: $text"; fi
     done < "$tests/texts"
+    if [ "$1" = 121 ]; then echo "squall: line $2 is to be $(form "$2")"; fi
 }
 
 # judge NAME STATUS OUTPUT ERRORS: counts a run by its exit status and by the files that it was to write.
@@ -208,6 +219,94 @@ try_examples() {
     help_example live
 }
 
+# What is told of a number is of one table: the texts of faults in tests/texts, the table of docs/formats.md, and what
+# 'squall explain' tells of each number alone.
+try_numbers() {
+    local number text
+    give /dev/null explain
+    cp "$room/output" "$room/all"
+    : > "$room/one_by_one"
+    while read -r number _; do
+        give /dev/null explain "$number"
+        cat "$room/output" >> "$room/one_by_one"
+    done < <(grep '^[0-9]' "$room/all")
+    count numbers_one_by_one "$(difference "$room/all" "$room/one_by_one")"
+    awk '/^[0-9]/ { number = $1; sub(/^[0-9]+ /, ""); meaning = $0; getline; sub(/^ +/, ""); print "| " number " | " meaning " | " $0 " |" }' \
+        "$room/all" > "$room/wanted"
+    sed -n '/^## Numbers/,/^## Dump/p' "$top/docs/formats.md" | grep '^| [0-9]' > "$room/told"
+    count numbers_as_they_are_told "$(difference "$room/wanted" "$room/told")"
+    grep '^[0-9]' "$room/all" > "$room/meanings"
+    while read -r number text; do
+        case $text in
+            plan*) text="a $text" ;;
+            'a line of the header has more'*) text="a line has more${text#*has more}" ;;
+        esac
+        if grep -qxF "$number $text" "$room/meanings"; then text=; fi
+        count "meaning of $number" "$text"
+    done < "$tests/texts"
+}
+
+# echoes NAME: a stored run with --echo: each line of the script stands before its answer, and what a refusal means behind
+# its number; all else is as without it. The script has no line without an end.
+echoes() {
+    local input=$tests/runs/$1 ended_lines
+    awk 'NR > 3 && (past || !/^row /) { past = 1; print }' "$input.in" > "$room/script"
+    ended_lines=$(wc -l < "$room/script")
+    awk -v meanings="$room/meanings" -v script="$room/script" -v steps="$ended_lines" '
+        BEGIN {
+            while ((getline text < meanings) > 0) { number = text; sub(/ .*/, "", number); sub(/^[0-9]+ /, "", text); meaning[number] = text }
+            while ((getline line < script) > 0) lines[++count] = line
+        }
+        NR > steps { print; next }
+        /^refused / { $0 = $0 ": " meaning[$2] }
+        { print lines[NR] " -> " $0 }' "$input.out" > "$room/wanted"
+    give "$input.in" run --echo
+    judge "run --echo $1" 0 "$room/wanted" /dev/null
+}
+
+try_echoes() {
+    local input name
+    for input in "$tests"/runs/*.in; do
+        name=$(basename "${input%.in}")
+        # Faults, and a script that ends in a line without an end, are told apart below.
+        if [ ! -e "$tests/runs/$name.status" ] && [ -z "$(tail -c 1 "$input" | tr -d '\n')" ]; then echoes "$name"; fi
+    done
+    head -n 4 "$tests/runs/moves_four_keys.in" > "$room/rest.in"
+    printf 'start\nrest' >> "$room/rest.in"
+    printf '%s\n' "start -> refused 228: a partition isn't prepared" "rest -> refused 230: a line is of no step's form" \
+        'end idle' 'at 0 5 0 0.0=10/-' > "$room/wanted"
+    give "$room/rest.in" run --echo
+    judge echo_of_a_line_without_an_end 0 "$room/wanted" /dev/null
+    head -n 3 "$tests/runs/moves_four_keys.in" | sed 's/^config .*/config/' > "$room/bad.in"
+    echo 'fault 121' > "$room/wanted"
+    said 121 3 > "$room/said"
+    give "$room/bad.in" run --echo
+    judge echo_of_a_fault 2 "$room/wanted" "$room/said"
+}
+
+# An input may be a file that is named; one that can't be read is told by its name.
+try_files() {
+    local word
+    give /dev/null run "$examples/first-move.txt"
+    judge run_of_a_file 0 "$examples/first-move.out" /dev/null
+    give /dev/null run "$examples/first-move.txt" --echo
+    cp "$room/output" "$room/wanted"
+    give "$examples/first-move.txt" run --echo
+    judge run_of_a_file_with_echo 0 "$room/wanted" /dev/null
+    give /dev/null ranges "$examples/ranges.txt"
+    judge ranges_of_a_file 0 "$examples/ranges.out" /dev/null
+    give /dev/null live --fold "$examples/staged-live-move.txt"
+    judge live_of_a_file 0 "$examples/staged-live-move.out" /dev/null
+    for word in run ranges live; do
+        give "$examples/first-move.txt" "$word" "$room/nothing"
+        echo "squall: the file '$room/nothing' can't be read: No such file or directory (os error 2)" > "$room/said"
+        judge "${word}_of_no_file" 2 /dev/null "$room/said"
+        give "$examples/first-move.txt" "$word" "$room"
+        echo "squall: the file '$room' can't be read: is a directory" > "$room/said"
+        judge "${word}_of_a_folder" 2 /dev/null "$room/said"
+    done
+}
+
 # An input without end ends the run, a directory can't be read, and a full device can't be written.
 try_streams() {
     echo "fault 122" > "$room/wanted"
@@ -324,14 +423,15 @@ try_header_session() {
     rm "$room/typed"
 }
 
-# At a terminal a live run tells how far it is, once when it begins and once for each job that is answered and each segment
-# that is complete, on one line that is blank before the run's own line is written. A carriage return stands before each.
+# At a terminal a live run tells how far it is, when it begins and then as it goes on, a hundred times at most and never less
+# than before, on one line that is blank before the run's own line is written. A carriage return stands before each.
 try_terminal() {
     local jobs=42 segments=4 told why=
     script -qefc "exec '$squall' live < '$examples/live-move.txt'" /dev/null < /dev/null | tr '\r' '\n' > "$room/terminal"
     grep " jobs, " "$room/terminal" > "$room/told" || true
     told=$(wc -l < "$room/told")
-    if [ "$told" != $((1 + jobs + segments)) ]; then why="$told lines of progress"; fi
+    if [ "$told" -gt 100 ]; then why="$told lines of progress"; fi
+    if ! awk '$1 < jobs || $5 < segments { exit 1 } { jobs = $1; segments = $5 }' "$room/told"; then why='less than before'; fi
     if [ "$(head -n 1 "$room/told")" != "0 of $jobs jobs, 0 of $segments segments" ]; then why='another first line'; fi
     if ! grep -qx "$jobs of $jobs jobs, $segments of $segments segments" "$room/told"; then why='no line of the whole'; fi
     printf '%40s\n%s\n' '' 'sound 21 families 41 committed' > "$room/wanted"
@@ -365,15 +465,23 @@ try_command_lines() {
     answer help_of_live 0 live --help
     answer help_of_live 0 live -h
     answer help_of_live 0 help live
+    answer help_of_explain 0 explain --help
+    answer help_of_explain 0 help explain
     answer version 0 --version
     answer version 0 -V
     answer no_subcommand 2
     answer unknown_subcommand 2 walk
     answer similar_subcommand 2 rum
     answer unknown_option 2 --all
-    answer word_too_many 2 run fast
-    answer word_too_many_for_ranges 2 ranges fast
-    answer word_too_many_for_live 2 live fast
+    answer word_too_many 2 run slow fast
+    answer word_too_many_for_ranges 2 ranges slow fast
+    answer word_too_many_for_live 2 live slow fast
+    answer word_too_many_for_explain 2 explain 216 fast
+    answer unknown_number 2 explain 999
+    answer number_that_is_none 2 explain many
+    answer number_too_large 2 explain 65536
+    answer echo_twice 2 run --echo --echo
+    answer echo_with_a_value 2 run --echo=yes
     answer no_turns 2 live --turns 0
     answer too_many_turns 2 live --turns 1000000001
     answer no_pumps 2 live --pumps 0
@@ -434,6 +542,9 @@ for program in "${programs[@]}"; do
     compare_all "$tests/listings" ranges
     compare_all "$room/limits" run
     try_examples
+    try_numbers
+    try_echoes
+    try_files
     try_lives
     try_live_rounds
     try_live_limits

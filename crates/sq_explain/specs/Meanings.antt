@@ -1,5 +1,7 @@
 -- What the numbers that a user sees mean, and what is told of them.
-use Rattle.std.specs.Prelude.{◌==◌, ℕ, List, ◌∷◌, ◌++◌, [], Option, find, option_map, decimal, codes}
+use Rattle.std.specs.Prelude.{◌≡◌, ◌==◌, ℕ, Bool, true, false, List, ◌∷◌, ◌++◌, [], Option, Some, None, find, map, option_map, decimal, codes}
+use Rattle.std.specs.List.{flat_map}
+use Rattle.std.specs.Io.KnownBytes.{Appends}
 use Rattle.sq_explain.specs.declared.table.Entry.{Entry}
 
 -- each number, with what it means
@@ -77,3 +79,27 @@ meaning_of number = option_map (λ row. row.1) (find (λ row. row.0 == number) m
 abbrev pub entry_text : Entry → List ℕ
 entry_text entry =
     decimal entry.number ++ 32 ∷ entry.meaning.now ++ codes "\n    " ++ entry.given.now ++ codes "\n    " ++ entry.advice.now ++ 10 ∷ []
+
+-- the entries of all numbers are written
+pub record TellsAll (before now : Option (List ℕ)) : Type 0 where
+  pub entries : List Entry
+  pub are : map (λ entry. (entry.number, entry.meaning.now)) entries ≡ meanings
+  pub written : Appends before now (flat_map entry_text entries)
+
+-- the entry of this number is written
+pub record TellsOne (number : ℕ) (before now : Option (List ℕ)) : Type 0 where
+  pub entry : Entry
+  pub is : entry.number ≡ number
+  pub means : meaning_of number ≡ Some entry.meaning.now
+  pub written : Appends before now (entry_text entry)
+
+-- nothing is written of this number, which has no entry
+pub record TellsNothing (number : ℕ) (before now : Option (List ℕ)) : Type 0 where
+  pub unknown : meaning_of number ≡ None
+  pub written : Appends before now []
+
+-- what is written of this number, or of all; told says whether there is something to tell
+abbrev pub Explains : Option ℕ → Option (List ℕ) → Option (List ℕ) → Bool → Type 0
+Explains None before now told = TellsAll before now × (told ≡ true)
+Explains (Some number) before now true = TellsOne number before now
+Explains (Some number) before now false = TellsNothing number before now

@@ -1,8 +1,8 @@
 // What is told of numbers.
-ghost use Rattle.std.specs.Prelude.{◌≡◌, OnOk, IfSome, map, option_map};
+ghost use Rattle.std.specs.Prelude.{◌≡◌, IfOk, OnOk, IfSome, map, option_map};
 ghost use Rattle.std.specs.List.{flat_map};
 ghost use Rattle.std.specs.Io.KnownBytes.{Appends};
-ghost use Rattle.sq_explain.specs.Meanings.{meanings, meaning_of, entry_text};
+ghost use Rattle.sq_explain.specs.Meanings.{meanings, meaning_of, entry_text, Explains};
 
 use crate::table::{ENTRIES, Entry};
 use std::io;
@@ -45,4 +45,31 @@ pub fn write_entries<W: Write>(writer: &mut W, entries: &[Entry]) -> io::Result<
         write_entry(writer, entry)?;
     }
     Ok(())
+}
+
+/// Writes the entry of this number, or all entries where there is none. Whether there is such an entry: else nothing is
+/// written. An error is a write or a flush that failed.
+pub fn explain<W: Write>(writer: &mut W, number: Option<u16>) -> io::Result<bool>
+    ensures { IfOk result (Explains number (W.contents writer.old) (W.contents writer.new)) }
+{
+    let is_told = write_told(writer, number)?;
+    writer.flush()?;
+    Ok(is_told)
+}
+
+// Writes the entry of this number, or all entries where there is none, and leaves what is written to be flushed.
+fn write_told<W: Write>(writer: &mut W, number: Option<u16>) -> io::Result<bool>
+    ensures { IfOk result (Explains number (W.contents writer.old) (W.contents writer.new)) }
+{
+    let Some(number) = number else {
+        write_entries(writer, entries())?;
+        return Ok(true);
+    };
+    match entry(number) {
+        Some(entry) => {
+            write_entry(writer, &entry)?;
+            Ok(true)
+        }
+        None => Ok(false),
+    }
 }

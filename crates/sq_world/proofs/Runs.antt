@@ -1,5 +1,5 @@
 -- Runs of whole inputs.
-use Rattle.std.proofs.Common.{◌≡◌, ℕ, List, [], Option, inl, inr, refl, subst, ◌∙◌}
+use Rattle.std.proofs.Common.{◌≡◌, ℕ, Bool, List, [], Option, inl, inr, refl, subst, ◌∙◌}
 use Rattle.std.specs.Prelude.{None, Result, Ok, Err, IfOk}
 use Rattle.std.specs.Io.KnownBytes.{Appends, Keeps}
 use Rattle.sq_schema.specs.declared.schema.TheConstants.{MAX_TABLES}
@@ -21,16 +21,16 @@ use Rattle.sq_world.specs.Run.{IsFault, IsRun}
 use Rattle.sq_world.specs.Script.{LeadsTo, IsWritten}
 use Rattle.sq_world.proofs.Kept.{kept}
 
-abbrev RunsLines : LinesValue → Option (List ℕ) → Option (List ℕ) → Ending → Type 0
-RunsLines lines before now ending = (given : List PieceValue) × CanCome lines given × (out : List ℕ) × Appends before now out × IsRun MAX_TABLES given out ending
+abbrev RunsLines : Bool → LinesValue → Option (List ℕ) → Option (List ℕ) → Ending → Type 0
+RunsLines echoes lines before now ending = (given : List PieceValue) × CanCome lines given × (out : List ℕ) × Appends before now out × IsRun echoes MAX_TABLES given out ending
 
 -- a script that is run from a header's opening
-pub run_from : {E : Type 0} (r : Result Ending E) (tables : ℕ) (begin lines : LinesValue) (before now : Option (List ℕ)) (w : WorldValue) → tables ≡ MAX_TABLES
+pub run_from : {E : Type 0} (echoes : Bool) (r : Result Ending E) (tables : ℕ) (begin lines : LinesValue) (before now : Option (List ℕ)) (w : WorldValue) → tables ≡ MAX_TABLES
     → (o : OpeningValue) × LeadsTo o [] w × Leaves begin lines (λ all left. Opens tables (Ok o) left (header_of tables all))
-    → IfOk r (λ ending. (o : OpeningValue) (t : Trace) → LeadsTo o t w → o.tables ≡ tables → IsWritten o t lines before now ending)
-    → IfOk r (RunsLines begin before now)
-run_from (Err e) tables begin lines before now w eight opens writes = tt
-run_from (Ok ending) tables begin lines before now w eight opens writes =
+    → IfOk r (λ ending. (o : OpeningValue) (t : Trace) → LeadsTo o t w → o.tables ≡ tables → IsWritten echoes o t lines before now ending)
+    → IfOk r (RunsLines echoes begin before now)
+run_from echoes (Err e) tables begin lines before now w eight opens writes = tt
+run_from echoes (Ok ending) tables begin lines before now w eight opens writes =
     let o = opens.0 in
     let some = some_pieces lines in
     let there = opens.2 some.pieces some.can_come in
@@ -39,11 +39,11 @@ run_from (Ok ending) tables begin lines before now w eight opens writes =
     (all.0, all.1, written.out, written.written, inl (record { opening = o; script = written.pieces; header = subst (λ n. Opens n (Ok o) written.pieces (header_of n all.0)) eight all.2; is_opening = opens.1.is_opening; writes = written.writes }))
 
 -- a header that is refused
-pub run_refused : {E : Type 0} (r : Result Ending E) (tables : ℕ) (fault : LocatedFault) (begin lines : LinesValue) (before now : Option (List ℕ)) → tables ≡ MAX_TABLES
+pub run_refused : {E : Type 0} (echoes : Bool) (r : Result Ending E) (tables : ℕ) (fault : LocatedFault) (begin lines : LinesValue) (before now : Option (List ℕ)) → tables ≡ MAX_TABLES
     → Leaves begin lines (λ all left. Opens tables (Err fault) left (header_of tables all))
-    → IfOk r (λ ending. (out : List ℕ) × Appends before now out × IsFault fault out ending) → IfOk r (RunsLines begin before now)
-run_refused (Err e) tables fault begin lines before now eight opens wrote = tt
-run_refused (Ok ending) tables fault begin lines before now eight opens wrote =
+    → IfOk r (λ ending. (out : List ℕ) × Appends before now out × IsFault fault out ending) → IfOk r (RunsLines echoes begin before now)
+run_refused echoes (Err e) tables fault begin lines before now eight opens wrote = tt
+run_refused echoes (Ok ending) tables fault begin lines before now eight opens wrote =
     let some = some_pieces lines in
     let all = opens some.pieces some.can_come in
     (all.0, all.1, wrote.0, wrote.1, inr (record { fault = fault; left = some.pieces; header = subst (λ n. Opens n (Err fault) some.pieces (header_of n all.0)) eight all.2; wrote = wrote.2 }))

@@ -1,5 +1,5 @@
 -- A script, line by line.
-use Rattle.std.proofs.Common.{◌≡◌, ℕ, List, [], ◌∷◌, ◌++◌, Option, inl, inr, refl, sym, ap, ◌∙◌, subst, append_assoc}
+use Rattle.std.proofs.Common.{◌≡◌, ℕ, Bool, List, [], ◌∷◌, ◌++◌, Option, inl, inr, refl, sym, ap, ◌∙◌, subst, append_assoc}
 use Rattle.std.specs.Prelude.{◌+◌, true, Some, Result, Ok, Err, IfOk, OnOk}
 use Rattle.std.specs.Io.KnownBytes.{Appends, Keeps}
 use Rattle.sq_ranges.specs.OpeningValue.{OpeningValue}
@@ -20,7 +20,6 @@ use Rattle.sq_text.specs.declared.fault.LineFault.TheVariants as faults
 use Rattle.sq_text.specs.Steps.{step_of, begins_txn}
 use Rattle.sq_text.specs.Words.{words_of}
 use Rattle.sq_text.specs.Faults.{line_fault_number, IsStep}
-use Rattle.sq_text.specs.Texts.{answer_line, refused_line}
 use Rattle.sq_lines.specs.declared.buffer.TheConstants.{MAX_UNENDED}
 use Rattle.sq_lines.specs.declared.reader.TheConstants.{MAX_LINES}
 use Rattle.sq_lines.specs.Pieces.{PieceValue, Line, Rest, Failed, Endless, TooMany, next_line_number}
@@ -30,135 +29,137 @@ use Rattle.sq_text.proofs.Appending.{both}
 use Rattle.sq_world.specs.declared.ending.Ending.{Ending}
 use Rattle.sq_world.specs.declared.ending.Ending.TheVariants.{Done}
 use Rattle.sq_state.specs.Dump.{dump}
+use Rattle.sq_world.specs.Echo.{answer_text, refused_text}
 use Rattle.sq_world.specs.Run.{Writes, IsFault, AnswersLine}
 use Rattle.sq_world.specs.Script.{LeadsTo, IsAnswered, IsWritten}
 use Rattle.sq_state.proofs.Dumps.{nothing}
 use Rattle.sq_world.proofs.Kept.{kept}
 
--- the line spells a step, which is answered
-pub stepped : (o : OpeningValue) (t : Trace) (tables : ℕ) (line : List ℕ) (step : Step) (given : Answer) (before now : Option (List ℕ)) (w new : WorldValue) → LeadsTo o t w → o.tables ≡ tables → Ok step ≡ step_of tables line
-    → KeepsHeadline o ((step, given) ∷ t) new → Appends before now (answer_line given) → IsAnswered o t line before now new
-stepped o t tables line step given before now w new leads same spelled goes written =
-    record {
-      after = (step, given) ∷ t;
-      text = answer_line given;
-      answers_line = inl (record { step = step; given = given; spelled = ap (λ k. step_of k line) same ∙ sym spelled; answered = goes.legal.0; goes_on = refl; says = refl });
-      leads = record { is_opening = leads.is_opening; legal = goes.legal; holds = goes.holds };
-      written = written;
-    }
+module _ (echoes : Bool) where
+  -- the line spells a step, which is answered
+  pub stepped : (o : OpeningValue) (t : Trace) (tables : ℕ) (line : List ℕ) (step : Step) (given : Answer) (before now : Option (List ℕ)) (w new : WorldValue) → LeadsTo o t w → o.tables ≡ tables → Ok step ≡ step_of tables line
+      → KeepsHeadline o ((step, given) ∷ t) new → Appends before now (answer_text echoes line given) → IsAnswered echoes o t line before now new
+  stepped o t tables line step given before now w new leads same spelled goes written =
+      record {
+        after = (step, given) ∷ t;
+        text = answer_text echoes line given;
+        answers_line = inl (record { step = step; given = given; spelled = ap (λ k. step_of k line) same ∙ sym spelled; answered = goes.legal.0; goes_on = refl; says = refl });
+        leads = record { is_opening = leads.is_opening; legal = goes.legal; holds = goes.holds };
+        written = written;
+      }
 
--- what was written so far of a script whose lines began so, where these are its lines now
-pub record Before (o : OpeningValue) (t : Trace) (begin lines : LinesValue) (first now : Option (List ℕ)) (w : WorldValue) : Type 0 where
-  pub so_far : List ℕ
-  pub here : Trace
-  pub leads : LeadsTo o here w
-  pub written : Appends first now so_far
-  pub goes_on : (left : List PieceValue) (later : List ℕ) (ending : Ending) → CanCome lines left → Writes o here left later ending → (all : List PieceValue) × CanCome begin all × Writes o t all (so_far ++ later) ending
+  -- what was written so far of a script whose lines began so, where these are its lines now
+  pub record Before (o : OpeningValue) (t : Trace) (begin lines : LinesValue) (first now : Option (List ℕ)) (w : WorldValue) : Type 0 where
+    pub so_far : List ℕ
+    pub here : Trace
+    pub leads : LeadsTo o here w
+    pub written : Appends first now so_far
+    pub goes_on : (left : List PieceValue) (later : List ℕ) (ending : Ending) → CanCome lines left → Writes echoes o here left later ending → (all : List PieceValue) × CanCome begin all × Writes echoes o t all (so_far ++ later) ending
 
-pub begun : (o : OpeningValue) (t : Trace) (begin : LinesValue) (first : Option (List ℕ)) (w : WorldValue) → LeadsTo o t w → Before o t begin begin first first w
-begun o t begin first w leads = record { so_far = []; here = t; leads = leads; written = nothing first; goes_on = λ left later ending can writes. (left, can, writes) }
+  pub begun : (o : OpeningValue) (t : Trace) (begin : LinesValue) (first : Option (List ℕ)) (w : WorldValue) → LeadsTo o t w → Before o t begin begin first first w
+  begun o t begin first w leads = record { so_far = []; here = t; leads = leads; written = nothing first; goes_on = λ left later ending can writes. (left, can, writes) }
 
--- a line more
-pub on_line : (o : OpeningValue) (t : Trace) (begin was lines : LinesValue) (first mid now : Option (List ℕ)) (w new : WorldValue) (b : Before o t begin was first mid w) → CameBefore was (Line (next_line_number was.lines) lines.piece) lines
-    → IsAnswered o b.here lines.piece mid now new → Before o t begin lines first now new
-on_line o t begin was lines first mid now w new b came answered =
-    record {
-      so_far = b.so_far ++ answered.text;
-      here = answered.after;
-      leads = answered.leads;
-      written = both first mid now b.so_far answered.text _ b.written answered.written refl;
-      goes_on = λ left later ending can writes.
-          let all = b.goes_on (Line (next_line_number was.lines) lines.piece ∷ left) (answered.text ++ later) ending (came left can) (answered.after, answered.text, later, answered.answers_line, refl, writes) in
-          (all.0, all.1, subst (λ out. Writes o t all.0 out ending) (sym (append_assoc b.so_far answered.text later)) all.2);
-    }
+  -- a line more
+  pub on_line : (o : OpeningValue) (t : Trace) (begin was lines : LinesValue) (first mid now : Option (List ℕ)) (w new : WorldValue) (b : Before o t begin was first mid w) → CameBefore was (Line (next_line_number was.lines) lines.piece) lines
+      → IsAnswered echoes o b.here lines.piece mid now new → Before o t begin lines first now new
+  on_line o t begin was lines first mid now w new b came answered =
+      record {
+        so_far = b.so_far ++ answered.text;
+        here = answered.after;
+        leads = answered.leads;
+        written = both first mid now b.so_far answered.text _ b.written answered.written refl;
+        goes_on = λ left later ending can writes.
+            let all = b.goes_on (Line (next_line_number was.lines) lines.piece ∷ left) (answered.text ++ later) ending (came left can) (answered.after, answered.text, later, answered.answers_line, refl, writes) in
+            (all.0, all.1, subst (λ out. Writes echoes o t all.0 out ending) (sym (append_assoc b.so_far answered.text later)) all.2);
+      }
 
--- more was read, and what was written went out
-pub on_read : (o : OpeningValue) (t : Trace) (begin was lines : LinesValue) (first mid now : Option (List ℕ)) (w : WorldValue) → Before o t begin was first mid w → Keeps mid now → ((ps : List PieceValue) → CanCome lines ps → CanCome was ps) → Before o t begin lines first now w
-on_read o t begin was lines first mid now w b keeps before =
-    record { so_far = b.so_far; here = b.here; leads = b.leads; written = kept first mid now b.so_far b.written keeps; goes_on = λ left later ending can writes. b.goes_on left later ending (before left can) writes }
+  -- more was read, and what was written went out
+  pub on_read : (o : OpeningValue) (t : Trace) (begin was lines : LinesValue) (first mid now : Option (List ℕ)) (w : WorldValue) → Before o t begin was first mid w → Keeps mid now → ((ps : List PieceValue) → CanCome lines ps → CanCome was ps) → Before o t begin lines first now w
+  on_read o t begin was lines first mid now w b keeps before =
+      record { so_far = b.so_far; here = b.here; leads = b.leads; written = kept first mid now b.so_far b.written keeps; goes_on = λ left later ending can writes. b.goes_on left later ending (before left can) writes }
 
--- the end of the run, where this comes last
-ended_by : (o : OpeningValue) (t : Trace) (begin was : LinesValue) (left : List PieceValue) (out : List ℕ) (ending : Ending) (first mid now : Option (List ℕ)) (w : WorldValue) (b : Before o t begin was first mid w) → CanCome was left → Writes o b.here left out ending → Appends mid now out → IsWritten o t begin first now ending
-ended_by o t begin was left out ending first mid now w b can writes written =
-    let all = b.goes_on left out ending can writes in
-    record { pieces = all.0; can_come = all.1; out = b.so_far ++ out; writes = all.2; written = both first mid now b.so_far out _ b.written written refl }
+  -- the end of the run, where this comes last
+  ended_by : (o : OpeningValue) (t : Trace) (begin was : LinesValue) (left : List PieceValue) (out : List ℕ) (ending : Ending) (first mid now : Option (List ℕ)) (w : WorldValue) (b : Before o t begin was first mid w) → CanCome was left → Writes echoes o b.here left out ending → Appends mid now out → IsWritten echoes o t begin first now ending
+  ended_by o t begin was left out ending first mid now w b can writes written =
+      let all = b.goes_on left out ending can writes in
+      record { pieces = all.0; can_come = all.1; out = b.so_far ++ out; writes = all.2; written = both first mid now b.so_far out _ b.written written refl }
 
-abbrev AllBefore : ℕ → LinesValue → LinesValue → Option (List ℕ) → Option (List ℕ) → WorldValue → WorldValue → Type 0
-AllBefore tables begin was first mid start w = (o : OpeningValue) (t : Trace) → LeadsTo o t start → o.tables ≡ tables → Before o t begin was first mid w
+  abbrev AllBefore : ℕ → LinesValue → LinesValue → Option (List ℕ) → Option (List ℕ) → WorldValue → WorldValue → Type 0
+  AllBefore tables begin was first mid start w = (o : OpeningValue) (t : Trace) → LeadsTo o t start → o.tables ≡ tables → Before o t begin was first mid w
 
-abbrev AllWritten : ℕ → LinesValue → Option (List ℕ) → Option (List ℕ) → WorldValue → Ending → Type 0
-AllWritten tables begin first now start ending = (o : OpeningValue) (t : Trace) → LeadsTo o t start → o.tables ≡ tables → IsWritten o t begin first now ending
+  abbrev AllWritten : ℕ → LinesValue → Option (List ℕ) → Option (List ℕ) → WorldValue → Ending → Type 0
+  AllWritten tables begin first now start ending = (o : OpeningValue) (t : Trace) → LeadsTo o t start → o.tables ≡ tables → IsWritten echoes o t begin first now ending
 
--- the end of the script
-pub at_end : {E : Type 0} (r : Result Ending E) (tables : ℕ) (begin was : LinesValue) (first mid now : Option (List ℕ)) (start w : WorldValue) → AllBefore tables begin was first mid start w → CanCome was []
-    → IfOk r (λ ending. ending ≡ Done) → OnOk r (Appends mid now (dump w)) → IfOk r (AllWritten tables begin first now start)
-at_end (Err e) tables begin was first mid now start w before none is written = tt
-at_end (Ok ending) tables begin was first mid now start w before none is written =
-    λ o t leads same. let b = before o t leads same in ended_by o t begin was [] (dump w) ending first mid now w b none (record { world = w; holds = b.leads.holds; says = refl }, is) written
+  -- the end of the script
+  pub at_end : {E : Type 0} (r : Result Ending E) (tables : ℕ) (begin was : LinesValue) (first mid now : Option (List ℕ)) (start w : WorldValue) → AllBefore tables begin was first mid start w → CanCome was []
+      → IfOk r (λ ending. ending ≡ Done) → OnOk r (Appends mid now (dump w)) → IfOk r (AllWritten tables begin first now start)
+  at_end (Err e) tables begin was first mid now start w before none is written = tt
+  at_end (Ok ending) tables begin was first mid now start w before none is written =
+      λ o t leads same. let b = before o t leads same in ended_by o t begin was [] (dump w) ending first mid now w b none (record { world = w; holds = b.leads.holds; says = refl }, is) written
 
--- a rest, and then the end of the script
-pub at_rest : {E : Type 0} (r : Result Ending E) (tables : ℕ) (begin was : LinesValue) (line : ℕ) (bytes : List ℕ) (number : ℕ) (first mid said now : Option (List ℕ)) (start w : WorldValue) → AllBefore tables begin was first mid start w → CanCome was (Rest line bytes ∷ [])
-    → number ≡ line_fault_number faults.NotAStep → Appends mid said (refused_line number) → IfOk r (λ ending. ending ≡ Done) → OnOk r (Appends said now (dump w)) → IfOk r (AllWritten tables begin first now start)
-at_rest (Err e) tables begin was line bytes number first mid said now start w before rest says told is written = tt
-at_rest (Ok ending) tables begin was line bytes number first mid said now start w before rest says told is written =
-    λ o t leads same.
-    let b = before o t leads same in
-    let refused : Appends mid said (refused_line (line_fault_number faults.NotAStep)) = subst (λ n. Appends mid said (refused_line n)) says told in
-    ended_by o t begin was (Rest line bytes ∷ []) (refused_line (line_fault_number faults.NotAStep) ++ dump w) ending first mid now w b rest (dump w, refl, (record { world = w; holds = b.leads.holds; says = refl }, is))
-    (both mid said now (refused_line (line_fault_number faults.NotAStep)) (dump w) _ refused written refl)
+  -- a rest, and then the end of the script
+  pub at_rest : {E : Type 0} (r : Result Ending E) (tables : ℕ) (begin was : LinesValue) (line : ℕ) (bytes : List ℕ) (number : ℕ) (first mid said now : Option (List ℕ)) (start w : WorldValue) → AllBefore tables begin was first mid start w → CanCome was (Rest line bytes ∷ [])
+      → number ≡ line_fault_number faults.NotAStep → Appends mid said (refused_text echoes bytes number) → IfOk r (λ ending. ending ≡ Done) → OnOk r (Appends said now (dump w)) → IfOk r (AllWritten tables begin first now start)
+  at_rest (Err e) tables begin was line bytes number first mid said now start w before rest says told is written = tt
+  at_rest (Ok ending) tables begin was line bytes number first mid said now start w before rest says told is written =
+      λ o t leads same.
+      let b = before o t leads same in
+      let refused : Appends mid said (refused_text echoes bytes (line_fault_number faults.NotAStep)) = subst (λ n. Appends mid said (refused_text echoes bytes n)) says told in
+      ended_by o t begin was (Rest line bytes ∷ []) (refused_text echoes bytes (line_fault_number faults.NotAStep) ++ dump w) ending first mid now w b rest (dump w, refl, (record { world = w; holds = b.leads.holds; says = refl }, is))
+      (both mid said now (refused_text echoes bytes (line_fault_number faults.NotAStep)) (dump w) _ refused written refl)
 
--- a fault, which ends the run
-at_fault : {E : Type 0} (r : Result Ending E) (tables : ℕ) (begin was : LinesValue) (left : List PieceValue) (fault : LocatedFault) (first mid now : Option (List ℕ)) (start w : WorldValue) → AllBefore tables begin was first mid start w → CanCome was left
-    → ((o : OpeningValue) (t : Trace) (out : List ℕ) (ending : Ending) → IsFault fault out ending → Writes o t left out ending)
-    → IfOk r (λ ending. (out : List ℕ) × Appends mid now out × IsFault fault out ending) → IfOk r (AllWritten tables begin first now start)
-at_fault (Err e) tables begin was left fault first mid now start w before can writes over = tt
-at_fault (Ok ending) tables begin was left fault first mid now start w before can writes over =
-    λ o t leads same. let b = before o t leads same in ended_by o t begin was left over.0 ending first mid now w b can (writes o b.here over.0 ending over.2) over.1
+  -- a fault, which ends the run
+  at_fault : {E : Type 0} (r : Result Ending E) (tables : ℕ) (begin was : LinesValue) (left : List PieceValue) (fault : LocatedFault) (first mid now : Option (List ℕ)) (start w : WorldValue) → AllBefore tables begin was first mid start w → CanCome was left
+      → ((o : OpeningValue) (t : Trace) (out : List ℕ) (ending : Ending) → IsFault fault out ending → Writes echoes o t left out ending)
+      → IfOk r (λ ending. (out : List ℕ) × Appends mid now out × IsFault fault out ending) → IfOk r (AllWritten tables begin first now start)
+  at_fault (Err e) tables begin was left fault first mid now start w before can writes over = tt
+  at_fault (Ok ending) tables begin was left fault first mid now start w before can writes over =
+      λ o t leads same. let b = before o t leads same in ended_by o t begin was left over.0 ending first mid now w b can (writes o b.here over.0 ending over.2) over.1
 
--- the reading failed, or it ended in a line without end, or behind the last line that may come
-pub at_failed : {E : Type 0} (r : Result Ending E) (tables : ℕ) (begin was : LinesValue) (line : ℕ) (bytes : List ℕ) (fault : LocatedFault) (first mid now : Option (List ℕ)) (start w : WorldValue) → AllBefore tables begin was first mid start w → CanCome was (Failed line bytes ∷ [])
-    → fault ≡ located ReadFailed (Some (Later line)) → IfOk r (λ ending. (out : List ℕ) × Appends mid now out × IsFault fault out ending) → IfOk r (AllWritten tables begin first now start)
-at_failed r tables begin was line bytes fault first mid now start w before can is over = at_fault r tables begin was (Failed line bytes ∷ []) fault first mid now start w before can (λ o t out ending wrote. subst (λ f. IsFault f out ending) is wrote) over
+  -- the reading failed, or it ended in a line without end, or behind the last line that may come
+  pub at_failed : {E : Type 0} (r : Result Ending E) (tables : ℕ) (begin was : LinesValue) (line : ℕ) (bytes : List ℕ) (fault : LocatedFault) (first mid now : Option (List ℕ)) (start w : WorldValue) → AllBefore tables begin was first mid start w → CanCome was (Failed line bytes ∷ [])
+      → fault ≡ located ReadFailed (Some (Later line)) → IfOk r (λ ending. (out : List ℕ) × Appends mid now out × IsFault fault out ending) → IfOk r (AllWritten tables begin first now start)
+  at_failed r tables begin was line bytes fault first mid now start w before can is over = at_fault r tables begin was (Failed line bytes ∷ []) fault first mid now start w before can (λ o t out ending wrote. subst (λ f. IsFault f out ending) is wrote) over
 
-pub at_too_many : {E : Type 0} (r : Result Ending E) (tables : ℕ) (begin was : LinesValue) (fault : LocatedFault) (first mid now : Option (List ℕ)) (start w : WorldValue) → AllBefore tables begin was first mid start w → CanCome was (TooMany ∷ [])
-    → fault ≡ located TooLong (Some (Later (MAX_LINES + 1))) → IfOk r (λ ending. (out : List ℕ) × Appends mid now out × IsFault fault out ending) → IfOk r (AllWritten tables begin first now start)
-at_too_many r tables begin was fault first mid now start w before can is over = at_fault r tables begin was (TooMany ∷ []) fault first mid now start w before can (λ o t out ending wrote. subst (λ f. IsFault f out ending) is wrote) over
+  pub at_too_many : {E : Type 0} (r : Result Ending E) (tables : ℕ) (begin was : LinesValue) (fault : LocatedFault) (first mid now : Option (List ℕ)) (start w : WorldValue) → AllBefore tables begin was first mid start w → CanCome was (TooMany ∷ [])
+      → fault ≡ located TooLong (Some (Later (MAX_LINES + 1))) → IfOk r (λ ending. (out : List ℕ) × Appends mid now out × IsFault fault out ending) → IfOk r (AllWritten tables begin first now start)
+  at_too_many r tables begin was fault first mid now start w before can is over = at_fault r tables begin was (TooMany ∷ []) fault first mid now start w before can (λ o t out ending wrote. subst (λ f. IsFault f out ending) is wrote) over
 
-pub at_long : {E : Type 0} (r : Result Ending E) (tables : ℕ) (begin was : LinesValue) (fault : LocatedFault) (first mid now : Option (List ℕ)) (start w : WorldValue) → AllBefore tables begin was first mid start w → IsLong MAX_UNENDED was
-    → fault ≡ located TooLong (Some (Later (next_line_number was.lines))) → IfOk r (λ ending. (out : List ℕ) × Appends mid now out × IsFault fault out ending) → IfOk r (AllWritten tables begin first now start)
-at_long r tables begin was fault first mid now start w before long is over =
-    let endless = is_endless was long in
-    at_fault r tables begin was (Endless (next_line_number was.lines) endless.bytes ∷ endless.others) fault first mid now start w before endless.can_come (λ o t out ending wrote. subst (λ f. IsFault f out ending) is wrote) over
+  pub at_long : {E : Type 0} (r : Result Ending E) (tables : ℕ) (begin was : LinesValue) (fault : LocatedFault) (first mid now : Option (List ℕ)) (start w : WorldValue) → AllBefore tables begin was first mid start w → IsLong MAX_UNENDED was
+      → fault ≡ located TooLong (Some (Later (next_line_number was.lines))) → IfOk r (λ ending. (out : List ℕ) × Appends mid now out × IsFault fault out ending) → IfOk r (AllWritten tables begin first now start)
+  at_long r tables begin was fault first mid now start w before long is over =
+      let endless = is_endless was long in
+      at_fault r tables begin was (Endless (next_line_number was.lines) endless.bytes ∷ endless.others) fault first mid now start w before endless.can_come (λ o t out ending wrote. subst (λ f. IsFault f out ending) is wrote) over
 
--- the answer to a line that spells no step
-no_step : (o : OpeningValue) (t : Trace) (tables : ℕ) (line : List ℕ) (fault : LineFault) (number : ℕ) → o.tables ≡ tables → Err fault ≡ step_of tables line → number ≡ line_fault_number fault → AnswersLine o t line t (refused_line number)
-no_step o t tables line fault number same read says = inr (inl (record { fault = fault; spelled = ap (λ k. step_of k line) same ∙ sym read; stays = refl; says = ap refused_line says }))
+  -- the answer to a line that spells no step
+  no_step : (o : OpeningValue) (t : Trace) (tables : ℕ) (line : List ℕ) (fault : LineFault) (number : ℕ) → o.tables ≡ tables → Err fault ≡ step_of tables line → number ≡ line_fault_number fault → AnswersLine echoes o t line t (refused_text echoes line number)
+  no_step o t tables line fault number same read says = inr (inl (record { fault = fault; spelled = ap (λ k. step_of k line) same ∙ sym read; stays = refl; says = ap (refused_text echoes line) says }))
 
-refused : (o : OpeningValue) (t : Trace) (tables : ℕ) (line : List ℕ) (fault : LineFault) (number : ℕ) → o.tables ≡ tables → IsStep {A = Step} (Err fault) (step_of tables line)
-    → (◌≡◌ {A = Result Step LineFault} (Err fault) (Err faults.Memory) → begins_txn (words_of line) ≡ true) → number ≡ line_fault_number fault → AnswersLine o t line t (refused_line number)
-refused o t tables line faults.Memory number same read memory says = inr (inr (record { transaction = memory refl; stays = refl; says = ap refused_line says }))
-refused o t tables line faults.NotAStep number same read memory says = no_step o t tables line faults.NotAStep number same read says
-refused o t tables line faults.TooLong number same read memory says = no_step o t tables line faults.TooLong number same read says
-refused o t tables line (faults.Txn fault) number same read memory says = no_step o t tables line (faults.Txn fault) number same read says
+  refused : (o : OpeningValue) (t : Trace) (tables : ℕ) (line : List ℕ) (fault : LineFault) (number : ℕ) → o.tables ≡ tables → IsStep {A = Step} (Err fault) (step_of tables line)
+      → (◌≡◌ {A = Result Step LineFault} (Err fault) (Err faults.Memory) → begins_txn (words_of line) ≡ true) → number ≡ line_fault_number fault → AnswersLine echoes o t line t (refused_text echoes line number)
+  refused o t tables line faults.Memory number same read memory says = inr (inr (record { transaction = memory refl; stays = refl; says = ap (refused_text echoes line) says }))
+  refused o t tables line faults.NotAStep number same read memory says = no_step o t tables line faults.NotAStep number same read says
+  refused o t tables line faults.TooLong number same read memory says = no_step o t tables line faults.TooLong number same read says
+  refused o t tables line (faults.Txn fault) number same read memory says = no_step o t tables line (faults.Txn fault) number same read says
 
--- a step was answered
-pub on_step : {T E : Type 0} (r : Result T E) (tables : ℕ) (line : List ℕ) (step : Step) (given : Answer) (before now : Option (List ℕ)) (w new : WorldValue) → Ok step ≡ step_of tables line
-    → ((o : OpeningValue) (t : Trace) → IsOpening o → IsLegal o t → Holds o t w → KeepsHeadline o ((step, given) ∷ t) new)
-    → OnOk r (Appends before now (answer_line given)) → OnOk r ((o : OpeningValue) (t : Trace) → LeadsTo o t w → o.tables ≡ tables → IsAnswered o t line before now new)
-on_step (Err e) tables line step given before now w new spelled goes written = tt
-on_step (Ok x) tables line step given before now w new spelled goes written =
-    λ o t leads same. stepped o t tables line step given before now w new leads same spelled (goes o t leads.is_opening leads.legal leads.holds) written
+  -- a step was answered
+  pub on_step : {T E : Type 0} (r : Result T E) (tables : ℕ) (line : List ℕ) (step : Step) (given : Answer) (before now : Option (List ℕ)) (w new : WorldValue) → Ok step ≡ step_of tables line
+      → ((o : OpeningValue) (t : Trace) → IsOpening o → IsLegal o t → Holds o t w → KeepsHeadline o ((step, given) ∷ t) new)
+      → OnOk r (Appends before now (answer_text echoes line given)) → OnOk r ((o : OpeningValue) (t : Trace) → LeadsTo o t w → o.tables ≡ tables → IsAnswered echoes o t line before now new)
+  on_step (Err e) tables line step given before now w new spelled goes written = tt
+  on_step (Ok x) tables line step given before now w new spelled goes written =
+      λ o t leads same. stepped o t tables line step given before now w new leads same spelled (goes o t leads.is_opening leads.legal leads.holds) written
 
--- a line that spells no step was refused, or no memory was left to read it
-pub on_refusal : {T E : Type 0} (r : Result T E) (tables : ℕ) (line : List ℕ) (fault : LineFault) (number : ℕ) (before now : Option (List ℕ)) (w : WorldValue) → IsStep {A = Step} (Err fault) (step_of tables line)
-    → (◌≡◌ {A = Result Step LineFault} (Err fault) (Err faults.Memory) → begins_txn (words_of line) ≡ true) → number ≡ line_fault_number fault → OnOk r (Appends before now (refused_line number))
-    → OnOk r ((o : OpeningValue) (t : Trace) → LeadsTo o t w → o.tables ≡ tables → IsAnswered o t line before now w)
-on_refusal (Err e) tables line fault number before now w read memory says written = tt
-on_refusal (Ok x) tables line fault number before now w read memory says written =
-    λ o t leads same. record {
-      after = t;
-      text = refused_line number;
-      answers_line = refused o t tables line fault number same read memory says;
-      leads = leads;
-      written = written;
-    }
+  -- a line that spells no step was refused, or no memory was left to read it
+  pub on_refusal : {T E : Type 0} (r : Result T E) (tables : ℕ) (line : List ℕ) (fault : LineFault) (number : ℕ) (before now : Option (List ℕ)) (w : WorldValue) → IsStep {A = Step} (Err fault) (step_of tables line)
+      → (◌≡◌ {A = Result Step LineFault} (Err fault) (Err faults.Memory) → begins_txn (words_of line) ≡ true) → number ≡ line_fault_number fault → OnOk r (Appends before now (refused_text echoes line number))
+      → OnOk r ((o : OpeningValue) (t : Trace) → LeadsTo o t w → o.tables ≡ tables → IsAnswered echoes o t line before now w)
+  on_refusal (Err e) tables line fault number before now w read memory says written = tt
+  on_refusal (Ok x) tables line fault number before now w read memory says written =
+      λ o t leads same. record {
+        after = t;
+        text = refused_text echoes line number;
+        answers_line = refused o t tables line fault number same read memory says;
+        leads = leads;
+        written = written;
+      }

@@ -1,6 +1,7 @@
 pub mod History
 pub mod Reached
 pub mod Input
+pub mod Echo
 pub mod Run
 pub mod Script
 pub mod Listing

@@ -1,5 +1,5 @@
 -- A run: what is written for an input.
-use Rattle.std.specs.Prelude.{◌≡◌, ◌⊎◌, ℕ, ◌+◌, true, List, [], ◌∷◌, ◌++◌, Option, Some, Ok, Err}
+use Rattle.std.specs.Prelude.{◌≡◌, ◌⊎◌, ℕ, ◌+◌, Bool, true, List, [], ◌∷◌, ◌++◌, Option, Some, Ok, Err}
 use Rattle.std.specs.Io.KnownBytes.{Appends}
 use Rattle.sq_ranges.specs.OpeningValue.{OpeningValue}
 use Rattle.sq_model.specs.declared.step.Step.{Step}
@@ -19,40 +19,41 @@ use Rattle.sq_text.specs.Steps.{step_of, begins_txn}
 use Rattle.sq_text.specs.Faults.{line_fault_number}
 use Rattle.sq_text.specs.InputFaults.{input_fault_number}
 use Rattle.sq_text.specs.Located.{located}
-use Rattle.sq_text.specs.Texts.{answer_line, refused_line, fault_line}
+use Rattle.sq_text.specs.Texts.{fault_line}
 use Rattle.sq_lines.specs.declared.reader.TheConstants.{MAX_LINES}
 use Rattle.sq_lines.specs.Pieces.{PieceValue, Line, Rest, Failed, Endless, TooMany}
 use Rattle.sq_text.specs.Header.{header_of, Opens}
 use Rattle.sq_world.specs.declared.ending.Ending.{Ending}
 use Rattle.sq_world.specs.declared.ending.Ending.TheVariants.{Done, Fault}
 use Rattle.sq_state.specs.Dump.{dump}
+use Rattle.sq_world.specs.Echo.{answer_text, refused_text}
 use Rattle.sq_world.specs.Input.{IsGiven}
 
 -- the line spells a step, which is answered by the history
-pub record IsStepLine (o : OpeningValue) (t : Trace) (line : List ℕ) (after : Trace) (text : List ℕ) : Type 0 where
+pub record IsStepLine (echoes : Bool) (o : OpeningValue) (t : Trace) (line : List ℕ) (after : Trace) (text : List ℕ) : Type 0 where
   pub step : Step
   pub given : Answer
   pub spelled : step_of o.tables line ≡ Ok step
   pub answered : IsAnswer o t step given
   pub goes_on : after ≡ (step, given) ∷ t
-  pub says : text ≡ answer_line given
+  pub says : text ≡ answer_text echoes line given
 
 -- the line spells no step, which is refused by its number
-pub record IsNoStep (o : OpeningValue) (t : Trace) (line : List ℕ) (after : Trace) (text : List ℕ) : Type 0 where
+pub record IsNoStep (echoes : Bool) (o : OpeningValue) (t : Trace) (line : List ℕ) (after : Trace) (text : List ℕ) : Type 0 where
   pub fault : LineFault
   pub spelled : step_of o.tables line ≡ Err fault
   pub stays : after ≡ t
-  pub says : text ≡ refused_line (line_fault_number fault)
+  pub says : text ≡ refused_text echoes line (line_fault_number fault)
 
 -- memory ran out at the words of a transaction, and the line is no step
-pub record IsUnread (t : Trace) (line : List ℕ) (after : Trace) (text : List ℕ) : Type 0 where
+pub record IsUnread (echoes : Bool) (t : Trace) (line : List ℕ) (after : Trace) (text : List ℕ) : Type 0 where
   pub transaction : begins_txn (words_of line) ≡ true
   pub stays : after ≡ t
-  pub says : text ≡ refused_line (line_fault_number line_fault.Memory)
+  pub says : text ≡ refused_text echoes line (line_fault_number line_fault.Memory)
 
--- what a line is answered after this history, and the history after it
-abbrev pub AnswersLine : OpeningValue → Trace → List ℕ → Trace → List ℕ → Type 0
-AnswersLine o t line after text = IsStepLine o t line after text ⊎ (IsNoStep o t line after text ⊎ IsUnread t line after text)
+-- what a line is answered after this history, and the history after it; echoes says whether the line stands before its answer
+abbrev pub AnswersLine : Bool → OpeningValue → Trace → List ℕ → Trace → List ℕ → Type 0
+AnswersLine echoes o t line after text = IsStepLine echoes o t line after text ⊎ (IsNoStep echoes o t line after text ⊎ IsUnread echoes t line after text)
 
 -- at the end of the script the world that the history leads to is dumped
 pub record IsDumped (o : OpeningValue) (t : Trace) (out : List ℕ) : Type 0 where
@@ -66,22 +67,22 @@ pub record IsFault (located : LocatedFault) (out : List ℕ) (ending : Ending) :
   pub ends : ending ≡ Fault located
 
 -- what is written for the pieces of a script after this history, and how the run ends
-abbrev pub Writes : OpeningValue → Trace → List PieceValue → List ℕ → Ending → Type 0
-Writes o t [] out ending = IsDumped o t out × (ending ≡ Done)
-Writes o t (Line number line ∷ others) out ending =
-    (after : Trace) × (text : List ℕ) × (later : List ℕ) × AnswersLine o t line after text × (out ≡ text ++ later) × Writes o after others later ending
-Writes o t (Rest number bytes ∷ others) out ending = (later : List ℕ) × (out ≡ refused_line (line_fault_number line_fault.NotAStep) ++ later) × Writes o t others later ending
-Writes o t (Failed number bytes ∷ others) out ending = IsFault (located ReadFailed (Some (Later number))) out ending
-Writes o t (Endless number bytes ∷ others) out ending = IsFault (located TooLong (Some (Later number))) out ending
-Writes o t (TooMany ∷ others) out ending = IsFault (located TooLong (Some (Later (MAX_LINES + 1)))) out ending
+abbrev pub Writes : Bool → OpeningValue → Trace → List PieceValue → List ℕ → Ending → Type 0
+Writes echoes o t [] out ending = IsDumped o t out × (ending ≡ Done)
+Writes echoes o t (Line number line ∷ others) out ending =
+    (after : Trace) × (text : List ℕ) × (later : List ℕ) × AnswersLine echoes o t line after text × (out ≡ text ++ later) × Writes echoes o after others later ending
+Writes echoes o t (Rest number bytes ∷ others) out ending = (later : List ℕ) × (out ≡ refused_text echoes bytes (line_fault_number line_fault.NotAStep) ++ later) × Writes echoes o t others later ending
+Writes echoes o t (Failed number bytes ∷ others) out ending = IsFault (located ReadFailed (Some (Later number))) out ending
+Writes echoes o t (Endless number bytes ∷ others) out ending = IsFault (located TooLong (Some (Later number))) out ending
+Writes echoes o t (TooMany ∷ others) out ending = IsFault (located TooLong (Some (Later (MAX_LINES + 1)))) out ending
 
 -- the header is read to this opening, and then the script is run from it
-pub record IsRunFrom (tables : ℕ) (given : List PieceValue) (out : List ℕ) (ending : Ending) : Type 0 where
+pub record IsRunFrom (echoes : Bool) (tables : ℕ) (given : List PieceValue) (out : List ℕ) (ending : Ending) : Type 0 where
   pub opening : OpeningValue
   pub script : List PieceValue
   pub header : Opens tables (Ok opening) script (header_of tables given)
   pub is_opening : IsOpening opening
-  pub writes : Writes opening [] script out ending
+  pub writes : Writes echoes opening [] script out ending
 
 -- the header has a fault, which is its first, or memory ran out
 pub record IsRefused (tables : ℕ) (given : List PieceValue) (out : List ℕ) (ending : Ending) : Type 0 where
@@ -91,12 +92,12 @@ pub record IsRefused (tables : ℕ) (given : List PieceValue) (out : List ℕ) (
   pub wrote : IsFault fault out ending
 
 -- what is written for the pieces of an input, and how the run ends
-abbrev pub IsRun : ℕ → List PieceValue → List ℕ → Ending → Type 0
-IsRun tables given out ending = IsRunFrom tables given out ending ⊎ IsRefused tables given out ending
+abbrev pub IsRun : Bool → ℕ → List PieceValue → List ℕ → Ending → Type 0
+IsRun echoes tables given out ending = IsRunFrom echoes tables given out ending ⊎ IsRefused tables given out ending
 
 -- what a reader gives is run, and what is written for it goes to the end of what a writer holds
-abbrev pub Runs : ℕ → Option (List ℕ) → Option (List ℕ) → Option (List ℕ) → Ending → Type 0
-Runs tables known before now ending = (given : List PieceValue) × IsGiven known given × (out : List ℕ) × Appends before now out × IsRun tables given out ending
+abbrev pub Runs : Bool → ℕ → Option (List ℕ) → Option (List ℕ) → Option (List ℕ) → Ending → Type 0
+Runs echoes tables known before now ending = (given : List PieceValue) × IsGiven known given × (out : List ℕ) × Appends before now out × IsRun echoes tables given out ending
 
 -- the exit status of an ending
 abbrev pub exit_status_of : Ending → ℕ

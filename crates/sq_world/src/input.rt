@@ -1,5 +1,5 @@
 // Inputs: bytes in, bytes out.
-ghost use Rattle.std.specs.Prelude.{◌≡◌, List, ℕ, [], Ok, Err, IfOk, IfErr};
+ghost use Rattle.std.specs.Prelude.{◌≡◌, false, List, ℕ, [], Ok, Err, IfOk, IfErr};
 ghost use Rattle.std.specs.Io.KnownBytes.{Appends};
 ghost use Rattle.sq_ranges.specs.OpeningValue.{OpeningValue};
 ghost use Rattle.sq_lines.specs.Pieces.{PieceValue};
@@ -31,7 +31,7 @@ pub fn run<R: Read, W: Write>(
     reader: &mut R,
     writer: &mut W,
 ) -> Result<Ending, WriteFault>
-    ensures { IfOk result (Runs MAX_TABLES (R.remaining reader.old) (W.contents writer.old) (W.contents writer.new)) }
+    ensures { IfOk result (Runs false MAX_TABLES (R.remaining reader.old) (W.contents writer.old) (W.contents writer.new)) }
 {
     run_and_keep(alloc, reader, writer, &mut None)
 }
@@ -44,9 +44,23 @@ pub fn run_and_keep<R: Read, W: Write>(
     writer: &mut W,
     kept: &mut Option<World>,
 ) -> Result<Ending, WriteFault>
-    ensures { IfOk result (Runs MAX_TABLES (R.remaining reader.old) (W.contents writer.old) (W.contents writer.new)) }
+    ensures { IfOk result (Runs false MAX_TABLES (R.remaining reader.old) (W.contents writer.old) (W.contents writer.new)) }
 {
-    let ending = run_unflushed(alloc, reader, writer, kept)?;
+    run_and_echo(alloc, reader, writer, false, kept)
+}
+
+/// The same as [`run_and_keep`], but where it `echoes` each line of the script stands before its answer, as `LINE -> ANSWER`,
+/// and behind the number of a refusal is what it means, as `LINE -> refused 216: the node's last chunk isn't loaded`.
+pub fn run_and_echo<R: Read, W: Write>(
+    alloc: Global,
+    reader: &mut R,
+    writer: &mut W,
+    echoes: bool,
+    kept: &mut Option<World>,
+) -> Result<Ending, WriteFault>
+    ensures { IfOk result (Runs echoes MAX_TABLES (R.remaining reader.old) (W.contents writer.old) (W.contents writer.new)) }
+{
+    let ending = run_unflushed(alloc, reader, writer, echoes, kept)?;
     writer.flush()?;
     Ok(ending)
 }
@@ -56,12 +70,13 @@ fn run_unflushed<R: Read, W: Write>(
     alloc: Global,
     reader: &mut R,
     writer: &mut W,
+    echoes: bool,
     kept: &mut Option<World>,
 ) -> io::Result<Ending>
-    ensures { IfOk result (Runs MAX_TABLES (R.remaining reader.old) (W.contents writer.old) (W.contents writer.new)) }
+    ensures { IfOk result (Runs echoes MAX_TABLES (R.remaining reader.old) (W.contents writer.old) (W.contents writer.new)) }
 {
     match LineReader::new(alloc, reader) {
-        Ok(mut lines) => run_lines(alloc, &mut lines, writer, kept),
+        Ok(mut lines) => run_lines(alloc, &mut lines, writer, echoes, kept),
         Err(_) => end_by(writer, InputFault::Memory.at_no_line()),
     }
 }
@@ -71,15 +86,16 @@ fn run_lines<R: Read, W: Write>(
     alloc: Global,
     lines: &mut LineReader<R>,
     writer: &mut W,
+    echoes: bool,
     kept: &mut Option<World>,
 ) -> io::Result<Ending>
-    ensures { IfOk result (λ ending. (given : List PieceValue) × CanCome lines.old given × (out : List ℕ) × Appends (W.contents writer.old) (W.contents writer.new) out × IsRun MAX_TABLES given out ending) }
+    ensures { IfOk result (λ ending. (given : List PieceValue) × CanCome lines.old given × (out : List ℕ) × Appends (W.contents writer.old) (W.contents writer.new) out × IsRun echoes MAX_TABLES given out ending) }
 {
     let Some(schema) = Schema::new(MAX_TABLES) else {
         unreachable!()
     };
     match open_world(alloc, schema, lines) {
-        Ok(world) => run_script(alloc, &schema, kept.insert(world), lines, writer),
+        Ok(world) => run_script(alloc, &schema, kept.insert(world), lines, writer, echoes),
         Err(fault) => end_by(writer, fault),
     }
 }

@@ -3,6 +3,7 @@
 //! What the calls of a [`World`] take and give is named here too, so that a caller needs no other crate.
 #![tactic(auto)]
 
+mod echo;
 mod ending;
 mod input;
 mod listing;
@@ -11,7 +12,7 @@ mod whole_run;
 mod world;
 
 pub use ending::{Ending, WriteFault};
-pub use input::{run, run_and_keep};
+pub use input::{run, run_and_echo, run_and_keep};
 pub use listing::ranges;
 pub use sq_chunk::{Chunk, Note};
 pub use sq_model::{Answer, Phase, Refusal, Step};

@@ -8,14 +8,12 @@ ghost use Rattle.sq_lines.specs.Pieces.{next_line_number};
 ghost use Rattle.sq_world.specs.Run.{IsFault};
 ghost use Rattle.sq_world.specs.Script.{LeadsTo, IsAnswered, IsWritten};
 
+use crate::echo::{write_refusal, write_told};
 use crate::ending::Ending;
 use crate::world::World;
 use sq_lines::{LineReader, MAX_LINES, MAX_UNENDED, Next};
 use sq_schema::Schema;
-use sq_text::{
-    InputFault, InputLine, LineFault, LocatedFault, read_step, write_answer, write_fault,
-    write_refused,
-};
+use sq_text::{InputFault, InputLine, LineFault, LocatedFault, read_step, write_fault};
 use std::alloc::Global;
 use std::io;
 use std::io::{Read, Write};
@@ -23,25 +21,27 @@ use std::io::{Read, Write};
 // The line after the last one that an input may have.
 const AFTER_THE_LAST: InputLine = InputLine::Later(MAX_LINES + 1);
 
-// Writes what the lines of a script are answered, and then the dump. What is written goes out before more is read.
+// Writes what the lines of a script are answered, each answer behind its line where it echoes, and then the dump. What is written goes out before more is read.
 pub(crate) fn run_script<R: Read, W: Write>(
     alloc: Global,
     schema: &Schema,
     world: &mut World,
     lines: &mut LineReader<R>,
     writer: &mut W,
+    echoes: bool,
 ) -> io::Result<Ending>
-    ensures { IfOk result (λ ending. (o : OpeningValue) (t : Trace) → LeadsTo o t world.old → o.tables ≡ schema.now → IsWritten o t lines.old (W.contents writer.old) (W.contents writer.new) ending) }
+    ensures { IfOk result (λ ending. (o : OpeningValue) (t : Trace) → LeadsTo o t world.old → o.tables ≡ schema.now → IsWritten echoes o t lines.old (W.contents writer.old) (W.contents writer.new) ending) }
 {
     loop {
         match lines.next(MAX_UNENDED) {
-            Next::Line => write_line(alloc, schema, world, lines.piece(), writer)?,
+            Next::Line => write_line(alloc, schema, world, lines.piece(), writer, echoes)?,
             Next::Unread => {
                 writer.flush()?;
                 lines.read_more();
             }
             Next::Rest => {
-                write_refused(writer, LineFault::NotAStep.number())?;
+                let number = LineFault::NotAStep.number();
+                write_refusal(writer, lines.piece(), number, echoes)?;
                 return end(world, writer);
             }
             Next::End => return end(world, writer),
@@ -75,15 +75,16 @@ fn write_line<W: Write>(
     world: &mut World,
     line: &[u8],
     writer: &mut W,
+    echoes: bool,
 ) -> io::Result<()>
-    ensures { OnOk result ((o : OpeningValue) (t : Trace) → LeadsTo o t world.old → o.tables ≡ schema.now → IsAnswered o t line.now (W.contents writer.old) (W.contents writer.new) world.new) }
+    ensures { OnOk result ((o : OpeningValue) (t : Trace) → LeadsTo o t world.old → o.tables ≡ schema.now → IsAnswered echoes o t line.now (W.contents writer.old) (W.contents writer.new) world.new) }
 {
     match read_step(alloc, schema, line) {
         Ok(step) => {
             let answer = world.step(&step);
-            write_answer(writer, &answer)
+            write_told(writer, line, &answer, echoes)
         }
-        Err(fault) => write_refused(writer, fault.number()),
+        Err(fault) => write_refusal(writer, line, fault.number(), echoes),
     }
 }
 

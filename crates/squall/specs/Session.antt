@@ -1,5 +1,5 @@
 -- How the program ends.
-use Rattle.std.specs.Prelude.{◌≡◌, ◌⊎◌, ℕ, List, [], Option, Result, Ok, Err, IfOk}
+use Rattle.std.specs.Prelude.{◌≡◌, ◌⊎◌, ℕ, Bool, if◌then◌else◌, List, [], Option, Some, None, Result, Ok, Err, IfOk}
 use Rattle.clap.specs.Kinds.{Kinds, IsAmong}
 use Rattle.clap.specs.Walk.{Text, Row}
 use Rattle.clap.specs.declared.error.kind.ErrorKind.{ErrorKind}
@@ -11,9 +11,12 @@ use Rattle.sq_world.specs.Run.{Runs, exit_status_of}
 use Rattle.sq_world.specs.Listing.{Lists}
 use Rattle.sq_live.specs.declared.ending.LiveEnding.{LiveEnding}
 use Rattle.sq_live.specs.Live.{RunsLive, ending_status}
-use Rattle.squall.specs.declared.line.Line.{Line}
-use Rattle.squall.specs.declared.line.Line.TheVariants.{Run, Ranges, Live}
-use Rattle.squall.specs.Line.{IsLineOf}
+use Rattle.sq_explain.specs.Meanings.{Explains}
+use Rattle.sq_command.specs.declared.line.Task.{Task}
+use Rattle.sq_command.specs.declared.line.Task.TheVariants.{Run, Ranges, Live}
+use Rattle.sq_command.specs.declared.line.Line.{Line}
+use Rattle.sq_command.specs.declared.line.Line.TheVariants.{Work, Explain}
+use Rattle.sq_command.specs.Line.{IsLineOf}
 
 -- the exit status after a run
 abbrev pub exit_status : Result Ending WriteFault → ℕ
@@ -31,11 +34,22 @@ pub record EndsAs {E : Type 0} (Holds : E → Type 0) (status_of : Result E Writ
   pub holds : IfOk ran Holds
   pub status_is : status ≡ status_of ran
 
--- what a line asks for was done with what the reader gives, and ended with this status
+-- the exit status after numbers were told, or after one that is no number of the table
+abbrev pub explain_status : Result Bool WriteFault → ℕ
+explain_status (Ok told) = if told then 0 else 2
+explain_status (Err fault) = 2
+
+-- a task was done with what a reader gives, and ended with this status
+abbrev pub EndsTask : Task → Option (List ℕ) → Option (List ℕ) → Option (List ℕ) → ℕ → Type 0
+EndsTask (Run echoes) known before now = EndsAs (Runs echoes MAX_TABLES known before now) exit_status
+EndsTask Ranges known before now = EndsAs (Lists MAX_TABLES known before now) exit_status
+EndsTask (Live turns pumps folds) known before now = EndsAs (RunsLive folds MAX_TABLES known before now) live_status
+
+-- what a line asks for was done with what the reader or the file gives, unless there is no file to read, and ended with this status
 abbrev pub EndsLine : Line → Option (List ℕ) → Option (List ℕ) → Option (List ℕ) → ℕ → Type 0
-EndsLine Run known before now = EndsAs (Runs MAX_TABLES known before now) exit_status
-EndsLine Ranges known before now = EndsAs (Lists MAX_TABLES known before now) exit_status
-EndsLine (Live turns pumps folds) known before now = EndsAs (RunsLive folds MAX_TABLES known before now) live_status
+EndsLine (Work task None) known before now status = EndsTask task known before now status
+EndsLine (Work task (Some file)) known before now status = ((held : Option (List ℕ)) × EndsTask task held before now status) ⊎ (status ≡ 2)
+EndsLine (Explain number) known before now status = EndsAs (Explains number before now) explain_status status
 
 -- the words have no fault, and what their subcommand asks for ended with this status
 pub record IsCarriedOut (asked : Option (Text × List Row)) (kinds : Kinds) (known before now : Option (List ℕ)) (status : ℕ) : Type 0 where

@@ -5,8 +5,8 @@ ghost use Rattle.sq_schema.specs.declared.schema.TheConstants.{MAX_TABLES};
 ghost use Rattle.sq_live.specs.Live.{RunsLive};
 ghost use Rattle.squall.specs.Session.{live_status, EndsAs};
 
-use crate::session::{REFUSED, explain_write};
-use sq_live::{LiveEnding, Outcome, Watch, live};
+use crate::session::{REFUSED, explain, explain_write};
+use sq_live::{LiveEnding, LiveFault, Outcome, Watch, live};
 use sq_world::WriteFault;
 use std::io::{Read, Write};
 use std::sync::Wait;
@@ -54,6 +54,7 @@ fn explain_live(rt: &impl Eprint, ran: Result<LiveEnding, WriteFault>) {
             let number = defect.number();
             let _ = eprintln!(rt; "squall: unsound {number}: {defect}");
         }
+        Ok(LiveEnding::Fault(LiveFault::Input(located))) => explain(rt, &located),
         Ok(LiveEnding::Fault(fault)) => {
             let _ = eprintln!(rt; "squall: {fault}");
         }

@@ -1,28 +1,30 @@
 //! The program `squall`: it reads what to do from standard input, and writes what came of it to standard output.
 #![tactic(auto)]
 
-ghost use Rattle.std.specs.Prelude.{◌≡◌, map};
+ghost use Rattle.std.specs.Prelude.{◌≡◌, ◌⊎◌, ℕ, List, Option, map};
 ghost use Rattle.clap.specs.Words.{fault_of};
 ghost use Rattle.clap.specs.Simple.{subcommand_of};
-ghost use Rattle.squall.specs.Line.{squall};
-ghost use Rattle.squall.specs.Session.{EndsWith, EndsBuffered};
+ghost use Rattle.sq_command.specs.Line.{squall, IsWithin};
+ghost use Rattle.squall.specs.Session.{EndsTask, EndsWith, EndsBuffered};
 
-mod help;
-mod line;
+mod explaining;
 mod live_runs;
 mod progress;
 mod session;
 
-use line::{Line, line_of};
+use explaining::explanation;
 use live_runs::live_run;
 use progress::Progress;
-use session::{listing, print_usage, refuse_for_memory, refuse_words, script};
+use session::{
+    listing, open_input, print_usage, refuse_file, refuse_for_memory, refuse_words, script,
+};
+use sq_command::{Line, Task, line_of};
 use sq_driver::OpenGate;
 use sq_live::Watch;
 use std::convert::AsStr;
 use std::io::{BufWriter, IsTerminal, Read, Write};
 use std::process::ExitCode;
-use std::rt::Env;
+use std::rt::{Env, Files};
 use std::sync::Wait;
 use std::thread::Threads;
 use std::{env, io};
@@ -36,9 +38,48 @@ fn words_of(rt: &(impl Env + AllocGlobal)) -> io::Result<Vec<String>> {
     Ok(words)
 }
 
-// Does what the words of a command line ask for, and gives the exit status. Workers of a live run ask `watch` before each step.
+// Does a task with what a reader gives, and gives the exit status. Workers of a live run ask `watch` before each step.
+fn work<T: Threads + Wait + Sync + Eprint + AllocGlobal, R: Read, W: Write, G: Watch>(
+    rt: &T,
+    task: Task,
+    reader: &mut R,
+    writer: &mut W,
+    watch: &G,
+) -> u8
+    requires { IsWithin task }
+    ensures { EndsTask task (R.remaining reader.old) (W.contents writer.old) (W.contents writer.new) result }
+{
+    match task {
+        Task::Run { echoes } => script(rt, reader, writer, echoes),
+        Task::Ranges => listing(rt, reader, writer),
+        Task::Live {
+            turns,
+            pumps,
+            folds,
+        } => live_run(rt, reader, writer, turns, pumps, folds, watch),
+    }
+}
+
+// Does a task with what the file of this name holds, and gives the exit status: 2 where the file can't be read.
+fn work_on_file<T: Threads + Wait + Sync + Eprint + Files + AllocGlobal, W: Write, G: Watch>(
+    rt: &T,
+    task: Task,
+    name: &str,
+    writer: &mut W,
+    watch: &G,
+) -> u8
+    requires { IsWithin task }
+    ensures { ((held : Option (List ℕ)) × EndsTask task held (W.contents writer.old) (W.contents writer.new) result) ⊎ (result ≡ 2) }
+{
+    match open_input(rt, name) {
+        Ok(mut file) => work(rt, task, &mut file, writer, watch),
+        Err(error) => refuse_file(rt, name, &error),
+    }
+}
+
+// Does what the words of a command line ask for, and gives the exit status.
 fn obey<
-    T: Threads + Wait + Sync + Print + Eprint + AllocGlobal,
+    T: Threads + Wait + Sync + Print + Eprint + Files + AllocGlobal,
     S: AsStr,
     R: Read,
     W: Write,
@@ -47,22 +88,21 @@ fn obey<
     ensures { EndsWith (subcommand_of squall (map S.text words.now)) (fault_of squall (map S.text words.now)) (R.remaining reader.old) (W.contents writer.old) (W.contents writer.new) result }
 {
     match line_of(rt.alloc(), words) {
-        Ok(Line::Run) => script(rt, reader, writer),
-        Ok(Line::Ranges) => listing(rt, reader, writer),
+        Ok(Line::Work { task, file: None }) => work(rt, task, reader, writer, watch),
         Ok(
-            Line::Live {
-                turns,
-                pumps,
-                folds,
+            Line::Work {
+                task,
+                file: Some(name),
             },
-        ) => live_run(rt, reader, writer, turns, pumps, folds, watch),
+        ) => work_on_file(rt, task, name, writer, watch),
+        Ok(Line::Explain { number }) => explanation(rt, writer, number),
         Err(error) => print_usage(rt, &error),
     }
 }
 
 // The same with a buffer in front of the writer. After a failed write nothing more is written.
 fn obey_buffered<
-    T: Threads + Wait + Sync + Print + Eprint + AllocGlobal,
+    T: Threads + Wait + Sync + Print + Eprint + Files + AllocGlobal,
     S: AsStr,
     R: Read,
     W: Write + Drop,

@@ -1,13 +1,16 @@
 // How far a live run is, said while it goes on.
 use sq_driver::{Gate, NodeStep};
 use sq_live::Watch;
-use std::sync::atomic::{AtomicU64, Ordering};
+use std::sync::atomic::{AtomicBool, AtomicU64, Ordering};
 
 // Takes the place of the longest line of progress.
 const BLANK: &str = "\r                                        \r";
 
+// In how many steps the line is written again, besides the first time and the last: a hundred times at most.
+const STEPS: u64 = 98;
+
 /// A gate that lets each worker pass, and says on standard error how many jobs are answered and how many segments are
-/// complete: on one line, which is written again for each of them, and is gone once the threads have ended.
+/// complete: on one line, which is written again as they grow, never falls, and is gone once the threads have ended.
 #[derive(Drop)]
 pub struct Progress<'a, E> {
     to: &'a E,
@@ -15,6 +18,10 @@ pub struct Progress<'a, E> {
     segments: AtomicU64,
     answered: AtomicU64,
     complete: AtomicU64,
+    /// The step that was said last.
+    said: AtomicU64,
+    /// Whether a worker says it now.
+    busy: AtomicBool,
 }
 
 impl<'a, E: Eprint> Progress<'a, E> {
@@ -26,13 +33,38 @@ impl<'a, E: Eprint> Progress<'a, E> {
             segments: AtomicU64::new(0),
             answered: AtomicU64::new(0),
             complete: AtomicU64::new(0),
+            said: AtomicU64::new(0),
+            busy: AtomicBool::new(false),
         }
     }
 
-    // Adds one to a count, and says how far the run is.
+    // Adds one to a count, and says how far the run is, unless another worker is at it.
     fn count(&self, count: &AtomicU64) {
         count.fetch_add(1, Ordering::SeqCst);
-        self.say();
+        if !self.busy.swap(true, Ordering::SeqCst) {
+            self.go_on();
+            self.busy.store(false, Ordering::SeqCst);
+        }
+    }
+
+    // Says how far the run is, where that is a step more than what was said last.
+    fn go_on(&self) {
+        let step = self.step();
+        if step > self.said.load(Ordering::SeqCst) {
+            self.said.store(step, Ordering::SeqCst);
+            self.say();
+        }
+    }
+
+    // How many steps are done.
+    fn step(&self) -> u64 {
+        let answered = self.answered.load(Ordering::SeqCst);
+        let complete = self.complete.load(Ordering::SeqCst);
+        let jobs = self.jobs.load(Ordering::SeqCst);
+        let segments = self.segments.load(Ordering::SeqCst);
+        let done = answered.saturating_add(complete).saturating_mul(STEPS);
+        let all = jobs.saturating_add(segments).max(1);
+        done / all
     }
 
     // Says how far the run is.
@@ -63,7 +95,9 @@ impl<E: Eprint + Sync> Watch for Progress<'_, E> {
         self.say();
     }
 
+    // A worker may have counted while another one was at it.
     fn ends(&self) {
+        self.go_on();
         let _ = eprint!(self.to; "{BLANK}");
     }
 }

@@ -7,27 +7,29 @@ ghost use Rattle.sq_world.specs.Listing.{Lists};
 ghost use Rattle.squall.specs.Session.{exit_status, EndsAs, IsUsageStatus};
 
 use clap::Error;
-use clap::error::ErrorKind;
-use sq_text::{InputFault, LocatedFault};
-use sq_world::{Ending, WriteFault, ranges, run_and_keep};
-use std::io;
-use std::io::{Read, Write};
+use sq_text::{InputFault, InputLine, LocatedFault};
+use sq_world::{Ending, WriteFault, ranges, run_and_echo};
+use std::fs::OpenFile;
+use std::io::{ErrorKind, Read, Write};
 use std::mem::forget;
+use std::rt::Files;
+use std::{fs, io};
 
 /// The exit status after a fault, and after a command line that was refused.
 pub const REFUSED: u8 = 2;
 
-/// Runs the script in `reader`, writes what it comes to, and says on standard error what its fault means. Gives the
-/// exit status.
+/// Runs the script in `reader`, writes what it comes to, each answer behind its step where it echoes, and says on standard
+/// error what its fault means. Gives the exit status.
 pub fn script<R: Read, W: Write>(
     rt: &(impl Eprint + AllocGlobal),
     reader: &mut R,
     writer: &mut W,
+    echoes: bool,
 ) -> u8
-    ensures { EndsAs (Runs MAX_TABLES (R.remaining reader.old) (W.contents writer.old) (W.contents writer.new)) exit_status result }
+    ensures { EndsAs (Runs echoes MAX_TABLES (R.remaining reader.old) (W.contents writer.old) (W.contents writer.new)) exit_status result }
 {
     let mut world = None;
-    let ran = run_and_keep(rt.alloc(), reader, writer, &mut world);
+    let ran = run_and_echo(rt.alloc(), reader, writer, echoes, &mut world);
     // The program ends, and the system takes its memory back sooner than it could be freed.
     forget(world);
     explain_end(rt, ran);
@@ -83,9 +85,32 @@ pub fn refuse_for_memory(rt: &(impl Print + Eprint)) -> u8
     REFUSED
 }
 
-// Says on standard error the line that a fault belongs to, and what it means.
-fn explain(rt: &impl Eprint, located: &LocatedFault) {
+/// Says on standard error the line that a fault belongs to, and what it means, and of a line of the header that isn't of its
+/// form what that is.
+pub(crate) fn explain(rt: &impl Eprint, located: &LocatedFault) {
     let _ = eprintln!(rt; "squall: {located}");
+    if let (InputFault::BadHeader, Some(line)) = (located.fault, located.line) {
+        let form = form_of(line);
+        let _ = eprintln!(rt; "squall: line {} is to be {form}", line.number());
+    }
+}
+
+// The form of a line of the header.
+fn form_of(line: InputLine) -> &'static str {
+    match line {
+        InputLine::Old => {
+            r#"'old PLAN', as in 'old {"version":1,"partitions":2,"ranges":[[0,4294967296,0]]}'"#
+        }
+        InputLine::New => {
+            r#"'new PLAN', as in 'new {"version":1,"partitions":2,"ranges":[[0,8,1],[8,4294967296,0]]}'"#
+        }
+        InputLine::Config => {
+            "'config W L C', as in 'config 1 64 1': root keys in a leaf, bytes in a chunk, chunks on a link"
+        }
+        InputLine::Row(_) | InputLine::Later(_) => {
+            "'row ROOT T S N NOTE', as in 'row 5 0 0 10 -': root key, table, sub key, number, note"
+        }
+    }
 }
 
 /// Prints what `clap` says of a command line: a help text that was asked for to standard output, anything else to
@@ -102,6 +127,23 @@ pub fn print_usage<R: Print + Eprint>(rt: &R, error: &Error) -> u8
             REFUSED
         }
     }
+}
+
+/// The file of this name, to be read. A folder isn't one.
+pub fn open_input<T: Files>(rt: &T, name: &str) -> io::Result<T::File> {
+    let file = fs::open(rt, name)?;
+    if file.metadata()?.is_dir() {
+        return Err(io::Error::from(ErrorKind::IsADirectory));
+    }
+    Ok(file)
+}
+
+/// Says on standard error why a file can't be read, and gives the exit status after it.
+pub fn refuse_file(rt: &impl Eprint, name: &str, error: &io::Error) -> u8
+    ensures { result ≡ 2 }
+{
+    let _ = eprintln!(rt; "squall: the file '{name}' can't be read: {error}");
+    REFUSED
 }
 
 /// Says on standard error why the command line can't be read, and gives the exit status after it.

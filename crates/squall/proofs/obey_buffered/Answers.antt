@@ -2,7 +2,7 @@ use Rattle.std.proofs.Common.{inr, subst, map}
 use Rattle.std.specs.Io.Buffered.{writer_inner, writer_buffer, writer_contents}
 use Rattle.clap.specs.Words.{fault_of}
 use Rattle.clap.specs.Simple.{subcommand_of}
-use Rattle.squall.specs.Line.{squall}
+use Rattle.sq_command.specs.Line.{squall}
 use Rattle.squall.specs.Session.{EndsWith}
 use Rattle.squall.proofs.Buffers.{behind_empty}
 use Rattle.squall.proofs.obey_buffered.Goals as goal

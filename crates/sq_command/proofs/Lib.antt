@@ -1,0 +1,3 @@
+mod Subcommands
+pub mod Options
+mod Arguments

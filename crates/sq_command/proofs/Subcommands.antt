@@ -1,0 +1,199 @@
+-- What the words of a command line name where `clap` finds no fault in them.
+use Rattle.std.proofs.Common.{◌≡◌, ◌⊎◌, inl, inr, ◌∙◌, ℕ, Bool, true, false, not, ◌&&◌, ◌||◌, if◌then◌else◌, cond, List, [], ◌∷◌, Option, Some, None, refl, sym, ap, subst, codes, bytes_eq, drop, fold, option_map, is_some, true≢false}
+use Rattle.std.proofs.lemmas.Slice.Eq.{bytes_eq-Decides}
+use Rattle.std.specs.Bool.{one_answer}
+use Rattle.clap.specs.Walk.{Held, Names, Outcome, Row, Rule, Step, Text, Waiting, Walk, idle, option, positional, next, trailing, subcommand, value, done, waits, plain, refused, after_flag, after_step, finished, settled, arg_by_index, arg_by_long, bundle, long_met, long_or_other, nothing_held, plain_word, short_or_plain, stop_after, subcommand_met, subcommand_or_other, to_positional, walk_from, walk, walked, walked_from, word_met}
+use Rattle.clap.specs.Lexer.{long_of, short_of}
+use Rattle.clap.specs.Kinds.{Kinds, or_else}
+use Rattle.clap.specs.Faults.{check_fault, defaults_fault, entered_fault, fault_of, other_fault, settle_fault, step_fault, turn_fault, walk_fault, word_fault, is_simple_and_free}
+use Rattle.clap.specs.Simple.{Shape, built, entered, names_of, new_shape, rows_at, subcommand_of, App, HasMatchesOf, app_of, is_simple, subcommand_rows, subcommand_rows_of}
+use Rattle.clap.specs.Matches.{subcommand_name_of}
+use Rattle.clap.specs.declared.builder.command.Command.{Command}
+use Rattle.clap.specs.declared.parser.matches.ArgMatches.{ArgMatches}
+use Rattle.clap.specs.declared.parser.matches.ArgMatches.TheViews.{out-ArgMatches, out-SubCommand}
+use Rattle.clap.specs.declared.parser.matches.SubCommand.{SubCommand}
+use Rattle.std.specs.Prelude.{Box}
+use Rattle.std.specs.Box.{box_value}
+use Rattle.clap.specs.declared.error.kind.ErrorKind.TheVariants.{DisplayHelp, InvalidSubcommand}
+use Rattle.sq_command.specs.Line.{squall}
+
+-- ---- what finds no fault
+
+none_before : (a b : Kinds) → or_else a b ≡ [] → a ≡ []
+none_before [] b e = refl
+none_before (k ∷ ks) b e = e
+
+none_after : (a b : Kinds) → or_else a b ≡ [] → b ≡ []
+none_after [] b e = e
+none_after (k ∷ ks) b e = cc
+
+-- ---- a word that names no subcommand enters none
+
+abbrev goes_on : Step → Bool
+goes_on (subcommand name) = false
+goes_on _ = true
+
+plain_goes_on : (c : List Rule) (waiting : Waiting) (word : Text) (h : Held) → goes_on (plain_word c waiting word h).1 ≡ true
+plain_goes_on c idle word h = refl
+plain_goes_on c (option id) word h = refl
+plain_goes_on c positional word h = refl
+
+flag_goes_on : (c : List Rule) (waiting : Waiting) (word : Text) (h : Held) (o : Outcome) → goes_on (after_flag c waiting word h o).1 ≡ true
+flag_goes_on c waiting word h done = refl
+flag_goes_on c waiting word h (waits id) = refl
+flag_goes_on c waiting word h plain = plain_goes_on c waiting word h
+flag_goes_on c waiting word h refused = plain_goes_on c waiting word h
+
+short_goes_on : (c : List Rule) (waiting : Waiting) (word : Text) (flags : Option Text) (h : Held) → goes_on (short_or_plain c waiting word flags h).1 ≡ true
+short_goes_on c waiting word (Some flags) h = flag_goes_on c waiting word (bundle c flags h).0 (bundle c flags h).1
+short_goes_on c waiting word None h = plain_goes_on c waiting word h
+
+long_goes_on : (c : List Rule) (waiting : Waiting) (word : Text) (p : Option (Text × Option Text)) (h : Held) → goes_on (long_or_other c waiting word p h).1 ≡ true
+long_goes_on c waiting word (Some p) h =
+    flag_goes_on c waiting word (long_met c (arg_by_long c p.0) p.1 h).0 (long_met c (arg_by_long c p.0) p.1 h).1
+long_goes_on c waiting word None h = short_goes_on c waiting word (short_of word) h
+
+other_goes_on : (c : List Rule) (waiting : Waiting) (position : ℕ) (word : Text) (h : Held) → goes_on (subcommand_or_other c None waiting position word h).1 ≡ true
+other_goes_on c waiting position word h = either (bytes_eq word (45 ∷ 45 ∷ []))
+  where
+    either : (b : Bool) → goes_on (if b then (h, trailing position) else long_or_other c waiting word (long_of word) h).1 ≡ true
+    either true = refl
+    either false = long_goes_on c waiting word (long_of word) h
+
+to_positional_stays : (c : List Rule) (a : Option Rule) (word : Text) (w : Walk) (h : Held) → w.stopped ≡ None → (to_positional c a word w h).stopped ≡ None
+to_positional_stays c None word w h e = e
+to_positional_stays c (Some a) word w h e = refl
+
+stays : (c : List Rule) (word : Text) (w : Walk) (h : Held) (step : Step) → w.stopped ≡ None → goes_on step ≡ true → (after_step c word w h step).stopped ≡ None
+stays c word w h (next waiting) e on = e
+stays c word w h (trailing position) e on = e
+stays c word w h (subcommand name) e on = absurd (true≢false (sym on))
+stays c word w h value e on = to_positional_stays c (arg_by_index c w.position) word w h e
+
+-- ---- the walk stops at no call for help
+
+abbrev is_own : Option (Text × List Text) → Bool
+is_own None = true
+is_own (Some p) = not (bytes_eq (codes "help") p.0)
+
+same_back : (a b : Text) → bytes_eq a b ≡ bytes_eq b a
+same_back a b = one_answer (bytes_eq a b) (bytes_eq b a) (bytes_eq-Decides a b) (λ e. sym ((bytes_eq-Decides b a).0 e), λ e. (bytes_eq-Decides b a).1 (sym e))
+
+no_help : (asked disabled : Bool) → disabled ≡ false → (if asked && not disabled then DisplayHelp ∷ InvalidSubcommand ∷ [] else []) ≡ [] → not asked ≡ true
+no_help false disabled enabled fault = refl
+no_help true true enabled fault = absurd (true≢false enabled)
+no_help true false enabled fault = cc
+
+module _ (s : Shape) (names : Names) (enabled : s.disable_help_subcommand ≡ false) where
+  named : (met : Option Text) (w : Walk) (word : Text) → w.stopped ≡ None → other_fault s met word w.held ≡ []
+      → is_own (after_step s.rules word w (subcommand_or_other s.rules met w.waiting w.position word w.held).0 (subcommand_or_other s.rules met w.waiting w.position word w.held).1).stopped ≡ true
+  named (Some name) w word still fault =
+      ap not (same_back (codes "help") name) ∙ no_help (bytes_eq name (codes "help")) s.disable_help_subcommand enabled fault
+  named None w word still fault =
+      let step = subcommand_or_other s.rules None w.waiting w.position word w.held in
+      ap is_own (stays s.rules word w step.0 step.1 still (other_goes_on s.rules w.waiting w.position word w.held))
+
+  read : (is_trailing : Bool) (w : Walk) (word : Text) → w.stopped ≡ None → word_fault s names is_trailing w.waiting word w.held ≡ []
+      → is_own (after_step s.rules word w (word_met s.rules names is_trailing w.waiting w.position word w.held).0 (word_met s.rules names is_trailing w.waiting w.position word w.held).1).stopped ≡ true
+  read true w word still fault = ap is_own (stays s.rules word w w.held value still refl)
+  read false w word still fault = named (subcommand_met names w.waiting word) w word still fault
+
+  step_result : (stop : Option (Text × List Text)) (w : Walk) (word : Text) (rest : Kinds) → w.stopped ≡ stop → is_own stop ≡ true
+      → (if is_some stop then [] else or_else (word_fault s names w.is_trailing w.waiting word w.held) rest) ≡ []
+      → is_own (walked_from s.rules names stop w word).stopped ≡ true
+  step_result (Some p) w word rest at own fault = own
+  step_result None w word rest at own fault = read w.is_trailing w word at (none_before (word_fault s names w.is_trailing w.waiting word w.held) rest fault)
+
+  walks : (w : Walk) (words : List Text) → is_own w.stopped ≡ true → walk_fault s names w words ≡ [] → is_own (fold (walked s.rules names) w words).stopped ≡ true
+  unfolding walk_fault walked
+  walks w [] own fault = own
+  walks w (word ∷ words) own fault =
+      let met = word_met s.rules names w.is_trailing w.waiting w.position word w.held in
+      let after = walk_fault s names (walked s.rules names w word) words in
+      walks (walked s.rules names w word) words
+      (step_result w.stopped w word (step_fault s w.position met.0 met.1) refl own (none_before (turn_fault s names w word) after fault))
+      (none_after (turn_fault s names w word) after fault)
+
+-- ---- the command's own subcommands
+
+abbrev name_met : Option (Text × List Row) → Option Text
+name_met = option_map (λ sub. sub.0)
+
+-- the name is one of these four
+abbrev IsOneOf : Text → Text → Text → Text → Option Text → Type 0
+IsOneOf w x y z name = (name ≡ Some w) ⊎ ((name ≡ Some x) ⊎ ((name ≡ Some y) ⊎ (name ≡ Some z)))
+
+-- the first of these that is met
+abbrev met_of : Bool → Bool → Bool → Bool → Bool → Shape → Shape → Shape → Shape → Shape → Option Shape
+met_of one two three four help w x y z h = cond (one || false) (Some w) (cond (two || false) (Some x) (cond (three || false) (Some y) (cond (four || false) (Some z) (cond (help || false) (Some h) None))))
+
+found : (one two three four help : Bool) (words : List Text) (w x y z h : Shape) → not help ≡ true → is_some (option_map (λ s. rows_at s words) (met_of one two three four help w x y z h)) ≡ true
+    → IsOneOf w.name x.name y.name z.name (name_met (option_map (λ s. rows_at s words) (met_of one two three four help w x y z h)))
+found true two three four help words w x y z h is_own is_met = inl refl
+found false true three four help words w x y z h is_own is_met = inr (inl refl)
+found false false true four help words w x y z h is_own is_met = inr (inr (inl refl))
+found false false false true help words w x y z h is_own is_met = inr (inr (inr refl))
+found false false false false true words w x y z h is_own is_met = absurd (true≢false (sym is_own))
+found false false false false false words w x y z h is_own is_met = absurd (true≢false (sym is_met))
+
+abbrev first : List Shape → Shape
+first [] = new_shape []
+first (x ∷ xs) = x
+
+-- the name is that of a subcommand of the command
+abbrev pub IsOwn : Option Text → Type 0
+IsOwn = IsOneOf (codes "run") (codes "ranges") (codes "live") (codes "explain")
+
+names_own : (stop : Option (Text × List Text)) → is_own stop ≡ true → is_some (entered (built squall) stop) ≡ true
+    → IsOwn (name_met (entered (built squall) stop))
+names_own None own met = absurd (true≢false (sym met))
+names_own (Some p) own met =
+    let subs = (built squall).subs in
+    found (bytes_eq (codes "run") p.0) (bytes_eq (codes "ranges") p.0) (bytes_eq (codes "live") p.0) (bytes_eq (codes "explain") p.0) (bytes_eq (codes "help") p.0) p.1
+    (first subs) (first (drop 1 subs)) (first (drop 2 subs)) (first (drop 3 subs)) (first (drop 4 subs)) own met
+
+is_required : (has : Bool) (rows : List Row) → check_fault (built squall).top rows has ≡ [] → has ≡ true
+is_required true rows e = refl
+is_required false rows e = cc
+
+-- where the words have no fault they name a subcommand of the command
+names_one : (words : List Text) → fault_of squall words ≡ [] → IsOwn (name_met (subcommand_of squall words))
+names_one words fault =
+    let a = built squall in
+    let args = drop 1 words in
+    let end = (walk a.top.rules (names_of a) nothing_held args).held in
+    let stop = stop_after a.top.rules (names_of a) args in
+    let has = is_some (entered a stop) in
+    let walk_kinds = walk_fault a.top (names_of a) (walk_from nothing_held) args in
+    let below = entered_fault a stop in
+    let settle = settle_fault a.top.rules a.top.args_override_self end in
+    let defaults = defaults_fault (settled a.top.rules end).rows a.top.rules in
+    let rows = finished a.top.rules end in
+    let check = check_fault a.top rows has in
+    let past_walk : or_else below (or_else settle (or_else defaults check)) ≡ [] = none_after walk_kinds (or_else below (or_else settle (or_else defaults check))) fault in
+    let past_below : or_else settle (or_else defaults check) ≡ [] = none_after below (or_else settle (or_else defaults check)) past_walk in
+    let past_settle : or_else defaults check ≡ [] = none_after settle (or_else defaults check) past_below in
+    let past_all : check ≡ [] = none_after defaults check past_settle in
+    let own : is_own stop ≡ true = walks a.top (names_of a) refl (walk_from nothing_held) args refl (none_before walk_kinds (or_else below (or_else settle (or_else defaults check))) fault) in
+    names_own stop own (is_required has rows past_all)
+
+-- ---- what the caller of `clap` reads
+
+module _ {Z : Type 0} where
+  name_in_rows : (o : Option (Box SubCommand Z)) → option_map (λ b. (out-SubCommand (box_value b)).name.now) o ≡ name_met (subcommand_rows o)
+  name_in_rows None = refl
+  name_in_rows (Some b) = refl
+
+-- a parse that succeeds finds no fault in the words
+pub without_fault : (command : Command) (words : List Text) → app_of command ≡ squall
+    → (is_simple_and_free (app_of command) ≡ true → fault_of (app_of command) words ≡ []) → fault_of squall words ≡ []
+without_fault command words is_squall kinds = subst (λ (a : App). fault_of a words ≡ []) is_squall (kinds (ap is_simple_and_free is_squall))
+
+-- and has met a subcommand of the command
+pub met_own : (command : Command) (words : List Text) (m : ArgMatches) → app_of command ≡ squall
+    → (is_simple_and_free (app_of command) ≡ true → fault_of (app_of command) words ≡ []) → HasMatchesOf (app_of command) words m
+    → IsOwn (subcommand_name_of m)
+met_own command words m is_squall kinds matches =
+    let rows : subcommand_rows_of m ≡ subcommand_of squall words = (matches (ap is_simple is_squall)).1 ∙ ap (λ (a : App). subcommand_of a words) is_squall in
+    let same : subcommand_name_of m ≡ name_met (subcommand_of squall words) = name_in_rows (out-ArgMatches m).subcommand ∙ ap name_met rows in
+    subst IsOwn (sym same) (names_one words (without_fault command words is_squall kinds))

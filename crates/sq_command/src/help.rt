@@ -1,0 +1,152 @@
+// What the help texts say behind usage and options.
+
+/// Behind those of the whole program.
+pub const PROGRAM: &str = "\
+run, ranges and live read standard input, or the file that is named, and write to
+standard output. Their own help says what, with an example: squall run --help,
+squall ranges --help, squall live --help.
+
+Exit status:
+  0  done
+  2  a fault, or a command line that is refused
+  3  a live run that stopped before all was done
+  4  a live run that isn't sound
+
+After a fault the last line of standard output is its number, as in 'fault 105',
+and standard error says what it means, and on which line it is. squall explain 105
+tells more of it, and squall explain tells all numbers.";
+
+/// Behind those of `run`.
+pub const RUN: &str = r#"The input holds a header and then a script. The header is the plan before
+the move, the plan after it, the sizes (root keys in a leaf, bytes in a chunk,
+chunks on a link), and the rows that there are. A line of the script is a step:
+of a client, a partition, a pull or the leader of the move.
+
+Standard output gets one line for each step, and at the end where all rows are.
+A step that is refused changes nothing. Its line is 'refused' and a number, which
+'squall explain' explains. With --echo each answer stands behind its step, as in
+'start -> ok', and behind the number of a refusal is what it means, as in
+'cut 0 1 -> refused 201: the move isn't under way'.
+
+Example:
+
+squall run <<'END'
+old {"version":1,"partitions":2,"ranges":[[0,4294967296,0]]}
+new {"version":1,"partitions":2,"ranges":[[0,4,0],[4,8,1],[8,4294967296,0]]}
+config 1 64 1
+row 5 0 0 10 -
+txn 0 1 5 add 0 0 1
+prepare 0
+prepare 1
+start
+claim 0 1 2
+begin 0 1 2
+txn 0 2 5 get 0 0
+END
+
+writes
+
+commit 1 11
+ok
+ok
+ok
+ok
+ok
+moved 2 1
+end moving
+at 0 5 1 0.0=11/-
+
+Exit status:
+  0  done
+  2  a fault, or a command line that is refused"#;
+
+/// Behind those of `ranges`.
+pub const RANGES: &str =
+    r#"The input holds three lines: the plan before the move, the plan after it,
+and the sizes, of which the first, the root keys in a leaf, says how ranges are
+cut into segments of 32 leaves. What follows isn't looked at.
+
+Standard output gets a line for each range of root keys that moves, and then one
+for each segment: from which key on, below which key, from which partition, and
+to which. Where the move has several stages, a segment's line ends with the
+number of its stage.
+
+Example:
+
+squall ranges <<'END'
+old {"version":1,"partitions":2,"ranges":[[0,4294967296,0]]}
+new {"version":1,"partitions":2,"ranges":[[0,40,1],[40,4294967296,0]]}
+config 1 64 1
+END
+
+writes
+
+range 0 40 0 1
+segment 0 0 32 0 1
+segment 1 32 40 0 1
+
+Exit status:
+  0  done
+  2  a fault, or a command line that is refused"#;
+
+/// Behind those of `live`.
+pub const LIVE: &str = r#"The input holds a header, as for 'squall run', and then jobs: lines
+'txn P ID ROOT OP..', at most 4096 of them, no two with one id. A job is a
+transaction that is posted to partition P. Each partition runs in a thread of
+its own. The partitions answer the jobs, and meanwhile their rows move to the
+places of the new plan: a job pulls the rows that it waits for, and pumps, each a
+thread too, claim the rest in the background.
+
+In a turn a thread makes each of its steps once, and a partition takes at most one
+new job. So a partition needs as many turns as jobs are posted to it, or more where
+they wait for rows. Set --turns where a run stops before all is done, or where it
+is to stop soon.
+
+A move in several stages runs them one after another, each with all of its turns,
+and a stage whose rows haven't all moved then stops the run. With --fold what is
+answered is audited between two stages, and the logs are folded: a row stays, and
+what was written of it before doesn't.
+
+Standard output gets one line:
+
+sound F families N committed           all is done, and the audit of what is
+                                       left found no defect
+stopped A of J jobs, K of S segments   so much was done when the turns ended
+unsound NUMBER                         the first defect that the audit found
+fault NUMBER                           of the input, and then no thread ran, or
+                                       memory ran out
+
+At a terminal standard error tells meanwhile how many jobs are answered and how
+many segments are complete.
+
+Example:
+
+squall live <<'END'
+old {"version":1,"partitions":2,"ranges":[[0,4294967296,0]]}
+new {"version":1,"partitions":2,"ranges":[[0,4,0],[4,8,1],[8,4294967296,0]]}
+config 1 64 1
+row 5 0 0 10 -
+txn 0 1 5 add 0 0 1
+txn 1 2 5 add 0 0 1
+txn 0 3 6 put 0 0 1 -
+END
+
+writes
+
+sound 2 families 3 committed
+
+Exit status:
+  0  sound
+  2  a fault, or a command line that is refused
+  3  stopped
+  4  unsound"#;
+
+/// Behind those of `explain`.
+pub const EXPLAIN: &str = "\
+Standard output gets three lines for the number: the number with what it means,
+what it is given to, and what to do about it. Without a number it gets these lines
+for all numbers, in their order.
+
+Exit status:
+  0  done
+  2  there is no such number, or a command line that is refused";

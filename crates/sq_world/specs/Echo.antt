@@ -1,0 +1,27 @@
+-- What is written for a line of a script: its answer, alone or behind the line.
+use Rattle.std.specs.Prelude.{ℕ, Bool, true, false, List, [], ◌∷◌, ◌++◌, Option, Some, None, decimal, codes}
+use Rattle.sq_model.specs.declared.answer.Answer.{Answer}
+use Rattle.sq_model.specs.declared.answer.Answer.TheVariants.{Refused}
+use Rattle.sq_model.specs.Refusal.{refusal_number}
+use Rattle.sq_text.specs.Texts.{answer_line, refused_line}
+use Rattle.sq_explain.specs.Meanings.{meaning_of}
+
+-- a refusal, with what its number means
+abbrev pub reason_line : ℕ → Option (List ℕ) → List ℕ
+reason_line number None = refused_line number
+reason_line number (Some meaning) = codes "refused " ++ (decimal number ++ (codes ": " ++ (meaning ++ 10 ∷ [])))
+
+-- a line, and what goes behind it
+abbrev pub behind : List ℕ → List ℕ → List ℕ
+behind line text = line ++ (codes " -> " ++ text)
+
+-- the refusal of a line
+abbrev pub refused_text : Bool → List ℕ → ℕ → List ℕ
+refused_text false line number = refused_line number
+refused_text true line number = behind line (reason_line number (meaning_of number))
+
+-- what a line is answered
+abbrev pub answer_text : Bool → List ℕ → Answer → List ℕ
+answer_text echoes line (Refused refusal) = refused_text echoes line (refusal_number refusal)
+answer_text false line given = answer_line given
+answer_text true line given = behind line (answer_line given)

@@ -1,0 +1,50 @@
+// What is said of numbers.
+ghost use Rattle.std.specs.Prelude.{◌≡◌};
+ghost use Rattle.sq_explain.specs.Meanings.{Explains};
+ghost use Rattle.squall.specs.Session.{explain_status, EndsAs};
+
+use crate::session::{REFUSED, explain_write};
+use sq_explain::explain;
+use sq_world::WriteFault;
+use std::io::Write;
+
+/// Writes what this number means, what it is given to and what to do about it, or that of all numbers. Where there is no such
+/// number standard error says so. Gives the exit status.
+pub fn explanation<W: Write>(rt: &impl Eprint, writer: &mut W, number: Option<u16>) -> u8
+    ensures { EndsAs (Explains number (W.contents writer.old) (W.contents writer.new)) explain_status result }
+{
+    let told = explain(writer, number).map_err(WriteFault::from);
+    explain_told(rt, told, number);
+    explain_status(told)
+}
+
+// Says on standard error that there is no such number, or that a write failed.
+fn explain_told(rt: &impl Eprint, told: Result<bool, WriteFault>, number: Option<u16>) {
+    match told {
+        Ok(is_told) => {
+            if !is_told {
+                refuse_number(rt, number);
+            }
+        }
+        Err(fault) => explain_write(rt, fault),
+    }
+}
+
+// Says on standard error that there is no such number.
+fn refuse_number(rt: &impl Eprint, number: Option<u16>) {
+    if let Some(number) = number {
+        let _ = eprintln!(rt;
+            "squall: no fault, refusal or defect has the number {number} ('squall explain' tells all numbers)"
+        );
+    }
+}
+
+// The exit status after numbers were told: 0, or 2 where there was no such number or a write failed.
+fn explain_status(told: Result<bool, WriteFault>) -> u8
+    ensures { result ≡ explain_status told }
+{
+    match told {
+        Ok(true) => 0,
+        _ => REFUSED,
+    }
+}
