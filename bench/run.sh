@@ -1,16 +1,18 @@
 #!/usr/bin/env bash
-# Times five scripts: transactions on a database at rest, a move in chunks, a move one by one, transactions that wait for
-# their rows and are resumed, and empty lines. Fails where an output isn't the wanted one.
+# Times seven scripts: transactions on a database at rest, a move in chunks, a move one by one, transactions that wait for
+# their rows and are resumed, empty lines, a root key with very many rows, and very many root keys. Fails where an output
+# isn't the wanted one.
 #
 #   bash bench/run.sh [SEED]      (a seed from 1 to 2147483646; 1 if left out)
 #
 # Prints for each script the seconds, the lines a second, the most memory that the program took, and the multiple of the
 # time that `LC_ALL=C wc -lw` takes on the same input, which is a measure that stands on every machine. Then it prints
-# how the time of a transaction and of a chunk grows with the database: the ratio of the time at 400,000 families to that
-# at 1,000, and what a fold of nearly 100,000 families takes. These are differences of an input with the steps and one
-# without them. Each of these times is processor time. At last come live runs with 4,096 jobs, whose partitions each give all their root keys to the next one:
-# how many jobs are answered in a second that passes, and the ratio to a run of one partition. Each time is the best of
-# several (RUNS=COUNT, 5 if left out).
+# how the time of a transaction and of a chunk grows with the database, and that of an operation with the rows of its root
+# key: the ratio of the time at many to that at 1,000; and what a fold of nearly 100,000 families takes. These are
+# differences of an input with the steps and one without them. Each of these times is processor time. At last come live
+# runs with 4,096 jobs, whose partitions each give all their root keys to the next one: how many jobs are answered in a
+# second that passes, and the ratio to a run of one partition. Each time is the best of several (RUNS=COUNT, 5 if left
+# out).
 #
 # The program is crates/squall/out/squall, which `rt run` leaves in crates/squall; SQUALL=PATH takes another.
 set -eu
@@ -238,6 +240,40 @@ BEGIN {
         print "at 0 " root " " (fold ? 0 : 10) " 0.0=" number[root] "/-" > wanted
 }'
 
+# A root key with its root row and as many rows of another table as are named, which come in no order; where `writes` is
+# set a write of its root row, before which the rows that its log starts from are copied; and then transactions of 60
+# operations each on any of its rows.
+rows_of_one='
+function shuffled(at) { return (at * 7919 + 13) % many }
+BEGIN {
+    header(0, "65536 1048576 8")
+    print "row 0 0 0 0 -" > input
+    for (at = 0; at < many; at++) {
+        number[shuffled(at)] = at % 10
+        print "row 0 1 " shuffled(at) " " at % 10 " -" > input
+    }
+    if (writes) step("txn 0 0 0 put 0 0 1 -", "commit 0 ok")
+    for (id = 1; id <= count; id++) {
+        asked = answers = ""
+        for (i = 0; i < 60; i++) {
+            sub_key = random(many)
+            if (i % 2 == 0) {
+                asked = asked " get 1 " sub_key
+                answers = answers " " number[sub_key] "/-"
+            } else {
+                number[sub_key] = i % 10
+                asked = asked " put 1 " sub_key " " i % 10 " -"
+                answers = answers " ok"
+            }
+        }
+        step("txn 0 " id " 0" asked, "commit " id answers)
+    }
+    print "end idle" > wanted
+    printf "at 0 0 %d 0.0=%d/-", writes + count, writes > wanted
+    for (at = 0; at < many; at++) printf " 1.%d=%d/-", at, number[at] > wanted
+    print "" > wanted
+}'
+
 # Empty lines, up to the most lines that an input has.
 empty_lines='
 BEGIN {
@@ -356,15 +392,30 @@ END {
 # script_time COUNT NAME PROGRAM PARTS NAME=VALUE..: the time in nanoseconds of one part of a script, which is COUNT times
 # run in sequence.
 script_time() {
-    local count=$1 name=$2 program=$3 parts=$4 without with
+    local runs_each=$1 name=$2 program=$3 parts=$4
     shift 4
-    generate "$program" "$@" count=0
+    difference "$runs_each" "$name" "$program" "$parts" count=0 count="$parts" "$@"
+}
+
+# difference COUNT NAME PROGRAM PARTS WITHOUT WITH NAME=VALUE..: the time in nanoseconds that a script takes longer with
+# one setting than with another, divided by PARTS.
+difference() {
+    local runs_each=$1 name=$2 program=$3 parts=$4 less=$5 more=$6 without with
+    shift 6
+    generate "$program" "$@" "$less"
     check "$name"
-    without=$(best "$count" "$squall" run)
-    generate "$program" "$@" count="$parts"
+    without=$(best "$runs_each" "$squall" run)
+    generate "$program" "$@" "$more"
     check "$name"
-    with=$(best "$count" "$squall" run)
+    with=$(best "$runs_each" "$squall" run)
     echo $(((with - without) * 1000 / parts))
+}
+
+# say_growth NAME WHAT FEW MANY COUNT: the times of a part of a script at 1,000 of something and at COUNT.
+say_growth() {
+    awk -v name="$1" -v what="$2" -v few="$3" -v many="$4" -v count="$5" 'BEGIN {
+    printf "%s: %d nanoseconds at 1,000 %s, %d at %s, which is %.2f times\n", name, few, what, many, count, many / few
+}'
 }
 
 # grows NAME PROGRAM FEW MANY: how the time of a part of a script grows with the database, where the scripts have so many
@@ -373,9 +424,18 @@ grows() {
     local name=$1 program=$2 few many
     few=$(script_time 40 "$name" "$program" "$3" roots=1000 moved=500 most_number=10)
     many=$(script_time 1 "$name" "$program" "$4" roots=400000 moved=100000 most_number=10)
-    awk -v name="$name" -v few="$few" -v many="$many" 'BEGIN {
-    printf "%s: %d nanoseconds at 1,000 families, %d at 400,000, which is %.2f times\n", name, few, many, many / few
-}'
+    say_growth "$name" families "$few" "$many" 400,000
+}
+
+# How the time of a transaction of 60 operations grows with the rows of its root key, and what the first write of a root
+# key takes, which copies the rows that the log starts from.
+grows_with_rows() {
+    local few many
+    few=$(script_time 5 "rows of one root key" "$rows_of_one" 4000 many=1000 writes=1)
+    many=$(script_time 1 "rows of one root key" "$rows_of_one" 4000 many=900000 writes=1)
+    say_growth "a transaction of 60 operations" "rows of its root key" "$few" "$many" 900,000
+    many=$(difference 1 "the first write" "$rows_of_one" 900000 writes=0 writes=1 many=900000 count=0)
+    echo "the first write of a root key with 900,000 rows: $many nanoseconds a row"
 }
 
 # What a fold takes, as the difference of a script with it and one without it.
@@ -409,8 +469,11 @@ measure "move in chunks" "$chunks"
 measure "move one by one" "$one_by_one"
 measure "resumed transactions" "$resumes"
 measure "empty lines" "$empty_lines"
+measure "a root key with many rows" "$rows_of_one" many=900000 count=4000 writes=1
+measure "many root keys" "$transactions" roots=900000 count=50000
 grows "a transaction" "$transactions" 2000 250000
 grows "a chunk" "$growing_chunks" 500 100000
+grows_with_rows
 folding
 lively 1
 one=$rate
