@@ -38,7 +38,7 @@ count() {
 # difference WANTED GOT: how a file differs from the wanted one, in a few lines; nothing where it doesn't.
 difference() {
     if cmp -s "$1" "$2"; then return; fi
-    diff -a --speed-large-files "$1" "$2" > "$room/difference" || true
+    diff -a --speed-large-files "$1" "$2" > "$room/difference" 2>&1 || true
     head -n 5 "$room/difference"
 }
 
@@ -516,6 +516,12 @@ try_library() {
     count code_as_it_is_told "$(difference "$room/code" "$room/told")"
 }
 
+# The picture of the crates is the one that is drawn of them.
+try_picture_of_crates() {
+    bash "$tests/crates_graph.sh" > "$room/picture"
+    count crates_as_they_are_drawn "$(difference "$top/docs/crates.svg" "$room/picture")"
+}
+
 # The answers in the README are those of its first example.
 try_readme() {
     sed -n '/^    ok$/,/^    at /s/^    //p' "$top/README.md" > "$room/told"
@@ -531,6 +537,7 @@ bash "$tests/limits.sh" "$room/limits"
 try_tour
 try_readme
 try_library
+try_picture_of_crates
 for program in "${programs[@]}"; do
     if [ ! -x "$program" ]; then
         echo "tests: no program at $program: run 'rt ci' at the top first" >&2
