@@ -10,4 +10,4 @@ invariant-loop-key g l =
     (goal.iterator-loop-key g).can_next l.key-iterator
     × (goal.iterator-loop-key g).is_finite l.key-iterator
     × ((bytes : List ℕ) × Appends (g.W.Write.contents l.initial.writer) (g.W.Write.contents l.writer) bytes
-        × (bytes ++ flat_map (λ entry. 32 ∷ entry_text entry) l.key-iterator ≡ flat_map (λ entry. 32 ∷ entry_text entry) l.initial.key-iterator))
+    × (bytes ++ flat_map (λ entry. 32 ∷ entry_text entry) l.key-iterator ≡ flat_map (λ entry. 32 ∷ entry_text entry) l.initial.key-iterator))
