@@ -30,23 +30,21 @@ enum Turned {
     Stopped,
 }
 
-/// Drives a node: it takes this many turns. It ends before where the gate says so, which is asked before each step of a turn,
-/// and told of each receipt and of each segment that the node completes. After a turn in which there was nothing to do it
-/// ends where it is idle, and else other threads go first.
+/// Drives a node: it takes this many turns. It ends before where it is idle, and where the gate says so, which is asked
+/// before each step of a turn, and told of each receipt and of each segment that the node completes. After a turn in which there was nothing to do, other threads go first.
 pub fn drive<R: Wait, G: Gate>(rt: &R, fabric: &Fabric, node: &mut Node, turns: u64, gate: &G)
     requires { IsNodeOf fabric.now node.old }
     ensures { Driven fabric.now node.old node.new }
 {
     for _turn in 0..turns {
         match turn(rt, fabric, node, gate) {
-            Turned::Worked => continue,
-            Turned::Rested => {}
+            Turned::Worked => {}
+            Turned::Rested => thread::yield_now(),
             Turned::Stopped => return,
         }
         if node.idle(fabric) {
             return;
         }
-        thread::yield_now();
     }
 }
 

@@ -4,9 +4,6 @@ use Rattle.sq_driver.proofs.nodes.drive.Goals as goal
 pub returns-in-Stopped : goal.returns-in-Stopped
 returns-in-Stopped g c = then_driven c.args.fabric.now c.args.node.now c.loop-turn.node c.turn.new.node c.loop-turn.invariant c.turn.ensures
 
-pub loop-turn-preserved-in-Worked : goal.loop-turn-preserved-in-Worked
-loop-turn-preserved-in-Worked g c = then_driven c.args.fabric.now c.args.node.now c.loop-turn.node c.turn.new.node c.loop-turn.invariant c.turn.ensures
-
 pub returns-then-idle : goal.returns-then-idle
 returns-then-idle g c =
     let fabric = c.args.fabric.now in
