@@ -20,7 +20,7 @@ trap 'rm -r "$room"' EXIT
 # How many items the unread field has, the allocation that fails, and how many texts the first and the last input have.
 items=256
 failing=260
-fewest=85
+fewest=65
 most=200
 
 # The steps with their answers. Those that take memory are given twice: after the line stands the answer to the first
