@@ -1,9 +1,10 @@
 -- The families that a partition opens with.
-use Rattle.std.specs.Prelude.{ℕ, ◌==◌, List, [], map, filter}
+use Rattle.std.specs.Prelude.{◌≡◌, ℕ, ◌==◌, true, List, [], map, filter}
 use Rattle.sq_schema.specs.Effect.{RowList}
 use Rattle.sq_schema.specs.Table.{TableValue}
 use Rattle.sq_schema.specs.Family.{FamilyValue}
-use Rattle.sq_plan.specs.PlanValue.{PlanValue, owner}
+use Rattle.sq_plan.specs.declared.plan.PlanRange.{PlanRange}
+use Rattle.sq_plan.specs.PlanValue.{PlanValue, holds, owner}
 
 -- a family that starts from these rows of its root key
 abbrev pub opened_family : ℕ × RowList → FamilyValue
@@ -12,3 +13,7 @@ opened_family entry = record { root = entry.0; base = entry.1; log = [] }
 -- the families of the root keys that a partition owns
 abbrev pub opened_families : PlanValue → ℕ → TableValue → List FamilyValue
 opened_families plan part table = map opened_family (filter (λ entry. owner plan entry.0 == part) table)
+
+-- each root key that the range holds has the range's owner
+abbrev pub IsOwned : PlanValue → PlanRange → Type 0
+IsOwned plan range = (key : ℕ) → holds range key ≡ true → owner plan key ≡ range.owner

@@ -1,4 +1,4 @@
-use Rattle.std.proofs.Common.{◌≡◌, [], ◌∷◌, ◌++◌, ℕ, true, List, length, refl, sym, ap, subst, ◌∙◌, arith, rules, append-nil}
+use Rattle.std.proofs.Common.{◌≡◌, [], ◌∷◌, ◌++◌, ℕ, true, length, sym, ap, subst, ◌∙◌, arith, rules, append-nil, true≢false}
 use Rattle.std.specs.Prelude.{false, Some, ◌==◌, not, count_by, is_some}
 use Rattle.std.specs.FinMap.{empty}
 use Rattle.std.specs.Ordering.{nat_cmp}
@@ -29,6 +29,9 @@ opened-requires c =
     let all = subst (AllPass (λ (entry : ℕ × RowList). is_opening entry.1)) c.in-Some.ensures.steps c.loop-root.invariant.7 in
     ap is_rooted c.in_ok-clone.ensures.cases ∙ (and_parts (not (length rows == 0)) (is_rooted rows) (all 0 (c.in-Some.root.now, rows) (omega arith))).1
 
+pub range_of-range-requires : goal.range_of-range-requires
+range_of-range-requires c = c.loop-root.invariant.8
+
 pub loop-root-init : goal.loop-root-init
 loop-root-init c =
     let plan = c.args.plan.now in
@@ -46,6 +49,7 @@ loop-root-init c =
       omega (arith, none, slab.capacity, c.owned-count.ensures, ap length all),
       omega (arith, keys.len, keys.exact, c.owned-count.ensures, ap length all),
       subst (AllPass (λ (entry : ℕ × RowList). is_opening entry.1)) (sym is) c.iter-root-items.ensures.opening,
+      λ key holding. absurd (true≢false (sym holding ∙ c.no_root_keys-range.ensures key)),
     )
 
 pub loop-root-preserved-then-eq : goal.loop-root-preserved-then-eq
@@ -58,7 +62,7 @@ loop-root-preserved-then-eq c =
     let so_far = c.loop-root.invariant in
     let before = so_far.2 in
     let all = opened_families plan part c.args.table.now in
-    let owned : (owner plan entry.0 == part) ≡ true = ap (λ (k : ℕ). k == part) (sym c.owner.ensures.owner) ∙ sym c.eq.ensures ∙ c.if-eq.true in
+    let owned : (owner plan entry.0 == part) ≡ true = ap (λ (k : ℕ). k == part) (sym c.range_of-range.ensures.owner) ∙ sym c.eq.ensures ∙ c.if-eq.true in
     let family : c.in-Ok.family ≡ opened_family entry = c.in-Ok.ensures.ok ∙ ap (λ (given : RowList). opened_family (entry.0, given)) c.in_ok-clone.ensures.cases in
     let more = one_more plan part entry rest c.loop-root.root-iterator steps owned in
     let whole = next_kept plan part entry rest c.loop-root.root-iterator steps before all so_far.3 owned in
@@ -78,6 +82,7 @@ loop-root-preserved-then-eq c =
       omega (arith, more, put.len, put.capacity, so_far.5),
       omega (arith, more, c.push_reserved.ensures.len, c.push_reserved.ensures.capacity, so_far.6),
       All-tail has_rows entry rest (subst (AllPass (λ (entry : ℕ × RowList). is_opening entry.1)) steps so_far.7),
+      c.range_of-range.ensures.owned,
     )
 
 pub loop-root-preserved : goal.loop-root-preserved
@@ -88,7 +93,7 @@ loop-root-preserved c =
     let rest = c.next.new.self in
     let steps = c.in-Some.ensures.steps in
     let so_far = c.loop-root.invariant in
-    let other : (owner plan entry.0 == part) ≡ false = ap (λ (k : ℕ). k == part) (sym c.owner.ensures.owner) ∙ sym c.eq.ensures ∙ c.if-eq.false in
+    let other : (owner plan entry.0 == part) ≡ false = ap (λ (k : ℕ). k == part) (sym c.range_of-range.ensures.owner) ∙ sym c.eq.ensures ∙ c.if-eq.false in
     let same = as_many plan part entry rest c.loop-root.root-iterator steps other in (
       tt,
       tt,
@@ -98,6 +103,7 @@ loop-root-preserved c =
       omega (arith, same, so_far.5),
       omega (arith, same, so_far.6),
       All-tail has_rows entry rest (subst (AllPass (λ (entry : ℕ × RowList). is_opening entry.1)) steps so_far.7),
+      c.range_of-range.ensures.owned,
     )
 
 -- none is left to put in

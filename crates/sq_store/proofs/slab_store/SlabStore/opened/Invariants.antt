@@ -4,7 +4,7 @@ use Rattle.std.specs.List.{AllPass}
 use Rattle.slab.specs.Slab.{HasRoomFor}
 use Rattle.sq_schema.specs.Family.{FamilyValue}
 use Rattle.sq_schema.specs.Table.{is_opening}
-use Rattle.sq_store.specs.Opened.{opened_families}
+use Rattle.sq_store.specs.Opened.{opened_families, IsOwned}
 use Rattle.sq_store.specs.StoreValue.{with_families}
 use Rattle.sq_store.proofs.Filled.{IsFilled}
 use Rattle.sq_store.proofs.slab_store.SlabStore.opened.Given as goal
@@ -20,3 +20,4 @@ invariant-loop-root l =
     × HasRoomFor l.families (length (opened_families l.plan l.part l.root-iterator))
     × (vec_len l.keys + length (opened_families l.plan l.part l.root-iterator) ≤ vec_capacity l.keys)
     × AllPass (λ entry. is_opening entry.1) l.root-iterator
+    × IsOwned l.plan l.range
