@@ -1,0 +1,36 @@
+-- How far a run was after each of its events.
+use Rattle.std.specs.Prelude.{◌≡◌, ℕ, ◌+◌, Bool, true, false, List, length, take, slice_get, Some, count_by}
+use Rattle.sq_chart.specs.declared.moment.Happened.{Happened}
+use Rattle.sq_chart.specs.declared.moment.Happened.TheVariants.{JobAnswered, SegmentComplete}
+use Rattle.sq_chart.specs.declared.moment.Event.{Event}
+use Rattle.sq_chart.specs.declared.moment.Moment.{Moment}
+
+abbrev pub answers : Happened → Bool
+answers JobAnswered = true
+answers SegmentComplete = false
+
+abbrev pub completes : Happened → Bool
+completes JobAnswered = false
+completes SegmentComplete = true
+
+-- the moment after these events, of which this is the last: when it was, how many jobs were answered by then, and how many segments were complete
+abbrev pub moment_of : List Event → Event → Moment
+moment_of events last = record {
+  micros = last.micros;
+  jobs = count_by (λ event. answers event.what) events;
+  segments = count_by (λ event. completes event.what) events;
+}
+
+-- there is a moment for each event: the one after all events up to this one
+pub record AreMoments (events : List Event) (moments : List Moment) : Type 0 where
+  pub count : length moments ≡ length events
+  pub each : (i : ℕ) (event : Event) (moment : Moment) → slice_get events i ≡ Some event → slice_get moments i ≡ Some moment
+      → moment ≡ moment_of (take (i + 1) events) event
+
+abbrev pub one_more : Moment → ℕ → Happened → Moment
+one_more moment micros JobAnswered = record { micros = micros; jobs = moment.jobs + 1; segments = moment.segments }
+one_more moment micros SegmentComplete = record { micros = micros; jobs = moment.jobs; segments = moment.segments + 1 }
+
+-- the moment after one more event
+abbrev pub moment_after : Moment → Event → Moment
+moment_after moment event = one_more moment event.micros event.what

@@ -1,0 +1,212 @@
+// The moments of a run as a chart.
+ghost use Rattle.std.specs.Prelude.{◌≡◌, ◌≤◌, OnOk};
+ghost use Rattle.std.specs.List.{flat_map};
+ghost use Rattle.std.specs.Io.KnownBytes.{Appends};
+ghost use Rattle.sq_chart.specs.Curves.{share_of, count_of, across, height, step_text};
+
+use crate::moment::Moment;
+use std::io;
+use std::io::Write;
+
+/// Where the plot begins, from the left.
+const LEFT: u64 = 130;
+
+/// Where the plot ends, from the top.
+const BOTTOM: u64 = 760;
+
+/// How wide the plot is.
+const WIDTH: u64 = 1400;
+
+/// How high the plot is.
+const HEIGHT: u64 = 600;
+
+/// What is written before the ticks: the colors, the lines of percents, and the titles of both axes.
+const HEAD: &[u8] =
+    br##"<svg xmlns="http://www.w3.org/2000/svg" viewBox="0 0 1600 900" width="960" height="540" font-family="system-ui, sans-serif" font-size="26">
+<style>
+.back { fill: #fcfcfb } .ink { fill: #0b0b0b } .soft { fill: #52514e }
+.grid { stroke: #e1e0d9; stroke-width: 1.5 } .axis { stroke: #a09f95; stroke-width: 2 }
+.jobs, .segments { fill: none; stroke-width: 4; stroke-linejoin: round }
+.jobs { stroke: #2a78d6 } .segments { stroke: #eb6834; stroke-dasharray: 14 7 }
+@media (prefers-color-scheme: dark) {
+.back { fill: #1a1a19 } .ink { fill: #ffffff } .soft { fill: #c3c2b7 }
+.grid { stroke: #2c2c2a } .axis { stroke: #73726b }
+.jobs { stroke: #3987e5 } .segments { stroke: #d95926 }
+}
+</style>
+<rect class="back" width="1600" height="900"/>
+<path class="grid" d="M130 160H1530M130 310H1530M130 460H1530M130 610H1530"/>
+<g class="soft" text-anchor="end">
+<text x="114" y="169">100%</text><text x="114" y="319">75%</text><text x="114" y="469">50%</text><text x="114" y="619">25%</text><text x="114" y="769">0%</text>
+</g>
+<text class="ink" x="830" y="866" text-anchor="middle">milliseconds since the first thread began</text>
+"##;
+
+/// How many microseconds may lie between two ticks.
+const STEPS: [u64; 27] = [
+    1,
+    2,
+    5,
+    10,
+    20,
+    50,
+    100,
+    200,
+    500,
+    1_000,
+    2_000,
+    5_000,
+    10_000,
+    20_000,
+    50_000,
+    100_000,
+    200_000,
+    500_000,
+    1_000_000,
+    2_000_000,
+    5_000_000,
+    10_000_000,
+    20_000_000,
+    50_000_000,
+    100_000_000,
+    200_000_000,
+    500_000_000,
+];
+
+/// How many ticks stand behind the first one at most.
+const TICKS: u64 = 8;
+
+/// What a curve shows.
+#[derive(Clone, Copy, Debug, PartialEq, Eq)]
+enum Curve {
+    /// How many jobs are answered.
+    Jobs,
+    /// How many segments are complete.
+    Segments,
+}
+
+impl Curve {
+    // What it shows of a moment.
+    fn count(self, moment: Moment) -> u64
+        ensures { result ≡ count_of self moment }
+    {
+        match self {
+            Curve::Jobs => moment.jobs,
+            Curve::Segments => moment.segments,
+        }
+    }
+
+    // Its class, and what it is of.
+    fn names(self) -> (&'static str, &'static str) {
+        match self {
+            Curve::Jobs => ("jobs", "jobs answered"),
+            Curve::Segments => ("segments", "segments complete"),
+        }
+    }
+}
+
+/// Writes a chart of how many of all jobs were answered, and how many of all segments were complete, over time. `all` is the
+/// end of the run, with all jobs and all segments that there are. It is read in light and in dark. An error is the writer's.
+pub fn write_svg<W: Write>(writer: &mut W, moments: &[Moment], all: Moment) -> io::Result<()> {
+    writer.write_all(HEAD)?;
+    write_ticks(writer, all.micros)?;
+    writeln!(writer, "<path class=\"axis\" d=\"M130 760H1530\"/>")?;
+    for (curve, at) in [(Curve::Jobs, 130), (Curve::Segments, 700)] {
+        write_key(writer, curve, all, at)?;
+        write_curve(writer, curve, all, moments)?;
+    }
+    writeln!(writer, "</svg>")
+}
+
+// The same share of a length as the part is of the whole, rounded down.
+fn share_of(part: u64, whole: u64, len: u64) -> u64
+    ensures { result ≡ share_of part whole len }
+{
+    let share = u128::from(len) * u128::from(part) / u128::from(whole.max(1));
+    share.min(u128::from(len)) as u64
+}
+
+// How many microseconds lie between two ticks of an axis of this many.
+fn tick_step(micros: u64) -> u64 {
+    STEPS
+        .iter()
+        .copied()
+        .find(|step| micros / TICKS < *step)
+        .unwrap_or(micros)
+}
+
+// Writes the ticks of the axis of time, each with its milliseconds.
+fn write_ticks<W: Write>(writer: &mut W, micros: u64) -> io::Result<()> {
+    let step = tick_step(micros);
+    for tick in 0..TICKS + 1 {
+        let at = step.saturating_mul(tick);
+        if at <= micros {
+            write_tick(writer, micros, at)?;
+        }
+    }
+    Ok(())
+}
+
+// Writes a tick of the axis of time.
+fn write_tick<W: Write>(writer: &mut W, micros: u64, at: u64) -> io::Result<()> {
+    let x = LEFT + share_of(at, micros, WIDTH);
+    let millis = at / 1000;
+    let rest = at % 1000;
+    write!(
+        writer,
+        "<path class=\"grid\" d=\"M{x} 160V772\"/><text class=\"soft\" x=\"{x}\" y=\"806\" text-anchor=\"middle\">{millis}"
+    )?;
+    if rest > 0 {
+        write!(writer, ".{rest:03}")?;
+    }
+    writeln!(writer, "</text>")
+}
+
+// Writes what a curve is, and how much of it there is in all.
+fn write_key<W: Write>(writer: &mut W, curve: Curve, all: Moment, at: u64) -> io::Result<()> {
+    let (class, name) = curve.names();
+    let count = curve.count(all);
+    let text = at.saturating_add(80);
+    let end = at.saturating_add(64);
+    writeln!(
+        writer,
+        "<path class=\"{class}\" d=\"M{at} 81H{end}\"/><text class=\"ink\" x=\"{text}\" y=\"90\">{name}, of {count}</text>"
+    )
+}
+
+// Writes a curve: from nothing on, a step at each moment, and on to the end.
+fn write_curve<W: Write>(
+    writer: &mut W,
+    curve: Curve,
+    all: Moment,
+    moments: &[Moment],
+) -> io::Result<()> {
+    let (class, _) = curve.names();
+    write!(writer, "<path class=\"{class}\" d=\"M130 760")?;
+    write_steps(writer, curve, all, moments)?;
+    writeln!(writer, "H1530\"/>")
+}
+
+// Writes the steps of a curve.
+fn write_steps<W: Write>(
+    writer: &mut W,
+    curve: Curve,
+    all: Moment,
+    moments: &[Moment],
+) -> io::Result<()>
+    ensures { OnOk result (Appends (W.contents writer.old) (W.contents writer.new) (flat_map (step_text curve all) moments.now)) }
+{
+    for moment in moments {
+        write_step(writer, curve, all, *moment)?;
+    }
+    Ok(())
+}
+
+// Writes a step of a curve.
+fn write_step<W: Write>(writer: &mut W, curve: Curve, all: Moment, moment: Moment) -> io::Result<()>
+    ensures { OnOk result (Appends (W.contents writer.old) (W.contents writer.new) (step_text curve all moment)) }
+{
+    let x = LEFT + share_of(moment.micros, all.micros, WIDTH);
+    let y = BOTTOM - share_of(curve.count(moment), curve.count(all), HEIGHT);
+    write!(writer, "H{x}V{y}")
+}

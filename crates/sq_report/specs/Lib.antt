@@ -1,0 +1,4 @@
+pub mod Notes
+pub mod Counts
+pub mod SummaryValue
+pub mod Tables

@@ -1,0 +1,16 @@
+-- What the notes of a link come to.
+use Rattle.std.specs.Prelude.{ℕ, ◌-◌, ◌^◌, min, length}
+use Rattle.sq_store.specs.StoreValue.{StoreValue, families_between}
+use Rattle.sq_chunk.specs.declared.chunk.Note.{Note}
+
+-- as much of a count as a number holds
+abbrev pub told : ℕ → ℕ
+told count = min count (2 ^ 64 - 1)
+
+-- how many root keys a note covers
+abbrev pub width_of : Note → ℕ
+width_of note = note.hi - note.lo
+
+-- how many families a store has of the root keys that a note covers
+abbrev pub stored_in : StoreValue → Note → ℕ
+stored_in store note = length (families_between store note.lo note.hi)

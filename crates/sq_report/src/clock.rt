@@ -1,0 +1,77 @@
+// The time that a run takes.
+use std::sync::atomic::{AtomicU64, Ordering};
+use std::time::{Clock, Instant};
+
+/// How long the parts of a run took, in microseconds.
+#[derive(Clone, Copy, Debug, PartialEq, Eq)]
+pub struct Times {
+    /// Until its input was read.
+    pub reading: u64,
+    /// While its threads ran, in all stages.
+    pub threads: u64,
+    /// While it was audited.
+    pub audits: u64,
+}
+
+/// Tells the time since it was started.
+#[derive(Drop)]
+pub(crate) struct Stopwatch<'a, C> {
+    clock: &'a C,
+    /// When it was started. `None` where the clock couldn't be read.
+    start: Option<Instant>,
+}
+
+impl<'a, C: Clock> Stopwatch<'a, C> {
+    /// One that starts now.
+    pub(crate) fn start(clock: &'a C) -> Stopwatch<'a, C> {
+        Stopwatch {
+            clock,
+            start: Instant::now(clock).ok(),
+        }
+    }
+
+    /// How many microseconds have gone by; 0 where the clock can't be read.
+    pub(crate) fn micros(&self) -> u64 {
+        match (self.start, Instant::now(self.clock)) {
+            (Some(start), Ok(now)) => {
+                let micros = now.duration_since(start).as_micros();
+                micros.min(u128::from(u64::MAX)) as u64
+            }
+            _ => 0,
+        }
+    }
+}
+
+/// Adds up the time between each beginning and the end that follows.
+#[derive(Drop)]
+pub(crate) struct Span {
+    began: AtomicU64,
+    total: AtomicU64,
+}
+
+impl Span {
+    /// One that has taken no time.
+    pub(crate) fn new() -> Span {
+        Span {
+            began: AtomicU64::new(0),
+            total: AtomicU64::new(0),
+        }
+    }
+
+    /// It begins at this time.
+    pub(crate) fn begin(&self, micros: u64) {
+        self.began.store(micros, Ordering::SeqCst);
+    }
+
+    /// It ends at this time.
+    pub(crate) fn end(&self, micros: u64) {
+        let began = self.began.load(Ordering::SeqCst);
+        self.total
+            .fetch_add(micros.saturating_sub(began), Ordering::SeqCst);
+    }
+
+    /// How many microseconds that comes to.
+    pub(crate) fn total(&self) -> u64 {
+        self.total.load(Ordering::SeqCst)
+    }
+}

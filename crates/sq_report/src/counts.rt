@@ -1,0 +1,92 @@
+// What is counted of a link, and of a partition.
+ghost use Rattle.std.specs.Prelude.{◌≡◌, ◌≤◌, length};
+ghost use Rattle.sq_report.specs.Notes.{told};
+ghost use Rattle.sq_report.specs.Counts.{families_of, link_count, commits_in, counted};
+
+use crate::notes::{count_keys, count_stored, count_under_way};
+use sq_gather::ClosedLink;
+use sq_node::Receipt;
+use sq_plan::PartId;
+use sq_schema::Reply;
+use sq_store::SlabStore;
+
+/// What moved along a link.
+#[derive(Clone, Copy, Debug, PartialEq, Eq)]
+pub struct LinkCount {
+    /// The partition that it leads from.
+    pub src: PartId,
+    /// The partition that it leads to.
+    pub dst: PartId,
+    /// How many root keys its chunks cover, with families or without.
+    pub keys: u64,
+    /// How many families these root keys have, at its destination and in its chunks under way.
+    pub families: u64,
+    /// How many chunks were cut for it.
+    pub chunks: u64,
+}
+
+/// What became of jobs at a partition.
+#[derive(Clone, Copy, Debug, PartialEq, Eq)]
+pub struct PartCount {
+    /// How many it committed.
+    pub committed: u64,
+    /// How many it aborted.
+    pub aborted: u64,
+}
+
+impl PartCount {
+    /// Of no jobs.
+    pub const NONE: PartCount = PartCount {
+        committed: 0,
+        aborted: 0,
+    };
+
+    /// With the jobs of these receipts. A count that no number holds stays at the greatest.
+    pub(crate) fn with(self, receipts: &[Receipt]) -> PartCount
+        ensures { result ≡ counted self receipts.now }
+    {
+        let commits = count_commits(receipts);
+        let aborts = receipts.len() as u64 - commits;
+        PartCount {
+            committed: self.committed.saturating_add(commits),
+            aborted: self.aborted.saturating_add(aborts),
+        }
+    }
+}
+
+// How many receipts are of commits.
+fn count_commits(receipts: &[Receipt]) -> u64
+    ensures commits { result ≡ commits_in receipts.now }
+    ensures most { result ≤ length receipts.now }
+{
+    let mut count = 0;
+    for receipt in receipts {
+        if matches!(receipt.reply, Reply::Committed(_)) {
+            count += 1;
+        }
+    }
+    count
+}
+
+/// What moved along a link, where the partitions have these stores. A count that no number holds stays at the greatest.
+pub(crate) fn count_link(stores: &[SlabStore], link: &ClosedLink) -> LinkCount
+    ensures { result ≡ link_count stores.now link.now }
+{
+    LinkCount {
+        src: link.src,
+        dst: link.dst,
+        keys: count_keys(&link.notes),
+        families: count_loaded(stores, link).saturating_add(count_under_way(&link.under_way)),
+        chunks: link.notes.len() as u64,
+    }
+}
+
+// How many families the destination of a link has of the root keys that its notes cover.
+fn count_loaded(stores: &[SlabStore], link: &ClosedLink) -> u64
+    ensures { result ≡ told (families_of stores.now link.now) }
+{
+    match stores.get(usize::from(link.dst.number())) {
+        Some(store) => count_stored(store, &link.notes),
+        None => 0,
+    }
+}

@@ -1,0 +1,67 @@
+// What the notes and the chunks of a link come to.
+ghost use Rattle.std.specs.Prelude.{◌≡◌, length, sum_by, option_copied};
+ghost use Rattle.sq_store.specs.StoreValue.{families_between};
+ghost use Rattle.sq_store.specs.First.{FirstIs};
+ghost use Rattle.sq_report.specs.Notes.{told, width_of, stored_in};
+
+use sq_chunk::{Chunk, Note};
+use sq_schema::Family;
+use sq_store::{FamilyStore, SlabStore};
+
+/// How many root keys notes cover. A count that no number holds stays at the greatest, as in each of these.
+pub(crate) fn count_keys(notes: &[Note]) -> u64
+    ensures { result ≡ told (sum_by width_of notes.now) }
+{
+    let mut count: u64 = 0;
+    for note in notes {
+        count = count.saturating_add(note.hi.saturating_sub(note.lo));
+    }
+    count
+}
+
+/// How many families a store has of the root keys that notes cover.
+pub(crate) fn count_stored(store: &SlabStore, notes: &[Note]) -> u64
+    ensures { result ≡ told (sum_by (stored_in store.now) notes.now) }
+{
+    let mut count: u64 = 0;
+    for note in notes {
+        count = count.saturating_add(count_between(store, note.lo, note.hi));
+    }
+    count
+}
+
+// How many families a store has from one root key on and below another.
+fn count_between(store: &SlabStore, lo: u64, hi: u64) -> u64
+    ensures { result ≡ length (families_between store.now lo hi) }
+{
+    let mut at = lo;
+    let mut count = 0;
+    while let Some(family) = first(store, at, hi) {
+        count += 1;
+        at = family.root().number() + 1;
+    }
+    count
+}
+
+// The first family of a store from one root key on and below another.
+fn first(store: &SlabStore, lo: u64, hi: u64) -> Option<&Family>
+    ensures { FirstIs store.now lo hi (option_copied result) }
+{
+    let family = store.walk(lo)?;
+    if family.root().number() < hi {
+        Some(family)
+    } else {
+        None
+    }
+}
+
+/// How many families chunks hold.
+pub(crate) fn count_under_way(chunks: &[Chunk]) -> u64
+    ensures { result ≡ told (sum_by (λ chunk. length chunk.families) chunks.now) }
+{
+    let mut count: u64 = 0;
+    for chunk in chunks {
+        count = count.saturating_add(chunk.len() as u64);
+    }
+    count
+}

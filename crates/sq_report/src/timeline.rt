@@ -1,0 +1,130 @@
+// When jobs are answered and segments complete.
+use crate::clock::Stopwatch;
+use sq_chart::{Event, Happened, Moment};
+use sq_driver::NodeStep;
+use std::alloc::{AllocError, Global};
+use std::sync::atomic::{AtomicU64, Ordering};
+use std::time::Clock;
+
+/// Marks when jobs are answered and segments complete, told by many threads. It takes no memory while it is told: it has places
+/// for as many as were asked for, and one more than that is left out.
+#[derive(Drop)]
+pub struct Timeline<'a, C> {
+    clock: Stopwatch<'a, C>,
+    answered: Marks,
+    complete: Marks,
+    /// How many jobs and segments there are.
+    jobs: AtomicU64,
+    segments: AtomicU64,
+    /// When it began, and when it ended.
+    began: AtomicU64,
+    ended: AtomicU64,
+}
+
+impl<'a, C: Clock> Timeline<'a, C> {
+    /// One to which nothing was told, with places for so many jobs and segments. It is refused only where there is no memory for
+    /// them.
+    pub fn new(
+        alloc: Global,
+        clock: &'a C,
+        jobs: usize,
+        segments: usize,
+    ) -> Result<Timeline<'a, C>, AllocError> {
+        Ok(Timeline {
+            clock: Stopwatch::start(clock),
+            answered: Marks::new(alloc, jobs)?,
+            complete: Marks::new(alloc, segments)?,
+            jobs: AtomicU64::new(0),
+            segments: AtomicU64::new(0),
+            began: AtomicU64::new(0),
+            ended: AtomicU64::new(0),
+        })
+    }
+
+    /// It begins now, for so many jobs and segments.
+    pub fn begin(&self, jobs: u64, segments: u64) {
+        self.jobs.store(jobs, Ordering::SeqCst);
+        self.segments.store(segments, Ordering::SeqCst);
+        self.began.store(self.clock.micros(), Ordering::SeqCst);
+    }
+
+    /// It has come so far.
+    pub fn go_on(&self) {
+        self.ended.store(self.clock.micros(), Ordering::SeqCst);
+    }
+
+    /// Marks a job that was answered, or a segment that is complete. Any other step is none of these.
+    pub fn record(&self, step: NodeStep) {
+        match step {
+            NodeStep::Answered => self.answered.mark(self.clock.micros()),
+            NodeStep::SegmentComplete => self.complete.mark(self.clock.micros()),
+            _ => {}
+        }
+    }
+
+    /// What was marked, in the order of time, each by its time since the timeline began.
+    pub fn events(&self, alloc: Global) -> Result<Vec<Event>, AllocError> {
+        let mut events = Vec::new(alloc);
+        let began = self.began.load(Ordering::SeqCst);
+        self.answered
+            .add_to(&mut events, Happened::JobAnswered, began)?;
+        self.complete
+            .add_to(&mut events, Happened::SegmentComplete, began)?;
+        events.sort_unstable_by_key(|event| event.micros);
+        Ok(events)
+    }
+
+    /// The end: the time that it came to, and all jobs and segments that there are.
+    pub fn all(&self) -> Moment {
+        let began = self.began.load(Ordering::SeqCst);
+        Moment {
+            micros: self.ended.load(Ordering::SeqCst).saturating_sub(began),
+            jobs: self.jobs.load(Ordering::SeqCst),
+            segments: self.segments.load(Ordering::SeqCst),
+        }
+    }
+}
+
+// The times of what happened, in any order.
+#[derive(Drop)]
+struct Marks {
+    times: Vec<AtomicU64>,
+    count: AtomicU64,
+}
+
+impl Marks {
+    // None of so many that may come.
+    fn new(alloc: Global, places: usize) -> Result<Marks, AllocError> {
+        let mut times = Vec::new(alloc);
+        for _place in 0..places {
+            times.push(AtomicU64::new(0))?;
+        }
+        Ok(Marks {
+            times,
+            count: AtomicU64::new(0),
+        })
+    }
+
+    // Marks this time. No other thread gets its place.
+    fn mark(&self, micros: u64) {
+        let place = self.count.fetch_add(1, Ordering::SeqCst);
+        if let Some(time) = self.times.get(place as usize) {
+            time.store(micros, Ordering::SeqCst);
+        }
+    }
+
+    // Adds an event for each time that was marked, less that of the beginning.
+    fn add_to(
+        &self,
+        events: &mut Vec<Event>,
+        what: Happened,
+        began: u64,
+    ) -> Result<(), AllocError> {
+        let count = self.count.load(Ordering::SeqCst) as usize;
+        for time in self.times.iter().take(count) {
+            let micros = time.load(Ordering::SeqCst).saturating_sub(began);
+            events.push(Event { micros, what })?;
+        }
+        Ok(())
+    }
+}
