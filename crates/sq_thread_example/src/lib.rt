@@ -1,0 +1,71 @@
+//! A small caller of the library that embeds threads: it runs jobs while rows move, with a thread for each partition, and
+//! audits what they left.
+#![tactic(auto)]
+
+ghost use Rattle.std.specs.Prelude.{◌<◌, All, IfOk};
+ghost use Rattle.sq_node_model.specs.Placed.{IsPlaced};
+ghost use Rattle.sq_audit.specs.Answers.{IdsDiffer};
+ghost use Rattle.sq_audit.specs.Defects.{IsVerdict};
+
+use sq_audit::{Job, Verdict, audit};
+use sq_driver::{OpenGate, run_workers};
+use sq_gather::{Gathered, gather};
+use sq_node::Fabric;
+use sq_world::Opening;
+use std::alloc::{AllocError, Global};
+use std::sync::Wait;
+use std::thread::Threads;
+
+// How many turns each thread takes at most, and how many pumps claim in the background.
+const TURNS: u64 = 1_000_000;
+
+const PUMPS: u32 = 1;
+
+/// What a run of jobs left, and what the audit says of it.
+#[derive(Drop)]
+pub struct Ran {
+    /// What the threads left.
+    pub gathered: Gathered,
+    /// Whether it is sound, or else its first defect.
+    pub verdict: Verdict,
+}
+
+/// Runs jobs, whose ids differ, while the rows of an opening move in their first stage. Whatever the threads do, what they
+/// leave is placed, and it is sound where the verdict says so: then each job has one receipt, which says what it had to be
+/// answered.
+pub fn run_jobs<R: Threads + Wait + Sync>(
+    rt: &R,
+    alloc: Global,
+    opening: &Opening,
+    jobs: &[Job],
+) -> Result<Ran, AllocError>
+    requires partitions { All (λ job. job.part < opening.now.old.parts) jobs.now }
+    requires ids { IdsDiffer jobs.now }
+    ensures placed { IfOk result (λ ran. IsPlaced opening.now ran.gathered) }
+    ensures verdict { IfOk result (λ ran. IsVerdict opening.now ran.gathered jobs.now ran.verdict) }
+{
+    // What the threads share, a node for each partition, and the pumps.
+    let (fabric, mut nodes, mut pumps) = Fabric::open(alloc, opening, PUMPS)?;
+    // For the proof alone: what was handed in is an opening, and this is a fabric.
+    let _recon = opening.recon();
+    let _trees = fabric.trees();
+    post_all(rt, &fabric, jobs)?;
+    run_workers(rt, &fabric, &mut nodes, &mut pumps, TURNS, &OpenGate);
+    match gather(rt, alloc, fabric, nodes, pumps) {
+        Ok(gathered) => {
+            let verdict = audit(opening, &gathered, jobs)?;
+            Ok(Ran { gathered, verdict })
+        }
+        Err(_) => Err(AllocError),
+    }
+}
+
+// Posts each job to its partition. One that its queue has no room for isn't answered, which the audit tells then.
+fn post_all<R: Wait>(rt: &R, fabric: &Fabric, jobs: &[Job]) -> Result<(), AllocError>
+    requires { All (λ job. job.part < fabric.now.parts) jobs.now }
+{
+    for job in jobs {
+        drop(fabric.post(rt, job.part, job.txn.clone()?));
+    }
+    Ok(())
+}
