@@ -1,22 +1,36 @@
 -- What moves between two plans, as it is told.
-use Rattle.std.specs.Prelude.{◌≡◌, ◌⊎◌, ℕ, List, Option, Ok, Err}
+use Rattle.std.specs.Prelude.{◌≡◌, ◌⊎◌, ℕ, List, [], Option, None, Ok, Err}
 use Rattle.std.specs.Io.KnownBytes.{Appends}
 use Rattle.sq_ranges.specs.OpeningValue.{OpeningValue}
+use Rattle.sq_ranges.specs.ReconValue.{ReconValue}
 use Rattle.sq_lines.specs.Pieces.{PieceValue}
 use Rattle.sq_text.specs.declared.located.LocatedFault.{LocatedFault}
+use Rattle.sq_text.specs.declared.input_fault.InputFault.TheVariants.{Memory}
+use Rattle.sq_text.specs.Located.{located}
 use Rattle.sq_text.specs.Texts.{moves_text}
 use Rattle.sq_text.specs.Header.{plans_of, Opens}
 use Rattle.sq_world.specs.declared.ending.Ending.{Ending}
 use Rattle.sq_world.specs.declared.ending.Ending.TheVariants.{Done}
+use Rattle.sq_world.specs.declared.telling.Told.{Told}
+use Rattle.sq_world.specs.declared.telling.Told.TheVariants.{Written, NoMemory}
 use Rattle.sq_world.specs.Input.{IsGiven}
 use Rattle.sq_world.specs.Run.{IsFault}
 
--- the first three lines spell plans and sizes, and what moves between the plans is all that is written
-pub record IsListed (tables : ℕ) (given : List PieceValue) (out : List ℕ) (ending : Ending) : Type 0 where
+-- a text that tells of a reconfiguration goes to the end of what a writer holds; where there was no memory for it, nothing does
+abbrev pub IsTold : (ReconValue → List ℕ → Type 0) → ReconValue → Option (List ℕ) → Option (List ℕ) → Told → Type 0
+IsTold tells recon before now Written = (out : List ℕ) × Appends before now out × tells recon out
+IsTold tells recon before now NoMemory = Appends before now []
+
+-- what tells of a reconfiguration is all that is written, or else that memory ran out
+abbrev pub IsToldOrRefused : (ReconValue → List ℕ → Type 0) → ReconValue → List ℕ → Ending → Type 0
+IsToldOrRefused tells recon out ending = (tells recon out × (ending ≡ Done)) ⊎ IsFault (located Memory None) out ending
+
+-- the first three lines spell plans and sizes, and what tells of their reconfiguration is all that is written
+pub record IsListed (tells : ReconValue → List ℕ → Type 0) (tables : ℕ) (given : List PieceValue) (out : List ℕ) (ending : Ending) : Type 0 where
   pub opening : OpeningValue
   pub left : List PieceValue
   pub plans : Opens tables (Ok opening) left (plans_of given)
-  pub says : out ≡ moves_text opening.recon
+  pub says : tells opening.recon out
   pub ends : ending ≡ Done
 
 -- the first three lines have a fault, which is their first, or memory ran out
@@ -27,9 +41,17 @@ pub record IsNotListed (tables : ℕ) (given : List PieceValue) (out : List ℕ)
   pub wrote : IsFault fault out ending
 
 -- what is told for the pieces of an input, and how that ends
-abbrev pub IsListing : ℕ → List PieceValue → List ℕ → Ending → Type 0
-IsListing tables given out ending = IsListed tables given out ending ⊎ IsNotListed tables given out ending
+abbrev pub IsListing : (ReconValue → List ℕ → Type 0) → ℕ → List PieceValue → List ℕ → Ending → Type 0
+IsListing tells tables given out ending = IsListed tells tables given out ending ⊎ IsNotListed tables given out ending
 
--- what a reader gives is answered by what moves, and that goes to the end of what a writer holds
+-- what a reader gives is answered by what tells of its reconfiguration, and that goes to the end of what a writer holds
+abbrev pub Tells : (ReconValue → List ℕ → Type 0) → ℕ → Option (List ℕ) → Option (List ℕ) → Option (List ℕ) → Ending → Type 0
+Tells tells tables known before now ending = (given : List PieceValue) × IsGiven known given × (out : List ℕ) × Appends before now out × IsListing tells tables given out ending
+
+-- the lines of what moves
+abbrev pub IsMovesText : ReconValue → List ℕ → Type 0
+IsMovesText recon out = out ≡ moves_text recon
+
+-- what a reader gives is answered by the lines of what moves, and they go to the end of what a writer holds
 abbrev pub Lists : ℕ → Option (List ℕ) → Option (List ℕ) → Option (List ℕ) → Ending → Type 0
-Lists tables known before now ending = (given : List PieceValue) × IsGiven known given × (out : List ℕ) × Appends before now out × IsListing tables given out ending
+Lists = Tells IsMovesText

@@ -8,12 +8,13 @@ mod ending;
 mod input;
 mod listing;
 mod script;
+mod telling;
 mod whole_run;
 mod world;
 
 pub use ending::{Ending, WriteFault};
 pub use input::{run, run_and_echo, run_and_keep};
-pub use listing::ranges;
+pub use listing::{list, ranges};
 pub use sq_chunk::{Chunk, Note};
 pub use sq_model::{Answer, Phase, Refusal, Step};
 pub use sq_plan::{PartId, Plan, PlanFault, PlanRange};
@@ -23,5 +24,6 @@ pub use sq_schema::{
 };
 pub use sq_store::{FamilyStore, SlabStore};
 pub use sq_tree::{Leaf, NodeId, Reading, Status};
+pub use telling::{Telling, Told};
 pub use whole_run::run_world;
 pub use world::{NotOpened, World};

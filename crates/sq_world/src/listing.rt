@@ -3,11 +3,13 @@ ghost use Rattle.std.specs.Prelude.{◌≡◌, List, ℕ, IfOk};
 ghost use Rattle.std.specs.Io.KnownBytes.{Appends};
 ghost use Rattle.sq_lines.specs.Pieces.{PieceValue};
 ghost use Rattle.sq_lines.specs.Coming.{CanCome};
-ghost use Rattle.sq_world.specs.Listing.{IsListing, Lists};
+ghost use Rattle.sq_world.specs.Listing.{IsToldOrRefused, IsListing, IsMovesText, Tells, Lists};
 
 use crate::ending::{Ending, WriteFault};
 use crate::script::end_by;
+use crate::telling::{Telling, Told};
 use sq_lines::LineReader;
+use sq_ranges::Recon;
 use sq_schema::{MAX_TABLES, Schema};
 use sq_text::{InputFault, read_plans, write_moves};
 use std::alloc::Global;
@@ -29,41 +31,79 @@ pub fn ranges<R: Read, W: Write>(
 ) -> Result<Ending, WriteFault>
     ensures { IfOk result (Lists MAX_TABLES (R.remaining reader.old) (W.contents writer.old) (W.contents writer.new)) }
 {
-    let ending = list_unflushed(alloc, reader, writer)?;
+    list(alloc, reader, writer, &Lines)
+}
+
+/// The same as [`ranges`], but what is written of what moves is what `telling` tells of it.
+pub fn list<R: Read, W: Write, T: Telling>(
+    alloc: Global,
+    reader: &mut R,
+    writer: &mut W,
+    telling: &T,
+) -> Result<Ending, WriteFault>
+    ensures { IfOk result (Tells (T.tells telling.now) MAX_TABLES (R.remaining reader.old) (W.contents writer.old) (W.contents writer.new)) }
+{
+    let ending = list_unflushed(alloc, reader, writer, telling)?;
     writer.flush()?;
     Ok(ending)
 }
 
+// What moves, in lines.
+struct Lines;
+
+impl Telling for Lines {
+    ghost tells = { λ _. IsMovesText };
+
+    fn tell<W: Write>(&self, _alloc: Global, writer: &mut W, recon: &Recon) -> io::Result<Told> {
+        write_moves(writer, recon)?;
+        Ok(Told::Written)
+    }
+}
+
 // Tells what moves, and leaves what is written to be flushed.
-fn list_unflushed<R: Read, W: Write>(
+fn list_unflushed<R: Read, W: Write, T: Telling>(
     alloc: Global,
     reader: &mut R,
     writer: &mut W,
+    telling: &T,
 ) -> io::Result<Ending>
-    ensures { IfOk result (Lists MAX_TABLES (R.remaining reader.old) (W.contents writer.old) (W.contents writer.new)) }
+    ensures { IfOk result (Tells (T.tells telling.now) MAX_TABLES (R.remaining reader.old) (W.contents writer.old) (W.contents writer.new)) }
 {
     match LineReader::new(alloc, reader) {
-        Ok(mut lines) => list_moves(alloc, &mut lines, writer),
+        Ok(mut lines) => list_moves(alloc, &mut lines, writer, telling),
         Err(_) => end_by(writer, InputFault::Memory.at_no_line()),
     }
 }
 
 // Tells what moves between the plans of the next lines.
-fn list_moves<R: Read, W: Write>(
+fn list_moves<R: Read, W: Write, T: Telling>(
     alloc: Global,
     lines: &mut LineReader<R>,
     writer: &mut W,
+    telling: &T,
 ) -> io::Result<Ending>
-    ensures { IfOk result (λ ending. (given : List PieceValue) × CanCome lines.old given × (out : List ℕ) × Appends (W.contents writer.old) (W.contents writer.new) out × IsListing MAX_TABLES given out ending) }
+    ensures { IfOk result (λ ending. (given : List PieceValue) × CanCome lines.old given × (out : List ℕ) × Appends (W.contents writer.old) (W.contents writer.new) out × IsListing (T.tells telling.now) MAX_TABLES given out ending) }
 {
     let Some(schema) = Schema::new(MAX_TABLES) else {
         unreachable!()
     };
     match read_plans(alloc, schema, lines) {
-        Ok(opening) => {
-            write_moves(writer, opening.recon())?;
-            Ok(Ending::Done)
-        }
+        Ok(opening) => tell(alloc, writer, telling, opening.recon()),
         Err(fault) => end_by(writer, fault),
+    }
+}
+
+// Tells what moves, or else that there is no memory for that.
+fn tell<W: Write, T: Telling>(
+    alloc: Global,
+    writer: &mut W,
+    telling: &T,
+    recon: &Recon,
+) -> io::Result<Ending>
+    ensures { IfOk result (λ ending. (out : List ℕ) × Appends (W.contents writer.old) (W.contents writer.new) out × IsToldOrRefused (T.tells telling.now) recon.now out ending) }
+{
+    match telling.tell(alloc, writer, recon)? {
+        Told::Written => Ok(Ending::Done),
+        Told::NoMemory => end_by(writer, InputFault::Memory.at_no_line()),
     }
 }

@@ -7,7 +7,7 @@ use Rattle.sq_world.proofs.Runs.{run_given, run_nothing}
 use Rattle.sq_world.proofs.listing.list_unflushed.Goals as goal
 
 pub returns-in-Ok : goal.returns-in-Ok
-returns-in-Ok g c = run_given (IsListing MAX_TABLES) c.list_moves.result _ _ _ _ c.in-Ok.ensures.held c.in-Ok.ensures.open c.in-Ok.ensures.lines c.in-Ok.ensures.known c.list_moves.ensures
+returns-in-Ok g c = run_given (IsListing (g.T.Telling.tells c.args.telling.now) MAX_TABLES) c.list_moves.result _ _ _ _ c.in-Ok.ensures.held c.in-Ok.ensures.open c.in-Ok.ensures.lines c.in-Ok.ensures.known c.list_moves.ensures
 
 pub returns-in-Err : goal.returns-in-Err
-returns-in-Err g c = run_nothing (IsListing MAX_TABLES) c.end_by.result _ _ _ _ c.at_no_line.ensures (λ given out ending wrote. inr (record { fault = located Memory None; left = []; plans = λ apart. absurd (apart refl); wrote = wrote })) c.end_by.ensures
+returns-in-Err g c = run_nothing (IsListing (g.T.Telling.tells c.args.telling.now) MAX_TABLES) c.end_by.result _ _ _ _ c.at_no_line.ensures (λ given out ending wrote. inr (record { fault = located Memory None; left = []; plans = λ apart. absurd (apart refl); wrote = wrote })) c.end_by.ensures

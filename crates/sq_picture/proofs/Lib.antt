@@ -1,0 +1,5 @@
+mod Flat
+mod Tellings
+pub mod Appending
+pub mod Columns
+pub mod Nodes

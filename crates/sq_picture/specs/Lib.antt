@@ -1,0 +1,4 @@
+pub mod Json
+pub mod Svg
+pub mod MovesSvg
+pub mod TreeSvg

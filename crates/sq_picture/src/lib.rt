@@ -1,0 +1,13 @@
+//! What moves between two plans, as JSON and as a picture, and the tree of a segment as a picture.
+#![tactic(auto)]
+
+mod json_text;
+mod listing;
+mod moves_svg;
+mod svg;
+mod tree_svg;
+
+pub use json_text::moves_json;
+pub use listing::{listing_json, listing_svg};
+pub use moves_svg::write_moves_svg;
+pub use tree_svg::write_tree_svg;
