@@ -19,7 +19,7 @@ trap 'rm -r "$room"' EXIT
 
 # How many items the unread field has, the allocation that fails, and how many texts the first and the last input have.
 items=256
-failing=260
+failing=262
 fewest=65
 most=200
 

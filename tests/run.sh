@@ -307,6 +307,92 @@ try_files() {
     done
 }
 
+# parts INPUT: the parts of a whole input: its plans over many lines in old.json and new.json, its rows in rows.txt without
+# the end of the last line, and the rest in main.txt.
+parts() {
+    sed -n '1s/^old //p' "$1" | sed 's/,/ ,\n  /g' > "$room/old.json"
+    sed -n '2s/^new //p' "$1" | sed 's/,/ ,\n  /g' > "$room/new.json"
+    awk 'NR > 3 && (past || !/^row /) { past = 1 } NR > 3 && !past' "$1" | head -c -1 > "$room/rows.txt"
+    awk 'NR == 3; NR > 3 && (past || !/^row /) { past = 1; print }' "$1" > "$room/main.txt"
+}
+
+# in_parts NAME WORD [OPTION]: gives the parts of tests/NAME.in to a subcommand, with its main part as standard input and as
+# a file, and wants what the whole input has.
+in_parts() {
+    local named=(--old "$room/old.json" --new "$room/new.json" --rows "$room/rows.txt")
+    parts "$tests/$1.in"
+    give "$room/main.txt" "$2" "${named[@]}" "${@:3}"
+    judge "$2 of the parts of $1" 0 "$tests/$1.out" /dev/null
+    give /dev/null "$2" "${named[@]}" "$room/main.txt" "${@:3}"
+    judge "$2 of the parts of $1, all in files" 0 "$tests/$1.out" /dev/null
+}
+
+# fault_in_parts NAME NUMBER PLACE TEXT [WORD]: wants of the parts that lie in the room this fault, which is said of this
+# place with this text.
+fault_in_parts() {
+    echo "fault $2" > "$room/wanted"
+    echo "squall: $3: fault $2: $4" > "$room/said"
+    give "$room/main.txt" "${5:-run}" --old "$room/old.json" --new "$room/new.json" --rows "$room/rows.txt"
+    judge "$1" 2 "$room/wanted" "$room/said"
+}
+
+# The plans and the rows may stand in files of their own: what comes of them is what comes of the whole, and a fault is said
+# of the file.
+try_parts() {
+    local name word input=$tests/runs/moves_four_keys.in
+    for name in runs/moves_four_keys runs/tour runs/tour_in_stages runs/three_partitions runs/stages_of_the_new_plan; do
+        in_parts "$name" run
+    done
+    in_parts listings/the_last_key ranges
+    in_parts lives/moves_in_two_stages live
+    in_parts lives/four_partitions_round live
+    # Rows in the main part stand behind those of the file.
+    parts "$input"
+    sed -i '1a row 5 1 3 7 -' "$room/main.txt"
+    give "$room/main.txt" run --old "$room/old.json" --new "$room/new.json" --rows "$room/rows.txt"
+    sed 's,0\.0=10/-,& 1.3=7/-,' "${input%.in}.out" > "$room/wanted"
+    judge rows_in_both_parts 0 "$room/wanted" /dev/null
+    # The plans alone.
+    grep -v '^row ' "$input" > "$room/whole.in"
+    give "$room/whole.in" run
+    cp "$room/output" "$room/wanted"
+    parts "$input"
+    give "$room/main.txt" run --old "$room/old.json" --new "$room/new.json"
+    judge plans_in_files_and_no_rows 0 "$room/wanted" /dev/null
+    # Faults.
+    parts "$input"
+    sed -i 's/\[8/[9/' "$room/new.json"
+    fault_in_parts gap_in_the_file_of_a_plan 105 "$room/new.json" \
+        "the new plan's ranges don't follow one another from 0 to 4294967296, each nonempty"
+    echo '{"version":3}' > "$room/old.json"
+    fault_in_parts version_in_the_file_of_a_plan 103 "$room/old.json" "the old plan's version isn't 1 or 2" ranges
+    head -c 65533 /dev/zero | tr '\0' ' ' > "$room/old.json"
+    fault_in_parts file_of_a_plan_that_is_too_long 231 "$room/old.json" 'a line of the header has more than 65536 bytes'
+    parts "$input"
+    sed -i 's/^config [0-9]*/config 0/' "$room/main.txt"
+    fault_in_parts sizes_of_the_main_part 112 'standard input: line 1' "the width of a leaf isn't from 1 to 65536" live
+    parts "$input"
+    printf '\nrow 6 0 0 1 -\nrow 7 99 0 1 -' >> "$room/rows.txt"
+    fault_in_parts row_in_a_file 133 "$room/rows.txt: line 3" "a table isn't in the schema"
+    parts "$input"
+    sed -i '1a row 6 0 0 1 -\nrow 7 99 0 1 -' "$room/main.txt"
+    fault_in_parts row_in_the_main_part 133 'standard input: line 3' "a table isn't in the schema"
+    parts "$tests/lives/moves_in_two_stages.in"
+    echo 'txn 0 1' >> "$room/main.txt"
+    fault_in_parts job_in_the_main_part 126 "standard input: line $(wc -l < "$room/main.txt")" \
+        'a line behind the header is no transaction' live
+    # Files that can't be read.
+    for word in run ranges live; do
+        for name in old.json new.json rows.txt; do
+            parts "$input"
+            rm "$room/$name"
+            give "$room/main.txt" "$word" --old "$room/old.json" --new "$room/new.json" --rows "$room/rows.txt"
+            echo "squall: the file '$room/$name' can't be read: No such file or directory (os error 2)" > "$room/said"
+            judge "$word without $name" 2 /dev/null "$room/said"
+        done
+    done
+}
+
 # An input without end ends the run, a directory can't be read, and a full device can't be written.
 try_streams() {
     echo "fault 122" > "$room/wanted"
@@ -492,6 +578,12 @@ try_command_lines() {
     answer fold_twice 2 live --fold --fold
     answer fold_with_a_value 2 live --fold=yes
     answer version_of_run 2 run --version
+    answer old_without_new 2 run --old old.json
+    answer old_without_new 2 run --old old.json --rows rows.txt
+    answer new_without_old 2 ranges --new new.json --json
+    answer rows_without_plans 2 live --rows rows.txt
+    answer old_twice 2 run --old old.json --old old.json
+    answer json_and_svg 2 ranges --json --svg
 }
 
 # walk NAME TEXT: a walk of the tour is a stored run: the lines of its blocks that begin with '> ' are the input, and the
@@ -509,17 +601,52 @@ try_tour() {
     walk tour_in_stages "$(sed -n '/^## A second walk/,$p' "$page")"
 }
 
-# The code in docs/library.md is that of the caller of the library: its first block stands there, line by line.
+# The code in docs/library.md is that of the callers of the library: its first block stands in the one, and its second in the
+# one that embeds threads, line by line.
 try_library() {
-    sed -n '/^```rust$/,/^```$/p' "$top/docs/library.md" | sed '1d;$d' > "$room/told"
+    tell_block 1
     sed -n "/^use sq_world/,/^}\$/p" "$top/crates/sq_example/src/lib.rt" > "$room/code"
     count code_as_it_is_told "$(difference "$room/code" "$room/told")"
+    tell_block 2
+    sed -n '/^use sq_audit/,$p' "$top/crates/sq_thread_example/src/lib.rt" > "$room/code"
+    count code_of_threads_as_it_is_told "$(difference "$room/code" "$room/told")"
+}
+
+# tell_block NUMBER: the block of code of this number in docs/library.md.
+tell_block() {
+    awk -v wanted="$1" '/^```rust$/ { block++; inside = 1; next } /^```$/ { inside = 0 } inside && block == wanted' \
+        "$top/docs/library.md" > "$room/told"
 }
 
 # The picture of the crates is the one that is drawn of them.
 try_picture_of_crates() {
     bash "$tests/crates_graph.sh" > "$room/picture"
     count crates_as_they_are_drawn "$(difference "$top/docs/crates.svg" "$room/picture")"
+}
+
+# What moves, as JSON and as a picture. The faults are those of the listing.
+try_pictures() {
+    local input name option status line
+    for option in json svg; do
+        for input in "$tests"/pictures/*.in; do
+            name=${input%.in}
+            give "$input" ranges "--$option"
+            judge "ranges --$option $(basename "$name")" 0 "$name.$option" /dev/null
+        done
+        for input in "$tests"/listings/*.status; do
+            name=${input%.status}
+            read -r status _ _ line < "$input"
+            give "$name.in" ranges "--$option"
+            said "$(sed 's/fault //' "$name.out")" "$line" > "$room/said"
+            judge "ranges --$option $(basename "$name")" "$status" "$name.out" "$room/said"
+        done
+    done
+}
+
+# The picture of what moves in docs is that of the example.
+try_picture_of_moves() {
+    count moves_as_they_are_drawn "$(difference "$tests/pictures/two_ranges.svg" "$top/docs/moves.svg")"
+    count moves_of_the_example "$(difference "$examples/ranges.txt" "$tests/pictures/two_ranges.in")"
 }
 
 # The answers in the README are those of its first example.
@@ -538,6 +665,7 @@ try_tour
 try_readme
 try_library
 try_picture_of_crates
+try_picture_of_moves
 for program in "${programs[@]}"; do
     if [ ! -x "$program" ]; then
         echo "tests: no program at $program: run 'rt ci' at the top first" >&2
@@ -552,6 +680,8 @@ for program in "${programs[@]}"; do
     try_numbers
     try_echoes
     try_files
+    try_parts
+    try_pictures
     try_lives
     try_live_rounds
     try_live_limits

@@ -8,10 +8,7 @@ use Rattle.clap.specs.Built.{AddsArg}
 use Rattle.clap.specs.declared.builder.arg.Arg.{Arg}
 use Rattle.clap.specs.declared.builder.command.Command.{Command}
 use Rattle.clap.specs.declared.builder.command.Command.TheViews.{out-Command}
-
--- the shape with one rule more
-abbrev pub larger : Shape → Rule → Shape
-larger shape rule = record shape { rules = shape.rules ++ rule ∷ [] }
+use Rattle.sq_command.specs.Commands.{larger}
 
 -- an argument that goes for the command alone adds its rule, and nothing that goes for all
 module _ (old new : Command) (arg : Arg) (adds : AddsArg old arg new) (own : arg.global ≡ false) where

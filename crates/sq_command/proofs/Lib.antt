@@ -1,3 +1,4 @@
 mod Subcommands
 pub mod Options
 mod Arguments
+mod Clashes

@@ -1,10 +1,10 @@
 -- What the words of a command line name where `clap` finds no fault in them.
-use Rattle.std.proofs.Common.{◌≡◌, ◌⊎◌, inl, inr, ◌∙◌, ℕ, Bool, true, false, not, ◌&&◌, ◌||◌, if◌then◌else◌, cond, List, [], ◌∷◌, Option, Some, None, refl, sym, ap, subst, codes, bytes_eq, drop, fold, option_map, is_some, true≢false}
+use Rattle.std.proofs.Common.{◌≡◌, ◌⊎◌, inl, inr, ◌∙◌, ℕ, Bool, true, false, not, ◌&&◌, ◌||◌, if◌then◌else◌, cond, List, [], ◌∷◌, Option, Some, None, refl, sym, ap, subst, codes, bytes_eq, unwrap_or, drop, fold, option_map, is_some, true≢false}
 use Rattle.std.proofs.lemmas.Slice.Eq.{bytes_eq-Decides}
 use Rattle.std.specs.Bool.{one_answer}
 use Rattle.clap.specs.Walk.{Held, Names, Outcome, Row, Rule, Step, Text, Waiting, Walk, idle, option, positional, next, trailing, subcommand, value, done, waits, plain, refused, after_flag, after_step, finished, settled, arg_by_index, arg_by_long, bundle, long_met, long_or_other, nothing_held, plain_word, short_or_plain, stop_after, subcommand_met, subcommand_or_other, to_positional, walk_from, walk, walked, walked_from, word_met}
 use Rattle.clap.specs.Lexer.{long_of, short_of}
-use Rattle.clap.specs.Kinds.{Kinds, or_else}
+use Rattle.clap.specs.Kinds.{Kinds, HasKind, or_else}
 use Rattle.clap.specs.Faults.{check_fault, defaults_fault, entered_fault, fault_of, other_fault, settle_fault, step_fault, turn_fault, walk_fault, word_fault, is_simple_and_free}
 use Rattle.clap.specs.Simple.{Shape, built, entered, names_of, new_shape, rows_at, subcommand_of, App, HasMatchesOf, app_of, is_simple, subcommand_rows, subcommand_rows_of}
 use Rattle.clap.specs.Matches.{subcommand_name_of}
@@ -15,7 +15,12 @@ use Rattle.clap.specs.declared.parser.matches.SubCommand.{SubCommand}
 use Rattle.std.specs.Prelude.{Box}
 use Rattle.std.specs.Box.{box_value}
 use Rattle.clap.specs.declared.error.kind.ErrorKind.TheVariants.{DisplayHelp, InvalidSubcommand}
-use Rattle.sq_command.specs.Line.{squall}
+use Rattle.std.specs.Prelude.{Result, Ok, Err, IfOk}
+use Rattle.clap.specs.declared.error.Error.{Error}
+use Rattle.sq_command.specs.Commands.{squall}
+use Rattle.sq_command.specs.Line.{IsLineOf, Asks, Settles, ComesOf, LineIsWithin}
+use Rattle.sq_command.specs.declared.clash.Clash.{Clash}
+use Rattle.sq_command.specs.declared.line.Line.{Line}
 
 -- ---- what finds no fault
 
@@ -189,7 +194,12 @@ pub without_fault : (command : Command) (words : List Text) → app_of command �
     → (is_simple_and_free (app_of command) ≡ true → fault_of (app_of command) words ≡ []) → fault_of squall words ≡ []
 without_fault command words is_squall kinds = subst (λ (a : App). fault_of a words ≡ []) is_squall (kinds (ap is_simple_and_free is_squall))
 
--- and has met a subcommand of the command
+-- and one that fails finds one
+pub with_fault : (command : Command) (words : List Text) (error : Error) → app_of command ≡ squall
+    → (is_simple_and_free (app_of command) ≡ true → HasKind (fault_of (app_of command) words) error) → HasKind (fault_of squall words) error
+with_fault command words error is_squall kinds = subst (λ (a : App). HasKind (fault_of a words) error) is_squall (kinds (ap is_simple_and_free is_squall))
+
+-- a parse that succeeds has met a subcommand of the command
 pub met_own : (command : Command) (words : List Text) (m : ArgMatches) → app_of command ≡ squall
     → (is_simple_and_free (app_of command) ≡ true → fault_of (app_of command) words ≡ []) → HasMatchesOf (app_of command) words m
     → IsOwn (subcommand_name_of m)
@@ -197,3 +207,39 @@ met_own command words m is_squall kinds matches =
     let rows : subcommand_rows_of m ≡ subcommand_of squall words = (matches (ap is_simple is_squall)).1 ∙ ap (λ (a : App). subcommand_of a words) is_squall in
     let same : subcommand_name_of m ≡ name_met (subcommand_of squall words) = name_in_rows (out-ArgMatches m).subcommand ∙ ap name_met rows in
     subst IsOwn (sym same) (names_one words (without_fault command words is_squall kinds))
+
+-- a subcommand by its name and by its rows
+by_parts : (sub : Option (Text × List Row)) (name : Text) (rows : List Row) → Some name ≡ name_met sub → Some rows ≡ option_map (λ p. p.1) sub → sub ≡ Some (name, rows)
+by_parts None name rows named told = cc named
+by_parts (Some p) name rows named told = λ i. Some (unwrap_or (sym named i) name, unwrap_or (sym told i) rows)
+
+-- the subcommand that a parse has met is the one that the words name
+pub met_is : (command : Command) (words : List Text) (m : ArgMatches) (name : Text) (rows : List Row) → app_of command ≡ squall → HasMatchesOf (app_of command) words m
+    → Some name ≡ subcommand_name_of m → Some rows ≡ option_map (λ p. p.1) (subcommand_rows_of m) → subcommand_of squall words ≡ Some (name, rows)
+met_is command words m name rows is_squall matches named told =
+    let same : subcommand_rows_of m ≡ subcommand_of squall words = (matches (ap is_simple is_squall)).1 ∙ ap (λ (a : App). subcommand_of a words) is_squall in
+    sym same ∙ by_parts (subcommand_rows_of m) name rows (named ∙ name_in_rows (out-ArgMatches m).subcommand) told
+
+-- a name that is compared with a text is this text
+pub is_text : (name text : Text) → true ≡ bytes_eq name text → name ≡ text
+is_text name text same = (bytes_eq-Decides name text).0 (sym same)
+
+-- what comes of words in which no fault is found, by what the options of their subcommand ask for
+module _ (words : List Text) (name : Text) (rows : List Row) (free : fault_of squall words ≡ []) (met : subcommand_of squall words ≡ Some (name, rows)) where
+  pub line_comes : (line : Line) → IsLineOf (Some (name, rows)) line → ComesOf words (Ok line)
+  line_comes line is = (free, rw met is)
+
+  pub settled_comes : (IsLine : List Row → Line → Type 0) → ((line : Line) → IsLine rows line → IsLineOf (Some (name, rows)) line)
+      → (asked : Result Line Clash) (result : Result Line Error) → Settles asked result → Asks IsLine rows asked → ComesOf words result
+  settled_comes IsLine is_own (Ok line) (Ok settled) same asks = line_comes settled (rw same (is_own line asks))
+  settled_comes IsLine is_own (Ok line) (Err error) same asks = absurd same
+  settled_comes IsLine is_own (Err clash) (Ok settled) same asks = absurd same
+  settled_comes IsLine is_own (Err clash) (Err error) (inl memory) asks = inl (inl memory)
+  settled_comes IsLine is_own (Err clash) (Err error) (inr kind) asks = inr (free, rw (met, kind) asks)
+
+-- a line that settles is within its limits where the one that was asked for is
+pub settled_within : (asked : Result Line Clash) (result : Result Line Error) → Settles asked result → IfOk asked LineIsWithin → IfOk result LineIsWithin
+settled_within (Ok line) (Ok settled) same within = rw same within
+settled_within (Ok line) (Err error) same within = absurd same
+settled_within (Err clash) (Ok settled) same within = absurd same
+settled_within (Err clash) (Err error) same within = tt

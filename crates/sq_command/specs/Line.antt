@@ -1,65 +1,25 @@
--- The program's command, as `clap` reads it.
-use Rattle.std.specs.Prelude.{◌≡◌, ◌⊎◌, ◌≤◌, ◌<◌, ◌^◌, ℕ, Bool, List, [], ◌∷◌, ◌++◌, true, false, codes, pos, Option, Some, None, option_map}
+-- What the words of a command line ask for.
+use Rattle.std.specs.Prelude.{◌≡◌, ◌⊎◌, ◌≤◌, ◌<◌, ◌^◌, ◌&&◌, ◌||◌, not, ℕ, Bool, List, true, false, codes, [], Option, Some, None, option_map, is_some, IsSomeAnd, Result, Ok, Err}
 use Rattle.std.specs.Borrow.{Bor}
 use Rattle.std.specs.Str.Parse.{IsNumeral, digits_value, without_leading_plus}
-use Rattle.clap.specs.Values.{IsUnsignedIn}
-use Rattle.clap.specs.Walk.{Text, Row, Rule, first_of, one_of}
-use Rattle.clap.specs.Words.{App, with_subcommand}
-use Rattle.clap.specs.Simple.{Shape, new_shape, new_rule}
-use Rattle.clap.specs.declared.builder.action.ArgAction.TheVariants.{SetTrue}
-use Rattle.clap.specs.declared.builder.value_parser.ValueParser.{ValueParser}
-use Rattle.clap.specs.declared.builder.value_parser.ValueParser.TheVariants.{Signed, Unsigned}
+use Rattle.clap.specs.Values.{IsUnsignedIn, kind_of}
+use Rattle.clap.specs.Walk.{Text, Row, first_of, one_of}
+use Rattle.clap.specs.Words.{HasKind, fault_of, subcommand_of}
+use Rattle.clap.specs.declared.error.Error.{Error}
+use Rattle.clap.specs.declared.error.kind.ErrorKind.{ErrorKind}
+use Rattle.clap.specs.declared.error.kind.ErrorKind.TheVariants.{MissingRequiredArgument, ArgumentConflict, OutOfMemory}
+use Rattle.sq_command.specs.Commands.{squall}
+use Rattle.sq_command.specs.declared.clash.Clash.{Clash}
+use Rattle.sq_command.specs.declared.clash.Clash.TheVariants.{NoOld, NoNew, NoPlans, TwoForms}
 use Rattle.sq_command.specs.declared.line.TheConstants.{MAX_TURNS, MAX_PUMPS, TURNS, PUMPS}
+use Rattle.sq_command.specs.declared.line.Input.{Input}
+use Rattle.sq_command.specs.declared.line.Plans.{Plans}
+use Rattle.sq_command.specs.declared.line.Form.{Form}
+use Rattle.sq_command.specs.declared.line.Form.TheVariants.{Lines, Json, Svg}
 use Rattle.sq_command.specs.declared.line.Task.{Task}
 use Rattle.sq_command.specs.declared.line.Task.TheVariants.{Run, Ranges, Live}
 use Rattle.sq_command.specs.declared.line.Line.{Line}
 use Rattle.sq_command.specs.declared.line.Line.TheVariants.{Work, Explain}
-
--- the program tells its version, and wants a subcommand
-abbrev pub program : Shape
-program = record (new_shape (codes "squall")) { has_version = true; subcommand_required = true }
-
--- an option with a value that this parser takes, and the one that stands where it isn't given
-abbrev pub option_rule : Text → ValueParser → Text → Rule
-option_rule name parser default = record (new_rule name) { long = Some name; value_names = 1; parser = Some parser; defaults = default ∷ [] }
-
--- an option that takes no value
-abbrev pub flag_rule : Text → Rule
-flag_rule name = record (new_rule name) { long = Some name; action = Some SetTrue }
-
--- a word without an option's name: the file to read
-abbrev pub file_rule : Rule
-file_rule = record (new_rule (codes "file")) { value_names = 1 }
-
--- one that is a number of 16 bits
-abbrev pub number_rule : Rule
-number_rule = record (new_rule (codes "number")) { value_names = 1; parser = Some (Signed (pos 0) (pos 65535)) }
-
--- the subcommand that makes the steps of a script
-abbrev pub run_shape : Shape
-run_shape = record (new_shape (codes "run")) { rules = file_rule ∷ flag_rule (codes "echo") ∷ [] }
-
--- the subcommand that tells what moves
-abbrev pub ranges_shape : Shape
-ranges_shape = record (new_shape (codes "ranges")) { rules = file_rule ∷ [] }
-
--- the subcommand that runs jobs in threads, with its options for numbers
-abbrev pub numbered_shape : Shape
-numbered_shape = record (new_shape (codes "live")) {
-  rules = option_rule (codes "turns") (Unsigned 1 MAX_TURNS) (codes "1000000") ∷ option_rule (codes "pumps") (Unsigned 1 MAX_PUMPS) (codes "1") ∷ [];
-}
-
--- and with its file and its flag
-abbrev pub live_shape : Shape
-live_shape = record numbered_shape { rules = numbered_shape.rules ++ file_rule ∷ flag_rule (codes "fold") ∷ [] }
-
--- the subcommand that tells what numbers mean
-abbrev pub explain_shape : Shape
-explain_shape = record (new_shape (codes "explain")) { rules = number_rule ∷ [] }
-
--- the command with its subcommands
-abbrev pub squall : App
-squall = with_subcommand (with_subcommand (with_subcommand (with_subcommand (record { top = program; subs = [] }) run_shape) ranges_shape) live_shape) explain_shape
 
 -- the number of an option with this text: the one that the text spells, from 1 up to the most that it may be, or else the one that stands for it
 abbrev pub NumberOf : ℕ → ℕ → Option Text → ℕ → Type 0
@@ -84,38 +44,53 @@ pub record FlagOf (text : Option Text) (flag : Bool) : Type 0 where
   pub denied : text ≡ Some (codes "false") → flag ≡ false
   pub without : text ≡ None → flag ≡ false
 
--- the file is the one that is named, if one is
-abbrev pub IsFileOf : List Row → Option (Bor Text) → Type 0
-IsFileOf rows file = option_map (λ name. name.now) file ≡ first_of (codes "file") rows
+-- the name is the one that this option has, if it has one
+abbrev pub IsNameOf : Text → List Row → Option (Bor Text) → Type 0
+IsNameOf id rows name = option_map (λ text. text.now) name ≡ first_of id rows
+
+-- the plans are those of the two files that are named, with the rows of a third if it is named; or none of the three is
+abbrev pub ArePlansOf : List Row → Option Plans → Type 0
+ArePlansOf rows None = IsNameOf (codes "old") rows None × IsNameOf (codes "new") rows None × IsNameOf (codes "rows") rows None
+ArePlansOf rows (Some plans) = IsNameOf (codes "old") rows (Some plans.old) × IsNameOf (codes "new") rows (Some plans.new) × IsNameOf (codes "rows") rows plans.rows
+
+-- the input comes from the files that are named
+abbrev pub IsInputOf : List Row → Input → Type 0
+IsInputOf rows input = IsNameOf (codes "file") rows input.file × ArePlansOf rows input.plans
+
+-- what moves is told as lines, or else as the one flag says
+abbrev pub IsFormOf : List Row → Form → Type 0
+IsFormOf rows Lines = FlagOf (one_of (codes "json") rows) false × FlagOf (one_of (codes "svg") rows) false
+IsFormOf rows Json = FlagOf (one_of (codes "json") rows) true × FlagOf (one_of (codes "svg") rows) false
+IsFormOf rows Svg = FlagOf (one_of (codes "json") rows) false × FlagOf (one_of (codes "svg") rows) true
 
 -- the task is a run, with echoes where that flag is given
 abbrev pub IsRunTask : List Row → Task → Type 0
 IsRunTask rows (Run echoes) = FlagOf (one_of (codes "echo") rows) echoes
-IsRunTask rows Ranges = ⊥
+IsRunTask rows (Ranges form) = ⊥
 IsRunTask rows (Live turns pumps folds) = ⊥
 
--- the task is a listing
+-- the task is a listing, of the form that is asked for
 abbrev pub IsRangesTask : List Row → Task → Type 0
 IsRangesTask rows (Run echoes) = ⊥
-IsRangesTask rows Ranges = Unit {0}
+IsRangesTask rows (Ranges form) = IsFormOf rows form
 IsRangesTask rows (Live turns pumps folds) = ⊥
 
--- the task is a live run with the numbers of these options, and with folds where that flag is given
+-- the task is a live run with the numbers and the flag of these options
 abbrev pub IsLiveTask : List Row → Task → Type 0
 IsLiveTask rows (Run echoes) = ⊥
-IsLiveTask rows Ranges = ⊥
+IsLiveTask rows (Ranges form) = ⊥
 IsLiveTask rows (Live turns pumps folds) =
     NumberOf MAX_TURNS TURNS (one_of (codes "turns") rows) turns × NumberOf MAX_PUMPS PUMPS (one_of (codes "pumps") rows) pumps
     × FlagOf (one_of (codes "fold") rows) folds
 
--- the line does a task of which this holds with the file that is named
+-- the line does a task of which this holds with the input that is named
 abbrev pub IsWorkLine : (List Row → Task → Type 0) → List Row → Line → Type 0
-IsWorkLine IsTask rows (Work task file) = IsTask rows task × IsFileOf rows file
+IsWorkLine IsTask rows (Work task input) = IsTask rows task × IsInputOf rows input
 IsWorkLine IsTask rows (Explain number) = ⊥
 
 -- the line tells the number that is named
 abbrev pub IsExplainLine : List Row → Line → Type 0
-IsExplainLine rows (Work task file) = ⊥
+IsExplainLine rows (Work task input) = ⊥
 IsExplainLine rows (Explain number) = GivenNumber (one_of (codes "number") rows) number
 
 -- this is what words ask for by which `clap` finds this subcommand with these options
@@ -127,13 +102,52 @@ IsLineOf (Some sub) line =
     ⊎ (((sub.0 ≡ codes "live") × IsWorkLine IsLiveTask sub.1 line)
     ⊎ ((sub.0 ≡ codes "explain") × IsExplainLine sub.1 line)))
 
+-- one of the three files beside the input is named, and of the plans one is missing
+abbrev pub lacks_plan : List Row → Bool
+lacks_plan rows =
+    let old = is_some (first_of (codes "old") rows) in
+    let new = is_some (first_of (codes "new") rows) in
+    (old || (new || is_some (first_of (codes "rows") rows))) && not (old && new)
+
+-- the options don't go together, each for its reason: a file of a plan is missing, or two forms are asked for
+abbrev pub Clashes : List Row → ErrorKind → Type 0
+Clashes rows kind =
+    ((kind ≡ MissingRequiredArgument) × (lacks_plan rows ≡ true))
+    ⊎ ((kind ≡ ArgumentConflict) × FlagOf (one_of (codes "json") rows) true × FlagOf (one_of (codes "svg") rows) true)
+
+-- the kind of error that a clash is told as
+abbrev pub clash_kind : Clash → ErrorKind
+clash_kind TwoForms = ArgumentConflict
+clash_kind clash = MissingRequiredArgument
+
+-- what options come to: something of which this holds, or a clash among them
+abbrev pub Asks : {A : Type 0} → (List Row → A → Type 0) → List Row → Result A Clash → Type 0
+Asks Holds rows (Ok asked) = Holds rows asked
+Asks Holds rows (Err clash) = Clashes rows (clash_kind clash)
+
+-- a line stays, and a clash becomes an error of its kind, unless memory runs out
+abbrev pub Settles : Result Line Clash → Result Line Error → Type 0
+Settles (Ok line) (Ok settled) = settled ≡ line
+Settles (Ok line) (Err error) = ⊥
+Settles (Err clash) (Ok settled) = ⊥
+Settles (Err clash) (Err error) = (kind_of error ≡ OutOfMemory) ⊎ (kind_of error ≡ clash_kind clash)
+
+-- `clap` finds no fault in the words, and the options of their subcommand don't go together
+abbrev pub ClashesAt : List Text → ErrorKind → Type 0
+ClashesAt words kind = (fault_of squall words ≡ []) × IsSomeAnd (subcommand_of squall words) (λ sub. Clashes sub.1 kind)
+
+-- what comes of words: a line, where they have no fault; else memory ran out, `clap` finds a fault of this kind, or options don't go together
+abbrev pub ComesOf : List Text → Result Line Error → Type 0
+ComesOf words (Ok line) = (fault_of squall words ≡ []) × IsLineOf (subcommand_of squall words) line
+ComesOf words (Err error) = HasKind (fault_of squall words) error ⊎ ClashesAt words (kind_of error)
+
 -- the numbers of a task are within their limits
 abbrev pub IsWithin : Task → Type 0
 IsWithin (Run echoes) = Unit {0}
-IsWithin Ranges = Unit {0}
+IsWithin (Ranges form) = Unit {0}
 IsWithin (Live turns pumps folds) = (1 ≤ turns) × (turns ≤ MAX_TURNS) × (1 ≤ pumps) × (pumps ≤ MAX_PUMPS)
 
 -- and so are those of a line
 abbrev pub LineIsWithin : Line → Type 0
-LineIsWithin (Work task file) = IsWithin task
+LineIsWithin (Work task input) = IsWithin task
 LineIsWithin (Explain number) = Unit {0}

@@ -22,6 +22,11 @@ the move, the plan after it, the sizes (root keys in a leaf, bytes in a chunk,
 chunks on a link), and the rows that there are. A line of the script is a step:
 of a client, a partition, a pull or the leader of the move.
 
+The plans may stand in files of their own, laid out over as many lines as you
+like, and so may the lines of the rows. Then the input begins with the sizes:
+
+squall run --old old.json --new new.json --rows rows.txt script.txt
+
 Standard output gets one line for each step, and at the end where all rows are.
 A step that is refused changes nothing. Its line is 'refused' and a number, which
 'squall explain' explains. With --echo each answer stands behind its step, as in
@@ -64,12 +69,17 @@ Exit status:
 pub const RANGES: &str =
     r#"The input holds three lines: the plan before the move, the plan after it,
 and the sizes, of which the first, the root keys in a leaf, says how ranges are
-cut into segments of 32 leaves. What follows isn't looked at.
+cut into segments of 32 leaves. What follows isn't looked at. With --old and --new
+the plans stand in files of their own, laid out over as many lines as you like,
+and the input begins with the sizes:
+
+squall ranges --old old.json --new new.json sizes.txt
 
 Standard output gets a line for each range of root keys that moves, and then one
 for each segment: from which key on, below which key, from which partition, and
 to which. Where the move has several stages, a segment's line ends with the
-number of its stage.
+number of its stage. With --json it gets all this as one JSON value instead, and
+with --svg as a picture.
 
 Example:
 
@@ -95,7 +105,8 @@ pub const LIVE: &str = r#"The input holds a header, as for 'squall run', and the
 transaction that is posted to partition P. Each partition runs in a thread of
 its own. The partitions answer the jobs, and meanwhile their rows move to the
 places of the new plan: a job pulls the rows that it waits for, and pumps, each a
-thread too, claim the rest in the background.
+thread too, claim the rest in the background. The plans and the rows may stand in
+files of their own, as for 'squall run'.
 
 In a turn a thread makes each of its steps once, and a partition takes at most one
 new job. So a partition needs as many turns as jobs are posted to it, or more where

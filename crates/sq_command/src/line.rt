@@ -1,25 +1,53 @@
 // What a command line asks for.
-ghost use Rattle.std.specs.Prelude.{◌≡◌, ◌≤◌, ◌++◌, ◌∷◌, [], IfOk, false, map};
+ghost use Rattle.std.specs.Prelude.{◌≡◌, ◌≤◌, IfOk, map};
 ghost use Rattle.clap.specs.Matches.{found_of};
-ghost use Rattle.clap.specs.Walk.{one_of, rows_of, rule_of};
-ghost use Rattle.clap.specs.Simple.{new_shape, subcommand_of};
-ghost use Rattle.clap.specs.Words.{FailsBy, app_of, fault_of, shape_of};
-ghost use Rattle.clap.specs.declared.builder.command.Command.TheViews.{out-Command};
-ghost use Rattle.sq_command.specs.Line.{program, squall, option_rule, flag_rule, file_rule, run_shape, ranges_shape, numbered_shape, live_shape, explain_shape, NumberOf, IsRunTask, IsRangesTask, IsLiveTask, IsWorkLine, IsExplainLine, IsLineOf, LineIsWithin};
+ghost use Rattle.clap.specs.Walk.{one_of, rows_of};
+ghost use Rattle.sq_command.specs.Line.{NumberOf, FlagOf, IsNameOf, ArePlansOf, IsInputOf, IsFormOf, IsRunTask, IsRangesTask, IsLiveTask, IsWorkLine, IsExplainLine, Asks, Settles, ComesOf, LineIsWithin};
 
-use crate::help;
-use clap::builder::ValueParser;
-use clap::{Arg, ArgAction, ArgMatches, Command, Error, value_parser};
-use std::alloc::{AllocError, Global};
+use crate::clash::{Clash, refusal};
+use crate::commands::command;
+use clap::{ArgMatches, Error};
+use std::alloc::Global;
 use std::convert::AsStr;
 
 /// What the program is to do.
 #[derive(Clone, Copy, Debug, PartialEq, Eq)]
 pub enum Line<'a> {
-    /// Do this with what the file of this name holds, or with standard input where there is none.
-    Work { task: Task, file: Option<&'a str> },
+    /// Do this with that input.
+    Work { task: Task, input: Input<'a> },
     /// Tell what this number means, or all numbers.
     Explain { number: Option<u16> },
+}
+
+/// Where an input comes from.
+#[derive(Clone, Copy, Debug, PartialEq, Eq)]
+pub struct Input<'a> {
+    /// The file of this name, or standard input where there is none.
+    pub file: Option<&'a str>,
+    /// The files of the plans, where they have files of their own.
+    pub plans: Option<Plans<'a>>,
+}
+
+/// The files that hold the plans of a move.
+#[derive(Clone, Copy, Debug, PartialEq, Eq)]
+pub struct Plans<'a> {
+    /// The name of the file that holds the plan before the move.
+    pub old: &'a str,
+    /// The name of the file that holds the plan after the move.
+    pub new: &'a str,
+    /// The name of the file that holds the rows, where they have one.
+    pub rows: Option<&'a str>,
+}
+
+/// How it is told what moves.
+#[derive(Clone, Copy, Debug, PartialEq, Eq)]
+pub enum Form {
+    /// A line for each range and for each segment.
+    Lines,
+    /// One JSON value.
+    Json,
+    /// A picture.
+    Svg,
 }
 
 /// What is to be done with an input.
@@ -31,7 +59,10 @@ pub enum Task {
         echoes: bool,
     },
     /// Tell what moves between two plans.
-    Ranges,
+    Ranges {
+        /// How it is told.
+        form: Form,
+    },
     /// Run jobs in threads while rows move.
     Live {
         /// How many turns each thread takes at most.
@@ -42,9 +73,6 @@ pub enum Task {
         folds: bool,
     },
 }
-
-// The version that `--version` tells.
-const VERSION: &str = "0.1.0";
 
 /// The most turns that a thread of a live run takes.
 pub const MAX_TURNS: u64 = 1_000_000_000;
@@ -57,242 +85,79 @@ pub const TURNS: u64 = 1_000_000;
 
 pub const PUMPS: u64 = 1;
 
-// The program's command without its subcommands, of which it wants one.
-fn program<'a>(alloc: Global) -> Command<'a>
-    ensures app { app_of result ≡ record { top = program; subs = [] } }
-    ensures local { (out-Command result).has_globals ≡ false }
-{
-    Command::new(alloc, "squall")
-        .about("Moves the rows of a partitioned database to the places of another plan")
-        .after_help(help::PROGRAM)
-        .version(VERSION)
-        .subcommand_required(true)
-}
-
-// A subcommand that takes no further words, with what its help text says.
-fn subcommand<'a>(alloc: Global, name: &'a str, about: &'a str, after_help: &'a str) -> Command<'a>
-    ensures shape { shape_of result ≡ new_shape name.entry.now }
-    ensures local { (out-Command result).has_globals ≡ false }
-{
-    Command::new(alloc, name)
-        .about(about)
-        .after_help(after_help)
-}
-
-// An option for a number, and the one that stands where it isn't given.
-fn option<'a>(
-    alloc: Global,
-    name: &'a str,
-    help: &'a str,
-    parser: ValueParser<'a>,
-    default: &'a str,
-) -> Arg<'a>
-    ensures rule { rule_of result ≡ option_rule name.entry.now parser.entry default.entry.now }
-    ensures local { result.global ≡ false }
-{
-    Arg::new(alloc, name)
-        .long(name)
-        .value_name("N")
-        .help(help)
-        .value_parser(parser)
-        .default_value(default)
-}
-
-// An option that takes no value.
-fn flag<'a>(alloc: Global, name: &'a str, help: &'a str) -> Arg<'a>
-    ensures rule { rule_of result ≡ flag_rule name.entry.now }
-    ensures local { result.global ≡ false }
-{
-    Arg::new(alloc, name)
-        .long(name)
-        .help(help)
-        .action(ArgAction::SetTrue)
-}
-
-// The name of a file, which may be left out.
-fn file<'a>(alloc: Global) -> Arg<'a>
-    ensures rule { rule_of result ≡ file_rule }
-    ensures local { result.global ≡ false }
-{
-    Arg::new(alloc, "file")
-        .value_name("FILE")
-        .help("The file to read, in place of standard input")
-}
-
-// The command with one argument more.
-fn with<'a>(command: Command<'a>, arg: Arg<'a>) -> Result<Command<'a>, AllocError>
-    requires { arg.global ≡ false }
-    ensures shape { IfOk result (λ larger. shape_of larger ≡ record (shape_of command.entry) { rules = (shape_of command.entry).rules ++ rule_of arg.entry ∷ [] }) }
-    ensures local { IfOk result (λ larger. (out-Command larger).has_globals ≡ (out-Command command.entry).has_globals) }
-{
-    command.arg(arg)
-}
-
-// The subcommand that makes the steps of a script.
-fn run<'a>(alloc: Global) -> Result<Command<'a>, AllocError>
-    ensures shape { IfOk result (λ command. shape_of command ≡ run_shape) }
-    ensures local { IfOk result (λ command. (out-Command command).has_globals ≡ false) }
-{
-    let plain = subcommand(
-        alloc,
-        "run",
-        "Makes the steps of a script, and answers each",
-        help::RUN,
-    );
-    let echo = flag(
-        alloc,
-        "echo",
-        "Write each step before its answer, and what the number of a refusal means",
-    );
-    let named = with(plain, file(alloc))?;
-    with(named, echo)
-}
-
-// The subcommand that tells what moves.
-fn ranges<'a>(alloc: Global) -> Result<Command<'a>, AllocError>
-    ensures shape { IfOk result (λ command. shape_of command ≡ ranges_shape) }
-    ensures local { IfOk result (λ command. (out-Command command).has_globals ≡ false) }
-{
-    let plain = subcommand(
-        alloc,
-        "ranges",
-        "Tells what moves between two plans",
-        help::RANGES,
-    );
-    with(plain, file(alloc))
-}
-
-// The subcommand that runs jobs in threads, with its options for numbers.
-fn numbered<'a>(alloc: Global) -> Result<Command<'a>, AllocError>
-    ensures shape { IfOk result (λ command. shape_of command ≡ numbered_shape) }
-    ensures local { IfOk result (λ command. (out-Command command).has_globals ≡ false) }
-{
-    let turns = option(
-        alloc,
-        "turns",
-        "How many turns each thread takes at most in a stage; in a turn a partition takes one new job",
-        value_parser!(u64).range(1..=1_000_000_000),
-        "1000000",
-    );
-    let pumps = option(
-        alloc,
-        "pumps",
-        "How many threads claim rows in the background, up to 16",
-        value_parser!(u64).range(1..=16),
-        "1",
-    );
-    subcommand(
-        alloc,
-        "live",
-        "Runs jobs in threads while rows move, and audits what is left",
-        help::LIVE,
-    )
-    .arg(turns)?
-    .arg(pumps)
-}
-
-// The subcommand that runs jobs in threads.
-fn live<'a>(alloc: Global) -> Result<Command<'a>, AllocError>
-    ensures shape { IfOk result (λ command. shape_of command ≡ live_shape) }
-    ensures local { IfOk result (λ command. (out-Command command).has_globals ≡ false) }
-{
-    let fold = flag(
-        alloc,
-        "fold",
-        "Audit what is answered between two stages, and fold the logs",
-    );
-    let numbered = numbered(alloc)?;
-    let named = with(numbered, file(alloc))?;
-    with(named, fold)
-}
-
-// The subcommand that tells what numbers mean.
-fn explain<'a>(alloc: Global) -> Result<Command<'a>, AllocError>
-    ensures shape { IfOk result (λ command. shape_of command ≡ explain_shape) }
-    ensures local { IfOk result (λ command. (out-Command command).has_globals ≡ false) }
-{
-    let plain = subcommand(
-        alloc,
-        "explain",
-        "Tells what a number means, what it is given to, and what to do about it",
-        help::EXPLAIN,
-    );
-    let number = Arg::new(alloc, "number")
-        .value_name("NUMBER")
-        .help("The number; all of them where none is given")
-        .value_parser(value_parser!(u16));
-    with(plain, number)
-}
-
-// The program's command, with a subcommand for each line.
-fn command<'a>(alloc: Global) -> Result<Command<'a>, AllocError>
-    ensures { IfOk result (λ command. app_of command ≡ squall) }
-{
-    let run = run(alloc)?;
-    let ranges = ranges(alloc)?;
-    let live = live(alloc)?;
-    let explain = explain(alloc)?;
-    program(alloc)
-        .subcommand(run)?
-        .subcommand(ranges)?
-        .subcommand(live)?
-        .subcommand(explain)
-}
-
-/// What the words of a command line ask for; the first of them is the program's name. An error is `clap`'s: the words
-/// aren't of the command's form, or ask for a help text or the version, or memory ran out.
+/// What the words of a command line ask for; the first of them is the program's name. An error is told in `clap`'s form:
+/// the words aren't of the command's form, or ask for a help text or the version, or have options that don't go together,
+/// or memory ran out. `--old` and `--new` stand together or not at all, `--rows` wants both, and of `--json` and `--svg`
+/// there is one at most.
 pub fn line_of<'a, S: AsStr>(alloc: Global, words: &'a [S]) -> Result<Line<'a>, Error>
-    ensures named { IfOk result (IsLineOf (subcommand_of squall (map S.text words.now))) }
+    ensures comes { ComesOf (map S.text words.now) result }
     ensures within { IfOk result LineIsWithin }
-    ensures fails { FailsBy (fault_of squall (map S.text words.now)) result }
 {
     let matches = command(alloc)?.try_get_matches_from(words)?;
     match matches.subcommand() {
-        Some((name, options)) if name == "run" => Ok(run_line(options)),
-        Some((name, options)) if name == "ranges" => Ok(ranges_line(options)),
-        Some((name, options)) if name == "live" => Ok(live_line(options)),
+        Some((name, options)) if name == "run" => settle(alloc, name, run_line(options)),
+        Some((name, options)) if name == "ranges" => settle(alloc, name, ranges_line(options)),
+        Some((name, options)) if name == "live" => settle(alloc, name, live_line(options)),
         Some((name, options)) if name == "explain" => Ok(explain_line(options)),
         _ => unreachable!(),
     }
 }
 
-// The run that options ask for.
-fn run_line<'a>(options: &ArgMatches<'a>) -> Line<'a>
-    ensures { IsWorkLine IsRunTask (rows_of (found_of options.now)) result }
+// The line, or the error by which a clash among the options of the subcommand of this name is told.
+fn settle<'a>(alloc: Global, name: &str, asked: Result<Line<'a>, Clash>) -> Result<Line<'a>, Error>
+    ensures { Settles asked.entry result }
 {
-    Line::Work {
-        task: Task::Run {
-            echoes: options.get_flag("echo"),
-        },
-        file: options.get_str("file"),
+    match asked {
+        Ok(line) => Ok(line),
+        Err(clash) => Err(refusal(alloc, name, clash)?),
     }
+}
+
+// The run that options ask for.
+fn run_line<'a>(options: &ArgMatches<'a>) -> Result<Line<'a>, Clash>
+    ensures { Asks (IsWorkLine IsRunTask) (rows_of (found_of options.now)) result }
+{
+    let task = Task::Run {
+        echoes: is_given(options, "echo"),
+    };
+    Ok(Line::Work {
+        task,
+        input: input_of(options)?,
+    })
 }
 
 // The listing that options ask for.
-fn ranges_line<'a>(options: &ArgMatches<'a>) -> Line<'a>
-    ensures { IsWorkLine IsRangesTask (rows_of (found_of options.now)) result }
+fn ranges_line<'a>(options: &ArgMatches<'a>) -> Result<Line<'a>, Clash>
+    ensures { Asks (IsWorkLine IsRangesTask) (rows_of (found_of options.now)) result }
 {
-    Line::Work {
-        task: Task::Ranges,
-        file: options.get_str("file"),
-    }
+    let form = match (is_given(options, "json"), is_given(options, "svg")) {
+        (false, false) => Form::Lines,
+        (true, false) => Form::Json,
+        (false, true) => Form::Svg,
+        (true, true) => return Err(Clash::TwoForms),
+    };
+    Ok(Line::Work {
+        task: Task::Ranges { form },
+        input: input_of(options)?,
+    })
 }
 
 // The live run that options ask for.
-fn live_line<'a>(options: &ArgMatches<'a>) -> Line<'a>
-    ensures line { IsWorkLine IsLiveTask (rows_of (found_of options.now)) result }
-    ensures within { LineIsWithin result }
+fn live_line<'a>(options: &ArgMatches<'a>) -> Result<Line<'a>, Clash>
+    ensures line { Asks (IsWorkLine IsLiveTask) (rows_of (found_of options.now)) result }
+    ensures within { IfOk result LineIsWithin }
 {
     let turns = number_of(options, "turns", MAX_TURNS, TURNS);
     let pumps = number_of(options, "pumps", MAX_PUMPS, PUMPS);
-    Line::Work {
-        task: Task::Live {
-            turns,
-            pumps: pumps as u32,
-            folds: options.get_flag("fold"),
-        },
-        file: options.get_str("file"),
-    }
+    let task = Task::Live {
+        turns,
+        pumps: pumps as u32,
+        folds: is_given(options, "fold"),
+    };
+    Ok(Line::Work {
+        task,
+        input: input_of(options)?,
+    })
 }
 
 // The number to be told that options name.
@@ -302,6 +167,44 @@ fn explain_line<'a>(options: &ArgMatches<'a>) -> Line<'a>
     Line::Explain {
         number: options.get_one::<u16>("number"),
     }
+}
+
+// The input that options name.
+fn input_of<'a>(options: &ArgMatches<'a>) -> Result<Input<'a>, Clash>
+    ensures { Asks IsInputOf (rows_of (found_of options.now)) result }
+{
+    Ok(Input {
+        file: name_of(options, "file"),
+        plans: plans_of(options)?,
+    })
+}
+
+// The files of the plans that options name.
+fn plans_of<'a>(options: &ArgMatches<'a>) -> Result<Option<Plans<'a>>, Clash>
+    ensures { Asks ArePlansOf (rows_of (found_of options.now)) result }
+{
+    let rows = name_of(options, "rows");
+    match (name_of(options, "old"), name_of(options, "new")) {
+        (Some(old), Some(new)) => Ok(Some(Plans { old, new, rows })),
+        (Some(_), None) => Err(Clash::NoNew),
+        (None, Some(_)) => Err(Clash::NoOld),
+        (None, None) if rows.is_some() => Err(Clash::NoPlans),
+        (None, None) => Ok(None),
+    }
+}
+
+// Whether this flag is given.
+fn is_given(options: &ArgMatches<'_>, flag: &str) -> bool
+    ensures { FlagOf (one_of flag.now (rows_of (found_of options.now))) result }
+{
+    options.get_flag(flag)
+}
+
+// The name that this option has, if it has one.
+fn name_of<'a>(options: &ArgMatches<'a>, option: &str) -> Option<&'a str>
+    ensures { IsNameOf option.now (rows_of (found_of options.now)) result }
+{
+    options.get_str(option)
 }
 
 // The number of an option, from 1 up to the most that it may be, or else the one that stands for it.

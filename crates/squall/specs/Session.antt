@@ -1,22 +1,32 @@
 -- How the program ends.
-use Rattle.std.specs.Prelude.{◌≡◌, ◌⊎◌, ℕ, Bool, if◌then◌else◌, List, [], Option, Some, None, Result, Ok, Err, IfOk}
-use Rattle.clap.specs.Kinds.{Kinds, IsAmong}
-use Rattle.clap.specs.Walk.{Text, Row}
+use Rattle.std.specs.Prelude.{◌≡◌, ◌⊎◌, ℕ, Bool, true, if◌then◌else◌, List, Option, Some, None, is_some, Result, Ok, Err, IfOk}
+use Rattle.std.specs.Borrow.{Bor}
+use Rattle.std.specs.Fmt.{option_append}
+use Rattle.clap.specs.Values.{kind_of}
+use Rattle.clap.specs.Walk.{Text}
+use Rattle.clap.specs.declared.error.Error.{Error}
 use Rattle.clap.specs.declared.error.kind.ErrorKind.{ErrorKind}
-use Rattle.clap.specs.declared.error.kind.ErrorKind.TheVariants.{DisplayHelp, DisplayVersion, OutOfMemory}
+use Rattle.clap.specs.declared.error.kind.ErrorKind.TheVariants.{DisplayHelp, DisplayVersion}
 use Rattle.sq_schema.specs.declared.schema.TheConstants.{MAX_TABLES}
+use Rattle.sq_inputs.specs.Inputs.{plan_lines, inserted_text}
 use Rattle.sq_world.specs.declared.ending.Ending.{Ending}
 use Rattle.sq_world.specs.declared.ending.WriteFault.{WriteFault}
 use Rattle.sq_world.specs.Run.{Runs, exit_status_of}
-use Rattle.sq_world.specs.Listing.{Lists}
+use Rattle.sq_world.specs.Listing.{Lists, Tells}
+use Rattle.sq_picture.specs.Json.{TellsAsJson}
+use Rattle.sq_picture.specs.MovesSvg.{TellsAsSvg}
 use Rattle.sq_live.specs.declared.ending.LiveEnding.{LiveEnding}
 use Rattle.sq_live.specs.Live.{RunsLive, ending_status}
 use Rattle.sq_explain.specs.Meanings.{Explains}
+use Rattle.sq_command.specs.declared.line.Input.{Input}
+use Rattle.sq_command.specs.declared.line.Plans.{Plans}
+use Rattle.sq_command.specs.declared.line.Form.{Form}
+use Rattle.sq_command.specs.declared.line.Form.TheVariants.{Lines, Json, Svg}
 use Rattle.sq_command.specs.declared.line.Task.{Task}
 use Rattle.sq_command.specs.declared.line.Task.TheVariants.{Run, Ranges, Live}
 use Rattle.sq_command.specs.declared.line.Line.{Line}
 use Rattle.sq_command.specs.declared.line.Line.TheVariants.{Work, Explain}
-use Rattle.sq_command.specs.Line.{IsLineOf}
+use Rattle.sq_command.specs.Line.{ComesOf}
 
 -- the exit status after a run
 abbrev pub exit_status : Result Ending WriteFault → ℕ
@@ -39,39 +49,69 @@ abbrev pub explain_status : Result Bool WriteFault → ℕ
 explain_status (Ok told) = if told then 0 else 2
 explain_status (Err fault) = 2
 
+-- what a reader gives is answered by what moves, in this form
+abbrev pub ListsAs : Form → Option (List ℕ) → Option (List ℕ) → Option (List ℕ) → Ending → Type 0
+ListsAs Lines = Lists MAX_TABLES
+ListsAs Json = Tells TellsAsJson MAX_TABLES
+ListsAs Svg = Tells TellsAsSvg MAX_TABLES
+
 -- a task was done with what a reader gives, and ended with this status
 abbrev pub EndsTask : Task → Option (List ℕ) → Option (List ℕ) → Option (List ℕ) → ℕ → Type 0
 EndsTask (Run echoes) known before now = EndsAs (Runs echoes MAX_TABLES known before now) exit_status
-EndsTask Ranges known before now = EndsAs (Lists MAX_TABLES known before now) exit_status
+EndsTask (Ranges form) known before now = EndsAs (ListsAs form known before now) exit_status
 EndsTask (Live turns pumps folds) known before now = EndsAs (RunsLive folds MAX_TABLES known before now) live_status
 
--- what a line asks for was done with what the reader or the file gives, unless there is no file to read, and ended with this status
+-- what stands behind the plans: the main part of an input, and behind its first line the rows, where they have a file
+abbrev pub IsBehindPlans : Option (Bor Text) → Option (List ℕ) → Option (List ℕ) → Type 0
+IsBehindPlans None main behind = behind ≡ main
+IsBehindPlans (Some file) main behind = (rows : Option (List ℕ)) × (behind ≡ inserted_text main rows)
+
+-- what an input holds, by its main part: that alone, or where the plans have files of their own, their lines before it
+abbrev pub IsPutTogether : Option Plans → Option (List ℕ) → Option (List ℕ) → Type 0
+IsPutTogether None main held = held ≡ main
+IsPutTogether (Some plans) main held =
+    (old : List ℕ) × (new : List ℕ) × (behind : Option (List ℕ)) × IsBehindPlans plans.rows main behind × (held ≡ option_append (Some (plan_lines old new)) behind)
+
+-- a task was done with an input that has this main part and these plans, or else one of their files can't be read
+abbrev pub EndsParts : Task → Option Plans → Option (List ℕ) → Option (List ℕ) → Option (List ℕ) → ℕ → Type 0
+EndsParts task plans main before now status =
+    ((held : Option (List ℕ)) × IsPutTogether plans main held × EndsTask task held before now status)
+    ⊎ ((is_some plans ≡ true) × (status ≡ 2))
+
+-- the same, where the main part is what a reader gives, or what a file of this name holds, unless that can't be read
+abbrev pub EndsMain : Task → Option Plans → Option (Bor Text) → Option (List ℕ) → Option (List ℕ) → Option (List ℕ) → ℕ → Type 0
+EndsMain task plans None known before now status = EndsParts task plans known before now status
+EndsMain task plans (Some file) known before now status = ((main : Option (List ℕ)) × EndsParts task plans main before now status) ⊎ (status ≡ 2)
+
+-- the same with this input
+abbrev pub EndsInput : Task → Input → Option (List ℕ) → Option (List ℕ) → Option (List ℕ) → ℕ → Type 0
+EndsInput task input known before now status = EndsMain task input.plans input.file known before now status
+
+-- what a line asks for was done with what the reader or the files give, unless a file can't be read, and ended with this status
 abbrev pub EndsLine : Line → Option (List ℕ) → Option (List ℕ) → Option (List ℕ) → ℕ → Type 0
-EndsLine (Work task None) known before now status = EndsTask task known before now status
-EndsLine (Work task (Some file)) known before now status = ((held : Option (List ℕ)) × EndsTask task held before now status) ⊎ (status ≡ 2)
+EndsLine (Work task input) known before now status = EndsInput task input known before now status
 EndsLine (Explain number) known before now status = EndsAs (Explains number before now) explain_status status
 
 -- the words have no fault, and what their subcommand asks for ended with this status
-pub record IsCarriedOut (asked : Option (Text × List Row)) (kinds : Kinds) (known before now : Option (List ℕ)) (status : ℕ) : Type 0 where
+pub record IsCarriedOut (words : List Text) (known before now : Option (List ℕ)) (status : ℕ) : Type 0 where
   pub line : Line
-  pub named : IsLineOf asked line
-  pub without_fault : kinds ≡ []
+  pub comes : ComesOf words (Ok line)
   pub ends : EndsLine line known before now status
 
 -- the status after what is said of the words: 2, or 0 after a help text or the version
 abbrev pub IsUsageStatus : ErrorKind → ℕ → Type 0
 IsUsageStatus kind status = (status ≡ 2) ⊎ ((status ≡ 0) × ((kind ≡ DisplayHelp) ⊎ (kind ≡ DisplayVersion)))
 
--- the words have a fault, or ask for a help text or the version, or memory ran out at them
-pub record IsUsage (kinds : Kinds) (status : ℕ) : Type 0 where
-  pub kind : ErrorKind
-  pub among : (kind ≡ OutOfMemory) ⊎ IsAmong kind kinds
-  pub status_is : IsUsageStatus kind status
+-- something was said of the words: they have a fault, ask for a help text or the version, or have options that don't go together, or memory ran out at them
+pub record IsUsage (words : List Text) (status : ℕ) : Type 0 where
+  pub error : Error
+  pub comes : ComesOf words (Err error)
+  pub status_is : IsUsageStatus (kind_of error) status
 
 -- the words were carried out and ended with this status, or else something was said of them
-abbrev pub EndsWith : Option (Text × List Row) → Kinds → Option (List ℕ) → Option (List ℕ) → Option (List ℕ) → ℕ → Type 0
-EndsWith asked kinds known before now status = IsCarriedOut asked kinds known before now status ⊎ IsUsage kinds status
+abbrev pub EndsWith : List Text → Option (List ℕ) → Option (List ℕ) → Option (List ℕ) → ℕ → Type 0
+EndsWith words known before now status = IsCarriedOut words known before now status ⊎ IsUsage words status
 
 -- the same behind a buffer, unless there was no memory for it
-abbrev pub EndsBuffered : Option (Text × List Row) → Kinds → Option (List ℕ) → Option (List ℕ) → ℕ → Type 0
-EndsBuffered asked kinds known before status = (status ≡ 2) ⊎ ((now : Option (List ℕ)) × EndsWith asked kinds known before now status)
+abbrev pub EndsBuffered : List Text → Option (List ℕ) → Option (List ℕ) → ℕ → Type 0
+EndsBuffered words known before status = (status ≡ 2) ⊎ ((now : Option (List ℕ)) × EndsWith words known before now status)

@@ -6,7 +6,9 @@ ghost use Rattle.sq_live.specs.Live.{RunsLive};
 ghost use Rattle.squall.specs.Session.{live_status, EndsAs};
 
 use crate::session::{REFUSED, explain, explain_write};
+use crate::source::Source;
 use sq_live::{LiveEnding, LiveFault, Outcome, Watch, live};
+use sq_text::InputLine;
 use sq_world::WriteFault;
 use std::io::{Read, Write};
 use std::sync::Wait;
@@ -22,12 +24,13 @@ pub fn live_run<T: Threads + Wait + Sync + Eprint + AllocGlobal, R: Read, W: Wri
     pumps: u32,
     folds: bool,
     watch: &G,
+    source: &Source<'_>,
 ) -> u8
     requires { pumps ≤ MAX_PUMPS }
     ensures { EndsAs (RunsLive folds MAX_TABLES (R.remaining reader.old) (W.contents writer.old) (W.contents writer.new)) live_status result }
 {
     let ran = live(rt, rt.alloc(), reader, writer, turns, pumps, folds, watch);
-    explain_live(rt, ran);
+    explain_live(rt, source, ran);
     live_status(ran)
 }
 
@@ -42,7 +45,7 @@ pub fn live_status(ran: Result<LiveEnding, WriteFault>) -> u8
 }
 
 // Says on standard error what a live run came to, unless it is sound.
-fn explain_live(rt: &impl Eprint, ran: Result<LiveEnding, WriteFault>) {
+fn explain_live(rt: &impl Eprint, source: &Source<'_>, ran: Result<LiveEnding, WriteFault>) {
     match ran {
         Ok(LiveEnding::Done(Outcome::Sound { .. })) => {}
         Ok(LiveEnding::Done(Outcome::Stopped { .. })) => {
@@ -54,9 +57,11 @@ fn explain_live(rt: &impl Eprint, ran: Result<LiveEnding, WriteFault>) {
             let number = defect.number();
             let _ = eprintln!(rt; "squall: unsound {number}: {defect}");
         }
-        Ok(LiveEnding::Fault(LiveFault::Input(located))) => explain(rt, &located),
-        Ok(LiveEnding::Fault(fault)) => {
-            let _ = eprintln!(rt; "squall: {fault}");
+        Ok(LiveEnding::Fault(LiveFault::Input(located))) => explain(rt, source, &located),
+        Ok(LiveEnding::Fault(LiveFault::Job(job))) => {
+            let place = source.place(InputLine::Later(job.line));
+            let number = job.fault.number();
+            let _ = eprintln!(rt; "squall: {place}: fault {number}: {}", job.fault);
         }
         Err(fault) => explain_write(rt, fault),
     }

@@ -1,26 +1,30 @@
 //! The program `squall`: it reads what to do from standard input, and writes what came of it to standard output.
 #![tactic(auto)]
 
-ghost use Rattle.std.specs.Prelude.{◌≡◌, ◌⊎◌, ℕ, List, Option, map};
-ghost use Rattle.clap.specs.Words.{fault_of};
-ghost use Rattle.clap.specs.Simple.{subcommand_of};
-ghost use Rattle.sq_command.specs.Line.{squall, IsWithin};
-ghost use Rattle.squall.specs.Session.{EndsTask, EndsWith, EndsBuffered};
+ghost use Rattle.std.specs.Prelude.{map};
+ghost use Rattle.sq_command.specs.Line.{IsWithin};
+ghost use Rattle.squall.specs.Session.{EndsTask, EndsParts, EndsInput, EndsWith, EndsBuffered};
 
 mod explaining;
 mod live_runs;
+mod plans;
 mod progress;
 mod session;
+mod source;
 
 use explaining::explanation;
 use live_runs::live_run;
+use plans::lines_of_plans;
 use progress::Progress;
 use session::{
     listing, open_input, print_usage, refuse_file, refuse_for_memory, refuse_words, script,
 };
-use sq_command::{Line, Task, line_of};
+use source::Source;
+use sq_command::{Input, Line, Task, line_of};
 use sq_driver::OpenGate;
+use sq_inputs::Inserting;
 use sq_live::Watch;
+use std::cell::Cell;
 use std::convert::AsStr;
 use std::io::{BufWriter, IsTerminal, Read, Write};
 use std::process::ExitCode;
@@ -38,41 +42,92 @@ fn words_of(rt: &(impl Env + AllocGlobal)) -> io::Result<Vec<String>> {
     Ok(words)
 }
 
-// Does a task with what a reader gives, and gives the exit status. Workers of a live run ask `watch` before each step.
-fn work<T: Threads + Wait + Sync + Eprint + AllocGlobal, R: Read, W: Write, G: Watch>(
+// Does a task with what a reader gives, which comes from there, and gives the exit status. Workers of a live run ask
+// `watch` before each step.
+fn work<T: Threads + Wait + Sync + Eprint + AllocGlobal, R: Read + Drop, W: Write, G: Watch>(
     rt: &T,
     task: Task,
-    reader: &mut R,
+    source: &Source<'_>,
+    mut reader: R,
     writer: &mut W,
     watch: &G,
 ) -> u8
     requires { IsWithin task }
-    ensures { EndsTask task (R.remaining reader.old) (W.contents writer.old) (W.contents writer.new) result }
+    ensures { EndsTask task (R.remaining reader) (W.contents writer.old) (W.contents writer.new) result }
 {
     match task {
-        Task::Run { echoes } => script(rt, reader, writer, echoes),
-        Task::Ranges => listing(rt, reader, writer),
+        Task::Run { echoes } => script(rt, &mut reader, writer, echoes, source),
+        Task::Ranges { form } => listing(rt, &mut reader, writer, form, source),
         Task::Live {
             turns,
             pumps,
             folds,
-        } => live_run(rt, reader, writer, turns, pumps, folds, watch),
+        } => live_run(rt, &mut reader, writer, turns, pumps, folds, watch, source),
     }
 }
 
-// Does a task with what the file of this name holds, and gives the exit status: 2 where the file can't be read.
-fn work_on_file<T: Threads + Wait + Sync + Eprint + Files + AllocGlobal, W: Write, G: Watch>(
-    rt: &T,
-    task: Task,
-    name: &str,
-    writer: &mut W,
-    watch: &G,
-) -> u8
+// Does a task with the input of which a reader gives the main part, and gives the exit status: 2 where a file of the plans
+// or of the rows can't be read.
+fn work_on_parts<
+    T: Threads + Wait + Sync + Print + Eprint + Files + AllocGlobal,
+    R: Read + Drop,
+    W: Write,
+    G: Watch,
+>(rt: &T, task: Task, input: Input<'_>, main: R, writer: &mut W, watch: &G) -> u8
     requires { IsWithin task }
-    ensures { ((held : Option (List ℕ)) × EndsTask task held (W.contents writer.old) (W.contents writer.new) result) ⊎ (result ≡ 2) }
+    ensures { EndsParts task input.entry.plans (R.remaining main) (W.contents writer.old) (W.contents writer.new) result }
 {
+    let rows = Cell::new(None);
+    let source = Source { input, rows: &rows };
+    let Some(plans) = input.plans else {
+        return work(rt, task, &source, main, writer, watch);
+    };
+    let lines = match lines_of_plans(rt, plans) {
+        Ok(lines) => lines,
+        Err(status) => return status,
+    };
+    let Some(name) = plans.rows else {
+        return work(
+            rt,
+            task,
+            &source,
+            lines.as_slice().chain(main),
+            writer,
+            watch,
+        );
+    };
     match open_input(rt, name) {
-        Ok(mut file) => work(rt, task, &mut file, writer, watch),
+        Ok(file) => {
+            let behind = Inserting::new(main, file, &rows);
+            work(
+                rt,
+                task,
+                &source,
+                lines.as_slice().chain(behind),
+                writer,
+                watch,
+            )
+        }
+        Err(error) => refuse_file(rt, name, &error),
+    }
+}
+
+// Does a task with an input, of which standard input gives the main part or a file, and gives the exit status: 2 where a
+// file can't be read.
+fn work_on<
+    T: Threads + Wait + Sync + Print + Eprint + Files + AllocGlobal,
+    R: Read,
+    W: Write,
+    G: Watch,
+>(rt: &T, task: Task, input: Input<'_>, reader: &mut R, writer: &mut W, watch: &G) -> u8
+    requires { IsWithin task }
+    ensures { EndsInput task input.entry (R.remaining reader.old) (W.contents writer.old) (W.contents writer.new) result }
+{
+    let Some(name) = input.file else {
+        return work_on_parts(rt, task, input, reader, writer, watch);
+    };
+    match open_input(rt, name) {
+        Ok(file) => work_on_parts(rt, task, input, file, writer, watch),
         Err(error) => refuse_file(rt, name, &error),
     }
 }
@@ -85,16 +140,10 @@ fn obey<
     W: Write,
     G: Watch,
 >(rt: &T, words: &[S], reader: &mut R, writer: &mut W, watch: &G) -> u8
-    ensures { EndsWith (subcommand_of squall (map S.text words.now)) (fault_of squall (map S.text words.now)) (R.remaining reader.old) (W.contents writer.old) (W.contents writer.new) result }
+    ensures { EndsWith (map S.text words.now) (R.remaining reader.old) (W.contents writer.old) (W.contents writer.new) result }
 {
     match line_of(rt.alloc(), words) {
-        Ok(Line::Work { task, file: None }) => work(rt, task, reader, writer, watch),
-        Ok(
-            Line::Work {
-                task,
-                file: Some(name),
-            },
-        ) => work_on_file(rt, task, name, writer, watch),
+        Ok(Line::Work { task, input }) => work_on(rt, task, input, reader, writer, watch),
         Ok(Line::Explain { number }) => explanation(rt, writer, number),
         Err(error) => print_usage(rt, &error),
     }
@@ -108,7 +157,7 @@ fn obey_buffered<
     W: Write + Drop,
     G: Watch,
 >(rt: &T, words: &[S], reader: &mut R, writer: W, watch: &G) -> u8
-    ensures { EndsBuffered (subcommand_of squall (map S.text words.now)) (fault_of squall (map S.text words.now)) (R.remaining reader.old) (W.contents writer) result }
+    ensures { EndsBuffered (map S.text words.now) (R.remaining reader.old) (W.contents writer) result }
 {
     let Ok(mut writer) = BufWriter::with_capacity(rt.alloc(), WRITE_SIZE, writer) else {
         return refuse_for_memory(rt);

@@ -3,10 +3,12 @@ ghost use Rattle.std.specs.Prelude.{◌≡◌};
 ghost use Rattle.clap.specs.Values.{kind_of};
 ghost use Rattle.sq_schema.specs.declared.schema.TheConstants.{MAX_TABLES};
 ghost use Rattle.sq_world.specs.Run.{Runs};
-ghost use Rattle.sq_world.specs.Listing.{Lists};
-ghost use Rattle.squall.specs.Session.{exit_status, EndsAs, IsUsageStatus};
+ghost use Rattle.squall.specs.Session.{exit_status, EndsAs, ListsAs, IsUsageStatus};
 
+use crate::source::{Meaning, Source};
 use clap::Error;
+use sq_command::Form;
+use sq_picture::{listing_json, listing_svg};
 use sq_text::{InputFault, InputLine, LocatedFault};
 use sq_world::{Ending, WriteFault, ranges, run_and_echo};
 use std::fs::OpenFile;
@@ -25,6 +27,7 @@ pub fn script<R: Read, W: Write>(
     reader: &mut R,
     writer: &mut W,
     echoes: bool,
+    source: &Source<'_>,
 ) -> u8
     ensures { EndsAs (Runs echoes MAX_TABLES (R.remaining reader.old) (W.contents writer.old) (W.contents writer.new)) exit_status result }
 {
@@ -32,29 +35,35 @@ pub fn script<R: Read, W: Write>(
     let ran = run_and_echo(rt.alloc(), reader, writer, echoes, &mut world);
     // The program ends, and the system takes its memory back sooner than it could be freed.
     forget(world);
-    explain_end(rt, ran);
+    explain_end(rt, source, ran);
     exit_status(ran)
 }
 
-/// Writes what moves between the plans in `reader`, and says on standard error what their fault means. Gives the exit
-/// status.
+/// Writes what moves between the plans in `reader`, in this form, and says on standard error what their fault means. Gives
+/// the exit status.
 pub fn listing<R: Read, W: Write>(
     rt: &(impl Eprint + AllocGlobal),
     reader: &mut R,
     writer: &mut W,
+    form: Form,
+    source: &Source<'_>,
 ) -> u8
-    ensures { EndsAs (Lists MAX_TABLES (R.remaining reader.old) (W.contents writer.old) (W.contents writer.new)) exit_status result }
+    ensures { EndsAs (ListsAs form (R.remaining reader.old) (W.contents writer.old) (W.contents writer.new)) exit_status result }
 {
-    let listed = ranges(rt.alloc(), reader, writer);
-    explain_end(rt, listed);
+    let listed = match form {
+        Form::Lines => ranges(rt.alloc(), reader, writer),
+        Form::Json => listing_json(rt.alloc(), reader, writer),
+        Form::Svg => listing_svg(rt.alloc(), reader, writer),
+    };
+    explain_end(rt, source, listed);
     exit_status(listed)
 }
 
 // Says on standard error what the fault of a run means, if it has one, and the line that it belongs to.
-fn explain_end(rt: &impl Eprint, ran: Result<Ending, WriteFault>) {
+fn explain_end(rt: &impl Eprint, source: &Source<'_>, ran: Result<Ending, WriteFault>) {
     match ran {
         Ok(Ending::Done) => {}
-        Ok(Ending::Fault(located)) => explain(rt, &located),
+        Ok(Ending::Fault(located)) => explain(rt, source, &located),
         Err(fault) => explain_write(rt, fault),
     }
 }
@@ -81,17 +90,22 @@ pub fn refuse_for_memory(rt: &(impl Print + Eprint)) -> u8
 {
     let fault = InputFault::Memory;
     let _ = println!(rt; "fault {}", fault.number());
-    explain(rt, &fault.at_no_line());
+    let _ = eprintln!(rt; "squall: {}", fault.at_no_line());
     REFUSED
 }
 
 /// Says on standard error the line that a fault belongs to, and what it means, and of a line of the header that isn't of its
 /// form what that is.
-pub(crate) fn explain(rt: &impl Eprint, located: &LocatedFault) {
-    let _ = eprintln!(rt; "squall: {located}");
-    if let (InputFault::BadHeader, Some(line)) = (located.fault, located.line) {
+pub(crate) fn explain(rt: &impl Eprint, source: &Source<'_>, located: &LocatedFault) {
+    let Some(line) = located.line else {
+        let _ = eprintln!(rt; "squall: {located}");
+        return;
+    };
+    let place = source.place(line);
+    let _ = eprintln!(rt; "squall: {place}: {}", Meaning(located));
+    if located.fault == InputFault::BadHeader {
         let form = form_of(line);
-        let _ = eprintln!(rt; "squall: line {} is to be {form}", line.number());
+        let _ = eprintln!(rt; "squall: {place} is to be {form}");
     }
 }
 

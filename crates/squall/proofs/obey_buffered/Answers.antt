@@ -1,8 +1,5 @@
 use Rattle.std.proofs.Common.{inr, subst, map}
 use Rattle.std.specs.Io.Buffered.{writer_inner, writer_buffer, writer_contents}
-use Rattle.clap.specs.Words.{fault_of}
-use Rattle.clap.specs.Simple.{subcommand_of}
-use Rattle.sq_command.specs.Line.{squall}
 use Rattle.squall.specs.Session.{EndsWith}
 use Rattle.squall.proofs.Buffers.{behind_empty}
 use Rattle.squall.proofs.obey_buffered.Goals as goal
@@ -13,4 +10,4 @@ returns g c =
     let contents = g.W.Write.contents in
     let now = writer_contents contents c.obey-status.new.writer in
     let same = behind_empty contents (writer_inner c.in-Ok.writer) c.args.writer (writer_buffer c.in-Ok.writer) c.in-Ok.ensures.inner c.in-Ok.ensures.empty in
-    inr (now, subst (λ before. EndsWith (subcommand_of squall words) (fault_of squall words) (g.R.Read.remaining c.args.reader.now) before now c.obey-status.result) same c.obey-status.ensures)
+    inr (now, subst (λ before. EndsWith words (g.R.Read.remaining c.args.reader.now) before now c.obey-status.result) same c.obey-status.ensures)

@@ -1,5 +1,9 @@
 use Rattle.std.proofs.Common.{◌≡◌, ◌∙◌, sym, ap, refl, inl, inr, true, false, true≢false, Option, Some, is_some, unwrap_or, List, [], ℕ, map, codes, bytes_eq}
-use Rattle.sq_command.proofs.Subcommands.{met_own, without_fault}
+use Rattle.std.proofs.lemmas.Result.{err_from_is_err_and}
+use Rattle.clap.specs.Matches.{found_of}
+use Rattle.clap.specs.Walk.{rows_of}
+use Rattle.sq_command.specs.Line.{IsWorkLine, IsRunTask, IsRangesTask, IsLiveTask}
+use Rattle.sq_command.proofs.Subcommands.{met_own, met_is, is_text, without_fault, with_fault, line_comes, settled_comes}
 use Rattle.sq_command.proofs.line.line_of.Goals as goal
 use Rattle.sq_command.proofs.line.line_of.Goals.{in_default-via-in-Some-4+else-eq-4, in_default-via-in_default}
 
@@ -42,18 +46,43 @@ unreachable-requires g c =
           ]
     ]
 
-pub returns-in-Some-clause-fails : goal.returns-in-Some-clause-fails
-returns-in-Some-clause-fails g c =
-    without_fault c.in_ok-command.field-0 (map g.S.AsStr.text c.args.words.now) c.in_ok-command.ensures c.in_ok-matches.ensures.kinds
+pub returns-in_err-matches-clause-comes : goal.returns-in_err-matches-clause-comes
+returns-in_err-matches-clause-comes g c =
+    let p = err_from_is_err_and c.from_residual-in_err-matches.result c.from_residual-in_err-matches.ensures.1 in
+    rw (p.1, p.2) (inl (with_fault c.in_ok-command.field-0 (map g.S.AsStr.text c.args.words.now) c.in_err-matches.field-0.0 c.in_ok-command.ensures c.in_err-matches.ensures.kinds))
 
-pub returns-in-Some-2-clause-fails : goal.returns-in-Some-2-clause-fails
-returns-in-Some-2-clause-fails g c =
-    without_fault c.in_ok-command.field-0 (map g.S.AsStr.text c.args.words.now) c.in_ok-command.ensures c.in_ok-matches.ensures.kinds
+pub returns-in-Some-clause-comes : goal.returns-in-Some-clause-comes
+returns-in-Some-clause-comes g c =
+    let words = map g.S.AsStr.text c.args.words.now in
+    let name = c.in-Some.name.now in
+    let rows = rows_of (found_of c.in-Some.options.now) in
+    let free = without_fault c.in_ok-command.field-0 words c.in_ok-command.ensures c.in_ok-matches.ensures.kinds in
+    let met = met_is c.in_ok-command.field-0 words c.in_ok-matches.matches name rows c.in_ok-command.ensures c.in_ok-matches.ensures.matches c.in-Some.ensures.name c.in-Some.ensures.rows in
+    settled_comes words name rows free met (IsWorkLine IsRunTask) (λ line is. inl (is_text name (codes "run") c.if-eq.ensures, is)) c.run_line.result c.settle.result c.settle.ensures c.run_line.ensures
 
-pub returns-in-Some-3-clause-fails : goal.returns-in-Some-3-clause-fails
-returns-in-Some-3-clause-fails g c =
-    without_fault c.in_ok-command.field-0 (map g.S.AsStr.text c.args.words.now) c.in_ok-command.ensures c.in_ok-matches.ensures.kinds
+pub returns-in-Some-2-clause-comes : goal.returns-in-Some-2-clause-comes
+returns-in-Some-2-clause-comes g c =
+    let words = map g.S.AsStr.text c.args.words.now in
+    let name = c.in-Some.name.now in
+    let rows = rows_of (found_of c.in-Some.options.now) in
+    let free = without_fault c.in_ok-command.field-0 words c.in_ok-command.ensures c.in_ok-matches.ensures.kinds in
+    let met = met_is c.in_ok-command.field-0 words c.in_ok-matches.matches name rows c.in_ok-command.ensures c.in_ok-matches.ensures.matches c.in-Some.ensures.name c.in-Some.ensures.rows in
+    settled_comes words name rows free met (IsWorkLine IsRangesTask) (λ line is. inr (inl (is_text name (codes "ranges") c.if-eq-2.ensures, is))) c.ranges_line.result c.settle-in-Some-2.result c.settle-in-Some-2.ensures c.ranges_line.ensures
 
-pub returns-in-Some-4-clause-fails : goal.returns-in-Some-4-clause-fails
-returns-in-Some-4-clause-fails g c =
-    without_fault c.in_ok-command.field-0 (map g.S.AsStr.text c.args.words.now) c.in_ok-command.ensures c.in_ok-matches.ensures.kinds
+pub returns-in-Some-3-clause-comes : goal.returns-in-Some-3-clause-comes
+returns-in-Some-3-clause-comes g c =
+    let words = map g.S.AsStr.text c.args.words.now in
+    let name = c.in-Some.name.now in
+    let rows = rows_of (found_of c.in-Some.options.now) in
+    let free = without_fault c.in_ok-command.field-0 words c.in_ok-command.ensures c.in_ok-matches.ensures.kinds in
+    let met = met_is c.in_ok-command.field-0 words c.in_ok-matches.matches name rows c.in_ok-command.ensures c.in_ok-matches.ensures.matches c.in-Some.ensures.name c.in-Some.ensures.rows in
+    settled_comes words name rows free met (IsWorkLine IsLiveTask) (λ line is. inr (inr (inl (is_text name (codes "live") c.if-eq-3.ensures, is)))) c.live_line.result c.settle-in-Some-3.result c.settle-in-Some-3.ensures c.live_line.ensures.line
+
+pub returns-in-Some-4-clause-comes : goal.returns-in-Some-4-clause-comes
+returns-in-Some-4-clause-comes g c =
+    let words = map g.S.AsStr.text c.args.words.now in
+    let name = c.in-Some.name.now in
+    let rows = rows_of (found_of c.in-Some.options.now) in
+    let free = without_fault c.in_ok-command.field-0 words c.in_ok-command.ensures c.in_ok-matches.ensures.kinds in
+    let met = met_is c.in_ok-command.field-0 words c.in_ok-matches.matches name rows c.in_ok-command.ensures c.in_ok-matches.ensures.matches c.in-Some.ensures.name c.in-Some.ensures.rows in
+    line_comes words name rows free met c.explain_line.result (inr (inr (inr (is_text name (codes "explain") c.if-eq-4.ensures, c.explain_line.ensures))))

@@ -1,8 +1,5 @@
-use Rattle.std.proofs.Common.{◌∙◌}
-use Rattle.clap.specs.Matches.{found_of}
-use Rattle.clap.proofs.WalkLemmas.{first_value-rows}
-use Rattle.std.specs.Prelude.{codes}
+use Rattle.std.proofs.Common.{inr, refl}
 use Rattle.sq_command.proofs.line.ranges_line.Goals as goal
 
-pub returns : goal.returns
-returns c = (tt, c.get_str.ensures ∙ first_value-rows (found_of c.args.options.now) (codes "file"))
+pub returns-in-true-true : goal.returns-in-true-true
+returns-in-true-true c = inr (refl, c.in-true-true.ensures, c.in-true-true.ensures')

@@ -1,9 +1,9 @@
 use Rattle.std.proofs.Common.{◌≡◌, ◌∙◌}
 use Rattle.std.proofs.lemmas.Result.{IfOk-weaker}
 use Rattle.clap.specs.Words.{app_of}
-use Rattle.sq_command.specs.Line.{squall}
+use Rattle.sq_command.specs.Commands.{squall}
 use Rattle.sq_command.proofs.Arguments.{added_is}
-use Rattle.sq_command.proofs.line.command.Goals as goal
+use Rattle.sq_command.proofs.commands.command.Goals as goal
 
 pub returns : goal.returns
 returns c =

@@ -3,8 +3,9 @@ use Rattle.std.proofs.lemmas.Result.{IfOk-weaker}
 use Rattle.clap.specs.Walk.{rule_of}
 use Rattle.clap.specs.Simple.{shape_of}
 use Rattle.clap.specs.declared.builder.command.Command.TheViews.{out-Command}
-use Rattle.sq_command.proofs.Arguments.{larger, shape_then, still_own}
-use Rattle.sq_command.proofs.line.with.Goals as goal
+use Rattle.sq_command.specs.Commands.{larger}
+use Rattle.sq_command.proofs.Arguments.{shape_then, still_own}
+use Rattle.sq_command.proofs.commands.with.Goals as goal
 
 pub returns-clause-shape : goal.returns-clause-shape
 returns-clause-shape c =

@@ -1,0 +1,64 @@
+// Options that don't go together, and how that is told.
+ghost use Rattle.std.specs.Prelude.{◌≡◌, IfOk};
+ghost use Rattle.clap.specs.Values.{kind_of};
+ghost use Rattle.sq_command.specs.Line.{clash_kind};
+
+use clap::Command;
+use clap::error::{Error, ErrorKind};
+use std::alloc::{AllocError, Global};
+
+/// Why the options of a subcommand don't go together.
+#[derive(Clone, Copy, Debug, PartialEq, Eq)]
+pub enum Clash {
+    /// A file of the new plan is named, and none of the old one.
+    NoOld,
+    /// A file of the old plan is named, and none of the new one.
+    NoNew,
+    /// A file of rows is named, and none of the plans.
+    NoPlans,
+    /// What moves is to be told in two forms.
+    TwoForms,
+}
+
+impl Clash {
+    // As which kind of error it is told.
+    fn kind(self) -> ErrorKind
+        ensures { result ≡ clash_kind self }
+    {
+        match self {
+            Clash::TwoForms => ErrorKind::ArgumentConflict,
+            _ => ErrorKind::MissingRequiredArgument,
+        }
+    }
+
+    // What is wrong, in the words that `clap` has for it.
+    fn message(self) -> &'static str {
+        match self {
+            Clash::NoOld => "the following required arguments were not provided:\n  --old <FILE>",
+            Clash::NoNew => "the following required arguments were not provided:\n  --new <FILE>",
+            Clash::NoPlans => {
+                "the following required arguments were not provided:\n  --old <FILE>\n  --new <FILE>"
+            }
+            Clash::TwoForms => "the argument '--json' cannot be used with '--svg'",
+        }
+    }
+
+    // What may stand behind the subcommand.
+    fn usage(self) -> &'static str {
+        match self {
+            Clash::NoOld | Clash::NoNew => "--old <FILE> --new <FILE> [FILE]",
+            Clash::NoPlans => "--old <FILE> --new <FILE> --rows <FILE> [FILE]",
+            Clash::TwoForms => "[OPTIONS] [FILE]",
+        }
+    }
+}
+
+/// The error by which a clash among the options of the subcommand of this name is told. Memory may run out.
+pub fn refusal(alloc: Global, name: &str, clash: Clash) -> Result<Error, AllocError>
+    ensures { IfOk result (λ error. kind_of error ≡ clash_kind clash) }
+{
+    let usage = format!(in alloc; "squall {name} {}", clash.usage())?;
+    Command::new(alloc, name)
+        .override_usage(usage.as_str())
+        .error(clash.kind(), clash.message())
+}

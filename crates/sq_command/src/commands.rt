@@ -1,0 +1,237 @@
+// The program's command, with a subcommand for each thing that it does.
+ghost use Rattle.std.specs.Prelude.{◌≡◌, [], IfOk, false};
+ghost use Rattle.clap.specs.Walk.{rule_of};
+ghost use Rattle.clap.specs.Simple.{new_shape};
+ghost use Rattle.clap.specs.Words.{app_of, shape_of};
+ghost use Rattle.clap.specs.declared.builder.command.Command.TheViews.{out-Command};
+ghost use Rattle.sq_command.specs.Commands.{program, squall, option_rule, flag_rule, file_rule, path_rule, larger, with_input, run_shape, ranges_shape, numbered_shape, live_shape, explain_shape};
+
+use crate::help;
+use clap::builder::ValueParser;
+use clap::{Arg, ArgAction, Command, value_parser};
+use std::alloc::{AllocError, Global};
+
+// The version that `--version` tells.
+const VERSION: &str = "0.1.0";
+
+// The program's command without its subcommands, of which it wants one.
+fn program<'a>(alloc: Global) -> Command<'a>
+    ensures app { app_of result ≡ record { top = program; subs = [] } }
+    ensures local { (out-Command result).has_globals ≡ false }
+{
+    Command::new(alloc, "squall")
+        .about("Moves the rows of a partitioned database to the places of another plan")
+        .after_help(help::PROGRAM)
+        .version(VERSION)
+        .subcommand_required(true)
+}
+
+// A subcommand that takes no further words, with what its help text says.
+fn subcommand<'a>(alloc: Global, name: &'a str, about: &'a str, after_help: &'a str) -> Command<'a>
+    ensures shape { shape_of result ≡ new_shape name.entry.now }
+    ensures local { (out-Command result).has_globals ≡ false }
+{
+    Command::new(alloc, name)
+        .about(about)
+        .after_help(after_help)
+}
+
+// An option for a number, and the one that stands where it isn't given.
+fn option<'a>(
+    alloc: Global,
+    name: &'a str,
+    help: &'a str,
+    parser: ValueParser<'a>,
+    default: &'a str,
+) -> Arg<'a>
+    ensures rule { rule_of result ≡ option_rule name.entry.now parser.entry default.entry.now }
+    ensures local { result.global ≡ false }
+{
+    Arg::new(alloc, name)
+        .long(name)
+        .value_name("N")
+        .help(help)
+        .value_parser(parser)
+        .default_value(default)
+}
+
+// An option that takes no value.
+fn flag<'a>(alloc: Global, name: &'a str, help: &'a str) -> Arg<'a>
+    ensures rule { rule_of result ≡ flag_rule name.entry.now }
+    ensures local { result.global ≡ false }
+{
+    Arg::new(alloc, name)
+        .long(name)
+        .help(help)
+        .action(ArgAction::SetTrue)
+}
+
+// The name of a file, which may be left out.
+fn file<'a>(alloc: Global) -> Arg<'a>
+    ensures rule { rule_of result ≡ file_rule }
+    ensures local { result.global ≡ false }
+{
+    Arg::new(alloc, "file")
+        .value_name("FILE")
+        .help("The file to read, in place of standard input")
+}
+
+// An option for the name of a file.
+fn path<'a>(alloc: Global, name: &'a str, help: &'a str) -> Arg<'a>
+    ensures rule { rule_of result ≡ path_rule name.entry.now }
+    ensures local { result.global ≡ false }
+{
+    Arg::new(alloc, name)
+        .long(name)
+        .value_name("FILE")
+        .help(help)
+}
+
+// The command with one argument more.
+fn with<'a>(command: Command<'a>, arg: Arg<'a>) -> Result<Command<'a>, AllocError>
+    requires { arg.global ≡ false }
+    ensures shape { IfOk result (λ more. shape_of more ≡ larger (shape_of command.entry) (rule_of arg.entry)) }
+    ensures local { IfOk result (λ more. (out-Command more).has_globals ≡ (out-Command command.entry).has_globals) }
+{
+    command.arg(arg)
+}
+
+// The command with what says where its input comes from.
+fn with_input<'a>(alloc: Global, command: Command<'a>) -> Result<Command<'a>, AllocError>
+    ensures shape { IfOk result (λ more. shape_of more ≡ with_input (shape_of command.entry)) }
+    ensures local { IfOk result (λ more. (out-Command more).has_globals ≡ (out-Command command.entry).has_globals) }
+{
+    let old = path(
+        alloc,
+        "old",
+        "The plan before the move, in a file of its own",
+    );
+    let new = path(
+        alloc,
+        "new",
+        "The plan after the move, in a file of its own",
+    );
+    let rows = path(
+        alloc,
+        "rows",
+        "The lines of the rows, in a file of their own",
+    );
+    let with_file = with(command, file(alloc))?;
+    let with_old = with(with_file, old)?;
+    let with_new = with(with_old, new)?;
+    with(with_new, rows)
+}
+
+// The subcommand that makes the steps of a script.
+fn run<'a>(alloc: Global) -> Result<Command<'a>, AllocError>
+    ensures shape { IfOk result (λ command. shape_of command ≡ run_shape) }
+    ensures local { IfOk result (λ command. (out-Command command).has_globals ≡ false) }
+{
+    let plain = subcommand(
+        alloc,
+        "run",
+        "Makes the steps of a script, and answers each",
+        help::RUN,
+    );
+    let echo = flag(
+        alloc,
+        "echo",
+        "Write each step before its answer, and what the number of a refusal means",
+    );
+    let echoing = with(plain, echo)?;
+    with_input(alloc, echoing)
+}
+
+// The subcommand that tells what moves.
+fn ranges<'a>(alloc: Global) -> Result<Command<'a>, AllocError>
+    ensures shape { IfOk result (λ command. shape_of command ≡ ranges_shape) }
+    ensures local { IfOk result (λ command. (out-Command command).has_globals ≡ false) }
+{
+    let plain = subcommand(
+        alloc,
+        "ranges",
+        "Tells what moves between two plans",
+        help::RANGES,
+    );
+    let json = flag(alloc, "json", "Write it as one JSON value, for a program");
+    let svg = flag(alloc, "svg", "Draw it, as an SVG picture");
+    let with_json = with(plain, json)?;
+    let with_svg = with(with_json, svg)?;
+    with_input(alloc, with_svg)
+}
+
+// The subcommand that runs jobs in threads, with its options for numbers.
+fn numbered<'a>(alloc: Global) -> Result<Command<'a>, AllocError>
+    ensures shape { IfOk result (λ command. shape_of command ≡ numbered_shape) }
+    ensures local { IfOk result (λ command. (out-Command command).has_globals ≡ false) }
+{
+    let turns = option(
+        alloc,
+        "turns",
+        "How many turns each thread takes at most in a stage; in a turn a partition takes one new job",
+        value_parser!(u64).range(1..=1_000_000_000),
+        "1000000",
+    );
+    let pumps = option(
+        alloc,
+        "pumps",
+        "How many threads claim rows in the background, up to 16",
+        value_parser!(u64).range(1..=16),
+        "1",
+    );
+    subcommand(
+        alloc,
+        "live",
+        "Runs jobs in threads while rows move, and audits what is left",
+        help::LIVE,
+    )
+    .arg(turns)?
+    .arg(pumps)
+}
+
+// The subcommand that runs jobs in threads.
+fn live<'a>(alloc: Global) -> Result<Command<'a>, AllocError>
+    ensures shape { IfOk result (λ command. shape_of command ≡ live_shape) }
+    ensures local { IfOk result (λ command. (out-Command command).has_globals ≡ false) }
+{
+    let fold = flag(
+        alloc,
+        "fold",
+        "Audit what is answered between two stages, and fold the logs",
+    );
+    let folding = with(numbered(alloc)?, fold)?;
+    with_input(alloc, folding)
+}
+
+// The subcommand that tells what numbers mean.
+fn explain<'a>(alloc: Global) -> Result<Command<'a>, AllocError>
+    ensures shape { IfOk result (λ command. shape_of command ≡ explain_shape) }
+    ensures local { IfOk result (λ command. (out-Command command).has_globals ≡ false) }
+{
+    let plain = subcommand(
+        alloc,
+        "explain",
+        "Tells what a number means, what it is given to, and what to do about it",
+        help::EXPLAIN,
+    );
+    let number = Arg::new(alloc, "number")
+        .value_name("NUMBER")
+        .help("The number; all of them where none is given")
+        .value_parser(value_parser!(u16));
+    with(plain, number)
+}
+
+/// The program's command, with a subcommand for each line.
+pub fn command<'a>(alloc: Global) -> Result<Command<'a>, AllocError>
+    ensures { IfOk result (λ command. app_of command ≡ squall) }
+{
+    let run = run(alloc)?;
+    let ranges = ranges(alloc)?;
+    let live = live(alloc)?;
+    let explain = explain(alloc)?;
+    program(alloc)
+        .subcommand(run)?
+        .subcommand(ranges)?
+        .subcommand(live)?
+        .subcommand(explain)
+}

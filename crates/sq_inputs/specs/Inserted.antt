@@ -1,0 +1,22 @@
+-- What a reader with another one behind its first line has left.
+use Rattle.std.specs.Prelude.{ℕ, Bool, List, ◌++◌, Option, Some, None}
+use Rattle.sq_inputs.specs.Inputs.{ended, with_inserted, inserted_text}
+use Rattle.sq_inputs.specs.declared.inserting.Inserting.{Inserting}
+use Rattle.sq_inputs.specs.declared.inserting.Place.{Place}
+use Rattle.sq_inputs.specs.declared.inserting.Place.TheVariants.{FirstLine, Inserted, Rest}
+
+-- what is left of both readers behind the first line, at the start of a line of the other one or within one
+abbrev pub ended_text : Bool → Option (List ℕ) → Option (List ℕ) → Option (List ℕ)
+ended_text at_start None others = None
+ended_text at_start (Some bytes) None = None
+ended_text at_start (Some bytes) (Some others) = Some (ended at_start others ++ bytes)
+
+-- what is left at this place
+abbrev pub left_at : Place → Option (List ℕ) → Option (List ℕ) → Option (List ℕ)
+left_at FirstLine main others = inserted_text main others
+left_at (Inserted at_start) main others = ended_text at_start main others
+left_at Rest main others = main
+
+-- what is left, where that of the readers is known
+abbrev pub inserting_remaining : {M W : Type 0} → (M → Option (List ℕ)) → (W → Option (List ℕ)) → Inserting M W → Option (List ℕ)
+inserting_remaining main others r = left_at r.place (main r.main) (others r.inserted)

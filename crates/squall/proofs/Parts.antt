@@ -1,0 +1,19 @@
+-- An input whose plans and rows have files of their own.
+use Rattle.std.proofs.Common.{◌≡◌, ◌∙◌, ℕ, List, inl, ap, sym, subst}
+use Rattle.std.specs.Prelude.{Option, Some}
+use Rattle.std.specs.Borrow.{Bor}
+use Rattle.std.specs.Fmt.{option_append}
+use Rattle.clap.specs.Walk.{Text}
+use Rattle.sq_inputs.specs.Inputs.{plan_lines, inserted_text}
+use Rattle.sq_command.specs.declared.line.Plans.{Plans}
+use Rattle.sq_command.specs.declared.line.Task.{Task}
+use Rattle.squall.specs.Session.{IsBehindPlans, IsPutTogether, EndsTask, EndsParts}
+
+-- a task that was done with the lines of the plans, and behind them the main part with rows behind its first line
+pub with_rows : (task : Task) (plans : Option Plans) (named : Plans) (file : Bor Text) (main rows behind held : Option (List ℕ)) (lines given : List ℕ) (before now : Option (List ℕ)) (status : ℕ) → plans ≡ Some named → named.rows ≡ Some file
+    → behind ≡ inserted_text main rows → ((old : List ℕ) × (new : List ℕ) × (lines ≡ plan_lines old new)) → given ≡ lines → held ≡ option_append (Some given) behind → EndsTask task held before now status
+    → EndsParts task plans main before now status
+with_rows task plans named file main rows behind held lines given before now status is rows_is inserted spelled same put ends =
+    let is_behind : IsBehindPlans named.rows main behind = subst (λ (o : Option (Bor Text)). IsBehindPlans o main behind) (sym rows_is) (rows, inserted) in
+    let together : IsPutTogether (Some named) main held = (spelled.0, spelled.1, behind, is_behind, put ∙ ap (λ (l : List ℕ). option_append (Some l) behind) (same ∙ spelled.2)) in
+    inl (held, subst (λ (o : Option Plans). IsPutTogether o main held) (sym is) together, ends)

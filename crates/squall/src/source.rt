@@ -1,0 +1,87 @@
+// Where the lines of an input come from.
+use sq_command::Input;
+use sq_text::{InputFault, InputLine, LocatedFault};
+use std::cell::Cell;
+use std::fmt;
+use std::fmt::{Display, Formatter, Write};
+
+/// Where the lines of an input come from.
+#[derive(Clone, Copy)]
+pub struct Source<'a> {
+    /// The files that are named.
+    pub input: Input<'a>,
+    /// How many lines the file of the rows has, once all of them were read.
+    pub rows: &'a Cell<Option<usize>>,
+}
+
+/// Where a line stands.
+#[derive(Clone, Copy)]
+pub enum Place<'a> {
+    /// The line of the input that has this number.
+    Line(u64),
+    /// The file of this name, of which all is one line of the input.
+    File(&'a str),
+    /// The line of this file that has this number.
+    LineOf(&'a str, u64),
+}
+
+impl<'a> Source<'a> {
+    /// Where a line of the input stands. Where the plans have files of their own, that is a file and a line of it, or the
+    /// whole file of a plan; else it is the line of the input.
+    pub fn place(&self, line: InputLine) -> Place<'a> {
+        let number = line.number();
+        let Some(plans) = self.input.plans else {
+            return Place::Line(number);
+        };
+        match number {
+            1 => Place::File(plans.old),
+            2 => Place::File(plans.new),
+            3 => Place::LineOf(self.main(), 1),
+            _ => self.place_behind(number.saturating_sub(3), plans.rows),
+        }
+    }
+
+    // Where the line stands that is so many lines behind the sizes, with the rows from this file, if from any.
+    fn place_behind(&self, behind: u64, rows: Option<&'a str>) -> Place<'a> {
+        let Some(file) = rows else {
+            return Place::LineOf(self.main(), behind.saturating_add(1));
+        };
+        match self.rows.get() {
+            Some(lines) if behind > lines as u64 => {
+                Place::LineOf(self.main(), (behind - lines as u64).saturating_add(1))
+            }
+            _ => Place::LineOf(file, behind),
+        }
+    }
+
+    // What the rest of the input comes from.
+    fn main(&self) -> &'a str {
+        self.input.file.unwrap_or("standard input")
+    }
+}
+
+impl Display for Place<'_> {
+    fn fmt<W: Write>(&self, f: &mut Formatter<W>) -> fmt::Result {
+        match *self {
+            Place::Line(line) => write!(f, "line {line}"),
+            Place::File(file) => f.write_str(file),
+            Place::LineOf(file, line) => write!(f, "{file}: line {line}"),
+        }
+    }
+}
+
+/// What a fault means, with its number, and without its line.
+#[derive(Clone, Copy)]
+pub struct Meaning<'a>(pub &'a LocatedFault);
+
+impl Display for Meaning<'_> {
+    fn fmt<W: Write>(&self, f: &mut Formatter<W>) -> fmt::Result {
+        let fault = self.0.fault;
+        write!(f, "fault {}: ", fault.number())?;
+        match (self.0.line, fault) {
+            (Some(InputLine::Old), InputFault::Plan(fault)) => write!(f, "the old {fault}"),
+            (Some(InputLine::New), InputFault::Plan(fault)) => write!(f, "the new {fault}"),
+            _ => write!(f, "{fault}"),
+        }
+    }
+}
