@@ -1,3 +1,5 @@
 pub mod Moments
 pub mod Csv
 pub mod Curves
+pub mod Ticks
+pub mod Chart

@@ -5,20 +5,20 @@ use Rattle.sq_chart.specs.declared.moment.Happened.TheVariants.{JobAnswered, Seg
 use Rattle.sq_chart.specs.declared.moment.Event.{Event}
 use Rattle.sq_chart.specs.declared.moment.Moment.{Moment}
 
-abbrev pub answers : Happened → Bool
-answers JobAnswered = true
-answers SegmentComplete = false
+abbrev pub answers_job : Happened → Bool
+answers_job JobAnswered = true
+answers_job SegmentComplete = false
 
-abbrev pub completes : Happened → Bool
-completes JobAnswered = false
-completes SegmentComplete = true
+abbrev pub completes_segment : Happened → Bool
+completes_segment JobAnswered = false
+completes_segment SegmentComplete = true
 
 -- the moment after these events, of which this is the last: when it was, how many jobs were answered by then, and how many segments were complete
 abbrev pub moment_of : List Event → Event → Moment
 moment_of events last = record {
   micros = last.micros;
-  jobs = count_by (λ event. answers event.what) events;
-  segments = count_by (λ event. completes event.what) events;
+  jobs = count_by (λ event. answers_job event.what) events;
+  segments = count_by (λ event. completes_segment event.what) events;
 }
 
 -- there is a moment for each event: the one after all events up to this one

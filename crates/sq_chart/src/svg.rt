@@ -1,8 +1,10 @@
 // The moments of a run as a chart.
-ghost use Rattle.std.specs.Prelude.{◌≡◌, ◌≤◌, OnOk};
+ghost use Rattle.std.specs.Prelude.{◌≡◌, ◌≤◌, ◌<◌, OnOk};
 ghost use Rattle.std.specs.List.{flat_map};
 ghost use Rattle.std.specs.Io.KnownBytes.{Appends};
-ghost use Rattle.sq_chart.specs.Curves.{share_of, count_of, across, height, step_text};
+ghost use Rattle.sq_chart.specs.Curves.{share_of, count_of, curve_class, curve_name, curve_start, step_text, curve_text, sample_text, legend_text};
+ghost use Rattle.sq_chart.specs.Ticks.{tick_step, label_text, tick_rule, tick_mark, tick_text, ticks_text};
+ghost use Rattle.sq_chart.specs.Chart.{drawn_text, ground_text, chart_svg};
 
 use crate::moment::Moment;
 use std::io;
@@ -73,8 +75,11 @@ const STEPS: [u64; 27] = [
     500_000_000,
 ];
 
-/// How many ticks stand behind the first one at most.
-const TICKS: u64 = 8;
+/// The ticks, of which those are drawn that lie within the run.
+const TICKS: [u64; 9] = [0, 1, 2, 3, 4, 5, 6, 7, 8];
+
+/// The axis of time.
+const AXIS: &[u8] = b"<path class=\"axis\" d=\"M130 760H1530\"/>\n";
 
 /// What a curve shows.
 #[derive(Clone, Copy, Debug, PartialEq, Eq)]
@@ -96,26 +101,61 @@ impl Curve {
         }
     }
 
-    // Its class, and what it is of.
-    fn names(self) -> (&'static str, &'static str) {
+    // Its class.
+    fn class(self) -> &'static str
+        ensures { result.now ≡ curve_class self }
+    {
         match self {
-            Curve::Jobs => ("jobs", "jobs answered"),
-            Curve::Segments => ("segments", "segments complete"),
+            Curve::Jobs => "jobs",
+            Curve::Segments => "segments",
+        }
+    }
+
+    // What it is of.
+    fn name(self) -> &'static str
+        ensures { result.now ≡ curve_name self }
+    {
+        match self {
+            Curve::Jobs => "jobs answered",
+            Curve::Segments => "segments complete",
         }
     }
 }
 
 /// Writes a chart of how many of all jobs were answered, and how many of all segments were complete, over time. `all` is the
 /// end of the run, with all jobs and all segments that there are. It is read in light and in dark. An error is the writer's.
-pub fn write_svg<W: Write>(writer: &mut W, moments: &[Moment], all: Moment) -> io::Result<()> {
+pub fn write_svg<W: Write>(writer: &mut W, moments: &[Moment], all: Moment) -> io::Result<()>
+    ensures { OnOk result (Appends (W.contents writer.old) (W.contents writer.new) (chart_svg moments.now all)) }
+{
+    write_top(writer, all)?;
+    write_drawn(writer, Curve::Jobs, all, 130, moments)?;
+    write_drawn(writer, Curve::Segments, all, 700, moments)?;
+    writer.write_all(b"</svg>\n")
+}
+
+// Writes what stands behind the curves.
+fn write_top<W: Write>(writer: &mut W, all: Moment) -> io::Result<()>
+    ensures { OnOk result (Appends (W.contents writer.old) (W.contents writer.new) (ground_text all.micros)) }
+{
     writer.write_all(HEAD)?;
-    write_ticks(writer, all.micros)?;
-    writeln!(writer, "<path class=\"axis\" d=\"M130 760H1530\"/>")?;
-    for (curve, at) in [(Curve::Jobs, 130), (Curve::Segments, 700)] {
-        write_key(writer, curve, all, at)?;
-        write_curve(writer, curve, all, moments)?;
-    }
-    writeln!(writer, "</svg>")
+    write_ticks(writer, all.micros, tick_step(all.micros), &TICKS)?;
+    writer.write_all(AXIS)
+}
+
+// Writes a piece of a curve and what it is, this far from the left, and the curve.
+fn write_drawn<W: Write>(
+    writer: &mut W,
+    curve: Curve,
+    all: Moment,
+    at: u64,
+    moments: &[Moment],
+) -> io::Result<()>
+    requires { at < 2000 }
+    ensures { OnOk result (Appends (W.contents writer.old) (W.contents writer.new) (drawn_text curve all at moments.now)) }
+{
+    write_sample(writer, curve.class(), at)?;
+    write_legend(writer, curve.name(), curve.count(all), at)?;
+    write_curve(writer, curve, all, moments)
 }
 
 // The same share of a length as the part is of the whole, rounded down.
@@ -127,50 +167,85 @@ fn share_of(part: u64, whole: u64, len: u64) -> u64
 }
 
 // How many microseconds lie between two ticks of an axis of this many.
-fn tick_step(micros: u64) -> u64 {
-    STEPS
-        .iter()
-        .copied()
-        .find(|step| micros / TICKS < *step)
-        .unwrap_or(micros)
+fn tick_step(micros: u64) -> u64
+    ensures { result ≡ tick_step micros }
+{
+    let found = STEPS.iter().find(|step| micros / 8 < **step);
+    found.copied().unwrap_or(micros)
 }
 
-// Writes the ticks of the axis of time, each with its milliseconds.
-fn write_ticks<W: Write>(writer: &mut W, micros: u64) -> io::Result<()> {
-    let step = tick_step(micros);
-    for tick in 0..TICKS + 1 {
-        let at = step.saturating_mul(tick);
-        if at <= micros {
-            write_tick(writer, micros, at)?;
-        }
+// Writes ticks of an axis of this many microseconds, with so many between two of them.
+fn write_ticks<W: Write>(writer: &mut W, micros: u64, step: u64, ticks: &[u64]) -> io::Result<()>
+    ensures { OnOk result (Appends (W.contents writer.old) (W.contents writer.new) (flat_map (tick_text micros step) ticks.now)) }
+{
+    for tick in ticks {
+        write_tick(writer, micros, step, *tick)?;
     }
     Ok(())
 }
 
-// Writes a tick of the axis of time.
-fn write_tick<W: Write>(writer: &mut W, micros: u64, at: u64) -> io::Result<()> {
-    let x = LEFT + share_of(at, micros, WIDTH);
-    let millis = at / 1000;
-    let rest = at % 1000;
-    write!(
-        writer,
-        "<path class=\"grid\" d=\"M{x} 160V772\"/><text class=\"soft\" x=\"{x}\" y=\"806\" text-anchor=\"middle\">{millis}"
-    )?;
-    if rest > 0 {
-        write!(writer, ".{rest:03}")?;
+// Writes a tick of an axis of this many microseconds, if it lies within these.
+fn write_tick<W: Write>(writer: &mut W, micros: u64, step: u64, tick: u64) -> io::Result<()>
+    ensures { OnOk result (Appends (W.contents writer.old) (W.contents writer.new) (tick_text micros step tick)) }
+{
+    let at = u128::from(step) * u128::from(tick);
+    if at <= u128::from(micros) {
+        write_mark(writer, micros, at as u64)
+    } else {
+        Ok(())
     }
-    writeln!(writer, "</text>")
 }
 
-// Writes what a curve is, and how much of it there is in all.
-fn write_key<W: Write>(writer: &mut W, curve: Curve, all: Moment, at: u64) -> io::Result<()> {
-    let (class, name) = curve.names();
-    let count = curve.count(all);
-    let text = at.saturating_add(80);
-    let end = at.saturating_add(64);
+// Writes the line of a tick, this far from the left, up to its label.
+fn write_rule<W: Write>(writer: &mut W, x: u64) -> io::Result<()>
+    ensures { OnOk result (Appends (W.contents writer.old) (W.contents writer.new) (tick_rule x)) }
+{
+    write!(
+        writer,
+        "<path class=\"grid\" d=\"M{x} 160V772\"/><text class=\"soft\" x=\"{x}\" y=\"806\" text-anchor=\"middle\">"
+    )
+}
+
+// Writes the tick at this moment of an axis of so many microseconds.
+fn write_mark<W: Write>(writer: &mut W, micros: u64, at: u64) -> io::Result<()>
+    ensures { OnOk result (Appends (W.contents writer.old) (W.contents writer.new) (tick_mark micros at)) }
+{
+    write_rule(writer, LEFT + share_of(at, micros, WIDTH))?;
+    write_label(writer, at)?;
+    writer.write_all(b"</text>\n")
+}
+
+// Writes microseconds as milliseconds, with decimals only where they aren't zero.
+fn write_label<W: Write>(writer: &mut W, micros: u64) -> io::Result<()>
+    ensures { OnOk result (Appends (W.contents writer.old) (W.contents writer.new) (label_text micros)) }
+{
+    let millis = micros / 1000;
+    let rest = micros % 1000;
+    if rest == 0 {
+        write!(writer, "{millis}")
+    } else {
+        write!(writer, "{millis}.{rest:03}")
+    }
+}
+
+// Writes a piece of a curve of this class, this far from the left.
+fn write_sample<W: Write>(writer: &mut W, class: &str, at: u64) -> io::Result<()>
+    requires { at < 2000 }
+    ensures { OnOk result (Appends (W.contents writer.old) (W.contents writer.new) (sample_text class.now at)) }
+{
+    let end = at + 64;
+    write!(writer, "<path class=\"{class}\" d=\"M{at} 81H{end}\"/>")
+}
+
+// Writes what a curve is of, this far from the left, and how much of that there is in all.
+fn write_legend<W: Write>(writer: &mut W, name: &str, count: u64, at: u64) -> io::Result<()>
+    requires { at < 2000 }
+    ensures { OnOk result (Appends (W.contents writer.old) (W.contents writer.new) (legend_text name.now count at)) }
+{
+    let text = at + 80;
     writeln!(
         writer,
-        "<path class=\"{class}\" d=\"M{at} 81H{end}\"/><text class=\"ink\" x=\"{text}\" y=\"90\">{name}, of {count}</text>"
+        "<text class=\"ink\" x=\"{text}\" y=\"90\">{name}, of {count}</text>"
     )
 }
 
@@ -180,11 +255,19 @@ fn write_curve<W: Write>(
     curve: Curve,
     all: Moment,
     moments: &[Moment],
-) -> io::Result<()> {
-    let (class, _) = curve.names();
-    write!(writer, "<path class=\"{class}\" d=\"M130 760")?;
+) -> io::Result<()>
+    ensures { OnOk result (Appends (W.contents writer.old) (W.contents writer.new) (curve_text curve all moments.now)) }
+{
+    write_start(writer, curve.class())?;
     write_steps(writer, curve, all, moments)?;
-    writeln!(writer, "H1530\"/>")
+    writer.write_all(b"H1530\"/>\n")
+}
+
+// Writes the start of a curve of this class, at nothing.
+fn write_start<W: Write>(writer: &mut W, class: &str) -> io::Result<()>
+    ensures { OnOk result (Appends (W.contents writer.old) (W.contents writer.new) (curve_start class.now)) }
+{
+    write!(writer, "<path class=\"{class}\" d=\"M130 760")
 }
 
 // Writes the steps of a curve.
