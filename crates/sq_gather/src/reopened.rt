@@ -29,6 +29,7 @@ pub fn reopen(
     requires more { g.stage + 1 < stages opening.now.recon }
     requires left { length g.left ≡ opening.now.old.parts }
     ensures run { IfOk result (λ run. IsRun opening.now (next_began opening.now g) run.0 run.1.items run.2.items) }
+    ensures pumps { IfOk result (λ run. length run.2.items ≡ pumps) }
     ensures returned { IfErr result (λ back. back ≡ g) }
 {
     // For the proof alone: there are no more stages than a number counts, what was handed in is an opening, and the next stage

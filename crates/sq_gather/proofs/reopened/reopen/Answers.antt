@@ -20,3 +20,6 @@ returns-in-Ok-clause-run c =
     (λ q store there. c.the_next_stage_begins.ensures.holds o g q store _ _ _ opening c.requires.placed c.requires.done there unused)
     (subst (λ (g : GatheredValue). IsResumed o (g.stage + 1) g.stores g.receipts c.args.pumps fabric nodes pumps) c.g.view_is c.in-Ok.ensures.run)
     (subst (λ (g : GatheredValue). (began : BeganWith) → HasBegun began fabric → CanBegin o began → AllOpenWith o began g.stores → AllHoldUnder o began nodes) c.g.view_is c.in-Ok.ensures.holds)
+
+pub returns-in-Ok-clause-pumps : goal.returns-in-Ok-clause-pumps
+returns-in-Ok-clause-pumps c = c.in-Ok.ensures.run.each_pump.all
