@@ -154,6 +154,65 @@ try_live_rounds() {
     done
 }
 
+# counted: a summary without what depends on the threads: in how many chunks keys moved, at which partition a job was answered
+# and whether it had waited there, and the times. A job that waited was answered.
+counted() {
+    sed -E 's/^( *[0-9]+ -> [0-9]+ +[0-9]+ +[0-9]+) +[1-9][0-9]*$/\1 chunks/; s/[0-9]+\.[0-9]{3}/TIME/g' "$room/errors" | awk '
+        inside && NF == 4 && $1 == parts { parts++; committed += $2; aborted += $3; if ($4 > $2 + $3) print "more waited"; next }
+        inside { print parts " partitions, " committed + 0 " committed, " aborted + 0 " aborted"; inside = 0 }
+        /^partition / { inside = 1 }
+        { print }'
+}
+
+# summary NAME LINKS COUNTS [OPTION]: the summary of a stored live run tells these lines of links, and this of all partitions.
+summary() {
+    local input=$tests/lives/$1
+    {
+        echo 'link        root keys    families      chunks'
+        if [ -n "$2" ]; then echo "$2"; fi
+        echo 'partition   committed     aborted      waited'
+        echo "$3"
+        echo 'milliseconds: reading TIME, threads TIME, audits TIME'
+    } > "$room/said"
+    give "$input.in" live --summary "${@:4}"
+    counted > "$room/counted"
+    cp "$room/counted" "$room/errors"
+    judge "live --summary $1 ${*:4}" 0 "$input.out" "$room/said"
+}
+
+# What a live run tells besides its line: a summary, and a timeline of jobs and segments. Nothing of a fault.
+try_told() {
+    local links why chart
+    summary no_jobs_and_no_move '' '1 partitions, 0 committed, 0 aborted'
+    summary moves_while_jobs_run ' 0 -> 1             4           1 chunks' '2 partitions, 3 committed, 1 aborted'
+    links=$(printf '%s\n' ' 0 -> 1             8           3 chunks' ' 0 -> 2             4           2 chunks')
+    summary jobs_of_each_stage "$links" '3 partitions, 21 committed, 0 aborted'
+    summary jobs_of_each_stage "$links" '3 partitions, 21 committed, 0 aborted' --fold
+    give "$tests/lives/jobs_of_each_stage.in" live --timeline "$room/moments.csv"
+    judge 'live --timeline moments.csv' 0 "$tests/lives/jobs_of_each_stage.out" /dev/null
+    # One more job or segment on each line, no sooner than on the line before.
+    why=$(awk -F, 'NR == 1 && $0 != "milliseconds,jobs,segments" { print "heading " $0 }
+        NR > 1 && ($1 + 0 < at + 0 || $1 !~ /^[0-9]+\.[0-9][0-9][0-9]$/ || $2 + $3 != NR - 1 || $2 < jobs || $3 < segments) { print "line " NR ": " $0 }
+        { at = $1; jobs = $2 + 0; segments = $3 + 0 }
+        END { if (jobs != 21 || segments != 3 || NR != 25) print "ends with " $0 }' "$room/moments.csv")
+    count moments_of_a_run "$why"
+    give "$tests/lives/jobs_of_each_stage.in" live --timeline "$room/moments.svg"
+    judge 'live --timeline moments.svg' 0 "$tests/lives/jobs_of_each_stage.out" /dev/null
+    chart=$(cat "$room/moments.svg")
+    why=
+    case $chart in '<svg xmlns='*'jobs answered, of 21<'*'segments complete, of 3<'*'</svg>') ;; *) why='another chart' ;; esac
+    # Both curves have a step for each moment.
+    if [ "$(grep -oE 'H[0-9]+V[0-9]+' "$room/moments.svg" | wc -l)" != 48 ]; then why='another number of steps'; fi
+    count chart_of_a_run "$why"
+    give "$tests/lives/jobs_of_each_stage.in" live --timeline "$room/nowhere/moments.csv"
+    echo "squall: the file '$room/nowhere/moments.csv' can't be written: No such file or directory (os error 2)" > "$room/said"
+    judge 'live --timeline in no folder' 0 "$tests/lives/jobs_of_each_stage.out" "$room/said"
+    give "$tests/lives/an_id_twice.in" live --summary --timeline "$room/fault.csv"
+    said 127 "$(sed 's/.* //' "$tests/lives/an_id_twice.status")" > "$room/said"
+    judge 'live --summary of a fault' 2 "$tests/lives/an_id_twice.out" "$room/said"
+    count no_moments_of_a_fault "$(ls "$room/fault.csv" 2> /dev/null || true)"
+}
+
 # A live run has at most 4,096 jobs, and a line that is too long, or without end, is a fault of that line.
 try_live_limits() {
     local header
@@ -577,6 +636,10 @@ try_command_lines() {
     answer turns_without_a_number 2 live --turns
     answer fold_twice 2 live --fold --fold
     answer fold_with_a_value 2 live --fold=yes
+    answer summary_twice 2 live --summary --summary
+    answer summary_with_a_value 2 live --summary=yes
+    answer timeline_without_a_name 2 live --timeline
+    answer timeline_twice 2 live --timeline a.csv --timeline b.csv
     answer version_of_run 2 run --version
     answer old_without_new 2 run --old old.json
     answer old_without_new 2 run --old old.json --rows rows.txt
@@ -643,6 +706,11 @@ try_pictures() {
     done
 }
 
+# The pictures of a tree in docs are what the small caller of the library draws, the one before a pull and the one after it.
+try_pictures_of_trees() {
+    count trees_as_they_are_drawn "$(difference "$top/crates/sq_tree_example/stdout" <(cat "$top/docs/tree-before.svg" "$top/docs/tree-after.svg"))"
+}
+
 # The picture of what moves in docs is that of the example.
 try_picture_of_moves() {
     count moves_as_they_are_drawn "$(difference "$tests/pictures/two_ranges.svg" "$top/docs/moves.svg")"
@@ -666,6 +734,7 @@ try_readme
 try_library
 try_picture_of_crates
 try_picture_of_moves
+try_pictures_of_trees
 for program in "${programs[@]}"; do
     if [ ! -x "$program" ]; then
         echo "tests: no program at $program: run 'rt ci' at the top first" >&2
@@ -685,6 +754,7 @@ for program in "${programs[@]}"; do
     try_lives
     try_live_rounds
     try_live_limits
+    try_told
     try_ends
     try_streams
     try_memory

@@ -55,7 +55,7 @@ numbered_shape =
 
 -- and with all its options
 abbrev pub live_shape : Shape
-live_shape = with_input (larger numbered_shape (flag_rule (codes "fold")))
+live_shape = with_input (larger (larger (larger numbered_shape (flag_rule (codes "fold"))) (flag_rule (codes "summary"))) (path_rule (codes "timeline")))
 
 -- the subcommand that tells what numbers mean
 abbrev pub explain_shape : Shape

@@ -67,21 +67,21 @@ IsFormOf rows Svg = FlagOf (one_of (codes "json") rows) false × FlagOf (one_of 
 abbrev pub IsRunTask : List Row → Task → Type 0
 IsRunTask rows (Run echoes) = FlagOf (one_of (codes "echo") rows) echoes
 IsRunTask rows (Ranges form) = ⊥
-IsRunTask rows (Live turns pumps folds) = ⊥
+IsRunTask rows (Live turns pumps folds summary timeline) = ⊥
 
 -- the task is a listing, of the form that is asked for
 abbrev pub IsRangesTask : List Row → Task → Type 0
 IsRangesTask rows (Run echoes) = ⊥
 IsRangesTask rows (Ranges form) = IsFormOf rows form
-IsRangesTask rows (Live turns pumps folds) = ⊥
+IsRangesTask rows (Live turns pumps folds summary timeline) = ⊥
 
--- the task is a live run with the numbers and the flag of these options
+-- the task is a live run with the numbers, the flags and the file of these options
 abbrev pub IsLiveTask : List Row → Task → Type 0
 IsLiveTask rows (Run echoes) = ⊥
 IsLiveTask rows (Ranges form) = ⊥
-IsLiveTask rows (Live turns pumps folds) =
+IsLiveTask rows (Live turns pumps folds summary timeline) =
     NumberOf MAX_TURNS TURNS (one_of (codes "turns") rows) turns × NumberOf MAX_PUMPS PUMPS (one_of (codes "pumps") rows) pumps
-    × FlagOf (one_of (codes "fold") rows) folds
+    × FlagOf (one_of (codes "fold") rows) folds × FlagOf (one_of (codes "summary") rows) summary × IsNameOf (codes "timeline") rows timeline
 
 -- the line does a task of which this holds with the input that is named
 abbrev pub IsWorkLine : (List Row → Task → Type 0) → List Row → Line → Type 0
@@ -145,7 +145,7 @@ ComesOf words (Err error) = HasKind (fault_of squall words) error ⊎ ClashesAt 
 abbrev pub IsWithin : Task → Type 0
 IsWithin (Run echoes) = Unit {0}
 IsWithin (Ranges form) = Unit {0}
-IsWithin (Live turns pumps folds) = (1 ≤ turns) × (turns ≤ MAX_TURNS) × (1 ≤ pumps) × (pumps ≤ MAX_PUMPS)
+IsWithin (Live turns pumps folds summary timeline) = (1 ≤ turns) × (turns ≤ MAX_TURNS) × (1 ≤ pumps) × (pumps ≤ MAX_PUMPS)
 
 -- and so are those of a line
 abbrev pub LineIsWithin : Line → Type 0

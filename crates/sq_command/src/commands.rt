@@ -199,8 +199,20 @@ fn live<'a>(alloc: Global) -> Result<Command<'a>, AllocError>
         "fold",
         "Audit what is answered between two stages, and fold the logs",
     );
+    let summary = flag(
+        alloc,
+        "summary",
+        "Tell behind the line of the run what it did",
+    );
+    let timeline = path(
+        alloc,
+        "timeline",
+        "Write into this file when each thing was done",
+    );
     let folding = with(numbered(alloc)?, fold)?;
-    with_input(alloc, folding)
+    let summing = with(folding, summary)?;
+    let timed = with(summing, timeline)?;
+    with_input(alloc, timed)
 }
 
 // The subcommand that tells what numbers mean.

@@ -130,6 +130,12 @@ fault NUMBER                           of the input, and then no thread ran, or
 At a terminal standard error tells meanwhile how many jobs are answered and how
 many segments are complete.
 
+With --summary standard error tells besides what moved along each link, what became
+of the jobs at each partition, and how long the parts of the run took. With
+--timeline FILE a file gets the moments at which jobs were answered and segments
+were complete: as lines of comma-separated values where its name ends in '.csv', and
+else as a chart in SVG.
+
 Example:
 
 squall live <<'END'

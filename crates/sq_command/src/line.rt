@@ -14,7 +14,7 @@ use std::convert::AsStr;
 #[derive(Clone, Copy, Debug, PartialEq, Eq)]
 pub enum Line<'a> {
     /// Do this with that input.
-    Work { task: Task, input: Input<'a> },
+    Work { task: Task<'a>, input: Input<'a> },
     /// Tell what this number means, or all numbers.
     Explain { number: Option<u16> },
 }
@@ -52,7 +52,7 @@ pub enum Form {
 
 /// What is to be done with an input.
 #[derive(Clone, Copy, Debug, PartialEq, Eq)]
-pub enum Task {
+pub enum Task<'a> {
     /// Make the steps of a script.
     Run {
         /// Whether each step stands before its answer.
@@ -71,6 +71,10 @@ pub enum Task {
         pumps: u32,
         /// Whether the logs are folded between stages.
         folds: bool,
+        /// Whether it is told what the run did.
+        summary: bool,
+        /// The name of the file into which it is written when each thing was done, where there is to be one.
+        timeline: Option<&'a str>,
     },
 }
 
@@ -153,6 +157,8 @@ fn live_line<'a>(options: &ArgMatches<'a>) -> Result<Line<'a>, Clash>
         turns,
         pumps: pumps as u32,
         folds: is_given(options, "fold"),
+        summary: is_given(options, "summary"),
+        timeline: name_of(options, "timeline"),
     };
     Ok(Line::Work {
         task,

@@ -19,8 +19,9 @@ use crate::continuing::{Continued, continue_with};
 use crate::judging::{judge_end, judge_stopped, moved_segments};
 use crate::leader::{Led, lead_on};
 use crate::outcome::Outcome;
+use crate::watch::Watch;
 use sq_audit::Job;
-use sq_driver::{Gate, run_workers};
+use sq_driver::run_workers;
 use sq_gather::{Gathered, gather, reopen};
 use sq_leader::Moving;
 use sq_node::{Fabric, Node};
@@ -62,13 +63,13 @@ pub(crate) enum After {
 /// Runs the jobs of an account stage by stage, from the first to the last one or to the first that stops it: each partition
 /// and each pump runs in a thread of its own, and so again in each stage. What the whole run comes to, whatever the threads
 /// did.
-pub(crate) fn run_stages<R: Threads + Wait + Sync, G: Gate>(
+pub(crate) fn run_stages<R: Threads + Wait + Sync, G: Watch>(
     rt: &R,
     alloc: Global,
     account: Account,
     moving: Moving,
     manner: Manner,
-    gate: &G,
+    watch: &G,
 ) -> Result<Outcome, AllocError>
     requires pumps { manner.pumps ≤ MAX_PUMPS }
     requires first { account ≡ first_account account.opening account.jobs }
@@ -79,7 +80,7 @@ pub(crate) fn run_stages<R: Threads + Wait + Sync, G: Gate>(
     let stages = account.opening.recon().stages();
     let mut ready = first_ready(rt, alloc, account, moving, manner.pumps)?;
     for _stage in 0..stages {
-        ready = match run_stage(rt, alloc, ready, manner, gate)? {
+        ready = match run_stage(rt, alloc, ready, manner, watch)? {
             After::Ended(outcome) => return Ok(outcome),
             After::Next(next) => next,
         };
@@ -128,12 +129,12 @@ fn post_all<R: Wait>(rt: &R, fabric: &Fabric, jobs: &[Job]) -> Result<(), AllocE
 }
 
 // Runs a stage to its end, and makes the next one ready where the leader goes on.
-fn run_stage<R: Threads + Wait + Sync, G: Gate>(
+fn run_stage<R: Threads + Wait + Sync, G: Watch>(
     rt: &R,
     alloc: Global,
     ready: Ready,
     manner: Manner,
-    gate: &G,
+    watch: &G,
 ) -> Result<After, AllocError>
     requires pumps { manner.pumps ≤ MAX_PUMPS }
     requires ready { (began : BeganWith) × IsReady began ready }
@@ -148,7 +149,7 @@ fn run_stage<R: Threads + Wait + Sync, G: Gate>(
     } = ready;
     // For the proof alone: what the account has is an opening.
     let _recon = account.opening.recon();
-    let gathered = drive_all(rt, alloc, fabric, nodes, pumps, manner.turns, gate)?;
+    let gathered = drive_all(rt, alloc, fabric, nodes, pumps, manner.turns, watch)?;
     let moved = moved_segments(&gathered.words);
     match lead_on(moving, &account.opening, &moved) {
         Led::Next(moving) => match continue_with(alloc, manner.folds, account, gathered)? {
@@ -163,22 +164,27 @@ fn run_stage<R: Threads + Wait + Sync, G: Gate>(
 }
 
 // Drives each partition and each pump in a thread of its own, and gathers what they left. Whatever the threads did, it is
-// placed.
-fn drive_all<R: Threads + Wait + Sync, G: Gate>(
+// placed. `watch` is told before the threads are started, after they have ended, and what was gathered.
+fn drive_all<R: Threads + Wait + Sync, G: Watch>(
     rt: &R,
     alloc: Global,
     fabric: Fabric,
     mut nodes: Vec<Node>,
     mut pumps: Vec<Pump>,
     turns: u64,
-    gate: &G,
+    watch: &G,
 ) -> Result<Gathered, AllocError>
     requires { AreAllOf fabric nodes.items pumps.items }
     ensures { IfOk result (λ g. (o : OpeningValue) (began : BeganWith) → IsOpening o → IsRun o began fabric nodes.items pumps.items → RanFrom o began g) }
 {
-    run_workers(rt, &fabric, &mut nodes, &mut pumps, turns, gate);
+    watch.stage_begins();
+    run_workers(rt, &fabric, &mut nodes, &mut pumps, turns, watch);
+    watch.stage_ends(&nodes);
     match gather(rt, alloc, fabric, nodes, pumps) {
-        Ok(gathered) => Ok(gathered),
+        Ok(gathered) => {
+            watch.gathers(&gathered);
+            Ok(gathered)
+        }
         Err(_) => Err(AllocError),
     }
 }

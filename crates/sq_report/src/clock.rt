@@ -9,7 +9,7 @@ pub struct Times {
     pub reading: u64,
     /// While its threads ran, in all stages.
     pub threads: u64,
-    /// While it was audited.
+    /// While what a stage left was audited, folded, and made ready for the next one, in all stages.
     pub audits: u64,
 }
 
@@ -42,6 +42,9 @@ impl<'a, C: Clock> Stopwatch<'a, C> {
     }
 }
 
+// When a span began that isn't going on.
+const STOPPED: u64 = u64::MAX;
+
 /// Adds up the time between each beginning and the end that follows.
 #[derive(Drop)]
 pub(crate) struct Span {
@@ -53,7 +56,7 @@ impl Span {
     /// One that has taken no time.
     pub(crate) fn new() -> Span {
         Span {
-            began: AtomicU64::new(0),
+            began: AtomicU64::new(STOPPED),
             total: AtomicU64::new(0),
         }
     }
@@ -63,9 +66,9 @@ impl Span {
         self.began.store(micros, Ordering::SeqCst);
     }
 
-    /// It ends at this time.
+    /// It ends at this time, if it goes on.
     pub(crate) fn end(&self, micros: u64) {
-        let began = self.began.load(Ordering::SeqCst);
+        let began = self.began.swap(STOPPED, Ordering::SeqCst);
         self.total
             .fetch_add(micros.saturating_sub(began), Ordering::SeqCst);
     }

@@ -4,10 +4,12 @@
 
 mod clock;
 mod counts;
+mod kept;
 mod notes;
 mod summary;
 mod table;
 mod timeline;
+mod told;
 mod waits;
 
 pub use clock::Times;
@@ -15,3 +17,4 @@ pub use counts::{LinkCount, PartCount};
 pub use summary::Summary;
 pub use table::{write_summary, write_times};
 pub use timeline::Timeline;
+pub use told::{Form, Told};

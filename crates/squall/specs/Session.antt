@@ -59,7 +59,7 @@ ListsAs Svg = Tells TellsAsSvg MAX_TABLES
 abbrev pub EndsTask : Task → Option (List ℕ) → Option (List ℕ) → Option (List ℕ) → ℕ → Type 0
 EndsTask (Run echoes) known before now = EndsAs (Runs echoes MAX_TABLES known before now) exit_status
 EndsTask (Ranges form) known before now = EndsAs (ListsAs form known before now) exit_status
-EndsTask (Live turns pumps folds) known before now = EndsAs (RunsLive folds MAX_TABLES known before now) live_status
+EndsTask (Live turns pumps folds summary timeline) known before now = EndsAs (RunsLive folds MAX_TABLES known before now) live_status
 
 -- what stands behind the plans: the main part of an input, and behind its first line the rows, where they have a file
 abbrev pub IsBehindPlans : Option (Bor Text) → Option (List ℕ) → Option (List ℕ) → Type 0

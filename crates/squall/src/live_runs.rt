@@ -8,11 +8,113 @@ ghost use Rattle.squall.specs.Session.{live_status, EndsAs};
 use crate::session::{REFUSED, explain, explain_write};
 use crate::source::Source;
 use sq_live::{LiveEnding, LiveFault, Outcome, Watch, live};
+use sq_report::{Form, Told};
 use sq_text::InputLine;
 use sq_world::WriteFault;
+use std::fs;
 use std::io::{Read, Write};
+use std::rt::Files;
 use std::sync::Wait;
 use std::thread::Threads;
+use std::time::Clock;
+
+/// How a live run is done.
+#[derive(Clone, Copy, Debug, PartialEq, Eq)]
+pub struct Manner {
+    /// How often each worker goes round at most in a stage, from 1 to [`sq_command::MAX_TURNS`].
+    pub turns: u64,
+    /// How many pumps there are.
+    pub pumps: u32,
+    /// Whether the logs are folded between stages.
+    pub folds: bool,
+}
+
+/// What is told of a live run besides its line.
+#[derive(Clone, Copy, Debug, PartialEq, Eq)]
+pub struct Report<'a> {
+    /// Whether a summary is.
+    pub summary: bool,
+    /// The name of the file into which a timeline is written, where one is.
+    pub timeline: Option<&'a str>,
+}
+
+/// Runs the jobs in `reader` as [`live_run`] does, and tells of the run what was asked for: a summary on standard error, and a
+/// timeline in a file. Of a run that ends in a fault nothing is told; where there is no memory to keep count, the run goes on
+/// without.
+pub fn told_run<
+    T: Threads + Wait + Sync + Clock + Eprint + Files + AllocGlobal,
+    R: Read,
+    W: Write,
+    G: Watch,
+>(
+    rt: &T,
+    reader: &mut R,
+    writer: &mut W,
+    manner: Manner,
+    report: Report<'_>,
+    watch: &G,
+    source: &Source<'_>,
+) -> u8
+    requires { manner.pumps ≤ MAX_PUMPS }
+    ensures { EndsAs (RunsLive manner.folds MAX_TABLES (R.remaining reader.old) (W.contents writer.old) (W.contents writer.new)) live_status result }
+{
+    if !report.summary && report.timeline.is_none() {
+        return live_run(rt, reader, writer, manner, watch, source);
+    }
+    // The time of reading goes from here on.
+    let Ok(told) = Told::new(rt, rt.alloc(), watch, report.timeline.is_some()) else {
+        let _ = eprintln!(rt; "squall: there is no memory to tell what the run does");
+        return live_run(rt, reader, writer, manner, watch, source);
+    };
+    let status = live_run(rt, reader, writer, manner, &told, source);
+    if status != REFUSED {
+        tell(rt, report, &told);
+    }
+    status
+}
+
+// Tells of a run what was asked for.
+fn tell<T: Wait + Clock + Sync + Eprint + Files + AllocGlobal, G: Watch>(
+    rt: &T,
+    report: Report<'_>,
+    told: &Told<'_, T, G>,
+) {
+    if report.summary {
+        print_summary(rt, told);
+    }
+    if let Some(name) = report.timeline {
+        draw_timeline(rt, name, told);
+    }
+}
+
+// Says the summary on standard error.
+fn print_summary<T: Wait + Clock + Sync + Eprint + AllocGlobal, G: Watch>(
+    rt: &T,
+    told: &Told<'_, T, G>,
+) {
+    let mut text = Vec::new(rt.alloc());
+    if told.write_summary(rt.alloc(), &mut text).is_ok() {
+        if let Ok(text) = String::from_utf8(text) {
+            let _ = eprint!(rt; "{text}");
+        }
+    }
+}
+
+// Writes the timeline into a file of this name: values where the name ends in '.csv', else a chart. Says on standard error why
+// it can't be written.
+fn draw_timeline<T: Wait + Clock + Sync + Eprint + Files + AllocGlobal, G: Watch>(
+    rt: &T,
+    name: &str,
+    told: &Told<'_, T, G>,
+) {
+    let drawn = match fs::create(rt, name) {
+        Ok(mut file) => told.write_timeline(rt.alloc(), &mut file, Form::of_file(name)),
+        Err(error) => Err(error),
+    };
+    if let Err(error) = drawn {
+        let _ = eprintln!(rt; "squall: the file '{name}' can't be written: {error}");
+    }
+}
 
 /// Runs the jobs in `reader` in threads, writes what that comes to, and says on standard error what it means, unless the run
 /// is sound. Its workers ask `watch` before each step. Gives the exit status.
@@ -20,15 +122,18 @@ pub fn live_run<T: Threads + Wait + Sync + Eprint + AllocGlobal, R: Read, W: Wri
     rt: &T,
     reader: &mut R,
     writer: &mut W,
-    turns: u64,
-    pumps: u32,
-    folds: bool,
+    manner: Manner,
     watch: &G,
     source: &Source<'_>,
 ) -> u8
-    requires { pumps ≤ MAX_PUMPS }
-    ensures { EndsAs (RunsLive folds MAX_TABLES (R.remaining reader.old) (W.contents writer.old) (W.contents writer.new)) live_status result }
+    requires { manner.pumps ≤ MAX_PUMPS }
+    ensures { EndsAs (RunsLive manner.folds MAX_TABLES (R.remaining reader.old) (W.contents writer.old) (W.contents writer.new)) live_status result }
 {
+    let Manner {
+        turns,
+        pumps,
+        folds,
+    } = manner;
     let ran = live(rt, rt.alloc(), reader, writer, turns, pumps, folds, watch);
     explain_live(rt, source, ran);
     live_status(ran)

@@ -13,7 +13,7 @@ mod session;
 mod source;
 
 use explaining::explanation;
-use live_runs::live_run;
+use live_runs::{Manner, Report, told_run};
 use plans::lines_of_plans;
 use progress::Progress;
 use session::{
@@ -31,6 +31,7 @@ use std::process::ExitCode;
 use std::rt::{Env, Files};
 use std::sync::Wait;
 use std::thread::Threads;
+use std::time::Clock;
 use std::{env, io};
 
 // How many bytes go out at a time.
@@ -44,16 +45,14 @@ fn words_of(rt: &(impl Env + AllocGlobal)) -> io::Result<Vec<String>> {
 
 // Does a task with what a reader gives, which comes from there, and gives the exit status. Workers of a live run ask
 // `watch` before each step.
-fn work<T: Threads + Wait + Sync + Eprint + AllocGlobal, R: Read + Drop, W: Write, G: Watch>(
-    rt: &T,
-    task: Task,
-    source: &Source<'_>,
-    mut reader: R,
-    writer: &mut W,
-    watch: &G,
-) -> u8
+fn work<
+    T: Threads + Wait + Sync + Clock + Eprint + Files + AllocGlobal,
+    R: Read + Drop,
+    W: Write,
+    G: Watch,
+>(rt: &T, task: Task<'_>, source: &Source<'_>, mut reader: R, writer: &mut W, watch: &G) -> u8
     requires { IsWithin task }
-    ensures { EndsTask task (R.remaining reader) (W.contents writer.old) (W.contents writer.new) result }
+    ensures { EndsTask task.entry (R.remaining reader) (W.contents writer.old) (W.contents writer.new) result }
 {
     match task {
         Task::Run { echoes } => script(rt, &mut reader, writer, echoes, source),
@@ -62,20 +61,30 @@ fn work<T: Threads + Wait + Sync + Eprint + AllocGlobal, R: Read + Drop, W: Writ
             turns,
             pumps,
             folds,
-        } => live_run(rt, &mut reader, writer, turns, pumps, folds, watch, source),
+            summary,
+            timeline,
+        } => {
+            let manner = Manner {
+                turns,
+                pumps,
+                folds,
+            };
+            let report = Report { summary, timeline };
+            told_run(rt, &mut reader, writer, manner, report, watch, source)
+        }
     }
 }
 
 // Does a task with the input of which a reader gives the main part, and gives the exit status: 2 where a file of the plans
 // or of the rows can't be read.
 fn work_on_parts<
-    T: Threads + Wait + Sync + Print + Eprint + Files + AllocGlobal,
+    T: Threads + Wait + Sync + Clock + Print + Eprint + Files + AllocGlobal,
     R: Read + Drop,
     W: Write,
     G: Watch,
->(rt: &T, task: Task, input: Input<'_>, main: R, writer: &mut W, watch: &G) -> u8
+>(rt: &T, task: Task<'_>, input: Input<'_>, main: R, writer: &mut W, watch: &G) -> u8
     requires { IsWithin task }
-    ensures { EndsParts task input.entry.plans (R.remaining main) (W.contents writer.old) (W.contents writer.new) result }
+    ensures { EndsParts task.entry input.entry.plans (R.remaining main) (W.contents writer.old) (W.contents writer.new) result }
 {
     let rows = Cell::new(None);
     let source = Source { input, rows: &rows };
@@ -115,13 +124,13 @@ fn work_on_parts<
 // Does a task with an input, of which standard input gives the main part or a file, and gives the exit status: 2 where a
 // file can't be read.
 fn work_on<
-    T: Threads + Wait + Sync + Print + Eprint + Files + AllocGlobal,
+    T: Threads + Wait + Sync + Clock + Print + Eprint + Files + AllocGlobal,
     R: Read,
     W: Write,
     G: Watch,
->(rt: &T, task: Task, input: Input<'_>, reader: &mut R, writer: &mut W, watch: &G) -> u8
+>(rt: &T, task: Task<'_>, input: Input<'_>, reader: &mut R, writer: &mut W, watch: &G) -> u8
     requires { IsWithin task }
-    ensures { EndsInput task input.entry (R.remaining reader.old) (W.contents writer.old) (W.contents writer.new) result }
+    ensures { EndsInput task.entry input.entry (R.remaining reader.old) (W.contents writer.old) (W.contents writer.new) result }
 {
     let Some(name) = input.file else {
         return work_on_parts(rt, task, input, reader, writer, watch);
@@ -134,7 +143,7 @@ fn work_on<
 
 // Does what the words of a command line ask for, and gives the exit status.
 fn obey<
-    T: Threads + Wait + Sync + Print + Eprint + Files + AllocGlobal,
+    T: Threads + Wait + Sync + Clock + Print + Eprint + Files + AllocGlobal,
     S: AsStr,
     R: Read,
     W: Write,
@@ -151,7 +160,7 @@ fn obey<
 
 // The same with a buffer in front of the writer. After a failed write nothing more is written.
 fn obey_buffered<
-    T: Threads + Wait + Sync + Print + Eprint + Files + AllocGlobal,
+    T: Threads + Wait + Sync + Clock + Print + Eprint + Files + AllocGlobal,
     S: AsStr,
     R: Read,
     W: Write + Drop,

@@ -15,5 +15,5 @@ returns-in-Ranges g c =
 
 pub returns : goal.returns
 returns g c =
-    let Ends = λ (task : Task). EndsTask task (g.R.Read.remaining c.args.reader) (g.W.Write.contents c.args.writer.now) (g.W.Write.contents c.live_run.new.writer) c.live_run.result in
-    subst Ends (sym c.in-Live.is) c.live_run.ensures
+    let Ends = λ (task : Task). EndsTask task (g.R.Read.remaining c.args.reader) (g.W.Write.contents c.args.writer.now) (g.W.Write.contents c.told_run.new.writer) c.told_run.result in
+    subst Ends (sym c.in-Live.is) c.told_run.ensures

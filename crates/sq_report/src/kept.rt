@@ -1,0 +1,60 @@
+// A summary that is counted while a run goes on.
+use crate::summary::Summary;
+use crate::table::write_summary;
+use sq_gather::Gathered;
+use sq_node::Node;
+use std::alloc::{AllocError, Global};
+use std::io;
+use std::io::Write;
+use std::sync::atomic::{AtomicBool, Ordering};
+use std::sync::{Mutex, Wait};
+
+/// A summary that is counted while a run goes on, and whether there was memory for all that was to be counted.
+#[derive(Drop)]
+pub(crate) struct Kept {
+    summary: Mutex<Summary>,
+    is_whole: AtomicBool,
+}
+
+impl Kept {
+    /// That of no stage.
+    pub(crate) fn new(alloc: Global) -> Kept {
+        Kept {
+            summary: Mutex::new(Summary::new(alloc)),
+            is_whole: AtomicBool::new(true),
+        }
+    }
+
+    /// Adds the receipts of the nodes of a stage.
+    pub(crate) fn add_nodes<R: Wait>(&self, rt: &R, nodes: &[Node]) {
+        let added = self.summary.lock(rt).add_nodes(nodes);
+        self.note(added);
+    }
+
+    /// Adds what moved along the links of a stage.
+    pub(crate) fn add_links<R: Wait>(&self, rt: &R, g: &Gathered) {
+        let added = self.summary.lock(rt).add_links(g);
+        self.note(added);
+    }
+
+    /// Writes the summary, and before it whether memory ran out before all was counted.
+    pub(crate) fn write<R: Wait, O: Write>(
+        &self,
+        rt: &R,
+        writer: &mut O,
+        waited: &[u64],
+    ) -> io::Result<()> {
+        if !self.is_whole.load(Ordering::SeqCst) {
+            writeln!(writer, "memory ran out before all was counted")?;
+        }
+        let summary = self.summary.lock(rt);
+        write_summary(writer, &summary, waited)
+    }
+
+    // Keeps in mind whether there was memory for what was to be added.
+    fn note(&self, added: Result<(), AllocError>) {
+        if added.is_err() {
+            self.is_whole.store(false, Ordering::SeqCst);
+        }
+    }
+}

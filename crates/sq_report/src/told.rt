@@ -1,0 +1,166 @@
+// A watch that tells afterwards what a run did.
+ghost use Rattle.std.specs.Prelude.{◌≡◌, ◌↔◌, IsTrue, codes, nat_eq};
+ghost use Rattle.std.specs.List.{ends_with};
+
+use crate::clock::{Span, Stopwatch, Times};
+use crate::kept::Kept;
+use crate::table::write_times;
+use crate::timeline::Timeline;
+use crate::waits::Waits;
+use sq_chart::{moments_of, write_csv, write_svg};
+use sq_driver::{Gate, NodeStep};
+use sq_gather::Gathered;
+use sq_live::{MAX_JOBS, Watch};
+use sq_node::Node;
+use sq_ranges::SEGMENT_LIMIT;
+use std::alloc::{AllocError, Global};
+use std::io;
+use std::io::Write;
+use std::sync::Wait;
+use std::sync::atomic::{AtomicU64, Ordering};
+use std::time::Clock;
+
+/// A watch that tells another one all that it is told, and keeps count for a summary and, if it is to, for a timeline. What the
+/// other one says of a step is what it says.
+#[derive(Drop)]
+pub struct Told<'a, R, W> {
+    rt: &'a R,
+    watch: &'a W,
+    clock: Stopwatch<'a, R>,
+    summary: Kept,
+    waits: Waits,
+    reading: AtomicU64,
+    threads: Span,
+    audits: Span,
+    timeline: Option<Timeline<'a, R>>,
+}
+
+/// Whether a timeline is a table or a chart.
+#[derive(Clone, Copy, Debug, PartialEq, Eq)]
+pub enum Form {
+    /// Comma-separated values: [`write_csv`].
+    Csv,
+    /// A chart: [`write_svg`].
+    Svg,
+}
+
+impl Form {
+    /// That of a file of this name: comma-separated values where it ends in `.csv`, and else a chart.
+    pub fn of_file(name: &str) -> Form
+        ensures { (result ≡ Form.Csv) ↔ IsTrue (ends_with nat_eq name.now (codes ".csv")) }
+    {
+        if name.as_bytes().ends_with(b".csv") {
+            Form::Csv
+        } else {
+            Form::Svg
+        }
+    }
+}
+
+impl<'a, R: Wait + Clock, W: Watch> Told<'a, R, W> {
+    /// One that was told nothing, before another watch, with a timeline or without. The time of reading goes from now on. It
+    /// is refused only where there is no memory for it.
+    pub fn new(
+        rt: &'a R,
+        alloc: Global,
+        watch: &'a W,
+        draws: bool,
+    ) -> Result<Told<'a, R, W>, AllocError> {
+        let timeline = if draws {
+            Some(Timeline::new(alloc, rt, MAX_JOBS, SEGMENT_LIMIT as usize)?)
+        } else {
+            None
+        };
+        Ok(Told {
+            rt,
+            watch,
+            clock: Stopwatch::start(rt),
+            summary: Kept::new(alloc),
+            waits: Waits::new(alloc)?,
+            reading: AtomicU64::new(0),
+            threads: Span::new(),
+            audits: Span::new(),
+            timeline,
+        })
+    }
+
+    /// Writes the summary: [`write_summary`](crate::write_summary), and a line of the times. Where memory ran out before all was counted, it says
+    /// so first. An error is the writer's, or that there is no memory.
+    pub fn write_summary<O: Write>(&self, alloc: Global, writer: &mut O) -> io::Result<()> {
+        let waited = self.waits.counts(alloc)?;
+        self.summary.write(self.rt, writer, &waited)?;
+        write_times(writer, self.times())
+    }
+
+    /// Writes the timeline in a form; nothing where there is none. An error is the writer's, or that there is no memory.
+    pub fn write_timeline<O: Write>(
+        &self,
+        alloc: Global,
+        writer: &mut O,
+        form: Form,
+    ) -> io::Result<()> {
+        let Some(timeline) = &self.timeline else {
+            return Ok(());
+        };
+        let moments = moments_of(alloc, &timeline.events(alloc)?)?;
+        match form {
+            Form::Csv => write_csv(writer, &moments),
+            Form::Svg => write_svg(writer, &moments, timeline.all()),
+        }
+    }
+
+    // How long the parts of the run took.
+    fn times(&self) -> Times {
+        Times {
+            reading: self.reading.load(Ordering::SeqCst),
+            threads: self.threads.total(),
+            audits: self.audits.total(),
+        }
+    }
+}
+
+impl<R: Wait + Clock + Sync, W: Watch> Gate for Told<'_, R, W> {
+    fn pass(&self, who: u64, step: NodeStep) -> bool {
+        self.waits.hear(who, step);
+        if let Some(timeline) = &self.timeline {
+            timeline.record(step);
+        }
+        self.watch.pass(who, step)
+    }
+}
+
+impl<R: Wait + Clock + Sync, W: Watch> Watch for Told<'_, R, W> {
+    fn begins(&self, jobs: u64, segments: u64) {
+        self.reading.store(self.clock.micros(), Ordering::SeqCst);
+        if let Some(timeline) = &self.timeline {
+            timeline.begin(jobs, segments);
+        }
+        self.watch.begins(jobs, segments);
+    }
+
+    fn stage_begins(&self) {
+        self.audits.end(self.clock.micros());
+        self.threads.begin(self.clock.micros());
+        self.watch.stage_begins();
+    }
+
+    fn stage_ends(&self, nodes: &[Node]) {
+        self.threads.end(self.clock.micros());
+        if let Some(timeline) = &self.timeline {
+            timeline.go_on();
+        }
+        self.summary.add_nodes(self.rt, nodes);
+        self.watch.stage_ends(nodes);
+    }
+
+    fn gathers(&self, gathered: &Gathered) {
+        self.summary.add_links(self.rt, gathered);
+        self.watch.gathers(gathered);
+        self.audits.begin(self.clock.micros());
+    }
+
+    fn ends(&self) {
+        self.audits.end(self.clock.micros());
+        self.watch.ends();
+    }
+}
