@@ -2,7 +2,7 @@
 ghost use Rattle.std.specs.Prelude.{length, OnOk};
 ghost use Rattle.std.specs.List.{flat_map, range_with_len};
 ghost use Rattle.std.specs.Io.KnownBytes.{Appends};
-ghost use Rattle.sq_report.specs.Tables.{link_line, part_line, summary_text};
+ghost use Rattle.sq_report.specs.Tables.{link_line, part_line, summary_text, time_text, times_text};
 
 use crate::clock::Times;
 use crate::counts::{LinkCount, PartCount};
@@ -73,13 +73,21 @@ fn write_part<W: Write>(
     writeln!(writer, "{number:>9}{committed:>12}{aborted:>12}{waits:>12}")
 }
 
-/// Writes the line of how long the parts of a run took, in milliseconds. An error is the writer's.
-pub fn write_times<W: Write>(writer: &mut W, times: Times) -> io::Result<()> {
-    let (reading, reading_rest) = (times.reading / 1000, times.reading % 1000);
-    let (threads, threads_rest) = (times.threads / 1000, times.threads % 1000);
-    let (audits, audits_rest) = (times.audits / 1000, times.audits % 1000);
-    writeln!(
-        writer,
-        "milliseconds: reading {reading}.{reading_rest:03}, threads {threads}.{threads_rest:03}, audits {audits}.{audits_rest:03}"
-    )
+/// Writes the line of how long the parts of a run took, in milliseconds with three decimals. An error is the writer's.
+pub fn write_times<W: Write>(writer: &mut W, times: Times) -> io::Result<()>
+    ensures { OnOk result (Appends (W.contents writer.old) (W.contents writer.new) (times_text times)) }
+{
+    write_time(writer, "milliseconds: reading ", times.reading)?;
+    write_time(writer, ", threads ", times.threads)?;
+    write_time(writer, ", audits ", times.audits)?;
+    writer.write_all(b"\n")
+}
+
+// Writes a time in milliseconds, behind what it is that of.
+fn write_time<W: Write>(writer: &mut W, front: &str, micros: u64) -> io::Result<()>
+    ensures { OnOk result (Appends (W.contents writer.old) (W.contents writer.new) (time_text front.now micros)) }
+{
+    let millis = micros / 1000;
+    let rest = micros % 1000;
+    write!(writer, "{front}{millis}.{rest:03}")
 }
