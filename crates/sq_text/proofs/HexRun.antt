@@ -29,6 +29,18 @@ other_none [] off = absurd cc
 other_none (digit ∷ []) off = refl
 other_none (high ∷ low ∷ digits) off = pair_none (hex_digit_in high) (hex_digit_in low) (are_digits digits) (hex_in digits) (other_none digits) off
 
+pair_spelled : (high low : Option ℕ) (all : Bool) (read : Option (List ℕ)) → is_some read ≡ all → is_some ((high >>= λ h. low >>= λ l. Some (16 * h + l)) >>= λ byte. read >>= λ bytes. Some (byte ∷ bytes)) ≡ (is_some high && (is_some low && all))
+pair_spelled None low all read same = refl
+pair_spelled (Some h) None all read same = refl
+pair_spelled (Some h) (Some l) all None same = same
+pair_spelled (Some h) (Some l) all (Some bytes) same = same
+
+-- as many digits as two a byte are bytes, where each is a digit
+pub spelled : (digits : List ℕ) → length digits % 2 ≡ 0 → is_some (hex_in digits) ≡ are_digits digits
+spelled [] even = refl
+spelled (digit ∷ []) even = absurd (omega (arith, even))
+spelled (high ∷ low ∷ digits) even = pair_spelled (hex_digit_in high) (hex_digit_in low) (are_digits digits) (hex_in digits) (spelled digits (omega (arith, even)))
+
 pub begins : (read : Option (List ℕ)) → onto [] read ≡ read
 begins None = refl
 begins (Some bytes) = refl

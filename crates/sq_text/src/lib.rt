@@ -26,4 +26,8 @@ pub use header::{read_header, read_plans};
 pub use input_fault::InputFault;
 pub use located::{InputLine, LocatedFault};
 pub use moves_text::write_moves;
+pub use note::is_note;
+pub use number::{signed, unsigned};
 pub use step::{MAX_LINE, read_step};
+pub use verb::OpName;
+pub use words::Words;

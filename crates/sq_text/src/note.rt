@@ -25,6 +25,13 @@ fn are_hex_digits(digits: &[u8]) -> bool
     all
 }
 
+// Whether all bytes are hexadecimal digits, two for each byte that they spell.
+fn are_hex_bytes(digits: &[u8]) -> bool
+    ensures { result ≡ is_some (hex_in digits.now) }
+{
+    digits.len() % 2 == 0 && are_hex_digits(digits)
+}
+
 // The number that a digit stands for: the low half of its byte, and for a letter 9 more.
 fn hex_digit(digit: u8) -> u8
     requires { is_some (hex_digit_in digit) ≡ true }
@@ -54,6 +61,17 @@ fn hex(alloc: Global, digits: &[u8]) -> Result<Vec<u8>, ReadFault>
         bytes[at] = hex_byte(digits[2 * at], digits[2 * at + 1]);
     }
     Ok(bytes)
+}
+
+/// Whether a word spells a note: `-`, or two lower-case hexadecimal digits for each byte.
+pub fn is_note(word: &[u8]) -> bool
+    ensures { result ≡ is_some (note_in word.now) }
+{
+    match word {
+        [] => false,
+        [b'-'] => true,
+        digits => are_hex_bytes(digits),
+    }
 }
 
 // The note that a word spells.

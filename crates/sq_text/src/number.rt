@@ -18,8 +18,8 @@ fn digits(digits: &[u8]) -> Option<u64>
     Some(value)
 }
 
-// The number that a word spells.
-pub(crate) fn unsigned(word: &[u8]) -> Option<u64>
+/// The number that a word spells, below 2^64: decimal digits, of which the first is 0 only where it stands alone.
+pub fn unsigned(word: &[u8]) -> Option<u64>
     ensures { result ≡ unsigned_in word.now }
 {
     match word {
@@ -44,8 +44,9 @@ fn positive(n: u64) -> Option<i64>
     i64::try_from(n).ok()
 }
 
-// The signed number that a word spells.
-pub(crate) fn signed(word: &[u8]) -> Option<i64>
+/// The signed number that a word spells, from -2^63 up to one below 2^63: a number as [`unsigned`] reads it, which isn't 0
+/// behind a `-`.
+pub fn signed(word: &[u8]) -> Option<i64>
     ensures { result ≡ signed_in word.now }
 {
     match word {

@@ -54,7 +54,7 @@ impl Verb {
 
 /// The name of an operation.
 #[derive(Clone, Copy, Debug, PartialEq, Eq)]
-pub(crate) enum OpName {
+pub enum OpName {
     Get,
     Put,
     Add,
@@ -65,9 +65,9 @@ pub(crate) enum OpName {
 impl OpName {
     ghost use Rattle.sq_text.specs.Verbs.{op_name_in};
 
-    // The name that a word spells.
+    /// The name that a word spells: `get`, `put`, `add`, `del` or `check`.
     #[tactic(auto, unfolding(crate::specs::Verbs::op_name_in))]
-    pub(crate) fn of(word: &[u8]) -> Option<OpName>
+    pub fn of(word: &[u8]) -> Option<OpName>
         ensures { result ≡ op_name_in word.now }
     {
         match word {

@@ -4,9 +4,10 @@ ghost use Rattle.std.specs.Prelude.{◌≡◌, [], ◌∷◌, MatchOption};
 use crate::split::{split_once, split_once_far};
 use std::marker::Model;
 
-/// The words of a line that are left to read: the parts between its spaces. To a contract they are a list.
+/// The words of a line that are left to read: the parts between its spaces. Where two spaces follow one another, or one
+/// stands at an end, a word is empty. To a contract they are a list.
 #[derive(Drop)]
-pub(crate) struct Words<'a> {
+pub struct Words<'a> {
     rest: Option<&'a [u8]>,
 }
 
@@ -22,23 +23,23 @@ impl<'a> Model for Words<'a> {
 impl<'a> Words<'a> {
     ghost use Rattle.sq_text.specs.Words.{words_of};
 
-    // The words of a line.
-    pub(crate) fn of(line: &'a [u8]) -> Words<'a>
+    /// The words of a line.
+    pub fn of(line: &'a [u8]) -> Words<'a>
         ensures { result ≡ words_of line.now }
     {
         Words { rest: Some(line) }
     }
 
-    // The next word, if one is left. Most words are short.
-    pub(crate) fn next(&mut self) -> Option<&'a [u8]>
+    /// The next word, if one is left. Most words are short.
+    pub fn next(&mut self) -> Option<&'a [u8]>
         ensures { MatchOption result ((self.old ≡ []) × (self.new ≡ [])) (λ word. self.old ≡ word.now ∷ self.new) }
     {
         let rest = self.rest?;
         Some(self.take(rest, split_once(b' ', rest)))
     }
 
-    // The same, for a word that may be long.
-    pub(crate) fn next_long(&mut self) -> Option<&'a [u8]>
+    /// The same, for a word that may be long.
+    pub fn next_long(&mut self) -> Option<&'a [u8]>
         ensures { MatchOption result ((self.old ≡ []) × (self.new ≡ [])) (λ word. self.old ≡ word.now ∷ self.new) }
     {
         let rest = self.rest?;
