@@ -1,6 +1,6 @@
 -- What a reader with another one behind its first line has left.
 use Rattle.std.specs.Prelude.{ℕ, Bool, List, ◌++◌, Option, Some, None}
-use Rattle.sq_inputs.specs.Inputs.{ended, with_inserted, inserted_text}
+use Rattle.sq_inputs.specs.Inputs.{ended, inserted_text}
 use Rattle.sq_inputs.specs.declared.inserting.Inserting.{Inserting}
 use Rattle.sq_inputs.specs.declared.inserting.Place.{Place}
 use Rattle.sq_inputs.specs.declared.inserting.Place.TheVariants.{FirstLine, Inserted, Rest}

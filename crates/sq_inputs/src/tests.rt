@@ -1,4 +1,4 @@
-use crate::{Inserting, plan_lines, plan_text};
+use crate::{Inserting, Recalled, Recalling, plan_lines, plan_text};
 use std::cell::Cell;
 use std::io;
 use std::io::{ErrorKind, Read};
@@ -99,5 +99,66 @@ fn a_read_that_fails_is_told(rt: HostRuntime) -> Result<(), Fail> {
 fn a_plan_is_read_up_to_its_room(rt: HostRuntime) -> Result<(), Fail> {
     let text = plan_text(rt.alloc(), io::repeat(b' '))?;
     assert!(rt; text.len() == 65_536);
+    Ok(())
+}
+
+#[test]
+fn the_last_line_is_told_once_more(rt: HostRuntime) -> Result<(), Fail> {
+    for step in [1, 2, 5, 64] {
+        let mut reader = Recalling::new(
+            rt.alloc(),
+            Slow {
+                left: b"one\n\nthree\nfo",
+                step,
+                fails: false,
+            },
+        );
+        let mut bytes = Vec::new(rt.alloc());
+        reader.read_to_end(&mut bytes)?;
+        assert!(rt; bytes.as_slice() == b"one\n\nthree\nfo".as_slice());
+        assert!(rt; reader.line(4) == Recalled::Rest(b"fo"));
+        assert!(rt; reader.line(5) == Recalled::Missing);
+        assert!(rt; reader.line(0) == Recalled::Lost);
+    }
+    Ok(())
+}
+
+#[test]
+fn only_the_lines_of_the_last_read_are_kept(rt: HostRuntime) -> Result<(), Fail> {
+    let mut reader = Recalling::new(
+        rt.alloc(),
+        Slow {
+            left: b"one\ntwo\nthree\n",
+            step: 6,
+            fails: false,
+        },
+    );
+    let mut bytes = [0; 6];
+    assert!(rt; reader.read(&mut bytes)? == 6);
+    assert!(rt; reader.line(1) == Recalled::Line(b"one"));
+    assert!(rt; reader.line(2) == Recalled::Rest(b"tw"));
+    assert!(rt; reader.read(&mut bytes)? == 6);
+    assert!(rt; reader.line(1) == Recalled::Lost);
+    assert!(rt; reader.line(2) == Recalled::Line(b"two"));
+    assert!(rt; reader.line(3) == Recalled::Rest(b"thre"));
+    assert!(rt; reader.read(&mut bytes)? == 2);
+    assert!(rt; reader.line(2) == Recalled::Lost);
+    assert!(rt; reader.line(3) == Recalled::Line(b"three"));
+    assert!(rt; reader.line(4) == Recalled::Missing);
+    Ok(())
+}
+
+#[test]
+fn a_line_of_more_than_there_is_room_for_is_lost(rt: HostRuntime) -> Result<(), Fail> {
+    let mut reader = Recalling::new(rt.alloc(), io::repeat(b'x'));
+    let mut bytes = [0; 4096];
+    for _ in 0..32 {
+        assert!(rt; reader.read(&mut bytes)? == 4096);
+    }
+    assert!(rt; matches!(reader.line(1), Recalled::Rest(line) if line.len() == 32 * 4096));
+    for _ in 0..64 {
+        assert!(rt; reader.read(&mut bytes)? == 4096);
+    }
+    assert!(rt; reader.line(1) == Recalled::Lost);
     Ok(())
 }

@@ -1,0 +1,105 @@
+// A reader that keeps what it gave last.
+ghost use Rattle.std.specs.Prelude.{◌≡◌};
+ghost use Rattle.sq_inputs.specs.Recalling.{recalling_remaining, recalling_inner};
+
+use crate::lines::{LINE_END, lines_in};
+use std::alloc::Global;
+use std::io;
+use std::io::Read;
+
+// No line that may be asked for is longer, and no read.
+const ROOM: usize = 262_144;
+
+/// A reader that keeps the lines which its last read touched, so that one who has read a line can ask for it again.
+#[derive(Drop)]
+pub struct Recalling<R: Read> {
+    inner: R,
+    // The last lines, the first of them from its beginning on.
+    kept: Vec<u8>,
+    // How many of these bytes are whole lines, and how many lines those are.
+    whole: usize,
+    whole_lines: usize,
+    // How many lines stand before them.
+    lines_before: usize,
+    // Whether there was no room for them.
+    is_lost: bool,
+}
+
+/// A line that is asked for again.
+#[derive(Clone, Copy, Debug, PartialEq, Eq)]
+pub enum Recalled<'a> {
+    /// Its bytes, without its end.
+    Line(&'a [u8]),
+    /// The bytes of the last line, which has no end.
+    Rest(&'a [u8]),
+    /// The input ends before it.
+    Missing,
+    /// It isn't kept any more.
+    Lost,
+}
+
+impl<R: Read> Recalling<R> {
+    /// A reader that has given nothing yet.
+    pub fn new(alloc: Global, inner: R) -> Recalling<R>
+        ensures { recalling_remaining R.remaining result ≡ R.remaining inner }
+    {
+        Recalling {
+            inner,
+            kept: Vec::new(alloc),
+            whole: 0,
+            whole_lines: 0,
+            lines_before: 0,
+            is_lost: false,
+        }
+    }
+
+    /// The line with this number, of which the first is 1, where the last read touched it.
+    pub fn line(&self, number: usize) -> Recalled<'_> {
+        if self.is_lost || number <= self.lines_before {
+            return Recalled::Lost;
+        }
+        let mut lines = self.kept.split_inclusive(|byte| *byte == LINE_END);
+        let Some(line) = lines.nth(number - self.lines_before - 1) else {
+            return Recalled::Missing;
+        };
+        match line.split_last() {
+            Some((last, bytes)) if *last == LINE_END => Recalled::Line(bytes),
+            _ => Recalled::Rest(line),
+        }
+    }
+
+    // Drops the lines that were whole before, and keeps these bytes behind what is left.
+    fn keep(&mut self, bytes: &[u8])
+        ensures { recalling_inner self.new ≡ recalling_inner self.old }
+    {
+        self.kept.drain(..self.whole.min(self.kept.len()));
+        self.lines_before = self.lines_before.saturating_add(self.whole_lines);
+        let rest = self.kept.len();
+        if rest > ROOM || self.kept.extend_from_slice(bytes).is_err() {
+            self.is_lost = true;
+            return;
+        }
+        match bytes.iter().rposition(|byte| *byte == LINE_END) {
+            Some(last) => {
+                self.whole = rest.saturating_add(last).saturating_add(1);
+                self.whole_lines = lines_in(&bytes[..last]).saturating_add(1);
+            }
+            None => {
+                self.whole = 0;
+                self.whole_lines = 0;
+            }
+        }
+    }
+}
+
+impl<R: Read> Read for Recalling<R> {
+    ghost remaining = { recalling_remaining R.remaining };
+
+    fn read(&mut self, buf: &mut [u8]) -> io::Result<usize> {
+        let count = self.inner.read(buf)?;
+        if !self.is_lost {
+            self.keep(&buf[..count]);
+        }
+        Ok(count)
+    }
+}
