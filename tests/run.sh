@@ -8,8 +8,8 @@
 # gets each tests/listings/NAME.in, and `squall live` each tests/lives/NAME.in, with the options in NAME.words. Its standard
 # output must be NAME.out, byte for byte, and its exit status the number in NAME.status, or 0 where there is no such file.
 # A fault must be said on standard error: the line of the input that it belongs to, where NAME.status names one ('2 at
-# line 5'), and its text in tests/texts, which has a line for each number; without a fault standard error is empty, unless
-# NAME.err has what it is to say. Then come the examples of examples/ and those of the help texts, streams that fail,
+# line 5'), its text in tests/texts, which has a line for each number, and what doesn't fit in the line, which tests/misfits
+# has by the name of the run; without a fault standard error is empty, unless NAME.err has what it is to say. Then come the examples of examples/ and those of the help texts, streams that fail,
 # memory that runs out, a live run at a terminal, and command lines, whose texts are in tests/usage.
 #
 # The programs are those that `rt ci` leaves in crates/squall/out: squall, as LLVM builds it, and squall.by-rattle, as
@@ -52,8 +52,13 @@ form() {
     esac
 }
 
-# said NUMBER [LINE]: what is to be said on standard error of the fault of this number, which belongs to this line of the
-# input. The text of a plan's fault begins with 'plan'; which plan it is stands before it.
+# misfit NAME: what doesn't fit in the faulty line of a run.
+misfit() {
+    sed -n "s/^$1: //p" "$tests/misfits"
+}
+
+# said NUMBER [LINE [MISFIT]]: what is to be said on standard error of the fault of this number, which belongs to this line
+# of the input, in which this doesn't fit. The text of a plan's fault begins with 'plan'; which plan it is stands before it.
 said() {
     local number text line=${2:+line $2: }
     while read -r number text; do
@@ -63,6 +68,7 @@ said() {
         if [ "$number" = "$1" ]; then echo "squall: ${line}fault $number: $text"; fi
     done < "$tests/texts"
     if [ "$1" = 121 ]; then echo "squall: line $2 is to be $(form "$2")"; fi
+    if [ -n "${3:-}" ]; then echo "squall: line $2: $3"; fi
 }
 
 # judge NAME STATUS OUTPUT ERRORS: counts a run by its exit status and by the files that it was to write.
@@ -84,15 +90,15 @@ give() {
     timeout 120 "$squall" "$@" < "$input" > "$room/output" 2> "$room/errors" || ended=$?
 }
 
-# compare NAME INPUT WANTED STATUS [WORD]: gives an input to a subcommand, `run` if none is named, and compares what is
-# written with a file. The line that a fault belongs to stands behind the status.
+# compare NAME INPUT WANTED STATUS [WORD [MISFIT]]: gives an input to a subcommand, `run` if none is named, and compares what
+# is written with a file. The line that a fault belongs to stands behind the status; what doesn't fit in it may be named.
 compare() {
     local last status line
     read -r status _ _ line <<< "$4"
     give "$2" "${5:-run}"
     last=$(tail -n 1 "$3")
     case $last in
-        fault*) said "${last#fault }" "$line" > "$room/said" ;;
+        fault*) said "${last#fault }" "$line" "${6:-$(misfit "$1")}" > "$room/said" ;;
         *) : > "$room/said" ;;
     esac
     judge "$1" "$status" "$3" "$room/said"
@@ -109,7 +115,7 @@ compare_live() {
         cp "$path.err" "$room/said"
     else
         case $last in
-            fault*) said "${last#fault }" "$line" > "$room/said" ;;
+            fault*) said "${last#fault }" "$line" "$(misfit "live $1")" > "$room/said" ;;
             *) : > "$room/said" ;;
         esac
     fi
@@ -208,7 +214,7 @@ try_told() {
     echo "squall: the file '$room/nowhere/moments.csv' can't be written: No such file or directory (os error 2)" > "$room/said"
     judge 'live --timeline in no folder' 0 "$tests/lives/jobs_of_each_stage.out" "$room/said"
     give "$tests/lives/an_id_twice.in" live --summary --timeline "$room/fault.csv"
-    said 127 "$(sed 's/.* //' "$tests/lives/an_id_twice.status")" > "$room/said"
+    said 127 "$(sed 's/.* //' "$tests/lives/an_id_twice.status")" "$(misfit 'live an_id_twice')" > "$room/said"
     judge 'live --summary of a fault' 2 "$tests/lives/an_id_twice.out" "$room/said"
     count no_moments_of_a_fault "$(ls "$room/fault.csv" 2> /dev/null || true)"
 }
@@ -338,7 +344,7 @@ try_echoes() {
     judge echo_of_a_line_without_an_end 0 "$room/wanted" /dev/null
     head -n 3 "$tests/runs/moves_four_keys.in" | sed 's/^config .*/config/' > "$room/bad.in"
     echo 'fault 121' > "$room/wanted"
-    said 121 3 > "$room/said"
+    said 121 3 "word 2 is missing: a number up to 18446744073709551615, in decimal digits without a leading zero" > "$room/said"
     give "$room/bad.in" run --echo
     judge echo_of_a_fault 2 "$room/wanted" "$room/said"
 }
@@ -386,12 +392,13 @@ in_parts() {
     judge "$2 of the parts of $1, all in files" 0 "$tests/$1.out" /dev/null
 }
 
-# fault_in_parts NAME NUMBER PLACE TEXT [WORD]: wants of the parts that lie in the room this fault, which is said of this
-# place with this text.
+# fault_in_parts NAME NUMBER PLACE TEXT MISFIT [WORD]: wants of the parts that lie in the room this fault, which is said of
+# this place with this text, and with what doesn't fit there.
 fault_in_parts() {
     echo "fault $2" > "$room/wanted"
     echo "squall: $3: fault $2: $4" > "$room/said"
-    give "$room/main.txt" "${5:-run}" --old "$room/old.json" --new "$room/new.json" --rows "$room/rows.txt"
+    if [ -n "$5" ]; then echo "squall: $3: $5" >> "$room/said"; fi
+    give "$room/main.txt" "${6:-run}" --old "$room/old.json" --new "$room/new.json" --rows "$room/rows.txt"
     judge "$1" 2 "$room/wanted" "$room/said"
 }
 
@@ -422,24 +429,27 @@ try_parts() {
     parts "$input"
     sed -i 's/\[8/[9/' "$room/new.json"
     fault_in_parts gap_in_the_file_of_a_plan 105 "$room/new.json" \
-        "the new plan's ranges don't follow one another from 0 to 4294967296, each nonempty"
+        "the new plan's ranges don't follow one another from 0 to 4294967296, each nonempty" 'its range 3 begins at 9 instead of 8'
+    printf '{\n"version": 1,\n "partitions": two}' > "$room/old.json"
+    fault_in_parts word_in_the_file_of_a_plan 101 "$room/old.json" "the old plan isn't JSON" "it isn't JSON at its line 3, column 16"
     echo '{"version":3}' > "$room/old.json"
-    fault_in_parts version_in_the_file_of_a_plan 103 "$room/old.json" "the old plan's version isn't 1 or 2" ranges
+    fault_in_parts version_in_the_file_of_a_plan 103 "$room/old.json" "the old plan's version isn't 1 or 2" '' ranges
     head -c 65533 /dev/zero | tr '\0' ' ' > "$room/old.json"
-    fault_in_parts file_of_a_plan_that_is_too_long 231 "$room/old.json" 'a line of the header has more than 65536 bytes'
+    fault_in_parts file_of_a_plan_that_is_too_long 231 "$room/old.json" 'a line of the header has more than 65536 bytes' ''
     parts "$input"
     sed -i 's/^config [0-9]*/config 0/' "$room/main.txt"
-    fault_in_parts sizes_of_the_main_part 112 'standard input: line 1' "the width of a leaf isn't from 1 to 65536" live
+    fault_in_parts sizes_of_the_main_part 112 'standard input: line 1' "the width of a leaf isn't from 1 to 65536" "word 2 is '0'" live
     parts "$input"
     printf '\nrow 6 0 0 1 -\nrow 7 99 0 1 -' >> "$room/rows.txt"
-    fault_in_parts row_in_a_file 133 "$room/rows.txt: line 3" "a table isn't in the schema"
+    fault_in_parts row_in_a_file 133 "$room/rows.txt: line 3" "a table isn't in the schema" "word 3 is '99'"
     parts "$input"
     sed -i '1a row 6 0 0 1 -\nrow 7 99 0 1 -' "$room/main.txt"
-    fault_in_parts row_in_the_main_part 133 'standard input: line 3' "a table isn't in the schema"
+    fault_in_parts row_in_the_main_part 133 'standard input: line 3' "a table isn't in the schema" "word 3 is '99'"
     parts "$tests/lives/moves_in_two_stages.in"
     echo 'txn 0 1' >> "$room/main.txt"
     fault_in_parts job_in_the_main_part 126 "standard input: line $(wc -l < "$room/main.txt")" \
-        'a line behind the header is no transaction' live
+        'a line behind the header is no transaction' \
+        'word 4 is missing: a number up to 18446744073709551615, in decimal digits without a leading zero' live
     # Files that can't be read.
     for word in run ranges live; do
         for name in old.json new.json rows.txt; do
@@ -478,16 +488,19 @@ try_streams() {
 # An input that ends within its first three lines has a fault of the line where it ends, and behind them none, unless it
 # ends within a row.
 try_ends() {
-    local input=$tests/runs/moves_four_keys.in header length=0 ended_lines
+    local input=$tests/runs/moves_four_keys.in header length=0 ended_lines misfit
     header=$(head -n 3 "$input"; echo .)
     header=${header%.}
     echo 'fault 121' > "$room/wanted"
     while [ "$length" -lt "${#header}" ]; do
         ended_lines=$(head -c "$length" "$input" | wc -l)
-        compare "input of $length bytes" <(head -c "$length" "$input") "$room/wanted" "2 at line $((ended_lines + 1))"
+        misfit='it has no line end (the byte 0A)'
+        if [ -z "$(head -c "$length" "$input" | tail -c 1 | tr -d '\n')" ]; then misfit='the input ends before it'; fi
+        compare "input of $length bytes" <(head -c "$length" "$input") "$room/wanted" "2 at line $((ended_lines + 1))" run "$misfit"
         length=$((length + 1))
     done
-    compare input_that_ends_in_a_row <(printf '%srow 5' "$header") "$room/wanted" '2 at line 4'
+    compare input_that_ends_in_a_row <(printf '%srow 5' "$header") "$room/wanted" '2 at line 4' run \
+        'it has no line end (the byte 0A)'
     echo 'end idle' > "$room/wanted"
     compare input_that_ends_behind_the_sizes <(printf %s "$header") "$room/wanted" 0
     printf '%s\n' 'refused 230' 'end idle' > "$room/wanted"
@@ -700,7 +713,7 @@ try_pictures() {
             name=${input%.status}
             read -r status _ _ line < "$input"
             give "$name.in" ranges "--$option"
-            said "$(sed 's/fault //' "$name.out")" "$line" > "$room/said"
+            said "$(sed 's/fault //' "$name.out")" "$line" "$(misfit "ranges $(basename "$name")")" > "$room/said"
             judge "ranges --$option $(basename "$name")" "$status" "$name.out" "$room/said"
         done
     done

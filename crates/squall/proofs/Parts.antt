@@ -17,3 +17,8 @@ with_rows task plans named file main rows behind held lines given before now sta
     let is_behind : IsBehindPlans named.rows main behind = subst (λ (o : Option (Bor Text)). IsBehindPlans o main behind) (sym rows_is) (rows, inserted) in
     let together : IsPutTogether (Some named) main held = (spelled.0, spelled.1, behind, is_behind, put ∙ ap (λ (l : List ℕ). option_append (Some l) behind) (same ∙ spelled.2)) in
     inl (held, subst (λ (o : Option Plans). IsPutTogether o main held) (sym is) together, ends)
+
+-- a task that was done with what a reader gives that keeps its last lines
+pub with_recalled : (task given : Task) (held known before now : Option (List ℕ)) (status : ℕ) → given ≡ task → held ≡ known → EndsTask task held before now status → EndsTask given known before now status
+with_recalled task given held known before now status is same ends =
+    subst (λ (t : Task). EndsTask t known before now status) (sym is) (subst (λ (h : Option (List ℕ)). EndsTask task h before now status) same ends)

@@ -1,12 +1,15 @@
 // Live runs, what is said of them, and their exit status.
 ghost use Rattle.std.specs.Prelude.{◌≡◌, ◌≤◌};
+ghost use Rattle.sq_inputs.specs.Recalling.{recalling_remaining};
 ghost use Rattle.sq_pull.specs.declared.numbers.TheConstants.{MAX_PUMPS};
 ghost use Rattle.sq_schema.specs.declared.schema.TheConstants.{MAX_TABLES};
 ghost use Rattle.sq_live.specs.Live.{RunsLive};
 ghost use Rattle.squall.specs.Session.{live_status, EndsAs};
 
+use crate::flaws::tell_misfit_of_job;
 use crate::session::{REFUSED, explain, explain_write};
 use crate::source::Source;
+use sq_inputs::Recalling;
 use sq_live::{LiveEnding, LiveFault, Outcome, Watch, live};
 use sq_report::{Form, Told};
 use sq_text::InputLine;
@@ -48,7 +51,7 @@ pub fn told_run<
     G: Watch,
 >(
     rt: &T,
-    reader: &mut R,
+    reader: &mut Recalling<R>,
     writer: &mut W,
     manner: Manner,
     report: Report<'_>,
@@ -56,7 +59,7 @@ pub fn told_run<
     source: &Source<'_>,
 ) -> u8
     requires { manner.pumps ≤ MAX_PUMPS }
-    ensures { EndsAs (RunsLive manner.folds MAX_TABLES (R.remaining reader.old) (W.contents writer.old) (W.contents writer.new)) live_status result }
+    ensures { EndsAs (RunsLive manner.folds MAX_TABLES (recalling_remaining R.remaining reader.old) (W.contents writer.old) (W.contents writer.new)) live_status result }
 {
     if !report.summary && report.timeline.is_none() {
         return live_run(rt, reader, writer, manner, watch, source);
@@ -118,16 +121,21 @@ fn draw_timeline<T: Wait + Clock + Sync + Eprint + Files + AllocGlobal, G: Watch
 
 /// Runs the jobs in `reader` in threads, writes what that comes to, and says on standard error what it means, unless the run
 /// is sound. Its workers ask `watch` before each step. Gives the exit status.
-pub fn live_run<T: Threads + Wait + Sync + Eprint + AllocGlobal, R: Read, W: Write, G: Watch>(
+pub fn live_run<
+    T: Threads + Wait + Sync + Eprint + Files + AllocGlobal,
+    R: Read,
+    W: Write,
+    G: Watch,
+>(
     rt: &T,
-    reader: &mut R,
+    reader: &mut Recalling<R>,
     writer: &mut W,
     manner: Manner,
     watch: &G,
     source: &Source<'_>,
 ) -> u8
     requires { manner.pumps ≤ MAX_PUMPS }
-    ensures { EndsAs (RunsLive manner.folds MAX_TABLES (R.remaining reader.old) (W.contents writer.old) (W.contents writer.new)) live_status result }
+    ensures { EndsAs (RunsLive manner.folds MAX_TABLES (recalling_remaining R.remaining reader.old) (W.contents writer.old) (W.contents writer.new)) live_status result }
 {
     let Manner {
         turns,
@@ -135,7 +143,7 @@ pub fn live_run<T: Threads + Wait + Sync + Eprint + AllocGlobal, R: Read, W: Wri
         folds,
     } = manner;
     let ran = live(rt, rt.alloc(), reader, writer, turns, pumps, folds, watch);
-    explain_live(rt, source, ran);
+    explain_live(rt, source, reader, ran);
     live_status(ran)
 }
 
@@ -150,7 +158,12 @@ pub fn live_status(ran: Result<LiveEnding, WriteFault>) -> u8
 }
 
 // Says on standard error what a live run came to, unless it is sound.
-fn explain_live(rt: &impl Eprint, source: &Source<'_>, ran: Result<LiveEnding, WriteFault>) {
+fn explain_live<T: Eprint + Files + AllocGlobal, R: Read>(
+    rt: &T,
+    source: &Source<'_>,
+    reader: &Recalling<R>,
+    ran: Result<LiveEnding, WriteFault>,
+) {
     match ran {
         Ok(LiveEnding::Done(Outcome::Sound { .. })) => {}
         Ok(LiveEnding::Done(Outcome::Stopped { .. })) => {
@@ -162,11 +175,12 @@ fn explain_live(rt: &impl Eprint, source: &Source<'_>, ran: Result<LiveEnding, W
             let number = defect.number();
             let _ = eprintln!(rt; "squall: unsound {number}: {defect}");
         }
-        Ok(LiveEnding::Fault(LiveFault::Input(located))) => explain(rt, source, &located),
+        Ok(LiveEnding::Fault(LiveFault::Input(located))) => explain(rt, source, reader, &located),
         Ok(LiveEnding::Fault(LiveFault::Job(job))) => {
             let place = source.place(InputLine::Later(job.line));
             let number = job.fault.number();
             let _ = eprintln!(rt; "squall: {place}: fault {number}: {}", job.fault);
+            tell_misfit_of_job(rt, place, reader, job);
         }
         Err(fault) => explain_write(rt, fault),
     }

@@ -6,6 +6,7 @@ ghost use Rattle.sq_command.specs.Line.{IsWithin};
 ghost use Rattle.squall.specs.Session.{EndsTask, EndsParts, EndsInput, EndsWith, EndsBuffered};
 
 mod explaining;
+mod flaws;
 mod live_runs;
 mod plans;
 mod progress;
@@ -22,7 +23,7 @@ use session::{
 use source::Source;
 use sq_command::{Input, Line, Task, line_of};
 use sq_driver::OpenGate;
-use sq_inputs::Inserting;
+use sq_inputs::{Inserting, Recalling};
 use sq_live::Watch;
 use std::cell::Cell;
 use std::convert::AsStr;
@@ -50,10 +51,12 @@ fn work<
     R: Read + Drop,
     W: Write,
     G: Watch,
->(rt: &T, task: Task<'_>, source: &Source<'_>, mut reader: R, writer: &mut W, watch: &G) -> u8
+>(rt: &T, task: Task<'_>, source: &Source<'_>, reader: R, writer: &mut W, watch: &G) -> u8
     requires { IsWithin task }
     ensures { EndsTask task.entry (R.remaining reader) (W.contents writer.old) (W.contents writer.new) result }
 {
+    // A faulty line is looked at once more.
+    let mut reader = Recalling::new(rt.alloc(), reader);
     match task {
         Task::Run { echoes } => script(rt, &mut reader, writer, echoes, source),
         Task::Ranges { form } => listing(rt, &mut reader, writer, form, source),

@@ -36,6 +36,7 @@ fn text_of<T: Print + Eprint + Files + AllocGlobal>(rt: &T, name: &str) -> Resul
     }
 }
 
-fn read_plan<T: Files + AllocGlobal>(rt: &T, name: &str) -> io::Result<Vec<u8>> {
+// What the file of this name holds.
+pub(crate) fn read_plan<T: Files + AllocGlobal>(rt: &T, name: &str) -> io::Result<Vec<u8>> {
     plan_text(rt.alloc(), open_input(rt, name)?)
 }

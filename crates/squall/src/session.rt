@@ -1,13 +1,16 @@
 // Runs, what is said of their faults, and the exit status.
 ghost use Rattle.std.specs.Prelude.{◌≡◌};
 ghost use Rattle.clap.specs.Values.{kind_of};
+ghost use Rattle.sq_inputs.specs.Recalling.{recalling_remaining};
 ghost use Rattle.sq_schema.specs.declared.schema.TheConstants.{MAX_TABLES};
 ghost use Rattle.sq_world.specs.Run.{Runs};
 ghost use Rattle.squall.specs.Session.{exit_status, EndsAs, ListsAs, IsUsageStatus};
 
+use crate::flaws::tell_misfit;
 use crate::source::{Meaning, Source};
 use clap::Error;
 use sq_command::Form;
+use sq_inputs::Recalling;
 use sq_picture::{listing_json, listing_svg};
 use sq_text::{InputFault, InputLine, LocatedFault};
 use sq_world::{Ending, WriteFault, ranges, run_and_echo};
@@ -22,48 +25,53 @@ pub const REFUSED: u8 = 2;
 
 /// Runs the script in `reader`, writes what it comes to, each answer behind its step where it echoes, and says on standard
 /// error what its fault means. Gives the exit status.
-pub fn script<R: Read, W: Write>(
-    rt: &(impl Eprint + AllocGlobal),
-    reader: &mut R,
+pub fn script<T: Eprint + Files + AllocGlobal, R: Read, W: Write>(
+    rt: &T,
+    reader: &mut Recalling<R>,
     writer: &mut W,
     echoes: bool,
     source: &Source<'_>,
 ) -> u8
-    ensures { EndsAs (Runs echoes MAX_TABLES (R.remaining reader.old) (W.contents writer.old) (W.contents writer.new)) exit_status result }
+    ensures { EndsAs (Runs echoes MAX_TABLES (recalling_remaining R.remaining reader.old) (W.contents writer.old) (W.contents writer.new)) exit_status result }
 {
     let mut world = None;
     let ran = run_and_echo(rt.alloc(), reader, writer, echoes, &mut world);
     // The program ends, and the system takes its memory back sooner than it could be freed.
     forget(world);
-    explain_end(rt, source, ran);
+    explain_end(rt, source, reader, ran);
     exit_status(ran)
 }
 
 /// Writes what moves between the plans in `reader`, in this form, and says on standard error what their fault means. Gives
 /// the exit status.
-pub fn listing<R: Read, W: Write>(
-    rt: &(impl Eprint + AllocGlobal),
-    reader: &mut R,
+pub fn listing<T: Eprint + Files + AllocGlobal, R: Read, W: Write>(
+    rt: &T,
+    reader: &mut Recalling<R>,
     writer: &mut W,
     form: Form,
     source: &Source<'_>,
 ) -> u8
-    ensures { EndsAs (ListsAs form (R.remaining reader.old) (W.contents writer.old) (W.contents writer.new)) exit_status result }
+    ensures { EndsAs (ListsAs form (recalling_remaining R.remaining reader.old) (W.contents writer.old) (W.contents writer.new)) exit_status result }
 {
     let listed = match form {
         Form::Lines => ranges(rt.alloc(), reader, writer),
         Form::Json => listing_json(rt.alloc(), reader, writer),
         Form::Svg => listing_svg(rt.alloc(), reader, writer),
     };
-    explain_end(rt, source, listed);
+    explain_end(rt, source, reader, listed);
     exit_status(listed)
 }
 
 // Says on standard error what the fault of a run means, if it has one, and the line that it belongs to.
-fn explain_end(rt: &impl Eprint, source: &Source<'_>, ran: Result<Ending, WriteFault>) {
+fn explain_end<T: Eprint + Files + AllocGlobal, R: Read>(
+    rt: &T,
+    source: &Source<'_>,
+    reader: &Recalling<R>,
+    ran: Result<Ending, WriteFault>,
+) {
     match ran {
         Ok(Ending::Done) => {}
-        Ok(Ending::Fault(located)) => explain(rt, source, &located),
+        Ok(Ending::Fault(located)) => explain(rt, source, reader, &located),
         Err(fault) => explain_write(rt, fault),
     }
 }
@@ -94,9 +102,14 @@ pub fn refuse_for_memory(rt: &(impl Print + Eprint)) -> u8
     REFUSED
 }
 
-/// Says on standard error the line that a fault belongs to, and what it means, and of a line of the header that isn't of its
-/// form what that is.
-pub(crate) fn explain(rt: &impl Eprint, source: &Source<'_>, located: &LocatedFault) {
+/// Says on standard error the line that a fault belongs to, and what it means, of a line of the header that isn't of its
+/// form what that is, and what doesn't fit in the line.
+pub(crate) fn explain<T: Eprint + Files + AllocGlobal, R: Read>(
+    rt: &T,
+    source: &Source<'_>,
+    reader: &Recalling<R>,
+    located: &LocatedFault,
+) {
     let Some(line) = located.line else {
         let _ = eprintln!(rt; "squall: {located}");
         return;
@@ -107,6 +120,7 @@ pub(crate) fn explain(rt: &impl Eprint, source: &Source<'_>, located: &LocatedFa
         let form = form_of(line);
         let _ = eprintln!(rt; "squall: {place} is to be {form}");
     }
+    tell_misfit(rt, source, reader, located);
 }
 
 // The form of a line of the header.

@@ -1,19 +1,13 @@
-use Rattle.std.proofs.Common.{sym, subst}
-use Rattle.sq_command.specs.declared.line.Task.{Task}
-use Rattle.squall.specs.Session.{EndsTask}
+use Rattle.sq_command.specs.declared.line.Task.TheVariants.{Run, Ranges, Live}
+use Rattle.squall.proofs.Parts.{with_recalled}
 use Rattle.squall.proofs.work.Goals as goal
 
 pub returns-in-Run : goal.returns-in-Run
-returns-in-Run g c =
-    let Ends = λ (task : Task). EndsTask task (g.R.Read.remaining c.args.reader) (g.W.Write.contents c.args.writer.now) (g.W.Write.contents c.script.new.writer) c.script.result in
-    subst Ends (sym c.in-Run.is) c.script.ensures
+returns-in-Run g c = with_recalled (Run c.in-Run.echoes) _ (g.R.Read.remaining c.new-reader.result.inner) _ _ _ _ c.in-Run.is c.new-reader.ensures c.script.ensures
 
 pub returns-in-Ranges : goal.returns-in-Ranges
-returns-in-Ranges g c =
-    let Ends = λ (task : Task). EndsTask task (g.R.Read.remaining c.args.reader) (g.W.Write.contents c.args.writer.now) (g.W.Write.contents c.listing.new.writer) c.listing.result in
-    subst Ends (sym c.in-Ranges.is) c.listing.ensures
+returns-in-Ranges g c = with_recalled (Ranges c.in-Ranges.form) _ (g.R.Read.remaining c.new-reader.result.inner) _ _ _ _ c.in-Ranges.is c.new-reader.ensures c.listing.ensures
 
 pub returns : goal.returns
 returns g c =
-    let Ends = λ (task : Task). EndsTask task (g.R.Read.remaining c.args.reader) (g.W.Write.contents c.args.writer.now) (g.W.Write.contents c.told_run.new.writer) c.told_run.result in
-    subst Ends (sym c.in-Live.is) c.told_run.ensures
+    with_recalled (Live c.in-Live.turns c.in-Live.pumps c.in-Live.folds c.in-Live.summary c.in-Live.timeline) _ (g.R.Read.remaining c.new-reader.result.inner) _ _ _ _ c.in-Live.is c.new-reader.ensures c.told_run.ensures

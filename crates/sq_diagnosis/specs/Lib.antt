@@ -1,0 +1,4 @@
+pub mod Fits
+pub mod Forms
+pub mod Places
+pub mod Ranges

@@ -1,0 +1,18 @@
+//! What doesn't fit in a faulty line of an input. It is looked for once the line was refused.
+#![tactic(auto)]
+
+mod form;
+mod lines;
+mod plans;
+mod told;
+mod wanted;
+mod words;
+
+pub use lines::{LineFlaw, job_flaw, plan_line_flaw, row_flaw, sizes_flaw};
+pub use plans::{PlanFlaw, plan_flaw};
+pub use told::{ToldFlaw, ToldWord};
+pub use wanted::Wanted;
+pub use words::{job_word, opening_word};
+
+#[cfg(test)]
+mod tests;

@@ -1,0 +1,266 @@
+// Why a text is no plan.
+ghost use Rattle.std.specs.Prelude.{◌≡◌};
+ghost use Rattle.sq_diagnosis.specs.Ranges.{gap, stranger};
+
+use serde_json::{Category, Value};
+use sq_plan::PlanFault;
+use sq_schema::ROOT_END;
+use std::alloc::Global;
+use std::fmt;
+use std::fmt::{Display, Formatter, Write};
+
+/// Where a text isn't what a plan is to be. Ranges are counted from 1, and so are lines and columns.
+#[derive(Clone, Copy, Debug, PartialEq, Eq)]
+pub enum PlanFlaw {
+    /// It isn't JSON from here on.
+    NotJson {
+        line: usize,
+        column: usize,
+    },
+    /// Its JSON ends too soon.
+    Ends {
+        line: usize,
+        column: usize,
+    },
+    /// It isn't an object.
+    NotAnObject,
+    /// It has no such field.
+    Missing(&'static str),
+    /// This field isn't of its kind.
+    NotOfKind {
+        field: &'static str,
+        kind: &'static str,
+    },
+    /// A range isn't a list of three whole numbers.
+    NotThreeNumbers {
+        at: usize,
+    },
+    /// There is no range.
+    NoRange,
+    /// A range doesn't begin where the one before it ends, or the first one at 0.
+    Begins {
+        at: usize,
+        lo: u64,
+        wanted: u64,
+    },
+    /// A range is empty.
+    Empty {
+        at: usize,
+        lo: u64,
+        hi: u64,
+    },
+    /// The last range, which has this number, doesn't end where the root keys do.
+    EndsAt {
+        at: usize,
+        hi: u64,
+    },
+    /// A range belongs to a partition that the plan doesn't have.
+    Owner {
+        at: usize,
+        owner: u64,
+        partitions: u64,
+    },
+}
+
+impl Display for PlanFlaw {
+    fn fmt<W: Write>(&self, f: &mut Formatter<W>) -> fmt::Result {
+        match *self {
+            PlanFlaw::NotJson { line, column } => {
+                write!(f, "it isn't JSON at its line {line}, column {column}")
+            }
+            PlanFlaw::Ends { line, column } => {
+                write!(
+                    f,
+                    "its JSON ends too soon, at its line {line}, column {column}"
+                )
+            }
+            PlanFlaw::NotAnObject => f.write_str("it isn't an object"),
+            PlanFlaw::Missing(field) => write!(f, "it has no field '{field}'"),
+            PlanFlaw::NotOfKind { field, kind } => write!(f, "its field '{field}' isn't {kind}"),
+            PlanFlaw::NotThreeNumbers { at } => {
+                write!(f, "its range {at} isn't a list of three whole numbers")
+            }
+            PlanFlaw::NoRange => f.write_str("it has no range"),
+            PlanFlaw::Begins { at, lo, wanted } => {
+                write!(f, "its range {at} begins at {lo} instead of {wanted}")
+            }
+            PlanFlaw::Empty { at, lo, hi } => {
+                write!(f, "its range {at} is empty, from {lo} to {hi}")
+            }
+            PlanFlaw::EndsAt { at, hi } => {
+                write!(
+                    f,
+                    "its range {at}, the last one, ends at {hi} instead of {ROOT_END}"
+                )
+            }
+            PlanFlaw::Owner {
+                at,
+                owner,
+                partitions,
+            } => write!(
+                f,
+                "its range {at} belongs to partition {owner} of {partitions}, which are numbered from 0"
+            ),
+        }
+    }
+}
+
+/// Where a text that has this fault isn't what a plan is to be; `None` where the fault says all, or memory ran out.
+pub fn plan_flaw(alloc: Global, fault: PlanFault, text: &[u8]) -> Option<PlanFlaw> {
+    match Value::from_slice(alloc, text) {
+        Ok(plan) => match fault {
+            PlanFault::Shape => shape_flaw(&plan),
+            PlanFault::RangeOrder => order_flaw(&ranges_of(alloc, &plan)?),
+            PlanFault::PartitionNumber => {
+                owner_flaw(&ranges_of(alloc, &plan)?, plan.get("partitions")?.as_u64()?)
+            }
+            _ => None,
+        },
+        Err(error) => {
+            let (line, column) = (error.line(), error.column());
+            match error.classify() {
+                Category::Memory => None,
+                Category::Eof => Some(PlanFlaw::Ends { line, column }),
+                _ => Some(PlanFlaw::NotJson { line, column }),
+            }
+        }
+    }
+}
+
+// The first field that is missing or isn't of its kind.
+fn shape_flaw(plan: &Value) -> Option<PlanFlaw> {
+    if !plan.is_object() {
+        return Some(PlanFlaw::NotAnObject);
+    }
+    number_flaw(plan, "version")
+        .or_else(|| number_flaw(plan, "partitions"))
+        .or_else(|| list_flaw(plan))
+        .or_else(|| text_flaw(plan))
+}
+
+// What is wrong with a field that is to be a whole number.
+fn number_flaw(plan: &Value, field: &'static str) -> Option<PlanFlaw> {
+    let Some(value) = plan.get(field) else {
+        return Some(PlanFlaw::Missing(field));
+    };
+    match value.as_u64() {
+        Some(_) => None,
+        None => Some(PlanFlaw::NotOfKind {
+            field,
+            kind: "a whole number below 2^64",
+        }),
+    }
+}
+
+// What is wrong with the field of the ranges.
+fn list_flaw(plan: &Value) -> Option<PlanFlaw> {
+    let field = "ranges";
+    let Some(value) = plan.get(field) else {
+        return Some(PlanFlaw::Missing(field));
+    };
+    let Some(items) = value.as_array() else {
+        return Some(PlanFlaw::NotOfKind {
+            field,
+            kind: "a list",
+        });
+    };
+    let at = items.iter().position(|item| Entry::of(item).is_none())?;
+    Some(PlanFlaw::NotThreeNumbers {
+        at: at.saturating_add(1),
+    })
+}
+
+// What is wrong with the field of the stages.
+fn text_flaw(plan: &Value) -> Option<PlanFlaw> {
+    let field = "stages";
+    let Some(value) = plan.get(field) else {
+        return Some(PlanFlaw::Missing(field));
+    };
+    match value.as_str() {
+        Some(_) => None,
+        None => Some(PlanFlaw::NotOfKind {
+            field,
+            kind: "a text",
+        }),
+    }
+}
+
+/// A range as the JSON has it, whose owner may be no partition.
+#[derive(Clone, Copy, Debug, PartialEq, Eq)]
+struct Entry {
+    lo: u64,
+    hi: u64,
+    owner: u64,
+}
+
+impl Entry {
+    // Three whole numbers.
+    fn of(item: &Value) -> Option<Entry> {
+        let [lo, hi, owner] = item.as_array()?.as_slice() else {
+            return None;
+        };
+        Some(Entry {
+            lo: lo.as_u64()?,
+            hi: hi.as_u64()?,
+            owner: owner.as_u64()?,
+        })
+    }
+}
+
+// The ranges of a plan, where each of them is one; `None` too where memory ran out.
+fn ranges_of(alloc: Global, plan: &Value) -> Option<Vec<Entry>> {
+    let mut ranges = Vec::new(alloc);
+    for item in plan.get("ranges")?.as_array()?.as_slice() {
+        ranges.push(Entry::of(item)?).ok()?;
+    }
+    Some(ranges)
+}
+
+// The first range that doesn't begin where the one before it ends, or is empty; or else what is wrong with the last one.
+fn order_flaw(ranges: &[Entry]) -> Option<PlanFlaw>
+    ensures { result ≡ gap 0 0 ranges.now }
+{
+    let mut at = 0;
+    let mut end = 0;
+    for range in ranges {
+        let Entry { lo, hi, .. } = *range;
+        at += 1;
+        if lo != end {
+            return Some(PlanFlaw::Begins {
+                at,
+                lo,
+                wanted: end,
+            });
+        }
+        if hi <= lo {
+            return Some(PlanFlaw::Empty { at, lo, hi });
+        }
+        end = hi;
+    }
+    if at == 0 {
+        Some(PlanFlaw::NoRange)
+    } else if end == ROOT_END {
+        None
+    } else {
+        Some(PlanFlaw::EndsAt { at, hi: end })
+    }
+}
+
+// The first range whose owner isn't one of the partitions.
+fn owner_flaw(ranges: &[Entry], partitions: u64) -> Option<PlanFlaw>
+    ensures { result ≡ stranger partitions 0 ranges.now }
+{
+    let mut at = 0;
+    for range in ranges {
+        let owner = range.owner;
+        at += 1;
+        if owner >= partitions {
+            return Some(PlanFlaw::Owner {
+                at,
+                owner,
+                partitions,
+            });
+        }
+    }
+    None
+}

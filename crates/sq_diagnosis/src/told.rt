@@ -1,0 +1,77 @@
+// Words and flaws as they are said.
+use crate::lines::LineFlaw;
+use sq_text::Words;
+use std::fmt;
+use std::fmt::{Display, Formatter, Write};
+
+// As many bytes of a word are shown.
+const SHOWN: usize = 40;
+
+/// A flaw of a line as it is said, with the word that it is about.
+#[derive(Clone, Copy, Debug, PartialEq, Eq)]
+pub struct ToldFlaw<'a> {
+    pub line: &'a [u8],
+    pub flaw: LineFlaw,
+}
+
+/// A word of a line as it is said, by its number, from 1.
+#[derive(Clone, Copy, Debug, PartialEq, Eq)]
+pub struct ToldWord<'a> {
+    pub line: &'a [u8],
+    pub at: usize,
+}
+
+impl Display for ToldFlaw<'_> {
+    fn fmt<W: Write>(&self, f: &mut Formatter<W>) -> fmt::Result {
+        let line = self.line;
+        match self.flaw {
+            LineFlaw::Mark => f.write_str("it begins with a byte order mark (the bytes EF BB BF)"),
+            LineFlaw::CarriageReturn => {
+                f.write_str("a carriage return (the byte 0D) stands before its end")
+            }
+            LineFlaw::Empty { at } => write!(
+                f,
+                "word {at} is empty, where one space stands between two words and none at an end"
+            ),
+            LineFlaw::Wrong { at, wanted } => {
+                write!(f, "word {at}, {}, isn't {wanted}", Shown::of(line, at))
+            }
+            LineFlaw::Missing { at, wanted } => write!(f, "word {at} is missing: {wanted}"),
+            LineFlaw::Extra { at } => {
+                write!(f, "word {at}, {}, is one too many", Shown::of(line, at))
+            }
+        }
+    }
+}
+
+impl Display for ToldWord<'_> {
+    fn fmt<W: Write>(&self, f: &mut Formatter<W>) -> fmt::Result {
+        write!(f, "word {} is {}", self.at, Shown::of(self.line, self.at))
+    }
+}
+
+// A word in quotes, with escapes for what isn't a character of ASCII, and cut off where it is long.
+#[derive(Clone, Copy)]
+struct Shown<'a>(&'a [u8]);
+
+impl<'a> Shown<'a> {
+    // The word of this number, from 1.
+    fn of(line: &'a [u8], at: usize) -> Shown<'a> {
+        let mut words = Words::of(line);
+        let mut word = words.next_long();
+        for _ in 1..at {
+            word = words.next_long();
+        }
+        Shown(word.unwrap_or(b""))
+    }
+}
+
+impl Display for Shown<'_> {
+    fn fmt<W: Write>(&self, f: &mut Formatter<W>) -> fmt::Result {
+        let bytes = self.0;
+        match bytes.get(..SHOWN) {
+            Some(front) if bytes.len() > SHOWN => write!(f, "'{}..'", front.escape_ascii()),
+            _ => write!(f, "'{}'", bytes.escape_ascii()),
+        }
+    }
+}

@@ -1,0 +1,78 @@
+// The words that faults are about.
+ghost use Rattle.std.specs.Prelude.{◌≡◌};
+ghost use Rattle.sq_diagnosis.specs.Places.{row_word, opening_word};
+
+use crate::form::{TXN, op_form};
+use sq_ranges::{OpeningFault, ReconFault};
+use sq_schema::{MAX_NOTE, MAX_OPS, MAX_TABLES, TxnFault};
+use sq_text::{OpName, Words, unsigned};
+
+/// The number of the word, from 1, that a fault of an opening is about, in the line of the sizes or in that of the row; of a row
+/// that isn't in its place the root key. `None` where it is about no word.
+pub fn opening_word(fault: OpeningFault) -> Option<usize>
+    ensures { result ≡ opening_word fault }
+{
+    match fault {
+        OpeningFault::Recon(ReconFault::Width) => Some(2),
+        OpeningFault::Limit => Some(3),
+        OpeningFault::Capacity => Some(4),
+        OpeningFault::Row(_, fault) => row_word(fault),
+        OpeningFault::Place(_, _) => Some(2),
+        _ => None,
+    }
+}
+
+// The number of the word of a row's line, from 1, that a fault of the schema is about.
+fn row_word(fault: TxnFault) -> Option<usize>
+    ensures { result ≡ row_word fault }
+{
+    match fault {
+        TxnFault::BadOps => None,
+        TxnFault::BadRoot => Some(2),
+        TxnFault::BadTable => Some(3),
+        TxnFault::BadSub => Some(4),
+        TxnFault::BadNote => Some(6),
+    }
+}
+
+/// The number of the word of a transaction's line, from 1, that a fault is about; `None` where it is about none.
+pub fn job_word(fault: TxnFault, line: &[u8]) -> Option<usize> {
+    match fault {
+        TxnFault::BadOps => None,
+        TxnFault::BadRoot => Some(TXN.len()),
+        _ => faulty_op(fault, line),
+    }
+}
+
+// The number of the first word of an operation that a fault is about.
+fn faulty_op(fault: TxnFault, line: &[u8]) -> Option<usize> {
+    let mut words = Words::of(line);
+    for _ in TXN {
+        words.next()?;
+    }
+    let mut at = TXN.len() + 1;
+    for _ in 0..MAX_OPS {
+        let form = op_form(OpName::of(words.next()?)?);
+        if let Some(behind) = faulty_word(fault, form.len(), &mut words) {
+            return Some(at.saturating_add(behind));
+        }
+        at = at.saturating_add(form.len()).saturating_add(1);
+    }
+    None
+}
+
+// How many words behind the name of an operation the word stands that a fault is about, of as many words as its form has.
+fn faulty_word(fault: TxnFault, count: usize, words: &mut Words<'_>) -> Option<usize> {
+    let table = unsigned(words.next()?)?;
+    let sub = unsigned(words.next()?)?;
+    let mut last: &[u8] = b"";
+    for _ in 2..count {
+        last = words.next_long()?;
+    }
+    match fault {
+        TxnFault::BadTable if table >= u64::from(MAX_TABLES) => Some(1),
+        TxnFault::BadSub if table == 0 && sub != 0 => Some(2),
+        TxnFault::BadNote if last.len() > 2 * MAX_NOTE => Some(count),
+        _ => None,
+    }
+}

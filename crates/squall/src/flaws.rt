@@ -1,0 +1,151 @@
+// What doesn't fit in a faulty line.
+use crate::plans::read_plan;
+use crate::source::{Place, Source};
+use sq_diagnosis::{
+    LineFlaw, PlanFlaw, ToldFlaw, ToldWord, Wanted, job_flaw, job_word, opening_word, plan_flaw,
+    plan_line_flaw, row_flaw, sizes_flaw,
+};
+use sq_inputs::{Recalled, Recalling};
+use sq_live::{JobFault, JobLineFault};
+use sq_plan::PlanFault;
+use sq_text::{InputFault, InputLine, LocatedFault};
+use std::alloc::Global;
+use std::fmt;
+use std::fmt::{Display, Formatter, Write};
+use std::io::Read;
+use std::rt::Files;
+
+// The words of a transaction's line that say its partition and its id.
+const PARTITION: usize = 2;
+
+const ID: usize = 3;
+
+// What doesn't fit in a line.
+#[derive(Clone, Copy)]
+enum Misfit<'a> {
+    /// The input ends before it.
+    Missing,
+    /// It has no end.
+    Endless,
+    /// It isn't of its form.
+    Flaw(ToldFlaw<'a>),
+    /// One of its words isn't what it is to be.
+    Word(ToldWord<'a>),
+    /// Its plan is none.
+    Plan(PlanFlaw),
+}
+
+impl Display for Misfit<'_> {
+    fn fmt<W: Write>(&self, f: &mut Formatter<W>) -> fmt::Result {
+        match self {
+            Misfit::Missing => f.write_str("the input ends before it"),
+            Misfit::Endless => f.write_str("it has no line end (the byte 0A)"),
+            Misfit::Flaw(flaw) => write!(f, "{flaw}"),
+            Misfit::Word(word) => write!(f, "{word}"),
+            Misfit::Plan(flaw) => write!(f, "{flaw}"),
+        }
+    }
+}
+
+/// Says on standard error what doesn't fit in the line that a fault of an input belongs to, where that can be told.
+pub fn tell_misfit<T: Eprint + Files + AllocGlobal, R: Read>(
+    rt: &T,
+    source: &Source<'_>,
+    reader: &Recalling<R>,
+    located: &LocatedFault,
+) {
+    let Some(line) = located.line else {
+        return;
+    };
+    let place = source.place(line);
+    if let (Place::File(name), InputFault::Plan(fault)) = (place, located.fault) {
+        tell_plan_of_file(rt, name, fault);
+        return;
+    }
+    let recalled = reader.line(line.number() as usize);
+    if let Some(misfit) = misfit_of(rt.alloc(), line, located.fault, recalled) {
+        let _ = eprintln!(rt; "squall: {place}: {misfit}");
+    }
+}
+
+/// Says on standard error what doesn't fit in the line of a job that has a fault, where that can be told.
+pub fn tell_misfit_of_job<T: Eprint, R: Read>(
+    rt: &T,
+    place: Place<'_>,
+    reader: &Recalling<R>,
+    job: JobLineFault,
+) {
+    if let Some(misfit) = misfit_of_job(job.fault, reader.line(job.line as usize)) {
+        let _ = eprintln!(rt; "squall: {place}: {misfit}");
+    }
+}
+
+// Says on standard error what doesn't fit in the file of a plan, which is read once more as it is laid out.
+fn tell_plan_of_file<T: Eprint + Files + AllocGlobal>(rt: &T, name: &str, fault: PlanFault) {
+    let Ok(text) = read_plan(rt, name) else {
+        return;
+    };
+    if let Some(flaw) = plan_flaw(rt.alloc(), fault, text.as_slice()) {
+        let _ = eprintln!(rt; "squall: {name}: {flaw}");
+    }
+}
+
+// What doesn't fit in a line of an input that has a fault.
+fn misfit_of<'a>(
+    alloc: Global,
+    line: InputLine,
+    fault: InputFault,
+    recalled: Recalled<'a>,
+) -> Option<Misfit<'a>> {
+    match (fault, recalled) {
+        (InputFault::BadHeader, Recalled::Missing) => Some(Misfit::Missing),
+        (InputFault::BadHeader, Recalled::Rest(_)) => Some(Misfit::Endless),
+        (InputFault::BadHeader, Recalled::Line(line_bytes)) => {
+            let flaw = flaw_of(line, line_bytes)?;
+            Some(Misfit::Flaw(ToldFlaw {
+                line: line_bytes,
+                flaw,
+            }))
+        }
+        (InputFault::Opening(fault), Recalled::Line(line)) => {
+            let at = opening_word(fault)?;
+            Some(Misfit::Word(ToldWord { line, at }))
+        }
+        (InputFault::Plan(fault), Recalled::Line(line)) => {
+            let text = line.get(4..)?;
+            Some(Misfit::Plan(plan_flaw(alloc, fault, text)?))
+        }
+        _ => None,
+    }
+}
+
+// The first thing by which a line of the header isn't of its form.
+fn flaw_of(line: InputLine, bytes: &[u8]) -> Option<LineFlaw> {
+    match line {
+        InputLine::Old => plan_line_flaw(Wanted::Old, bytes),
+        InputLine::New => plan_line_flaw(Wanted::New, bytes),
+        InputLine::Config => sizes_flaw(bytes),
+        InputLine::Row(_) => row_flaw(bytes),
+        InputLine::Later(_) => None,
+    }
+}
+
+// What doesn't fit in the line of a job that has a fault.
+fn misfit_of_job(fault: JobFault, recalled: Recalled<'_>) -> Option<Misfit<'_>> {
+    let line = match recalled {
+        Recalled::Line(line) => line,
+        Recalled::Rest(_) if fault == JobFault::NotAJob => return Some(Misfit::Endless),
+        _ => return None,
+    };
+    let at = match fault {
+        JobFault::NotAJob => {
+            let flaw = job_flaw(line)?;
+            return Some(Misfit::Flaw(ToldFlaw { line, flaw }));
+        }
+        JobFault::NoSuchPartition => PARTITION,
+        JobFault::RepeatedId => ID,
+        JobFault::Txn(fault) => job_word(fault, line)?,
+        _ => return None,
+    };
+    Some(Misfit::Word(ToldWord { line, at }))
+}
