@@ -9,8 +9,8 @@
 # output must be NAME.out, byte for byte, and its exit status the number in NAME.status, or 0 where there is no such file.
 # A fault must be said on standard error: the line of the input that it belongs to, where NAME.status names one ('2 at
 # line 5'), its text in tests/texts, which has a line for each number, and what doesn't fit in the line, which tests/misfits
-# has by the name of the run; without a fault standard error is empty, unless NAME.err has what it is to say. Then come the examples of examples/ and those of the help texts, streams that fail,
-# memory that runs out, a live run at a terminal, and command lines, whose texts are in tests/usage.
+# has by the name of the run; without a fault standard error is empty, unless NAME.err has what it is to say. Then come the
+# examples of examples/ and those of the help texts, streams that fail, memory that runs out, a live run at a terminal, and command lines, whose texts are in tests/usage.
 #
 # The programs are those that `rt ci` leaves in crates/squall/out: squall, as LLVM builds it, and squall.by-rattle, as
 # Rattle's own compiler does. SQUALL=PATH takes another one.
