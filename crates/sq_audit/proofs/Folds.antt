@@ -23,8 +23,8 @@ use Rattle.sq_node_model.specs.Spots.{StandsAt}
 use Rattle.sq_node_model.specs.Placed.{IsPlaced}
 use Rattle.sq_node_model.specs.Next.{IsStageDone}
 use Rattle.sq_node_model.specs.Folded.{folded_family, folded_opening, folded_gathered, IsFolded}
-use Rattle.sq_placed.proofs.Next.{stands_next}
-use Rattle.sq_placed.proofs.Folded.{folded_placed, folded_done}
+use Rattle.sq_node_model.proofs.Next.{stands_next}
+use Rattle.sq_node_model.proofs.Folded.{folded_placed, folded_done}
 use Rattle.sq_audit.specs.declared.job.Job.{Job}
 use Rattle.sq_audit.specs.declared.folded.Folded.{Folded}
 use Rattle.sq_audit.specs.declared.folding.Ready.{Ready}

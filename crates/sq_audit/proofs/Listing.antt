@@ -20,7 +20,7 @@ use Rattle.sq_node_model.specs.FamiliesHold.{IsOf}
 use Rattle.sq_node_model.specs.Gathered.{GatheredLink, GatheredValue}
 use Rattle.sq_node_model.specs.Spots.{StandsAt}
 use Rattle.sq_node_model.proofs.Members.{Contains-map}
-use Rattle.sq_placed.proofs.Stands.{of_some}
+use Rattle.sq_node_model.proofs.Stands.{of_some}
 use Rattle.sq_audit.specs.declared.located.Located.{Located}
 use Rattle.sq_audit.specs.Located.{Entry, entry_of, entries_of, AreAllOf, AddsAll, AddsLink, ListsAll}
 use Rattle.sq_audit.proofs.Each.{same_of, no_some}

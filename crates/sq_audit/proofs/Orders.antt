@@ -10,7 +10,7 @@ use Rattle.std.proofs.lemmas.List.Sorted.{ranks_by, sorted_far}
 use Rattle.std.proofs.lemmas.Option.{slice_get_within, get_or_from_slice_get}
 use Rattle.sq_store.proofs.Order.{cmp_less}
 use Rattle.std.proofs.lemmas.List.{length-map, get_or-map}
-use Rattle.sq_placed.proofs.Lists.{at_map, stands_at}
+use Rattle.sq_node_model.proofs.Lists.{at_map, stands_at}
 use Rattle.sq_model.proofs.Lists.{filter-first, filter-other}
 use Rattle.sq_node_model.specs.NodeValue.{ReceiptValue}
 use Rattle.sq_node_model.specs.Receipts.{is_commit}

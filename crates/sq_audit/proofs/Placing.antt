@@ -29,14 +29,14 @@ use Rattle.sq_node_model.specs.Spots.{loaded_count, loads_of, cut_notes, loaded_
 use Rattle.sq_node_model.specs.Placed.{HasEachPart}
 use Rattle.sq_node_model.proofs.Carried.{carried_covered}
 use Rattle.sq_node_model.proofs.Members.{Contains-map, Contains-unreversed}
-use Rattle.sq_placed.proofs.Lists.{Contains-flat_map, at_map, at_reverse, same_from_end, some_found, none_found}
+use Rattle.sq_node_model.proofs.Lists.{Contains-flat_map, at_map, at_reverse, same_from_end, some_found, none_found}
 use Rattle.sq_audit.specs.Located.{Entry, ListsAll}
 use Rattle.sq_audit.specs.Notes.{LinksPlaced}
 use Rattle.sq_audit.specs.Spans.{Marked, has_keys, marked, notes_of, first_key, is_over, AreByKey, part_by, IsAtPart}
 use Rattle.sq_audit.specs.Fits.{ArePlaced}
 use Rattle.sq_audit.proofs.Lists.{taken_at, dropped_at, at_dropped}
 use Rattle.sq_audit.proofs.Parts.{at_taken}
-use Rattle.sq_placed.proofs.Stands.{of_some}
+use Rattle.sq_node_model.proofs.Stands.{of_some}
 
 -- a note at its place of a link
 pub record IsNoteAt (g : GatheredValue) (i p : ℕ) (link : GatheredLink) (note : Note) : Type 0 where

@@ -5,7 +5,7 @@ use Rattle.std.proofs.lemmas.List.{length-drop}
 use Rattle.std.proofs.lemmas.Option.{same_Some, slice_get_within}
 use Rattle.sq_chunk.specs.declared.chunk.Note.{Note}
 use Rattle.sq_chunk.specs.ChunkValue.{ChunkValue}
-use Rattle.sq_placed.proofs.Lists.{at_map}
+use Rattle.sq_node_model.proofs.Lists.{at_map}
 use Rattle.sq_audit.specs.Notes.{AreOfLast}
 use Rattle.sq_audit.proofs.Lists.{at_dropped}
 use Rattle.sq_audit.proofs.Each.{same_of}

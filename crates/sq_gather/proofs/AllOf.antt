@@ -24,7 +24,7 @@ use Rattle.sq_status.specs.View.{fresh}
 use Rattle.sq_status.specs.Seat.{SeatValue}
 use Rattle.sq_pull.specs.Seats.{AreSeatsOf, OnlyClaimed}
 use Rattle.sq_pull.specs.Pump.{PumpValue}
-use Rattle.sq_placed.proofs.Lists.{map_at, at_map}
+use Rattle.sq_node_model.proofs.Lists.{map_at, at_map}
 use Rattle.sq_node_model.proofs.Members.{Contains-map}
 use Rattle.sq_node.specs.FabricValue.{FabricValue, IsFabric, AreStageLinks, ends_of}
 use Rattle.sq_node.specs.NodeState.{NodeState}

@@ -5,7 +5,7 @@ use Rattle.std.proofs.lemmas.Option.{same_Some, slice_get_within}
 use Rattle.sq_exec.specs.OutLink.{new_out_link}
 use Rattle.sq_exec.specs.CoreValue.{out_at, inbox_at}
 use Rattle.sq_link.specs.Values.{LinkValue}
-use Rattle.sq_placed.proofs.Lists.{stands_at}
+use Rattle.sq_node_model.proofs.Lists.{stands_at}
 use Rattle.sq_node_model.proofs.Members.{push_stood}
 use Rattle.sq_node.specs.declared.ends.SendEnd.{SendEnd}
 use Rattle.sq_node.specs.declared.ends.RecvEnd.{RecvEnd}

@@ -8,7 +8,7 @@ use Rattle.sq_tree.specs.declared.status.Status.{Status}
 use Rattle.sq_status.specs.declared.view.View.{View}
 use Rattle.sq_status.specs.View.{took}
 use Rattle.sq_status.specs.Seat.{SeatValue}
-use Rattle.sq_placed.proofs.Lists.{stands_at}
+use Rattle.sq_node_model.proofs.Lists.{stands_at}
 use Rattle.sq_node.specs.NodeState.{views_of}
 use Rattle.sq_gather.specs.Trees.{AwaitOwners, AreJoined, AreWhole, AreTreesOf, AreClosed, view_with}
 

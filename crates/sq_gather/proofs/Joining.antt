@@ -13,7 +13,7 @@ use Rattle.sq_status.specs.View.{fresh, took}
 use Rattle.sq_status.specs.Seat.{SeatValue}
 use Rattle.sq_pull.specs.Seats.{AreSeatsOf}
 use Rattle.sq_node_model.proofs.Members.{set_stood, set_kept, set_new, slice_get-front, slice_get-pushed}
-use Rattle.sq_placed.proofs.Lists.{stands_at}
+use Rattle.sq_node_model.proofs.Lists.{stands_at}
 use Rattle.sq_node.specs.FabricValue.{AreFirst}
 use Rattle.sq_node.specs.NodeState.{views_of}
 use Rattle.sq_gather.specs.Trees.{AreJoined, view_with}

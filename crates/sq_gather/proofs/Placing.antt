@@ -17,9 +17,9 @@ use Rattle.sq_node_model.specs.NodeValue.{ReceiptValue, NodeValue}
 use Rattle.sq_node_model.specs.NodeHolds.{NodeHolds}
 use Rattle.sq_node_model.specs.Gathered.{GatheredLink, GatheredValue, HasEachLink, IsClosedTree, Gathers}
 use Rattle.sq_node_model.specs.Placed.{IsPlaced, GoOn}
-use Rattle.sq_placed.proofs.Lists.{stands_at, map_at}
-use Rattle.sq_placed.proofs.Placed.{is_placed}
-use Rattle.sq_placed.proofs.Families.{go_on}
+use Rattle.sq_node_model.proofs.Lists.{stands_at, map_at}
+use Rattle.sq_node_model.proofs.Placed.{is_placed}
+use Rattle.sq_node_model.proofs.Families.{go_on}
 use Rattle.sq_node.specs.FabricValue.{FabricValue, HasBegun, IsFabric, AreStageLinks, ends_of}
 use Rattle.sq_node.specs.NodeState.{NodeState, views_of, node_value}
 use Rattle.sq_node.specs.Opened.{IsFabricOf}

@@ -16,7 +16,7 @@ use Rattle.sq_pull.specs.Seats.{AreSeatsOf}
 use Rattle.sq_pull.specs.Pump.{PumpValue}
 use Rattle.sq_node_model.specs.NodeValue.{ReceiptValue}
 use Rattle.sq_node_model.specs.Gathered.{GatheredLink, GatheredValue, IsClosedLink}
-use Rattle.sq_placed.proofs.Lists.{stands_at, map_at, at_map, append_at}
+use Rattle.sq_node_model.proofs.Lists.{stands_at, map_at, at_map, append_at}
 use Rattle.sq_node.specs.declared.ends.SendEnd.{SendEnd}
 use Rattle.sq_node.specs.declared.ends.RecvEnd.{RecvEnd}
 use Rattle.sq_node.specs.Ends.{no_link, link_at}

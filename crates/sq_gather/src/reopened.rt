@@ -8,7 +8,7 @@ ghost use Rattle.sq_gather.specs.Reopened.{IsRun};
 
 use crate::gathered::Gathered;
 use sq_node::{Fabric, Node, Unresumed};
-use sq_placed::laws::the_next_stage_begins;
+use sq_node_model::gathered::the_next_stage_begins;
 use sq_pull::Pump;
 use sq_ranges::Opening;
 use std::alloc::Global;

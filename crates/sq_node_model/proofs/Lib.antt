@@ -27,3 +27,17 @@ pub mod CoreLinks
 pub mod CoreServed
 pub mod CoreNew
 pub mod Began
+pub mod Lists
+pub mod NamedAcross
+pub mod Ends
+pub mod Words
+pub mod Cuts
+pub mod Once
+pub mod Stands
+pub mod Places
+pub mod Families
+pub mod Receipts
+pub mod Placed
+pub mod Next
+pub mod Folded
+mod Empty

@@ -1,6 +1,8 @@
-//! What a node keeps: a partition by itself, with what its thread did on the trees and links that it shares with others.
+//! What a node keeps: a partition by itself, with what its thread did on the trees and links that it shares with others;
+//! and that what is gathered of all nodes is placed.
 #![tactic(auto)]
 
+pub mod gathered;
 pub mod laws;
 mod spot;
 

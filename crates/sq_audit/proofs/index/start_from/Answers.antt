@@ -1,7 +1,7 @@
 use Rattle.std.proofs.Common.{◌≤◌, length, sym, subst}
 use Rattle.std.proofs.lemmas.List.{length-map}
 use Rattle.sq_schema.specs.Table.{rows_in}
-use Rattle.sq_placed.proofs.Lists.{at_map}
+use Rattle.sq_node_model.proofs.Lists.{at_map}
 use Rattle.sq_audit.specs.Located.{Entry, entry_of, entries_of}
 use Rattle.sq_audit.specs.Index.{StartsFrom}
 use Rattle.sq_audit.proofs.Listing.{item_at}

@@ -3,7 +3,7 @@ use Rattle.std.specs.Bool.{Decides}
 use Rattle.std.proofs.lemmas.Bool.{cases_lt}
 use Rattle.std.proofs.lemmas.List.{length-map}
 use Rattle.sq_node_model.specs.NodeValue.{ReceiptValue}
-use Rattle.sq_placed.proofs.Lists.{at_map}
+use Rattle.sq_node_model.proofs.Lists.{at_map}
 use Rattle.sq_audit.specs.Located.{Entry, entry_of, entries_of}
 use Rattle.sq_audit.specs.Told.{values_of, receipts_of, AreInOrder, TellsLog}
 use Rattle.sq_audit.proofs.Listing.{item_at}

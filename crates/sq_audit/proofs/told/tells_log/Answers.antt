@@ -3,7 +3,7 @@ use Rattle.std.specs.Option.{option_copied}
 use Rattle.std.proofs.lemmas.List.{length-map}
 use Rattle.sq_schema.specs.TxnValue.{TxnValue}
 use Rattle.sq_node_model.specs.NodeValue.{ReceiptValue}
-use Rattle.sq_placed.proofs.Lists.{at_map}
+use Rattle.sq_node_model.proofs.Lists.{at_map}
 use Rattle.sq_audit.specs.Told.{values_of, IsAnswered, rows_then}
 use Rattle.sq_audit.proofs.Listing.{item_at}
 use Rattle.sq_audit.proofs.Each.{looked_up, refuted, shown, by_cases}

@@ -3,7 +3,7 @@ use Rattle.std.specs.Prelude.{slice_set}
 use Rattle.std.proofs.lemmas.Option.{get_or_from_slice_get}
 use Rattle.sq_exec.specs.declared.out_link.OutLink.{OutLink}
 use Rattle.sq_exec.specs.OutLink.{OutLinkValue, new_out_link}
-use Rattle.sq_placed.proofs.Lists.{at_map}
+use Rattle.sq_node_model.proofs.Lists.{at_map}
 use Rattle.sq_gather.specs.Ends.{send_link, with_source}
 use Rattle.sq_gather.proofs.Putting.{AreLeft, IsTaken, none_put, link_below, end_put}
 use Rattle.sq_gather.proofs.ends.put_sources.Goals as goal

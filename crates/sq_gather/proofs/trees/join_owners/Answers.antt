@@ -2,7 +2,7 @@ use Rattle.std.proofs.Common.{◌≡◌, [], ◌∷◌, List, length, map, sym, 
 use Rattle.std.specs.Prelude.{slice_get}
 use Rattle.std.proofs.lemmas.List.{map-append}
 use Rattle.sq_status.specs.declared.tree.TreeSeat.{TreeSeat}
-use Rattle.sq_placed.proofs.Lists.{at_map}
+use Rattle.sq_node_model.proofs.Lists.{at_map}
 use Rattle.sq_gather.proofs.Lists.{stands_after}
 use Rattle.std.specs.Vec.Iter.{into_iter_items}
 use Rattle.sq_status.specs.Seat.{SeatValue}

@@ -15,9 +15,9 @@ use Rattle.sq_node_model.specs.FamiliesHold.{IsStored, IsCarried}
 use Rattle.sq_node_model.specs.declared.spot.Spot.TheVariants.{Store, Chunk}
 use Rattle.sq_node_model.specs.Gathered.{GatheredLink, GatheredValue, Gathers}
 use Rattle.sq_node_model.specs.Spots.{chunk_in, StandsAt}
-use Rattle.sq_placed.proofs.Lists.{map_at, at_map, append_at, after_append}
-use Rattle.sq_placed.proofs.Ends.{ends}
-use Rattle.sq_placed.proofs.Cuts.{IsCutAt}
+use Rattle.sq_node_model.proofs.Lists.{map_at, at_map, append_at, after_append}
+use Rattle.sq_node_model.proofs.Ends.{ends}
+use Rattle.sq_node_model.proofs.Cuts.{IsCutAt}
 
 pub of_some : {X Y : Type 0} (f : X → Option Y) (found : Option X) (y : Y) → option_and_then f found ≡ Some y → (x : X) × (found ≡ Some x) × (f x ≡ Some y)
 of_some f found y at = option_and_then_some f found y at (λ x there e. (x, there, e))

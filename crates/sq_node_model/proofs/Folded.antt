@@ -28,7 +28,7 @@ use Rattle.sq_node_model.specs.Next.{IsStageDone}
 use Rattle.sq_node_model.specs.Folded.{folded_family, folded_opening, folded_gathered, IsFolded}
 use Rattle.sq_model.specs.Staged.{owner_in}
 use Rattle.sq_node_model.proofs.Began.{none_first}
-use Rattle.sq_placed.proofs.Next.{stands_next}
+use Rattle.sq_node_model.proofs.Next.{stands_next}
 
 abbrev as_folded : FamilyValue → FamilyValue
 as_folded family = record { root = family.root; base = rows_of family; log = [] }

@@ -15,13 +15,13 @@ use Rattle.sq_node_model.specs.NodeValue.{NodeValue}
 use Rattle.sq_node_model.specs.Gathered.{GatheredLink, GatheredValue, Gathers}
 use Rattle.sq_node_model.specs.Spots.{word_in, loaded_notes}
 use Rattle.sq_node_model.specs.Placed.{IsLinkPlaced, FitTogether, IsPlaced}
-use Rattle.sq_placed.proofs.Ends.{ends, out, way_is, way_cut}
-use Rattle.sq_placed.proofs.Words.{grown, begun, completed}
-use Rattle.sq_placed.proofs.Cuts.{loaded_at}
-use Rattle.sq_placed.proofs.Once.{apart, link_tiles}
-use Rattle.sq_placed.proofs.Places.{loaded_among, placed, once}
-use Rattle.sq_placed.proofs.Families.{keyed, base, opening}
-use Rattle.sq_placed.proofs.Receipts.{named, told}
+use Rattle.sq_node_model.proofs.Ends.{ends, out, way_is, way_cut}
+use Rattle.sq_node_model.proofs.Words.{grown, begun, completed}
+use Rattle.sq_node_model.proofs.Cuts.{loaded_at}
+use Rattle.sq_node_model.proofs.Once.{apart, link_tiles}
+use Rattle.sq_node_model.proofs.Places.{loaded_among, placed, once}
+use Rattle.sq_node_model.proofs.Families.{keyed, base, opening}
+use Rattle.sq_node_model.proofs.Receipts.{named, told}
 
 module _ (o : OpeningValue) (began : BeganWith) (is : IsOpening o) (nodes : List NodeValue) (g : GatheredValue) (gathers : Gathers o began nodes g) where
   link_placed : (i : ℕ) (link : GatheredLink) → slice_get g.links i ≡ Some link → IsLinkPlaced o g link

@@ -1,6 +1,6 @@
-use Rattle.sq_placed.proofs.Placed.{is_placed}
-use Rattle.sq_placed.proofs.Families.{go_on}
-use Rattle.sq_placed.proofs.laws.what_is_gathered_is_placed.Goals as goal
+use Rattle.sq_node_model.proofs.Placed.{is_placed}
+use Rattle.sq_node_model.proofs.Families.{go_on}
+use Rattle.sq_node_model.proofs.gathered.what_is_gathered_is_placed.Goals as goal
 
 pub returns : goal.returns
 returns c = record {

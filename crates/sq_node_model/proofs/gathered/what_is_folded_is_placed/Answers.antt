@@ -1,5 +1,5 @@
-use Rattle.sq_placed.proofs.Folded.{folded_placed, folded_done}
-use Rattle.sq_placed.proofs.laws.what_is_folded_is_placed.Goals as goal
+use Rattle.sq_node_model.proofs.Folded.{folded_placed, folded_done}
+use Rattle.sq_node_model.proofs.gathered.what_is_folded_is_placed.Goals as goal
 
 pub returns : goal.returns
 returns c = record {

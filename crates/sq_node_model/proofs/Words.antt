@@ -20,7 +20,7 @@ use Rattle.sq_node_model.specs.BegunHolds.{IsNamed}
 use Rattle.sq_node_model.specs.Gathered.{GatheredValue, Gathers}
 use Rattle.sq_node_model.specs.Spots.{word_in}
 use Rattle.sq_node_model.proofs.Trees.{grown_tree, begun_stands}
-use Rattle.sq_placed.proofs.Lists.{Contains-flat_map}
+use Rattle.sq_node_model.proofs.Lists.{Contains-flat_map}
 
 -- a node that is counted with its pull stands in the list
 counted_in : (n pull : ℕ) (entries : List (ℕ × ℕ)) → 0 < times_with n pull entries → Contains entries (n, pull)

@@ -28,12 +28,12 @@ use Rattle.sq_node_model.specs.Placed.{AllStand, KeepBases, GoOn}
 use Rattle.sq_node_model.proofs.Members.{slice_get-front}
 use Rattle.sq_node_model.proofs.FamiliesAnswered.{not_given, grows_itself}
 use Rattle.sq_node_model.proofs.Began.{grows_on, given_is, given_base}
-use Rattle.sq_placed.proofs.Lists.{stands_at}
-use Rattle.sq_placed.proofs.Ends.{out}
-use Rattle.sq_placed.proofs.Cuts.{IsCutAt, cut_at, loaded_at, has_cut}
-use Rattle.sq_placed.proofs.Once.{cut_note}
-use Rattle.sq_placed.proofs.Stands.{IsUnderWay, in_store, in_chunk, stands_in_store, stands_in_chunk, whereabouts}
-use Rattle.sq_placed.proofs.Places.{cut_among}
+use Rattle.sq_node_model.proofs.Lists.{stands_at}
+use Rattle.sq_node_model.proofs.Ends.{out}
+use Rattle.sq_node_model.proofs.Cuts.{IsCutAt, cut_at, loaded_at, has_cut}
+use Rattle.sq_node_model.proofs.Once.{cut_note}
+use Rattle.sq_node_model.proofs.Stands.{IsUnderWay, in_store, in_chunk, stands_in_store, stands_in_chunk, whereabouts}
+use Rattle.sq_node_model.proofs.Places.{cut_among}
 
 some_is : {X : Type 0} (found : Option X) → is_some found ≡ true → (x : X) × (found ≡ Some x)
 some_is None e = absurd (true≢false (sym e))

@@ -26,9 +26,9 @@ use Rattle.sq_node_model.specs.Spots.{word_in}
 use Rattle.sq_node_model.proofs.Keys.{IsMovedFrom, moved_from}
 use Rattle.sq_node_model.proofs.Facts.{own_note, own_within, cut_carried}
 use Rattle.sq_node_model.proofs.Members.{slice_get-front}
-use Rattle.sq_placed.proofs.Lists.{at_map}
-use Rattle.sq_placed.proofs.Ends.{HasEnds, ends, cut_notes_are}
-use Rattle.sq_placed.proofs.Words.{begun}
+use Rattle.sq_node_model.proofs.Lists.{at_map}
+use Rattle.sq_node_model.proofs.Ends.{HasEnds, ends, cut_notes_are}
+use Rattle.sq_node_model.proofs.Words.{begun}
 
 -- the chunk is the one at this place of those that were cut for the link at this place
 pub record IsCutAt (o : OpeningValue) (began : BeganWith) (nodes : List NodeValue) (g : GatheredValue) (chunk : ChunkValue) : Type 0 where

@@ -31,7 +31,7 @@ use Rattle.sq_node_model.specs.Placed.{IsPlaced}
 use Rattle.sq_node_model.specs.Next.{IsStageDone}
 use Rattle.sq_node_model.proofs.Members.{Contains-reverse, Contains-map}
 use Rattle.sq_node_model.proofs.Staged.{on_link_goes, link_runs}
-use Rattle.sq_placed.proofs.Next.{reads_complete}
+use Rattle.sq_node_model.proofs.Next.{reads_complete}
 
 begun_touched : (st : Status) → is_begun st ≡ true → (is_free st ≡ false) × (is_split st ≡ false)
 begun_touched (Partial p) begun = (refl, refl)

@@ -28,12 +28,12 @@ use Rattle.sq_node_model.proofs.Facts.{cut_carried}
 use Rattle.sq_node_model.proofs.Named.{unnamed}
 use Rattle.sq_node_model.proofs.Told.{none_before}
 use Rattle.sq_node_model.proofs.Began.{past_named}
-use Rattle.sq_placed.proofs.Named.{named_both, one_names, two_name}
-use Rattle.sq_placed.proofs.Cuts.{IsCutAt, cut_at, loaded_at, has_cut, moved, carried}
-use Rattle.sq_placed.proofs.Once.{are_one}
-use Rattle.sq_placed.proofs.Stands.{IsInStore, IsInChunk, in_store, in_chunk, stands_in_store}
-use Rattle.sq_placed.proofs.Places.{once}
-use Rattle.sq_placed.proofs.Families.{told_on, carried_on, brought_grown, grown_at, go_on}
+use Rattle.sq_node_model.proofs.NamedAcross.{named_both, one_names, two_name}
+use Rattle.sq_node_model.proofs.Cuts.{IsCutAt, cut_at, loaded_at, has_cut, moved, carried}
+use Rattle.sq_node_model.proofs.Once.{are_one}
+use Rattle.sq_node_model.proofs.Stands.{IsInStore, IsInChunk, in_store, in_chunk, stands_in_store}
+use Rattle.sq_node_model.proofs.Places.{once}
+use Rattle.sq_node_model.proofs.Families.{told_on, carried_on, brought_grown, grown_at, go_on}
 
 -- the positions that were named before a family was moved, and those that were named after
 split_named : (first all position : ℕ) → first ≤ all → one_if (nat_lt position first) + one_if (nat_le first position && nat_lt position all) ≡ one_if (nat_lt position all)

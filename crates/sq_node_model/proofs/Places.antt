@@ -20,11 +20,11 @@ use Rattle.sq_node_model.specs.Gathered.{GatheredLink, GatheredValue, Gathers}
 use Rattle.sq_node_model.specs.Spots.{cut_notes, loaded_notes, loads_of, place_in, StandsAt, IsSpotOf}
 use Rattle.sq_node_model.specs.Placed.{StandOnce}
 use Rattle.sq_node_model.proofs.Members.{slice_get-front}
-use Rattle.sq_placed.proofs.Lists.{Contains-flat_map, at_map, some_found, none_found}
-use Rattle.sq_placed.proofs.Ends.{notes_of, loads_are}
-use Rattle.sq_placed.proofs.Cuts.{IsCutAt, loaded_at, has_cut, noted_at, to_is, moved, carried}
-use Rattle.sq_placed.proofs.Once.{IsNoted, cut_note, loaded_note, are_one}
-use Rattle.sq_placed.proofs.Stands.{IsInChunk, in_store, in_chunk}
+use Rattle.sq_node_model.proofs.Lists.{Contains-flat_map, at_map, some_found, none_found}
+use Rattle.sq_node_model.proofs.Ends.{notes_of, loads_are}
+use Rattle.sq_node_model.proofs.Cuts.{IsCutAt, loaded_at, has_cut, noted_at, to_is, moved, carried}
+use Rattle.sq_node_model.proofs.Once.{IsNoted, cut_note, loaded_note, are_one}
+use Rattle.sq_node_model.proofs.Stands.{IsInChunk, in_store, in_chunk}
 
 module _ (o : OpeningValue) (began : BeganWith) (is : IsOpening o) (nodes : List NodeValue) (g : GatheredValue) (gathers : Gathers o began nodes g) where
   -- a chunk's note is among all

@@ -45,7 +45,7 @@ use Rattle.sq_node_model.proofs.Members.{Contains-reverse, Contains-unreversed}
 use Rattle.sq_node_model.proofs.Keys.{moved_from}
 use Rattle.sq_node_model.proofs.Staged.{on_link_goes, link_runs, moved_source, staying_source}
 use Rattle.sq_node_model.proofs.CoreNew.{core_new}
-use Rattle.sq_placed.proofs.Lists.{Contains-flat_map, some_found, none_found}
+use Rattle.sq_node_model.proofs.Lists.{Contains-flat_map, some_found, none_found}
 
 front_in : {X : Type 0} (n : ℕ) (xs : List X) (x : X) → Contains (take n xs) x → Contains xs x
 front_in n xs x has = subst (λ list. Contains list x) (take-append-drop n xs) (Contains-append_left (take n xs) (drop n xs) x has)

@@ -1,5 +1,5 @@
-use Rattle.sq_placed.proofs.Next.{can_next, holds_next}
-use Rattle.sq_placed.proofs.laws.the_next_stage_begins.Goals as goal
+use Rattle.sq_node_model.proofs.Next.{can_next, holds_next}
+use Rattle.sq_node_model.proofs.gathered.the_next_stage_begins.Goals as goal
 
 pub returns : goal.returns
 returns c = record {

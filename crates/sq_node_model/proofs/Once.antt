@@ -18,10 +18,10 @@ use Rattle.sq_node_model.specs.Spots.{word_in, cut_notes, loaded_notes, loads_of
 use Rattle.sq_node_model.proofs.Members.{Contains-unreversed}
 use Rattle.sq_node_model.proofs.Keys.{one_segment}
 use Rattle.sq_node_model.proofs.Trees.{begun_apart}
-use Rattle.sq_placed.proofs.Lists.{map_at, at_reverse, same_from_end}
-use Rattle.sq_placed.proofs.Ends.{notes_of, ends, out, cut_notes_are, loads_are}
-use Rattle.sq_placed.proofs.Words.{grown}
-use Rattle.sq_placed.proofs.Cuts.{IsCutAt, cut_chunk, loaded_chunk, noted_at, about_node, about_begun, within, moved}
+use Rattle.sq_node_model.proofs.Lists.{map_at, at_reverse, same_from_end}
+use Rattle.sq_node_model.proofs.Ends.{notes_of, ends, out, cut_notes_are, loads_are}
+use Rattle.sq_node_model.proofs.Words.{grown}
+use Rattle.sq_node_model.proofs.Cuts.{IsCutAt, cut_chunk, loaded_chunk, noted_at, about_node, about_begun, within, moved}
 
 -- a chunk with this note, at its place
 pub record IsNoted (o : OpeningValue) (began : BeganWith) (nodes : List NodeValue) (g : GatheredValue) (note : Note) : Type 0 where
