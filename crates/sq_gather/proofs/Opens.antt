@@ -12,11 +12,12 @@ use Rattle.sq_status.specs.declared.view.View.{View}
 use Rattle.sq_status.specs.View.{fresh}
 use Rattle.sq_model.specs.Staged.{owner_in}
 use Rattle.sq_model.proofs.Lists.{Contains-nothing}
-use Rattle.sq_node_model.specs.NodeValue.{NodeValue, node_of}
+use Rattle.sq_node_model.specs.NodeValue.{NodeAtWork, NodeValue, node_of}
 use Rattle.sq_node_model.specs.Chunks.{HasCut, HasLoaded, IsCovered}
 use Rattle.sq_node_model.specs.FamiliesHold.{IsHome}
 use Rattle.sq_node_model.specs.NodeHolds.{NodeHolds}
-use Rattle.sq_node_model.specs.Cores.{staged_core, OpensWith, IsUnused}
+use Rattle.sq_node_model.specs.Cores.{staged_core, OpensWith}
+use Rattle.sq_node_model.specs.AtWork.{IsFreshWith}
 use Rattle.sq_node_model.specs.Gathered.{GatheredValue}
 use Rattle.sq_node_model.specs.Spots.{family_at_spot}
 use Rattle.sq_node_model.specs.declared.spot.Spot.TheVariants.{Store}
@@ -29,12 +30,25 @@ no_views seg = fresh false false
 abbrev no_chunks : ℕ → List ChunkValue
 no_chunks other = []
 
--- the node of the next stage with this partition's families, to which nothing has happened
-abbrev pub next_node : OpeningValue → GatheredValue → ℕ → StoreValue → NodeValue
-next_node o g q store = node_of (staged_core o (g.stage + 1) q store) no_views no_chunks no_chunks []
+-- the node of the next stage with this partition's families, to which nothing has happened, at work and by keys
+abbrev pub next_at_work : OpeningValue → GatheredValue → ℕ → StoreValue → NodeAtWork
+next_at_work o g q store = record {
+  core = staged_core o (g.stage + 1) q store;
+  views = no_views;
+  sent = no_chunks;
+  received = no_chunks;
+  receipts = [];
+}
 
-pub unused : IsUnused no_views no_chunks no_chunks
-unused = record { begun = λ seg. refl; completed = λ seg. refl; none_sent = λ dst. refl; none_received = λ src. refl }
+abbrev pub next_node : OpeningValue → GatheredValue → ℕ → StoreValue → NodeValue
+next_node o g q store = node_of (next_at_work o g q store)
+
+pub next_fresh : (o : OpeningValue) (g : GatheredValue) (q : ℕ) (store : StoreValue) → IsFreshWith (staged_core o (g.stage + 1) q store) (next_at_work o g q store)
+next_fresh o g q store = record {
+  partition = refl;
+  unused = record { begun = λ seg. refl; completed = λ seg. refl; none_sent = λ dst. refl; none_received = λ src. refl };
+  receipts = refl;
+}
 
 module _ (o : OpeningValue) (g : GatheredValue) (q : ℕ) (store : StoreValue) (there : slice_get g.stores q ≡ Some store) (holds : NodeHolds o (next_began o g) (next_node o g q store)) where
   none_loaded : (chunk : ChunkValue) → HasLoaded (next_node o g q store) chunk → ⊥

@@ -23,10 +23,11 @@ use Rattle.sq_exec.specs.Moving.{can_load, loaded_core, begun_in, may_load}
 use Rattle.sq_pull.specs.Seats.{StepsAt}
 use Rattle.sq_node_model.specs.Stages.{runs_in}
 use Rattle.sq_node_model.specs.BeganWith.{BeganWith}
-use Rattle.sq_node_model.specs.NodeValue.{ReceiptValue, node_of, put}
+use Rattle.sq_node_model.specs.NodeValue.{ReceiptValue, put}
 use Rattle.sq_node_model.specs.Steps.{receipts_after}
 use Rattle.sq_node_model.specs.NodeHolds.{NodeHolds}
 use Rattle.sq_node_model.specs.Cores.{IsCoreOf, IsLoadable, HasNoneToLoad}
+use Rattle.sq_node_model.proofs.Made.{node_with}
 use Rattle.sq_node_model.proofs.Staged.{link_runs}
 use Rattle.sq_node_model.proofs.Puts.{put_each, put_same, put_other}
 use Rattle.sq_node_model.proofs.CoreBegun.{core_looked, core_completed, core_begun}
@@ -112,13 +113,13 @@ load_keeps old Memory new step o began is h = same_keeps old new step o began is
 
 -- where the seats began and completed nothing more
 seats_keep : {began : BeganWith} (o : OpeningValue) (core : CoreValue) (old new : List SeatValue) (sent received : ℕ → List ChunkValue) (receipts : List ReceiptValue) → ((seg : ℕ) → SameDone (views_of old seg) (views_of new seg))
-    → NodeHolds o began (node_of core (views_of old) sent received receipts) → NodeHolds o began (node_of core (views_of new) sent received receipts)
+    → NodeHolds o began (node_with core (views_of old) sent received receipts) → NodeHolds o began (node_with core (views_of new) sent received receipts)
 seats_keep o core old new sent received receipts same h =
     core_looked o core (views_of old) (views_of new) sent received receipts (λ seg. (same seg).begun) (λ seg. (same seg).completed) h
 
 -- where the seats only looked
 looked_keep : {began : BeganWith} (o : OpeningValue) (core : CoreValue) (old new : List SeatValue) (sent received : ℕ → List ChunkValue) (receipts : List ReceiptValue) → SeatsLooked old new
-    → NodeHolds o began (node_of core (views_of old) sent received receipts) → NodeHolds o began (node_of core (views_of new) sent received receipts)
+    → NodeHolds o began (node_with core (views_of old) sent received receipts) → NodeHolds o began (node_with core (views_of new) sent received receipts)
 looked_keep o core old new sent received receipts looked = seats_keep o core old new sent received receipts (looked_same old new looked)
 
 pub looks_keep : (old new : NodeState) → Looks old new → KeepsAll old new
@@ -169,7 +170,7 @@ put_twice key first value f =
 -- where a seat looked at a node of a tree, and then completed it
 completes_keep : {began : BeganWith} (o : OpeningValue) (core : CoreValue) (old new : List SeatValue) (sent received : ℕ → List ChunkValue) (receipts : List ReceiptValue) (seg n : ℕ)
     → (done : StepsAt seg (λ v w. LooksAndCompletes v n w) old new) → is_whole (loaded_at core seg) n ≡ true
-    → NodeHolds o began (node_of core (views_of old) sent received receipts) → NodeHolds o began (node_of core (views_of new) sent received receipts)
+    → NodeHolds o began (node_with core (views_of old) sent received receipts) → NodeHolds o began (node_with core (views_of new) sent received receipts)
 completes_keep o core old new sent received receipts seg n done whole h =
     let view = done.told.1 in
     let looked = put seg view (views_of old) in

@@ -11,7 +11,7 @@ use Rattle.sq_status.specs.Seat.{SeatValue}
 use Rattle.sq_pull.specs.Seats.{AreSeatsOf}
 use Rattle.sq_node.specs.declared.ends.SendEnd.{SendEnd}
 use Rattle.sq_node.specs.declared.ends.RecvEnd.{RecvEnd}
-use Rattle.sq_node_model.specs.NodeValue.{ReceiptValue, NodeValue, node_of}
+use Rattle.sq_node_model.specs.NodeValue.{ReceiptValue, NodeAtWork, NodeValue, node_of}
 use Rattle.sq_node.specs.FabricValue.{FabricValue}
 use Rattle.sq_node.specs.Ends.{send_end, recv_end, AreSendEnds, AreRecvEnds}
 
@@ -48,9 +48,19 @@ sent_by sends dst = option_map_or (λ end. end.pass.sent) (send_end sends dst) [
 abbrev pub received_by : List (Option RecvEnd) → ℕ → List ChunkValue
 received_by recvs src = option_map_or (λ end. end.pass.received) (recv_end recvs src) []
 
+-- the node, with the views of its seats and what its ends did by keys
+abbrev pub at_work : NodeState → NodeAtWork
+at_work node = record {
+  core = node.core;
+  views = views_of node.seats;
+  sent = sent_by node.sends;
+  received = received_by node.recvs;
+  receipts = node.receipts;
+}
+
 -- the node by keys
 abbrev pub node_value : NodeState → NodeValue
-node_value node = node_of node.core (views_of node.seats) (sent_by node.sends) (received_by node.recvs) node.receipts
+node_value node = node_of (at_work node)
 
 -- how many transactions a log held before one with this reply, where it holds this many after it
 abbrev pub position_before : ℕ → Reply → ℕ

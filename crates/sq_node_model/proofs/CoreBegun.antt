@@ -26,11 +26,12 @@ use Rattle.sq_node_model.specs.Stages.{runs_in, is_on_link_in}
 use Rattle.sq_status.specs.declared.view.View.{View}
 use Rattle.sq_status.specs.Plays.{Won}
 use Rattle.sq_node_model.specs.BeganWith.{BeganWith}
-use Rattle.sq_node_model.specs.NodeValue.{ReceiptValue, NodeValue, node_of, put}
+use Rattle.sq_node_model.specs.NodeValue.{ReceiptValue, NodeValue, put}
 use Rattle.sq_node_model.specs.Steps.{node_begun, node_completed}
 use Rattle.sq_node_model.specs.BegunHolds.{IsNamed}
 use Rattle.sq_node_model.specs.NodeHolds.{NodeHolds}
 use Rattle.sq_node_model.specs.Cores.{IsCoreOf}
+use Rattle.sq_node_model.proofs.Made.{node_with}
 use Rattle.sq_node_model.proofs.Puts.{put_set, put_field, put_still}
 use Rattle.sq_node_model.proofs.Trees.{grown_tree, begun_stands, not_begun, begun_apart}
 use Rattle.sq_node_model.proofs.NodeBegun.{keeps_begun}
@@ -39,16 +40,16 @@ use Rattle.sq_node_model.proofs.NodeSent.{keeps_completed}
 -- looks, splits and claims change nothing that a node keeps
 pub core_looked : {began : BeganWith} (o : OpeningValue) (core : CoreValue) (views now : ℕ → View) (sent received : ℕ → List ChunkValue) (receipts : List ReceiptValue)
     → ((seg : ℕ) → (now seg).begun ≡ (views seg).begun) → ((seg : ℕ) → (now seg).completed ≡ (views seg).completed)
-    → NodeHolds o began (node_of core views sent received receipts) → NodeHolds o began (node_of core now sent received receipts)
+    → NodeHolds o began (node_with core views sent received receipts) → NodeHolds o began (node_with core now sent received receipts)
 core_looked {began} o core views now sent received receipts begun completed h =
-    subst (NodeHolds o began) (λ i. record (node_of core views sent received receipts) { begun = λ seg. sym (begun seg) i; completed = λ seg. sym (completed seg) i }) h
+    subst (NodeHolds o began) (λ i. record (node_with core views sent received receipts) { begun = λ seg. sym (begun seg) i; completed = λ seg. sym (completed seg) i }) h
 
 -- a node of a segment's tree is completed
 pub completed_node_is : (core : CoreValue) (views now : ℕ → View) (sent received : ℕ → List ChunkValue) (receipts : List ReceiptValue) (seg n pull : ℕ) (w : View)
     → Won (views seg) n (Complete pull) w → ((k : ℕ) → now k ≡ put seg w views k)
-    → node_of core now sent received receipts ≡ node_completed (node_of core views sent received receipts) seg n pull
+    → node_with core now sent received receipts ≡ node_completed (node_with core views sent received receipts) seg n pull
 completed_node_is core views now sent received receipts seg n pull w won puts =
-    λ i. record (node_of core now sent received receipts) { begun = λ k. begun_is k i; completed = λ k. completed_is k i }
+    λ i. record (node_with core now sent received receipts) { begun = λ k. begun_is k i; completed = λ k. completed_is k i }
   where
     begun_is : (k : ℕ) → (now k).begun ≡ (views k).begun
     begun_is k = ap (λ (v : View). v.begun) (puts k) ∙ put_still (λ (v : View). v.begun) seg w views k (ap (λ (v : View). v.begun) won.after)
@@ -62,16 +63,16 @@ completed_node_is core views now sent received receipts seg n pull w won puts =
 -- where its last chunk was loaded the node keeps what holds
 pub core_completed : {began : BeganWith} (o : OpeningValue) (core : CoreValue) (views now : ℕ → View) (sent received : ℕ → List ChunkValue) (receipts : List ReceiptValue) (seg n pull : ℕ) (w : View)
     → is_whole (loaded_at core seg) n ≡ true → Won (views seg) n (Complete pull) w → ((k : ℕ) → now k ≡ put seg w views k)
-    → NodeHolds o began (node_of core views sent received receipts) → NodeHolds o began (node_of core now sent received receipts)
+    → NodeHolds o began (node_with core views sent received receipts) → NodeHolds o began (node_with core now sent received receipts)
 core_completed {began} o core views now sent received receipts seg n pull w whole won puts h =
     subst (NodeHolds o began) (sym (completed_node_is core views now sent received receipts seg n pull w won puts))
-    (keeps_completed o (node_of core views sent received receipts) seg n pull (h.loaded.whole seg n whole) h)
+    (keeps_completed o (node_with core views sent received receipts) seg n pull (h.loaded.whole seg n whole) h)
 
 module _ (o : OpeningValue) (i : ℕ) (is : IsOpening o) (core : CoreValue) (views now : ℕ → View) (sent received : ℕ → List ChunkValue) (receipts : List ReceiptValue) (seg n pull : ℕ) (w : View) (segment : Range)
     (known : IsCoreOf o i core) (there : slice_get o.recon.segments seg ≡ Some segment) (won : Won (views seg) n (Partial pull) w)
     (puts : (k : ℕ) → now k ≡ put seg w views k) where
   abbrev node : NodeValue
-  node = node_of core views sent received receipts
+  node = node_with core views sent received receipts
 
   abbrev work : WorkValue
   work = whole_node core segment seg n pull
@@ -118,17 +119,17 @@ module _ (o : OpeningValue) (i : ℕ) (is : IsOpening o) (core : CoreValue) (vie
   completed_is k = ap (λ (v : View). v.completed) (puts k) ∙ put_still (λ (v : View). v.completed) seg w views k (ap (λ (v : View). v.completed) won.after)
 
   -- what the begin does to the node
-  pub begun_node_is : node_of (begun_core core seg n pull) now sent received receipts ≡ node_begun node segment.dst work
+  pub begun_node_is : node_with (begun_core core seg n pull) now sent received receipts ≡ node_begun node segment.dst work
   begun_node_is =
-      ap (λ at. node_of (begun_in core seg n pull at) now sent received receipts) found
-      ∙ (λ i. record (node_of core now sent received receipts) {
+      ap (λ at. node_with (begun_in core seg n pull at) now sent received receipts) found
+      ∙ (λ i. record (node_with core now sent received receipts) {
         begun = λ k. begun_is k i;
         completed = λ k. completed_is k i;
         given_up = λ k. put_set core.given_up seg (given_up_with (given_up_at core seg) n) none_given_up seg_below k i;
         outs = λ k. put_set core.outs segment.dst (with_work (out_at core segment.dst) work) new_out_link dst_below k i;
       })
 
-  pub core_begun : {began : BeganWith} → segment.src ≡ core.part → runs_in o began.stage segment.src segment.dst ≡ true → is_node n ≡ true → NodeHolds o began node → NodeHolds o began (node_of (begun_core core seg n pull) now sent received receipts)
+  pub core_begun : {began : BeganWith} → segment.src ≡ core.part → runs_in o began.stage segment.src segment.dst ≡ true → is_node n ≡ true → NodeHolds o began node → NodeHolds o began (node_with (begun_core core seg n pull) now sent received receipts)
   core_begun {began} leaves runs is_one h =
       subst (NodeHolds o began) (sym begun_node_is)
       (keeps_begun o node h segment.dst work (linked began.stage leaves runs) is_one (record { from = ap (λ (keys : Extent). keys.lo) keys_are; upto = ap (λ (keys : Extent). keys.hi) keys_are })

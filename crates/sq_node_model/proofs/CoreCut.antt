@@ -16,9 +16,10 @@ use Rattle.sq_exec.specs.Moving.{CutsFor}
 use Rattle.sq_exec.proofs.Works.{next_within}
 use Rattle.sq_status.specs.declared.view.View.{View}
 use Rattle.sq_node_model.specs.BeganWith.{BeganWith}
-use Rattle.sq_node_model.specs.NodeValue.{ReceiptValue, node_of}
+use Rattle.sq_node_model.specs.NodeValue.{ReceiptValue}
 use Rattle.sq_node_model.specs.Steps.{node_cut}
 use Rattle.sq_node_model.specs.NodeHolds.{NodeHolds}
+use Rattle.sq_node_model.proofs.Made.{node_with}
 use Rattle.sq_node_model.proofs.Puts.{put_set}
 use Rattle.sq_node_model.proofs.Outs.{IsNoteOf}
 use Rattle.sq_node_model.proofs.NodeCut.{keeps_cut}
@@ -71,10 +72,10 @@ module _ (old new : CoreValue) (views : ℕ → View) (sent received : ℕ → L
   below = out_below old dst (λ fresh. let none = ap (λ (end : OutLinkValue). length end.work) fresh in let there = within in omega (arith, there, none))
 
   -- what the cut does to the node
-  pub cut_is : node_of new views sent received receipts ≡ node_cut (node_of old views sent received receipts) dst c.out c.store
+  pub cut_is : node_with new views sent received receipts ≡ node_cut (node_with old views sent received receipts) dst c.out c.store
   cut_is =
-      ap (λ core. node_of core views sent received receipts) c.after
-      ∙ (λ i. record (node_of old views sent received receipts) { store = c.store; outs = λ d. put_set old.outs dst c.out new_out_link below d i })
+      ap (λ core. node_with core views sent received receipts) c.after
+      ∙ (λ i. record (node_with old views sent received receipts) { store = c.store; outs = λ d. put_set old.outs dst c.out new_out_link below d i })
 
   next_note : IsNoteOf old.part dst (length ends.notes) work made
   next_note = record {
@@ -89,7 +90,7 @@ module _ (old new : CoreValue) (views : ℕ → View) (sent received : ℕ → L
     is_last = refl;
   }
 
-  pub core_cut : {began : BeganWith} (o : OpeningValue) → IsOpening o → NodeHolds o began (node_of old views sent received receipts) → NodeHolds o began (node_of new views sent received receipts)
+  pub core_cut : {began : BeganWith} (o : OpeningValue) → IsOpening o → NodeHolds o began (node_with old views sent received receipts) → NodeHolds o began (node_with new views sent received receipts)
   core_cut {began} o is h =
-      subst (NodeHolds o began) (sym (cut_is ∙ (λ i. node_cut (node_of old views sent received receipts) dst (out_is i) (store_is i))))
-      (keeps_cut o is (node_of old views sent received receipts) h dst place work chunk (slice_get-get_or ends.work place no_work within) (none_there ends.outbox c.cut.empty) next_note refl)
+      subst (NodeHolds o began) (sym (cut_is ∙ (λ i. node_cut (node_with old views sent received receipts) dst (out_is i) (store_is i))))
+      (keeps_cut o is (node_with old views sent received receipts) h dst place work chunk (slice_get-get_or ends.work place no_work within) (none_there ends.outbox c.cut.empty) next_note refl)

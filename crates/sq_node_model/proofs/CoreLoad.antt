@@ -25,13 +25,14 @@ use Rattle.sq_model.proofs.Lists.{any_in, found_in, list_any-Contains}
 use Rattle.sq_model.proofs.Apart.{covers_bounds}
 use Rattle.sq_status.specs.declared.view.View.{View}
 use Rattle.sq_node_model.specs.BeganWith.{BeganWith}
-use Rattle.sq_node_model.specs.NodeValue.{ReceiptValue, node_of}
+use Rattle.sq_node_model.specs.NodeValue.{ReceiptValue}
 use Rattle.sq_node_model.specs.Steps.{node_loaded}
 use Rattle.sq_node_model.specs.Chunks.{HasLoaded, IsCovered}
 use Rattle.sq_node_model.specs.InHolds.{HasArrived}
 use Rattle.sq_node_model.specs.FamiliesHold.{IsCarried, IsOf}
 use Rattle.sq_node_model.specs.NodeHolds.{NodeHolds}
 use Rattle.sq_node_model.specs.Cores.{IsCoreOf, IsLoadable}
+use Rattle.sq_node_model.proofs.Made.{node_with}
 use Rattle.sq_node_model.proofs.Puts.{put_set}
 use Rattle.sq_node_model.proofs.Keys.{arrived_within, one_segment}
 use Rattle.sq_node_model.proofs.Facts.{loaded_within}
@@ -106,9 +107,9 @@ module _ (o : OpeningValue) (i : ℕ) (old new : CoreValue) (views : ℕ → Vie
       let high' = ltb-true root run.hi parts.1 in
       lt-ltb (max run.lo chunk.note.lo) (min run.hi chunk.note.hi) (omega arith)
 
-  fresh : {began : BeganWith} → runs_in o began.stage src old.part ≡ true → IsOpening o → NodeHolds o began (node_of old views sent received receipts) → (root : ℕ) → covers chunk.note root ≡ true → IsCovered (HasLoaded (node_of old views sent received receipts)) root → ⊥
+  fresh : {began : BeganWith} → runs_in o began.stage src old.part ≡ true → IsOpening o → NodeHolds o began (node_with old views sent received receipts) → (root : ℕ) → covers chunk.note root ≡ true → IsCovered (HasLoaded (node_with old views sent received receipts)) root → ⊥
   fresh {began} runs is h root covered before =
-      let node = node_of old views sent received receipts in
+      let node = node_with old views sent received receipts in
       let same = one_segment o is root before.0.note.seg before.0.note.node chunk.note.seg chunk.note.node (loaded_within o is node h before.0 root before.1 before.2) (arrived_within o began.stage src old.part chunk.note root (arrived began.stage runs) covered) in
       let run = any_in (λ (run : Run). has_key run root) (loaded_at old chunk.note.seg) (h.loaded.all_keys chunk.note.seg root (before.0, before.1, same, before.2)) in
       true≢false (sym (list_any-Contains (meets chunk.note) (loaded_at old chunk.note.seg) run.0 run.1 (run_meets run.0 root covered run.2)) ∙ fit.unmet)
@@ -132,15 +133,15 @@ module _ (o : OpeningValue) (i : ℕ) (old new : CoreValue) (views : ℕ → Vie
   seg_below = let exists = slice_get_within o.recon.segments chunk.note.seg fit.segment there in let count = known.loaded in omega (arith, exists, count)
 
   -- what the load does to the node
-  pub loaded_is : node_of new views sent received receipts ≡ node_loaded (node_of old views sent received receipts) src chunk
+  pub loaded_is : node_with new views sent received receipts ≡ node_loaded (node_with old views sent received receipts) src chunk
   loaded_is =
-      ap (λ core. node_of core views sent received receipts) l.after
-      ∙ (λ i. record (node_loaded (node_of old views sent received receipts) src chunk) {
+      ap (λ core. node_with core views sent received receipts) l.after
+      ∙ (λ i. record (node_loaded (node_with old views sent received receipts) src chunk) {
         loaded = λ seg. put_set old.loaded chunk.note.seg (runs_with (loaded_at old chunk.note.seg) chunk.note) [] seg_below seg i;
         inboxes = λ k. put_set old.inboxes src None None below k i;
       })
 
-  pub core_loaded : {began : BeganWith} → runs_in o began.stage src old.part ≡ true → IsOpening o → NodeHolds o began (node_of old views sent received receipts) → NodeHolds o began (node_of new views sent received receipts)
+  pub core_loaded : {began : BeganWith} → runs_in o began.stage src old.part ≡ true → IsOpening o → NodeHolds o began (node_with old views sent received receipts) → NodeHolds o began (node_with new views sent received receipts)
   core_loaded {began} runs is h =
       subst (NodeHolds o began) (sym loaded_is)
-      (keeps_loaded o is (node_of old views sent received receipts) h src chunk l.came (arrived began.stage runs) loadable.sound.rising own (fresh runs is h))
+      (keeps_loaded o is (node_with old views sent received receipts) h src chunk l.came (arrived began.stage runs) loadable.sound.rising own (fresh runs is h))

@@ -16,11 +16,12 @@ use Rattle.sq_model.specs.Staged.{owner_in}
 use Rattle.sq_status.specs.declared.view.View.{View}
 use Rattle.sq_status.specs.View.{one_if}
 use Rattle.sq_node_model.specs.BeganWith.{BeganWith, given_family, CanBegin}
-use Rattle.sq_node_model.specs.NodeValue.{NodeValue, node_of}
+use Rattle.sq_node_model.specs.NodeValue.{NodeValue}
 use Rattle.sq_node_model.specs.Chunks.{HasCut, HasLoaded}
 use Rattle.sq_node_model.specs.FamiliesHold.{IsStored, IsKept, GrowsFrom}
 use Rattle.sq_node_model.specs.NodeHolds.{NodeHolds}
 use Rattle.sq_node_model.specs.Cores.{staged_core, OpensWith, IsUnused}
+use Rattle.sq_node_model.proofs.Made.{node_with}
 use Rattle.sq_node_model.proofs.Named.{none_between}
 use Rattle.sq_node_model.proofs.FamiliesAnswered.{grows_itself}
 
@@ -126,7 +127,7 @@ module _ (o : OpeningValue) (began : BeganWith) (can : CanBegin o began) (part :
     };
   }
 
-  pub core_new : (views : ℕ → View) (sent received : ℕ → List ChunkValue) → IsUnused views sent received → NodeHolds o began (node_of (staged_core o began.stage part store) views sent received [])
+  pub core_new : (views : ℕ → View) (sent received : ℕ → List ChunkValue) → IsUnused views sent received → NodeHolds o began (node_with (staged_core o began.stage part store) views sent received [])
   core_new views sent received unused =
       subst (NodeHolds o began)
       (λ i. record new {

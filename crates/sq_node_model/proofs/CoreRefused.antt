@@ -20,11 +20,12 @@ use Rattle.sq_model.proofs.Notes.{SegmentGoes}
 use Rattle.sq_node_model.proofs.Staged.{on_link_goes}
 use Rattle.sq_status.specs.declared.view.View.{View}
 use Rattle.sq_node_model.specs.BeganWith.{BeganWith}
-use Rattle.sq_node_model.specs.NodeValue.{ReceiptValue, NodeValue, node_of}
+use Rattle.sq_node_model.specs.NodeValue.{ReceiptValue, NodeValue}
 use Rattle.sq_node_model.specs.Chunks.{HasLoaded, IsCovered}
 use Rattle.sq_node_model.specs.InHolds.{HasArrived}
 use Rattle.sq_node_model.specs.NodeHolds.{NodeHolds}
 use Rattle.sq_node_model.specs.Cores.{IsCoreOf}
+use Rattle.sq_node_model.proofs.Made.{node_with}
 use Rattle.sq_node_model.proofs.Keys.{arrived_within, not_owned}
 use Rattle.sq_node_model.proofs.Carried.{carried_covered}
 
@@ -40,9 +41,9 @@ some_stands store (family ∷ families) e = by (λ later. some_stands store fami
         (later.0, Contains-later family families later.0 later.1, later.2)
 
 module _ {began : BeganWith} (o : OpeningValue) (is : IsOpening o) (core : CoreValue) (views : ℕ → View) (sent received : ℕ → List ChunkValue) (receipts : List ReceiptValue) (known : IsCoreOf o began.stage core)
-    (h : NodeHolds o began (node_of core views sent received receipts)) (src : ℕ) (chunk : ChunkValue) (sound : IsChunk chunk) (arrived : HasArrived o began.stage src core.part chunk.note) where
+    (h : NodeHolds o began (node_with core views sent received receipts)) (src : ℕ) (chunk : ChunkValue) (sound : IsChunk chunk) (arrived : HasArrived o began.stage src core.part chunk.note) where
   abbrev node : NodeValue
-  node = node_of core views sent received receipts
+  node = node_with core views sent received receipts
 
   -- one of the keys that the chunk covers was loaded
   abbrev WasLoaded : Type 0

@@ -27,12 +27,13 @@ use Rattle.sq_model.specs.Staged.{owner_in}
 use Rattle.sq_node_model.proofs.Staged.{on_link_goes, link_runs, unmoved_source, moved_source, staying_source}
 use Rattle.sq_status.specs.declared.view.View.{View}
 use Rattle.sq_node_model.specs.BeganWith.{BeganWith}
-use Rattle.sq_node_model.specs.NodeValue.{ReceiptValue, NodeValue, node_of}
+use Rattle.sq_node_model.specs.NodeValue.{ReceiptValue, NodeValue}
 use Rattle.sq_node_model.specs.Steps.{node_served, receipts_after}
 use Rattle.sq_node_model.specs.Chunks.{HasCut, HasLoaded, IsCovered}
 use Rattle.sq_node_model.specs.FamiliesHold.{IsHome}
 use Rattle.sq_node_model.specs.NodeHolds.{NodeHolds}
 use Rattle.sq_node_model.specs.Cores.{IsCoreOf}
+use Rattle.sq_node_model.proofs.Made.{node_with}
 use Rattle.sq_node_model.proofs.Facts.{own_note, own_within}
 use Rattle.sq_node_model.proofs.NodeSent.{keeps_answered}
 
@@ -40,9 +41,9 @@ use Rattle.sq_node_model.proofs.NodeSent.{keeps_answered}
 abbrev served_if : CoreValue → ℕ → Bool → TxnValue → Outcome × StoreValue
 served_if core who b txn = if b then (Done (store_reply core.store txn), store_after core.store txn (store_reply core.store txn)) else (Moved who, core.store)
 
-module _ {began : BeganWith} (o : OpeningValue) (is : IsOpening o) (core : CoreValue) (views : ℕ → View) (sent received : ℕ → List ChunkValue) (receipts : List ReceiptValue) (known : IsCoreOf o began.stage core) (h : NodeHolds o began (node_of core views sent received receipts)) where
+module _ {began : BeganWith} (o : OpeningValue) (is : IsOpening o) (core : CoreValue) (views : ℕ → View) (sent received : ℕ → List ChunkValue) (receipts : List ReceiptValue) (known : IsCoreOf o began.stage core) (h : NodeHolds o began (node_with core views sent received receipts)) where
   abbrev node : NodeValue
-  node = node_of core views sent received receipts
+  node = node_with core views sent received receipts
 
   -- the root key is at home or was loaded
   abbrev IsHere : ℕ → Type 0
@@ -173,47 +174,47 @@ module _ {began : BeganWith} (o : OpeningValue) (is : IsOpening o) (core : CoreV
 
 -- what a transaction that needn't wait does to the node
 served_is : (core : CoreValue) (views : ℕ → View) (sent received : ℕ → List ChunkValue) (receipts : List ReceiptValue) (txn : TxnValue) (who : ℕ) (b : Bool)
-    → node_of (record core { store = (served_if core who b txn).1 }) views sent received (receipts_after core.store txn (served_if core who b txn).0 receipts)
-    ≡ node_served (node_of core views sent received receipts) txn (served_if core who b txn).0
+    → node_with (record core { store = (served_if core who b txn).1 }) views sent received (receipts_after core.store txn (served_if core who b txn).0 receipts)
+    ≡ node_served (node_with core views sent received receipts) txn (served_if core who b txn).0
 served_is core views sent received receipts txn who true = refl
 served_is core views sent received receipts txn who false = refl
 
 module _ (views : ℕ → View) (sent received : ℕ → List ChunkValue) (receipts : List ReceiptValue) where
   -- what one that was submitted and not refused does
   pub submitted_is : (old new : CoreValue) (waits : Bool) (txn : TxnValue) (outcome : Outcome) → IsTaken waits old txn outcome new
-      → node_of new views sent received (receipts_after old.store txn outcome receipts) ≡ node_served (node_of old views sent received receipts) txn outcome
+      → node_with new views sent received (receipts_after old.store txn outcome receipts) ≡ node_served (node_with old views sent received receipts) txn outcome
   submitted_is old new true txn outcome taken =
-      (λ i. node_of (taken.last i) views sent received (receipts_after old.store txn (taken.told i) receipts))
-      ∙ ap (node_served (node_of old views sent received receipts) txn) (sym taken.told)
+      (λ i. node_with (taken.last i) views sent received (receipts_after old.store txn (taken.told i) receipts))
+      ∙ ap (node_served (node_with old views sent received receipts) txn) (sym taken.told)
   submitted_is old new false txn outcome taken =
-      (λ i. node_of (taken.after i) views sent received (receipts_after old.store txn (taken.told i) receipts))
+      (λ i. node_with (taken.after i) views sent received (receipts_after old.store txn (taken.told i) receipts))
       ∙ served_is old views sent received receipts txn (route old txn.root) (route old txn.root == old.part)
-      ∙ ap (node_served (node_of old views sent received receipts) txn) (sym taken.told)
+      ∙ ap (node_served (node_with old views sent received receipts) txn) (sym taken.told)
 
   -- and one that waited and was resumed
   pub resumed_is : (old new : CoreValue) (resumed : Resumed) → IsResumed old resumed new
-      → node_of new views sent received (receipts_after old.store resumed.txn resumed.outcome receipts) ≡ node_served (node_of old views sent received receipts) resumed.txn resumed.outcome
+      → node_with new views sent received (receipts_after old.store resumed.txn resumed.outcome receipts) ≡ node_served (node_with old views sent received receipts) resumed.txn resumed.outcome
   resumed_is old new resumed taken =
-      (λ i. node_of (taken.after i) views sent received (receipts_after old.store resumed.txn (taken.told i) receipts))
+      (λ i. node_with (taken.after i) views sent received (receipts_after old.store resumed.txn (taken.told i) receipts))
       ∙ served_is old views sent received receipts resumed.txn (route old resumed.txn.root) (route old resumed.txn.root == old.part)
-      ∙ ap (node_served (node_of old views sent received receipts) resumed.txn) (sym taken.told)
+      ∙ ap (node_served (node_with old views sent received receipts) resumed.txn) (sym taken.told)
 
   module _ (o : OpeningValue) (is : IsOpening o) where
-    taken_holds : {began : BeganWith} (old new : CoreValue) (waits : Bool) (txn : TxnValue) (outcome : Outcome) → IsCoreOf o began.stage old → IsTaken waits old txn outcome new → NodeHolds o began (node_of old views sent received receipts)
-        → NodeHolds o began (node_served (node_of old views sent received receipts) txn outcome)
-    taken_holds {began} old new true txn outcome known taken h = subst (λ (became : Outcome). NodeHolds o began (node_served (node_of old views sent received receipts) txn became)) (sym taken.told) h
+    taken_holds : {began : BeganWith} (old new : CoreValue) (waits : Bool) (txn : TxnValue) (outcome : Outcome) → IsCoreOf o began.stage old → IsTaken waits old txn outcome new → NodeHolds o began (node_with old views sent received receipts)
+        → NodeHolds o began (node_served (node_with old views sent received receipts) txn outcome)
+    taken_holds {began} old new true txn outcome known taken h = subst (λ (became : Outcome). NodeHolds o began (node_served (node_with old views sent received receipts) txn became)) (sym taken.told) h
     taken_holds {began} old new false txn outcome known taken h =
-        subst (λ (became : Outcome). NodeHolds o began (node_served (node_of old views sent received receipts) txn became)) (sym taken.told)
+        subst (λ (became : Outcome). NodeHolds o began (node_served (node_with old views sent received receipts) txn became)) (sym taken.told)
         (served_holds o is old views sent received receipts known h txn)
 
-    pub core_submitted : {began : BeganWith} (old new : CoreValue) (waits : Bool) (txn : TxnValue) (outcome : Outcome) → IsCoreOf o began.stage old → IsTaken waits old txn outcome new → NodeHolds o began (node_of old views sent received receipts)
-        → NodeHolds o began (node_of new views sent received (receipts_after old.store txn outcome receipts))
+    pub core_submitted : {began : BeganWith} (old new : CoreValue) (waits : Bool) (txn : TxnValue) (outcome : Outcome) → IsCoreOf o began.stage old → IsTaken waits old txn outcome new → NodeHolds o began (node_with old views sent received receipts)
+        → NodeHolds o began (node_with new views sent received (receipts_after old.store txn outcome receipts))
     core_submitted {began} old new waits txn outcome known taken h =
         subst (NodeHolds o began) (sym (submitted_is old new waits txn outcome taken)) (taken_holds old new waits txn outcome known taken h)
 
-    pub core_resumed : {began : BeganWith} (old new : CoreValue) (resumed : Resumed) → IsCoreOf o began.stage old → IsResumed old resumed new → NodeHolds o began (node_of old views sent received receipts)
-        → NodeHolds o began (node_of new views sent received (receipts_after old.store resumed.txn resumed.outcome receipts))
+    pub core_resumed : {began : BeganWith} (old new : CoreValue) (resumed : Resumed) → IsCoreOf o began.stage old → IsResumed old resumed new → NodeHolds o began (node_with old views sent received receipts)
+        → NodeHolds o began (node_with new views sent received (receipts_after old.store resumed.txn resumed.outcome receipts))
     core_resumed {began} old new resumed known taken h =
         subst (NodeHolds o began) (sym (resumed_is old new resumed taken))
-        (subst (λ (became : Outcome). NodeHolds o began (node_served (node_of old views sent received receipts) resumed.txn became)) (sym taken.told)
+        (subst (λ (became : Outcome). NodeHolds o began (node_served (node_with old views sent received receipts) resumed.txn became)) (sym taken.told)
         (served_holds o is old views sent received receipts known h resumed.txn))

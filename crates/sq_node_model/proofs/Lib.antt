@@ -1,3 +1,4 @@
+pub mod Made
 pub mod Puts
 pub mod Members
 pub mod Works

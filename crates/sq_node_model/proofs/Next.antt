@@ -29,7 +29,6 @@ use Rattle.sq_model.proofs.Lists.{any_in, list_any-Contains, flat_map_in, slice_
 use Rattle.sq_model.proofs.Keys.{IsIn, found_in_segment, under, above_within, unfound_stays}
 use Rattle.sq_model.proofs.Tiles.{tile, last_reached, covers_of, covered_is}
 use Rattle.sq_model.proofs.Apart.{covers_extent}
-use Rattle.sq_node_model.specs.NodeValue.{node_of}
 use Rattle.sq_model.specs.Staged.{owner_in}
 use Rattle.sq_node_model.specs.Stages.{runs_in, is_on_link_in, cut_place}
 use Rattle.sq_node_model.specs.BeganWith.{CanBegin}
@@ -41,6 +40,7 @@ use Rattle.sq_node_model.specs.Gathered.{GatheredLink, GatheredValue}
 use Rattle.sq_node_model.specs.Spots.{word_in, cut_notes, loaded_notes, loaded_count, loads_of, place_in, family_at_spot, StandsAt}
 use Rattle.sq_node_model.specs.Placed.{IsPlaced}
 use Rattle.sq_node_model.specs.Next.{IsStageDone, next_began}
+use Rattle.sq_node_model.proofs.Made.{node_with}
 use Rattle.sq_node_model.proofs.Members.{Contains-reverse, Contains-unreversed}
 use Rattle.sq_node_model.proofs.Keys.{moved_from}
 use Rattle.sq_node_model.proofs.Staged.{on_link_goes, link_runs, moved_source, staying_source}
@@ -212,7 +212,7 @@ module _ (o : OpeningValue) (is : IsOpening o) (g : GatheredValue) (p : IsPlaced
 
     -- the nodes that the next stage opens with hold
     pub holds_next : (q : ℕ) (store : StoreValue) (views : ℕ → View) (sent received : ℕ → List ChunkValue) → slice_get g.stores q ≡ Some store → IsUnused views sent received
-        → NodeHolds o (next_began o g) (node_of (staged_core o (g.stage + 1) q store) views sent received [])
+        → NodeHolds o (next_began o g) (node_with (staged_core o (g.stage + 1) q store) views sent received [])
     holds_next q store views sent received there unused =
         let within = slice_get_within g.stores q store there in
         let count = p.fit.parts.all_stores in

@@ -11,6 +11,7 @@ pub mod LoadedHolds
 pub mod FamiliesHold
 pub mod NodeHolds
 pub mod Cores
+pub mod AtWork
 pub mod Gathered
 pub mod Spots
 pub mod Placed

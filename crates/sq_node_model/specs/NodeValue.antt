@@ -29,21 +29,30 @@ pub record NodeValue : Type 0 where
   pub received : ℕ → List ChunkValue
   pub inboxes : ℕ → Option ChunkValue
 
--- a partition by itself, with the views of its seats by segment, what its ends of links sent and received by the other partition, and its receipts
-abbrev pub node_of : CoreValue → (ℕ → View) → (ℕ → List ChunkValue) → (ℕ → List ChunkValue) → List ReceiptValue → NodeValue
-node_of core views sent received receipts =
+-- a node at work: its partition by itself, the views of its seats by segment, what its ends of links sent and received by
+-- the other partition, and its receipts
+pub record NodeAtWork : Type 0 where
+  pub core : CoreValue
+  pub views : ℕ → View
+  pub sent : ℕ → List ChunkValue
+  pub received : ℕ → List ChunkValue
+  pub receipts : List ReceiptValue
+
+-- the node by keys: what its partition, its seats and its ends are of it
+abbrev pub node_of : NodeAtWork → NodeValue
+node_of node =
     record {
-      part = core.part;
-      store = core.store;
-      receipts = receipts;
-      begun = λ seg. (views seg).begun;
-      completed = λ seg. (views seg).completed;
-      given_up = given_up_at core;
-      loaded = loaded_at core;
-      outs = out_at core;
-      sent = sent;
-      received = received;
-      inboxes = inbox_at core;
+      part = node.core.part;
+      store = node.core.store;
+      receipts = node.receipts;
+      begun = λ seg. (node.views seg).begun;
+      completed = λ seg. (node.views seg).completed;
+      given_up = given_up_at node.core;
+      loaded = loaded_at node.core;
+      outs = out_at node.core;
+      sent = node.sent;
+      received = node.received;
+      inboxes = inbox_at node.core;
     }
 
 -- a function with another value at this key

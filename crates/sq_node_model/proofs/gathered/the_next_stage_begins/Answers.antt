@@ -1,8 +1,14 @@
+use Rattle.std.proofs.Common.{◌+◌}
+use Rattle.sq_node_model.specs.Cores.{staged_core}
+use Rattle.sq_node_model.specs.Next.{next_began}
+use Rattle.sq_node_model.proofs.Made.{fresh_holds}
 use Rattle.sq_node_model.proofs.Next.{can_next, holds_next}
 use Rattle.sq_node_model.proofs.gathered.the_next_stage_begins.Goals as goal
 
 pub returns : goal.returns
 returns c = record {
   can = λ o g is placed done. can_next o is g placed done;
-  holds = λ o g q store views sent received is placed done there unused. holds_next o is g placed done q store views sent received there unused;
+  holds = λ o g q store node is placed done there new.
+      fresh_holds o (next_began o g) (staged_core o (g.stage + 1) q store) node new
+      (holds_next o is g placed done q store node.views node.sent node.received there new.unused);
 }

@@ -1,10 +1,14 @@
+use Rattle.std.proofs.Common.{refl}
+use Rattle.sq_node_model.specs.NodeValue.{put}
 use Rattle.sq_node_model.proofs.CoreBegun.{begun_node_is, core_begun}
 use Rattle.sq_node_model.proofs.laws.a_begin_keeps_a_node.Goals as goal
 
 pub returns : goal.returns
 returns c = record {
-  step = λ o i core views now sent received receipts seg n pull w segment is known there won puts.
-      begun_node_is o i is core views now sent received receipts seg n pull w segment known there won puts;
-  keeps = λ o began core views now sent received receipts seg n pull w segment is known there leaves runs is_one won puts h.
-      core_begun o began.stage is core views now sent received receipts seg n pull w segment known there won puts leaves runs is_one h;
+  step = λ o i node word segment is known there won.
+      begun_node_is o i is node.core node.views (put word.seg word.view node.views) node.sent node.received node.receipts
+      word.seg word.node word.pull word.view segment known there won (λ k. refl);
+  keeps = λ o began node word segment is known moves is_one won h.
+      core_begun o began.stage is node.core node.views (put word.seg word.view node.views) node.sent node.received node.receipts
+      word.seg word.node word.pull word.view segment known moves.there won (λ k. refl) moves.source moves.runs is_one h;
 }

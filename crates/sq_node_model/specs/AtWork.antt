@@ -1,0 +1,95 @@
+-- What each step does to a node at work, and what it takes.
+use Rattle.std.specs.Prelude.{◌≡◌, ℕ, true, [], ◌∷◌, ◌++◌, slice_get, Some, None}
+use Rattle.sq_schema.specs.TxnValue.{TxnValue}
+use Rattle.sq_tree.specs.declared.status.Status.{Status}
+use Rattle.sq_chunk.specs.ChunkValue.{ChunkValue}
+use Rattle.sq_ranges.specs.declared.recon.Range.{Range}
+use Rattle.sq_ranges.specs.OpeningValue.{OpeningValue}
+use Rattle.sq_exec.specs.declared.outcome.Outcome.{Outcome}
+use Rattle.sq_exec.specs.CoreValue.{CoreValue, out_at, with_out, with_inbox}
+use Rattle.sq_exec.specs.Work.{WorkValue}
+use Rattle.sq_exec.specs.Moving.{whole_node, begun_core}
+use Rattle.sq_status.specs.declared.view.View.{View}
+use Rattle.sq_status.specs.Plays.{Won}
+use Rattle.sq_node_model.specs.NodeValue.{NodeAtWork, node_of, put}
+use Rattle.sq_node_model.specs.Steps.{receipts_after}
+use Rattle.sq_node_model.specs.Stages.{runs_in}
+use Rattle.sq_node_model.specs.BeganWith.{BeganWith}
+use Rattle.sq_node_model.specs.NodeHolds.{NodeHolds}
+use Rattle.sq_node_model.specs.Cores.{IsUnused}
+
+-- all that a node keeps holds of this one
+abbrev pub AllHolds : OpeningValue → BeganWith → NodeAtWork → Type 0
+AllHolds o began node = NodeHolds o began (node_of node)
+
+-- the node has this partition, and its thread did nothing yet
+pub record IsFreshWith (core : CoreValue) (node : NodeAtWork) : Type 0 where
+  pub partition : node.core ≡ core
+  pub unused : IsUnused node.views node.sent node.received
+  pub receipts : node.receipts ≡ []
+
+-- the node with the partition in this state
+abbrev pub with_partition : NodeAtWork → CoreValue → NodeAtWork
+with_partition node core = record node { core = core }
+
+-- the node with these views of the seats
+abbrev pub with_views : NodeAtWork → (ℕ → View) → NodeAtWork
+with_views node views = record node { views = views }
+
+-- the seats, by segment, began and completed no more than before
+pub record DidNoMore (before now : ℕ → View) : Type 0 where
+  pub begun : (seg : ℕ) → (now seg).begun ≡ (before seg).begun
+  pub completed : (seg : ℕ) → (now seg).completed ≡ (before seg).completed
+
+-- a word that a seat won: the segment of its tree, the tree node, the pull, and the view of the seat since
+pub record WonWord : Type 0 where
+  pub seg : ℕ
+  pub node : ℕ
+  pub pull : ℕ
+  pub view : View
+
+-- the seat of the node won the word, which gave the tree node this status
+abbrev pub WinsAs : (ℕ → Status) → NodeAtWork → WonWord → Type 0
+WinsAs status node word = Won (node.views word.seg) word.node (status word.pull) word.view
+
+-- the work that the tree node of the word is once it is begun, where it is one of this segment
+abbrev pub work_won : NodeAtWork → WonWord → Range → WorkValue
+work_won node word segment = whole_node node.core segment word.seg word.node word.pull
+
+-- the segment of this number moves out of the partition in this stage
+pub record MovesOut (o : OpeningValue) (i part seg : ℕ) (segment : Range) : Type 0 where
+  pub there : slice_get o.recon.segments seg ≡ Some segment
+  pub source : segment.src ≡ part
+  pub runs : runs_in o i segment.src segment.dst ≡ true
+
+-- the node once it began the tree node of the word, whose keys its partition gave up
+abbrev pub once_begun : NodeAtWork → WonWord → NodeAtWork
+once_begun node word = record node {
+  core = begun_core node.core word.seg word.node word.pull;
+  views = put word.seg word.view node.views;
+}
+
+-- the node once the chunk of an outbox went onto its link
+abbrev pub once_sent : NodeAtWork → ℕ → ChunkValue → NodeAtWork
+once_sent node dst chunk = record node {
+  core = with_out node.core dst (record (out_at node.core dst) { outbox = None });
+  sent = put dst (node.sent dst ++ chunk ∷ []) node.sent;
+}
+
+-- the node once a chunk came off a link into the inbox
+abbrev pub once_received : NodeAtWork → ℕ → ChunkValue → NodeAtWork
+once_received node src chunk = record node {
+  core = with_inbox node.core src (Some chunk);
+  received = put src (node.received src ++ chunk ∷ []) node.received;
+}
+
+-- the node once it completed the tree node of the word
+abbrev pub once_completed : NodeAtWork → WonWord → NodeAtWork
+once_completed node word = with_views node (put word.seg word.view node.views)
+
+-- the node once this became of a transaction, which left the partition in this state: it has a receipt where it ran
+abbrev pub once_served : NodeAtWork → CoreValue → TxnValue → Outcome → NodeAtWork
+once_served node core txn outcome = record node {
+  core = core;
+  receipts = receipts_after node.core.store txn outcome node.receipts;
+}
