@@ -118,7 +118,7 @@ all_owned_open o owned part store there =
 
 -- a node is new that is made of a partition as the stage begins, of new seats and of ends that nothing was sent and received by
 pub new_node : (o : OpeningValue) (fabric : FabricValue) (part : ℕ) (store : StoreValue) (core : CoreValue) (seats : List SeatValue) (sends : List (Option SendEnd)) (recvs : List (Option RecvEnd)) (node : NodeState)
-    → IsFabricOf o fabric → part < o.old.parts → core ≡ staged_core o fabric.stage part store → AreNewSeats fabric.trees seats → AreNewSends fabric part sends → AreNewRecvs fabric part recvs
+    → IsFabricOf o fabric → part < o.old.parts → core ≡ staged_core o fabric.stage part store → AreNewSeats fabric.trees seats → AreNewSends fabric.links fabric.parts part sends → AreNewRecvs fabric.links fabric.parts part recvs
     → node ≡ record { core = record core { started = true }; seats = seats; sends = sends; recvs = recvs; receipts = []; claims = 0 } → IsNewNode fabric (started_core o fabric.stage part store) node
 new_node o fabric part store core seats sends recvs node shared below opened new out into is =
     subst (IsNewNode fabric (started_core o fabric.stage part store)) (sym (is ∙ ap (λ (c : CoreValue). record { core = record c { started = true }; seats = seats; sends = sends; recvs = recvs; receipts = []; claims = 0 }) opened))

@@ -1,5 +1,5 @@
 -- What the nodes of a run share.
-use Rattle.std.specs.Prelude.{◌≡◌, ◌↔◌, ℕ, ◌≤◌, true, ◌==◌, ◌&&◌, List, length, map, slice_get, Some, Contains}
+use Rattle.std.specs.Prelude.{◌≡◌, ◌↔◌, ℕ, ◌≤◌, Bool, true, ◌==◌, ◌&&◌, List, length, map, slice_get, Some, Contains}
 use Rattle.std.specs.List.Sorted.{IsStrictlySortedBy}
 use Rattle.atomic_table.specs.Seated.{TableId}
 use Rattle.sq_ranges.specs.declared.recon.Link.{Link}
@@ -11,7 +11,8 @@ use Rattle.sq_pull.specs.Seats.{AreSeatsOf}
 use Rattle.sq_node_model.specs.NodeValue.{ReceiptValue}
 use Rattle.sq_node_model.specs.BeganWith.{BeganWith}
 
--- what moves, which stage runs, how many partitions there are, for each segment its tree and the seat that the tree was opened with, the links, and the receipts of earlier stages
+-- what moves, which stage runs, how many partitions there are, for each segment its tree and the seat that the tree was
+-- opened with, the links, and the receipts of earlier stages
 pub record FabricValue : Type 0 where
   pub recon : ReconValue
   pub stage : ℕ
@@ -33,10 +34,15 @@ ends_of link = record { src = link.src; dst = link.dst }
 abbrev pub AreFirst : List SeatValue → Type 0
 AreFirst seats = (seg : ℕ) (seat : SeatValue) → slice_get seats seg ≡ Some seat → seat.view.first ≡ true
 
+-- keys go along the link in this stage
+abbrev pub runs_along : ReconValue → ℕ → Link → Bool
+runs_along recon stage link =
+    is_link recon.ranges link.src link.dst && (stage_on recon link.src link.dst == stage)
+
 -- the links along which keys go in this stage, strictly rising
 pub record AreStageLinks (recon : ReconValue) (stage : ℕ) (links : List Link) : Type 0 where
   pub rising : IsStrictlySortedBy link_cmp links
-  pub all : (link : Link) → Contains links link ↔ ((is_link recon.ranges link.src link.dst && (stage_on recon link.src link.dst == stage)) ≡ true)
+  pub all : (link : Link) → Contains links link ↔ (runs_along recon stage link ≡ true)
 
 -- there are no more segments than there may be, each has a tree, and each link of the stage is there
 pub record IsFabric (fabric : FabricValue) : Type 0 where

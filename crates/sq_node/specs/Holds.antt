@@ -1,9 +1,10 @@
 -- What holds of a node, whatever the other threads do.
+use Rattle.std.specs.Prelude.{ℕ}
 use Rattle.sq_ranges.specs.OpeningValue.{OpeningValue}
 use Rattle.sq_ranges.specs.Opening.{IsOpening}
 use Rattle.sq_node_model.specs.BeganWith.{BeganWith}
 use Rattle.sq_node_model.specs.NodeHolds.{NodeHolds}
-use Rattle.sq_node_model.specs.Cores.{IsCoreOf}
+use Rattle.sq_node_model.specs.Cores.{IsCoreOf, HasNoneToLoad}
 use Rattle.sq_node.specs.NodeState.{NodeState, node_value}
 
 -- the partition is of the opening and of the stage, and what a node keeps holds of the node
@@ -14,3 +15,10 @@ pub record HoldsUnder (o : OpeningValue) (began : BeganWith) (node : NodeState) 
 -- what a node keeps holds still, under each opening, and each beginning of a stage, under which it did
 abbrev pub KeepsAll : NodeState → NodeState → Type 0
 KeepsAll old new = (o : OpeningValue) (began : BeganWith) → IsOpening o → HoldsUnder o began old → HoldsUnder o began new
+
+-- under each opening, and each beginning of a stage, under which all holds of the node: each chunk that came and isn't loaded
+-- doesn't belong here, or covers a root key that was loaded
+abbrev pub HasNoneLoadable : NodeState → Type 0
+HasNoneLoadable node =
+    (o : OpeningValue) (began : BeganWith) → IsOpening o → HoldsUnder o began node
+    → (src : ℕ) → HasNoneToLoad o began.stage (node_value node) src

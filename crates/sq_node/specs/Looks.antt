@@ -17,7 +17,8 @@ pub record OnlyLooked (v w : View) : Type 0 where
 -- the seats looked at nodes, and did nothing else
 pub record SeatsLooked (old new : List SeatValue) : Type 0 where
   pub count : length new ≡ length old
-  pub each : (seg : ℕ) (before after : SeatValue) → slice_get old seg ≡ Some before → slice_get new seg ≡ Some after → (after.tree ≡ before.tree) × OnlyLooked before.view after.view
+  pub each : (seg : ℕ) (before after : SeatValue) → slice_get old seg ≡ Some before → slice_get new seg ≡ Some after
+      → (after.tree ≡ before.tree) × OnlyLooked before.view after.view
 
 -- the seat found the node with a status that isn't partial since it had the first view
 pub record FoundElse (v w : View) (n : ℕ) : Type 0 where
@@ -44,7 +45,8 @@ abbrev pub LooksOnly : View → ℕ → View → Type 0
 LooksOnly v n w = OnlyLooked v w × (IsSettled w n ⊎ FoundElse v w n)
 
 -- one of the nodes, in this segment, was completed, after looks, and is left out
-pub record CompletesOne (old : List SeatValue) (nodes : List (ℕ × ℕ)) (seg : ℕ) (new : List SeatValue) (left : List (ℕ × ℕ)) : Type 0 where
+pub record CompletesOne (old : List SeatValue) (nodes : List (ℕ × ℕ)) (seg : ℕ) (new : List SeatValue)
+    (left : List (ℕ × ℕ)) : Type 0 where
   pub place : ℕ
   pub node : ℕ
   pub there : slice_get nodes place ≡ Some (seg, node)

@@ -15,7 +15,8 @@ use Rattle.sq_node_model.specs.NodeValue.{ReceiptValue, NodeAtWork, NodeValue, n
 use Rattle.sq_node.specs.FabricValue.{FabricValue}
 use Rattle.sq_node.specs.Ends.{send_end, recv_end, AreSendEnds, AreRecvEnds}
 
--- a partition, for each segment its seat at the segment's tree, for each partition its ends of the links to it and from it, its receipts, and how many claims it has won
+-- a partition, for each segment its seat at the segment's tree, for each partition its ends of the links to it and from it,
+-- its receipts, and how many claims it has won
 pub record NodeState : Type 0 where
   pub core : CoreValue
   pub seats : List SeatValue

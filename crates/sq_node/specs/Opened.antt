@@ -3,7 +3,7 @@ use Rattle.std.specs.Prelude.{◌≡◌, ◌≢◌, ℕ, ◌+◌, ◌<◌, true,
 use Rattle.std.specs.FinMap.{empty}
 use Rattle.std.specs.List.{range_with_len}
 use Rattle.atomic_table.specs.Seated.{TableId}
-use Rattle.sq_ranges.specs.ReconValue.{ReconValue}
+use Rattle.sq_ranges.specs.ReconValue.{ReconValue, stages}
 use Rattle.sq_ranges.specs.OpeningValue.{OpeningValue}
 use Rattle.sq_link.specs.Values.{LinkValue}
 use Rattle.sq_status.specs.declared.view.View.{View}
@@ -16,7 +16,7 @@ use Rattle.sq_pull.specs.Seats.{AreSeatsOf}
 use Rattle.sq_pull.specs.Wins.{no_wins}
 use Rattle.sq_pull.specs.Pump.{PumpValue, stage_round}
 use Rattle.sq_node_model.specs.NodeValue.{ReceiptValue}
-use Rattle.sq_node_model.specs.BeganWith.{BeganWith, first_began}
+use Rattle.sq_node_model.specs.BeganWith.{BeganWith, CanBegin, first_began}
 use Rattle.sq_node_model.specs.Cores.{staged_core, OpensWith}
 use Rattle.sq_node.specs.declared.ends.SendEnd.{SendEnd}
 use Rattle.sq_node.specs.declared.ends.RecvEnd.{RecvEnd}
@@ -57,12 +57,22 @@ new_recv_end links i = record { link = i; pass = record { queue = (link_at links
 -- each seat gave out one more
 pub record GaveEach (old new : List SeatValue) : Type 0 where
   pub count : length new ≡ length old
-  pub each : (seg : ℕ) (before : SeatValue) → slice_get old seg ≡ Some before → slice_get new seg ≡ Some (record { tree = before.tree; view = gave before.view })
+  pub each : (seg : ℕ) (before : SeatValue) → slice_get old seg ≡ Some before
+      → slice_get new seg ≡ Some (record { tree = before.tree; view = gave before.view })
+
+-- the first seats of a run's trees gave out this many more seats
+abbrev pub GivesOut : ℕ → FabricValue → FabricValue → Type 0
+GivesOut count old new =
+    (given : ℕ) → AreFirstSeats given old.trees old.seats → AreFirstSeats (given + count) new.trees new.seats
+
+-- each link holds this many chunks
+abbrev pub HaveCapacity : ℕ → List LinkValue → Type 0
+HaveCapacity capacity links = (i : ℕ) (link : LinkValue) → slice_get links i ≡ Some link → link.capacity ≡ capacity
 
 -- new links for a stage of a move, each of which holds this many chunks
 pub record AreNewLinks (recon : ReconValue) (stage capacity : ℕ) (links : List LinkValue) : Type 0 where
   pub ends : AreStageLinks recon stage (map ends_of links)
-  pub holds : (i : ℕ) (link : LinkValue) → slice_get links i ≡ Some link → link.capacity ≡ capacity
+  pub holds : HaveCapacity capacity links
 
 -- the ends of all links, each where its link stands
 pub record HasAllEnds (links : List LinkValue) (sends : List (Option SendEnd)) (recvs : List (Option RecvEnd)) : Type 0 where
@@ -72,9 +82,11 @@ pub record HasAllEnds (links : List LinkValue) (sends : List (Option SendEnd)) (
   pub each_recv : (i : ℕ) → i < length links → recv_end recvs i ≡ Some (new_recv_end links i)
 
 -- the ends of a partition's links stand here, each where its link stands
-pub record HasEnds {X : Type 0} (links : List LinkValue) (part_of : LinkValue → ℕ) (end_of : ℕ → X) (ends : List (Option X)) (part : ℕ) : Type 0 where
+pub record HasEnds {X : Type 0} (links : List LinkValue) (part_of : LinkValue → ℕ) (end_of : ℕ → X)
+    (ends : List (Option X)) (part : ℕ) : Type 0 where
   pub count : length ends ≡ length links
-  pub each : (i : ℕ) → i < length links → part_of (link_at links i) ≡ part → slice_index_or ends i None ≡ Some (end_of i)
+  pub each : (i : ℕ) → i < length links → part_of (link_at links i) ≡ part
+      → slice_index_or ends i None ≡ Some (end_of i)
 
 -- those that it is to send by, and those that it is to receive by
 abbrev pub HasSendEnds : List LinkValue → List (Option SendEnd) → ℕ → Type 0
@@ -84,7 +96,8 @@ abbrev pub HasRecvEnds : List LinkValue → List (Option RecvEnd) → ℕ → Ty
 HasRecvEnds links ends part = HasEnds links (λ link. link.dst) (new_recv_end links) ends part
 
 -- the ends of other partitions' links stay
-pub record LeavesEnds {X : Type 0} (links : List LinkValue) (part_of : LinkValue → ℕ) (old : List (Option X)) (part : ℕ) (new : List (Option X)) : Type 0 where
+pub record LeavesEnds {X : Type 0} (links : List LinkValue) (part_of : LinkValue → ℕ) (old : List (Option X)) (part : ℕ)
+    (new : List (Option X)) : Type 0 where
   pub count : length new ≡ length old
   pub each : (i : ℕ) → part_of (link_at links i) ≢ part → slice_index_or new i None ≡ slice_index_or old i None
 
@@ -103,12 +116,13 @@ HaveSentNothing sends = (dst : ℕ) (end : SendEnd) → send_end sends dst ≡ S
 abbrev pub HaveReceivedNothing : List (Option RecvEnd) → Type 0
 HaveReceivedNothing recvs = (src : ℕ) (end : RecvEnd) → recv_end recvs src ≡ Some end → end.pass.received ≡ []
 
--- a partition's ends that it sends by and that it receives by, of links along which nothing went
-abbrev pub AreNewSends : FabricValue → ℕ → List (Option SendEnd) → Type 0
-AreNewSends fabric part sends = AreSendEnds fabric.links part sends × HaveSentNothing sends × (length sends ≡ fabric.parts)
+-- a partition's ends that it sends by and that it receives by, one for each of so many partitions, of links along which
+-- nothing went
+abbrev pub AreNewSends : List LinkValue → ℕ → ℕ → List (Option SendEnd) → Type 0
+AreNewSends links parts part sends = AreSendEnds links part sends × HaveSentNothing sends × (length sends ≡ parts)
 
-abbrev pub AreNewRecvs : FabricValue → ℕ → List (Option RecvEnd) → Type 0
-AreNewRecvs fabric part recvs = AreRecvEnds fabric.links part recvs × HaveReceivedNothing recvs × (length recvs ≡ fabric.parts)
+abbrev pub AreNewRecvs : List LinkValue → ℕ → ℕ → List (Option RecvEnd) → Type 0
+AreNewRecvs links parts part recvs = AreRecvEnds links part recvs × HaveReceivedNothing recvs × (length recvs ≡ parts)
 
 -- a node with this partition, to which nothing has happened
 pub record IsNewNode (fabric : FabricValue) (started : CoreValue) (node : NodeState) : Type 0 where
@@ -124,12 +138,13 @@ pub record IsNewNode (fabric : FabricValue) (started : CoreValue) (node : NodeSt
 pub record IsFabricOf (o : OpeningValue) (fabric : FabricValue) : Type 0 where
   pub recon : fabric.recon ≡ o.recon
   pub parts : fabric.parts ≡ o.old.parts
-  pub capacity : (i : ℕ) (link : LinkValue) → slice_get fabric.links i ≡ Some link → link.capacity ≡ o.config.capacity
+  pub capacity : HaveCapacity o.config.capacity fabric.links
 
 -- for each of these families the node of their partition, to which nothing has happened
 pub record AreNewNodes (o : OpeningValue) (fabric : FabricValue) (stores : List StoreValue) (nodes : List NodeState) : Type 0 where
   pub all : length nodes ≡ length stores
-  pub each : (part : ℕ) (node : NodeState) → slice_get nodes part ≡ Some node → IsNewNode fabric (started_core o fabric.stage part (slice_index_or stores part empty)) node
+  pub each : (part : ℕ) (node : NodeState) → slice_get nodes part ≡ Some node
+      → IsNewNode fabric (started_core o fabric.stage part (slice_index_or stores part empty)) node
 
 -- of each node all holds that a node keeps
 abbrev pub AllHoldUnder : OpeningValue → BeganWith → List NodeState → Type 0
@@ -138,6 +153,16 @@ AllHoldUnder o began nodes = (part : ℕ) (node : NodeState) → slice_get nodes
 -- each partition opens with the families that were given to the root keys that it owns
 abbrev pub AllOpenWith : OpeningValue → BeganWith → List StoreValue → Type 0
 AllOpenWith o began stores = (part : ℕ) (store : StoreValue) → slice_get stores part ≡ Some store → OpensWith o began part store
+
+-- all holds of the nodes under each beginning of the stage that has the run's receipts and these families, if a stage can
+-- begin with it
+abbrev pub AllHoldAsBegun : OpeningValue → FabricValue → List StoreValue → List NodeState → Type 0
+AllHoldAsBegun o fabric stores nodes =
+    (began : BeganWith) → HasBegun began fabric → CanBegin o began → AllOpenWith o began stores → AllHoldUnder o began nodes
+
+-- the opening has this stage, and as many partitions as there are stores and lists of jobs that were left
+abbrev pub HasStageFor : OpeningValue → ℕ → ℕ → ℕ → Type 0
+HasStageFor o stage stores left = (stores ≡ o.old.parts) × (left ≡ o.old.parts) × (stage < stages o.recon)
 
 -- the pump of a number, to which nothing has happened: its round has the segments of the running stage
 pub record IsNewPump (fabric : FabricValue) (number : ℕ) (pump : PumpValue) : Type 0 where
@@ -151,8 +176,10 @@ pub record AreNewPumps (fabric : FabricValue) (count : ℕ) (pumps : List PumpVa
   pub all : length pumps ≡ count
   pub each : (number : ℕ) (pump : PumpValue) → slice_get pumps number ≡ Some pump → IsNewPump fabric number pump
 
--- a stage of a run begins with a node for each partition, which has these families, with these receipts of earlier stages and with this many pumps, and all seats are handed out
-pub record IsResumed (o : OpeningValue) (i : ℕ) (stores : List StoreValue) (told : List ReceiptValue) (count : ℕ) (fabric : FabricValue) (nodes : List NodeState) (pumps : List PumpValue) : Type 0 where
+-- a stage of a run begins with a node for each partition, which has these families, with these receipts of earlier stages and
+-- with this many pumps, and all seats are handed out
+pub record IsResumed (o : OpeningValue) (i : ℕ) (stores : List StoreValue) (told : List ReceiptValue) (count : ℕ)
+    (fabric : FabricValue) (nodes : List NodeState) (pumps : List PumpValue) : Type 0 where
   pub shared : IsFabricOf o fabric
   pub stage : fabric.stage ≡ i
   pub receipts : fabric.receipts ≡ told
@@ -160,7 +187,8 @@ pub record IsResumed (o : OpeningValue) (i : ℕ) (stores : List StoreValue) (to
   pub each_node : AreNewNodes o fabric stores nodes
   pub each_pump : AreNewPumps fabric count pumps
 
--- a run opens in its first stage with a node for each partition, of which all holds, and with this many pumps, and all seats are handed out
+-- a run opens in its first stage with a node for each partition, of which all holds, and with this many pumps, and all seats
+-- are handed out
 pub record IsOpened (o : OpeningValue) (count : ℕ) (fabric : FabricValue) (nodes : List NodeState) (pumps : List PumpValue) : Type 0 where
   pub shared : IsFabricOf o fabric
   pub begun : HasBegun (first_began o) fabric

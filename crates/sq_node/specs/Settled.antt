@@ -16,6 +16,10 @@ IsSettled v n = ((pull : ℕ) × Contains v.completed (n, pull)) ⊎ (HasSeen v 
 abbrev pub HasSettled : List SeatValue → ℕ → ℕ → Type 0
 HasSettled seats seg n = (seat : SeatValue) × (slice_get seats seg ≡ Some seat) × IsSettled seat.view n
 
+-- each tree node whose last chunk was loaded is settled
+abbrev pub AllSettled : CoreValue → List SeatValue → Type 0
+AllSettled core seats = (seg n : ℕ) → is_whole (loaded_at core seg) n ≡ true → HasSettled seats seg n
+
 -- the seat found a node above the leaf complete
 pub record SawLeafComplete (v : View) (leaf : ℕ) : Type 0 where
   pub node : ℕ
@@ -37,7 +41,8 @@ pub record SawSegmentComplete (seats : List SeatValue) (seg : ℕ) : Type 0 wher
 abbrev pub AreSeen : List SeatValue → List Bool → Type 0
 AreSeen seats complete = (seg : ℕ) → slice_get complete seg ≡ Some true → SawSegmentComplete seats seg
 
--- there is a flag for each segment, set only where it was found complete; and the nodes that are to be completed are of segments, have their last chunk loaded, and are all of that kind that aren't settled
+-- there is a flag for each segment, set only where it was found complete; and the nodes that are to be completed are of
+-- segments, have their last chunk loaded, and are all of that kind that aren't settled
 pub record IsNode (core : CoreValue) (seats : List SeatValue) (to_complete : List (ℕ × ℕ)) (complete : List Bool) : Type 0 where
   pub flags : length complete ≡ length core.recon.segments
   pub seen : AreSeen seats complete

@@ -1,6 +1,5 @@
 -- What each step of a node does to it.
 use Rattle.std.specs.Prelude.{◌≡◌, ℕ, Bool, ◌+◌, ◌<◌, ◌==◌, ◌&&◌, ◌⊎◌, true, false, List, length, slice_get, slice_set, Some, None, IsSome, is_some}
-use Rattle.crossbeam_queue.specs.Fifo.{Held}
 use Rattle.sq_schema.specs.TxnValue.{TxnValue}
 use Rattle.sq_tree.specs.declared.status.Status.TheVariants.{Partial}
 use Rattle.sq_tree.specs.Node.{is_node}
@@ -10,7 +9,6 @@ use Rattle.sq_status.specs.Plays.{Won}
 use Rattle.sq_status.specs.Seat.{SeatValue}
 use Rattle.sq_chunk.specs.declared.chunk.Note.{Note}
 use Rattle.sq_chunk.specs.ChunkValue.{ChunkValue, IsChunk}
-use Rattle.sq_link.specs.Order.{IsEndOf, ComesAfter}
 use Rattle.sq_exec.specs.CoreValue.{CoreValue, out_at, with_out, inbox_at, with_inbox, loaded_at}
 use Rattle.sq_exec.specs.OutLink.{may_cut}
 use Rattle.sq_exec.specs.Runs.{is_whole}
@@ -29,7 +27,7 @@ use Rattle.sq_node.specs.declared.ends.RecvEnd.{RecvEnd}
 use Rattle.sq_node.specs.declared.stepped.Stepped.{Stepped}
 use Rattle.sq_node.specs.declared.stepped.Stepped.TheVariants.{Did, Nothing, Memory}
 use Rattle.sq_node.specs.FabricValue.{FabricValue}
-use Rattle.sq_node.specs.Ends.{link_at, send_end, recv_end, sent_on, received_on}
+use Rattle.sq_node.specs.Ends.{send_end, recv_end, sent_on, received_on, WasFull, WasEmpty}
 use Rattle.sq_node.specs.Looks.{SeatsLooked, HasNoneToComplete, LooksAndCompletes}
 use Rattle.sq_node.specs.NodeState.{NodeState}
 use Rattle.sq_node_model.specs.Steps.{receipts_after}
@@ -56,14 +54,17 @@ pub record Sends (old : NodeState) (dst : ℕ) (new : NodeState) : Type 0 where
   pub end : SendEnd
   pub cut : (out_at old.core dst).outbox ≡ Some chunk
   pub there : send_end old.sends dst ≡ Some end
-  pub after : new ≡ record old { core = with_out old.core dst (record (out_at old.core dst) { outbox = None }); sends = slice_set old.sends dst (Some (sent_on end chunk)) }
+  pub after : new ≡ record old {
+    core = with_out old.core dst (record (out_at old.core dst) { outbox = None });
+    sends = slice_set old.sends dst (Some (sent_on end chunk));
+  }
 
 -- there is no chunk for this partition; or no link to it; or the link was full at one moment
 abbrev pub HasNoneToSend : FabricValue → NodeState → ℕ → Type 0
 HasNoneToSend fabric node dst =
     ((out_at node.core dst).outbox ≡ None)
     ⊎ ((send_end node.sends dst ≡ None)
-    ⊎ ((end : SendEnd) × (send_end node.sends dst ≡ Some end) × Held (link_at fabric.links end.link).capacity (IsEndOf end.pass.sent)))
+    ⊎ ((end : SendEnd) × (send_end node.sends dst ≡ Some end) × WasFull fabric.links end))
 
 -- for the first partition to which one can go
 abbrev pub SendStep : FabricValue → NodeState → Stepped → NodeState → Type 0
@@ -78,14 +79,17 @@ pub record Receives (old : NodeState) (src : ℕ) (new : NodeState) : Type 0 whe
   pub exists : src < length old.core.inboxes
   pub empty : inbox_at old.core src ≡ None
   pub there : recv_end old.recvs src ≡ Some end
-  pub after : new ≡ record old { core = with_inbox old.core src (Some chunk); recvs = slice_set old.recvs src (Some (received_on end chunk)) }
+  pub after : new ≡ record old {
+    core = with_inbox old.core src (Some chunk);
+    recvs = slice_set old.recvs src (Some (received_on end chunk));
+  }
 
 -- the chunk that came from this partition isn't loaded; or there is no link from it; or the link was empty at one moment
 abbrev pub HasNoneToReceive : NodeState → ℕ → Type 0
 HasNoneToReceive node src =
     (is_some (inbox_at node.core src) ≡ true)
     ⊎ ((recv_end node.recvs src ≡ None)
-    ⊎ ((end : RecvEnd) × (recv_end node.recvs src ≡ Some end) × Held 0 (ComesAfter end.pass.received)))
+    ⊎ ((end : RecvEnd) × (recv_end node.recvs src ≡ Some end) × WasEmpty end))
 
 -- from the first partition from which one can come
 abbrev pub RecvStep : NodeState → Stepped → NodeState → Type 0
@@ -152,7 +156,8 @@ pub record Completes (old new : NodeState) : Type 0 where
 
 abbrev pub CompleteStep : NodeState → Stepped → NodeState → Type 0
 CompleteStep old Did new = Completes old new
-CompleteStep old Nothing new = Looks old new × ((seg n : ℕ) → is_whole (loaded_at old.core seg) n ≡ true → HasNoneToComplete old.seats new.seats seg n)
+CompleteStep old Nothing new =
+    Looks old new × ((seg n : ℕ) → is_whole (loaded_at old.core seg) n ≡ true → HasNoneToComplete old.seats new.seats seg n)
 CompleteStep old Memory new = ⊥
 
 -- how many claims a node has won after it claimed a leaf: one more where it won this one
@@ -188,7 +193,12 @@ pub record Submits (old new : NodeState) : Type 0 where
   pub accepted : submit_refusal old.core txn ≡ None
   pub taken : IsTaken (must_wait old.core txn.root) old.core txn outcome new.core
   pub claims : ClaimsFor outcome old new
-  pub after : new ≡ record old { core = new.core; seats = new.seats; claims = new.claims; receipts = receipts_after old.core.store txn outcome old.receipts }
+  pub after : new ≡ record old {
+    core = new.core;
+    seats = new.seats;
+    claims = new.claims;
+    receipts = receipts_after old.core.store txn outcome old.receipts;
+  }
 
 abbrev pub JobStep : NodeState → Stepped → NodeState → Type 0
 JobStep old Did new = Submits old new
@@ -199,7 +209,10 @@ JobStep old Memory new = new ≡ old
 pub record Resumes (old new : NodeState) : Type 0 where
   pub resumed : Resumed
   pub taken : IsResumed old.core resumed new.core
-  pub after : new ≡ record old { core = new.core; receipts = receipts_after old.core.store resumed.txn resumed.outcome old.receipts }
+  pub after : new ≡ record old {
+    core = new.core;
+    receipts = receipts_after old.core.store resumed.txn resumed.outcome old.receipts;
+  }
 
 abbrev pub ResumeStep : NodeState → Stepped → NodeState → Type 0
 ResumeStep old Did new = Resumes old new

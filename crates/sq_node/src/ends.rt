@@ -1,10 +1,8 @@
 // The ends that a node has of links.
 ghost use Rattle.std.specs.Prelude.{◌≡◌, ◌<◌, length, Some, None, OnOk, OnErr, IfErr, IfSome, IfNone};
-ghost use Rattle.crossbeam_queue.specs.Fifo.{Held};
-ghost use Rattle.sq_link.specs.Order.{IsEndOf, ComesAfter};
 ghost use Rattle.sq_node.specs.declared.ends.SendEnd.{SendEnd};
 ghost use Rattle.sq_node.specs.declared.ends.RecvEnd.{RecvEnd};
-ghost use Rattle.sq_node.specs.Ends.{link_at, sent_on, received_on, IsSendEnd, IsRecvEnd};
+ghost use Rattle.sq_node.specs.Ends.{sent_on, received_on, IsSendEnd, IsRecvEnd, WasFull, WasEmpty};
 
 use sq_chunk::Chunk;
 use sq_link::{Link, RecvPass, SendPass};
@@ -94,7 +92,7 @@ impl Sender {
         requires { (end : SendEnd) → self.old ≡ Some end → IsSendEnd links.now end }
         ensures sent { OnOk result ((end : SendEnd) × (self.old ≡ Some end) × (self.new ≡ Some (sent_on end chunk))) }
         ensures refused { IfErr result (λ back. (back ≡ chunk) × (self.new ≡ self.old)) }
-        ensures full { OnErr result ((end : SendEnd) → self.old ≡ Some end → Held (link_at links.now end.link).capacity (IsEndOf end.pass.sent)) }
+        ensures full { OnErr result ((end : SendEnd) → self.old ≡ Some end → WasFull links.now end) }
     {
         let Some(SendEnd { link, mut pass }) = self.end.take() else {
             return Err(chunk);
@@ -133,9 +131,10 @@ impl Receiver {
     /// The next chunk. There is none where there is no link, and where the link was empty at one moment of the call.
     pub(crate) fn recv<R: Wait>(&mut self, rt: &R, links: &[Link]) -> Option<Chunk>
         requires { (end : RecvEnd) → self.old ≡ Some end → IsRecvEnd links.now end }
-        ensures received { IfSome result (λ chunk. (end : RecvEnd) × (self.old ≡ Some end) × (self.new ≡ Some (received_on end chunk))) }
+        ensures received { IfSome result (λ chunk.
+            (end : RecvEnd) × (self.old ≡ Some end) × (self.new ≡ Some (received_on end chunk))) }
         ensures none { IfNone result (self.new ≡ self.old) }
-        ensures empty { IfNone result ((end : RecvEnd) → self.old ≡ Some end → Held 0 (ComesAfter end.pass.received)) }
+        ensures empty { IfNone result ((end : RecvEnd) → self.old ≡ Some end → WasEmpty end) }
     {
         let RecvEnd { link, mut pass } = self.end.take()?;
         let received = links[link].recv(rt, &mut pass);

@@ -49,9 +49,25 @@ impl Model for Fabric {
 
     ghost Value = { FabricValue };
 
-    ghost view = { λ f. record { recon = f.recon; stage = f.stage; parts = f.parts; trees = f.trees.items; seats = f.seats.items; links = f.links.items; receipts = f.receipts.items } };
+    ghost view = { λ f. record {
+      recon = f.recon;
+      stage = f.stage;
+      parts = f.parts;
+      trees = f.trees.items;
+      seats = f.seats.items;
+      links = f.links.items;
+      receipts = f.receipts.items;
+    } };
 
-    ghost invariant = { λ f. IsFabric (record { recon = f.recon; stage = f.stage; parts = f.parts; trees = f.trees.items; seats = f.seats.items; links = f.links.items; receipts = f.receipts.items }) };
+    ghost invariant = { λ f. IsFabric (record {
+      recon = f.recon;
+      stage = f.stage;
+      parts = f.parts;
+      trees = f.trees.items;
+      seats = f.seats.items;
+      links = f.links.items;
+      receipts = f.receipts.items;
+    }) };
 }
 
 /// What a run shared, once its threads are joined.

@@ -61,7 +61,8 @@ impl Model for Node {
       claims = n.puller.puller.wins.count;
     } };
 
-    ghost invariant = { λ n. (n.puller.puller.part ≡ n.core.core.part) × IsNode n.core.core n.seats.items n.to_complete.items n.complete.items };
+    ghost invariant = { λ n. (n.puller.puller.part ≡ n.core.core.part)
+        × IsNode n.core.core n.seats.items n.to_complete.items n.complete.items };
 }
 
 /// What a node has in a run besides its partition.

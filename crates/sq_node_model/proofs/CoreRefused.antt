@@ -21,10 +21,9 @@ use Rattle.sq_node_model.proofs.Staged.{on_link_goes}
 use Rattle.sq_status.specs.declared.view.View.{View}
 use Rattle.sq_node_model.specs.BeganWith.{BeganWith}
 use Rattle.sq_node_model.specs.NodeValue.{ReceiptValue, NodeValue}
-use Rattle.sq_node_model.specs.Chunks.{HasLoaded, IsCovered}
 use Rattle.sq_node_model.specs.InHolds.{HasArrived}
 use Rattle.sq_node_model.specs.NodeHolds.{NodeHolds}
-use Rattle.sq_node_model.specs.Cores.{IsCoreOf}
+use Rattle.sq_node_model.specs.Cores.{IsCoreOf, OverlapsLoaded}
 use Rattle.sq_node_model.proofs.Made.{node_with}
 use Rattle.sq_node_model.proofs.Keys.{arrived_within, not_owned}
 use Rattle.sq_node_model.proofs.Carried.{carried_covered}
@@ -45,12 +44,8 @@ module _ {began : BeganWith} (o : OpeningValue) (is : IsOpening o) (core : CoreV
   abbrev node : NodeValue
   node = node_with core views sent received receipts
 
-  -- one of the keys that the chunk covers was loaded
-  abbrev WasLoaded : Type 0
-  WasLoaded = (root : ℕ) × (covers chunk.note root ≡ true) × IsCovered (HasLoaded node) root
-
   -- a run that it meets has such a key
-  met : is_met (loaded_at core chunk.note.seg) chunk.note ≡ true → WasLoaded
+  met : is_met (loaded_at core chunk.note.seg) chunk.note ≡ true → OverlapsLoaded node chunk
   met e =
       let found = any_in (meets chunk.note) (loaded_at core chunk.note.seg) e in
       let run = found.0 in
@@ -69,13 +64,13 @@ module _ {began : BeganWith} (o : OpeningValue) (is : IsOpening o) (core : CoreV
       by None e = absurd (true≢false (sym (eq-eqb family.root family.root refl) ∙ not_found (λ (other : FamilyValue). other.root == family.root) chunk.families e family has))
 
   -- a family that stands at a key that comes here was loaded
-  stood : has_none_of core.store chunk.families ≡ false → WasLoaded
+  stood : has_none_of core.store chunk.families ≡ false → OverlapsLoaded node chunk
   stood e =
       let found = some_stands core.store chunk.families e in
       let family = found.0 in
       by family (family_covered family found.1) (get core.store family.root) refl found.2
     where
-      by : (family : FamilyValue) → covers chunk.note family.root ≡ true → (stands : Option FamilyValue) → get core.store family.root ≡ stands → is_none (get core.store family.root) ≡ false → WasLoaded
+      by : (family : FamilyValue) → covers chunk.note family.root ≡ true → (stands : Option FamilyValue) → get core.store family.root ≡ stands → is_none (get core.store family.root) ≡ false → OverlapsLoaded node chunk
       by family covered None stands some = absurd (true≢false (sym (ap is_none stands) ∙ some))
       by family covered (Some here) stands some =
           ⊎_elim
@@ -98,13 +93,13 @@ module _ {began : BeganWith} (o : OpeningValue) (is : IsOpening o) (core : CoreV
       ap (lies_in chunk.note) keys_are
       ∙ and_from (nat_le keys.lo chunk.note.lo) (nat_le chunk.note.hi keys.hi) (le-leb keys.lo chunk.note.lo arrived.from) (le-leb chunk.note.hi keys.hi arrived.upto)
 
-  pub came_loaded : inbox_at core src ≡ Some chunk → may_load core src ≡ false → WasLoaded
+  pub came_loaded : inbox_at core src ≡ Some chunk → may_load core src ≡ false → OverlapsLoaded node chunk
   came_loaded came cannot = by (is_met (loaded_at core chunk.note.seg) chunk.note) refl (has_none_of core.store chunk.families) refl
     where
       refused : can_load_in core src chunk (Some goes.segment) ≡ false
       refused = ap (can_load_in core src chunk) (sym there) ∙ ap (λ (inbox : Option ChunkValue). option_map_or (can_load core src) inbox false) (sym came) ∙ cannot
 
-      by : (m : Bool) → is_met (loaded_at core chunk.note.seg) chunk.note ≡ m → (a : Bool) → has_none_of core.store chunk.families ≡ a → WasLoaded
+      by : (m : Bool) → is_met (loaded_at core chunk.note.seg) chunk.note ≡ m → (a : Bool) → has_none_of core.store chunk.families ≡ a → OverlapsLoaded node chunk
       by true e a e' = met e
       by false e false e' = stood e'
       by false e true e' =

@@ -1,4 +1,5 @@
--- What a stage of a move begins with: the families that the partitions were given, with logs that may not be empty, and the receipts that were written before.
+-- What a stage of a move begins with: the families that the partitions were given, with logs that may not be empty, and
+-- the receipts that were written before.
 use Rattle.std.specs.Prelude.{◌≡◌, ℕ, Bool, true, ◌++◌, ◌==◌, not, nat_lt, if◌then◌else◌, List, [], length, All, Contains, Option, Some, None, is_some, unwrap_or}
 use Rattle.sq_schema.specs.TxnValue.{TxnValue}
 use Rattle.sq_schema.specs.Family.{FamilyValue}
@@ -49,10 +50,14 @@ pub record GrowsFrom (first family : FamilyValue) : Type 0 where
   pub base : family.base ≡ first.base
   pub log : BeginsWith first.log family.log
 
--- what a stage may begin with: each family is its root key's and starts from the opening rows; each opening root was given one; and the committed receipts so far name each position of the logs that were given once, and nothing else, and tell what was done there
+-- what a stage may begin with: each family is its root key's and starts from the opening rows; each opening root was given
+-- one; and the committed receipts so far name each position of the logs that were given once, and nothing else, and tell
+-- what was done there
 pub record CanBegin (o : OpeningValue) (began : BeganWith) : Type 0 where
   pub keyed : (root : ℕ) (family : FamilyValue) → began.families root ≡ Some family → IsOf root family
   pub base : (root : ℕ) (family : FamilyValue) → began.families root ≡ Some family → family.base ≡ opening_rows o root
   pub opening : (root : ℕ) → is_opened o root ≡ true → is_given began root ≡ true
-  pub named : (root : ℕ) (family : FamilyValue) → began.families root ≡ Some family → (position : ℕ) → times_named root position began.receipts ≡ one_if (nat_lt position (length family.log))
-  pub told : (receipt : ReceiptValue) → Contains began.receipts receipt → is_commit receipt.reply ≡ true → (family : FamilyValue) × (began.families receipt.root ≡ Some family) × IsToldBy family receipt
+  pub named : (root : ℕ) (family : FamilyValue) → began.families root ≡ Some family → (position : ℕ)
+      → times_named root position began.receipts ≡ one_if (nat_lt position (length family.log))
+  pub told : (receipt : ReceiptValue) → Contains began.receipts receipt → is_commit receipt.reply ≡ true
+      → (family : FamilyValue) × (began.families receipt.root ≡ Some family) × IsToldBy family receipt

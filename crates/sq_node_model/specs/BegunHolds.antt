@@ -24,9 +24,11 @@ pub record IsBegunOver (o : OpeningValue) (status : ℕ → Status) (seg root n 
   pub within : is_within (extent_of o seg n) root ≡ true
   pub begun : is_begun (status n) ≡ true
 
--- the begun nodes are nodes of segments of the stage that leave the partition, no two of one segment have a key in common, and just their leaves are given up
+-- the begun nodes are nodes of segments of the stage that leave the partition, no two of one segment have a key in common,
+-- and just their leaves are given up
 pub record BegunHolds (o : OpeningValue) (i part : ℕ) (begun : ℕ → List (ℕ × ℕ)) (given_up : ℕ → List Bool) : Type 0 where
   pub outward : (seg n : ℕ) → IsNamed (begun seg) n → (dst : ℕ) × (is_on_link_in o i part dst seg ≡ true)
   pub nodes : (seg n : ℕ) → IsNamed (begun seg) n → is_node n ≡ true
-  pub apart : (root seg n m : ℕ) → IsNamed (begun seg) n → IsNamed (begun seg) m → is_within (extent_of o seg n) root ≡ true → is_within (extent_of o seg m) root ≡ true → n ≡ m
+  pub apart : (root seg n m : ℕ) → IsNamed (begun seg) n → IsNamed (begun seg) m
+      → is_within (extent_of o seg n) root ≡ true → is_within (extent_of o seg m) root ≡ true → n ≡ m
   pub leaves : (seg leaf : ℕ) → leaf < LEAVES → is_given_up (given_up seg) leaf ≡ is_leaf_under (begun seg) leaf

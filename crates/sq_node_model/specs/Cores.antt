@@ -17,7 +17,8 @@ use Rattle.sq_node_model.specs.BeganWith.{BeganWith}
 abbrev pub staged_core : OpeningValue → ℕ → ℕ → StoreValue → CoreValue
 staged_core o i part store = record (opened_core o part store) { stage = i }
 
--- the partition knows the plan and the moves of the opening, and which stage runs, and has a place for each partition and for each segment
+-- the partition knows the plan and the moves of the opening, and which stage runs, and has a place for each partition and
+-- for each segment
 pub record IsCoreOf (o : OpeningValue) (i : ℕ) (core : CoreValue) : Type 0 where
   pub plan : core.plan ≡ o.old
   pub recon : core.recon ≡ o.recon
@@ -28,17 +29,23 @@ pub record IsCoreOf (o : OpeningValue) (i : ℕ) (core : CoreValue) : Type 0 whe
 
 -- the store has the families that were given to the root keys that the partition owns, and no others
 abbrev pub OpensWith : OpeningValue → BeganWith → ℕ → StoreValue → Type 0
-OpensWith o began part store = (root : ℕ) → get store root ≡ (if owner_in o began.stage root == part then began.families root else None)
+OpensWith o began part store =
+    (root : ℕ) → get store root ≡ (if owner_in o began.stage root == part then began.families root else None)
 
 -- the chunk that came from a partition can be loaded
 pub record IsLoadable (core : CoreValue) (src : ℕ) (chunk : ChunkValue) : Type 0 where
   pub can : can_load core src chunk ≡ true
   pub sound : IsChunk chunk
 
--- a chunk that came from the partition and isn't loaded doesn't belong here in this stage, or covers a root key that was loaded
+-- the chunk covers a root key that a loaded chunk covers
+abbrev pub OverlapsLoaded : NodeValue → ChunkValue → Type 0
+OverlapsLoaded node chunk = (root : ℕ) × (covers chunk.note root ≡ true) × IsCovered (HasLoaded node) root
+
+-- a chunk that came from the partition and isn't loaded doesn't belong here in this stage, or covers a root key that was
+-- loaded
 abbrev pub HasNoneToLoad : OpeningValue → ℕ → NodeValue → ℕ → Type 0
 HasNoneToLoad o i node src =
-    (chunk : ChunkValue) → node.inboxes src ≡ Some chunk → HasArrived o i src node.part chunk.note → (root : ℕ) × (covers chunk.note root ≡ true) × IsCovered (HasLoaded node) root
+    (chunk : ChunkValue) → node.inboxes src ≡ Some chunk → HasArrived o i src node.part chunk.note → OverlapsLoaded node chunk
 
 -- the seats, by segment, began and completed nothing, and nothing was sent and received
 pub record IsUnused (views : ℕ → View) (sent received : ℕ → List ChunkValue) : Type 0 where

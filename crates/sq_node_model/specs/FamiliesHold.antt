@@ -1,4 +1,5 @@
--- What holds of the families of a partition: which root keys have one, what each starts from, and which receipts were written for its log.
+-- What holds of the families of a partition: which root keys have one, what each starts from, and which receipts were
+-- written for its log.
 use Rattle.std.specs.Prelude.{◌≡◌, ◌⊎◌, ℕ, true, false, ◌&&◌, nat_lt, nat_le, List, length, Contains, Some, unwrap_or}
 use Rattle.std.specs.FinMap.{get}
 use Rattle.sq_schema.specs.Family.{FamilyValue}
@@ -33,23 +34,42 @@ IsKept cut store root family = IsStored store root family ⊎ ((chunk : ChunkVal
 abbrev pub brought : ChunkValue → ℕ → FamilyValue
 brought chunk root = unwrap_or (family_in chunk.families root) (absent root)
 
--- a root key with a family is at home or was loaded; each root key at home that was given a family has one, and each root of a loaded chunk
-pub record StoreHolds (o : OpeningValue) (began : BeganWith) (part : ℕ) (cut loaded : ChunkValue → Type 0) (store : StoreValue) : Type 0 where
-  pub stored : (root : ℕ) (family : FamilyValue) → IsStored store root family → IsHome o began.stage part cut root ⊎ IsCovered loaded root
-  pub home : (root : ℕ) → IsHome o began.stage part cut root → is_given began root ≡ true → (family : FamilyValue) × IsStored store root family
-  pub came : (root : ℕ) (chunk : ChunkValue) (family : FamilyValue) → loaded chunk → IsCarried chunk root family → (now : FamilyValue) × IsStored store root now
+-- a root key with a family is at home or was loaded; each root key at home that was given a family has one, and each root of
+-- a loaded chunk
+pub record StoreHolds (o : OpeningValue) (began : BeganWith) (part : ℕ) (cut loaded : ChunkValue → Type 0)
+    (store : StoreValue) : Type 0 where
+  pub stored : (root : ℕ) (family : FamilyValue) → IsStored store root family
+      → IsHome o began.stage part cut root ⊎ IsCovered loaded root
+  pub home : (root : ℕ) → IsHome o began.stage part cut root → is_given began root ≡ true
+      → (family : FamilyValue) × IsStored store root family
+  pub came : (root : ℕ) (chunk : ChunkValue) (family : FamilyValue) → loaded chunk → IsCarried chunk root family
+      → (now : FamilyValue) × IsStored store root now
 
--- each family that is kept is its root key's; one that is at home, or was, goes on from what the root key was given; and one that was loaded goes on from what was brought
-pub record FamiliesHold (o : OpeningValue) (began : BeganWith) (part : ℕ) (cut loaded : ChunkValue → Type 0) (store : StoreValue) : Type 0 where
+-- each family that is kept is its root key's; one that is at home, or was, goes on from what the root key was given; and one
+-- that was loaded goes on from what was brought
+pub record FamiliesHold (o : OpeningValue) (began : BeganWith) (part : ℕ) (cut loaded : ChunkValue → Type 0)
+    (store : StoreValue) : Type 0 where
   pub keyed : (root : ℕ) (family : FamilyValue) → IsKept cut store root family → IsOf root family
-  pub home_grown : (root : ℕ) (family : FamilyValue) → IsHome o began.stage part cut root → IsStored store root family → GrowsFrom (given_family began root) family
-  pub cut_grown : (root : ℕ) (chunk : ChunkValue) (family : FamilyValue) → cut chunk → IsCarried chunk root family → GrowsFrom (given_family began root) family
-  pub grown : (root : ℕ) (chunk : ChunkValue) (family : FamilyValue) → loaded chunk → covers chunk.note root ≡ true → IsStored store root family → GrowsFrom (brought chunk root) family
+  pub home_grown : (root : ℕ) (family : FamilyValue) → IsHome o began.stage part cut root → IsStored store root family
+      → GrowsFrom (given_family began root) family
+  pub cut_grown : (root : ℕ) (chunk : ChunkValue) (family : FamilyValue) → cut chunk → IsCarried chunk root family
+      → GrowsFrom (given_family began root) family
+  pub grown : (root : ℕ) (chunk : ChunkValue) (family : FamilyValue) → loaded chunk → covers chunk.note root ≡ true
+      → IsStored store root family → GrowsFrom (brought chunk root) family
 
--- the committed receipts name each position of a log that was written here once, and nothing else: what came after the given part where the partition owned the root key, and what came after the brought part where it was loaded
-pub record ReceiptsHold (o : OpeningValue) (began : BeganWith) (part : ℕ) (cut loaded : ChunkValue → Type 0) (store : StoreValue) (receipts : List ReceiptValue) : Type 0 where
-  pub named_home : (root : ℕ) (family : FamilyValue) → IsKept cut store root family → owner_in o began.stage root ≡ part → (position : ℕ)
-      → times_named root position receipts ≡ one_if (nat_le (length (given_family began root).log) position && nat_lt position (length family.log))
-  pub named_came : (root : ℕ) (chunk : ChunkValue) (family : FamilyValue) → loaded chunk → covers chunk.note root ≡ true → IsStored store root family → (position : ℕ)
-      → times_named root position receipts ≡ one_if (nat_le (length (brought chunk root).log) position && nat_lt position (length family.log))
-  pub told : (receipt : ReceiptValue) → Contains receipts receipt → is_commit receipt.reply ≡ true → (family : FamilyValue) × IsKept cut store receipt.root family × IsToldBy family receipt
+-- the committed receipts of the root key name each position of the family's log past the first one's log once, and no other
+abbrev pub NameGrowth : ℕ → List ReceiptValue → FamilyValue → FamilyValue → Type 0
+NameGrowth root receipts first family =
+    (position : ℕ)
+    → times_named root position receipts ≡ one_if (nat_le (length first.log) position && nat_lt position (length family.log))
+
+-- the committed receipts name each position of a log that was written here once, and nothing else: what came after the given
+-- part where the partition owned the root key, and what came after the brought part where it was loaded
+pub record ReceiptsHold (o : OpeningValue) (began : BeganWith) (part : ℕ) (cut loaded : ChunkValue → Type 0)
+    (store : StoreValue) (receipts : List ReceiptValue) : Type 0 where
+  pub named_home : (root : ℕ) (family : FamilyValue) → IsKept cut store root family → owner_in o began.stage root ≡ part
+      → NameGrowth root receipts (given_family began root) family
+  pub named_came : (root : ℕ) (chunk : ChunkValue) (family : FamilyValue) → loaded chunk → covers chunk.note root ≡ true
+      → IsStored store root family → NameGrowth root receipts (brought chunk root) family
+  pub told : (receipt : ReceiptValue) → Contains receipts receipt → is_commit receipt.reply ≡ true
+      → (family : FamilyValue) × IsKept cut store receipt.root family × IsToldBy family receipt

@@ -26,7 +26,11 @@ folded_gathered g stores = record { stage = g.stage; stores = stores; links = g.
 
 -- the table has the rows of the families that stand, and no others; and the stores have the families folded
 pub record IsFolded (o : OpeningValue) (g : GatheredValue) (table : TableValue) (stores : List StoreValue) : Type 0 where
-  pub rows : (spot : Spot) (root : ℕ) (family : FamilyValue) → StandsAt g spot root family → opening_rows (folded_opening o table) root ≡ rows_of family
-  pub opened : (root : ℕ) → is_opened (folded_opening o table) root ≡ true → (spot : Spot) × (family : FamilyValue) × StandsAt g spot root family
+  pub rows : (spot : Spot) (root : ℕ) (family : FamilyValue) → StandsAt g spot root family
+      → opening_rows (folded_opening o table) root ≡ rows_of family
+  pub opened : (root : ℕ) → is_opened (folded_opening o table) root ≡ true
+      → (spot : Spot) × (family : FamilyValue) × StandsAt g spot root family
   pub count : length stores ≡ length g.stores
-  pub families : (part root : ℕ) → option_and_then (λ store. get store root) (slice_get stores part) ≡ option_and_then folded_family (family_at_spot g (Store part) root)
+  pub families : (part root : ℕ)
+      → option_and_then (λ store. get store root) (slice_get stores part)
+      ≡ option_and_then folded_family (family_at_spot g (Store part) root)

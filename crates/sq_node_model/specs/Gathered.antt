@@ -14,14 +14,16 @@ use Rattle.sq_node_model.specs.NodeValue.{ReceiptValue, NodeValue}
 use Rattle.sq_node_model.specs.BeganWith.{BeganWith}
 use Rattle.sq_node_model.specs.NodeHolds.{NodeHolds}
 
--- a link that is closed: the notes of all chunks that were cut for it, and the chunks that were cut and not loaded, both the oldest first
+-- a link that is closed: the notes of all chunks that were cut for it, and the chunks that were cut and not loaded, both the
+-- oldest first
 pub record GatheredLink : Type 0 where
   pub src : ℕ
   pub dst : ℕ
   pub notes : List Note
   pub under_way : List ChunkValue
 
--- which stage ran, the families by partition, the links, the statuses of the tree nodes by segment, all receipts, and by partition the jobs that weren't answered
+-- which stage ran, the families by partition, the links, the statuses of the tree nodes by segment, all receipts, and by
+-- partition the jobs that weren't answered
 pub record GatheredValue : Type 0 where
   pub stage : ℕ
   pub stores : List StoreValue
@@ -33,9 +35,11 @@ pub record GatheredValue : Type 0 where
 -- there is one link from a partition to another where a range moves in the stage, and no other
 pub record HasEachLink (o : OpeningValue) (i : ℕ) (links : List GatheredLink) : Type 0 where
   pub ends : (src dst : ℕ) → is_some (position (λ link. (link.src == src) && (link.dst == dst)) links) ≡ is_link_in o i src dst
-  pub one_each : (j k : ℕ) (one other : GatheredLink) → slice_get links j ≡ Some one → slice_get links k ≡ Some other → one.src ≡ other.src → one.dst ≡ other.dst → j ≡ k
+  pub one_each : (j k : ℕ) (one other : GatheredLink) → slice_get links j ≡ Some one → slice_get links k ≡ Some other
+      → one.src ≡ other.src → one.dst ≡ other.dst → j ≡ k
 
--- the link is that of the nodes at its ends: what the source sent is what the destination received and what the queue held, and under way is what is in the inbox, the queue and the outbox
+-- the link is that of the nodes at its ends: what the source sent is what the destination received and what the queue held,
+-- and under way is what is in the inbox, the queue and the outbox
 pub record IsClosedLink (nodes : List NodeValue) (link : GatheredLink) : Type 0 where
   pub from : NodeValue
   pub from_there : slice_get nodes link.src ≡ Some from
@@ -53,7 +57,8 @@ pub record IsClosedTree (nodes : List NodeValue) (words : List (List Status)) (s
   pub begun : view.begun ≡ flat_map (λ node. node.begun seg) nodes
   pub completed : view.completed ≡ flat_map (λ node. node.completed seg) nodes
 
--- this is gathered of these nodes, which are all, in the order of their partitions; the receipts are those so far and then theirs
+-- this is gathered of these nodes, which are all, in the order of their partitions; the receipts are those so far and then
+-- theirs
 pub record Gathers (o : OpeningValue) (began : BeganWith) (nodes : List NodeValue) (g : GatheredValue) : Type 0 where
   pub stage : g.stage ≡ began.stage
   pub count : length nodes ≡ o.old.parts

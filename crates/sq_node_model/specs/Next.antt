@@ -18,7 +18,8 @@ is_whole_in g seg = is_complete_reading (reading (word_in g seg) 1)
 -- the segments of the stage that was gathered are complete
 abbrev pub IsStageDone : OpeningValue → GatheredValue → Type 0
 IsStageDone o g =
-    (seg : ℕ) (segment : Range) → slice_get o.recon.segments seg ≡ Some segment → stage_in o.recon segment ≡ g.stage → is_whole_in g seg ≡ true
+    (seg : ℕ) (segment : Range) → slice_get o.recon.segments seg ≡ Some segment → stage_in o.recon segment ≡ g.stage
+    → is_whole_in g seg ≡ true
 
 -- the next stage begins with the families where they are now, and with all receipts so far
 abbrev pub next_began : OpeningValue → GatheredValue → BeganWith

@@ -1,4 +1,5 @@
--- What holds of all that was gathered, whatever the threads did: each family is where the notes place it, once, and is the replay of its log, which the receipts tell.
+-- What holds of all that was gathered, whatever the threads did: each family is where the notes place it, once, and is the
+-- replay of its log, which the receipts tell.
 use Rattle.std.specs.Prelude.{◌≡◌, ℕ, true, nat_lt, length, map, drop, reverse, slice_get, Some, Contains}
 use Rattle.sq_schema.specs.Family.{FamilyValue}
 use Rattle.sq_tree.specs.Node.{is_node}
@@ -34,7 +35,8 @@ pub record IsLinkNote (o : OpeningValue) (g : GatheredValue) (link : GatheredLin
   pub node : is_node note.node ≡ true
   pub begun : is_begun (word_in g note.seg note.node) ≡ true
 
--- the chunks under way are those of the last notes; the notes are numbered from 0, are the link's, and tile their nodes; and each family of a chunk is of its note's keys
+-- the chunks under way are those of the last notes; the notes are numbered from 0, are the link's, and tile their nodes; and
+-- each family of a chunk is of its note's keys
 pub record IsLinkPlaced (o : OpeningValue) (g : GatheredValue) (link : GatheredLink) : Type 0 where
   pub way : map (λ chunk. chunk.note) link.under_way ≡ drop (loaded_count link) link.notes
   pub numbered : AreNumbered (reverse link.notes)
@@ -42,20 +44,23 @@ pub record IsLinkPlaced (o : OpeningValue) (g : GatheredValue) (link : GatheredL
   pub tiles : Tiles o (reverse link.notes)
   pub within : (chunk : ChunkValue) → Contains link.under_way chunk → are_within chunk.note.lo chunk.note.hi chunk.families ≡ true
 
--- all parts are there and fit together: notes of two nodes share no key, the trees grew from free ones, a complete node has its last note loaded, and each family is where the notes place its root key
+-- all parts are there and fit together: notes of two nodes share no key, the trees grew from free ones, a complete node has
+-- its last note loaded, and each family is where the notes place its root key
 pub record FitTogether (o : OpeningValue) (g : GatheredValue) : Type 0 where
   pub parts : HasEachPart o g
   pub links : (i : ℕ) (link : GatheredLink) → slice_get g.links i ≡ Some link → IsLinkPlaced o g link
   pub apart : AreDisjoint (cut_notes g)
   pub grown : (seg : ℕ) → IsGrown (word_in g seg)
   pub complete : (seg n : ℕ) → is_complete (word_in g seg n) ≡ true → has_last seg n (loaded_notes g) ≡ true
-  pub placed : (spot : Spot) (root : ℕ) (family : FamilyValue) → StandsAt g spot root family → IsSpotOf g spot (place_in o g root)
+  pub placed : (spot : Spot) (root : ℕ) (family : FamilyValue) → StandsAt g spot root family
+      → IsSpotOf g spot (place_in o g root)
   pub keyed : (spot : Spot) (root : ℕ) (family : FamilyValue) → StandsAt g spot root family → IsOf root family
 
 -- no root key has a family at two spots
 abbrev pub StandOnce : GatheredValue → Type 0
 StandOnce g =
-    (one other : Spot) (root : ℕ) (family again : FamilyValue) → StandsAt g one root family → StandsAt g other root again → one ≡ other
+    (one other : Spot) (root : ℕ) (family again : FamilyValue) → StandsAt g one root family → StandsAt g other root again
+    → one ≡ other
 
 -- each opening root has a family
 abbrev pub AllStand : OpeningValue → GatheredValue → Type 0
@@ -80,7 +85,8 @@ AreTold g =
 -- each family that a root key was given stands, perhaps with a longer log
 abbrev pub GoOn : BeganWith → GatheredValue → Type 0
 GoOn began g =
-    (root : ℕ) (first : FamilyValue) → began.families root ≡ Some first → (spot : Spot) × (family : FamilyValue) × StandsAt g spot root family × GrowsFrom first family
+    (root : ℕ) (first : FamilyValue) → began.families root ≡ Some first
+    → (spot : Spot) × (family : FamilyValue) × StandsAt g spot root family × GrowsFrom first family
 
 pub record IsPlaced (o : OpeningValue) (g : GatheredValue) : Type 0 where
   pub fit : FitTogether o g

@@ -29,10 +29,14 @@ cut_notes g = flat_map (λ link. link.notes) g.links
 abbrev pub loaded_notes : GatheredValue → List Note
 loaded_notes g = flat_map loads_of g.links
 
+-- the first of the notes that covers the root key
+abbrev pub note_over : ℕ → List Note → Option Note
+note_over root notes = find (λ note. covers note root) notes
+
 -- where these notes place a root key
 abbrev pub place_in : OpeningValue → GatheredValue → ℕ → Place
 place_in o g root =
-    loaded_place (cut_place o g.stage root (find (λ note. covers note root) (cut_notes g))) (find (λ note. covers note root) (loaded_notes g))
+    loaded_place (cut_place o g.stage root (note_over root (cut_notes g))) (note_over root (loaded_notes g))
 
 -- the status of a node of a segment's tree
 abbrev pub word_in : GatheredValue → ℕ → ℕ → Status

@@ -27,7 +27,8 @@ pub fn what_is_gathered_is_placed()
 /// Where what was gathered is placed and the segments of its stage are complete, the next stage can begin with it: the nodes
 /// that open with its stores, and whose threads did nothing yet, hold.
 pub fn the_next_stage_begins()
-    ensures can { (o : OpeningValue) (g : GatheredValue) → IsOpening o → IsPlaced o g → IsStageDone o g → CanBegin o (next_began o g) }
+    ensures can { (o : OpeningValue) (g : GatheredValue)
+        → IsOpening o → IsPlaced o g → IsStageDone o g → CanBegin o (next_began o g) }
     ensures holds { (o : OpeningValue) (g : GatheredValue) (q : ℕ) (store : StoreValue) (node : NodeAtWork)
         → IsOpening o → IsPlaced o g → IsStageDone o g → slice_get g.stores q ≡ Some store
         → IsFreshWith (staged_core o (g.stage + 1) q store) node

@@ -17,7 +17,8 @@ pub(super) fn open_rooms(
     alloc: Global,
     left: &[Vec<Txn>],
 ) -> Result<Vec<VecDeque<Post>>, AllocError>
-    ensures { IfOk result (λ rooms. HaveRoom (map (λ jobs. length jobs.items) left.now) (map (λ room. deque_capacity room - deque_len room) rooms.items)) }
+    ensures { IfOk result (λ rooms.
+        HaveRoom (map (λ jobs. length jobs.items) left.now) (map (λ room. deque_capacity room - deque_len room) rooms.items)) }
 {
     let mut rooms = Vec::new(alloc);
     for jobs in left {
@@ -33,7 +34,8 @@ pub(super) fn post_left(
     mut left: Vec<Vec<Txn>>,
     mut rooms: Vec<VecDeque<Post>>,
 )
-    requires room { HaveRoom (map (λ jobs. length jobs.items) left.items) (map (λ room. deque_capacity room - deque_len room) rooms.items) }
+    requires room { HaveRoom (map (λ jobs. length jobs.items) left.items)
+        (map (λ room. deque_capacity room - deque_len room) rooms.items) }
     requires nodes { length left.items ≡ length nodes.old.items }
     requires few { length left.items ≤ 255 }
     ensures fabric { fabric.new ≡ fabric.old }

@@ -7,7 +7,7 @@ ghost use Rattle.sq_pull.specs.Seats.{AreSeatsOf};
 ghost use Rattle.sq_pull.specs.declared.numbers.TheConstants.{MAX_PUMPS};
 ghost use Rattle.sq_node.specs.Ends.{link_from, send_end, recv_end, AreSendEnds, AreRecvEnds};
 ghost use Rattle.sq_node.specs.FabricValue.{ends_of, AreFirst, IsFabric};
-ghost use Rattle.sq_node.specs.Opened.{AreFirstSeats, AreNewSeats, GaveEach, HasAllEnds, HasSendEnds, HasRecvEnds, LeavesSendEnds, LeavesRecvEnds, HaveSentNothing, HaveReceivedNothing, AreNewSends, AreNewRecvs, IsFabricOf, IsNewNode, AreNewNodes, IsNewPump, AreNewPumps, IsResumed, IsOpened, opened_stores, started_core};
+ghost use Rattle.sq_node.specs.Opened.{AreFirstSeats, AreNewSeats, GaveEach, GivesOut, HaveCapacity, HasAllEnds, HasSendEnds, HasRecvEnds, LeavesSendEnds, LeavesRecvEnds, HaveSentNothing, HaveReceivedNothing, AreNewSends, AreNewRecvs, IsFabricOf, IsNewNode, AreNewNodes, IsNewPump, AreNewPumps, IsResumed, IsOpened, opened_stores, started_core};
 
 use super::{Fabric, JOB_PLACES, REQUEST_PLACES};
 use crate::ends::{Receiver, RecvEnd, SendEnd, Sender};
@@ -65,7 +65,8 @@ impl Fabric {
 // The families of each partition before the move.
 fn open_stores(alloc: Global, opening: &Opening) -> Result<Vec<SlabStore>, AllocError>
     ensures stores { IfOk result (λ stores. stores.items ≡ opened_stores opening.now) }
-    ensures owned { OnOk result ((part : ℕ) → part < opening.now.old.parts → HasOwned opening.now part (opened_part opening.now part).store) }
+    ensures owned { OnOk result ((part : ℕ) → part < opening.now.old.parts
+        → HasOwned opening.now part (opened_part opening.now part).store) }
 {
     let mut stores = Vec::new(alloc);
     for number in 0..opening.old_plan().parts() {
@@ -169,7 +170,7 @@ fn open_links(
 ) -> Result<(Vec<Link>, Ends), AllocError>
     requires { 0 < capacity }
     ensures links { IfOk result (λ opened. map ends_of opened.0.items ≡ between.now) }
-    ensures capacities { IfOk result (λ opened. (i : ℕ) (link : LinkValue) → slice_get opened.0.items i ≡ Some link → link.capacity ≡ capacity) }
+    ensures capacities { IfOk result (λ opened. HaveCapacity capacity opened.0.items) }
     ensures ends { IfOk result (λ opened. HasAllEnds opened.0.items opened.1.sends.items opened.1.recvs.items) }
 {
     let mut links = Vec::new(alloc);
@@ -240,7 +241,7 @@ fn open_nodes(
     requires sends { (part : ℕ) → part < length stores.old.items → HasSendEnds fabric.old.links ends.old.sends.items part }
     requires recvs { (part : ℕ) → part < length stores.old.items → HasRecvEnds fabric.old.links ends.old.recvs.items part }
     ensures same { fabric.new ≡ record fabric.old { seats = fabric.new.seats } }
-    ensures seats { OnOk result ((given : ℕ) → AreFirstSeats given fabric.old.trees fabric.old.seats → AreFirstSeats (given + length stores.old.items) fabric.new.trees fabric.new.seats) }
+    ensures seats { OnOk result (GivesOut (length stores.old.items) fabric.old fabric.new) }
     ensures nodes { IfOk result (λ nodes. AreNewNodes opening.now fabric.new stores.old.items nodes.items) }
     ensures room { IfOk result (λ nodes. opening.now.old.parts ≤ vec_capacity nodes) }
     ensures back { OnErr result (stores.new.items ≡ stores.old.items) }
@@ -309,8 +310,8 @@ fn open_place(
     ensures same { fabric.new ≡ record fabric.old { seats = fabric.new.seats } }
     ensures gave { OnOk result (GaveEach fabric.old.seats fabric.new.seats) }
     ensures seats { IfOk result (λ place. AreNewSeats fabric.old.trees place.seats.items) }
-    ensures sends { IfOk result (λ place. AreNewSends fabric.old part place.sends.items) }
-    ensures recvs { IfOk result (λ place. AreNewRecvs fabric.old part place.recvs.items) }
+    ensures sends { IfOk result (λ place. AreNewSends fabric.old.links fabric.old.parts part place.sends.items) }
+    ensures recvs { IfOk result (λ place. AreNewRecvs fabric.old.links fabric.old.parts part place.recvs.items) }
     ensures flags { IfOk result (λ place. place.complete.items ≡ replicate (length fabric.old.recon.segments) false) }
     ensures left_sends { OnOk result (LeavesSendEnds fabric.old.links ends.old.sends.items part ends.new.sends.items) }
     ensures left_recvs { OnOk result (LeavesRecvEnds fabric.old.links ends.old.recvs.items part ends.new.recvs.items) }
@@ -332,7 +333,7 @@ fn open_place(
 fn open_pumps(alloc: Global, count: u32, fabric: &mut Fabric) -> Result<Vec<Pump>, AllocError>
     requires { count ≤ MAX_PUMPS }
     ensures same { fabric.new ≡ record fabric.old { seats = fabric.new.seats } }
-    ensures seats { OnOk result ((given : ℕ) → AreFirstSeats given fabric.old.trees fabric.old.seats → AreFirstSeats (given + count) fabric.new.trees fabric.new.seats) }
+    ensures seats { OnOk result (GivesOut count fabric.old fabric.new) }
     ensures pumps { IfOk result (λ pumps. AreNewPumps fabric.new count pumps.items) }
 {
     let mut pumps = Vec::new(alloc);
@@ -365,7 +366,7 @@ fn take_sends(
     part: PartId,
 ) -> Result<Vec<Sender>, AllocError>
     requires { HasSendEnds links.now ends.old part }
-    ensures sends { IfOk result (λ sends. AreSendEnds links.now part sends.items × HaveSentNothing sends.items × (length sends.items ≡ parts)) }
+    ensures sends { IfOk result (λ sends. AreNewSends links.now parts part sends.items) }
     ensures left { OnOk result (LeavesSendEnds links.now ends.old part ends.new) }
 {
     let mut sends = Vec::new(alloc);
@@ -385,7 +386,7 @@ fn take_recvs(
     part: PartId,
 ) -> Result<Vec<Receiver>, AllocError>
     requires { HasRecvEnds links.now ends.old part }
-    ensures recvs { IfOk result (λ recvs. AreRecvEnds links.now part recvs.items × HaveReceivedNothing recvs.items × (length recvs.items ≡ parts)) }
+    ensures recvs { IfOk result (λ recvs. AreNewRecvs links.now parts part recvs.items) }
     ensures left { OnOk result (LeavesRecvEnds links.now ends.old part ends.new) }
 {
     let mut recvs = Vec::new(alloc);

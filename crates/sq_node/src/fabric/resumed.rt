@@ -1,10 +1,7 @@
 // Going on with a run in a stage.
-ghost use Rattle.std.specs.Prelude.{◌≡◌, ◌↔◌, ◌<◌, ◌≤◌, length, IfOk, IfErr, OnOk, IsTrue};
-ghost use Rattle.sq_ranges.specs.ReconValue.{stages};
+ghost use Rattle.std.specs.Prelude.{◌≡◌, ◌↔◌, ◌≤◌, length, IfOk, IfErr, OnOk, IsTrue};
 ghost use Rattle.sq_pull.specs.declared.numbers.TheConstants.{MAX_PUMPS};
-ghost use Rattle.sq_node_model.specs.BeganWith.{BeganWith, CanBegin};
-ghost use Rattle.sq_node.specs.FabricValue.{HasBegun};
-ghost use Rattle.sq_node.specs.Opened.{IsResumed, AllOpenWith, AllHoldUnder};
+ghost use Rattle.sq_node.specs.Opened.{IsResumed, AllHoldAsBegun, HasStageFor};
 
 use super::Fabric;
 use super::left::{open_rooms, post_left};
@@ -46,8 +43,8 @@ impl Fabric {
     ) -> Result<(Fabric, Vec<Node>, Vec<Pump>), Unresumed>
         requires { pumps ≤ MAX_PUMPS }
         ensures run { IfOk result (λ run. IsResumed opening.now stage stores.items receipts.items pumps run.0 run.1.items run.2.items) }
-        ensures holds { IfOk result (λ run. (began : BeganWith) → HasBegun began run.0 → CanBegin opening.now began → AllOpenWith opening.now began stores.items → AllHoldUnder opening.now began run.1.items) }
-        ensures fits { OnOk result ((length stores.items ≡ opening.now.old.parts) × (length left.items ≡ opening.now.old.parts) × (stage < stages opening.now.recon)) }
+        ensures holds { IfOk result (λ run. AllHoldAsBegun opening.now run.0 stores.items run.1.items) }
+        ensures fits { OnOk result (HasStageFor opening.now stage (length stores.items) (length left.items)) }
         ensures stores { IfErr result (λ back. back.stores.items ≡ stores.items) }
         ensures left { IfErr result (λ back. back.left.items ≡ left.items) }
         ensures receipts { IfErr result (λ back. back.receipts.items ≡ receipts.items) }
@@ -83,7 +80,7 @@ impl Fabric {
 
 // Whether an opening has this stage, and as many partitions as there are stores and lists of jobs.
 fn fits(opening: &Opening, stage: u64, stores: usize, left: usize) -> bool
-    ensures { IsTrue result ↔ (stores ≡ opening.now.old.parts) × (left ≡ opening.now.old.parts) × (stage < stages opening.now.recon) }
+    ensures { IsTrue result ↔ HasStageFor opening.now stage stores left }
 {
     let parts = usize::from(opening.old_plan().parts());
     stores == parts && left == parts && stage < opening.recon().stages()

@@ -92,7 +92,12 @@ fn refusal(fault: SubmitFault) -> Stepped
 
 // The receipt of a transaction that a partition has just answered so.
 fn receipt(core: &PartCore<SlabStore>, txn: Txn, reply: Reply) -> Receipt
-    ensures { result ≡ record { id = txn.id; root = txn.root; position = position_before (log_length core.now.core.store txn.root) reply; reply = reply } }
+    ensures { result ≡ record {
+      id = txn.id;
+      root = txn.root;
+      position = position_before (log_length core.now.core.store txn.root) reply;
+      reply = reply;
+    } }
 {
     let root = txn.root();
     let after = core.position(root) as u64;

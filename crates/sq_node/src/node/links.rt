@@ -3,13 +3,9 @@ ghost use Rattle.std.specs.Prelude.{◌≡◌, ℕ, ◌<◌, true, false, length
 ghost use Rattle.sq_chunk.specs.ChunkValue.{IsChunk};
 ghost use Rattle.sq_exec.specs.CoreValue.{out_at, inbox_at};
 ghost use Rattle.sq_exec.specs.OutLink.{may_cut};
-ghost use Rattle.sq_ranges.specs.OpeningValue.{OpeningValue};
-ghost use Rattle.sq_ranges.specs.Opening.{IsOpening};
-ghost use Rattle.sq_node_model.specs.BeganWith.{BeganWith};
-ghost use Rattle.sq_node_model.specs.Cores.{HasNoneToLoad};
 ghost use Rattle.sq_node.specs.FabricValue.{FabricValue};
-ghost use Rattle.sq_node.specs.NodeState.{IsNodeOf, node_value};
-ghost use Rattle.sq_node.specs.Holds.{HoldsUnder, KeepsAll};
+ghost use Rattle.sq_node.specs.NodeState.{IsNodeOf};
+ghost use Rattle.sq_node.specs.Holds.{KeepsAll, HasNoneLoadable};
 ghost use Rattle.sq_node.specs.Steps.{Sends, Receives, HasNoneToCut, HasNoneToSend, HasNoneToReceive, CutStep, SendStep, RecvStep, LoadStep, may_load_now};
 
 use super::Node;
@@ -121,7 +117,7 @@ impl Node {
         ensures step { LoadStep self.old result self.new }
         ensures of { IsNodeOf fabric.now self.new }
         ensures holds { KeepsAll self.old self.new }
-        ensures nothing { result ≡ Stepped.Nothing → (o : OpeningValue) (began : BeganWith) → IsOpening o → HoldsUnder o began self.old → (src : ℕ) → HasNoneToLoad o began.stage (node_value self.old) src }
+        ensures nothing { result ≡ Stepped.Nothing → HasNoneLoadable self.old }
     {
         let Some(src) = self.next_load(fabric) else {
             return Stepped::Nothing;

@@ -23,8 +23,8 @@ use sq_tree::{NodeId, Status};
 use std::sync::Wait;
 
 impl Node {
-    /// Takes a request, and begins the node that it names. One that names a segment which doesn't leave here in the running stage, a bad node,
-    /// or a node that isn't claimed for its pull is dropped.
+    /// Takes a request, and begins the node that it names. One that names a segment which doesn't leave here in the running
+    /// stage, a bad node, or a node that isn't claimed for its pull is dropped.
     pub fn step_request<R: Wait>(&mut self, rt: &R, fabric: &Fabric) -> Stepped
         requires { IsNodeOf fabric.now self.old }
         ensures step { RequestStep self.old result self.new }
@@ -119,7 +119,8 @@ fn begin(
     requires seats { AreSeatsOf trees.now seats.old.items }
     requires segment { at.seg < length trees.now }
     ensures { MatchBool result
-        (StepsAt at.seg (λ v w. Won v at.node (Partial pull) w) seats.old.items seats.new.items × (core.new.core ≡ begun_core core.old.core at.seg at.node pull))
+        (StepsAt at.seg (λ v w. Won v at.node (Partial pull) w) seats.old.items seats.new.items
+        × (core.new.core ≡ begun_core core.old.core at.seg at.node pull))
         (StepsAt at.seg OnlyLooked seats.old.items seats.new.items × (core.new.core ≡ core.old.core)) }
 {
     if !begin_at(trees, seats, &at, pull) {

@@ -11,9 +11,9 @@ ghost use Rattle.sq_pull.specs.Seats.{AreSeatsOf, StepsAt};
 ghost use Rattle.sq_node.specs.NodeState.{IsNodeOf};
 ghost use Rattle.sq_node.specs.Holds.{KeepsAll};
 ghost use Rattle.sq_node.specs.Looks.{OnlyLooked, SeatsLooked};
-ghost use Rattle.sq_node.specs.Settled.{HasSettled, SawComplete, SawSegmentComplete, AreSeen};
+ghost use Rattle.sq_node.specs.Settled.{HasSettled, AllSettled, SawComplete, SawSegmentComplete, AreSeen};
 ghost use Rattle.sq_node.specs.Steps.{Turns, Looks};
-ghost use Rattle.sq_node.specs.Idle.{IsQuiet, IsIdle, takes_part};
+ghost use Rattle.sq_node.specs.Idle.{IsQuiet, IsIdle, takes_part, AreFlagged};
 
 use super::{Node, NodeParts};
 use crate::fabric::Fabric;
@@ -114,7 +114,7 @@ impl Node {
     // Whether nothing is pending or under way here.
     fn is_at_rest(&self) -> bool
         ensures quiet { IsTrue result → (other : ℕ) → IsQuiet self.now.core other }
-        ensures settled { IsTrue result → (seg n : ℕ) → is_whole (loaded_at self.now.core seg) n ≡ true → HasSettled self.now.seats seg n }
+        ensures settled { IsTrue result → AllSettled self.now.core self.now.seats }
     {
         self.desk.is_sent()
             && self.puller.pending().is_empty()
@@ -157,7 +157,7 @@ fn see_all_complete(
     ensures looked { SeatsLooked seats.old.items seats.new.items }
     ensures flags { length complete.new.items ≡ length complete.old.items }
     ensures seen { AreSeen seats.old.items complete.old.items → AreSeen seats.new.items complete.new.items }
-    ensures complete { IsTrue result → (seg : ℕ) (segment : Range) → slice_get fabric.now.recon.segments seg ≡ Some segment → takes_part fabric.now.recon fabric.now.stage part segment ≡ true → slice_get complete.new.items seg ≡ Some true }
+    ensures complete { IsTrue result → AreFlagged fabric.now.recon fabric.now.stage part complete.new.items }
 {
     let trees = fabric.trees();
     let segments = fabric.recon().segments();
