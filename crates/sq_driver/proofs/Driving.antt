@@ -10,7 +10,7 @@ use Rattle.sq_node.proofs.Stays.{job_stays, request_stays, cut_stays, send_stays
 use Rattle.sq_node.proofs.Keeps.{same_keeps, job_keeps, request_keeps, cut_keeps, send_keeps, recv_keeps, load_keeps, complete_keeps, resume_keeps, looks_keep}
 use Rattle.sq_driver.specs.declared.gate.NodeStep.{NodeStep}
 use Rattle.sq_driver.specs.declared.gate.NodeStep.TheVariants.{Job, Request, Cut, Send, Recv, Load, Complete, Resume, Pump, Answered, SegmentComplete}
-use Rattle.sq_driver.specs.Nodes.{MakesStep, GoesOn, Driven}
+use Rattle.sq_driver.specs.Nodes.{MakesStep, StepsOrLooks, Driven}
 use Rattle.sq_driver.proofs.Ways.{goes_on}
 use Rattle.sq_driver.proofs.Parts.{step_part}
 
@@ -78,7 +78,7 @@ pub then_driven : (fabric : FabricValue) (first old new : NodeState) → Driven 
 then_driven fabric first old new driven more =
     record {
       way = more.way ++ driven.way;
-      steps = goes_on (GoesOn fabric) first old new driven.way more.way driven.steps more.steps;
+      steps = goes_on (StepsOrLooks fabric) first old new driven.way more.way driven.steps more.steps;
       part = more.part ∙ driven.part;
       stays = more.stays;
       holds = λ o began is held. more.holds o began is (driven.holds o began is held);

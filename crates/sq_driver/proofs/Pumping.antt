@@ -8,7 +8,7 @@ use Rattle.sq_pull.specs.declared.pump.PumpTurn.TheVariants.{Won, Nothing, Spent
 use Rattle.sq_pull.specs.Seats.{AreSeatsOf, OnlyClaimed, begun_by, completed_by}
 use Rattle.sq_pull.specs.Pump.{PumpValue, HasTurned, SkipsNext, HasNoRound}
 use Rattle.sq_node.specs.FabricValue.{FabricValue}
-use Rattle.sq_driver.specs.Pumps.{IsPumpOf, TakesTurn, PumpDriven}
+use Rattle.sq_driver.specs.Pumps.{HasAllSeats, TakesTurn, PumpDriven}
 use Rattle.sq_driver.proofs.Ways.{goes_on}
 
 turn_number : (recon : ReconValue) (old new : PumpValue) (turn : PumpTurn) → HasTurned recon old new turn → new.number ≡ old.number
@@ -18,19 +18,19 @@ turn_number recon old new Nothing turned =
 turn_number recon old new Spent turned = turned.2.number ∙ ap (λ (p : PumpValue). p.number) turned.1.1
 
 -- a pump to which nothing happened yet
-pub not_yet : (fabric : FabricValue) (first pump : PumpValue) → pump ≡ first → IsPumpOf fabric first → PumpDriven fabric first pump
+pub not_yet : (fabric : FabricValue) (first pump : PumpValue) → pump ≡ first → HasAllSeats fabric first → PumpDriven fabric first pump
 not_yet fabric first pump same of =
     record {
       way = [];
       turns = same;
       number = ap (λ (p : PumpValue). p.number) same;
-      stays = subst (IsPumpOf fabric) (sym same) of;
+      stays = subst (HasAllSeats fabric) (sym same) of;
       claims = record { begun = ap (λ (p : PumpValue). begun_by p.seats) same; completed = ap (λ (p : PumpValue). completed_by p.seats) same };
     }
 
 -- what a turn makes of a pump
 pub turned : {E : Type 0} (fabric : FabricValue) (recon : ReconValue) (trees : List TableId) (old new : PumpValue) (result : Result PumpTurn E) → recon ≡ fabric.recon → trees ≡ fabric.trees
-    → IfOk result (HasTurned recon old new) → OnErr result (new ≡ old) → IsPumpOf fabric old → AreSeatsOf trees new.seats → OnlyClaimed old.seats new.seats → PumpDriven fabric old new
+    → IfOk result (HasTurned recon old new) → OnErr result (new ≡ old) → HasAllSeats fabric old → AreSeatsOf trees new.seats → OnlyClaimed old.seats new.seats → PumpDriven fabric old new
 turned fabric recon trees old new (Ok turn) moves at has none of seats claims =
     record {
       way = old ∷ [];

@@ -10,7 +10,7 @@ use Rattle.sq_node.specs.NodeState.{NodeState, IsNodeOf}
 use Rattle.sq_node.specs.Holds.{HoldsUnder}
 use Rattle.sq_pull.specs.Pump.{PumpValue}
 use Rattle.sq_driver.specs.Nodes.{AllDriven}
-use Rattle.sq_driver.specs.Pumps.{IsPumpOf, AllPumpsDriven}
+use Rattle.sq_driver.specs.Pumps.{HasAllSeats, AllPumpsDriven}
 
 -- what a node keeps holds of all of them still
 pub all_hold : (fabric : FabricValue) (o : OpeningValue) (began : BeganWith) (old new : List NodeState) → IsOpening o → AllDriven fabric old new → All (HoldsUnder o began) old → All (HoldsUnder o began) new
@@ -21,7 +21,7 @@ all_hold fabric o began old new is driven held =
 pub all_stay : (fabric : FabricValue) (old new : List NodeState) → AllDriven fabric old new → All (IsNodeOf fabric) new
 all_stay fabric old new driven = λ i d lt. let within : i < length old = omega (arith, lt, driven.count) in (driven.each i d within).stays
 
-pub all_pumps_stay : (fabric : FabricValue) (old new : List PumpValue) → AllPumpsDriven fabric old new → All (IsPumpOf fabric) new
+pub all_pumps_stay : (fabric : FabricValue) (old new : List PumpValue) → AllPumpsDriven fabric old new → All (HasAllSeats fabric) new
 all_pumps_stay fabric old new driven = λ i d lt. let within : i < length old = omega (arith, lt, driven.count) in (driven.each i d within).stays
 
 -- each worker that there is now was one before, and was driven from there

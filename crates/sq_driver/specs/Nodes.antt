@@ -8,7 +8,7 @@ use Rattle.sq_node.specs.Holds.{KeepsAll}
 use Rattle.sq_node.specs.Steps.{JobStep, RequestStep, CutStep, SendStep, RecvStep, LoadStep, CompleteStep, ResumeStep, Looks}
 use Rattle.sq_driver.specs.declared.gate.NodeStep.{NodeStep}
 use Rattle.sq_driver.specs.declared.gate.NodeStep.TheVariants.{Job, Request, Cut, Send, Recv, Load, Complete, Resume, Pump, Answered, SegmentComplete}
-use Rattle.sq_driver.specs.Ways.{ComesOf}
+use Rattle.sq_driver.specs.Ways.{ComesBySteps}
 
 -- a node made the step. What is no step of a node does nothing
 abbrev pub MakesStep : FabricValue → NodeStep → NodeState → Stepped → NodeState → Type 0
@@ -25,13 +25,13 @@ MakesStep fabric Answered old answer new = (answer ≡ Nothing) × (new ≡ old)
 MakesStep fabric SegmentComplete old answer new = (answer ≡ Nothing) × (new ≡ old)
 
 -- a node made one of its steps, or looked at trees
-abbrev pub GoesOn : FabricValue → NodeState → NodeState → Type 0
-GoesOn fabric old new = ((step : NodeStep) × (answer : Stepped) × MakesStep fabric step old answer new) ⊎ Looks old new
+abbrev pub StepsOrLooks : FabricValue → NodeState → NodeState → Type 0
+StepsOrLooks fabric old new = ((step : NodeStep) × (answer : Stepped) × MakesStep fabric step old answer new) ⊎ Looks old new
 
 -- a node was driven: what became of it came by its own steps, it is the same partition's and one of the fabric, and what a node keeps holds still, under each opening under which it did
 pub record Driven (fabric : FabricValue) (old new : NodeState) : Type 0 where
   pub way : List NodeState
-  pub steps : ComesOf (GoesOn fabric) old way new
+  pub steps : ComesBySteps (StepsOrLooks fabric) old way new
   pub part : new.core.part ≡ old.core.part
   pub stays : IsNodeOf fabric new
   pub holds : KeepsAll old new

@@ -5,11 +5,11 @@ use Rattle.sq_pull.specs.declared.pump.PumpTurn.{PumpTurn}
 use Rattle.sq_pull.specs.Seats.{AreSeatsOf, OnlyClaimed}
 use Rattle.sq_pull.specs.Pump.{PumpValue, HasTurned}
 use Rattle.sq_node.specs.FabricValue.{FabricValue}
-use Rattle.sq_driver.specs.Ways.{ComesOf}
+use Rattle.sq_driver.specs.Ways.{ComesBySteps}
 
 -- a pump with a seat at each tree of a run
-abbrev pub IsPumpOf : FabricValue → PumpValue → Type 0
-IsPumpOf fabric pump = AreSeatsOf fabric.trees pump.seats
+abbrev pub HasAllSeats : FabricValue → PumpValue → Type 0
+HasAllSeats fabric pump = AreSeatsOf fabric.trees pump.seats
 
 -- a pump took a turn
 abbrev pub TakesTurn : ReconValue → PumpValue → PumpValue → Type 0
@@ -18,9 +18,9 @@ TakesTurn recon old new = (turn : PumpTurn) × HasTurned recon old new turn
 -- a pump was driven: what became of it came by its own turns, it has the same number and is of the fabric, and its seats began and completed nothing more
 pub record PumpDriven (fabric : FabricValue) (old new : PumpValue) : Type 0 where
   pub way : List PumpValue
-  pub turns : ComesOf (TakesTurn fabric.recon) old way new
+  pub turns : ComesBySteps (TakesTurn fabric.recon) old way new
   pub number : new.number ≡ old.number
-  pub stays : IsPumpOf fabric new
+  pub stays : HasAllSeats fabric new
   pub claims : OnlyClaimed old.seats new.seats
 
 -- each of the pumps was driven

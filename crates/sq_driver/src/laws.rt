@@ -11,7 +11,7 @@ ghost use Rattle.sq_node.specs.NodeState.{NodeState, IsNodeOf};
 ghost use Rattle.sq_node.specs.Holds.{HoldsUnder};
 ghost use Rattle.sq_node.specs.Opened.{IsOpened, IsResumed};
 ghost use Rattle.sq_driver.specs.Nodes.{AllDriven};
-ghost use Rattle.sq_driver.specs.Pumps.{IsPumpOf, AllPumpsDriven};
+ghost use Rattle.sq_driver.specs.Pumps.{HasAllSeats, AllPumpsDriven};
 
 /// The nodes and the pumps that a run opens with can be driven, and what a node keeps holds of each node, as
 /// the first stage begins.
@@ -19,7 +19,7 @@ pub fn opened_workers_can_be_driven()
     ensures nodes { (o : OpeningValue) (count : ℕ) (fabric : FabricValue) (nodes : List NodeState) (pumps : List PumpValue)
         → IsOpened o count fabric nodes pumps → All (IsNodeOf fabric) nodes }
     ensures pumps { (o : OpeningValue) (count : ℕ) (fabric : FabricValue) (nodes : List NodeState) (pumps : List PumpValue)
-        → IsOpened o count fabric nodes pumps → All (IsPumpOf fabric) pumps }
+        → IsOpened o count fabric nodes pumps → All (HasAllSeats fabric) pumps }
     ensures hold { (o : OpeningValue) (count : ℕ) (fabric : FabricValue) (nodes : List NodeState) (pumps : List PumpValue)
         → IsOpened o count fabric nodes pumps → All (HoldsUnder o (first_began o)) nodes }
 {}
@@ -29,7 +29,7 @@ pub fn resumed_workers_can_be_driven()
     ensures nodes { (o : OpeningValue) (stage : ℕ) (stores : List StoreValue) (receipts : List ReceiptValue) (count : ℕ) (fabric : FabricValue) (nodes : List NodeState) (pumps : List PumpValue)
         → IsResumed o stage stores receipts count fabric nodes pumps → All (IsNodeOf fabric) nodes }
     ensures pumps { (o : OpeningValue) (stage : ℕ) (stores : List StoreValue) (receipts : List ReceiptValue) (count : ℕ) (fabric : FabricValue) (nodes : List NodeState) (pumps : List PumpValue)
-        → IsResumed o stage stores receipts count fabric nodes pumps → All (IsPumpOf fabric) pumps }
+        → IsResumed o stage stores receipts count fabric nodes pumps → All (HasAllSeats fabric) pumps }
 {}
 
 /// What a node keeps holds of all nodes of a run once they were driven, under each opening, and each beginning of a stage,
@@ -42,5 +42,5 @@ pub fn driven_nodes_hold()
 /// Workers that were driven are those of their fabric still, and can be driven again.
 pub fn driven_workers_stay()
     ensures nodes { (fabric : FabricValue) (old new : List NodeState) → AllDriven fabric old new → All (IsNodeOf fabric) new }
-    ensures pumps { (fabric : FabricValue) (old new : List PumpValue) → AllPumpsDriven fabric old new → All (IsPumpOf fabric) new }
+    ensures pumps { (fabric : FabricValue) (old new : List PumpValue) → AllPumpsDriven fabric old new → All (HasAllSeats fabric) new }
 {}

@@ -2,7 +2,7 @@
 ghost use Rattle.std.specs.Prelude.{All};
 ghost use Rattle.sq_node.specs.NodeState.{IsNodeOf};
 ghost use Rattle.sq_driver.specs.Nodes.{Driven, AllDriven};
-ghost use Rattle.sq_driver.specs.Pumps.{IsPumpOf, PumpDriven, AllPumpsDriven};
+ghost use Rattle.sq_driver.specs.Pumps.{HasAllSeats, PumpDriven, AllPumpsDriven};
 
 use crate::gate::Gate;
 use crate::nodes::drive;
@@ -24,7 +24,7 @@ pub fn run_workers<R: Threads + Wait + Sync, G: Gate>(
     gate: &G,
 )
     requires nodes { All (IsNodeOf fabric.now) nodes.old }
-    requires pumps { All (IsPumpOf fabric.now) pumps.old }
+    requires pumps { All (HasAllSeats fabric.now) pumps.old }
     ensures nodes { AllDriven fabric.now nodes.old nodes.new }
     ensures pumps { AllPumpsDriven fabric.now pumps.old pumps.new }
 {
@@ -35,7 +35,7 @@ pub fn run_workers<R: Threads + Wait + Sync, G: Gate>(
             ensures { AllDriven fabric.entry.now nodes.entry.now nodes.exit.now }
         { run_nodes(rt, fabric, nodes, turns, gate) },
         &mut ||
-            requires { All (IsPumpOf fabric.now) pumps.now }
+            requires { All (HasAllSeats fabric.now) pumps.now }
             ensures { AllPumpsDriven fabric.entry.now pumps.entry.now pumps.exit.now }
         { run_pumps(rt, fabric, pumps, turns, gate) },
     );
@@ -72,7 +72,7 @@ fn run_pumps<R: Threads + Wait + Sync, G: Gate>(
     turns: u64,
     gate: &G,
 )
-    requires { All (IsPumpOf fabric.now) pumps.old }
+    requires { All (HasAllSeats fabric.now) pumps.old }
     ensures { AllPumpsDriven fabric.now pumps.old pumps.new }
 {
     let threads = pumps.len().max(1);
@@ -81,7 +81,7 @@ fn run_pumps<R: Threads + Wait + Sync, G: Gate>(
         pumps,
         threads,
         &|_, pump|
-            requires { IsPumpOf fabric.now pump.now }
+            requires { HasAllSeats fabric.now pump.now }
             ensures { PumpDriven fabric.entry.now pump.entry.now pump.exit.now }
         { drive_pump(rt, fabric, pump, turns, gate) },
     );

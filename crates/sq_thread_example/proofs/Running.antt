@@ -13,7 +13,7 @@ use Rattle.sq_node.specs.FabricValue.{FabricValue, HasBegun, IsFabric}
 use Rattle.sq_node.specs.NodeState.{NodeState, IsNodeOf}
 use Rattle.sq_node.specs.Opened.{IsFabricOf, IsOpened}
 use Rattle.sq_driver.specs.Nodes.{Driven, AllDriven}
-use Rattle.sq_driver.specs.Pumps.{IsPumpOf, PumpDriven, AllPumpsDriven}
+use Rattle.sq_driver.specs.Pumps.{HasAllSeats, PumpDriven, AllPumpsDriven}
 use Rattle.sq_driver.proofs.Together.{was_driven}
 use Rattle.sq_gather.specs.Gathered.{AreAllOf, AllHold}
 use Rattle.sq_gather.specs.Reopened.{IsRun, AllStay, AllPumpsStay}
@@ -27,7 +27,7 @@ written old new len whole = ap (λ n. take n (new ++ drop (length new) old)) who
 pub nodes_of : (fabric : FabricValue) (nodes : List NodeState) (pumps : List PumpValue) → AreAllOf fabric nodes pumps → All (IsNodeOf fabric) nodes
 nodes_of fabric nodes pumps all i d lt = (all.each_node i (get_or nodes i d) (slice_get-get_or nodes i d lt)).0
 
-pub pumps_of : (fabric : FabricValue) (nodes : List NodeState) (pumps : List PumpValue) → AreAllOf fabric nodes pumps → All (IsPumpOf fabric) pumps
+pub pumps_of : (fabric : FabricValue) (nodes : List NodeState) (pumps : List PumpValue) → AreAllOf fabric nodes pumps → All (HasAllSeats fabric) pumps
 pumps_of fabric nodes pumps all i d lt = (all.each_pump i (get_or pumps i d) (slice_get-get_or pumps i d lt)).seats
 
 module _ (fabric : FabricValue) (old new : List NodeState) (before after : List PumpValue) where

@@ -5,7 +5,7 @@ use Rattle.sq_audit.specs.declared.job.Job.{Job}
 use Rattle.sq_node_model.specs.BeganWith.{first_began}
 use Rattle.sq_node.specs.NodeState.{NodeState, IsNodeOf}
 use Rattle.sq_driver.specs.Nodes.{AllDriven}
-use Rattle.sq_driver.specs.Pumps.{IsPumpOf, AllPumpsDriven}
+use Rattle.sq_driver.specs.Pumps.{HasAllSeats, AllPumpsDriven}
 use Rattle.sq_gather.specs.Gathered.{AreAllOf}
 use Rattle.sq_gather.proofs.AllOf.{all_of_opened}
 use Rattle.sq_thread_example.proofs.Running.{written, nodes_of, pumps_of, driven_run, placed}
@@ -29,7 +29,7 @@ run_workers-requires-clause-pumps g c = λ κs within.
     let nodes = c.in_ok-fabric.nodes.items in
     let pumps = c.in_ok-fabric.pumps.items in
     let all = all_of_opened c.args.opening.now _ fabric nodes pumps c.recon-recon.ensures.set_up.opening c.trees-trees.ensures.fabric c.in_ok-fabric.ensures in
-    subst (All (IsPumpOf fabric)) (sym c.deref_mut-2.ensures.value) (pumps_of fabric nodes pumps all)
+    subst (All (HasAllSeats fabric)) (sym c.deref_mut-2.ensures.value) (pumps_of fabric nodes pumps all)
 
 pub gather-requires : goal.gather-requires
 gather-requires g c =

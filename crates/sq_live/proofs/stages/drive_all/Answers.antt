@@ -4,7 +4,7 @@ use Rattle.std.proofs.lemmas.Option.{slice_get-get_or}
 use Rattle.sq_pull.specs.Pump.{PumpValue}
 use Rattle.sq_node.specs.NodeState.{NodeState, IsNodeOf}
 use Rattle.sq_driver.specs.Nodes.{AllDriven}
-use Rattle.sq_driver.specs.Pumps.{IsPumpOf, AllPumpsDriven}
+use Rattle.sq_driver.specs.Pumps.{HasAllSeats, AllPumpsDriven}
 use Rattle.sq_gather.specs.Gathered.{AreAllOf}
 use Rattle.sq_live.proofs.Driven.{written, run_gathered, whole_driven}
 use Rattle.sq_live.proofs.stages.drive_all.Goals as goal
@@ -16,7 +16,7 @@ run_workers-requires-clause-nodes g c = λ κs within.
 
 pub run_workers-requires-clause-pumps : goal.run_workers-requires-clause-pumps
 run_workers-requires-clause-pumps g c = λ κs within.
-    subst (All (IsPumpOf c.args.fabric)) (sym c.deref_mut-2.ensures.value)
+    subst (All (HasAllSeats c.args.fabric)) (sym c.deref_mut-2.ensures.value)
     (λ i d lt. (c.requires.each_pump i (get_or c.args.pumps.items i d) (slice_get-get_or c.args.pumps.items i d lt)).seats)
 
 pub gather-requires : goal.gather-requires
