@@ -6,7 +6,7 @@ use Rattle.sq_link.specs.Values.{LinkValue}
 use Rattle.sq_node_model.specs.Gathered.{GatheredLink}
 use Rattle.sq_node_model.proofs.Members.{push_stood}
 use Rattle.sq_gather.specs.LinkEnds.{LinkEndsValue}
-use Rattle.sq_gather.specs.Links.{HasEnds, IsClosed, HaveEnds, AreClosed}
+use Rattle.sq_gather.specs.Links.{HasBothEnds, IsClosed, HaveBothEnds, AreClosed}
 use Rattle.sq_gather.proofs.Lists.{empty, stands_after}
 
 -- these links are closed with the first ends, and these ends are left
@@ -50,7 +50,7 @@ none_closed ends = record { used = []; rest = refl; pairs = refl; are = record {
 
 -- the ends that come next are those of the link that comes next
 pub next_ends : (links all more : List LinkValue) (ends left rest : List LinkEndsValue) (closed : List GatheredLink) (link : LinkValue) (first : LinkEndsValue) → Closes links ends left closed → left ≡ first ∷ rest → all ≡ links ++ link ∷ more
-    → HaveEnds all ends → HasEnds link first
+    → HaveBothEnds all ends → HasBothEnds link first
 next_ends links all more ends left rest closed link first so_far next is have =
     have.each (length links) link first (ap (λ (list : List LinkValue). slice_get list (length links)) is ∙ stands_after links link more (link ∷ more) refl)
     (ap (λ (list : List LinkEndsValue). slice_get list (length links)) so_far.rest ∙ ap (slice_get (so_far.used ++ left)) (sym so_far.pairs) ∙ stands_after so_far.used first rest left next)

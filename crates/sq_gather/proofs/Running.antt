@@ -15,12 +15,12 @@ use Rattle.sq_node.specs.FabricValue.{FabricValue, HasBegun, IsFabric}
 use Rattle.sq_node.specs.NodeState.{NodeState}
 use Rattle.sq_node.specs.Opened.{AreFirstSeats, AllHoldUnder, AllOpenWith, IsResumed, IsOpened}
 use Rattle.sq_gather.specs.Gathered.{AllHold}
-use Rattle.sq_gather.specs.Reopened.{IsRun, AllStay, AllPumpsStay}
+use Rattle.sq_gather.specs.Reopened.{IsRunInStage, AllStay, AllPumpsStay}
 use Rattle.sq_gather.proofs.Opens.{next_node, opens_where_held}
 use Rattle.sq_gather.proofs.AllOf.{all_of_new, all_of_opened, pump_claimed}
 
 -- what a run opens with is a run in its first stage
-pub run_begins : (o : OpeningValue) (count : ℕ) (fabric : FabricValue) (nodes : List NodeState) (pumps : List PumpValue) → IsOpening o → IsFabric fabric → IsOpened o count fabric nodes pumps → IsRun o (first_began o) fabric nodes pumps
+pub run_begins : (o : OpeningValue) (count : ℕ) (fabric : FabricValue) (nodes : List NodeState) (pumps : List PumpValue) → IsOpening o → IsFabric fabric → IsOpened o count fabric nodes pumps → IsRunInStage o (first_began o) fabric nodes pumps
 run_begins o count fabric nodes pumps opening is opened =
     record {
       shared = opened.shared;
@@ -31,7 +31,7 @@ run_begins o count fabric nodes pumps opening is opened =
     }
 
 -- a run whose nodes and pumps stay is one still
-pub run_goes_on : (o : OpeningValue) (began : BeganWith) (fabric : FabricValue) (old new : List NodeState) (before after : List PumpValue) → IsOpening o → IsRun o began fabric old before → AllStay fabric old new → AllPumpsStay fabric before after → IsRun o began fabric new after
+pub run_goes_on : (o : OpeningValue) (began : BeganWith) (fabric : FabricValue) (old new : List NodeState) (before after : List PumpValue) → IsOpening o → IsRunInStage o began fabric old before → AllStay fabric old new → AllPumpsStay fabric before after → IsRunInStage o began fabric new after
 run_goes_on o began fabric old new before after opening run nodes pumps =
     record {
       shared = run.shared;
@@ -62,7 +62,7 @@ pub run_resumes : (o : OpeningValue) (g : GatheredValue) (count : ℕ) (fabric :
     → CanBegin o (next_began o g) → ((q : ℕ) (store : StoreValue) → slice_get g.stores q ≡ Some store → NodeHolds o (next_began o g) (next_node o g q store))
     → IsResumed o (g.stage + 1) g.stores g.receipts count fabric nodes pumps
     → ((began : BeganWith) → HasBegun began fabric → CanBegin o began → AllOpenWith o began g.stores → AllHoldUnder o began nodes)
-    → IsRun o (next_began o g) fabric nodes pumps
+    → IsRunInStage o (next_began o g) fabric nodes pumps
 run_resumes o g count fabric nodes pumps opening placed is can new_hold resumed hold =
     let begun : HasBegun (next_began o g) fabric = record { stage = sym resumed.stage; receipts = sym resumed.receipts } in
     record {

@@ -23,7 +23,7 @@ use Rattle.sq_node.specs.Ends.{no_link, link_at}
 use Rattle.sq_node.specs.FabricValue.{FabricValue, IsFabric, ends_of}
 use Rattle.sq_node.specs.NodeState.{NodeState, node_value}
 use Rattle.sq_gather.specs.LinkEnds.{LinkEndsValue}
-use Rattle.sq_gather.specs.Links.{IsClosed, HaveEnds}
+use Rattle.sq_gather.specs.Links.{IsClosed, HaveBothEnds}
 use Rattle.sq_gather.specs.Links.{AreClosed as AreClosedLinks}
 use Rattle.sq_gather.specs.Trees.{AllAreSeatsOf, AwaitOwners}
 use Rattle.sq_gather.specs.Trees.{AreClosed as AreClosedTrees}
@@ -147,7 +147,7 @@ module _ (fabric : FabricValue) (nodes : List NodeState) (pumps : List PumpValue
             destination = filled.destination i link left to.0 there left_there to.1;
           }
 
-      have_ends : HaveEnds fabric.links whole.ends
+      have_ends : HaveBothEnds fabric.links whole.ends
       have_ends = record {
         count = filled.count;
         each = λ i link left there left_there.

@@ -9,7 +9,7 @@ use Rattle.sq_pull.specs.Seats.{AreSeatsOf}
 use Rattle.sq_node.specs.FabricValue.{FabricValue, AreFirst}
 use Rattle.sq_node.specs.NodeState.{NodeState}
 use Rattle.sq_gather.specs.LinkEnds.{LinkEndsValue}
-use Rattle.sq_gather.specs.Links.{no_ends, HaveEnds}
+use Rattle.sq_gather.specs.Links.{no_ends, HaveBothEnds}
 use Rattle.sq_gather.specs.Trees.{AllAreSeatsOf, AwaitOwners}
 use Rattle.sq_gather.specs.Ends.{AreApart, AreAmong, send_link, recv_link, SourcesPut, DestinationsPut}
 
@@ -103,5 +103,5 @@ pub record IsClosable (trees : List TableId) (first : List SeatValue) (links : L
   pub owners : AllAreSeatsOf trees gathering.owners
   pub given : AwaitOwners (length gathering.owners) first
   pub tree_room : gathering.room.trees ≡ length trees
-  pub ends : HaveEnds links gathering.ends
+  pub ends : HaveBothEnds links gathering.ends
   pub link_room : length links ≤ gathering.room.links

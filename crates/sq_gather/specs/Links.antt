@@ -10,7 +10,7 @@ abbrev pub no_ends : ℕ → LinkEndsValue
 no_ends room = record { sender = None; notes = []; outbox = None; receiver = None; inbox = None; room = room }
 
 -- both ends are there and are those of the link, and there is room for all that can be under way on it
-pub record HasEnds (link : LinkValue) (ends : LinkEndsValue) : Type 0 where
+pub record HasBothEnds (link : LinkValue) (ends : LinkEndsValue) : Type 0 where
   pub sender : SendValue
   pub sends : ends.sender ≡ Some sender
   pub sends_on : sender.queue ≡ link.queue
@@ -33,9 +33,9 @@ pub record IsClosed (link : LinkValue) (ends : LinkEndsValue) (closed : Gathered
   pub way : closed.under_way ≡ option_to_list ends.inbox ++ (queue ++ option_to_list ends.outbox)
 
 -- each link has its ends, in the same order
-pub record HaveEnds (links : List LinkValue) (ends : List LinkEndsValue) : Type 0 where
+pub record HaveBothEnds (links : List LinkValue) (ends : List LinkEndsValue) : Type 0 where
   pub count : length ends ≡ length links
-  pub each : (i : ℕ) (link : LinkValue) (left : LinkEndsValue) → slice_get links i ≡ Some link → slice_get ends i ≡ Some left → HasEnds link left
+  pub each : (i : ℕ) (link : LinkValue) (left : LinkEndsValue) → slice_get links i ≡ Some link → slice_get ends i ≡ Some left → HasBothEnds link left
 
 -- each link is closed with its ends, in the same order
 pub record AreClosed (links : List LinkValue) (ends : List LinkEndsValue) (closed : List GatheredLink) : Type 0 where

@@ -11,7 +11,7 @@ use Rattle.sq_node.specs.Opened.{IsFabricOf, AllHoldUnder}
 use Rattle.sq_gather.specs.Gathered.{AreAllOf}
 
 -- a run is in a stage that began so: what it shares fits the opening, the stage could begin so, these are all nodes and all pumps of the run, and what a node keeps holds of each node
-pub record IsRun (o : OpeningValue) (began : BeganWith) (fabric : FabricValue) (nodes : List NodeState) (pumps : List PumpValue) : Type 0 where
+pub record IsRunInStage (o : OpeningValue) (began : BeganWith) (fabric : FabricValue) (nodes : List NodeState) (pumps : List PumpValue) : Type 0 where
   pub shared : IsFabricOf o fabric
   pub begun : HasBegun began fabric
   pub can : CanBegin o began

@@ -1,6 +1,6 @@
 // Closing the links.
 ghost use Rattle.std.specs.Prelude.{◌≡◌, [], ◌+◌, ◌<◌, ◌≤◌, ◌++◌, length, vec_len, vec_capacity, option_to_list};
-ghost use Rattle.sq_gather.specs.Links.{HasEnds, IsClosed, HaveEnds, AreClosed};
+ghost use Rattle.sq_gather.specs.Links.{HasBothEnds, IsClosed, HaveBothEnds, AreClosed};
 
 use crate::link_ends::LinkEnds;
 use sq_chunk::{Chunk, Note};
@@ -37,7 +37,7 @@ pub fn close_links<R: Wait>(
     ends: Vec<LinkEnds>,
     mut room: Vec<ClosedLink>,
 ) -> Vec<ClosedLink>
-    requires ends { HaveEnds links.items ends.items }
+    requires ends { HaveBothEnds links.items ends.items }
     requires empty { room.items ≡ [] }
     requires room { length links.items ≤ vec_capacity room }
     ensures { AreClosed links.items ends.items result.items }
@@ -54,7 +54,7 @@ pub fn close_links<R: Wait>(
 
 /// Closes a link with what its ends left of it.
 pub fn close_link<R: Wait>(rt: &R, link: Link, ends: LinkEnds) -> ClosedLink
-    requires { HasEnds link ends }
+    requires { HasBothEnds link ends }
     ensures { IsClosed link ends result }
 {
     let src = link.src();

@@ -4,7 +4,7 @@ ghost use Rattle.sq_ranges.specs.ReconValue.{stages};
 ghost use Rattle.sq_pull.specs.declared.numbers.TheConstants.{MAX_PUMPS};
 ghost use Rattle.sq_node_model.specs.Placed.{IsPlaced};
 ghost use Rattle.sq_node_model.specs.Next.{IsStageDone, next_began};
-ghost use Rattle.sq_gather.specs.Reopened.{IsRun};
+ghost use Rattle.sq_gather.specs.Reopened.{IsRunInStage};
 
 use crate::gathered::Gathered;
 use sq_node::{Fabric, Node, Unresumed};
@@ -28,7 +28,7 @@ pub fn reopen(
     requires done { IsStageDone opening.now g }
     requires more { g.stage + 1 < stages opening.now.recon }
     requires left { length g.left ≡ opening.now.old.parts }
-    ensures run { IfOk result (λ run. IsRun opening.now (next_began opening.now g) run.0 run.1.items run.2.items) }
+    ensures run { IfOk result (λ run. IsRunInStage opening.now (next_began opening.now g) run.0 run.1.items run.2.items) }
     ensures pumps { IfOk result (λ run. length run.2.items ≡ pumps) }
     ensures returned { IfErr result (λ back. back ≡ g) }
 {

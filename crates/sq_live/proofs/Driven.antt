@@ -16,7 +16,7 @@ use Rattle.sq_driver.specs.Nodes.{Driven, AllDriven}
 use Rattle.sq_driver.specs.Pumps.{PumpDriven, AllPumpsDriven}
 use Rattle.sq_driver.proofs.Together.{was_driven}
 use Rattle.sq_gather.specs.Gathered.{AreAllOf, AllHold, IsGathered}
-use Rattle.sq_gather.specs.Reopened.{IsRun, AllStay, AllPumpsStay}
+use Rattle.sq_gather.specs.Reopened.{IsRunInStage, AllStay, AllPumpsStay}
 use Rattle.sq_gather.proofs.AllOf.{pump_claimed}
 use Rattle.sq_gather.proofs.Running.{run_goes_on, all_hold}
 use Rattle.sq_live.specs.Stages.{RanFrom}
@@ -57,7 +57,7 @@ module _ (fabric : FabricValue) (old new : List NodeState) (before after : List 
   }
 
 -- what is gathered of a run that was driven
-pub run_gathered : (o : OpeningValue) (began : BeganWith) (fabric : FabricValue) (old new : List NodeState) (before after : List PumpValue) → IsOpening o → IsRun o began fabric old before
+pub run_gathered : (o : OpeningValue) (began : BeganWith) (fabric : FabricValue) (old new : List NodeState) (before after : List PumpValue) → IsOpening o → IsRunInStage o began fabric old before
     → AllDriven fabric old new → AllPumpsDriven fabric before after
     → (nodes : List NodeState) → nodes ≡ new → (pumps : List PumpValue) → (g : GatheredValue) → IsGathered fabric nodes pumps g
     → ((o : OpeningValue) (began : BeganWith) → IsOpening o → IsFabricOf o fabric → HasBegun began fabric → CanBegin o began → AllHold o began nodes → IsPlaced o g)

@@ -7,7 +7,7 @@ use Rattle.sq_node_model.specs.BeganWith.{BeganWith, first_began}
 use Rattle.sq_node_model.specs.Gathered.{GatheredValue}
 use Rattle.sq_node_model.specs.Placed.{IsPlaced, GoOn}
 use Rattle.sq_node_model.specs.Next.{is_whole_in, IsStageDone, next_began}
-use Rattle.sq_gather.specs.Reopened.{IsRun}
+use Rattle.sq_gather.specs.Reopened.{IsRunInStage}
 use Rattle.sq_audit.specs.declared.job.Job.{Job}
 use Rattle.sq_audit.specs.declared.folded.Folded.{Folded}
 use Rattle.sq_audit.specs.Defects.{IsFirst}
@@ -68,7 +68,7 @@ HavePassed folds o jobs (g ∷ earlier) account began =
 
 -- a stage that began so is ready to run, and the leader leads it
 pub record IsReady (began : BeganWith) (ready : Ready) : Type 0 where
-  pub run : IsRun ready.account.opening began ready.fabric ready.nodes.items ready.pumps.items
+  pub run : IsRunInStage ready.account.opening began ready.fabric ready.nodes.items ready.pumps.items
   pub led : ready.moving ≡ leading ready.account.opening began.stage
 
 -- what comes after a stage that began so: the run ends, or the next stage is ready

@@ -7,7 +7,7 @@ ghost use Rattle.sq_node_model.specs.BeganWith.{BeganWith, first_began};
 ghost use Rattle.sq_node_model.specs.Placed.{IsPlaced};
 ghost use Rattle.sq_node_model.specs.Next.{IsStageDone, next_began};
 ghost use Rattle.sq_gather.specs.Gathered.{AreAllOf};
-ghost use Rattle.sq_gather.specs.Reopened.{IsRun};
+ghost use Rattle.sq_gather.specs.Reopened.{IsRunInStage};
 ghost use Rattle.sq_live.specs.Account.{first_account};
 ghost use Rattle.sq_live.specs.Jobs.{HavePartitions};
 ghost use Rattle.sq_live.specs.Leading.{leading};
@@ -175,7 +175,7 @@ fn drive_all<R: Threads + Wait + Sync, G: Watch>(
     watch: &G,
 ) -> Result<Gathered, AllocError>
     requires { AreAllOf fabric nodes.items pumps.items }
-    ensures { IfOk result (λ g. (o : OpeningValue) (began : BeganWith) → IsOpening o → IsRun o began fabric nodes.items pumps.items → RanFrom o began g) }
+    ensures { IfOk result (λ g. (o : OpeningValue) (began : BeganWith) → IsOpening o → IsRunInStage o began fabric nodes.items pumps.items → RanFrom o began g) }
 {
     watch.stage_begins();
     run_workers(rt, &fabric, &mut nodes, &mut pumps, turns, watch);

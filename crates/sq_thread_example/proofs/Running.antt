@@ -16,7 +16,7 @@ use Rattle.sq_driver.specs.Nodes.{Driven, AllDriven}
 use Rattle.sq_driver.specs.Pumps.{HasAllSeats, PumpDriven, AllPumpsDriven}
 use Rattle.sq_driver.proofs.Together.{was_driven}
 use Rattle.sq_gather.specs.Gathered.{AreAllOf, AllHold}
-use Rattle.sq_gather.specs.Reopened.{IsRun, AllStay, AllPumpsStay}
+use Rattle.sq_gather.specs.Reopened.{IsRunInStage, AllStay, AllPumpsStay}
 use Rattle.sq_gather.proofs.Running.{run_begins, run_goes_on, all_hold}
 
 -- what a vector has once all its elements were written through a slice of it
@@ -48,12 +48,12 @@ module _ (fabric : FabricValue) (old new : List NodeState) (before after : List 
   }
 
   -- a run that opened is one still once its workers were driven
-  pub driven_run : (o : OpeningValue) (count : ℕ) → IsOpening o → IsFabric fabric → IsOpened o count fabric old before → AllDriven fabric old new → AllPumpsDriven fabric before after → IsRun o (first_began o) fabric new after
+  pub driven_run : (o : OpeningValue) (count : ℕ) → IsOpening o → IsFabric fabric → IsOpened o count fabric old before → AllDriven fabric old new → AllPumpsDriven fabric before after → IsRunInStage o (first_began o) fabric new after
   driven_run o count is shared opened nodes pumps =
       run_goes_on o (first_began o) fabric old new before after is (run_begins o count fabric old before is shared opened) (nodes_stay nodes) (pumps_stay pumps)
 
 -- what is gathered of a run is placed
-pub placed : (o : OpeningValue) (began : BeganWith) (fabric : FabricValue) (new : List NodeState) (after : List PumpValue) (nodes : List NodeState) (g : GatheredValue) → nodes ≡ new → IsOpening o → IsRun o began fabric new after
+pub placed : (o : OpeningValue) (began : BeganWith) (fabric : FabricValue) (new : List NodeState) (after : List PumpValue) (nodes : List NodeState) (g : GatheredValue) → nodes ≡ new → IsOpening o → IsRunInStage o began fabric new after
     → ((o : OpeningValue) (began : BeganWith) → IsOpening o → IsFabricOf o fabric → HasBegun began fabric → CanBegin o began → AllHold o began nodes → IsPlaced o g)
     → IsPlaced o g
 placed o began fabric new after nodes g all is run places =

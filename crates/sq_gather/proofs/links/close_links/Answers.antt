@@ -3,7 +3,7 @@ use Rattle.std.specs.Vec.Iter.{into_iter_items}
 use Rattle.sq_link.specs.Values.{LinkValue}
 use Rattle.sq_node_model.specs.Gathered.{GatheredLink}
 use Rattle.sq_gather.specs.LinkEnds.{LinkEndsValue}
-use Rattle.sq_gather.specs.Links.{HaveEnds, AreClosed}
+use Rattle.sq_gather.specs.Links.{HaveBothEnds, AreClosed}
 use Rattle.sq_gather.proofs.Lists.{empty}
 use Rattle.sq_gather.proofs.Linked.{Closes, none_closed, closes_more, next_ends, all_closed}
 use Rattle.sq_gather.proofs.links.close_links.Goals as goal
@@ -43,7 +43,7 @@ close_link-requires g c =
     next_ends at.yielded c.args.links.items (into_iter_items c.next.new.self) (into_iter_items c.into_iter-left.result) (into_iter_items at.left) (into_iter_items c.next-in-loop-link.new.self) at.room.items c.in-Some.link
     c.in-Some-next.ends at.invariant.closed c.in-Some-next.ensures.items
     (sym (ap (λ (rest : List LinkValue). at.yielded ++ rest) (sym c.in-Some.ensures.steps.0) ∙ at.invariant.links ∙ c.into_iter-link-iterator.ensures.into_iter_gives.0))
-    (subst (λ (ends : List LinkEndsValue). HaveEnds c.args.links.items ends) (sym c.into_iter-left.ensures.rest) c.requires.ends)
+    (subst (λ (ends : List LinkEndsValue). HaveBothEnds c.args.links.items ends) (sym c.into_iter-left.ensures.rest) c.requires.ends)
 
 pub push_reserved-requires : goal.push_reserved-requires
 push_reserved-requires g c =

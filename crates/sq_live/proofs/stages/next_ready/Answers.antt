@@ -2,7 +2,7 @@ use Rattle.std.proofs.Common.{ℕ, ◌+◌, ◌<◌, sym, ap, ◌∙◌, subst}
 use Rattle.sq_ranges.specs.ReconValue.{stages}
 use Rattle.sq_node_model.specs.Placed.{IsPlaced}
 use Rattle.sq_node_model.specs.Next.{IsStageDone, next_began}
-use Rattle.sq_gather.specs.Reopened.{IsRun}
+use Rattle.sq_gather.specs.Reopened.{IsRunInStage}
 use Rattle.sq_live.specs.Account.{AccountValue}
 use Rattle.sq_live.proofs.Passing.{one_of_the_stages}
 use Rattle.sq_live.proofs.stages.next_ready.Goals as goal
@@ -23,6 +23,6 @@ reopen-requires-clause-left c = c.requires.left ∙ sym (ap (λ (a : AccountValu
 
 pub returns-in-Ok-clause-ready : goal.returns-in-Ok-clause-ready
 returns-in-Ok-clause-ready c = record {
-  run = subst (λ (a : AccountValue). IsRun a.opening (next_began a.opening c.args.gathered) c.in-Ok.fabric c.in-Ok.nodes.items c.in-Ok.pumps.items) c.account.view_is c.in-Ok.ensures.run;
+  run = subst (λ (a : AccountValue). IsRunInStage a.opening (next_began a.opening c.args.gathered) c.in-Ok.fabric c.in-Ok.nodes.items c.in-Ok.pumps.items) c.account.view_is c.in-Ok.ensures.run;
   led = c.requires.led;
 }
