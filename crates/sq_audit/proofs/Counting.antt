@@ -9,7 +9,7 @@ use Rattle.std.proofs.lemmas.Bool.{cases_Bool, and_parts}
 use Rattle.std.proofs.lemmas.List.Sums.{count_by_more_yes, count_by_more_no}
 use Rattle.std.proofs.lemmas.Option.{slice_get_within, get_or_from_slice_get}
 use Rattle.sq_node_model.specs.NodeValue.{ReceiptValue}
-use Rattle.sq_audit.specs.Counts.{key_order, has_key, Counts}
+use Rattle.sq_audit.specs.Counts.{key_order, has_id_and_root, Counts}
 
 pub pair_is : {a b c d : ℕ} → a ≡ b → c ≡ d → Path (ℕ × ℕ) (a, c) (b, d)
 pair_is one other = λ k. (one k, other k)
@@ -17,7 +17,7 @@ pair_is one other = λ k. (one k, other k)
 module _ (receipts : List ReceiptValue) (i : ℕ) (receipt : ReceiptValue) (at : slice_get receipts i ≡ Some receipt) (old new : BTreeMap (ℕ × ℕ) ℕ) (before : ℕ)
     (updates : Updates key_order old new (receipt.id, receipt.root) (Some (before + 1))) (so_far : Counts (take i receipts) old)
     (before_is : before ≡ unwrap_or (get key_order old (receipt.id, receipt.root)) 0) where
-  pub counted_before : before ≡ count_by (has_key receipt.id receipt.root) (take i receipts)
+  pub counted_before : before ≡ count_by (has_id_and_root receipt.id receipt.root) (take i receipts)
   counted_before = before_is ∙ so_far receipt.id receipt.root
 
   pub counted_next : Counts (take (i + 1) receipts) new
@@ -32,12 +32,12 @@ module _ (receipts : List ReceiptValue) (i : ℕ) (receipt : ReceiptValue) (at :
       let parts = and_parts (receipt.id == id) (receipt.root == root) yes in
       let same_id = eqb-true receipt.id id parts.0 in
       let same_root = eqb-true receipt.root root parts.1 in
-      let more = count_by_more_yes (has_key id root) receipts i receipt within (ap (has_key id root) here ∙ yes) in
+      let more = count_by_more_yes (has_id_and_root id root) receipts i receipt within (ap (has_id_and_root id root) here ∙ yes) in
       let value : unwrap_or (get key_order new (id, root)) 0 ≡ before + 1 = ap (λ o. unwrap_or o 0) (after ∙ ap (λ b. cond b (Some (before + 1)) (get key_order old (id, root))) yes) in
-      let was : before ≡ count_by (has_key id root) (take i receipts) = counted_before ∙ (λ k. count_by (has_key (same_id k) (same_root k)) (take i receipts)) in
+      let was : before ≡ count_by (has_id_and_root id root) (take i receipts) = counted_before ∙ (λ k. count_by (has_id_and_root (same_id k) (same_root k)) (take i receipts)) in
       value ∙ ap (λ n. n + 1) was ∙ sym more)
       (λ no.
-      let more = count_by_more_no (has_key id root) receipts i receipt within (ap (has_key id root) here ∙ no) in
+      let more = count_by_more_no (has_id_and_root id root) receipts i receipt within (ap (has_id_and_root id root) here ∙ no) in
       ap (λ o. unwrap_or o 0) (after ∙ ap (λ b. cond b (Some (before + 1)) (get key_order old (id, root))) no) ∙ so_far id root ∙ sym more)
       (cases_Bool test)
 

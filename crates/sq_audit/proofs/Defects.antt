@@ -11,8 +11,8 @@ use Rattle.sq_audit.specs.declared.verdict.Defect.TheVariants.{RootMissing, Root
 use Rattle.sq_audit.specs.declared.verdict.Verdict.{Verdict}
 use Rattle.sq_audit.specs.declared.verdict.Verdict.TheVariants.{Sound, Unsound}
 use Rattle.sq_audit.specs.Answers.{AreKnown}
-use Rattle.sq_audit.specs.Sound.{IsSound}
-use Rattle.sq_audit.specs.Defects.{defect_number, Clears, IsFirst, IsVerdict}
+use Rattle.sq_audit.specs.Sound.{IsSoundRun}
+use Rattle.sq_audit.specs.Defects.{defect_number, Clears, IsFirstDefect, IsVerdict}
 use Rattle.sq_audit.proofs.Lists.{nothing_there}
 
 module _ (o : OpeningValue) (g : GatheredValue) (jobs : List Job) where
@@ -26,7 +26,7 @@ module _ (o : OpeningValue) (g : GatheredValue) (jobs : List Job) where
       (λ none. absurd (let at = told.there commits in let log = ap (λ (family : FamilyValue). family.log) none.1 in nothing_there receipt.position answer.0.txn (rw log at at)))
       answer.3
 
-  pub each_clear : IsSound o g jobs → (defect : Defect) → Clears o g jobs defect
+  pub each_clear : IsSoundRun o g jobs → (defect : Defect) → Clears o g jobs defect
   each_clear sound RootMissing = sound.placed.opening
   each_clear sound RootDoubled = sound.placed.once
   each_clear sound BaseChanged = sound.placed.base
@@ -34,7 +34,7 @@ module _ (o : OpeningValue) (g : GatheredValue) (jobs : List Job) where
   each_clear sound ReceiptUnknown = (sound.known, sound.placed.named)
   each_clear sound Unanswered = sound.answered
 
-  pub sound_from : ((defect : Defect) → Clears o g jobs defect) → IsSound o g jobs
+  pub sound_from : ((defect : Defect) → Clears o g jobs defect) → IsSoundRun o g jobs
   sound_from clear =
       record {
         placed = record {
@@ -58,7 +58,7 @@ module _ (o : OpeningValue) (g : GatheredValue) (jobs : List Job) where
   number_one Unanswered Unanswered same = refl
   number_one _ _ same = absurd (omega (arith, same))
 
-  one_first : (one other : Defect) → IsFirst o g jobs one → IsFirst o g jobs other → one ≡ other
+  one_first : (one other : Defect) → IsFirstDefect o g jobs one → IsFirstDefect o g jobs other → one ≡ other
   one_first one other found again =
       ⊎_elim
       (λ below. absurd (found.found (again.first one below)))

@@ -13,11 +13,11 @@ use Rattle.sq_node_model.specs.Gathered.{GatheredValue}
 use Rattle.sq_node_model.specs.Spots.{word_in, cut_notes, StandsAt}
 use Rattle.sq_node_model.specs.Placed.{HasEachPart, FitTogether}
 use Rattle.sq_audit.specs.Notes.{LinksPlaced}
-use Rattle.sq_audit.specs.Words.{AreComplete}
+use Rattle.sq_audit.specs.Words.{CompleteAreLoaded}
 use Rattle.sq_audit.specs.Fits.{ArePlaced}
 
 module _ (o : OpeningValue) (g : GatheredValue) (parts : HasEachPart o g) (links : LinksPlaced o g) (apart : AreDisjoint (cut_notes g)) (grown : (seg : ℕ) → IsGrown (word_in g seg))
-    (complete : AreComplete g) (keyed : (spot : Spot) (root : ℕ) (family : FamilyValue) → StandsAt g spot root family → IsOf root family) where
+    (complete : CompleteAreLoaded g) (keyed : (spot : Spot) (root : ℕ) (family : FamilyValue) → StandsAt g spot root family → IsOf root family) where
   -- all but where the families are is known
   pub fit_if_placed : {E : Type 0} (r : Result Bool E) → IfOk r (λ placed. Decides placed (ArePlaced o g)) → IfOk r (λ fit. Decides fit (FitTogether o g))
   fit_if_placed (Ok b) decides =

@@ -31,7 +31,7 @@ use Rattle.sq_audit.specs.declared.folding.Ready.{Ready}
 use Rattle.sq_audit.specs.Answers.{IdsDiffer}
 use Rattle.sq_audit.specs.Counts.{Counts, is_counted}
 use Rattle.sq_audit.specs.Rows.{rows_among}
-use Rattle.sq_audit.specs.Folding.{has_receipt, answered_jobs, jobs_left, IsReady, IsFold}
+use Rattle.sq_audit.specs.Folding.{has_receipt, answered_jobs, jobs_left, IsReadyToFold, IsFold}
 use Rattle.sq_audit.proofs.Lists.{nothing_there}
 use Rattle.sq_audit.proofs.Among.{rows_alone, rows_stand, rows_come}
 
@@ -120,7 +120,7 @@ module _ (o : OpeningValue) (is : IsOpening o) (g : GatheredValue) (p : IsPlaced
   }
 
 -- what is put together of it is folded
-pub is_fold : (o : OpeningValue) → IsOpening o → (g : GatheredValue) → IsStageDone o g → (jobs : List Job) → IdsDiffer jobs → (ready : Ready) → IsReady o g jobs ready → (folded : Folded)
+pub is_fold : (o : OpeningValue) → IsOpening o → (g : GatheredValue) → IsStageDone o g → (jobs : List Job) → IdsDiffer jobs → (ready : Ready) → IsReadyToFold o g jobs ready → (folded : Folded)
     → folded.opening ≡ folded_opening o ready.table → folded.gathered ≡ folded_gathered g (map folded_store g.stores)
     → folded.jobs.items ≡ filter (λ job. not (is_counted ready.counts job)) jobs → IsFold o g jobs folded
 is_fold o is g done jobs differ ready judged folded opening gathered left =

@@ -15,8 +15,8 @@ use Rattle.sq_audit.specs.declared.located.Located.{Located}
 use Rattle.sq_audit.specs.declared.located.Site.{Site}
 use Rattle.sq_audit.specs.declared.located.Site.TheVariants.{Store, Chunk}
 use Rattle.sq_audit.specs.contracts.located.SitePartialEq.TheImpl as site
-use Rattle.sq_audit.specs.Located.{Entry, spot_of, entry_of, entries_of, AreByRoot}
-use Rattle.sq_audit.specs.Index.{IsIndexTo, IsIndex, Agree, HasFamily, AgreeTo, AgreeOnSpots}
+use Rattle.sq_audit.specs.Located.{Entry, spot_of, entry_of, entries_in, AreByRoot}
+use Rattle.sq_audit.specs.Index.{IsIndexTo, IsIndexOf, Agree, HasFamily, AgreeTo, AgreeOnSpots}
 use Rattle.sq_audit.proofs.Each.{same_of, no_some}
 use Rattle.std.specs.Cmp.{unsigned_Decides}
 
@@ -63,7 +63,7 @@ module _ {X : Type 0} (key : X → ℕ) (xs : List X) (upto k : ℕ) (old new : 
       }
 
 -- that the root keys don't fall, of entries and of what they are of
-pub rise_entries : (all : List Located) → IsNonDecreasingBy (λ located. located.family.now.root) all → AreByRoot (entries_of all)
+pub rise_entries : (all : List Located) → IsNonDecreasingBy (λ located. located.family.now.root) all → AreByRoot (entries_in all)
 rise_entries all rise i j one other upto at there =
     let low = map_at entry_of all i one at in
     let high = map_at entry_of all j other there in
@@ -74,7 +74,7 @@ rise_entries all rise i j one other upto at there =
     let other_root = ap (λ (l : Located). l.family.now.root) later ∙ ap (λ (e : Entry). e.1.root) high.2 in
     omega (arith, le, one_root, other_root)
 
-pub rise_located : (all : List Located) → AreByRoot (entries_of all) → IsNonDecreasingBy (λ located. located.family.now.root) all
+pub rise_located : (all : List Located) → AreByRoot (entries_in all) → IsNonDecreasingBy (λ located. located.family.now.root) all
 rise_located all rise i j d upto within =
     let low = stands_at all i (omega (arith, upto, within)) in
     let high = stands_at all j within in
@@ -100,13 +100,13 @@ either_family (entry ∷ entries) root =
     ]
 
 -- where the families of root keys below one end, the first family of the root key stands
-module _ (all : List Located) (rise : AreByRoot (entries_of all)) (root count : ℕ)
+module _ (all : List Located) (rise : AreByRoot (entries_in all)) (root count : ℕ)
     (point : IsPartitionedBy (λ located. nat_lt located.family.now.root root) all
     → IsPartitionPoint (λ located. nat_lt located.family.now.root root ≡ true) (λ located. nat_lt located.family.now.root root ≡ false) all count) where
   parted : IsPartitionPoint (λ located. nat_lt located.family.now.root root ≡ true) (λ located. nat_lt located.family.now.root root ≡ false) all count
   parted = point (IsPartitionedBy-ltb (λ located. located.family.now.root) all root (rise_located all rise))
 
-  low : (k : ℕ) (entry : Entry) → slice_get (entries_of all) k ≡ Some entry → k < count → entry.1.root < root
+  low : (k : ℕ) (entry : Entry) → slice_get (entries_in all) k ≡ Some entry → k < count → entry.1.root < root
   low k entry at before =
       let from = map_at entry_of all k entry at in
       let here = get_or_from_slice_get all k from.0 from.0 from.1 in
@@ -115,7 +115,7 @@ module _ (all : List Located) (rise : AreByRoot (entries_of all)) (root count : 
       let same = ap (λ (e : Entry). e.1.root) from.2 in
       omega (arith, less, same)
 
-  high : (k : ℕ) (entry : Entry) → slice_get (entries_of all) k ≡ Some entry → count ≤ k → root ≤ entry.1.root
+  high : (k : ℕ) (entry : Entry) → slice_get (entries_in all) k ≡ Some entry → count ≤ k → root ≤ entry.1.root
   high k entry at behind =
       let from = map_at entry_of all k entry at in
       let here = get_or_from_slice_get all k from.0 from.0 from.1 in
@@ -125,33 +125,33 @@ module _ (all : List Located) (rise : AreByRoot (entries_of all)) (root count : 
       omega (arith, from_root, same)
 
   -- a family of the root key stands there or behind
-  behind : (has : HasFamily (entries_of all) root) → count ≤ has.1.0
+  behind : (has : HasFamily (entries_in all) root) → count ≤ has.1.0
   behind has =
       ⊎_elim
       (λ before.
-      let less = low has.1.0 has.0 (slice_get-Contains (entries_of all) has.0 has.1) before in
+      let less = low has.1.0 has.0 (slice_get-Contains (entries_in all) has.0 has.1) before in
       let same = has.2 in
       absurd (omega (arith, less, same)))
       (λ from. from)
       (cases_lt has.1.0 count)
 
-  pub first_family : (located : Located) (b : Bool) → slice_get all count ≡ Some located → Decides b (located.family.now.root ≡ root) → Decides b (HasFamily (entries_of all) root)
+  pub first_family : (located : Located) (b : Bool) → slice_get all count ≡ Some located → Decides b (located.family.now.root ≡ root) → Decides b (HasFamily (entries_in all) root)
   first_family located b at decides =
       let there = at_map entry_of all count located at in
       Decides-like b
-      (λ same. (entry_of located, Contains-slice_get (entries_of all) count (entry_of located) there, same))
+      (λ same. (entry_of located, Contains-slice_get (entries_in all) count (entry_of located) there, same))
       (λ has.
-      let upto = rise count has.1.0 (entry_of located) has.0 (behind has) there (slice_get-Contains (entries_of all) has.0 has.1) in
+      let upto = rise count has.1.0 (entry_of located) has.0 (behind has) there (slice_get-Contains (entries_in all) has.0 has.1) in
       let from = high count (entry_of located) there (omega arith) in
       let same = has.2 in
       omega (arith, upto, from, same))
       decides
 
-  pub no_family : slice_get all count ≡ None → Decides false (HasFamily (entries_of all) root)
+  pub no_family : slice_get all count ≡ None → Decides false (HasFamily (entries_in all) root)
   no_family none = (
     (λ e. absurd (true≢false (sym e))),
     (λ has.
-        let found = map_at entry_of all has.1.0 has.0 (slice_get-Contains (entries_of all) has.0 has.1) in
+        let found = map_at entry_of all has.1.0 has.0 (slice_get-Contains (entries_in all) has.0 has.1) in
         let within = slice_get_within all has.1.0 found.0 found.1 in
         let from = behind has in
         let last = stands_at all count (omega (arith, within, from)) in
@@ -192,7 +192,7 @@ module _ (entries : List Entry) (rise : AreByRoot entries) (at : ℕ) (some : 1 
       (cases_lt i at)
 
 -- the index once all are in it
-pub index_whole : {X : Type 0} (key : X → ℕ) (xs : List X) (upto : ℕ) (places : BTreeMap ℕ ℕ) → length xs ≤ upto → IsIndexTo key xs upto places → IsIndex key xs places
+pub index_whole : {X : Type 0} (key : X → ℕ) (xs : List X) (upto : ℕ) (places : BTreeMap ℕ ℕ) → length xs ≤ upto → IsIndexTo key xs upto places → IsIndexOf key xs places
 index_whole key xs upto places whole so_far =
     record {
       found = so_far.found;

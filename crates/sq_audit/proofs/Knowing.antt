@@ -11,7 +11,7 @@ use Rattle.sq_model.proofs.Lists.{Contains-filter, kept_in, filter-first, filter
 use Rattle.sq_node_model.specs.NodeValue.{ReceiptValue}
 use Rattle.sq_audit.specs.declared.job.Job.{Job}
 use Rattle.sq_audit.specs.Located.{Entry}
-use Rattle.sq_audit.specs.Told.{TellsLog, TellLogs, TellNothing, KnowsAll, is_named, receipts_of}
+use Rattle.sq_audit.specs.Told.{TellsLog, TellLogs, TellNoLog, KnowsAll, is_named, receipts_of}
 
 pub count_first : {X : Type 0} (p : X → Bool) (x : X) (xs : List X) → count_by p (x ∷ xs) ≡ cond (p x) 1 0 + count_by p xs
 count_first p x xs = sum_by-append (λ y. cond (p y) 1 0) (x ∷ []) xs ∙ (let e : (0 + cond (p x) 1 0) + count_by p xs ≡ cond (p x) 1 0 + count_by p xs = omega arith in e)
@@ -46,7 +46,7 @@ log_permuted jobs family root xs ys same tells =
 pub logs_permuted : (entries : List Entry) (jobs : List Job) (xs ys : List ReceiptValue) → IsPermutation xs ys → TellLogs entries jobs xs → TellLogs entries jobs ys
 logs_permuted entries jobs xs ys same tell entry has = log_permuted jobs entry.1 entry.1.root xs ys same (tell entry has)
 
-pub knows_all : (entries : List Entry) (jobs : List Job) (receipts : List ReceiptValue) (tell : Bool) → TellLogs entries jobs receipts → Decides tell (TellNothing entries jobs receipts) → Decides tell (KnowsAll entries jobs receipts)
+pub knows_all : (entries : List Entry) (jobs : List Job) (receipts : List ReceiptValue) (tell : Bool) → TellLogs entries jobs receipts → Decides tell (TellNoLog entries jobs receipts) → Decides tell (KnowsAll entries jobs receipts)
 knows_all entries jobs receipts tell logs nothing = Decides-like tell (λ told. record { logs = logs; nothing = told }) (λ all. all.nothing) nothing
 
 pub ok_like : {T E : Type 0} {P Q : T → Type 0} (r : Result T E) → ((x : T) → P x → Q x) → IfOk r P → IfOk r Q

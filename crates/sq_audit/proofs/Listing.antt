@@ -22,7 +22,7 @@ use Rattle.sq_node_model.specs.Spots.{StandsAt}
 use Rattle.sq_node_model.proofs.Members.{Contains-map}
 use Rattle.sq_node_model.proofs.Stands.{of_some}
 use Rattle.sq_audit.specs.declared.located.Located.{Located}
-use Rattle.sq_audit.specs.Located.{Entry, entry_of, entries_of, AreAllOf, AddsAll, AddsLink, ListsAll}
+use Rattle.sq_audit.specs.Located.{Entry, entry_of, entries_in, AreAllFamilies, AddsAll, AddsLink, ListsAll}
 use Rattle.sq_audit.proofs.Each.{same_of, no_some}
 
 -- a family whose log is its own is that of its root key
@@ -31,8 +31,8 @@ of_root root family same own = record { same_root = same; own_log = subst (λ k.
 
 -- one more is listed
 pub pushed : (all : List Located) (one : Located) (before : List Entry) (families : List FamilyValue) (spot : Spot) (family : FamilyValue)
-    → entries_of all ≡ before ++ map (λ f. (spot, f)) families → entry_of one ≡ (spot, family)
-    → entries_of (all ++ one ∷ []) ≡ before ++ map (λ f. (spot, f)) (families ++ family ∷ [])
+    → entries_in all ≡ before ++ map (λ f. (spot, f)) families → entry_of one ≡ (spot, family)
+    → entries_in (all ++ one ∷ []) ≡ before ++ map (λ f. (spot, f)) (families ++ family ∷ [])
 pushed all one before families spot family so_far is =
     let pair : FamilyValue → Entry = λ f. (spot, f) in
     map-append entry_of all (one ∷ [])
@@ -86,7 +86,7 @@ module _ (store : StoreValue) (at : ℕ) (families : List FamilyValue) (by : Hol
             (Contains-append_cases families (family ∷ []) other has);
       }
 
-  pub walked_all : family_from store at ≡ None → AreAllOf (get store) families
+  pub walked_all : family_from store at ≡ None → AreAllFamilies (get store) families
   walked_all none =
       record {
         here = so_far.here;
@@ -126,7 +126,7 @@ found_here lo hi (first ∷ families) family rise has =
     ∙ found_here (first.root + 1) hi families family r.rest later)
     (Contains-cases first families family has)
 
-pub carried_all : (lo hi : ℕ) (families : List FamilyValue) → are_within lo hi families ≡ true → AreKeyed families → AreAllOf (family_in families) families
+pub carried_all : (lo hi : ℕ) (families : List FamilyValue) → are_within lo hi families ≡ true → AreKeyed families → AreAllFamilies (family_in families) families
 carried_all lo hi families rise own =
     record {
       here = λ family has. found_here lo hi families family rise has;
@@ -150,7 +150,7 @@ abbrev pub of_spot : Spot → List FamilyValue → List Entry
 of_spot spot families = map (λ family. (spot, family)) families
 
 module _ (link : ℕ) (of : GatheredLink) (chunk : ℕ) (found : ChunkValue) (there : slice_get of.under_way chunk ≡ Some found) where
-  pub carried_next : (entries : List Entry) (families : List FamilyValue) → CarriedTo link of chunk entries → AreAllOf (family_in found.families) families
+  pub carried_next : (entries : List Entry) (families : List FamilyValue) → CarriedTo link of chunk entries → AreAllFamilies (family_in found.families) families
       → CarriedTo link of (chunk + 1) (entries ++ of_spot (Chunk link chunk) families)
   carried_next entries families so_far all =
       let more = of_spot (Chunk link chunk) families in

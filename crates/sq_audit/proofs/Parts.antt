@@ -9,7 +9,8 @@ use Rattle.sq_ranges.specs.OpeningValue.{OpeningValue}
 use Rattle.sq_model.proofs.Lists.{Contains-slice_get, slice_get-Contains, list_any-Contains, any_in}
 use Rattle.sq_node_model.specs.Stages.{is_link_in}
 use Rattle.sq_node_model.specs.Gathered.{GatheredLink, HasEachLink}
-use Rattle.sq_audit.specs.Fits.{is_between, ends_of, AreKnownLinks, HaveOneEach}
+use Rattle.sq_gather.specs.Gathered.{closed_ends}
+use Rattle.sq_audit.specs.Fits.{is_of_link, AreKnownLinks, HaveOneEach}
 use Rattle.sq_audit.proofs.Lists.{counted, count_parts, at_dropped}
 use Rattle.sq_audit.proofs.Knowing.{count_first}
 
@@ -89,7 +90,7 @@ position_any p xs =
     ]
 
 module _ (o : OpeningValue) (stage : ℕ) (gathered : List GatheredLink) (links : List Link) (are : AreLinks o.recon.ranges links) where
-  passes_ends : (at : GatheredLink) (link : Link) → at.src ≡ link.src → at.dst ≡ link.dst → is_between link at ≡ true
+  passes_ends : (at : GatheredLink) (link : Link) → at.src ≡ link.src → at.dst ≡ link.dst → is_of_link link at ≡ true
   passes_ends at link src dst = and_from (at.src == link.src) (at.dst == link.dst) (eq-eqb at.src link.src src) (eq-eqb at.dst link.dst dst)
 
   -- a link of the stage is one of these links, and of the stage
@@ -104,29 +105,29 @@ module _ (o : OpeningValue) (stage : ℕ) (gathered : List GatheredLink) (links 
   pub each_link_from : AreKnownLinks o.recon stage links gathered → HaveOneEach o.recon stage links gathered → HasEachLink o stage gathered
   each_link_from known once =
       record {
-        ends = λ src dst. position_any (is_between (record { src = src; dst = dst })) gathered ∙ any_is src dst;
+        ends = λ src dst. position_any (is_of_link (record { src = src; dst = dst })) gathered ∙ any_is src dst;
         one_each = λ i j one other at there src dst.
-            let link = ends_of one in
+            let link = closed_ends one in
             let is = known one (Contains-slice_get gathered i one at) in
-            counted_once (is_between link) gathered (once link is.0 is.1) i j one other at there (passes_ends one link refl refl) (passes_ends other link (sym src) (sym dst));
+            counted_once (is_of_link link) gathered (once link is.0 is.1) i j one other at there (passes_ends one link refl refl) (passes_ends other link (sym src) (sym dst));
       }
     where
-      any_is : (src dst : ℕ) → list_any (is_between (record { src = src; dst = dst })) gathered ≡ is_link_in o stage src dst
+      any_is : (src dst : ℕ) → list_any (is_of_link (record { src = src; dst = dst })) gathered ≡ is_link_in o stage src dst
       any_is src dst =
           let link : Link = record { src = src; dst = dst } in
           elim (cases_Bool (is_link_in o stage src dst)) [
             | inl moves ↦
                 let both = both_of src dst moves in
-                let found = counted (is_between link) gathered (let one = once link ((are.all link).1 both.0) both.1 in omega (arith, one)) in
-                list_any-Contains (is_between link) gathered found.one (Contains-slice_get gathered found.place found.one found.there) found.passes ∙ sym moves
+                let found = counted (is_of_link link) gathered (let one = once link ((are.all link).1 both.0) both.1 in omega (arith, one)) in
+                list_any-Contains (is_of_link link) gathered found.one (Contains-slice_get gathered found.place found.one found.there) found.passes ∙ sym moves
             | inr none ↦
-                elim (cases_Bool (list_any (is_between link) gathered)) [
+                elim (cases_Bool (list_any (is_of_link link) gathered)) [
                   | inl some ↦
-                      let found = any_in (is_between link) gathered some in
+                      let found = any_in (is_of_link link) gathered some in
                       let parts = and_parts (found.0.src == src) (found.0.dst == dst) found.2 in
                       let is = known found.0 found.1 in
                       let moves : is_link_in o stage src dst ≡ true =
-                      (λ i. is_link_in o stage (sym (eqb-true found.0.src src parts.0) i) (sym (eqb-true found.0.dst dst parts.1) i)) ∙ of_both found.0.src found.0.dst ((are.all (ends_of found.0)).0 is.0) is.1 in
+                      (λ i. is_link_in o stage (sym (eqb-true found.0.src src parts.0) i) (sym (eqb-true found.0.dst dst parts.1) i)) ∙ of_both found.0.src found.0.dst ((are.all (closed_ends found.0)).0 is.0) is.1 in
                       absurd (true≢false (sym moves ∙ none))
                   | inr nothing ↦ nothing ∙ sym none
                 ]
@@ -134,16 +135,16 @@ module _ (o : OpeningValue) (stage : ℕ) (gathered : List GatheredLink) (links 
 
   pub known_links : HasEachLink o stage gathered → AreKnownLinks o.recon stage links gathered
   known_links each at has =
-      let link = ends_of at in
-      let both = both_of at.src at.dst (sym (each.ends at.src at.dst) ∙ position_any (is_between link) gathered ∙ list_any-Contains (is_between link) gathered at has (passes_ends at link refl refl)) in
+      let link = closed_ends at in
+      let both = both_of at.src at.dst (sym (each.ends at.src at.dst) ∙ position_any (is_of_link link) gathered ∙ list_any-Contains (is_of_link link) gathered at has (passes_ends at link refl refl)) in
       ((are.all link).1 both.0, both.1)
 
   pub one_of_each : HasEachLink o stage gathered → HaveOneEach o.recon stage links gathered
   one_of_each each link has here =
-      let found = any_in (is_between link) gathered (sym (position_any (is_between link) gathered) ∙ each.ends link.src link.dst ∙ of_both link.src link.dst ((are.all link).0 has) here) in
+      let found = any_in (is_of_link link) gathered (sym (position_any (is_of_link link) gathered) ∙ each.ends link.src link.dst ∙ of_both link.src link.dst ((are.all link).0 has) here) in
       let there = slice_get-Contains gathered found.0 found.1 in
-      let some = at_counted (is_between link) gathered (found.1).0 found.0 there found.2 in
-      let few = at_most_once (is_between link) gathered
+      let some = at_counted (is_of_link link) gathered (found.1).0 found.0 there found.2 in
+      let few = at_most_once (is_of_link link) gathered
       (λ i j x y at also passes too.
       let one = and_parts (x.src == link.src) (x.dst == link.dst) passes in
       let other = and_parts (y.src == link.src) (y.dst == link.dst) too in
@@ -157,7 +158,7 @@ same_link src dst = λ i. record { src = src i; dst = dst i }
 pub known_again : (o : OpeningValue) (stage : ℕ) (gathered : List GatheredLink) (links others : List Link) → AreLinks o.recon.ranges links → AreLinks o.recon.ranges others → AreKnownLinks o.recon stage links gathered → AreKnownLinks o.recon stage others gathered
 known_again o stage gathered links others are also known at has =
     let is = known at has in
-    ((also.all (ends_of at)).1 ((are.all (ends_of at)).0 is.0), is.1)
+    ((also.all (closed_ends at)).1 ((are.all (closed_ends at)).0 is.0), is.1)
 
 -- what is told of a reconfiguration, a stage and links, of what these are
 pub told_of : (P : ReconValue → ℕ → List GatheredLink → Type 0) (r s : ReconValue) (i j : ℕ) (xs ys : List GatheredLink) → r ≡ s → i ≡ j → xs ≡ ys → P r i xs → P s j ys

@@ -15,7 +15,7 @@ use Rattle.sq_model.specs.Links.{is_about, has_last}
 use Rattle.sq_model.specs.Orderly.{AreNumbered, GoesOn, Tiles}
 use Rattle.sq_model.proofs.Tiles.{about_is}
 use Rattle.sq_audit.specs.Counts.{key_order}
-use Rattle.sq_audit.specs.Notes.{is_last, Continues}
+use Rattle.sq_audit.specs.Notes.{is_last_note, FollowsNewest}
 
 -- what was walked of a list, the newest first
 abbrev pub walked : {X : Type 0} → List X → ℕ → List X
@@ -48,7 +48,7 @@ or_none : (a b : Bool) → b ≡ false → (a || b) ≡ a
 or_none true b none = refl
 or_none false b none = none
 
-pub last_is : (o : OpeningValue) (ns : List Note) → Tiles o ns → (seg node : ℕ) → has_last seg node ns ≡ is_last (find (is_about seg node) ns)
+pub last_is : (o : OpeningValue) (ns : List Note) → Tiles o ns → (seg node : ℕ) → has_last seg node ns ≡ is_last_note (find (is_about seg node) ns)
 last_is o [] tiles seg node = refl
 last_is o (note ∷ ns) tiles seg node =
     elim (cases_Bool (is_about seg node note)) [
@@ -57,11 +57,11 @@ last_is o (note ∷ ns) tiles seg node =
           let none : has_last seg node ns ≡ false = subst₂ (λ g n. has_last g n ns ≡ false) is.0 is.1 tiles.0.first_last in
           ap (λ b. (b && note.last) || has_last seg node ns) about
           ∙ or_none note.last (has_last seg node ns) none
-          ∙ sym (ap is_last (cond-true (is_about seg node note) (Some note) (find (is_about seg node) ns) about))
+          ∙ sym (ap is_last_note (cond-true (is_about seg node note) (Some note) (find (is_about seg node) ns) about))
       | inr other ↦
           ap (λ b. (b && note.last) || has_last seg node ns) other
           ∙ last_is o ns tiles.1 seg node
-          ∙ sym (ap is_last (cond-false (is_about seg node note) (Some note) (find (is_about seg node) ns) other))
+          ∙ sym (ap is_last_note (cond-false (is_about seg node note) (Some note) (find (is_about seg node) ns) other))
     ]
 
 -- so a note goes on exactly if it continues the newest one
@@ -72,7 +72,7 @@ module _ (o : OpeningValue) (ns : List Note) (tiles : Tiles o ns) (note : Note) 
   abbrev newest : Option Note
   newest = find (is_about note.seg note.node) ns
 
-  pub goes_on : Continues extent newest note → GoesOn o note ns
+  pub goes_on : FollowsNewest extent newest note → GoesOn o note ns
   goes_on c =
       record {
         begins = c.part.begins;
@@ -82,7 +82,7 @@ module _ (o : OpeningValue) (ns : List Note) (tiles : Tiles o ns) (note : Note) 
         first_last = last_is o ns tiles note.seg note.node ∙ c.unfinished;
       }
 
-  pub continues : GoesOn o note ns → Continues extent newest note
+  pub continues : GoesOn o note ns → FollowsNewest extent newest note
   continues g =
       record {
         part = record { begins = g.begins; rises = g.rises; within = g.within; last = g.last };
@@ -110,18 +110,18 @@ module _ (o : OpeningValue) (notes : List Note) (i : ℕ) (note : Note) (at : sl
   pub newest_is : get key_order old (note.seg, note.node) ≡ find (is_about note.seg note.node) (walked notes i)
   newest_is = so_far.newest_are note.seg note.node
 
-  pub walked_next : (new : BTreeMap (ℕ × ℕ) Note) → Continues (extent_of o note.seg note.node) (get key_order old (note.seg, note.node)) note → Updates key_order old new (note.seg, note.node) (Some note)
+  pub walked_next : (new : BTreeMap (ℕ × ℕ) Note) → FollowsNewest (extent_of o note.seg note.node) (get key_order old (note.seg, note.node)) note → Updates key_order old new (note.seg, note.node) (Some note)
       → Walked o notes (i + 1) new
   walked_next new follows updates =
       let back = sym (walked_more notes i note at) in
       record {
         tiles = subst (Tiles o) back
-            (goes_on o (walked notes i) so_far.tiles note (subst (λ before. Continues (extent_of o note.seg note.node) before note) newest_is follows), so_far.tiles);
+            (goes_on o (walked notes i) so_far.tiles note (subst (λ before. FollowsNewest (extent_of o note.seg note.node) before note) newest_is follows), so_far.tiles);
         newest_are = subst (λ ns. HasNewest ns new) back (newest_more (walked notes i) note old new updates so_far.newest_are);
       }
 
   -- where all tile this one continues
-  pub walked_follows : Tiles o (reverse notes) → Continues (extent_of o note.seg note.node) (get key_order old (note.seg, note.node)) note
+  pub walked_follows : Tiles o (reverse notes) → FollowsNewest (extent_of o note.seg note.node) (get key_order old (note.seg, note.node)) note
   walked_follows tiles =
       let here = subst (Tiles o) (walked_more notes i note at) (walked_holds (Tiles o) (λ x xs all. all.1) notes (i + 1) tiles) in
-      subst (λ before. Continues (extent_of o note.seg note.node) before note) (sym newest_is) (continues o (walked notes i) so_far.tiles note here.0)
+      subst (λ before. FollowsNewest (extent_of o note.seg note.node) before note) (sym newest_is) (continues o (walked notes i) so_far.tiles note here.0)

@@ -15,7 +15,7 @@ use Rattle.sq_model.proofs.Lists.{Contains-slice_get, slice_get-Contains}
 use Rattle.sq_node_model.specs.NodeValue.{ReceiptValue}
 use Rattle.sq_node_model.specs.Receipts.{is_commit}
 use Rattle.sq_audit.specs.declared.job.Job.{Job}
-use Rattle.sq_audit.specs.Told.{IsAnswered, rows_then, AreInOrder, IsKnownOn, is_named, TellsLog}
+use Rattle.sq_audit.specs.Told.{IsAnswerOn, rows_then, AreInOrder, IsKnownOn, is_named, TellsLog}
 use Rattle.sq_audit.proofs.Each.{each_more}
 use Rattle.sq_audit.proofs.Jobs.{of_parts, of_from}
 use Rattle.sq_audit.proofs.Lists.{counted, count_parts, taken_at, dropped_at}
@@ -50,7 +50,7 @@ module _ (jobs : List Job) (family : FamilyValue) (group : List ReceiptValue) wh
     pub named : (q : ℕ) → count_by (is_named q) (take i group) ≡ one_if (nat_lt q position)
 
   module _ (i position : ℕ) (rows : RowList) (so_far : WalkedTo i position rows) (r : ReceiptValue) (at : slice_get group i ≡ Some r) where
-    known_from : r.position ≡ position → IsAnswered jobs rows (slice_get family.log position) r → IsKnownOn jobs family r
+    known_from : r.position ≡ position → IsAnswerOn jobs rows (slice_get family.log position) r → IsKnownOn jobs family r
     known_from here told =
         let of = of_parts told.0.txn r told.2 in (
           told.0,
@@ -64,7 +64,7 @@ module _ (jobs : List Job) (family : FamilyValue) (group : List ReceiptValue) wh
           },
         )
 
-    answered_from : r.position ≡ position → IsKnownOn jobs family r → IsAnswered jobs rows (slice_get family.log position) r
+    answered_from : r.position ≡ position → IsKnownOn jobs family r → IsAnswerOn jobs rows (slice_get family.log position) r
     answered_from here known =
         let is = known.2 in (
           known.0,
@@ -80,7 +80,7 @@ module _ (jobs : List Job) (family : FamilyValue) (group : List ReceiptValue) wh
     here_is : get_or group i r ≡ r
     here_is = get_or_from_slice_get group i r r at
 
-    module _ (here : r.position ≡ position) (told : IsAnswered jobs rows (slice_get family.log position) r) (after : RowList) (after_is : after ≡ rows_then rows (slice_get family.log position) r) where
+    module _ (here : r.position ≡ position) (told : IsAnswerOn jobs rows (slice_get family.log position) r) (after : RowList) (after_is : after ≡ rows_then rows (slice_get family.log position) r) where
       pub step_commit : is_commit r.reply ≡ true → WalkedTo (i + 1) (position + 1) after
       step_commit commits =
           let txn = told.0.txn in
@@ -118,7 +118,7 @@ module _ (jobs : List Job) (family : FamilyValue) (group : List ReceiptValue) wh
           }
 
     -- a receipt that isn't what its job is answered
-    pub fails_answer : r.position ≡ position → (IsAnswered jobs rows (slice_get family.log position) r → ⊥) → TellsLog jobs family group → ⊥
+    pub fails_answer : r.position ≡ position → (IsAnswerOn jobs rows (slice_get family.log position) r → ⊥) → TellsLog jobs family group → ⊥
     fails_answer here wrong tells = wrong (answered_from here (tells.known r (Contains-slice_get group i r at)))
 
     -- a receipt at another position

@@ -11,12 +11,12 @@ abbrev pub key_order : ℕ × ℕ → ℕ × ℕ → Ordering
 key_order one other = ordering_then (nat_cmp one.0 other.0) (nat_cmp one.1 other.1)
 
 -- the receipt has this id and this root key
-abbrev pub has_key : ℕ → ℕ → ReceiptValue → Bool
-has_key id root receipt = (receipt.id == id) && (receipt.root == root)
+abbrev pub has_id_and_root : ℕ → ℕ → ReceiptValue → Bool
+has_id_and_root id root receipt = (receipt.id == id) && (receipt.root == root)
 
 -- the map has the count of each id and root key, or nothing where there is none
 abbrev pub Counts : List ReceiptValue → BTreeMap (ℕ × ℕ) ℕ → Type 0
-Counts receipts counts = (id root : ℕ) → unwrap_or (get key_order counts (id, root)) 0 ≡ count_by (has_key id root) receipts
+Counts receipts counts = (id root : ℕ) → unwrap_or (get key_order counts (id, root)) 0 ≡ count_by (has_id_and_root id root) receipts
 
 -- the job has a receipt by these counts
 abbrev pub is_counted : BTreeMap (ℕ × ℕ) ℕ → Job → Bool

@@ -9,7 +9,7 @@ use Rattle.sq_audit.specs.declared.verdict.Defect.TheVariants.{RootMissing, Root
 use Rattle.sq_audit.specs.declared.verdict.Verdict.{Verdict}
 use Rattle.sq_audit.specs.declared.verdict.Verdict.TheVariants.{Sound, Unsound}
 use Rattle.sq_audit.specs.Answers.{AreKnown, AreAnswered}
-use Rattle.sq_audit.specs.Sound.{IsSound}
+use Rattle.sq_audit.specs.Sound.{IsSoundRun}
 
 -- its number, by which the defects are in order
 abbrev pub defect_number : Defect → ℕ
@@ -30,10 +30,10 @@ Clears o g jobs ReceiptUnknown = AreKnown g jobs × NameEach g
 Clears o g jobs Unanswered = AreAnswered g jobs
 
 -- it has this defect, and none with a lower number
-pub record IsFirst (o : OpeningValue) (g : GatheredValue) (jobs : List Job) (defect : Defect) : Type 0 where
+pub record IsFirstDefect (o : OpeningValue) (g : GatheredValue) (jobs : List Job) (defect : Defect) : Type 0 where
   pub found : Clears o g jobs defect → ⊥
   pub first : (other : Defect) → defect_number other < defect_number defect → Clears o g jobs other
 
 abbrev pub IsVerdict : OpeningValue → GatheredValue → List Job → Verdict → Type 0
-IsVerdict o g jobs Sound = IsSound o g jobs
-IsVerdict o g jobs (Unsound defect) = IsFirst o g jobs defect
+IsVerdict o g jobs Sound = IsSoundRun o g jobs
+IsVerdict o g jobs (Unsound defect) = IsFirstDefect o g jobs defect

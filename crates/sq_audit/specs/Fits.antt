@@ -7,17 +7,15 @@ use Rattle.sq_ranges.specs.OpeningValue.{OpeningValue}
 use Rattle.sq_node_model.specs.declared.spot.Spot.{Spot}
 use Rattle.sq_node_model.specs.Gathered.{GatheredLink, GatheredValue}
 use Rattle.sq_node_model.specs.Spots.{place_in, StandsAt, IsSpotOf}
+use Rattle.sq_gather.specs.Gathered.{closed_ends}
 
 -- what was gathered is of this link
-abbrev pub is_between : Link → GatheredLink → Bool
-is_between link at = (at.src == link.src) && (at.dst == link.dst)
-
-abbrev pub ends_of : GatheredLink → Link
-ends_of at = record { src = at.src; dst = at.dst }
+abbrev pub is_of_link : Link → GatheredLink → Bool
+is_of_link link at = (at.src == link.src) && (at.dst == link.dst)
 
 -- what was gathered is of one of these links, and of the stage
 abbrev pub IsKnownLink : ReconValue → ℕ → List Link → GatheredLink → Type 0
-IsKnownLink recon stage links at = Contains links (ends_of at) × (stage_on recon at.src at.dst ≡ stage)
+IsKnownLink recon stage links at = Contains links (closed_ends at) × (stage_on recon at.src at.dst ≡ stage)
 
 -- each of what was gathered is of one of these links, and of the stage
 abbrev pub AreKnownLinks : ReconValue → ℕ → List Link → List GatheredLink → Type 0
@@ -25,7 +23,7 @@ AreKnownLinks recon stage links gathered = (at : GatheredLink) → Contains gath
 
 -- the link, if it is of the stage, was gathered once
 abbrev pub HasOne : ReconValue → ℕ → List GatheredLink → Link → Type 0
-HasOne recon stage gathered link = stage_on recon link.src link.dst ≡ stage → count_by (is_between link) gathered ≡ 1
+HasOne recon stage gathered link = stage_on recon link.src link.dst ≡ stage → count_by (is_of_link link) gathered ≡ 1
 
 -- each of these links that is of the stage was gathered once
 abbrev pub HaveOneEach : ReconValue → ℕ → List Link → List GatheredLink → Type 0

@@ -16,8 +16,8 @@ use Rattle.sq_audit.specs.declared.folding.Ready.{Ready}
 use Rattle.sq_audit.specs.Answers.{is_of, IdsDiffer}
 use Rattle.sq_audit.specs.Counts.{Counts}
 use Rattle.sq_audit.specs.Rows.{rows_among}
-use Rattle.sq_audit.specs.Sound.{IsSound}
-use Rattle.sq_audit.specs.Defects.{IsFirst}
+use Rattle.sq_audit.specs.Sound.{IsSoundRun}
+use Rattle.sq_audit.specs.Defects.{IsFirstDefect}
 
 -- the job has a receipt among these
 abbrev pub has_receipt : List ReceiptValue → Job → Bool
@@ -32,15 +32,15 @@ abbrev pub jobs_left : List ReceiptValue → List Job → List Job
 jobs_left receipts jobs = filter (λ job. not (has_receipt receipts job)) jobs
 
 -- the jobs that have a receipt are sound, the table has the rows of the families, and the counts are those of the receipts
-pub record IsReady (o : OpeningValue) (g : GatheredValue) (jobs : List Job) (ready : Ready) : Type 0 where
-  pub sound : IsSound o g (answered_jobs g.receipts jobs)
+pub record IsReadyToFold (o : OpeningValue) (g : GatheredValue) (jobs : List Job) (ready : Ready) : Type 0 where
+  pub sound : IsSoundRun o g (answered_jobs g.receipts jobs)
   pub counts : Counts g.receipts ready.counts
   pub rows : (root : ℕ) → rows_in ready.table root ≡ rows_among [] g.stores root
   pub bound : (root : ℕ) → ROOT_END ≤ root → rows_in ready.table root ≡ []
 
 -- the jobs that have a receipt are sound; folded are the opening, which has the rows of the families that stand, and what was gathered, which is placed there with the segments of its stage complete; and the jobs without a receipt are left, whose ids differ
 pub record IsFold (o : OpeningValue) (g : GatheredValue) (jobs : List Job) (folded : Folded) : Type 0 where
-  pub sound : IsSound o g (answered_jobs g.receipts jobs)
+  pub sound : IsSoundRun o g (answered_jobs g.receipts jobs)
   pub is_folded : IsFolded o g folded.opening.table folded.gathered.stores
   pub opening : folded.opening ≡ folded_opening o folded.opening.table
   pub gathered : folded.gathered ≡ folded_gathered g folded.gathered.stores
@@ -51,5 +51,5 @@ pub record IsFold (o : OpeningValue) (g : GatheredValue) (jobs : List Job) (fold
 
 -- the jobs that have a receipt have this defect first; or there was no memory, and all is as it was
 abbrev pub IsUnfolded : OpeningValue → GatheredValue → List Job → Unfolded → Type 0
-IsUnfolded o g jobs (Unsound defect) = IsFirst o g (answered_jobs g.receipts jobs) defect
+IsUnfolded o g jobs (Unsound defect) = IsFirstDefect o g (answered_jobs g.receipts jobs) defect
 IsUnfolded o g jobs (Memory back) = (back.opening ≡ o) × (back.gathered ≡ g) × (back.jobs.items ≡ jobs)

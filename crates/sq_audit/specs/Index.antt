@@ -20,7 +20,7 @@ pub record IsIndexTo {X : Type 0} (key : X → ℕ) (xs : List X) (upto : ℕ) (
   pub none : (k : ℕ) → get nat_cmp places k ≡ None → (place : ℕ) (x : X) → place < upto → slice_get xs place ≡ Some x → key x ≡ k → ⊥
 
 -- the index has the place of one of each key that some have
-pub record IsIndex {X : Type 0} (key : X → ℕ) (xs : List X) (places : BTreeMap ℕ ℕ) : Type 0 where
+pub record IsIndexOf {X : Type 0} (key : X → ℕ) (xs : List X) (places : BTreeMap ℕ ℕ) : Type 0 where
   pub found : (k place : ℕ) → get nat_cmp places k ≡ Some place → HasKeyAt key xs k place
   pub none : (k : ℕ) → get nat_cmp places k ≡ None → (x : X) → Contains xs x → key x ≡ k → ⊥
 

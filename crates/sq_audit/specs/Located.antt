@@ -23,15 +23,15 @@ Entry = Spot × FamilyValue
 abbrev pub entry_of : Located → Entry
 entry_of located = (spot_of located.site, located.family.now)
 
-abbrev pub entries_of : List Located → List Entry
-entries_of all = map entry_of all
+abbrev pub entries_in : List Located → List Entry
+entries_in all = map entry_of all
 
 -- their root keys don't fall
 abbrev pub AreByRoot : List Entry → Type 0
 AreByRoot entries = (i j : ℕ) (one other : Entry) → i ≤ j → slice_get entries i ≡ Some one → slice_get entries j ≡ Some other → one.1.root ≤ other.1.root
 
 -- these families are just those of their root keys, and their logs are of these
-pub record AreAllOf (family_of : ℕ → Option FamilyValue) (families : List FamilyValue) : Type 0 where
+pub record AreAllFamilies (family_of : ℕ → Option FamilyValue) (families : List FamilyValue) : Type 0 where
   pub here : (family : FamilyValue) → Contains families family → family_of family.root ≡ Some family
   pub each : (root : ℕ) (family : FamilyValue) → family_of root ≡ Some family → Contains families family
   pub keyed : (root : ℕ) (family : FamilyValue) → family_of root ≡ Some family → IsOf root family
@@ -39,7 +39,7 @@ pub record AreAllOf (family_of : ℕ → Option FamilyValue) (families : List Fa
 -- all families of a spot were added
 pub record AddsAll (spot : Spot) (family_of : ℕ → Option FamilyValue) (old new : List Entry) : Type 0 where
   pub families : List FamilyValue
-  pub all : AreAllOf family_of families
+  pub all : AreAllFamilies family_of families
   pub added : new ≡ old ++ map (λ family. (spot, family)) families
 
 -- all families of the chunks of a link were added

@@ -25,9 +25,9 @@ abbrev pub AreLinkNotes : OpeningValue → GatheredValue → GatheredLink → Ty
 AreLinkNotes o g link = (note : Note) → Contains link.notes note → IsLinkNote o g link note
 
 -- there is such a note, and it is its node's last
-abbrev pub is_last : Option Note → Bool
-is_last None = false
-is_last (Some note) = note.last
+abbrev pub is_last_note : Option Note → Bool
+is_last_note None = false
+is_last_note (Some note) = note.last
 
 -- the note goes from this key on to at most the high end of an extent, and is last exactly if it ends there
 pub record IsPart (extent : Extent) (from : ℕ) (note : Note) : Type 0 where
@@ -37,6 +37,6 @@ pub record IsPart (extent : Extent) (from : ℕ) (note : Note) : Type 0 where
   pub last : note.last ≡ (note.hi == extent.hi)
 
 -- the note goes on where the newest one of its node ends, which wasn't its last, or where there is none at the low end of the node's extent
-pub record Continues (extent : Extent) (newest : Option Note) (note : Note) : Type 0 where
+pub record FollowsNewest (extent : Extent) (newest : Option Note) (note : Note) : Type 0 where
   pub part : IsPart extent (end_of_note extent.lo newest) note
-  pub unfinished : is_last newest ≡ false
+  pub unfinished : is_last_note newest ≡ false

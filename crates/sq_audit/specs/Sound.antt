@@ -7,7 +7,7 @@ use Rattle.sq_audit.specs.declared.job.Job.{Job}
 use Rattle.sq_audit.specs.Answers.{AreKnown, AreAnswered}
 
 -- it is placed, each receipt is the answer to a job, and each job has one receipt
-pub record IsSound (o : OpeningValue) (g : GatheredValue) (jobs : List Job) : Type 0 where
+pub record IsSoundRun (o : OpeningValue) (g : GatheredValue) (jobs : List Job) : Type 0 where
   pub placed : IsPlaced o g
   pub known : AreKnown g jobs
   pub answered : AreAnswered g jobs

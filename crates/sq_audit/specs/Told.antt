@@ -31,8 +31,8 @@ pub record IsOneJob (jobs : List Job) (receipt : ReceiptValue) (txn : TxnValue) 
   pub only : (other : Job) → Contains jobs other → is_of other.txn receipt ≡ true → other.txn ≡ txn
 
 -- on these rows, where a log goes on with this transaction, the receipt is what a job is answered: a commit is that transaction
-abbrev pub IsAnswered : List Job → RowList → Option TxnValue → ReceiptValue → Type 0
-IsAnswered jobs rows next receipt =
+abbrev pub IsAnswerOn : List Job → RowList → Option TxnValue → ReceiptValue → Type 0
+IsAnswerOn jobs rows next receipt =
     (job : Job) × Contains jobs job × (is_of job.txn receipt ≡ true) × (receipt.reply ≡ reply rows job.txn) × (is_commit receipt.reply ≡ true → next ≡ Some job.txn)
 
 -- the rows after the receipt's job
@@ -67,16 +67,16 @@ abbrev pub TellLogs : List Entry → List Job → List ReceiptValue → Type 0
 TellLogs entries jobs receipts = (entry : Entry) → Contains entries entry → TellsLog jobs entry.1 (receipts_of entry.1.root receipts)
 
 -- a receipt of a root key without a family is of an abort on no rows
-abbrev pub TellsNothing : List Entry → List Job → ReceiptValue → Type 0
-TellsNothing entries jobs receipt = (HasFamily entries receipt.root → ⊥) → (receipt.position ≡ 0) × IsAnswered jobs [] None receipt
+abbrev pub TellsNoLog : List Entry → List Job → ReceiptValue → Type 0
+TellsNoLog entries jobs receipt = (HasFamily entries receipt.root → ⊥) → (receipt.position ≡ 0) × IsAnswerOn jobs [] None receipt
 
-abbrev pub TellNothing : List Entry → List Job → List ReceiptValue → Type 0
-TellNothing entries jobs receipts = (receipt : ReceiptValue) → Contains receipts receipt → TellsNothing entries jobs receipt
+abbrev pub TellNoLog : List Entry → List Job → List ReceiptValue → Type 0
+TellNoLog entries jobs receipts = (receipt : ReceiptValue) → Contains receipts receipt → TellsNoLog entries jobs receipt
 
 -- each family's log is told, and each receipt of a root key without a family is of an abort on no rows
 pub record KnowsAll (entries : List Entry) (jobs : List Job) (receipts : List ReceiptValue) : Type 0 where
   pub logs : TellLogs entries jobs receipts
-  pub nothing : TellNothing entries jobs receipts
+  pub nothing : TellNoLog entries jobs receipts
 
 -- a receipt's root key, its position, and whether it is of a commit, in order
 abbrev pub ReceiptKey : Type 0

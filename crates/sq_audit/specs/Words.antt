@@ -20,8 +20,8 @@ pub record IsGrownAt (status : ℕ → Status) (n : ℕ) : Type 0 where
   pub leaf : is_leaf n ≡ true → is_split (status n) ≡ false
 
 -- each complete node has its last note loaded
-abbrev pub AreComplete : GatheredValue → Type 0
-AreComplete g = (seg n : ℕ) → is_complete (word_in g seg n) ≡ true → has_last seg n (loaded_notes g) ≡ true
+abbrev pub CompleteAreLoaded : GatheredValue → Type 0
+CompleteAreLoaded g = (seg n : ℕ) → is_complete (word_in g seg n) ≡ true → has_last seg n (loaded_notes g) ≡ true
 
 -- the node, if it is complete, is among these
 abbrev pub IsEnded : BTreeSet (ℕ × ℕ) → ℕ → ℕ → Status → Type 0

@@ -2,7 +2,7 @@
 ghost use Rattle.std.specs.Prelude.{◌≡◌, true, Contains, IfOk, IfSome, IfNone};
 ghost use Rattle.sq_audit.specs.declared.job.Job.{Job};
 ghost use Rattle.sq_audit.specs.Answers.{IdsDiffer, is_of};
-ghost use Rattle.sq_audit.specs.Index.{IsIndex};
+ghost use Rattle.sq_audit.specs.Index.{IsIndexOf};
 ghost use Rattle.sq_audit.specs.Told.{id_of, IsOneJob};
 
 use crate::job::Job;
@@ -13,7 +13,7 @@ use std::collections::BTreeMap;
 
 /// The places of the jobs by their ids.
 pub(crate) fn by_id(alloc: Global, jobs: &[Job]) -> Result<BTreeMap<u64, usize>, AllocError>
-    ensures { IfOk result (λ places. IsIndex id_of jobs.now places) }
+    ensures { IfOk result (λ places. IsIndexOf id_of jobs.now places) }
 {
     let mut places = BTreeMap::new(alloc);
     for (at, job) in jobs.iter().enumerate() {
@@ -29,7 +29,7 @@ pub(crate) fn job_of<'a>(
     receipt: &Receipt,
 ) -> Option<&'a Txn>
     requires ids { IdsDiffer jobs.now }
-    requires places { IsIndex id_of jobs.now places.now }
+    requires places { IsIndexOf id_of jobs.now places.now }
     ensures one { IfSome result (λ txn. IsOneJob jobs.now receipt.now txn.now) }
     ensures none { IfNone result ((job : Job) → Contains jobs.now job → is_of job.txn receipt.now ≡ true → ⊥) }
 {

@@ -2,8 +2,8 @@
 ghost use Rattle.std.specs.Prelude.{◌≡◌, count_by, IfOk};
 ghost use Rattle.std.specs.Bool.{Decides};
 ghost use Rattle.sq_node_model.specs.Placed.{HasEachPart, FitTogether};
-ghost use Rattle.sq_audit.specs.Located.{entries_of, ListsAll};
-ghost use Rattle.sq_audit.specs.Fits.{is_between, AreKnownLinks, HasOne, HaveOneEach};
+ghost use Rattle.sq_audit.specs.Located.{entries_in, ListsAll};
+ghost use Rattle.sq_audit.specs.Fits.{is_of_link, AreKnownLinks, HasOne, HaveOneEach};
 
 use crate::located::Located;
 use crate::notes::links_fit;
@@ -20,7 +20,7 @@ pub(crate) fn fit(
     g: &Gathered,
     all: &[Located],
 ) -> Result<bool, AllocError>
-    requires { ListsAll g.now (entries_of all.now) }
+    requires { ListsAll g.now (entries_in all.now) }
     ensures { IfOk result (λ fit. Decides fit (FitTogether opening.now g.now)) }
 {
     // For the proof alone: it tells that the opening is set up.
@@ -100,7 +100,7 @@ fn has_one(recon: &Recon, stage: u64, gathered: &[ClosedLink], link: Link) -> bo
 
 // How often a link was gathered.
 fn count(gathered: &[ClosedLink], link: Link) -> usize
-    ensures { result ≡ count_by (is_between link) gathered.now }
+    ensures { result ≡ count_by (is_of_link link) gathered.now }
 {
     let mut count = 0;
     for at in gathered {

@@ -8,9 +8,9 @@ ghost use Rattle.sq_node_model.specs.Folded.{folded_opening, folded_gathered};
 ghost use Rattle.sq_audit.specs.Answers.{IdsDiffer};
 ghost use Rattle.sq_audit.specs.Counts.{Counts, is_counted};
 ghost use Rattle.sq_audit.specs.Rows.{rows_among};
-ghost use Rattle.sq_audit.specs.Sound.{IsSound};
-ghost use Rattle.sq_audit.specs.Defects.{IsFirst};
-ghost use Rattle.sq_audit.specs.Folding.{answered_jobs, IsReady, IsFold, IsUnfolded};
+ghost use Rattle.sq_audit.specs.Sound.{IsSoundRun};
+ghost use Rattle.sq_audit.specs.Defects.{IsFirstDefect};
+ghost use Rattle.sq_audit.specs.Folding.{answered_jobs, IsReadyToFold, IsFold, IsUnfolded};
 
 use crate::answered::{copy_answered, count, leave_unanswered};
 use crate::folded::{Folded, Unchanged, Unfolded};
@@ -68,8 +68,8 @@ fn prepare(
     jobs: &[Job],
 ) -> Result<Result<Ready, Defect>, AllocError>
     requires { IdsDiffer jobs.now }
-    ensures ready { IfOk result (λ judged. IfOk judged (IsReady opening.now g.now jobs.now)) }
-    ensures unsound { IfOk result (λ judged. IfErr judged (IsFirst opening.now g.now (answered_jobs g.now.receipts jobs.now))) }
+    ensures ready { IfOk result (λ judged. IfOk judged (IsReadyToFold opening.now g.now jobs.now)) }
+    ensures unsound { IfOk result (λ judged. IfErr judged (IsFirstDefect opening.now g.now (answered_jobs g.now.receipts jobs.now))) }
 {
     let counts = count(alloc, &g.receipts)?;
     let answered = copy_answered(alloc, &counts, jobs)?;

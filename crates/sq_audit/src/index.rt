@@ -3,7 +3,7 @@
 ghost use Rattle.std.specs.Prelude.{◌≡◌, nat_lt};
 ghost use Rattle.std.specs.Bool.{Decides};
 ghost use Rattle.sq_schema.specs.Table.{rows_in};
-ghost use Rattle.sq_audit.specs.Located.{entry_of, entries_of, AreByRoot};
+ghost use Rattle.sq_audit.specs.Located.{entry_of, entries_in, AreByRoot};
 ghost use Rattle.sq_audit.specs.Index.{HasFamily, HaveFamilies, Agree, AgreeOnSpots, StartsFrom, StartFrom};
 
 use crate::located::Located;
@@ -11,8 +11,8 @@ use sq_schema::{Family, Root, Table};
 
 /// Whether each root key of a table has one of these families, which are by root key.
 pub(crate) fn have_families(table: &Table, all: &[Located]) -> bool
-    requires { AreByRoot (entries_of all.now) }
-    ensures { Decides result (HaveFamilies table.now (entries_of all.now)) }
+    requires { AreByRoot (entries_in all.now) }
+    ensures { Decides result (HaveFamilies table.now (entries_in all.now)) }
 {
     for (root, _) in table.iter() {
         if !has_family(all, *root) {
@@ -24,8 +24,8 @@ pub(crate) fn have_families(table: &Table, all: &[Located]) -> bool
 
 /// Whether a root key has one of these families, which are by root key.
 pub(crate) fn has_family(all: &[Located], root: Root) -> bool
-    requires { AreByRoot (entries_of all.now) }
-    ensures { Decides result (HasFamily (entries_of all.now) root) }
+    requires { AreByRoot (entries_in all.now) }
+    ensures { Decides result (HasFamily (entries_in all.now) root) }
 {
     let count = all.partition_point(
         |located: &Located| -> bool
@@ -40,8 +40,8 @@ pub(crate) fn has_family(all: &[Located], root: Root) -> bool
 
 /// Whether these families, which are by root key, are at one site for each root key.
 pub(crate) fn stand_once(all: &[Located]) -> bool
-    requires { AreByRoot (entries_of all.now) }
-    ensures { Decides result (AgreeOnSpots (entries_of all.now)) }
+    requires { AreByRoot (entries_in all.now) }
+    ensures { Decides result (AgreeOnSpots (entries_in all.now)) }
 {
     for at in 1..all.len() {
         if !agree(&all[at - 1], &all[at]) {
@@ -64,7 +64,7 @@ fn agree(one: &Located, other: &Located) -> bool
 
 /// Whether each family starts from the rows that the table has of its root key.
 pub(crate) fn start_from(table: &Table, all: &[Located]) -> bool
-    ensures { Decides result (StartFrom (rows_in table.now) (entries_of all.now)) }
+    ensures { Decides result (StartFrom (rows_in table.now) (entries_in all.now)) }
 {
     for located in all {
         if !starts_from(table, located.family) {

@@ -6,12 +6,12 @@ ghost use Rattle.sq_node_model.specs.Placed.{IsPlaced};
 ghost use Rattle.sq_audit.specs.declared.job.Job.{Job};
 ghost use Rattle.sq_audit.specs.declared.verdict.Defect.{Defect};
 ghost use Rattle.sq_audit.specs.declared.verdict.Verdict.{Verdict};
-ghost use Rattle.sq_audit.specs.Sound.{IsSound};
+ghost use Rattle.sq_audit.specs.Sound.{IsSoundRun};
 ghost use Rattle.sq_audit.specs.Defects.{Clears, IsVerdict};
 
 /// What was gathered is sound exactly if it is clear of each defect.
 pub fn sound_is_clear_of_each_defect()
-    ensures { (o : OpeningValue) (g : GatheredValue) (jobs : List Job) → IsSound o g jobs ↔ ((defect : Defect) → Clears o g jobs defect) }
+    ensures { (o : OpeningValue) (g : GatheredValue) (jobs : List Job) → IsSoundRun o g jobs ↔ ((defect : Defect) → Clears o g jobs defect) }
 {}
 
 /// There is one verdict at most.

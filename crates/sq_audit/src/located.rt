@@ -3,7 +3,7 @@ ghost use Rattle.std.specs.Prelude.{◌≡◌, ◌++◌, ◌∷◌, [], List, ma
 ghost use Rattle.std.specs.FinMap.{get};
 ghost use Rattle.sq_schema.specs.Family.{FamilyValue};
 ghost use Rattle.sq_store.specs.StoreValue.{family_in};
-ghost use Rattle.sq_audit.specs.Located.{spot_of, entries_of, ListsAll, AreByRoot, AddsAll, AddsLink};
+ghost use Rattle.sq_audit.specs.Located.{spot_of, entries_in, ListsAll, AreByRoot, AddsAll, AddsLink};
 
 use sq_chunk::Chunk;
 use sq_gather::{ClosedLink, Gathered};
@@ -27,8 +27,8 @@ pub(crate) struct Located<'a> {
 
 /// All families of what was gathered, by root key.
 pub(crate) fn locate(alloc: Global, g: &Gathered) -> Result<Vec<Located<'_>>, AllocError>
-    ensures all { IfOk result (λ all. ListsAll g.now (entries_of all.items)) }
-    ensures rise { IfOk result (λ all. AreByRoot (entries_of all.items)) }
+    ensures all { IfOk result (λ all. ListsAll g.now (entries_in all.items)) }
+    ensures rise { IfOk result (λ all. AreByRoot (entries_in all.items)) }
 {
     let mut all = list(alloc, g)?;
     all.sort_by_key(|located| located.family.root().number())?;
@@ -37,7 +37,7 @@ pub(crate) fn locate(alloc: Global, g: &Gathered) -> Result<Vec<Located<'_>>, Al
 
 // All families of what was gathered.
 fn list(alloc: Global, g: &Gathered) -> Result<Vec<Located<'_>>, AllocError>
-    ensures { IfOk result (λ all. ListsAll g.now (entries_of all.items)) }
+    ensures { IfOk result (λ all. ListsAll g.now (entries_in all.items)) }
 {
     let mut all = Vec::new(alloc);
     for (part, store) in g.stores.iter().enumerate() {
@@ -55,7 +55,7 @@ fn add_stored<'a>(
     site: Site,
     store: &'a SlabStore,
 ) -> Result<(), AllocError>
-    ensures { OnOk result (AddsAll (spot_of site) (get store.now) (entries_of all.old.items) (entries_of all.new.items)) }
+    ensures { OnOk result (AddsAll (spot_of site) (get store.now) (entries_in all.old.items) (entries_in all.new.items)) }
 {
     let mut at = 0;
     while let Some(family) = store.walk(at) {
@@ -73,7 +73,7 @@ fn add_under_way<'a>(
     link: usize,
     of: &'a ClosedLink,
 ) -> Result<(), AllocError>
-    ensures { OnOk result (AddsLink link of.now (entries_of all.old.items) (entries_of all.new.items)) }
+    ensures { OnOk result (AddsLink link of.now (entries_in all.old.items) (entries_in all.new.items)) }
 {
     for (chunk, carried) in of.under_way.iter().enumerate() {
         add_carried(all, Site::Chunk { link, chunk }, carried)?;
@@ -87,7 +87,7 @@ fn add_carried<'a>(
     site: Site,
     chunk: &'a Chunk,
 ) -> Result<(), AllocError>
-    ensures { OnOk result (AddsAll (spot_of site) (family_in chunk.now.families) (entries_of all.old.items) (entries_of all.new.items)) }
+    ensures { OnOk result (AddsAll (spot_of site) (family_in chunk.now.families) (entries_in all.old.items) (entries_in all.new.items)) }
 {
     for family in chunk.families() {
         all.push(Located { site, family })?;

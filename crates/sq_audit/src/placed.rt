@@ -5,7 +5,7 @@ ghost use Rattle.sq_model.specs.Orderly.{AreDisjoint};
 ghost use Rattle.sq_node_model.specs.Spots.{cut_notes};
 ghost use Rattle.sq_node_model.specs.Placed.{HasEachPart};
 ghost use Rattle.sq_audit.specs.Notes.{LinksPlaced};
-ghost use Rattle.sq_audit.specs.Located.{spot_of, entries_of, ListsAll};
+ghost use Rattle.sq_audit.specs.Located.{spot_of, entries_in, ListsAll};
 ghost use Rattle.sq_audit.specs.Spans.{marked_in, is_over, AreByKey, part_by, IsAtPart};
 ghost use Rattle.sq_audit.specs.Fits.{ArePlaced};
 
@@ -25,7 +25,7 @@ pub(crate) fn are_placed(
     requires parts { HasEachPart opening.now g.now }
     requires links { LinksPlaced opening.now g.now }
     requires apart { AreDisjoint (cut_notes g.now) }
-    requires listed { ListsAll g.now (entries_of all.now) }
+    requires listed { ListsAll g.now (entries_in all.now) }
     ensures { IfOk result (λ placed. Decides placed (ArePlaced opening.now g.now)) }
 {
     let spans = by_key(alloc, &g.links)?;

@@ -3,7 +3,7 @@ ghost use Rattle.std.specs.Prelude.{◌≡◌, reverse, slice_get, IfOk};
 ghost use Rattle.std.specs.Bool.{Decides};
 ghost use Rattle.sq_model.specs.Place.{extent_in};
 ghost use Rattle.sq_model.specs.Orderly.{Tiles};
-ghost use Rattle.sq_audit.specs.Notes.{Continues, IsPart};
+ghost use Rattle.sq_audit.specs.Notes.{FollowsNewest, IsPart};
 
 use sq_chunk::Note;
 use sq_ranges::{Extent, Opening, Recon, SegId};
@@ -36,7 +36,7 @@ fn extent_of(recon: &Recon, seg: SegId, node: NodeId) -> Extent
 
 // Whether a note goes on where the newest one of its node, which has this extent, ends.
 fn continues(extent: Extent, newest: Option<Note>, note: Note) -> bool
-    ensures { Decides result (Continues extent newest note) }
+    ensures { Decides result (FollowsNewest extent newest note) }
 {
     match newest {
         Some(newest) if newest.last => false,

@@ -5,9 +5,9 @@ ghost use Rattle.std.specs.List.Sorted.{IsPermutation, IsSortedByKey};
 ghost use Rattle.sq_node_model.specs.NodeValue.{ReceiptValue};
 ghost use Rattle.sq_node_model.specs.Receipts.{is_commit};
 ghost use Rattle.sq_audit.specs.Answers.{IdsDiffer};
-ghost use Rattle.sq_audit.specs.Located.{entries_of, AreByRoot};
-ghost use Rattle.sq_audit.specs.Index.{IsIndex};
-ghost use Rattle.sq_audit.specs.Told.{values_of, id_of, receipt_key, key_order, IsAnswered, rows_then, AreInOrder, TellsLog, TellLogs, TellNothing, KnowsAll};
+ghost use Rattle.sq_audit.specs.Located.{entries_in, AreByRoot};
+ghost use Rattle.sq_audit.specs.Index.{IsIndexOf};
+ghost use Rattle.sq_audit.specs.Told.{values_of, id_of, receipt_key, key_order, IsAnswerOn, rows_then, AreInOrder, TellsLog, TellLogs, TellNoLog, KnowsAll};
 
 use crate::by_id::{by_id, job_of};
 use crate::index::has_family;
@@ -27,15 +27,15 @@ pub(crate) fn are_known(
     receipts: &[Receipt],
 ) -> Result<bool, AllocError>
     requires ids { IdsDiffer jobs.now }
-    requires rise { AreByRoot (entries_of all.now) }
-    ensures { IfOk result (λ known. Decides known (KnowsAll (entries_of all.now) jobs.now receipts.now)) }
+    requires rise { AreByRoot (entries_in all.now) }
+    ensures { IfOk result (λ known. Decides known (KnowsAll (entries_in all.now) jobs.now receipts.now)) }
 {
     let ids = by_id(alloc, jobs)?;
     let sorted = sort(alloc, receipts)?;
     if !tell_logs(alloc, all, jobs, &ids, &sorted)? {
         return Ok(false);
     }
-    tell_nothing(alloc, all, jobs, &ids, receipts)
+    tell_no_log(alloc, all, jobs, &ids, receipts)
 }
 
 // Whether receipts, in order, tell the logs of families that are by root key.
@@ -47,10 +47,10 @@ fn tell_logs(
     sorted: &[&Receipt],
 ) -> Result<bool, AllocError>
     requires ids { IdsDiffer jobs.now }
-    requires index { IsIndex id_of jobs.now ids.now }
+    requires index { IsIndexOf id_of jobs.now ids.now }
     requires sorted { IsSortedByKey receipt_key key_order (values_of sorted.now) }
-    requires rise { AreByRoot (entries_of all.now) }
-    ensures { IfOk result (λ tell. Decides tell (TellLogs (entries_of all.now) jobs.now (values_of sorted.now))) }
+    requires rise { AreByRoot (entries_in all.now) }
+    ensures { IfOk result (λ tell. Decides tell (TellLogs (entries_in all.now) jobs.now (values_of sorted.now))) }
 {
     let mut from = 0;
     for located in all {
@@ -65,7 +65,7 @@ fn tell_logs(
 }
 
 // Whether the receipts of root keys without a family tell aborts on no rows.
-fn tell_nothing(
+fn tell_no_log(
     alloc: Global,
     all: &[Located],
     jobs: &[Job],
@@ -73,15 +73,15 @@ fn tell_nothing(
     receipts: &[Receipt],
 ) -> Result<bool, AllocError>
     requires ids { IdsDiffer jobs.now }
-    requires index { IsIndex id_of jobs.now ids.now }
-    requires rise { AreByRoot (entries_of all.now) }
-    ensures { IfOk result (λ tell. Decides tell (TellNothing (entries_of all.now) jobs.now receipts.now)) }
+    requires index { IsIndexOf id_of jobs.now ids.now }
+    requires rise { AreByRoot (entries_in all.now) }
+    ensures { IfOk result (λ tell. Decides tell (TellNoLog (entries_in all.now) jobs.now receipts.now)) }
 {
     for receipt in receipts {
         if has_family(all, receipt.root) {
             continue;
         }
-        if !tells_nothing(alloc, jobs, ids, receipt)? {
+        if !tells_no_log(alloc, jobs, ids, receipt)? {
             return Ok(false);
         }
     }
@@ -89,15 +89,15 @@ fn tell_nothing(
 }
 
 // Whether a receipt is of an abort on no rows.
-fn tells_nothing(
+fn tells_no_log(
     alloc: Global,
     jobs: &[Job],
     ids: &BTreeMap<u64, usize>,
     receipt: &Receipt,
 ) -> Result<bool, AllocError>
     requires ids { IdsDiffer jobs.now }
-    requires index { IsIndex id_of jobs.now ids.now }
-    ensures { IfOk result (λ tells. Decides tells ((receipt.now.position ≡ 0) × IsAnswered jobs.now [] None receipt.now)) }
+    requires index { IsIndexOf id_of jobs.now ids.now }
+    ensures { IfOk result (λ tells. Decides tells ((receipt.now.position ≡ 0) × IsAnswerOn jobs.now [] None receipt.now)) }
 {
     if receipt.position != 0 {
         return Ok(false);
@@ -114,7 +114,7 @@ fn tells_log(
     receipts: &[&Receipt],
 ) -> Result<bool, AllocError>
     requires ids { IdsDiffer jobs.now }
-    requires index { IsIndex id_of jobs.now ids.now }
+    requires index { IsIndexOf id_of jobs.now ids.now }
     requires order { AreInOrder (values_of receipts.now) }
     ensures { IfOk result (λ tells. Decides tells (TellsLog jobs.now family.now (values_of receipts.now))) }
 {
@@ -149,8 +149,8 @@ fn is_answered(
     receipt: &Receipt,
 ) -> Result<bool, AllocError>
     requires ids { IdsDiffer jobs.now }
-    requires index { IsIndex id_of jobs.now ids.now }
-    ensures answered { IfOk result (λ answered. Decides answered (IsAnswered jobs.now rows.old (option_copied next.entry) receipt.now)) }
+    requires index { IsIndexOf id_of jobs.now ids.now }
+    ensures answered { IfOk result (λ answered. Decides answered (IsAnswerOn jobs.now rows.old (option_copied next.entry) receipt.now)) }
     ensures rows { IfOk result (λ answered. answered ≡ true → rows.new ≡ rows_then rows.old (option_copied next.entry) receipt.now) }
 {
     let Some(txn) = job_of(jobs, ids, receipt) else {

@@ -9,7 +9,7 @@ ghost use Rattle.sq_tree.specs.Tree.{status_at, IsGrown};
 ghost use Rattle.sq_model.specs.Links.{has_last};
 ghost use Rattle.sq_node_model.specs.Spots.{loads_of};
 ghost use Rattle.sq_audit.specs.Counts.{key_order};
-ghost use Rattle.sq_audit.specs.Words.{HaveGrown, IsGrownAt, AreComplete, AreEnded, IsEnded};
+ghost use Rattle.sq_audit.specs.Words.{HaveGrown, IsGrownAt, CompleteAreLoaded, AreEnded, IsEnded};
 
 use crate::spans::loads;
 use sq_chunk::Note;
@@ -62,7 +62,7 @@ fn is_live(tree: &[Status; NODES], node: NodeId) -> bool
 
 /// Whether each complete node has its last note loaded.
 pub(crate) fn are_complete(alloc: Global, g: &Gathered) -> Result<bool, AllocError>
-    ensures { IfOk result (λ complete. Decides complete (AreComplete g.now)) }
+    ensures { IfOk result (λ complete. Decides complete (CompleteAreLoaded g.now)) }
 {
     let ended = ended(alloc, &g.links)?;
     for (seg, tree) in g.words.iter().enumerate() {

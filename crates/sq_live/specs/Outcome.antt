@@ -12,8 +12,8 @@ use Rattle.sq_node_model.specs.Gathered.{GatheredValue}
 use Rattle.sq_node_model.specs.Next.{is_whole_in, IsStageDone}
 use Rattle.sq_audit.specs.declared.job.Job.{Job}
 use Rattle.sq_audit.specs.declared.verdict.Defect.{Defect}
-use Rattle.sq_audit.specs.Defects.{defect_number, IsFirst}
-use Rattle.sq_audit.specs.Sound.{IsSound}
+use Rattle.sq_audit.specs.Defects.{defect_number, IsFirstDefect}
+use Rattle.sq_audit.specs.Sound.{IsSoundRun}
 use Rattle.sq_audit.specs.Folding.{answered_jobs}
 use Rattle.sq_live.specs.declared.outcome.Outcome.{Outcome}
 use Rattle.sq_live.specs.declared.outcome.Outcome.TheVariants.{Sound, Stopped, Unsound}
@@ -82,7 +82,7 @@ pub record HasStopped (account : AccountValue) (g : GatheredValue) (answered pos
 -- a run is sound, has so many families now, and so many receipts of commits, in logs that were folded or now
 pub record IsFoundSound (account : AccountValue) (g : GatheredValue) (families committed : ℕ) : Type 0 where
   pub is_done : IsDone account g
-  pub sound : IsSound account.opening g account.jobs
+  pub sound : IsSoundRun account.opening g account.jobs
   pub families_are : family_count g < 2 ^ 64 → families ≡ family_count g
   pub committed_are : committed ≡ account.committed + commit_count g.receipts
 
@@ -90,8 +90,8 @@ pub record IsFoundSound (account : AccountValue) (g : GatheredValue) (families c
 abbrev pub IsFoundUnsound : Bool → AccountValue → GatheredValue → Defect → Type 0
 IsFoundUnsound folds account g defect =
     ((folds ≡ true) × (leader : StageValue) × HasGoneOn account.opening g.stage (is_whole_in g) leader
-    × IsFirst account.opening g (answered_jobs g.receipts account.jobs) defect)
-    ⊎ (IsDone account g × IsFirst account.opening g account.jobs defect)
+    × IsFirstDefect account.opening g (answered_jobs g.receipts account.jobs) defect)
+    ⊎ (IsDone account g × IsFirstDefect account.opening g account.jobs defect)
 
 -- this is what a run comes to whose last stage left this; the logs are folded between stages, or not
 abbrev pub CameTo : Bool → AccountValue → GatheredValue → Outcome → Type 0

@@ -10,7 +10,7 @@ use Rattle.sq_node_model.specs.Next.{is_whole_in, IsStageDone, next_began}
 use Rattle.sq_gather.specs.Reopened.{IsRunInStage}
 use Rattle.sq_audit.specs.declared.job.Job.{Job}
 use Rattle.sq_audit.specs.declared.folded.Folded.{Folded}
-use Rattle.sq_audit.specs.Defects.{IsFirst}
+use Rattle.sq_audit.specs.Defects.{IsFirstDefect}
 use Rattle.sq_audit.specs.Folding.{IsFold, answered_jobs}
 use Rattle.sq_live.specs.declared.continuing.Continued.{Continued}
 use Rattle.sq_live.specs.declared.continuing.Continued.TheVariants as continued
@@ -48,7 +48,7 @@ ContinuesWith false old g new next = (new ≡ old) × (next ≡ g)
 -- a run goes on so, or the fold's audit found a defect
 abbrev pub Continues : Bool → AccountValue → GatheredValue → Continued → Type 0
 Continues folds old g (continued.With account gathered) = ContinuesWith folds old g account gathered
-Continues folds old g (continued.Unsound defect) = (folds ≡ true) × IsFirst old.opening g (answered_jobs g.receipts old.jobs) defect
+Continues folds old g (continued.Unsound defect) = (folds ≡ true) × IsFirstDefect old.opening g (answered_jobs g.receipts old.jobs) defect
 
 -- a stage that began so left this, with all of its segments complete, the leader went on, and the next stage began with what the run goes on with
 pub record HasPassed (folds : Bool) (old : AccountValue) (began : BeganWith) (g : GatheredValue) (new : AccountValue) (later : BeganWith) : Type 0 where

@@ -4,7 +4,7 @@ use Rattle.std.specs.BTreeMap.{get, Updates}
 use Rattle.std.proofs.lemmas.List.Sums.{count_by-le-length}
 use Rattle.std.proofs.lemmas.List.{length-take-le}
 use Rattle.sq_node_model.specs.NodeValue.{ReceiptValue}
-use Rattle.sq_audit.specs.Counts.{key_order, has_key}
+use Rattle.sq_audit.specs.Counts.{key_order, has_id_and_root}
 use Rattle.sq_audit.proofs.Listing.{item_at}
 use Rattle.sq_audit.proofs.Counting.{pair_is, counted_next}
 use Rattle.sq_audit.proofs.answered.count.Goals as goal
@@ -15,11 +15,11 @@ overflow_add-before c =
     let i = c.loop-receipt.receipt-index in
     let receipts = c.args.receipts.now in
     let value = λ (q : ℕ × ℕ). unwrap_or (get key_order c.loop-receipt.counts q) 0 in
-    let is : c.unwrap_or-before.result ≡ count_by (has_key r.id r.root) (take i receipts) =
+    let is : c.unwrap_or-before.result ≡ count_by (has_id_and_root r.id r.root) (take i receipts) =
     c.unwrap_or-before.ensures ∙ ap (λ (o : Option ℕ). unwrap_or o 0) (c.copied.ensures ∙ c.get.ensures.value)
     ∙ ap value (pair_is (ap (λ (r : ReceiptValue). r.id) c.receipt.view_is) (c.number.ensures.number ∙ ap (λ (r : ReceiptValue). r.root) c.receipt.view_is))
     ∙ c.loop-receipt.invariant r.id r.root in
-    let some : count_by (has_key r.id r.root) (take i receipts) ≤ length (take i receipts) = count_by-le-length (has_key r.id r.root) (take i receipts) in
+    let some : count_by (has_id_and_root r.id r.root) (take i receipts) ≤ length (take i receipts) = count_by-le-length (has_id_and_root r.id r.root) (take i receipts) in
     let low : i < length receipts = c.loop-receipt-test.true in
     let within : i ≤ length receipts = omega (arith, low) in
     let taken : length (take i receipts) ≡ i = length-take-le i receipts within in

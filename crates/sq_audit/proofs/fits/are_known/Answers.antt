@@ -3,7 +3,8 @@ use Rattle.std.proofs.lemmas.Bool.{and_parts, and_from}
 use Rattle.sq_ranges.specs.declared.recon.Link.{Link}
 use Rattle.sq_ranges.specs.ReconValue.{stage_on}
 use Rattle.sq_node_model.specs.Gathered.{GatheredLink}
-use Rattle.sq_audit.specs.Fits.{ends_of, IsKnownLink}
+use Rattle.sq_gather.specs.Gathered.{closed_ends}
+use Rattle.sq_audit.specs.Fits.{IsKnownLink}
 use Rattle.sq_audit.proofs.Listing.{item_at}
 use Rattle.sq_audit.proofs.Each.{each_more, each_done, each_fails}
 use Rattle.sq_audit.proofs.Parts.{same_link}
@@ -15,7 +16,7 @@ returns-then-not-contains c =
     (item_at c.args.gathered.now c.loop-link.link-index c.link-item.result c.link-item.is c.loop-link-test.true)
     (λ is.
     let has = is.0 in
-    let ends = ends_of c.link-item.result in
+    let ends = closed_ends c.link-item.result in
     let at = has.2 in
     let src = ap (λ (l : Link). l.src) at ∙ sym (ap (λ (l : GatheredLink). l.src) c.link.view_is) in
     let dst = ap (λ (l : Link). l.dst) at ∙ sym (ap (λ (l : GatheredLink). l.dst) c.link.view_is) in
@@ -35,7 +36,7 @@ pub loop-link-preserved : goal.loop-link-preserved
 loop-link-preserved c =
     each_more (λ (at : GatheredLink). IsKnownLink c.args.recon.now c.args.stage c.args.links.now at) c.args.gathered.now c.loop-link.link-index c.link-item.result c.loop-link.invariant
     (item_at c.args.gathered.now c.loop-link.link-index c.link-item.result c.link-item.is c.loop-link-test.true)
-    (let ends = ends_of c.link-item.result in
+    (let ends = closed_ends c.link-item.result in
     let found = c.if-not-contains.ensures.cases in
     let one = get_or c.args.links.now found.0 ends in
     let parts = and_parts (one.src == c.link.inside.src) (one.dst == c.link.inside.dst) (found.2 ends) in

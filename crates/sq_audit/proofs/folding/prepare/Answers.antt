@@ -8,7 +8,7 @@ use Rattle.sq_audit.specs.declared.verdict.Verdict.{Verdict}
 use Rattle.sq_audit.specs.declared.verdict.Verdict.TheVariants.{Sound, Unsound}
 use Rattle.sq_audit.specs.Answers.{IdsDiffer}
 use Rattle.sq_audit.specs.Counts.{Counts, is_counted}
-use Rattle.sq_audit.specs.Sound.{IsSound}
+use Rattle.sq_audit.specs.Sound.{IsSoundRun}
 use Rattle.sq_audit.specs.Defects.{IsVerdict}
 use Rattle.sq_schema.specs.Table.{rows_in}
 use Rattle.sq_audit.specs.Rows.{rows_among}
@@ -33,10 +33,10 @@ judged c same verdict is =
 
 -- and where it isn't a defect they are sound
 sound : (c : In_ok-defect) → c.deref-2.result.now ≡ answered_jobs c.args.g.now.receipts c.args.jobs.now → ((defect : Defect) → c.in_ok-defect.field-0 ≡ Unsound defect → ⊥)
-    → IsSound c.args.opening.now c.args.g.now (answered_jobs c.args.g.now.receipts c.args.jobs.now)
+    → IsSoundRun c.args.opening.now c.args.g.now (answered_jobs c.args.g.now.receipts c.args.jobs.now)
 sound c same never = by c.in_ok-defect.field-0 refl
   where
-    by : (verdict : Verdict) → c.in_ok-defect.field-0 ≡ verdict → IsSound c.args.opening.now c.args.g.now (answered_jobs c.args.g.now.receipts c.args.jobs.now)
+    by : (verdict : Verdict) → c.in_ok-defect.field-0 ≡ verdict → IsSoundRun c.args.opening.now c.args.g.now (answered_jobs c.args.g.now.receipts c.args.jobs.now)
     by Sound is = judged c same Sound is
     by (Unsound defect) is = absurd (never defect is)
 

@@ -2,7 +2,7 @@ use Rattle.std.proofs.Common.{◌≡◌, ◌-◌, ◌≤◌, true, length, slice
 use Rattle.std.proofs.lemmas.List.{length-map}
 use Rattle.sq_model.proofs.Lists.{Contains-slice_get}
 use Rattle.sq_node_model.proofs.Lists.{at_map}
-use Rattle.sq_audit.specs.Located.{entry_of, entries_of}
+use Rattle.sq_audit.specs.Located.{entry_of, entries_in}
 use Rattle.sq_audit.proofs.Listing.{item_at}
 use Rattle.sq_audit.proofs.Each.{refuted, shown}
 use Rattle.sq_audit.proofs.Indexing.{agree_first, agree_more, agree_whole}
@@ -10,17 +10,17 @@ use Rattle.sq_audit.proofs.index.stand_once.Goals as goal
 use Rattle.sq_audit.proofs.index.stand_once.Goals.{After-agree}
 
 pub loop-at-init : goal.loop-at-init
-loop-at-init c = record { some = omega arith; so_far = agree_first (entries_of c.args.all.now) }
+loop-at-init c = record { some = omega arith; so_far = agree_first (entries_in c.args.all.now) }
 
 -- the two families that are looked at
-before : (c : After-agree) → slice_get (entries_of c.args.all.now) (c.loop-at.at - 1) ≡ Some (entry_of c.index-all-at.result)
+before : (c : After-agree) → slice_get (entries_in c.args.all.now) (c.loop-at.at - 1) ≡ Some (entry_of c.index-all-at.result)
 before c =
     let all = c.args.all.now in
     let at = c.loop-at.at in
     let test = c.loop-at-test.true in
     at_map entry_of all (at - 1) c.index-all-at.result (item_at all (at - 1) c.index-all-at.result c.index-all-at.is (omega (arith, test)))
 
-here : (c : After-agree) → slice_get (entries_of c.args.all.now) c.loop-at.at ≡ Some (entry_of c.index-all-at-in-loop-at.result)
+here : (c : After-agree) → slice_get (entries_in c.args.all.now) c.loop-at.at ≡ Some (entry_of c.index-all-at-in-loop-at.result)
 here c =
     let all = c.args.all.now in
     let one = c.index-all-at-in-loop-at in
@@ -29,7 +29,7 @@ here c =
 pub returns-then-not-agree : goal.returns-then-not-agree
 returns-then-not-agree c =
     let at = (goal.at.returns-then-not-agree c).After-agree in
-    let entries = entries_of c.args.all.now in
+    let entries = entries_in c.args.all.now in
     let one = entry_of c.index-all-at.result in
     let other = entry_of c.index-all-at-in-loop-at.result in (
       (λ e. absurd (true≢false (sym e))),
@@ -44,11 +44,11 @@ loop-at-preserved c =
     record {
       some = omega arith;
       so_far =
-          agree_more (entries_of c.args.all.now) c.requires c.loop-at.at so_far.some (entry_of c.index-all-at.result) (entry_of c.index-all-at-in-loop-at.result) (before at) (here at) so_far.so_far
+          agree_more (entries_in c.args.all.now) c.requires c.loop-at.at so_far.some (entry_of c.index-all-at.result) (entry_of c.index-all-at-in-loop-at.result) (before at) (here at) so_far.so_far
           (shown c.agree.result c.agree.ensures c.if-not-agree.false);
     }
 
 pub returns : goal.returns
 returns c =
-    let whole : length (entries_of c.args.all.now) ≤ c.loop-at.at = subst (λ n. n ≤ c.loop-at.at) (sym (length-map c.args.all.now entry_of)) c.loop-at-test.false in
-    agree_whole (entries_of c.args.all.now) c.loop-at.at true whole ((λ e. c.loop-at.invariant.so_far), (λ agree. refl))
+    let whole : length (entries_in c.args.all.now) ≤ c.loop-at.at = subst (λ n. n ≤ c.loop-at.at) (sym (length-map c.args.all.now entry_of)) c.loop-at-test.false in
+    agree_whole (entries_in c.args.all.now) c.loop-at.at true whole ((λ e. c.loop-at.invariant.so_far), (λ agree. refl))

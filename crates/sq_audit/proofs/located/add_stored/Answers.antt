@@ -5,12 +5,12 @@ use Rattle.sq_schema.specs.TxnValue.{TxnValue}
 use Rattle.sq_schema.specs.declared.root.TheConstants.{ROOT_END}
 use Rattle.sq_store.proofs.Walks.{walk_ends}
 use Rattle.sq_audit.specs.declared.located.Located.{Located}
-use Rattle.sq_audit.specs.Located.{spot_of, entries_of}
+use Rattle.sq_audit.specs.Located.{spot_of, entries_in}
 use Rattle.sq_audit.proofs.Listing.{pushed, walked_none, walked_next, walked_all}
 use Rattle.sq_audit.proofs.located.add_stored.Goals as goal
 
 pub loop-family-init : goal.loop-family-init
-loop-family-init c = ([], sym (append-nil (entries_of c.args.all.now.items)), walked_none c.args.store.now, omega arith)
+loop-family-init c = ([], sym (append-nil (entries_in c.args.all.now.items)), walked_none c.args.store.now, omega arith)
 
 pub loop-family-smaller : goal.loop-family-smaller
 loop-family-smaller c =
@@ -24,7 +24,7 @@ loop-family-preserved c =
     let number : c.number-at.result ≡ family.root = c.number-at.ensures.number ∙ c.root.ensures in
     let own = subst (All (λ (txn : TxnValue). txn.root ≡ family.root)) c.log.ensures.log c.log.ensures.own in (
       so_far.0 ++ family ∷ [],
-      ap entries_of c.in_ok-push.ensures.items ∙ pushed c.loop-family.all.items one (entries_of c.args.all.now.items) so_far.0 (spot_of c.args.site) family so_far.1 refl,
+      ap entries_in c.in_ok-push.ensures.items ∙ pushed c.loop-family.all.items one (entries_in c.args.all.now.items) so_far.0 (spot_of c.args.site) family so_far.1 refl,
       walked_next c.args.store.now c.loop-family.at so_far.0 c.walk.ensures.rooted so_far.2 (c.number-at.result + 1) family (sym c.in-Some.ensures.family) (ap (λ n. n + 1) number) own,
       (let bound : c.number-at.result < ROOT_END = c.number-at.ensures.bound in omega (arith, bound)),
     )

@@ -6,7 +6,7 @@ use Rattle.sq_node_model.specs.Gathered.{GatheredValue}
 use Rattle.sq_node_model.specs.Placed.{StandOnce, AllStand, KeepBases, NameEach}
 use Rattle.sq_audit.specs.declared.located.Located.{Located}
 use Rattle.sq_audit.specs.Answers.{AreKnown, AreAnswered, AreAnsweredBy}
-use Rattle.sq_audit.specs.Located.{entries_of, ListsAll}
+use Rattle.sq_audit.specs.Located.{entries_in, ListsAll}
 use Rattle.sq_audit.specs.Index.{HaveFamilies, AgreeOnSpots, StartFrom}
 use Rattle.sq_audit.specs.Told.{KnowsAll}
 use Rattle.sq_audit.proofs.Each.{refuted, shown}
@@ -19,29 +19,29 @@ use Rattle.sq_audit.proofs.passes.audit.Goals.{After-have_families, After-stand_
 
 stand : (c : After-have_families) → Decides c.have_families.result (AllStand c.args.opening.now c.args.g.now)
 stand c =
-    let all = subst (λ (all : List Located). Decides c.have_families.result (HaveFamilies c.table.result.now (entries_of all))) c.deref.ensures.value c.have_families.ensures in
-    let have = subst (λ (t : TableValue). Decides c.have_families.result (HaveFamilies t (entries_of c.in_ok-all.all.items))) c.table.ensures.table all in
-    stand_is c.args.opening.now c.args.g.now (entries_of c.in_ok-all.all.items) c.in_ok-all.ensures.all c.have_families.result c.table.ensures.set_up.rising c.table.ensures.set_up.rows have
+    let all = subst (λ (all : List Located). Decides c.have_families.result (HaveFamilies c.table.result.now (entries_in all))) c.deref.ensures.value c.have_families.ensures in
+    let have = subst (λ (t : TableValue). Decides c.have_families.result (HaveFamilies t (entries_in c.in_ok-all.all.items))) c.table.ensures.table all in
+    stand_is c.args.opening.now c.args.g.now (entries_in c.in_ok-all.all.items) c.in_ok-all.ensures.all c.have_families.result c.table.ensures.set_up.rising c.table.ensures.set_up.rows have
 
 once : (c : After-stand_once) → Decides c.stand_once.result (StandOnce c.args.g.now)
 once c =
-    once_is c.args.opening.now c.args.g.now (entries_of c.in_ok-all.all.items) c.in_ok-all.ensures.all c.stand_once.result
-    (subst (λ (all : List Located). Decides c.stand_once.result (AgreeOnSpots (entries_of all))) c.deref-2.ensures.value c.stand_once.ensures)
+    once_is c.args.opening.now c.args.g.now (entries_in c.in_ok-all.all.items) c.in_ok-all.ensures.all c.stand_once.result
+    (subst (λ (all : List Located). Decides c.stand_once.result (AgreeOnSpots (entries_in all))) c.deref-2.ensures.value c.stand_once.ensures)
 
 keep : (c : After-start_from) → Decides c.start_from.result (KeepBases c.args.opening.now c.args.g.now)
 keep c =
     let o = c.args.opening.now in
-    let start = subst (λ (t : TableValue). Decides c.start_from.result (StartFrom (rows_in t) (entries_of c.deref-3.result.now))) c.table-2.ensures.table c.start_from.ensures in
-    bases_are o c.args.g.now (entries_of c.in_ok-all.all.items) c.in_ok-all.ensures.all c.start_from.result
-    (subst (λ (all : List Located). Decides c.start_from.result (StartFrom (rows_in o.table) (entries_of all))) c.deref-3.ensures.value start)
+    let start = subst (λ (t : TableValue). Decides c.start_from.result (StartFrom (rows_in t) (entries_in c.deref-3.result.now))) c.table-2.ensures.table c.start_from.ensures in
+    bases_are o c.args.g.now (entries_in c.in_ok-all.all.items) c.in_ok-all.ensures.all c.start_from.result
+    (subst (λ (all : List Located). Decides c.start_from.result (StartFrom (rows_in o.table) (entries_in all))) c.deref-3.ensures.value start)
 
 known : (c : In_ok-are_known) → StandOnce c.args.g.now
     → Decides c.in_ok-are_known.field-0 (AreKnown c.args.g.now c.args.jobs.now × NameEach c.args.g.now)
 known c is_once =
     let jobs = c.args.jobs.now in
-    let entries = entries_of c.in_ok-all.all.items in
+    let entries = entries_in c.in_ok-all.all.items in
     let knows = c.in_ok-are_known.field-0 in
-    let all = subst (λ (all : List Located). Decides knows (KnowsAll (entries_of all) jobs c.deref-6.result.now)) c.deref-5.ensures.value c.in_ok-are_known.ensures in
+    let all = subst (λ (all : List Located). Decides knows (KnowsAll (entries_in all) jobs c.deref-6.result.now)) c.deref-5.ensures.value c.in_ok-are_known.ensures in
     let receipts = c.deref-6.ensures.value ∙ ap (λ (v : GatheredValue). v.receipts) c.g.view_is in
     known_are c.args.opening.now c.args.g.now entries c.in_ok-all.ensures.all jobs is_once knows (subst (λ (rs : List ReceiptValue). Decides knows (KnowsAll entries jobs rs)) receipts all)
 
@@ -71,7 +71,7 @@ returns-then-not-start_from c =
     (refuted c.start_from.result (keep at.After-start_from) c.if-not-start_from.true)
 
 pub fit-requires : goal.fit-requires
-fit-requires c = subst (λ (all : List Located). ListsAll c.args.g.now (entries_of all)) (sym c.deref-4.ensures.value) c.in_ok-all.ensures.all
+fit-requires c = subst (λ (all : List Located). ListsAll c.args.g.now (entries_in all)) (sym c.deref-4.ensures.value) c.in_ok-all.ensures.all
 
 pub returns-then-not-branch : goal.returns-then-not-branch
 returns-then-not-branch c =

@@ -5,7 +5,7 @@ use Rattle.std.proofs.lemmas.List.{length-map}
 use Rattle.sq_node_model.proofs.Lists.{at_map}
 use Rattle.sq_node_model.specs.Gathered.{GatheredLink, GatheredValue}
 use Rattle.sq_audit.specs.declared.spans.Span.{Span}
-use Rattle.sq_audit.specs.Located.{Entry, entry_of, entries_of, spot_of}
+use Rattle.sq_audit.specs.Located.{Entry, entry_of, entries_in, spot_of}
 use Rattle.sq_audit.specs.Spans.{marked_in, notes_of, is_over, AreByKey, part_by, IsAtPart}
 use Rattle.sq_audit.proofs.Listing.{item_at}
 use Rattle.sq_audit.proofs.Each.{each_more, each_done, each_fails, refuted, shown}
@@ -20,7 +20,7 @@ shuffled c =
     subst (λ (ls : List GatheredLink). IsPermutation (flat_map notes_of ls) (marked_in c.in_ok-spans.spans.items)) links c.in_ok-spans.ensures.all
 
 -- the family that is looked at
-entry_there : (c : After-is_placed) → slice_get (entries_of c.args.all.now) c.loop-located.located-index ≡ Some (entry_of c.located-item.result)
+entry_there : (c : After-is_placed) → slice_get (entries_in c.args.all.now) c.loop-located.located-index ≡ Some (entry_of c.located-item.result)
 entry_there c =
     let at = c.loop-located.located-index in
     at_map entry_of c.args.all.now at c.located-item.result (item_at c.args.all.now at c.located-item.result c.located-item.is c.loop-located-test.true)
@@ -43,7 +43,7 @@ is_placed-requires c =
 pub returns-then-not-is_placed : goal.returns-then-not-is_placed
 returns-then-not-is_placed c =
     let notes = marked_in c.in_ok-spans.spans.items in
-    let entries = entries_of c.args.all.now in
+    let entries = entries_in c.args.all.now in
     let at = goal.at.returns-then-not-is_placed c in
     placed_are c.args.opening.now c.args.g.now c.requires.parts c.requires.links c.requires.apart notes (shuffled at.In_ok-spans) entries c.requires.listed false
     (each_fails (λ (entry : Entry). IsAtPart entry.0 (part_by c.args.opening.now c.args.g.now.stage entry.1.root (find (is_over entry.1.root) notes))) entries c.loop-located.located-index (entry_of c.located-item.result) (entry_there at.After-is_placed)
@@ -53,13 +53,13 @@ pub loop-located-preserved : goal.loop-located-preserved
 loop-located-preserved c =
     let notes = marked_in c.in_ok-spans.spans.items in
     let at = (goal.at.loop-located-preserved c).After-is_placed in
-    each_more (λ (entry : Entry). IsAtPart entry.0 (part_by c.args.opening.now c.args.g.now.stage entry.1.root (find (is_over entry.1.root) notes))) (entries_of c.args.all.now) c.loop-located.located-index (entry_of c.located-item.result) c.loop-located.invariant
+    each_more (λ (entry : Entry). IsAtPart entry.0 (part_by c.args.opening.now c.args.g.now.stage entry.1.root (find (is_over entry.1.root) notes))) (entries_in c.args.all.now) c.loop-located.located-index (entry_of c.located-item.result) c.loop-located.invariant
     (entry_there at) (shown c.is_placed.result (stands at) c.if-not-is_placed.false)
 
 pub returns : goal.returns
 returns c =
     let notes = marked_in c.in_ok-spans.spans.items in
     let all = c.args.all.now in
-    let whole : length (entries_of all) ≤ c.loop-located.located-index = subst (λ n. n ≤ c.loop-located.located-index) (sym (length-map all entry_of)) c.loop-located-test.false in
-    placed_are c.args.opening.now c.args.g.now c.requires.parts c.requires.links c.requires.apart notes (shuffled (goal.at.returns c).In_ok-spans) (entries_of all) c.requires.listed true
-    (each_done (λ (entry : Entry). IsAtPart entry.0 (part_by c.args.opening.now c.args.g.now.stage entry.1.root (find (is_over entry.1.root) notes))) (entries_of all) c.loop-located.located-index c.loop-located.invariant whole)
+    let whole : length (entries_in all) ≤ c.loop-located.located-index = subst (λ n. n ≤ c.loop-located.located-index) (sym (length-map all entry_of)) c.loop-located-test.false in
+    placed_are c.args.opening.now c.args.g.now c.requires.parts c.requires.links c.requires.apart notes (shuffled (goal.at.returns c).In_ok-spans) (entries_in all) c.requires.listed true
+    (each_done (λ (entry : Entry). IsAtPart entry.0 (part_by c.args.opening.now c.args.g.now.stage entry.1.root (find (is_over entry.1.root) notes))) (entries_in all) c.loop-located.located-index c.loop-located.invariant whole)

@@ -6,7 +6,7 @@ use Rattle.sq_ranges.specs.declared.recon.Extent.{Extent}
 use Rattle.sq_ranges.specs.ReconValue.{ReconValue}
 use Rattle.sq_model.specs.Place.{extent_of, extent_in}
 use Rattle.sq_audit.specs.Counts.{key_order}
-use Rattle.sq_audit.specs.Notes.{Continues}
+use Rattle.sq_audit.specs.Notes.{FollowsNewest}
 use Rattle.sq_audit.proofs.Counting.{pair_is}
 use Rattle.sq_audit.proofs.Listing.{item_at}
 use Rattle.sq_audit.proofs.Each.{refuted, shown}
@@ -19,13 +19,13 @@ note_there : (c : After-continues) → slice_get c.args.notes.now c.loop-note.no
 note_there c = item_at c.args.notes.now c.loop-note.note-index c.note-item.result c.note-item.is c.loop-note-test.true
 
 -- whether it goes on where the newest one of its node ends
-goes_on : (c : After-continues) → let note = c.note-item.result in Decides c.continues.result (Continues (extent_of c.args.opening.now note.seg note.node) (get key_order c.loop-note.newest (note.seg, note.node)) note)
+goes_on : (c : After-continues) → let note = c.note-item.result in Decides c.continues.result (FollowsNewest (extent_of c.args.opening.now note.seg note.node) (get key_order c.loop-note.newest (note.seg, note.node)) note)
 goes_on c =
     let note = c.note-item.result in
     let node = pair_is c.number.ensures.number c.number-in-loop-note.ensures.number in
     let extent : c.extent_of-extent.result ≡ extent_of c.args.opening.now note.seg note.node = c.extent_of-extent.ensures ∙ ap (λ (r : ReconValue). extent_in r.width (slice_get r.segments note.seg) note.node) c.recon.ensures.recon in
     let newest : c.copied.result ≡ get key_order c.loop-note.newest (note.seg, note.node) = c.copied.ensures ∙ c.get.ensures.value ∙ ap (get key_order c.loop-note.newest) node in
-    subst₂ (λ (k : Extent) (n : Option Note). Decides c.continues.result (Continues k n note)) extent newest c.continues.ensures
+    subst₂ (λ (k : Extent) (n : Option Note). Decides c.continues.result (FollowsNewest k n note)) extent newest c.continues.ensures
 
 pub returns-then-not-continues : goal.returns-then-not-continues
 returns-then-not-continues c =

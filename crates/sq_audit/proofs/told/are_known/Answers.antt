@@ -2,15 +2,15 @@ use Rattle.std.proofs.Common.{Bool, Bor, List, subst, sym, true≢false}
 use Rattle.std.specs.Bool.{Decides}
 use Rattle.std.proofs.lemmas.List.Sorted.{IsPermutation-sym}
 use Rattle.sq_node_model.specs.NodeValue.{ReceiptValue}
-use Rattle.sq_audit.specs.Located.{entries_of}
-use Rattle.sq_audit.specs.Told.{values_of, KnowsAll, TellLogs, TellNothing}
+use Rattle.sq_audit.specs.Located.{entries_in}
+use Rattle.sq_audit.specs.Told.{values_of, KnowsAll, TellLogs, TellNoLog}
 use Rattle.sq_audit.proofs.Each.{refuted, shown}
 use Rattle.sq_audit.proofs.Knowing.{logs_permuted, knows_all, ok_like}
 use Rattle.sq_audit.proofs.told.are_known.Goals as goal
 
 pub returns-then-not-branch : goal.returns-then-not-branch
 returns-then-not-branch c =
-    let entries = entries_of c.args.all.now in
+    let entries = entries_in c.args.all.now in
     let jobs = c.args.jobs.now in (
       (λ e. absurd (true≢false (sym e))),
       (λ all. absurd (refuted c.in_ok-tell_logs.field-0 c.in_ok-tell_logs.ensures c.if-not-branch.true
@@ -20,10 +20,10 @@ returns-then-not-branch c =
 
 pub returns : goal.returns
 returns c =
-    let entries = entries_of c.args.all.now in
+    let entries = entries_in c.args.all.now in
     let jobs = c.args.jobs.now in
     let receipts = c.args.receipts.now in
     let sorted = values_of c.in_ok-sorted.sorted.items in
     let logs = logs_permuted entries jobs sorted receipts (IsPermutation-sym receipts sorted c.in_ok-sorted.ensures.all) (subst (λ (rs : List (Bor ReceiptValue)). TellLogs entries jobs (values_of rs)) c.deref.ensures.value (shown c.in_ok-tell_logs.field-0 c.in_ok-tell_logs.ensures c.if-not-branch.false)) in
-    ok_like {P = λ (tell : Bool). Decides tell (TellNothing entries jobs receipts)} {Q = λ (tell : Bool). Decides tell (KnowsAll entries jobs receipts)} c.tell_nothing.result
-    (λ tell nothing. knows_all entries jobs receipts tell logs nothing) c.tell_nothing.ensures
+    ok_like {P = λ (tell : Bool). Decides tell (TellNoLog entries jobs receipts)} {Q = λ (tell : Bool). Decides tell (KnowsAll entries jobs receipts)} c.tell_no_log.result
+    (λ tell nothing. knows_all entries jobs receipts tell logs nothing) c.tell_no_log.ensures

@@ -4,7 +4,7 @@ use Rattle.std.proofs.lemmas.List.{length-map}
 use Rattle.sq_schema.specs.TxnValue.{TxnValue}
 use Rattle.sq_node_model.specs.NodeValue.{ReceiptValue}
 use Rattle.sq_node_model.proofs.Lists.{at_map}
-use Rattle.sq_audit.specs.Told.{values_of, IsAnswered, rows_then}
+use Rattle.sq_audit.specs.Told.{values_of, IsAnswerOn, rows_then}
 use Rattle.sq_audit.proofs.Listing.{item_at}
 use Rattle.sq_audit.proofs.Each.{looked_up, refuted, shown, by_cases}
 use Rattle.sq_audit.proofs.Walks.{WalkedTo, none_walked, step_commit, step_abort, fails_position, fails_answer, walk_ends, fails_end}
@@ -65,7 +65,7 @@ returns-then-not-branch c =
       (λ e. absurd (true≢false (sym e))),
       (λ tells.
           absurd (fails_answer c.args.jobs.now c.args.family.now group i position c.loop-receipt.rows c.loop-receipt.invariant r at here
-          (λ told. refuted c.in_ok-is_answered.field-0 c.in_ok-is_answered.ensures.answered c.if-not-branch.true (subst (λ (o : Option TxnValue). IsAnswered c.args.jobs.now c.loop-receipt.rows o r) (sym next) told)) tells)),
+          (λ told. refuted c.in_ok-is_answered.field-0 c.in_ok-is_answered.ensures.answered c.if-not-branch.true (subst (λ (o : Option TxnValue). IsAnswerOn c.args.jobs.now c.loop-receipt.rows o r) (sym next) told)) tells)),
     )
 
 pub loop-receipt-preserved : goal.loop-receipt-preserved
@@ -79,7 +79,7 @@ loop-receipt-preserved c =
     let here = in_place point in
     let next = next_there point in
     let rows = c.loop-receipt.rows in
-    let told = subst (λ (o : Option TxnValue). IsAnswered c.args.jobs.now rows o r) next (shown c.in_ok-is_answered.field-0 c.in_ok-is_answered.ensures.answered c.if-not-branch.false) in
+    let told = subst (λ (o : Option TxnValue). IsAnswerOn c.args.jobs.now rows o r) next (shown c.in_ok-is_answered.field-0 c.in_ok-is_answered.ensures.answered c.if-not-branch.false) in
     let after = c.in_ok-is_answered.ensures.rows c.if-not-branch.false ∙ ap (λ (o : Option TxnValue). rows_then rows o r) next in
     let walked = λ (n : ℕ). WalkedTo c.args.jobs.now c.args.family.now group (i + 1) n c.is_answered.new.rows in
     elim c.if-commits.branch [
