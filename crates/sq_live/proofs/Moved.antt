@@ -19,7 +19,7 @@ use Rattle.sq_node_model.specs.Gathered.{GatheredValue}
 use Rattle.sq_node_model.specs.Next.{is_whole_in, IsStageDone}
 use Rattle.sq_audit.proofs.Knowing.{count_first}
 use Rattle.sq_live.specs.Leading.{AreComplete, HasHeard, HasGoneOn, HasEnded}
-use Rattle.sq_live.specs.Outcome.{has_moved, moved_count}
+use Rattle.sq_live.specs.Outcome.{segment_has_moved, moved_count}
 use Rattle.sq_live.specs.Judged.{MarksMoved, marked_count}
 
 -- all are counted where all pass
@@ -68,7 +68,7 @@ below_or_at a b le = elim (cases_lt a b) [
 module _ (o : OpeningValue) (g : GatheredValue) (is : IsOpening o) where
   -- where marks tell which segments are complete, as many count
   pub marks_counted : (moved : List Bool) → MarksMoved g.words moved → marked_count o.recon g.stage moved ≡ moved_count o g
-  marks_counted moved each = same_count _ (has_moved o g) 0 (length o.recon.segments) (λ seg low high.
+  marks_counted moved each = same_count _ (segment_has_moved o g) 0 (length o.recon.segments) (λ seg low high.
       let few = is.few_segments in
       ap (λ b. nat_lt (stage_at o.recon seg) g.stage || b) (each seg (omega (arith, high, few))))
 
@@ -76,11 +76,11 @@ module _ (o : OpeningValue) (g : GatheredValue) (is : IsOpening o) where
   pub all_moved : g.stage + 1 ≡ stages o.recon → IsStageDone o g → moved_count o g ≡ length o.recon.segments
   all_moved last done =
       let segments = o.recon.segments in
-      all_counted (has_moved o g) (range_with_len 0 (length segments)) (all_pass (has_moved o g) 0 (length segments) (λ seg low high.
+      all_counted (segment_has_moved o g) (range_with_len 0 (length segments)) (all_pass (segment_has_moved o g) 0 (length segments) (λ seg low high.
       has seg (omega (arith, high))))
       ∙ length-range_with_len 0 (length segments)
     where
-      has : (seg : ℕ) → seg < length o.recon.segments → has_moved o g seg ≡ true
+      has : (seg : ℕ) → seg < length o.recon.segments → segment_has_moved o g seg ≡ true
       has seg lt =
           let segments = o.recon.segments in
           let none : Range = record { lo = 0; hi = 0; src = 0; dst = 0 } in
@@ -95,20 +95,20 @@ module _ (o : OpeningValue) (g : GatheredValue) (is : IsOpening o) where
 
   -- where one of the stage isn't complete, fewer count than there are
   pub one_unmoved : (IsStageDone o g → ⊥) → moved_count o g < length o.recon.segments
-  one_unmoved missing = elim (cases_Bool (list_all (has_moved o g) (range_with_len 0 (length o.recon.segments)))) [
+  one_unmoved missing = elim (cases_Bool (list_all (segment_has_moved o g) (range_with_len 0 (length o.recon.segments)))) [
     | inl all ↦ absurd (missing (λ seg segment there now. of_all seg segment there now all))
     | inr fails ↦
-        let fewer = one_uncounted (has_moved o g) (range_with_len 0 (length o.recon.segments)) fails in
+        let fewer = one_uncounted (segment_has_moved o g) (range_with_len 0 (length o.recon.segments)) fails in
         omega (arith, fewer, length-range_with_len 0 (length o.recon.segments))
   ]
     where
       of_all : (seg : ℕ) (segment : Range) → slice_get o.recon.segments seg ≡ Some segment → stage_in o.recon segment ≡ g.stage
-          → list_all (has_moved o g) (range_with_len 0 (length o.recon.segments)) ≡ true → is_whole_in g seg ≡ true
+          → list_all (segment_has_moved o g) (range_with_len 0 (length o.recon.segments)) ≡ true → is_whole_in g seg ≡ true
       of_all seg segment there now all =
           let count = length o.recon.segments in
           let lt = slice_get_within o.recon.segments seg segment there in
           let at : get_or (range_with_len 0 count) seg 0 ≡ seg = get_or-range_with_len 0 count seg 0 lt ∙ omega arith in
-          let here : has_moved o g seg ≡ true = ap (has_moved o g) (sym at) ∙ AllPass-from_list_all (has_moved o g) (range_with_len 0 count) all seg 0 (omega (arith, length-range_with_len 0 count, lt)) in
+          let here : segment_has_moved o g seg ≡ true = ap (segment_has_moved o g) (sym at) ∙ AllPass-from_list_all (segment_has_moved o g) (range_with_len 0 count) all seg 0 (omega (arith, length-range_with_len 0 count, lt)) in
           elim (or_cases (nat_lt (stage_at o.recon seg) g.stage) (is_whole_in g seg) here) [
             | inl earlier ↦
                 let under = ltb-true (stage_at o.recon seg) g.stage earlier in

@@ -16,12 +16,12 @@ use Rattle.sq_live.specs.declared.continuing.Continued.TheVariants as continued
 use Rattle.sq_live.specs.declared.outcome.Outcome.{Outcome}
 use Rattle.sq_live.specs.declared.outcome.Outcome.TheVariants as outcome
 use Rattle.sq_live.specs.declared.stages.Ready.{Ready}
-use Rattle.sq_live.specs.declared.stages.After.TheVariants as after
+use Rattle.sq_live.specs.declared.stages.AfterStage.TheVariants as after
 use Rattle.sq_live.specs.Account.{AccountValue, first_account}
 use Rattle.sq_live.specs.declared.leader.Led.TheVariants.{Next, Ended, Missing}
 use Rattle.sq_live.specs.Leading.{leading, AreComplete, HasGoneOn, HasEnded, Leads}
 use Rattle.sq_live.specs.Judged.{MarksMoved}
-use Rattle.sq_live.specs.Stages.{RanFrom, ContinuesWith, Continues, HavePassed, IsReady, ComesAfter}
+use Rattle.sq_live.specs.Stages.{RanFrom, ContinuesWith, Continues, HavePassed, IsReady, ComesAfterStage}
 use Rattle.sq_live.specs.Live.{WereRun}
 use Rattle.sq_live.proofs.Moved.{complete_by, marked_by, gone_on_by, ended_by}
 
@@ -131,7 +131,7 @@ module _ (old : AccountValue) (g : GatheredValue) (new : AccountValue) (next : G
 
 module _ (folds : Bool) (old : AccountValue) (began : BeganWith) (g : GatheredValue) (ran : RanFrom old.opening began g) (at : StageValue) (led : HasGoneOn old.opening g.stage (is_whole_in g) at) where
   pub next_comes : IsStageDone old.opening g → (new : AccountValue) (next : GatheredValue) → ContinuesWith folds old g new next → (ready : Ready) → ready.account ≡ new → IsReady (next_began new.opening next) ready
-      → ComesAfter folds old began (after.Next ready)
+      → ComesAfterStage folds old began (after.Next ready)
   next_comes done new next continues ready same is = (
     g,
     next_began new.opening next,
@@ -148,7 +148,7 @@ module _ (folds : Bool) (old : AccountValue) (began : BeganWith) (g : GatheredVa
   )
 
   -- or the fold between the stages found a defect
-  pub unsound_comes : (defect : Defect) → Continues folds old g (continued.Unsound defect) → ComesAfter folds old began (after.Ended (outcome.Unsound defect))
+  pub unsound_comes : (defect : Defect) → Continues folds old g (continued.Unsound defect) → ComesAfterStage folds old began (after.Ended (outcome.Unsound defect))
   unsound_comes defect found = (g, ran, inl (found.0, at, led, found.1))
 
 -- ---- stage by stage
@@ -174,7 +174,7 @@ module _ (folds : Bool) (o : OpeningValue) (jobs : List Job) where
   }
 
   module _ (stage : ℕ) (ready : Ready) (at : IsAt folds o jobs stage ready) where
-    pub at_next : (next : Ready) → ComesAfter folds ready.account at.began (after.Next next) → IsAt folds o jobs (stage + 1) next
+    pub at_next : (next : Ready) → ComesAfterStage folds ready.account at.began (after.Next next) → IsAt folds o jobs (stage + 1) next
     at_next next comes =
         let (g, later, passed, is) = comes in
         let gone = stays_in_stage ready.account g next.account passed.next folds passed.continues in
@@ -187,7 +187,7 @@ module _ (folds : Bool) (o : OpeningValue) (jobs : List Job) where
           moves = moves_alike ready.account g next.account passed.next folds passed.continues ∙ at.moves;
         }
 
-    pub were_run : (ending : Outcome) → ComesAfter folds ready.account at.began (after.Ended ending) → WereRun folds o jobs ending
+    pub were_run : (ending : Outcome) → ComesAfterStage folds ready.account at.began (after.Ended ending) → WereRun folds o jobs ending
     were_run ending comes = record { earlier = at.earlier; account = ready.account; began = at.began; passed = at.passed; gathered = comes.0; ran = comes.1; came = comes.2 }
 
     -- there is such a stage

@@ -41,20 +41,20 @@ abbrev pub answered_count : List ReceiptValue → List Job → ℕ
 answered_count receipts jobs = count_by (is_answered receipts) jobs
 
 -- the segment of this number is complete: it moved in an earlier stage than the one that was gathered, or its node 1 reads complete; one of which no statuses were gathered doesn't
-abbrev pub has_moved : OpeningValue → GatheredValue → ℕ → Bool
-has_moved o g seg = nat_lt (stage_at o.recon seg) g.stage || is_whole_in g seg
+abbrev pub segment_has_moved : OpeningValue → GatheredValue → ℕ → Bool
+segment_has_moved o g seg = nat_lt (stage_at o.recon seg) g.stage || is_whole_in g seg
 
 -- how many segments are complete
 abbrev pub moved_count : OpeningValue → GatheredValue → ℕ
-moved_count o g = count_by (has_moved o g) (range_with_len 0 (length o.recon.segments))
+moved_count o g = count_by (segment_has_moved o g) (range_with_len 0 (length o.recon.segments))
 
 -- how many receipts are of commits
 abbrev pub commit_count : List ReceiptValue → ℕ
 commit_count receipts = count_by (λ receipt. is_commit receipt.reply) receipts
 
 -- how many families all stores have
-abbrev pub family_count : GatheredValue → ℕ
-family_count g = sum_by (λ store. len store) g.stores
+abbrev pub stored_count : GatheredValue → ℕ
+stored_count g = sum_by (λ store. len store) g.stores
 
 -- each job is answered, each segment is complete, and the leader ended the move
 pub record IsDone (account : AccountValue) (g : GatheredValue) : Type 0 where
@@ -83,7 +83,7 @@ pub record HasStopped (account : AccountValue) (g : GatheredValue) (answered pos
 pub record IsFoundSound (account : AccountValue) (g : GatheredValue) (families committed : ℕ) : Type 0 where
   pub is_done : IsDone account g
   pub sound : IsSoundRun account.opening g account.jobs
-  pub families_are : family_count g < 2 ^ 64 → families ≡ family_count g
+  pub families_are : stored_count g < 2 ^ 64 → families ≡ stored_count g
   pub committed_are : committed ≡ account.committed + commit_count g.receipts
 
 -- an audit found this defect first: that of the fold between two stages, or that of all jobs in the end

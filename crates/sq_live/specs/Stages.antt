@@ -15,8 +15,8 @@ use Rattle.sq_audit.specs.Folding.{IsFold, answered_jobs}
 use Rattle.sq_live.specs.declared.continuing.Continued.{Continued}
 use Rattle.sq_live.specs.declared.continuing.Continued.TheVariants as continued
 use Rattle.sq_live.specs.declared.stages.Ready.{Ready}
-use Rattle.sq_live.specs.declared.stages.After.{After}
-use Rattle.sq_live.specs.declared.stages.After.TheVariants as after
+use Rattle.sq_live.specs.declared.stages.AfterStage.{AfterStage}
+use Rattle.sq_live.specs.declared.stages.AfterStage.TheVariants as after
 use Rattle.sq_live.specs.Account.{AccountValue, first_account}
 use Rattle.sq_live.specs.Leading.{leading, HasGoneOn}
 use Rattle.sq_live.specs.Outcome.{commit_count, CameTo}
@@ -72,7 +72,7 @@ pub record IsReady (began : BeganWith) (ready : Ready) : Type 0 where
   pub led : ready.moving ≡ leading ready.account.opening began.stage
 
 -- what comes after a stage that began so: the run ends, or the next stage is ready
-abbrev pub ComesAfter : Bool → AccountValue → BeganWith → After → Type 0
-ComesAfter folds account began (after.Ended outcome) = (g : GatheredValue) × RanFrom account.opening began g × CameTo folds account g outcome
-ComesAfter folds account began (after.Next ready) =
+abbrev pub ComesAfterStage : Bool → AccountValue → BeganWith → AfterStage → Type 0
+ComesAfterStage folds account began (after.Ended outcome) = (g : GatheredValue) × RanFrom account.opening began g × CameTo folds account g outcome
+ComesAfterStage folds account began (after.Next ready) =
     (g : GatheredValue) × (later : BeganWith) × HasPassed folds account began g ready.account later × IsReady later ready

@@ -14,7 +14,7 @@ use crate::fault::LiveFault;
 use crate::job_list::{JobList, read_jobs};
 use crate::leader::start_move;
 use crate::outcome::{Outcome, write_outcome};
-use crate::stages::{Manner, run_stages};
+use crate::stages::{RunManner, run_stages};
 use crate::watch::Watch;
 use sq_lines::LineReader;
 use sq_ranges::Opening;
@@ -51,7 +51,7 @@ pub fn live<T: Threads + Wait + Sync, R: Read, W: Write, G: Watch>(
     requires { pumps ≤ MAX_PUMPS }
     ensures { IfOk result (RunsLive folds MAX_TABLES (R.remaining reader.old) (W.contents writer.old) (W.contents writer.new)) }
 {
-    let manner = Manner {
+    let manner = RunManner {
         turns,
         pumps,
         folds,
@@ -77,7 +77,7 @@ fn end_input<T: Threads + Wait + Sync, R: Read, G: Watch>(
     rt: &T,
     alloc: Global,
     reader: &mut R,
-    manner: Manner,
+    manner: RunManner,
     watch: &G,
 ) -> LiveEnding
     requires { manner.pumps ≤ MAX_PUMPS }
@@ -94,7 +94,7 @@ fn end_lines<T: Threads + Wait + Sync, R: Read, G: Watch>(
     rt: &T,
     alloc: Global,
     lines: &mut LineReader<R>,
-    manner: Manner,
+    manner: RunManner,
     watch: &G,
 ) -> LiveEnding
     requires { manner.pumps ≤ MAX_PUMPS }
@@ -132,7 +132,7 @@ fn run_input<T: Threads + Wait + Sync, G: Watch>(
     alloc: Global,
     opening: Opening,
     jobs: JobList,
-    manner: Manner,
+    manner: RunManner,
     watch: &G,
 ) -> Result<Outcome, AllocError>
     requires pumps { manner.pumps ≤ MAX_PUMPS }

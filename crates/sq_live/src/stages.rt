@@ -11,7 +11,7 @@ ghost use Rattle.sq_gather.specs.Reopened.{IsRunInStage};
 ghost use Rattle.sq_live.specs.Account.{first_account};
 ghost use Rattle.sq_live.specs.Jobs.{HavePartitions};
 ghost use Rattle.sq_live.specs.Leading.{leading};
-ghost use Rattle.sq_live.specs.Stages.{RanFrom, IsReady, ComesAfter};
+ghost use Rattle.sq_live.specs.Stages.{RanFrom, IsReady, ComesAfterStage};
 ghost use Rattle.sq_live.specs.Live.{WereRun};
 
 use crate::account::Account;
@@ -32,7 +32,7 @@ use std::thread::Threads;
 
 /// How a run is run.
 #[derive(Clone, Copy)]
-pub(crate) struct Manner {
+pub(crate) struct RunManner {
     /// How many turns each thread takes at most in a stage.
     pub(crate) turns: u64,
     /// How many pumps there are.
@@ -53,7 +53,7 @@ pub(crate) struct Ready {
 
 /// What comes after a stage.
 #[derive(Drop)]
-pub(crate) enum After {
+pub(crate) enum AfterStage {
     /// The run ends, and comes to this.
     Ended(Outcome),
     /// The next stage is ready.
@@ -68,7 +68,7 @@ pub(crate) fn run_stages<R: Threads + Wait + Sync, G: Watch>(
     alloc: Global,
     account: Account,
     moving: Moving,
-    manner: Manner,
+    manner: RunManner,
     watch: &G,
 ) -> Result<Outcome, AllocError>
     requires pumps { manner.pumps ≤ MAX_PUMPS }
@@ -81,8 +81,8 @@ pub(crate) fn run_stages<R: Threads + Wait + Sync, G: Watch>(
     let mut ready = first_ready(rt, alloc, account, moving, manner.pumps)?;
     for _stage in 0..stages {
         ready = match run_stage(rt, alloc, ready, manner, watch)? {
-            After::Ended(outcome) => return Ok(outcome),
-            After::Next(next) => next,
+            AfterStage::Ended(outcome) => return Ok(outcome),
+            AfterStage::Next(next) => next,
         };
     }
     // For the proof alone: the leader is in one of the stages.
@@ -133,12 +133,12 @@ fn run_stage<R: Threads + Wait + Sync, G: Watch>(
     rt: &R,
     alloc: Global,
     ready: Ready,
-    manner: Manner,
+    manner: RunManner,
     watch: &G,
-) -> Result<After, AllocError>
+) -> Result<AfterStage, AllocError>
     requires pumps { manner.pumps ≤ MAX_PUMPS }
     requires ready { (began : BeganWith) × IsReady began ready }
-    ensures { IfOk result (λ after. (began : BeganWith) → IsReady began ready → ComesAfter manner.folds ready.account began after) }
+    ensures { IfOk result (λ after. (began : BeganWith) → IsReady began ready → ComesAfterStage manner.folds ready.account began after) }
 {
     let Ready {
         account,
@@ -154,12 +154,12 @@ fn run_stage<R: Threads + Wait + Sync, G: Watch>(
     match lead_on(moving, &account.opening, &moved) {
         Led::Next(moving) => match continue_with(alloc, manner.folds, account, gathered)? {
             Continued::With(account, gathered) => {
-                Ok(After::Next(next_ready(alloc, account, gathered, moving, manner.pumps)?))
+                Ok(AfterStage::Next(next_ready(alloc, account, gathered, moving, manner.pumps)?))
             }
-            Continued::Unsound(defect) => Ok(After::Ended(Outcome::Unsound(defect))),
+            Continued::Unsound(defect) => Ok(AfterStage::Ended(Outcome::Unsound(defect))),
         },
-        Led::Ended => Ok(After::Ended(judge_end(alloc, &account, &gathered, &moved)?)),
-        Led::Missing => Ok(After::Ended(judge_stopped(alloc, &account, &gathered, &moved)?)),
+        Led::Ended => Ok(AfterStage::Ended(judge_end(alloc, &account, &gathered, &moved)?)),
+        Led::Missing => Ok(AfterStage::Ended(judge_stopped(alloc, &account, &gathered, &moved)?)),
     }
 }
 

@@ -1,5 +1,5 @@
 use Rattle.std.proofs.Common.{◌∙◌, subst}
-use Rattle.sq_live.specs.Stages.{ComesAfter}
+use Rattle.sq_live.specs.Stages.{ComesAfterStage}
 use Rattle.sq_live.proofs.Passing.{at_first, at_next, were_run}
 use Rattle.sq_live.proofs.stages.run_stages.Goals as goal
 
@@ -13,11 +13,11 @@ run_stage-requires-clause-ready g c = λ κs within. let at = c.loop-stage.invar
 pub loop-stage-preserved : goal.loop-stage-preserved
 loop-stage-preserved g c =
     let at = c.loop-stage.invariant in
-    let comes = subst (ComesAfter c.args.manner.folds c.loop-stage.ready.account at.began) c.in-Next.is (c.in_ok-outcome.ensures at.began at.is_ready) in
+    let comes = subst (ComesAfterStage c.args.manner.folds c.loop-stage.ready.account at.began) c.in-Next.is (c.in_ok-outcome.ensures at.began at.is_ready) in
     at_next c.args.manner.folds c.args.account.opening c.args.account.jobs c.loop-stage._stage c.loop-stage.ready at c.in-Next.next comes
 
 pub returns-in-Ended : goal.returns-in-Ended
 returns-in-Ended g c =
     let at = c.loop-stage.invariant in
-    let comes = subst (ComesAfter c.args.manner.folds c.loop-stage.ready.account at.began) c.in-Ended.is (c.in_ok-outcome.ensures at.began at.is_ready) in
+    let comes = subst (ComesAfterStage c.args.manner.folds c.loop-stage.ready.account at.began) c.in-Ended.is (c.in_ok-outcome.ensures at.began at.is_ready) in
     were_run c.args.manner.folds c.args.account.opening c.args.account.jobs c.loop-stage._stage c.loop-stage.ready at c.in-Ended.outcome comes
