@@ -5,13 +5,13 @@ use Rattle.sq_store.specs.StoreValue.{StoreValue}
 use Rattle.sq_node_model.specs.NodeValue.{ReceiptValue}
 use Rattle.sq_node_model.specs.Receipts.{is_commit}
 use Rattle.sq_node_model.specs.Gathered.{GatheredLink}
-use Rattle.sq_report.specs.Notes.{told, width_of, stored_in}
+use Rattle.sq_report.specs.Notes.{told, covered_keys, stored_in}
 use Rattle.sq_report.specs.declared.counts.LinkCount.{LinkCount}
 use Rattle.sq_report.specs.declared.counts.PartCount.{PartCount}
 
 -- how many families the destination of a link has of the root keys that its notes cover
-abbrev pub families_of : List StoreValue → GatheredLink → ℕ
-families_of stores link = option_map_or (λ store. sum_by (stored_in store) link.notes) (slice_get stores link.dst) 0
+abbrev pub families_covered : List StoreValue → GatheredLink → ℕ
+families_covered stores link = option_map_or (λ store. sum_by (stored_in store) link.notes) (slice_get stores link.dst) 0
 
 -- how many families the chunks of a link hold that are under way
 abbrev pub under_way_of : GatheredLink → ℕ
@@ -22,8 +22,8 @@ abbrev pub link_count : List StoreValue → GatheredLink → LinkCount
 link_count stores link = record {
   src = link.src;
   dst = link.dst;
-  keys = told (sum_by width_of link.notes);
-  families = told (families_of stores link + under_way_of link);
+  keys = told (sum_by covered_keys link.notes);
+  families = told (families_covered stores link + under_way_of link);
   chunks = length link.notes;
 }
 

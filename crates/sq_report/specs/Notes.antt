@@ -8,8 +8,8 @@ abbrev pub told : ℕ → ℕ
 told count = min count (2 ^ 64 - 1)
 
 -- how many root keys a note covers
-abbrev pub width_of : Note → ℕ
-width_of note = note.hi - note.lo
+abbrev pub covered_keys : Note → ℕ
+covered_keys note = note.hi - note.lo
 
 -- how many families a store has of the root keys that a note covers
 abbrev pub stored_in : StoreValue → Note → ℕ

@@ -9,19 +9,19 @@ use Rattle.sq_report.specs.declared.counts.PartCount.{PartCount}
 use Rattle.sq_report.specs.SummaryValue.{SummaryValue, none_yet}
 
 -- a number at the right of a column that is so wide, or at the left
-abbrev pub right : ℕ → ℕ → List ℕ
-right width n = styled_decimal (format_spec 32 3 0 width (2 ^ 64 - 1)) n
+abbrev pub right_aligned : ℕ → ℕ → List ℕ
+right_aligned width n = styled_decimal (format_spec 32 3 0 width (2 ^ 64 - 1)) n
 
-abbrev pub left : ℕ → ℕ → List ℕ
-left width n = styled_decimal (format_spec 32 1 0 width (2 ^ 64 - 1)) n
+abbrev pub left_aligned : ℕ → ℕ → List ℕ
+left_aligned width n = styled_decimal (format_spec 32 1 0 width (2 ^ 64 - 1)) n
 
 -- the line of a link: its ends, the root keys, the families and the chunks
 abbrev pub link_line : LinkCount → List ℕ
-link_line link = right 2 link.src ++ (codes " -> " ++ (left 3 link.dst ++ (right 12 link.keys ++ (right 12 link.families ++ (right 12 link.chunks ++ 10 ∷ [])))))
+link_line link = right_aligned 2 link.src ++ (codes " -> " ++ (left_aligned 3 link.dst ++ (right_aligned 12 link.keys ++ (right_aligned 12 link.families ++ (right_aligned 12 link.chunks ++ 10 ∷ [])))))
 
 -- the words of a partition's line: its number, the jobs that it committed and aborted, and those that have waited there
 abbrev pub count_line : ℕ → PartCount → ℕ → List ℕ
-count_line number count waits = right 9 number ++ (right 12 count.committed ++ (right 12 count.aborted ++ (right 12 waits ++ 10 ∷ [])))
+count_line number count waits = right_aligned 9 number ++ (right_aligned 12 count.committed ++ (right_aligned 12 count.aborted ++ (right_aligned 12 waits ++ 10 ∷ [])))
 
 abbrev pub part_line : List PartCount → List ℕ → ℕ → List ℕ
 part_line parts waited number = count_line number (slice_index_or parts number none_yet) (slice_index_or waited number 0)

@@ -47,15 +47,15 @@ const STOPPED: u64 = u64::MAX;
 
 /// Adds up the time between each beginning and the end that follows.
 #[derive(Drop)]
-pub(crate) struct Span {
+pub(crate) struct Elapsed {
     began: AtomicU64,
     total: AtomicU64,
 }
 
-impl Span {
+impl Elapsed {
     /// One that has taken no time.
-    pub(crate) fn new() -> Span {
-        Span {
+    pub(crate) fn new() -> Elapsed {
+        Elapsed {
             began: AtomicU64::new(STOPPED),
             total: AtomicU64::new(0),
         }

@@ -1,7 +1,7 @@
 // What is counted of a link, and of a partition.
 ghost use Rattle.std.specs.Prelude.{◌≡◌, ◌≤◌, length};
 ghost use Rattle.sq_report.specs.Notes.{told};
-ghost use Rattle.sq_report.specs.Counts.{families_of, link_count, commits_in, counted};
+ghost use Rattle.sq_report.specs.Counts.{families_covered, link_count, commits_in, counted};
 
 use crate::notes::{count_keys, count_stored, count_under_way};
 use sq_gather::ClosedLink;
@@ -83,7 +83,7 @@ pub(crate) fn count_link(stores: &[SlabStore], link: &ClosedLink) -> LinkCount
 
 // How many families the destination of a link has of the root keys that its notes cover.
 fn count_loaded(stores: &[SlabStore], link: &ClosedLink) -> u64
-    ensures { result ≡ told (families_of stores.now link.now) }
+    ensures { result ≡ told (families_covered stores.now link.now) }
 {
     match stores.get(usize::from(link.dst.number())) {
         Some(store) => count_stored(store, &link.notes),

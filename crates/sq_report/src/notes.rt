@@ -2,7 +2,7 @@
 ghost use Rattle.std.specs.Prelude.{◌≡◌, length, sum_by, option_copied};
 ghost use Rattle.sq_store.specs.StoreValue.{families_between};
 ghost use Rattle.sq_store.specs.First.{FirstIs};
-ghost use Rattle.sq_report.specs.Notes.{told, width_of, stored_in};
+ghost use Rattle.sq_report.specs.Notes.{told, covered_keys, stored_in};
 
 use sq_chunk::{Chunk, Note};
 use sq_schema::Family;
@@ -10,7 +10,7 @@ use sq_store::{FamilyStore, SlabStore};
 
 /// How many root keys notes cover. A count that no number holds stays at the greatest, as in each of these.
 pub(crate) fn count_keys(notes: &[Note]) -> u64
-    ensures { result ≡ told (sum_by width_of notes.now) }
+    ensures { result ≡ told (sum_by covered_keys notes.now) }
 {
     let mut count: u64 = 0;
     for note in notes {

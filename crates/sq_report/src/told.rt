@@ -2,7 +2,7 @@
 ghost use Rattle.std.specs.Prelude.{◌≡◌, ◌↔◌, IsTrue, codes, nat_eq};
 ghost use Rattle.std.specs.List.{ends_with};
 
-use crate::clock::{Span, Stopwatch, Times};
+use crate::clock::{Elapsed, Stopwatch, Times};
 use crate::kept::Kept;
 use crate::table::write_times;
 use crate::timeline::Timeline;
@@ -30,8 +30,8 @@ pub struct Told<'a, R, W> {
     summary: Kept,
     waits: Waits,
     reading: AtomicU64,
-    threads: Span,
-    audits: Span,
+    threads: Elapsed,
+    audits: Elapsed,
     timeline: Option<Timeline<'a, R>>,
 }
 
@@ -78,8 +78,8 @@ impl<'a, R: Wait + Clock, W: Watch> Told<'a, R, W> {
             summary: Kept::new(alloc),
             waits: Waits::new(alloc)?,
             reading: AtomicU64::new(0),
-            threads: Span::new(),
-            audits: Span::new(),
+            threads: Elapsed::new(),
+            audits: Elapsed::new(),
             timeline,
         })
     }
