@@ -6,7 +6,7 @@ use Rattle.serde_json.specs.View.{items_of}
 use Rattle.serde_json.specs.Written.{has_float, items_have_float}
 use Rattle.sq_ranges.specs.declared.recon.Range.{Range}
 use Rattle.sq_ranges.specs.ReconValue.{ReconValue}
-use Rattle.sq_picture.specs.Json.{range_data, segment_data, moves_data}
+use Rattle.sq_picture.specs.Json.{moved_range_data, segment_data, moves_data}
 
 are_flat : (data_of : Range → Data) → ((range : Range) → depth (data_of range) ≡ 1) → (ranges : List Range) → items_depth (items_of (map data_of ranges)) ≤ 1
 are_flat data_of flat [] = omega arith
@@ -15,7 +15,7 @@ are_flat data_of flat (range ∷ ranges) = let one = flat range in let rest = ar
 -- it nests three deep
 pub moves_are_flat : (recon : ReconValue) → depth (moves_data recon) ≤ max_depth
 moves_are_flat recon =
-    let ranges = are_flat range_data (λ range. refl) recon.ranges in
+    let ranges = are_flat moved_range_data (λ range. refl) recon.ranges in
     let segments = are_flat (segment_data recon) (λ range. refl) recon.segments in
     omega arith
 
@@ -25,4 +25,4 @@ are_whole data_of whole (range ∷ ranges) = rw (whole range) (are_whole data_of
 
 -- its numbers are whole
 pub moves_are_whole : (recon : ReconValue) → has_float (moves_data recon) ≡ false
-moves_are_whole recon = rw (are_whole range_data (λ range. refl) recon.ranges, are_whole (segment_data recon) (λ range. refl) recon.segments) refl
+moves_are_whole recon = rw (are_whole moved_range_data (λ range. refl) recon.ranges, are_whole (segment_data recon) (λ range. refl) recon.segments) refl

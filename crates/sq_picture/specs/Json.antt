@@ -1,19 +1,16 @@
 -- What moves, as a JSON value: {"ranges":[{"dst":D,"hi":HI,"lo":LO,"src":S},..],"segments":[{"dst":D,"hi":HI,"lo":LO,"src":S,"stage":I},..],"stages":N}.
 use Rattle.std.specs.Prelude.{◌≡◌, ℕ, List, [], ◌∷◌, ◌++◌, map, Some, codes}
-use Rattle.serde_json.specs.Data.{Data, number, unsigned, array, object, member, no_members}
+use Rattle.serde_json.specs.Data.{Data, array, object, member, no_members}
 use Rattle.serde_json.specs.Read.{read}
 use Rattle.serde_json.specs.View.{items_of}
 use Rattle.serde_json.specs.Written.{compact_text}
+use Rattle.sq_plan.specs.Spelling.{number_data}
 use Rattle.sq_ranges.specs.declared.recon.Range.{Range}
 use Rattle.sq_ranges.specs.ReconValue.{ReconValue, stage_in, stages}
 
--- a whole number, as JSON has it
-abbrev pub number_data : ℕ → Data
-number_data n = number (unsigned n)
-
 -- a reconfiguration range
-abbrev pub range_data : Range → Data
-range_data range =
+abbrev pub moved_range_data : Range → Data
+moved_range_data range =
     object (member (codes "dst") (number_data range.dst) (member (codes "hi") (number_data range.hi) (member (codes "lo") (number_data range.lo) (member (codes "src") (number_data range.src) no_members))))
 
 -- a segment, with its stage
@@ -25,7 +22,7 @@ segment_data recon segment =
 -- the whole: the ranges in key order, the segments in the order of their numbers, and how many stages there are
 abbrev pub moves_data : ReconValue → Data
 moves_data recon =
-    object (member (codes "ranges") (array (items_of (map range_data recon.ranges)))
+    object (member (codes "ranges") (array (items_of (map moved_range_data recon.ranges)))
     (member (codes "segments") (array (items_of (map (segment_data recon) recon.segments))) (member (codes "stages") (number_data (stages recon)) no_members)))
 
 -- the text is the compact one of what moves, which has no line end, and reading it gives that value again

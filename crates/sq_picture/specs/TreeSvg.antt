@@ -38,16 +38,16 @@ abbrev pub box_text : List ℕ → ℕ → List ℕ
 box_text class n = placed_text class (left_of n) (top_of n) (span n * 20 - 3)
 
 -- a status, with the pull that it names, up to this place
-abbrev pub status_text : ℕ → ℕ → Status → List ℕ
-status_text x y Free = words_text (codes "end") x y (codes "free")
-status_text x y Split = words_text (codes "end") x y (codes "split")
-status_text x y (Claimed p) = number_text (codes "end") x y (codes "claimed, pull ") p
-status_text x y (Partial p) = number_text (codes "end") x y (codes "partial, pull ") p
-status_text x y (Complete p) = number_text (codes "end") x y (codes "complete, pull ") p
+abbrev pub status_label : ℕ → ℕ → Status → List ℕ
+status_label x y Free = words_text (codes "end") x y (codes "free")
+status_label x y Split = words_text (codes "end") x y (codes "split")
+status_label x y (Claimed p) = number_text (codes "end") x y (codes "claimed, pull ") p
+status_label x y (Partial p) = number_text (codes "end") x y (codes "partial, pull ") p
+status_label x y (Complete p) = number_text (codes "end") x y (codes "complete, pull ") p
 
 -- a node's number and its status, in a box whose text begins here
 abbrev pub words_at : ℕ → ℕ → ℕ → Status → List ℕ
-words_at x y n status = number_text (codes "start") x y (codes "") n ++ status_text (x + 134) y status
+words_at x y n status = number_text (codes "start") x y (codes "") n ++ status_label (x + 134) y status
 
 -- what stands in a node's box
 abbrev pub said_text : ℕ → Status → List ℕ

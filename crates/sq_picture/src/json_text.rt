@@ -4,7 +4,7 @@ ghost use Rattle.serde_json.specs.Data.{array};
 ghost use Rattle.serde_json.specs.Read.{read};
 ghost use Rattle.serde_json.specs.View.{view, items_of};
 ghost use Rattle.serde_json.specs.Written.{compact_text};
-ghost use Rattle.sq_picture.specs.Json.{range_data, segment_data, moves_data};
+ghost use Rattle.sq_picture.specs.Json.{moved_range_data, segment_data, moves_data};
 
 use serde_json::{Value, json};
 use sq_ranges::{Range, Recon};
@@ -12,14 +12,14 @@ use std::alloc::{AllocError, Global};
 
 // A reconfiguration range as JSON.
 fn range_value(alloc: Global, range: Range) -> Result<Value, AllocError>
-    ensures { IfOk result (λ value. view value ≡ range_data range) }
+    ensures { IfOk result (λ value. view value ≡ moved_range_data range) }
 {
     json!(in alloc; {"dst": range.dst.number(), "hi": range.hi, "lo": range.lo, "src": range.src.number()})
 }
 
 // The ranges as JSON, one for one.
 fn ranges_value(alloc: Global, ranges: &[Range]) -> Result<Value, AllocError>
-    ensures { IfOk result (λ value. view value ≡ array (items_of (map range_data ranges.now))) }
+    ensures { IfOk result (λ value. view value ≡ array (items_of (map moved_range_data ranges.now))) }
 {
     let mut values = Vec::with_capacity(alloc, ranges.len())?;
     for range in ranges {

@@ -6,7 +6,7 @@ ghost use Rattle.sq_tree.specs.Node.{span};
 ghost use Rattle.sq_tree.specs.Status.{is_live};
 ghost use Rattle.sq_tree.specs.Tree.{status_at};
 ghost use Rattle.sq_picture.specs.Svg.{number_text};
-ghost use Rattle.sq_picture.specs.TreeSvg.{level_of, left_of, top_of, class_of, placed_text, box_text, status_text, words_at, said_text, node_text, tree_heading_text, tree_top_text, tree_svg};
+ghost use Rattle.sq_picture.specs.TreeSvg.{level_of, left_of, top_of, class_of, placed_text, box_text, status_label, words_at, said_text, node_text, tree_heading_text, tree_top_text, tree_svg};
 
 use crate::svg::{write_end, write_number, write_start, write_words};
 use sq_tree::{NODES, NodeId, PlainTree, Status};
@@ -110,7 +110,7 @@ fn write_pull<W: Write>(writer: &mut W, x: u64, y: u64, status: &str, pull: u32)
 
 // Writes a status, with the pull that it names, up to this place.
 fn write_status<W: Write>(writer: &mut W, x: u64, y: u64, status: Status) -> io::Result<()>
-    ensures { OnOk result (Appends (W.contents writer.old) (W.contents writer.new) (status_text x y status)) }
+    ensures { OnOk result (Appends (W.contents writer.old) (W.contents writer.new) (status_label x y status)) }
 {
     match status {
         Status::Free => write_words(writer, "end", x, y, "free"),
