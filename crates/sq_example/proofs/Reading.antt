@@ -25,7 +25,7 @@ use Rattle.sq_transition.specs.Holds.{Holds, is_at}
 use Rattle.sq_transition.specs.Headline.{KeepsHeadline}
 use Rattle.sq_state.specs.Readers.{IsStoreAfter}
 use Rattle.sq_world.specs.declared.world.NotOpened.{NotOpened}
-use Rattle.sq_example.specs.Moves.{Leads, is_of_the_move, one_row}
+use Rattle.sq_example.specs.Moves.{LeadsWithRow, is_of_the_move, root_row}
 
 -- what holds of a value that came out of a result
 pub from_ok : {A E : Type 0} (P : A → Type 0) (r : Result A E) (a : A) → Some a ≡ result_ok r → IfOk r P → P a
@@ -38,9 +38,9 @@ row_with number note = (root_key, record { number = number; note = note }) ∷ [
 
 -- a world that was opened with the row
 pub opens : (number : ℤ) (tables : ℕ) (old new : PlanValue) (config : Config) (rows : List GivenRow) (r : Result WorldValue NotOpened)
-    → given_rows no_rows rows 5 ≡ one_row number
+    → given_rows no_rows rows 5 ≡ root_row number
     → IfOk r (λ world. (o : OpeningValue) × IsOpeningOf tables old new config rows o × IsOpening o × Holds o [] world)
-    → IfSome (result_ok r) (Leads number)
+    → IfSome (result_ok r) (LeadsWithRow number)
 opens number tables old new config rows (Ok world) given opened =
     record {
       opening = opened.0;
@@ -59,9 +59,9 @@ its_family true family other is = ap (λ (o : Option FamilyValue). unwrap_or o f
 its_family false family other is = absurd (true≢false (ap is_some is))
 
 -- the rows of the family of root key 5, at whichever partition it is
-pub reads : (number : ℤ) (w : WorldValue) (part : ℕ) (store : StoreValue) (family : FamilyValue) → Leads number w
+pub reads : (number : ℤ) (w : WorldValue) (part : ℕ) (store : StoreValue) (family : FamilyValue) → LeadsWithRow number w
     → ((o : OpeningValue) (t : Trace) → Holds o t w → IsStoreAfter o t part (Some store))
-    → (root : ℕ) → root ≡ 5 → Some family ≡ get store root → rows_of family ≡ one_row number
+    → (root : ℕ) → root ≡ 5 → Some family ≡ get store root → rows_of family ≡ root_row number
 reads number w part store family leads after root is at =
     let o = leads.opening in
     let t = leads.trace in
@@ -91,9 +91,9 @@ commits_none (Fold part) answer txns is = refl
 commits_none (Status seg node) answer txns is = refl
 
 -- the world after a step of the move
-pub goes_on : (number : ℤ) (old new : WorldValue) (step : Step) (answer : Answer) → Leads number old → is_of_the_move step ≡ true
+pub goes_on : (number : ℤ) (old new : WorldValue) (step : Step) (answer : Answer) → LeadsWithRow number old → is_of_the_move step ≡ true
     → ((o : OpeningValue) (t : Trace) → IsOpening o → IsLegal o t → Holds o t old → KeepsHeadline o ((step, answer) ∷ t) new)
-    → Leads number new
+    → LeadsWithRow number new
 goes_on number old new step answer leads is keeps =
     let goes = keeps leads.opening leads.trace leads.is_opening leads.legal leads.holds in
     record {

@@ -18,15 +18,15 @@ is_of_the_move (Resume part) = false
 is_of_the_move _ = true
 
 -- a root row of this number, without a note
-abbrev pub one_row : ℤ → RowList
-one_row number = (root_key, record { number = number; note = [] }) ∷ []
+abbrev pub root_row : ℤ → RowList
+root_row number = (root_key, record { number = number; note = [] }) ∷ []
 
 -- a legal history without a committed transaction leads to the world, from an opening in which root key 5 has this row
-pub record Leads (number : ℤ) (w : WorldValue) : Type 0 where
+pub record LeadsWithRow (number : ℤ) (w : WorldValue) : Type 0 where
   pub opening : OpeningValue
   pub trace : Trace
   pub is_opening : IsOpening opening
-  pub row : opening_rows opening 5 ≡ one_row number
+  pub row : opening_rows opening 5 ≡ root_row number
   pub legal : IsLegal opening trace
   pub holds : Holds opening trace w
   pub none_committed : committed trace ≡ []

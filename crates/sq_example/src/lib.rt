@@ -4,7 +4,7 @@
 
 ghost use Rattle.std.specs.Prelude.{◌≡◌, IfSome};
 ghost use Rattle.std.specs.List.{AllPass};
-ghost use Rattle.sq_example.specs.Moves.{Leads, is_of_the_move};
+ghost use Rattle.sq_example.specs.Moves.{LeadsWithRow, is_of_the_move};
 
 use sq_world::{Config, FamilyStore, GivenRow, Plan, Root, RowKey, Schema, Step, World};
 use std::alloc::Global;
@@ -30,7 +30,7 @@ pub fn move_one_root(alloc: Global, number: i64) -> Option<i64>
 
 // The world in which root key 5 has a root row of this number.
 fn open(alloc: Global, number: i64) -> Option<World>
-    ensures { IfSome result (Leads number) }
+    ensures { IfSome result (LeadsWithRow number) }
 {
     let config = Config {
         width: 1,

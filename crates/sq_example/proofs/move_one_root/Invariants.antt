@@ -1,5 +1,5 @@
-use Rattle.sq_example.specs.Moves.{Leads}
+use Rattle.sq_example.specs.Moves.{LeadsWithRow}
 use Rattle.sq_example.proofs.move_one_root.Given as goal
 
 abbrev pub invariant-loop-step : goal.invariant-loop-step
-invariant-loop-step l = Leads l.fn.number l.world
+invariant-loop-step l = LeadsWithRow l.fn.number l.world
