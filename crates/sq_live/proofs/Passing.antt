@@ -13,8 +13,8 @@ use Rattle.sq_node_model.specs.Next.{is_whole_in, IsStageDone, next_began}
 use Rattle.sq_audit.specs.declared.job.Job.{Job}
 use Rattle.sq_audit.specs.declared.verdict.Defect.{Defect}
 use Rattle.sq_live.specs.declared.continuing.Continued.TheVariants as continued
-use Rattle.sq_live.specs.declared.outcome.Outcome.{Outcome}
-use Rattle.sq_live.specs.declared.outcome.Outcome.TheVariants as outcome
+use Rattle.sq_live.specs.declared.outcome.LiveOutcome.{LiveOutcome}
+use Rattle.sq_live.specs.declared.outcome.LiveOutcome.TheVariants as outcome
 use Rattle.sq_live.specs.declared.stages.Ready.{Ready}
 use Rattle.sq_live.specs.declared.stages.AfterStage.TheVariants as after
 use Rattle.sq_live.specs.Account.{AccountValue, first_account}
@@ -187,7 +187,7 @@ module _ (folds : Bool) (o : OpeningValue) (jobs : List Job) where
           moves = moves_alike ready.account g next.account passed.next folds passed.continues ∙ at.moves;
         }
 
-    pub were_run : (ending : Outcome) → ComesAfterStage folds ready.account at.began (after.Ended ending) → WereRun folds o jobs ending
+    pub were_run : (ending : LiveOutcome) → ComesAfterStage folds ready.account at.began (after.Ended ending) → WereRun folds o jobs ending
     were_run ending comes = record { earlier = at.earlier; account = ready.account; began = at.began; passed = at.passed; gathered = comes.0; ran = comes.1; came = comes.2 }
 
     -- there is such a stage

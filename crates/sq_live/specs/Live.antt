@@ -13,7 +13,7 @@ use Rattle.sq_node_model.specs.BeganWith.{BeganWith}
 use Rattle.sq_audit.specs.declared.job.Job.{Job}
 use Rattle.sq_live.specs.declared.fault.LiveFault.{LiveFault}
 use Rattle.sq_live.specs.declared.fault.LiveFault.TheVariants.{Input}
-use Rattle.sq_live.specs.declared.outcome.Outcome.{Outcome}
+use Rattle.sq_live.specs.declared.outcome.LiveOutcome.{LiveOutcome}
 use Rattle.sq_live.specs.declared.ending.LiveEnding.{LiveEnding}
 use Rattle.sq_live.specs.declared.ending.LiveEnding.TheVariants.{Done, Fault}
 use Rattle.sq_live.specs.Faults.{live_fault_number, out_of_memory}
@@ -47,7 +47,7 @@ abbrev pub HaveFault : ℕ → List PieceValue → LiveFault → Type 0
 HaveFault tables given fault = HasHeaderFault tables given fault ⊎ HasJobFault tables given fault
 
 -- jobs were run from an opening, stage by stage, with or without folds between them. Whatever the threads did, what each stage left is placed and goes on from what it began with, and this is what the last one came to
-pub record WereRun (folds : Bool) (o : OpeningValue) (jobs : List Job) (outcome : Outcome) : Type 0 where
+pub record WereRun (folds : Bool) (o : OpeningValue) (jobs : List Job) (outcome : LiveOutcome) : Type 0 where
   -- what the stages before the last one left, the latest first
   pub earlier : List GatheredValue
   pub account : AccountValue

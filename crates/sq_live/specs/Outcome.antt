@@ -15,19 +15,19 @@ use Rattle.sq_audit.specs.declared.verdict.Defect.{Defect}
 use Rattle.sq_audit.specs.Defects.{defect_number, IsFirstDefect}
 use Rattle.sq_audit.specs.Sound.{IsSoundRun}
 use Rattle.sq_audit.specs.Folding.{answered_jobs}
-use Rattle.sq_live.specs.declared.outcome.Outcome.{Outcome}
-use Rattle.sq_live.specs.declared.outcome.Outcome.TheVariants.{Sound, Stopped, Unsound}
+use Rattle.sq_live.specs.declared.outcome.LiveOutcome.{LiveOutcome}
+use Rattle.sq_live.specs.declared.outcome.LiveOutcome.TheVariants.{Sound, Stopped, Unsound}
 use Rattle.sq_live.specs.Account.{AccountValue}
 use Rattle.sq_live.specs.Leading.{HasGoneOn, HasEnded}
 
 -- the line of an outcome
-abbrev pub outcome_line : Outcome → List ℕ
+abbrev pub outcome_line : LiveOutcome → List ℕ
 outcome_line (Sound families committed) = line (codes "sound" ∷ decimal families ∷ codes "families" ∷ decimal committed ∷ codes "committed" ∷ [])
 outcome_line (Stopped answered jobs complete segments) =
     line (codes "stopped" ∷ decimal answered ∷ codes "of" ∷ decimal jobs ∷ codes "jobs," ∷ decimal complete ∷ codes "of" ∷ decimal segments ∷ codes "segments" ∷ [])
 outcome_line (Unsound defect) = line (codes "unsound" ∷ decimal (defect_number defect) ∷ [])
 
-abbrev pub outcome_status : Outcome → ℕ
+abbrev pub outcome_status : LiveOutcome → ℕ
 outcome_status (Sound families committed) = 0
 outcome_status (Stopped answered jobs complete segments) = 3
 outcome_status (Unsound defect) = 4
@@ -94,7 +94,7 @@ IsFoundUnsound folds account g defect =
     ⊎ (IsDone account g × IsFirstDefect account.opening g account.jobs defect)
 
 -- this is what a run comes to whose last stage left this; the logs are folded between stages, or not
-abbrev pub CameTo : Bool → AccountValue → GatheredValue → Outcome → Type 0
+abbrev pub CameTo : Bool → AccountValue → GatheredValue → LiveOutcome → Type 0
 CameTo folds account g (Sound families committed) = IsFoundSound account g families committed
 CameTo folds account g (Stopped answered posted complete segments) = HasStopped account g answered posted complete segments
 CameTo folds account g (Unsound defect) = IsFoundUnsound folds account g defect

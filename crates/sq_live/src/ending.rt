@@ -3,13 +3,13 @@ ghost use Rattle.std.specs.Prelude.{◌≡◌};
 ghost use Rattle.sq_live.specs.Live.{ending_status};
 
 use crate::fault::LiveFault;
-use crate::outcome::Outcome;
+use crate::outcome::LiveOutcome;
 
 /// How a live run ends.
 #[derive(Clone, Copy, Debug, PartialEq, Eq)]
 pub enum LiveEnding {
     /// It came to this, and the line of it was written.
-    Done(Outcome),
+    Done(LiveOutcome),
     /// It has this fault, whose number was written.
     Fault(LiveFault),
 }

@@ -13,7 +13,7 @@ use crate::ending::LiveEnding;
 use crate::fault::LiveFault;
 use crate::job_list::{JobList, read_jobs};
 use crate::leader::start_move;
-use crate::outcome::{Outcome, write_outcome};
+use crate::outcome::{LiveOutcome, write_outcome};
 use crate::stages::{RunManner, run_stages};
 use crate::watch::Watch;
 use sq_lines::LineReader;
@@ -134,7 +134,7 @@ fn run_input<T: Threads + Wait + Sync, G: Watch>(
     jobs: JobList,
     manner: RunManner,
     watch: &G,
-) -> Result<Outcome, AllocError>
+) -> Result<LiveOutcome, AllocError>
     requires pumps { manner.pumps ≤ MAX_PUMPS }
     requires partitions { HavePartitions opening.old.parts jobs }
     ensures { IfOk result (WereRun manner.folds opening jobs) }

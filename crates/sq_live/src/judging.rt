@@ -12,7 +12,7 @@ ghost use Rattle.sq_live.specs.Outcome.{answered_count, commit_count, CameTo, Wh
 ghost use Rattle.sq_live.specs.Judged.{HasIdsOf, MarksMoved, marked_count};
 
 use crate::account::Account;
-use crate::outcome::Outcome;
+use crate::outcome::LiveOutcome;
 use sq_audit::{Job, Verdict, audit};
 use sq_gather::{Gathered, reads_complete};
 use sq_node::Receipt;
@@ -33,7 +33,7 @@ pub(crate) fn judge_end(
     account: &Account,
     g: &Gathered,
     moved: &[bool],
-) -> Result<Outcome, AllocError>
+) -> Result<LiveOutcome, AllocError>
     requires moved { MarksMoved g.now.words moved.now }
     requires last { g.now.stage + 1 ≡ stages account.now.opening.recon }
     requires done { IsStageDone account.now.opening g.now }
@@ -47,11 +47,11 @@ pub(crate) fn judge_end(
         return Ok(stopped(account, g, moved, answered));
     }
     match audit(&account.opening, g, &account.jobs)? {
-        Verdict::Sound => Ok(Outcome::Sound {
+        Verdict::Sound => Ok(LiveOutcome::Sound {
             families: count_families(&g.stores),
             committed: account.committed + count_commits(&g.receipts),
         }),
-        Verdict::Unsound(defect) => Ok(Outcome::Unsound(defect)),
+        Verdict::Unsound(defect) => Ok(LiveOutcome::Unsound(defect)),
     }
 }
 
@@ -61,7 +61,7 @@ pub(crate) fn judge_stopped(
     account: &Account,
     g: &Gathered,
     moved: &[bool],
-) -> Result<Outcome, AllocError>
+) -> Result<LiveOutcome, AllocError>
     requires moved { MarksMoved g.now.words moved.now }
     requires missing { IsStageDone account.now.opening g.now → ⊥ }
     ensures { IfOk result (λ outcome. (folds : Bool) → CameTo folds account.now g.now outcome) }
@@ -71,7 +71,7 @@ pub(crate) fn judge_stopped(
 }
 
 // A run that stopped, of whose jobs so many have a receipt now.
-fn stopped(account: &Account, g: &Gathered, moved: &[bool], answered: usize) -> Outcome
+fn stopped(account: &Account, g: &Gathered, moved: &[bool], answered: usize) -> LiveOutcome
     requires moved { MarksMoved g.now.words moved.now }
     requires answered { answered ≡ answered_count g.now.receipts account.now.jobs }
     requires most { answered ≤ length account.now.jobs }
@@ -79,7 +79,7 @@ fn stopped(account: &Account, g: &Gathered, moved: &[bool], answered: usize) -> 
     ensures { (folds : Bool) → CameTo folds account.now g.now result }
 {
     let recon = account.opening.recon();
-    Outcome::Stopped {
+    LiveOutcome::Stopped {
         answered: account.answered + answered as u64,
         jobs: account.answered + account.jobs.len() as u64,
         complete: count_complete(recon, g.stage, moved),

@@ -9,7 +9,7 @@ use std::io::Write;
 
 /// What a live run comes to.
 #[derive(Clone, Copy, Debug, PartialEq, Eq)]
-pub enum Outcome {
+pub enum LiveOutcome {
     /// Each job is answered, each segment is complete, and each audit found what was gathered sound.
     Sound {
         /// How many families all stores have.
@@ -33,29 +33,29 @@ pub enum Outcome {
     Unsound(Defect),
 }
 
-impl Outcome {
+impl LiveOutcome {
     /// The exit status: 0 where the run is sound, 3 where it stopped, and 4 where it isn't sound.
     pub fn status(self) -> u8
         ensures { result ≡ outcome_status self }
     {
         match self {
-            Outcome::Sound { .. } => 0,
-            Outcome::Stopped { .. } => 3,
-            Outcome::Unsound(_) => 4,
+            LiveOutcome::Sound { .. } => 0,
+            LiveOutcome::Stopped { .. } => 3,
+            LiveOutcome::Unsound(_) => 4,
         }
     }
 }
 
 /// Writes the line that a live run comes to. An error is the writer's.
-pub fn write_outcome<W: Write>(writer: &mut W, outcome: Outcome) -> io::Result<()>
+pub fn write_outcome<W: Write>(writer: &mut W, outcome: LiveOutcome) -> io::Result<()>
     ensures { OnOk result (Appends (W.contents writer.old) (W.contents writer.new) (outcome_line outcome)) }
 {
     match outcome {
-        Outcome::Sound {
+        LiveOutcome::Sound {
             families,
             committed,
         } => writeln!(writer, "sound {families} families {committed} committed"),
-        Outcome::Stopped {
+        LiveOutcome::Stopped {
             answered,
             jobs,
             complete,
@@ -64,7 +64,7 @@ pub fn write_outcome<W: Write>(writer: &mut W, outcome: Outcome) -> io::Result<(
             writer,
             "stopped {answered} of {jobs} jobs, {complete} of {segments} segments"
         ),
-        Outcome::Unsound(defect) => {
+        LiveOutcome::Unsound(defect) => {
             let number = defect.number();
             writeln!(writer, "unsound {number}")
         }

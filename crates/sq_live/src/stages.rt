@@ -18,7 +18,7 @@ use crate::account::Account;
 use crate::continuing::{Continued, continue_with};
 use crate::judging::{judge_end, judge_stopped, moved_segments};
 use crate::leader::{Led, lead_on};
-use crate::outcome::Outcome;
+use crate::outcome::LiveOutcome;
 use crate::watch::Watch;
 use sq_audit::Job;
 use sq_driver::run_workers;
@@ -55,7 +55,7 @@ pub(crate) struct Ready {
 #[derive(Drop)]
 pub(crate) enum AfterStage {
     /// The run ends, and comes to this.
-    Ended(Outcome),
+    Ended(LiveOutcome),
     /// The next stage is ready.
     Next(Ready),
 }
@@ -70,7 +70,7 @@ pub(crate) fn run_stages<R: Threads + Wait + Sync, G: Watch>(
     moving: Moving,
     manner: RunManner,
     watch: &G,
-) -> Result<Outcome, AllocError>
+) -> Result<LiveOutcome, AllocError>
     requires pumps { manner.pumps ≤ MAX_PUMPS }
     requires first { account ≡ first_account account.opening account.jobs }
     requires led { moving ≡ leading account.opening 0 }
@@ -156,7 +156,7 @@ fn run_stage<R: Threads + Wait + Sync, G: Watch>(
             Continued::With(account, gathered) => {
                 Ok(AfterStage::Next(next_ready(alloc, account, gathered, moving, manner.pumps)?))
             }
-            Continued::Unsound(defect) => Ok(AfterStage::Ended(Outcome::Unsound(defect))),
+            Continued::Unsound(defect) => Ok(AfterStage::Ended(LiveOutcome::Unsound(defect))),
         },
         Led::Ended => Ok(AfterStage::Ended(judge_end(alloc, &account, &gathered, &moved)?)),
         Led::Missing => Ok(AfterStage::Ended(judge_stopped(alloc, &account, &gathered, &moved)?)),

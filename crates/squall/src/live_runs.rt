@@ -10,7 +10,7 @@ use crate::flaws::tell_misfit_of_job;
 use crate::session::{REFUSED, explain, explain_write};
 use crate::source::Source;
 use sq_inputs::Recalling;
-use sq_live::{LiveEnding, LiveFault, Outcome, Watch, live};
+use sq_live::{LiveEnding, LiveFault, LiveOutcome, Watch, live};
 use sq_report::{Form, Told};
 use sq_text::InputLine;
 use sq_world::WriteFault;
@@ -165,13 +165,13 @@ fn explain_live<T: Eprint + Files + AllocGlobal, R: Read>(
     ran: Result<LiveEnding, WriteFault>,
 ) {
     match ran {
-        Ok(LiveEnding::Done(Outcome::Sound { .. })) => {}
-        Ok(LiveEnding::Done(Outcome::Stopped { .. })) => {
+        Ok(LiveEnding::Done(LiveOutcome::Sound { .. })) => {}
+        Ok(LiveEnding::Done(LiveOutcome::Stopped { .. })) => {
             let _ = eprintln!(rt;
                 "squall: the run stopped before all was done; more turns may do it (--turns)"
             );
         }
-        Ok(LiveEnding::Done(Outcome::Unsound(defect))) => {
+        Ok(LiveEnding::Done(LiveOutcome::Unsound(defect))) => {
             let number = defect.number();
             let _ = eprintln!(rt; "squall: unsound {number}: {defect}");
         }
