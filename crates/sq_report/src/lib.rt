@@ -6,15 +6,15 @@ mod clock;
 mod counts;
 mod kept;
 mod notes;
+mod recording;
 mod summary;
 mod table;
 mod timeline;
-mod told;
 mod waits;
 
 pub use clock::Times;
 pub use counts::{LinkCount, PartCount};
+pub use recording::{RecordingWatch, TimelineForm};
 pub use summary::Summary;
 pub use table::{write_summary, write_times};
 pub use timeline::Timeline;
-pub use told::{Form, Told};

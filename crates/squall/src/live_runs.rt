@@ -11,7 +11,7 @@ use crate::session::{REFUSED, explain, explain_write};
 use crate::source::Source;
 use sq_inputs::Recalling;
 use sq_live::{LiveEnding, LiveFault, LiveOutcome, Watch, live};
-use sq_report::{Form, Told};
+use sq_report::{RecordingWatch, TimelineForm};
 use sq_text::InputLine;
 use sq_world::WriteFault;
 use std::fs;
@@ -65,7 +65,7 @@ pub fn told_run<
         return live_run(rt, reader, writer, manner, watch, source);
     }
     // The time of reading goes from here on.
-    let Ok(told) = Told::new(rt, rt.alloc(), watch, report.timeline.is_some()) else {
+    let Ok(told) = RecordingWatch::new(rt, rt.alloc(), watch, report.timeline.is_some()) else {
         let _ = eprintln!(rt; "squall: there is no memory to tell what the run does");
         return live_run(rt, reader, writer, manner, watch, source);
     };
@@ -80,7 +80,7 @@ pub fn told_run<
 fn tell<T: Wait + Clock + Sync + Eprint + Files + AllocGlobal, G: Watch>(
     rt: &T,
     report: Report<'_>,
-    told: &Told<'_, T, G>,
+    told: &RecordingWatch<'_, T, G>,
 ) {
     if report.summary {
         print_summary(rt, told);
@@ -93,7 +93,7 @@ fn tell<T: Wait + Clock + Sync + Eprint + Files + AllocGlobal, G: Watch>(
 // Says the summary on standard error.
 fn print_summary<T: Wait + Clock + Sync + Eprint + AllocGlobal, G: Watch>(
     rt: &T,
-    told: &Told<'_, T, G>,
+    told: &RecordingWatch<'_, T, G>,
 ) {
     let mut text = Vec::new(rt.alloc());
     if told.write_summary(rt.alloc(), &mut text).is_ok() {
@@ -108,10 +108,10 @@ fn print_summary<T: Wait + Clock + Sync + Eprint + AllocGlobal, G: Watch>(
 fn draw_timeline<T: Wait + Clock + Sync + Eprint + Files + AllocGlobal, G: Watch>(
     rt: &T,
     name: &str,
-    told: &Told<'_, T, G>,
+    told: &RecordingWatch<'_, T, G>,
 ) {
     let drawn = match fs::create(rt, name) {
-        Ok(mut file) => told.write_timeline(rt.alloc(), &mut file, Form::of_file(name)),
+        Ok(mut file) => told.write_timeline(rt.alloc(), &mut file, TimelineForm::of_file(name)),
         Err(error) => Err(error),
     };
     if let Err(error) = drawn {

@@ -23,7 +23,7 @@ use std::time::Clock;
 /// A watch that tells another one all that it is told, and keeps count for a summary and, if it is to, for a timeline. What the
 /// other one says of a step is what it says.
 #[derive(Drop)]
-pub struct Told<'a, R, W> {
+pub struct RecordingWatch<'a, R, W> {
     rt: &'a R,
     watch: &'a W,
     clock: Stopwatch<'a, R>,
@@ -37,27 +37,27 @@ pub struct Told<'a, R, W> {
 
 /// Whether a timeline is a table or a chart.
 #[derive(Clone, Copy, Debug, PartialEq, Eq)]
-pub enum Form {
+pub enum TimelineForm {
     /// Comma-separated values: [`write_csv`].
     Csv,
     /// A chart: [`write_svg`].
     Svg,
 }
 
-impl Form {
+impl TimelineForm {
     /// That of a file of this name: comma-separated values where it ends in `.csv`, and else a chart.
-    pub fn of_file(name: &str) -> Form
-        ensures { (result ≡ Form.Csv) ↔ IsTrue (ends_with nat_eq name.now (codes ".csv")) }
+    pub fn of_file(name: &str) -> TimelineForm
+        ensures { (result ≡ TimelineForm.Csv) ↔ IsTrue (ends_with nat_eq name.now (codes ".csv")) }
     {
         if name.as_bytes().ends_with(b".csv") {
-            Form::Csv
+            TimelineForm::Csv
         } else {
-            Form::Svg
+            TimelineForm::Svg
         }
     }
 }
 
-impl<'a, R: Wait + Clock, W: Watch> Told<'a, R, W> {
+impl<'a, R: Wait + Clock, W: Watch> RecordingWatch<'a, R, W> {
     /// One that was told nothing, before another watch, with a timeline or without. The time of reading goes from now on. It
     /// is refused only where there is no memory for it.
     pub fn new(
@@ -65,13 +65,13 @@ impl<'a, R: Wait + Clock, W: Watch> Told<'a, R, W> {
         alloc: Global,
         watch: &'a W,
         draws: bool,
-    ) -> Result<Told<'a, R, W>, AllocError> {
+    ) -> Result<RecordingWatch<'a, R, W>, AllocError> {
         let timeline = if draws {
             Some(Timeline::new(alloc, rt, MAX_JOBS, SEGMENT_LIMIT as usize)?)
         } else {
             None
         };
-        Ok(Told {
+        Ok(RecordingWatch {
             rt,
             watch,
             clock: Stopwatch::start(rt),
@@ -97,15 +97,15 @@ impl<'a, R: Wait + Clock, W: Watch> Told<'a, R, W> {
         &self,
         alloc: Global,
         writer: &mut O,
-        form: Form,
+        form: TimelineForm,
     ) -> io::Result<()> {
         let Some(timeline) = &self.timeline else {
             return Ok(());
         };
         let moments = moments_of(alloc, &timeline.events(alloc)?)?;
         match form {
-            Form::Csv => write_csv(writer, &moments),
-            Form::Svg => write_svg(writer, &moments, timeline.all()),
+            TimelineForm::Csv => write_csv(writer, &moments),
+            TimelineForm::Svg => write_svg(writer, &moments, timeline.all()),
         }
     }
 
@@ -119,7 +119,7 @@ impl<'a, R: Wait + Clock, W: Watch> Told<'a, R, W> {
     }
 }
 
-impl<R: Wait + Clock + Sync, W: Watch> Gate for Told<'_, R, W> {
+impl<R: Wait + Clock + Sync, W: Watch> Gate for RecordingWatch<'_, R, W> {
     fn pass(&self, who: u64, step: NodeStep) -> bool {
         self.waits.hear(who, step);
         if let Some(timeline) = &self.timeline {
@@ -129,7 +129,7 @@ impl<R: Wait + Clock + Sync, W: Watch> Gate for Told<'_, R, W> {
     }
 }
 
-impl<R: Wait + Clock + Sync, W: Watch> Watch for Told<'_, R, W> {
+impl<R: Wait + Clock + Sync, W: Watch> Watch for RecordingWatch<'_, R, W> {
     fn begins(&self, jobs: u64, segments: u64) {
         self.reading.store(self.clock.micros(), Ordering::SeqCst);
         if let Some(timeline) = &self.timeline {
