@@ -1,3 +1,4 @@
 pub mod Pieces
 pub mod Coming
 pub mod Buffered
+pub mod Given

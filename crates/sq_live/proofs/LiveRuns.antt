@@ -17,7 +17,7 @@ use Rattle.sq_live.specs.Live.{ComesToSpell, ComesToFail, HaveFault}
 use Rattle.sq_live.specs.Faults.{out_of_memory}
 use Rattle.sq_lines.specs.declared.reader.Reading.TheVariants.{Open}
 use Rattle.sq_lines.specs.Pieces.{PieceValue, pieces}
-use Rattle.sq_world.specs.Input.{IsGiven}
+use Rattle.sq_lines.specs.Given.{IsGiven}
 
 module _ (tables parts : ℕ) (begin lines : LinesValue) (o : OpeningValue) where
   -- the header of an input, and the jobs behind it

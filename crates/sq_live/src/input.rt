@@ -4,7 +4,7 @@ ghost use Rattle.std.specs.Io.KnownBytes.{Appends};
 ghost use Rattle.sq_pull.specs.declared.numbers.TheConstants.{MAX_PUMPS};
 ghost use Rattle.sq_lines.specs.Pieces.{PieceValue};
 ghost use Rattle.sq_lines.specs.Coming.{CanCome};
-ghost use Rattle.sq_world.specs.Input.{IsGiven};
+ghost use Rattle.sq_lines.specs.Given.{IsGiven};
 ghost use Rattle.sq_live.specs.Jobs.{HavePartitions};
 ghost use Rattle.sq_live.specs.Live.{EndsLive, WereRun, ending_line, RunsLive, ComesToSpell, ComesToFail};
 
@@ -19,8 +19,7 @@ use crate::watch::Watch;
 use sq_lines::LineReader;
 use sq_ranges::Opening;
 use sq_schema::{MAX_TABLES, Schema};
-use sq_text::{read_header, write_fault};
-use sq_world::WriteFault;
+use sq_text::{WriteFault, read_header, write_fault};
 use std::alloc::{AllocError, Global};
 use std::io;
 use std::io::{Read, Write};

@@ -5,7 +5,7 @@ use Rattle.std.specs.List.{flat_map, join_with_byte}
 use Rattle.std.proofs.lemmas.List.{append-nil, take_more, take_all}
 use Rattle.std.proofs.lemmas.Grind.{flat_map-append}
 use Rattle.std.proofs.lemmas.List.Folds.{flat_map-map}
-use Rattle.std.specs.Io.KnownBytes.{Appends}
+use Rattle.std.specs.Io.KnownBytes.{Appends, Keeps}
 use Rattle.sq_schema.specs.declared.txn.OpAnswer.{OpAnswer}
 use Rattle.sq_schema.specs.Family.{FamilyValue, rows_of}
 use Rattle.sq_chunk.specs.ChunkValue.{ChunkValue}
@@ -27,6 +27,13 @@ three (Ok x) a b c d xs ys zs all h k l e = both a c d (xs ++ ys) zs all (both a
 pub appends_none : (a : Option (List ℕ)) → Appends a a []
 appends_none None = tt
 appends_none (Some front) = sym (append-nil front)
+
+-- bytes that were written, and stay
+pub kept : (a b c : Option (List ℕ)) (text : List ℕ) → Appends a b text → Keeps b c → Appends a c text
+kept None b c text written keeps = tt
+kept (Some xs) None c text written keeps = absurd written
+kept (Some xs) (Some ys) None text written keeps = absurd keeps
+kept (Some xs) (Some ys) (Some zs) text written keeps = keeps ∙ written
 
 -- the text of one more thing, after the texts of those before it
 pub appends_next : {X : Type 0} (text : X → List ℕ) (xs : List X) (i : ℕ) (x : X) (a b c : Option (List ℕ)) → i < length xs → x ≡ get_or xs i x → Appends a b (flat_map text (take i xs)) → Appends b c (text x) → Appends a c (flat_map text (take (i + 1) xs))

@@ -11,7 +11,7 @@ use sq_audit::{Job, Verdict, audit};
 use sq_driver::{OpenGate, run_workers};
 use sq_gather::{Gathered, gather};
 use sq_node::Fabric;
-use sq_world::Opening;
+use sq_ranges::Opening;
 use std::alloc::{AllocError, Global};
 use std::sync::Wait;
 use std::thread::Threads;

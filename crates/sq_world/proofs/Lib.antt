@@ -1,4 +1,3 @@
-pub mod Kept
 pub mod Histories
 pub mod Reaches
 pub mod Runs

@@ -13,7 +13,6 @@ use Rattle.sq_text.specs.Located.{located}
 use Rattle.sq_text.specs.Header.{plans_of, Opens}
 use Rattle.sq_text.proofs.Appending.{both}
 use Rattle.sq_world.specs.declared.ending.Ending.{Ending}
-use Rattle.sq_world.specs.declared.ending.Ending.TheVariants.{Done}
 use Rattle.sq_world.specs.Run.{IsFault}
 use Rattle.sq_world.specs.Listing.{IsToldOrRefused, IsListing}
 use Rattle.sq_world.proofs.Runs.{OfLines}

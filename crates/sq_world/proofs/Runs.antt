@@ -1,5 +1,5 @@
 -- Runs of whole inputs.
-use Rattle.std.proofs.Common.{◌≡◌, ℕ, Bool, List, [], Option, inl, inr, refl, subst, ◌∙◌}
+use Rattle.std.proofs.Common.{◌≡◌, ℕ, Bool, List, [], Option, inl, inr, refl, subst}
 use Rattle.std.specs.Prelude.{None, Result, Ok, Err, IfOk}
 use Rattle.std.specs.Io.KnownBytes.{Appends, Keeps}
 use Rattle.sq_schema.specs.declared.schema.TheConstants.{MAX_TABLES}
@@ -9,17 +9,18 @@ use Rattle.sq_transition.specs.WorldValue.{WorldValue}
 use Rattle.sq_lines.specs.declared.reader.TheConstants.{MAX_LINES}
 use Rattle.sq_lines.specs.declared.reader.Reading.TheVariants.{Open}
 use Rattle.sq_lines.specs.Pieces.{PieceValue, pieces}
-use Rattle.sq_lines.specs.Coming.{LinesValue, Comes, CanCome, Leaves}
+use Rattle.sq_lines.specs.Coming.{LinesValue, CanCome, Leaves}
+use Rattle.sq_lines.specs.Given.{IsGiven}
 use Rattle.sq_lines.proofs.Comings.{some_more, some_pieces}
+use Rattle.sq_lines.proofs.Givens.{given_first}
 use Rattle.sq_text.specs.declared.located.LocatedFault.{LocatedFault}
 use Rattle.sq_text.specs.declared.input_fault.InputFault.TheVariants.{Memory}
 use Rattle.sq_text.specs.Located.{located}
 use Rattle.sq_text.specs.Header.{header_of, Opens}
+use Rattle.sq_text.proofs.Appending.{kept}
 use Rattle.sq_world.specs.declared.ending.Ending.{Ending}
-use Rattle.sq_world.specs.Input.{IsGiven}
 use Rattle.sq_world.specs.Run.{IsFault, IsRun}
 use Rattle.sq_world.specs.Script.{LeadsTo, IsWritten}
-use Rattle.sq_world.proofs.Kept.{kept}
 
 abbrev RunsLines : Bool → LinesValue → Option (List ℕ) → Option (List ℕ) → Ending → Type 0
 RunsLines echoes lines before now ending = (given : List PieceValue) × CanCome lines given × (out : List ℕ) × Appends before now out × IsRun echoes MAX_TABLES given out ending
@@ -55,15 +56,6 @@ OfLines says lines before now ending = (given : List PieceValue) × CanCome line
 -- what is written for what a reader gives, and how that ends, are as this says
 abbrev pub OfReader : (List PieceValue → List ℕ → Ending → Type 0) → Option (List ℕ) → Option (List ℕ) → Option (List ℕ) → Ending → Type 0
 OfReader says known before now ending = (given : List PieceValue) × IsGiven known given × (out : List ℕ) × Appends before now out × says given out ending
-
--- what can come of a reader of lines at its start is given by its reader
-pub given_first : (v : LinesValue) (known : Option (List ℕ)) (given : List PieceValue) → v.held ≡ [] → v.reading ≡ Open → v.lines ≡ MAX_LINES → v.known ≡ known → CanCome v given → IsGiven known given
-given_first v known given none still most same can = record {
-  input = can.more;
-  end = can.end;
-  comes = subst (λ k. Comes Open k can.end can.more) same (subst (λ r. Comes r v.known can.end can.more) still can.comes);
-  are = can.are ∙ rw (most, none) refl;
-}
 
 pub run_given : {E : Type 0} (says : List PieceValue → List ℕ → Ending → Type 0) (r : Result Ending E) (v : LinesValue) (known before now : Option (List ℕ)) → v.held ≡ [] → v.reading ≡ Open → v.lines ≡ MAX_LINES → v.known ≡ known → IfOk r (OfLines says v before now) → IfOk r (OfReader says known before now)
 run_given says (Err e) v known before now none still most same ran = tt

@@ -25,7 +25,7 @@ use Rattle.sq_lines.specs.declared.reader.TheConstants.{MAX_LINES}
 use Rattle.sq_lines.specs.Pieces.{PieceValue, Line, Rest, Failed, Endless, TooMany, next_line_number}
 use Rattle.sq_lines.specs.Coming.{LinesValue, CanCome, CameBefore, IsLong}
 use Rattle.sq_lines.proofs.Lengths.{is_endless}
-use Rattle.sq_text.proofs.Appending.{both}
+use Rattle.sq_text.proofs.Appending.{both, kept}
 use Rattle.sq_world.specs.declared.ending.Ending.{Ending}
 use Rattle.sq_world.specs.declared.ending.Ending.TheVariants.{Done}
 use Rattle.sq_state.specs.Dump.{dump}
@@ -33,7 +33,6 @@ use Rattle.sq_world.specs.Echo.{answer_text, refused_text}
 use Rattle.sq_world.specs.Run.{Writes, IsFault, AnswersLine}
 use Rattle.sq_world.specs.Script.{LeadsTo, IsAnswered, IsWritten}
 use Rattle.sq_state.proofs.Dumps.{nothing}
-use Rattle.sq_world.proofs.Kept.{kept}
 
 module _ (echoes : Bool) where
   -- the line spells a step, which is answered

@@ -1,6 +1,5 @@
 pub mod History
 pub mod Reached
-pub mod Input
 pub mod Echo
 pub mod Run
 pub mod Script

@@ -4,6 +4,7 @@ use Rattle.std.specs.Io.KnownBytes.{Appends}
 use Rattle.sq_ranges.specs.OpeningValue.{OpeningValue}
 use Rattle.sq_ranges.specs.ReconValue.{ReconValue}
 use Rattle.sq_lines.specs.Pieces.{PieceValue}
+use Rattle.sq_lines.specs.Given.{IsGiven}
 use Rattle.sq_text.specs.declared.located.LocatedFault.{LocatedFault}
 use Rattle.sq_text.specs.declared.input_fault.InputFault.TheVariants.{Memory}
 use Rattle.sq_text.specs.Located.{located}
@@ -13,7 +14,6 @@ use Rattle.sq_world.specs.declared.ending.Ending.{Ending}
 use Rattle.sq_world.specs.declared.ending.Ending.TheVariants.{Done}
 use Rattle.sq_world.specs.declared.telling.Told.{Told}
 use Rattle.sq_world.specs.declared.telling.Told.TheVariants.{Written, NoMemory}
-use Rattle.sq_world.specs.Input.{IsGiven}
 use Rattle.sq_world.specs.Run.{IsFault}
 
 -- a text that tells of a reconfiguration goes to the end of what a writer holds; where there was no memory for it, nothing does

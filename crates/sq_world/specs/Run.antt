@@ -22,12 +22,12 @@ use Rattle.sq_text.specs.Located.{located}
 use Rattle.sq_text.specs.Texts.{fault_line}
 use Rattle.sq_lines.specs.declared.reader.TheConstants.{MAX_LINES}
 use Rattle.sq_lines.specs.Pieces.{PieceValue, Line, Rest, Failed, Endless, TooMany}
+use Rattle.sq_lines.specs.Given.{IsGiven}
 use Rattle.sq_text.specs.Header.{header_of, Opens}
 use Rattle.sq_world.specs.declared.ending.Ending.{Ending}
 use Rattle.sq_world.specs.declared.ending.Ending.TheVariants.{Done, Fault}
 use Rattle.sq_state.specs.Dump.{dump}
 use Rattle.sq_world.specs.Echo.{answer_text, refused_text}
-use Rattle.sq_world.specs.Input.{IsGiven}
 
 -- the line spells a step, which is answered by the history
 pub record IsStepLine (echoes : Bool) (o : OpeningValue) (t : Trace) (line : List ℕ) (after : Trace) (text : List ℕ) : Type 0 where

@@ -2,8 +2,6 @@
 ghost use Rattle.std.specs.Prelude.{◌≡◌};
 
 use sq_text::LocatedFault;
-use std::io;
-use thiserror::Error;
 
 /// How a run ends.
 #[derive(Clone, Copy, Debug, PartialEq, Eq)]
@@ -25,25 +23,5 @@ impl Ending {
             Ending::Done => 0,
             Ending::Fault(_) => 2,
         }
-    }
-}
-
-/// A write failed. How much went out isn't told.
-#[derive(Clone, Copy, Debug, PartialEq, Eq, Error)]
-#[error("the output can't be written")]
-pub struct WriteFault;
-
-impl WriteFault {
-    /// The number that a user sees.
-    pub fn number(self) -> u16
-        ensures { result ≡ 124 }
-    {
-        124
-    }
-}
-
-impl From<io::Error> for WriteFault {
-    fn from(_error: io::Error) -> WriteFault {
-        WriteFault
     }
 }

@@ -8,12 +8,12 @@ ghost use Rattle.sq_text.specs.Header.{header_of, Opens};
 ghost use Rattle.sq_world.specs.Run.{IsRun, Runs};
 ghost use Rattle.sq_world.specs.Script.{LeadsTo};
 
-use crate::ending::{Ending, WriteFault};
+use crate::ending::Ending;
 use crate::script::{end_by, run_script};
 use crate::world::World;
 use sq_lines::LineReader;
 use sq_schema::{MAX_TABLES, Schema};
-use sq_text::{InputFault, LocatedFault, read_header};
+use sq_text::{InputFault, LocatedFault, WriteFault, read_header};
 use std::alloc::Global;
 use std::io;
 use std::io::{Read, Write};

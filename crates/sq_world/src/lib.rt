@@ -12,7 +12,7 @@ mod telling;
 mod whole_run;
 mod world;
 
-pub use ending::{Ending, WriteFault};
+pub use ending::Ending;
 pub use input::{run, run_and_echo, run_and_keep};
 pub use listing::{list, ranges};
 pub use sq_chunk::{Chunk, Note};
@@ -23,6 +23,7 @@ pub use sq_schema::{
     Cause, Family, Op, OpAnswer, OpAnswers, Reply, Root, Row, RowKey, Rows, Schema, Txn, TxnFault,
 };
 pub use sq_store::{FamilyStore, SlabStore};
+pub use sq_text::WriteFault;
 pub use sq_tree::{Leaf, NodeId, Reading, Status};
 pub use telling::{Telling, Told};
 pub use whole_run::run_world;

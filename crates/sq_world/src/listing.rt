@@ -5,13 +5,13 @@ ghost use Rattle.sq_lines.specs.Pieces.{PieceValue};
 ghost use Rattle.sq_lines.specs.Coming.{CanCome};
 ghost use Rattle.sq_world.specs.Listing.{IsToldOrRefused, IsListing, IsMovesText, Tells, Lists};
 
-use crate::ending::{Ending, WriteFault};
+use crate::ending::Ending;
 use crate::script::end_by;
 use crate::telling::{Telling, Told};
 use sq_lines::LineReader;
 use sq_ranges::Recon;
 use sq_schema::{MAX_TABLES, Schema};
-use sq_text::{InputFault, read_plans, write_moves};
+use sq_text::{InputFault, WriteFault, read_plans, write_moves};
 use std::alloc::Global;
 use std::io;
 use std::io::{Read, Write};

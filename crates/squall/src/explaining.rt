@@ -5,7 +5,7 @@ ghost use Rattle.squall.specs.Session.{explain_status, EndsAs};
 
 use crate::session::{REFUSED, explain_write};
 use sq_explain::explain;
-use sq_world::WriteFault;
+use sq_text::WriteFault;
 use std::io::Write;
 
 /// Writes what this number means, what it is given to and what to do about it, or that of all numbers. Where there is no such

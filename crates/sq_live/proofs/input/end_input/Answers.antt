@@ -1,5 +1,5 @@
 use Rattle.sq_schema.specs.declared.schema.TheConstants.{MAX_TABLES}
-use Rattle.sq_world.proofs.Runs.{given_first}
+use Rattle.sq_lines.proofs.Givens.{given_first}
 use Rattle.sq_live.proofs.LiveRuns.{none_read}
 use Rattle.sq_live.proofs.input.end_input.Goals as goal
 

@@ -1,4 +1,4 @@
-use Rattle.sq_world.proofs.Kept.{kept}
+use Rattle.sq_text.proofs.Appending.{kept}
 use Rattle.sq_live.proofs.input.live.Goals as goal
 
 pub returns : goal.returns

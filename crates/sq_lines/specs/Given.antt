@@ -1,4 +1,4 @@
--- The input of a run, as a reader gives it.
+-- What a reader gives.
 use Rattle.std.specs.Prelude.{◌≡◌, ℕ, List, Option}
 use Rattle.sq_lines.specs.declared.reader.Reading.TheVariants.{Open}
 use Rattle.sq_lines.specs.Pieces.{PieceValue, InputEnd, pieces}

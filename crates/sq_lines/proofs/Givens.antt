@@ -1,0 +1,16 @@
+-- What a reader gives, by what can come of a reader of its lines.
+use Rattle.std.proofs.Common.{◌≡◌, ℕ, List, [], Option, refl, subst, ◌∙◌}
+use Rattle.sq_lines.specs.declared.reader.TheConstants.{MAX_LINES}
+use Rattle.sq_lines.specs.declared.reader.Reading.TheVariants.{Open}
+use Rattle.sq_lines.specs.Pieces.{PieceValue}
+use Rattle.sq_lines.specs.Coming.{LinesValue, Comes, CanCome}
+use Rattle.sq_lines.specs.Given.{IsGiven}
+
+-- what can come of a reader of lines at its start is given by its reader
+pub given_first : (v : LinesValue) (known : Option (List ℕ)) (given : List PieceValue) → v.held ≡ [] → v.reading ≡ Open → v.lines ≡ MAX_LINES → v.known ≡ known → CanCome v given → IsGiven known given
+given_first v known given none still most same can = record {
+  input = can.more;
+  end = can.end;
+  comes = subst (λ k. Comes Open k can.end can.more) same (subst (λ r. Comes r v.known can.end can.more) still can.comes);
+  are = can.are ∙ rw (most, none) refl;
+}
