@@ -5,24 +5,31 @@ use Rattle.sq_ranges.specs.ReconValue.{stage_in}
 use Rattle.sq_leader.specs.Segments.{is_into, is_whole}
 use Rattle.sq_leader.proofs.Wholes.{all_pass, one_fails, is_missing-at, moves_elsewhere}
 use Rattle.sq_leader.proofs.report.has_all.Goals as goal
-use Rattle.sq_leader.proofs.report.has_all.Goals.{else-eq-via-then-eq+then-stage_on-stage+else-not-is_whole, else-eq-via-then-eq+else-stage_on-stage, else-eq-via-else-eq}
+use Rattle.sq_leader.proofs.report.has_all.Goals.{After-eq, else-eq-via-then-eq+then-stage_on-stage+else-not-is_whole, else-eq-via-then-eq+else-stage_on-stage, else-eq-via-else-eq}
 
-pub returns-then-not-is_whole : goal.returns-then-not-is_whole
-returns-then-not-is_whole c =
+-- whether the segment at hand is missing, by its stage, its destination and whether it is whole
+is_missing-here : (c : After-eq) → let recon = c.args.recon.now in let seg = c.loop-seg.seg in let segment = c.segment-item.result in
+    (not (is_into recon c.args.stage c.args.part seg) || is_whole c.args.whole.now seg) ≡ (not ((stage_in recon segment == c.args.stage) && (segment.dst == c.args.part)) || is_whole c.args.whole.now seg)
+is_missing-here c =
     let recon = c.args.recon.now in
-    let stage = c.args.stage in
-    let whole = c.args.whole.now in
-    let part = c.args.part in
     let seg = c.loop-seg.seg in
     let segment = c.segment-item.result in
     let same = c.segments-segment-items.ensures.segments in
     let there : seg < length recon.segments = omega (arith, c.loop-seg-test.true, ap (λ (list : List Range). length list) same) in
     let is : segment ≡ get_or recon.segments seg segment = c.segment-item.is ∙ ap (λ (list : List Range). get_or list seg segment) same in
+    is_missing-at recon c.args.stage c.args.part seg c.args.whole.now segment there is
+
+pub returns-then-not-is_whole : goal.returns-then-not-is_whole
+returns-then-not-is_whole c =
+    let recon = c.args.recon.now in
+    let stage = c.args.stage in
+    let segment = c.segment-item.result in
+    let there : c.loop-seg.seg < length recon.segments = omega (arith, c.loop-seg-test.true, ap (λ (list : List Range). length list) c.segments-segment-items.ensures.segments) in
     let now : (stage_in recon segment == stage) ≡ true = eq-eqb (stage_in recon segment) stage (sym c.stage_on.ensures.stage ∙ c.if-stage_on-stage.true) in
-    let here : (segment.dst == part) ≡ true = sym c.eq.ensures ∙ c.if-eq.true in
-    let absent : is_whole whole seg ≡ false = sym c.is_whole.ensures ∙ c.if-not-is_whole.true in
-    sym (one_fails (λ k. not (is_into recon stage part k) || is_whole whole k) (length recon.segments) seg there
-    (is_missing-at recon stage part seg whole segment there is ∙ (λ i. not (now i && here i) || absent i)))
+    let here : (segment.dst == c.args.part) ≡ true = sym c.eq.ensures ∙ c.if-eq.true in
+    let absent : is_whole c.args.whole.now c.loop-seg.seg ≡ false = sym c.is_whole.ensures ∙ c.if-not-is_whole.true in
+    sym (one_fails (λ k. not (is_into recon stage c.args.part k) || is_whole c.args.whole.now k) (length recon.segments) c.loop-seg.seg there
+    (is_missing-here (goal.at.returns-then-not-is_whole c).After-eq ∙ (λ i. not (now i && here i) || absent i)))
 
 pub loop-seg-preserved : goal.loop-seg-preserved
 loop-seg-preserved c =
@@ -32,10 +39,7 @@ loop-seg-preserved c =
     let part = c.args.part in
     let seg = c.loop-seg.seg in
     let segment = c.segment-item.result in
-    let same = c.segments-segment-items.ensures.segments in
-    let there : seg < length recon.segments = omega (arith, c.loop-seg-test.true, ap (λ (list : List Range). length list) same) in
-    let is : segment ≡ get_or recon.segments seg segment = c.segment-item.is ∙ ap (λ (list : List Range). get_or list seg segment) same in
-    let test = is_missing-at recon stage part seg whole segment there is in
+    let test = is_missing-here (goal.at.loop-seg-preserved c).After-eq in
     let here : (not (is_into recon stage part seg) || is_whole whole seg) ≡ true = elim c.else-eq.branch [
       | else-eq-via-then-eq+then-stage_on-stage+else-not-is_whole b ↦
           or_right (not (is_into recon stage part seg)) (is_whole whole seg) (sym b.is_whole.ensures ∙ b.if-not-is_whole.false)
