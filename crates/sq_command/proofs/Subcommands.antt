@@ -226,7 +226,7 @@ is_text name text same = (bytes_eq-Decides name text).0 (sym same)
 
 -- what comes of words in which no fault is found, by what the options of their subcommand ask for
 module _ (words : List Text) (name : Text) (rows : List Row) (free : fault_of squall words ≡ []) (met : subcommand_of squall words ≡ Some (name, rows)) where
-  pub line_comes : (line : Line) → IsLineOf (Some (name, rows)) line → ComesOf words (Ok line)
+  line_comes : (line : Line) → IsLineOf (Some (name, rows)) line → ComesOf words (Ok line)
   line_comes line is = (free, rw met is)
 
   pub settled_comes : (IsLine : List Row → Line → Type 0) → ((line : Line) → IsLine rows line → IsLineOf (Some (name, rows)) line)

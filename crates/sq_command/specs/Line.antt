@@ -10,7 +10,7 @@ use Rattle.clap.specs.declared.error.kind.ErrorKind.{ErrorKind}
 use Rattle.clap.specs.declared.error.kind.ErrorKind.TheVariants.{MissingRequiredArgument, ArgumentConflict, OutOfMemory}
 use Rattle.sq_command.specs.Commands.{squall}
 use Rattle.sq_command.specs.declared.clash.Clash.{Clash}
-use Rattle.sq_command.specs.declared.clash.Clash.TheVariants.{NoOld, NoNew, NoPlans, TwoForms}
+use Rattle.sq_command.specs.declared.clash.Clash.TheVariants.{TwoForms}
 use Rattle.sq_command.specs.declared.line.TheConstants.{MAX_TURNS, MAX_PUMPS, TURNS, PUMPS}
 use Rattle.sq_command.specs.declared.line.Input.{Input}
 use Rattle.sq_command.specs.declared.line.Plans.{Plans}

@@ -71,9 +71,7 @@ fn file<'a>(alloc: Global) -> Arg<'a>
     ensures rule { rule_of result ≡ file_rule }
     ensures local { result.global ≡ false }
 {
-    Arg::new(alloc, "file")
-        .value_name("FILE")
-        .help("The file to read, in place of standard input")
+    Arg::new(alloc, "file").value_name("FILE").help(help::FILE)
 }
 
 // An option for the name of a file.
@@ -101,25 +99,10 @@ fn with_input<'a>(alloc: Global, command: Command<'a>) -> Result<Command<'a>, Al
     ensures shape { IfOk result (λ more. shape_of more ≡ with_input (shape_of command.entry)) }
     ensures local { IfOk result (λ more. (out-Command more).has_globals ≡ (out-Command command.entry).has_globals) }
 {
-    let old = path(
-        alloc,
-        "old",
-        "The plan before the move, in a file of its own",
-    );
-    let new = path(
-        alloc,
-        "new",
-        "The plan after the move, in a file of its own",
-    );
-    let rows = path(
-        alloc,
-        "rows",
-        "The lines of the rows, in a file of their own",
-    );
     let with_file = with(command, file(alloc))?;
-    let with_old = with(with_file, old)?;
-    let with_new = with(with_old, new)?;
-    with(with_new, rows)
+    let with_old = with(with_file, path(alloc, "old", help::OLD))?;
+    let with_new = with(with_old, path(alloc, "new", help::NEW))?;
+    with(with_new, path(alloc, "rows", help::ROWS))
 }
 
 // The subcommand that makes the steps of a script.
@@ -127,18 +110,8 @@ fn run<'a>(alloc: Global) -> Result<Command<'a>, AllocError>
     ensures shape { IfOk result (λ command. shape_of command ≡ run_shape) }
     ensures local { IfOk result (λ command. (out-Command command).has_globals ≡ false) }
 {
-    let plain = subcommand(
-        alloc,
-        "run",
-        "Makes the steps of a script, and answers each",
-        help::RUN,
-    );
-    let echo = flag(
-        alloc,
-        "echo",
-        "Write each step before its answer, and what the number of a refusal means",
-    );
-    let echoing = with(plain, echo)?;
+    let plain = subcommand(alloc, "run", help::RUN_ABOUT, help::RUN);
+    let echoing = with(plain, flag(alloc, "echo", help::ECHO))?;
     with_input(alloc, echoing)
 }
 
@@ -147,16 +120,9 @@ fn ranges<'a>(alloc: Global) -> Result<Command<'a>, AllocError>
     ensures shape { IfOk result (λ command. shape_of command ≡ ranges_shape) }
     ensures local { IfOk result (λ command. (out-Command command).has_globals ≡ false) }
 {
-    let plain = subcommand(
-        alloc,
-        "ranges",
-        "Tells what moves between two plans",
-        help::RANGES,
-    );
-    let json = flag(alloc, "json", "Write it as one JSON value, for a program");
-    let svg = flag(alloc, "svg", "Draw it, as an SVG picture");
-    let with_json = with(plain, json)?;
-    let with_svg = with(with_json, svg)?;
+    let plain = subcommand(alloc, "ranges", help::RANGES_ABOUT, help::RANGES);
+    let with_json = with(plain, flag(alloc, "json", help::JSON))?;
+    let with_svg = with(with_json, flag(alloc, "svg", help::SVG))?;
     with_input(alloc, with_svg)
 }
 
@@ -165,28 +131,13 @@ fn numbered<'a>(alloc: Global) -> Result<Command<'a>, AllocError>
     ensures shape { IfOk result (λ command. shape_of command ≡ numbered_shape) }
     ensures local { IfOk result (λ command. (out-Command command).has_globals ≡ false) }
 {
-    let turns = option(
-        alloc,
-        "turns",
-        "How many turns each thread takes at most in a stage; in a turn a partition takes one new job",
-        value_parser!(u64).range(1..=1_000_000_000),
-        "1000000",
-    );
-    let pumps = option(
-        alloc,
-        "pumps",
-        "How many threads claim rows in the background, up to 16",
-        value_parser!(u64).range(1..=16),
-        "1",
-    );
-    subcommand(
-        alloc,
-        "live",
-        "Runs jobs in threads while rows move, and audits what is left",
-        help::LIVE,
-    )
-    .arg(turns)?
-    .arg(pumps)
+    let any_turns = value_parser!(u64).range(1..=1_000_000_000);
+    let any_pumps = value_parser!(u64).range(1..=16);
+    let turns = option(alloc, "turns", help::TURNS, any_turns, "1000000");
+    let pumps = option(alloc, "pumps", help::PUMPS, any_pumps, "1");
+    subcommand(alloc, "live", help::LIVE_ABOUT, help::LIVE)
+        .arg(turns)?
+        .arg(pumps)
 }
 
 // The subcommand that runs jobs in threads.
@@ -194,24 +145,9 @@ fn live<'a>(alloc: Global) -> Result<Command<'a>, AllocError>
     ensures shape { IfOk result (λ command. shape_of command ≡ live_shape) }
     ensures local { IfOk result (λ command. (out-Command command).has_globals ≡ false) }
 {
-    let fold = flag(
-        alloc,
-        "fold",
-        "Audit what is answered between two stages, and fold the logs",
-    );
-    let summary = flag(
-        alloc,
-        "summary",
-        "Tell behind the line of the run what it did",
-    );
-    let timeline = path(
-        alloc,
-        "timeline",
-        "Write into this file when each thing was done",
-    );
-    let folding = with(numbered(alloc)?, fold)?;
-    let summing = with(folding, summary)?;
-    let timed = with(summing, timeline)?;
+    let folding = with(numbered(alloc)?, flag(alloc, "fold", help::FOLD))?;
+    let summing = with(folding, flag(alloc, "summary", help::SUMMARY))?;
+    let timed = with(summing, path(alloc, "timeline", help::TIMELINE))?;
     with_input(alloc, timed)
 }
 
@@ -220,15 +156,10 @@ fn explain<'a>(alloc: Global) -> Result<Command<'a>, AllocError>
     ensures shape { IfOk result (λ command. shape_of command ≡ explain_shape) }
     ensures local { IfOk result (λ command. (out-Command command).has_globals ≡ false) }
 {
-    let plain = subcommand(
-        alloc,
-        "explain",
-        "Tells what a number means, what it is given to, and what to do about it",
-        help::EXPLAIN,
-    );
+    let plain = subcommand(alloc, "explain", help::EXPLAIN_ABOUT, help::EXPLAIN);
     let number = Arg::new(alloc, "number")
         .value_name("NUMBER")
-        .help("The number; all of them where none is given")
+        .help(help::NUMBER)
         .value_parser(value_parser!(u16));
     with(plain, number)
 }

@@ -1,6 +1,6 @@
-// What the help texts say behind usage and options.
+// What the help texts say: in a line of each subcommand and of each argument, and at length behind these.
 
-/// Behind those of the whole program.
+/// Behind the options of the whole program.
 pub const PROGRAM: &str = "\
 run, ranges and live read standard input, or the file that is named, and write to
 standard output. Their own help says what, with an example: squall run --help,
@@ -16,7 +16,21 @@ After a fault the last line of standard output is its number, as in 'fault 105',
 and standard error says what it means, and on which line it is. squall explain 105
 tells more of it, and squall explain tells all numbers.";
 
-/// Behind those of `run`.
+/// Of the file that is read.
+pub const FILE: &str = "The file to read, in place of standard input";
+
+/// Of the files of the plans and of the rows.
+pub const OLD: &str = "The plan before the move, in a file of its own";
+
+pub const NEW: &str = "The plan after the move, in a file of its own";
+
+pub const ROWS: &str = "The lines of the rows, in a file of their own";
+
+/// Of `run`, of its option, and behind these.
+pub const RUN_ABOUT: &str = "Makes the steps of a script, and answers each";
+
+pub const ECHO: &str = "Write each step before its answer, and what the number of a refusal means";
+
 pub const RUN: &str = r#"The input holds a header and then a script. The header is the plan before
 the move, the plan after it, the sizes (root keys in a leaf, bytes in a chunk,
 chunks on a link), and the rows that there are. A line of the script is a step:
@@ -65,7 +79,13 @@ Exit status:
   0  done
   2  a fault, or a command line that is refused"#;
 
-/// Behind those of `ranges`.
+/// Of `ranges`, of its options, and behind these.
+pub const RANGES_ABOUT: &str = "Tells what moves between two plans";
+
+pub const JSON: &str = "Write it as one JSON value, for a program";
+
+pub const SVG: &str = "Draw it, as an SVG picture";
+
 pub const RANGES: &str =
     r#"The input holds three lines: the plan before the move, the plan after it,
 and the sizes, of which the first, the root keys in a leaf, says how ranges are
@@ -99,7 +119,20 @@ Exit status:
   0  done
   2  a fault, or a command line that is refused"#;
 
-/// Behind those of `live`.
+/// Of `live`, of its options, and behind these.
+pub const LIVE_ABOUT: &str = "Runs jobs in threads while rows move, and audits what is left";
+
+pub const TURNS: &str =
+    "How many turns each thread takes at most in a stage; in a turn a partition takes one new job";
+
+pub const PUMPS: &str = "How many threads claim rows in the background, up to 16";
+
+pub const FOLD: &str = "Audit what is answered between two stages, and fold the logs";
+
+pub const SUMMARY: &str = "Tell behind the line of the run what it did";
+
+pub const TIMELINE: &str = "Write into this file when each thing was done";
+
 pub const LIVE: &str = r#"The input holds a header, as for 'squall run', and then jobs: lines
 'txn P ID ROOT OP..', at most 4096 of them, no two with one id. A job is a
 transaction that is posted to partition P. Each partition runs in a thread of
@@ -158,7 +191,12 @@ Exit status:
   3  stopped
   4  unsound"#;
 
-/// Behind those of `explain`.
+/// Of `explain`, of its number, and behind these.
+pub const EXPLAIN_ABOUT: &str =
+    "Tells what a number means, what it is given to, and what to do about it";
+
+pub const NUMBER: &str = "The number; all of them where none is given";
+
 pub const EXPLAIN: &str = "\
 Standard output gets three lines for the number: the number with what it means,
 what it is given to, and what to do about it. Without a number it gets these lines
