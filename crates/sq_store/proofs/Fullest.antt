@@ -65,9 +65,8 @@ chunk_all : (limit : ℕ) (families : List FamilyValue) (d : FamilyValue) → ch
     → limit < total_size (take (chunk_count limit families) families) + family_size (get_or families (chunk_count limit families) d)
 chunk_all limit [] d more = absurd (omega (arith, more))
 chunk_all limit (family ∷ families) d more =
-    let size = family_size family in
-    let count = fitting (limit - size) families in
-    omega (arith, fitting_all (limit - size) families d (omega (arith, more)), sum_by-cons family_size family (take count families))
+    let room = limit - family_size family in
+    omega (arith, fitting_all room families d (omega (arith, more)), sum_by-cons family_size family (take (fitting room families) families))
 
 chunk_some : (limit : ℕ) (families : List FamilyValue) → 0 < length families → 0 < chunk_count limit families
 chunk_some limit [] some = absurd (omega (arith, some))

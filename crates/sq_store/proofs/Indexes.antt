@@ -26,7 +26,8 @@ use Rattle.sq_store.specs.StoreValue.{StoreValue, absent}
 use Rattle.sq_store.specs.InOrder.{family_from, HoldsByRoot}
 use Rattle.sq_store.specs.Indexed.{family_under, indexed, IsLed, IsIndex}
 use Rattle.sq_store.proofs.Order.{cmp_less, cmp_greater}
-use Rattle.sq_store.proofs.Keys.{same_store, at_key, get-insert_same, get-insert_other, get-remove_same, get-remove_other}
+use Rattle.sq_store.proofs.Leading.{LeadsTo, leads_written, holds_written}
+use Rattle.sq_store.proofs.Keys.{same_store, at_key, get-remove_same, get-remove_other}
 
 -- the families of entries, found by key
 found_through : (f : ℕ → FamilyValue) (es : List (ℕ × ℕ)) (root : ℕ) → find nat_cmp root (map (λ e. (e.0, f e.1)) es) ≡ option_map f (lookup (is_at (nat_cmp root)) es)
@@ -122,6 +123,10 @@ tied_here key root same = unsigned_tied key root ∙ eq-eqb key root (sym same)
 apart_here : (key root : ℕ) → root ≢ key → is_at (nat_cmp key) root ≡ false
 apart_here key root apart = unsigned_tied key root ∙ ne_eqb key root (λ same. apart (sym same))
 
+-- an index leads to the families of its slab
+index_leads : (families : Slab FamilyValue) (index : BTreeMap ℕ ℕ) → IsIndex families index → LeadsTo families (tree.get nat_cmp index)
+index_leads families index is = record { leads = is.leads; has = is.has; bound = is.bound }
+
 -- a family is written under a key that no other root key leads to, and its root key leads there
 module _ (families now : Slab FamilyValue) (index next : BTreeMap ℕ ℕ) (key : ℕ) (family : FamilyValue) (is : IsIndex families index)
     (written : Updates families now key (Some family)) (led : (root : ℕ) → tree.get nat_cmp next root ≡ cond (is_at (nat_cmp family.root) root) (Some key) (tree.get nat_cmp index root))
@@ -132,56 +137,18 @@ module _ (families now : Slab FamilyValue) (index next : BTreeMap ℕ ℕ) (key 
   put_other : (root : ℕ) → root ≢ family.root → tree.get nat_cmp next root ≡ tree.get nat_cmp index root
   put_other root apart = led root ∙ ap (λ b. cond b (Some key) (tree.get nat_cmp index root)) (apart_here family.root root apart)
 
-  put_leads : (root k : ℕ) → tree.get nat_cmp next root ≡ Some k → IsLed now root k
-  put_leads root k found =
-      ⊎_elim
-      (λ (same : root ≡ family.root).
-      let both : Some key ≡ Some k = sym (put_here root same) ∙ found in
-      let at : key ≡ k = cc in
-      record { family = family; stands = ap (slab.get now) (sym at) ∙ written.changed; own = sym same })
-      (λ (apart : root ≢ family.root).
-      let before : tree.get nat_cmp index root ≡ Some k = sym (put_other root apart) ∙ found in
-      let was = is.leads root k before in
-      let off : k ≢ key = λ at. apart (own root (before ∙ ap Some at)) in
-      record { family = was.family; stands = written.others k off ∙ was.stands; own = was.own })
-      (cases_eq root family.root)
-
-  put_has : (k : ℕ) (other : FamilyValue) → slab.get now k ≡ Some other → tree.get nat_cmp next other.root ≡ Some k
-  put_has k other stands =
-      ⊎_elim
-      (λ (at : k ≡ key).
-      let both : Some family ≡ Some other = sym written.changed ∙ ap (slab.get now) (sym at) ∙ stands in
-      let same : family ≡ other = cc in
-      put_here other.root (ap (λ f. f.root) (sym same)) ∙ ap Some (sym at))
-      (λ (off : k ≢ key).
-      let before = is.has k other (sym (written.others k off) ∙ stands) in
-      put_other other.root (λ same. off (one k (ap (tree.get nat_cmp index) (sym same) ∙ before))) ∙ before)
-      (cases_eq k key)
-
-  put_bound : family.root < ROOT_END → (root k : ℕ) → tree.get nat_cmp next root ≡ Some k → root < ROOT_END
-  put_bound within root k at =
-      ⊎_elim
-      (λ (same : root ≡ family.root). omega (arith, same, within))
-      (λ (apart : root ≢ family.root). is.bound root k (sym (put_other root apart) ∙ at))
-      (cases_eq root family.root)
+  put_off : (root k : ℕ) → root ≢ family.root → tree.get nat_cmp index root ≡ Some k → k ≢ key
+  put_off root k apart found at = apart (own root (found ∙ ap Some at))
 
   pub index_put : family.root < ROOT_END → IsOrdered nat_cmp next → IsIndex now next
-  index_put within ordered = record { leads = put_leads; has = put_has; bound = put_bound within; ordered = ordered }
-
-  kept_under : (root : ℕ) → root ≢ family.root → (found : Option ℕ) → tree.get nat_cmp index root ≡ found → option_map (family_under now) found ≡ option_map (family_under families) found
-  kept_under root apart None found = refl
-  kept_under root apart (Some k) found = ap (λ o. Some (unwrap_or o (absent 0))) (written.others k (λ at. apart (own root (found ∙ ap Some at))))
+  index_put within ordered =
+      let put = leads_written families now (tree.get nat_cmp index) (tree.get nat_cmp next) key family (index_leads families index is) written put_here put_other put_off one within in
+      record { leads = put.leads; has = put.has; bound = put.bound; ordered = ordered }
 
   pub indexed_put : indexed now next ≡ insert (indexed families index) family.root family
   indexed_put =
-      same_store (indexed now next) (insert (indexed families index) family.root family) (λ root.
-      at_key family.root root
-      (λ same.
-      get-indexed now next root ∙ ap (option_map (family_under now)) (put_here root same) ∙ ap (λ o. Some (unwrap_or o (absent 0))) written.changed
-      ∙ sym (get-insert_same (indexed families index) family.root family root same))
-      (λ apart.
-      get-indexed now next root ∙ ap (option_map (family_under now)) (put_other root apart) ∙ kept_under root apart (tree.get nat_cmp index root) refl ∙ sym (get-indexed families index root)
-      ∙ sym (get-insert_other (indexed families index) family.root family root apart)))
+      let put = holds_written families now (tree.get nat_cmp index) (tree.get nat_cmp next) key family (index_leads families index is) written put_here put_other put_off one in
+      same_store (indexed now next) (insert (indexed families index) family.root family) (λ root. get-indexed now next root ∙ sym (put (indexed families index) (get-indexed families index) root))
 
 -- the family that a root key leads to is taken out, and its entry
 module _ (families now : Slab FamilyValue) (index next : BTreeMap ℕ ℕ) (key root : ℕ) (is : IsIndex families index) (found : tree.get nat_cmp index root ≡ Some key)

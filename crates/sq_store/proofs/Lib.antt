@@ -16,6 +16,7 @@ pub mod Fullest
 pub mod Keys
 pub mod Firsts
 pub mod Walks
+pub mod Leading
 pub mod Indexes
 pub mod Filled
 pub mod Opened

@@ -1,6 +1,6 @@
 -- A store that is opened with families one after another, in the order of their root keys.
-use Rattle.std.proofs.Common.{⊎_elim, ◌≡◌, ℕ, Bool, true, false, List, [], ◌∷◌, ◌++◌, length, refl, sym, ap, ◌∙◌, arith, append_assoc, true≢false}
-use Rattle.std.specs.Prelude.{◌+◌, ◌==◌, ◌||◌, not, if◌then◌else◌, map, filter, cond, is_some, Some, None}
+use Rattle.std.proofs.Common.{◌≡◌, ℕ, Bool, true, false, List, [], ◌∷◌, ◌++◌, length, refl, sym, ap, ◌∙◌, arith, append_assoc, true≢false}
+use Rattle.std.specs.Prelude.{◌+◌, ◌==◌, ◌||◌, not, if◌then◌else◌, map, filter, cond, is_some, None}
 use Rattle.std.specs.Ordering.{nat_cmp, is_lt}
 use Rattle.std.specs.FinMap.{get, insert, empty, get-empty}
 use Rattle.std.specs.FinMap.Entries.{below_all, is_sorted}

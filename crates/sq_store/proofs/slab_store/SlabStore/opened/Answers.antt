@@ -18,7 +18,7 @@ use Rattle.sq_store.proofs.Indexes.{Holds}
 use Rattle.sq_store.proofs.Filled.{IsFilled, filled_none, filled_more, filled_indexed}
 use Rattle.sq_store.proofs.Opened.{opened_differ, next_absent, next_put, next_kept, next_moved, next_left_out, one_more, as_many}
 use Rattle.sq_store.proofs.slab_store.SlabStore.opened.Goals as goal
-use Rattle.sq_store.proofs.slab_store.SlabStore.opened.Goals.{In_ok-index_of}
+use Rattle.sq_store.proofs.slab_store.SlabStore.opened.Goals.{In-Some, In_ok-index_of}
 
 abbrev has_rows : ℕ × RowList → Type 0
 has_rows entry = is_opening entry.1 ≡ true
@@ -34,12 +34,10 @@ range_of-range-requires c = c.loop-root.invariant.8
 
 pub loop-root-init : goal.loop-root-init
 loop-root-init c =
-    let plan = c.args.plan.now in
-    let part = c.args.part in
     let slab = c.in_ok-families.ensures in
     let keys = c.in_ok-keys.ensures in
     let is : c.into_iter-root-iterator.result ≡ c.args.table.now = search rules in
-    let all = ap (opened_families plan part) is in
+    let all = ap (opened_families c.args.plan.now c.args.part) is in
     let none : count_by is_some c.in_ok-families.families.slots ≡ 0 = ap (count_by is_some) slab.empty in (
       tt,
       tt,
@@ -51,6 +49,11 @@ loop-root-init c =
       subst (AllPass (λ (entry : ℕ × RowList). is_opening entry.1)) (sym is) c.iter-root-items.ensures.opening,
       λ key holding. absurd (true≢false (sym holding ∙ c.no_root_keys-range.ensures key)),
     )
+
+-- the entries behind the one at hand have rows
+rest_has_rows : (c : In-Some) → AllPass (λ (entry : ℕ × RowList). is_opening entry.1) c.next.new.self
+rest_has_rows c =
+    All-tail has_rows (c.in-Some.root.now, c.in-Some.rows.now) c.next.new.self (subst (AllPass (λ (entry : ℕ × RowList). is_opening entry.1)) c.in-Some.ensures.steps c.loop-root.invariant.7)
 
 pub loop-root-preserved-then-eq : goal.loop-root-preserved-then-eq
 loop-root-preserved-then-eq c =
@@ -81,28 +84,26 @@ loop-root-preserved-then-eq c =
           (subst (IsFilled slab (c.loop-root.keys.items ++ (entry.0, key) ∷ [])) (sym (next_put before (opened_family entry))) filled),
       omega (arith, more, put.len, put.capacity, so_far.5),
       omega (arith, more, c.push_reserved.ensures.len, c.push_reserved.ensures.capacity, so_far.6),
-      All-tail has_rows entry rest (subst (AllPass (λ (entry : ℕ × RowList). is_opening entry.1)) steps so_far.7),
+      rest_has_rows (goal.at.loop-root-preserved-then-eq c).In-Some,
       c.range_of-range.ensures.owned,
     )
 
 pub loop-root-preserved : goal.loop-root-preserved
 loop-root-preserved c =
     let plan = c.args.plan.now in
-    let part = c.args.part in
     let entry : ℕ × RowList = (c.in-Some.root.now, c.in-Some.rows.now) in
-    let rest = c.next.new.self in
     let steps = c.in-Some.ensures.steps in
     let so_far = c.loop-root.invariant in
-    let other : (owner plan entry.0 == part) ≡ false = ap (λ (k : ℕ). k == part) (sym c.range_of-range.ensures.owner) ∙ sym c.eq.ensures ∙ c.if-eq.false in
-    let same = as_many plan part entry rest c.loop-root.root-iterator steps other in (
+    let other : (owner plan entry.0 == c.args.part) ≡ false = ap (λ (k : ℕ). k == c.args.part) (sym c.range_of-range.ensures.owner) ∙ sym c.eq.ensures ∙ c.if-eq.false in
+    let same = as_many plan c.args.part entry c.next.new.self c.loop-root.root-iterator steps other in (
       tt,
       tt,
       so_far.2,
-      next_left_out plan part entry rest c.loop-root.root-iterator steps so_far.2 (opened_families plan part c.args.table.now) so_far.3 other,
+      next_left_out plan c.args.part entry c.next.new.self c.loop-root.root-iterator steps so_far.2 (opened_families plan c.args.part c.args.table.now) so_far.3 other,
       so_far.4,
       omega (arith, same, so_far.5),
       omega (arith, same, so_far.6),
-      All-tail has_rows entry rest (subst (AllPass (λ (entry : ℕ × RowList). is_opening entry.1)) steps so_far.7),
+      rest_has_rows (goal.at.loop-root-preserved c).In-Some,
       c.range_of-range.ensures.owned,
     )
 
