@@ -1,8 +1,11 @@
 -- The moments after the events so far.
-use Rattle.std.proofs.Common.{⊎_elim, ◌≡◌, ◌⊎◌, inl, inr, ℕ, zero, suc, ◌+◌, ◌<◌, ◌≤◌, List, [], ◌∷◌, ◌++◌, length, take, Some, refl, sym, ap, ◌∙◌, arith, length-append, subst}
+use Rattle.std.proofs.Common.{⊎_elim, ◌≡◌, ◌⊎◌, inl, inr, ℕ, ◌+◌, ◌<◌, ◌≤◌, List, [], ◌∷◌, ◌++◌, length, get_or, take, Some, refl, sym, ap, ◌∙◌, arith, length-append, subst}
 use Rattle.std.specs.Prelude.{slice_get, count_by}
 use Rattle.std.proofs.lemmas.List.Sums.{count_by_more_yes, count_by_more_no}
-use Rattle.std.proofs.lemmas.Option.{same_Some, slice_get_within, get_or_from_slice_get}
+use Rattle.std.proofs.Math.ListN.{get_or-append}
+use Rattle.std.proofs.Math.Seq.{get_or-append_seam}
+use Rattle.std.proofs.lemmas.Bool.{cases_lt}
+use Rattle.std.proofs.lemmas.Option.{slice_get_within, slice_get-get_or, get_or_from_slice_get}
 use Rattle.sq_chart.specs.declared.moment.Happened.{Happened}
 use Rattle.sq_chart.specs.declared.moment.Happened.TheVariants.{JobAnswered, SegmentComplete}
 use Rattle.sq_chart.specs.declared.moment.Event.{Event}
@@ -11,14 +14,14 @@ use Rattle.sq_chart.specs.Moments.{AreMoments, answers_job, completes_segment, m
 
 -- what stands in a list with one more at its end
 push_stood : {X : Type 0} (xs : List X) (x : X) (i : ℕ) (y : X) → slice_get (xs ++ x ∷ []) i ≡ Some y → (slice_get xs i ≡ Some y) ⊎ ((i ≡ length xs) × (x ≡ y))
-push_stood [] x zero y at = inr (refl, same_Some x y at)
-push_stood [] x (suc i) y at = absurd cc
-push_stood (z ∷ xs) x zero y at = inl at
-push_stood (z ∷ xs) x (suc i) y at =
-    elim (push_stood xs x i y at) [
-      | inl there ↦ inl there
-      | inr new ↦ inr (ap suc new.0, new.1)
-    ]
+push_stood xs x i y at =
+    let is : get_or (xs ++ x ∷ []) i y ≡ y = get_or_from_slice_get (xs ++ x ∷ []) i y y at in
+    ⊎_elim
+    (λ (lt : i < length xs). inl (slice_get-get_or xs i y lt ∙ ap Some (sym (get_or-append xs (x ∷ []) y i lt) ∙ is)))
+    (λ (past : length xs ≤ i).
+    let last : i ≡ length xs = omega (arith, past, slice_get_within (xs ++ x ∷ []) i y at, length-append xs (x ∷ [])) in
+    inr (last, sym (get_or-append_seam xs x [] y) ∙ ap (λ k. get_or (xs ++ x ∷ []) k y) (sym last) ∙ is))
+    (cases_lt i (length xs))
 
 -- these are the moments after the first events, and so many have happened by now
 pub record AreFirst (events : List Event) (moments : List Moment) (now : Moment) (i : ℕ) : Type 0 where
