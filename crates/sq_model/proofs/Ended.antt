@@ -1,5 +1,5 @@
 -- Once the move has ended, each root key is where the new plan has it.
-use Rattle.std.proofs.Common.{◌≡◌, inl, inr, ℕ, ◌+◌, ◌<◌, true, false, ◌==◌, ◌||◌, not, nat_le, nat_lt, [], ◌∷◌, length, slice_get, Option, Some, None, refl, sym, ap, ◌∙◌, subst, true≢false, arith}
+use Rattle.std.proofs.Common.{◌≡◌, inl, inr, ℕ, ◌<◌, true, false, ◌==◌, ◌||◌, not, nat_le, nat_lt, [], ◌∷◌, length, slice_get, Option, Some, None, refl, sym, ap, ◌∙◌, subst, true≢false, arith}
 use Rattle.std.specs.List.{list_any, list_all}
 use Rattle.std.proofs.lemmas.Bool.{and_parts, and_from, lt-ltb, ltb-true, eq-eqb, eqb-true, or_cases, not-true, cond-true, cases_lt}
 use Rattle.std.proofs.lemmas.Option.{slice_get_within}
@@ -12,7 +12,7 @@ use Rattle.sq_tree.specs.Status.{is_free, is_split, is_begun, is_complete, is_pa
 use Rattle.sq_tree.proofs.Covering.{covering_is, covering_touched}
 use Rattle.sq_tree.proofs.Readings.{all_complete_is}
 use Rattle.sq_ranges.specs.declared.recon.Range.{Range}
-use Rattle.sq_ranges.specs.ReconValue.{segment_of, leaf_of, stage_on, stage_in, stages, of_stage, is_link}
+use Rattle.sq_ranges.specs.ReconValue.{segment_of, leaf_of, stage_in, of_stage}
 use Rattle.sq_ranges.proofs.Stages.{stage_below}
 use Rattle.sq_ranges.specs.OpeningValue.{OpeningValue}
 use Rattle.sq_model.specs.declared.step.Step.{Step}

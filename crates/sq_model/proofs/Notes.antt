@@ -7,7 +7,9 @@ use Rattle.sq_tree.specs.Status.{is_begun, is_complete}
 use Rattle.sq_chunk.specs.declared.chunk.Note.{Note}
 use Rattle.sq_ranges.specs.declared.recon.Range.{Range}
 use Rattle.sq_ranges.specs.OpeningValue.{OpeningValue}
+use Rattle.sq_model.specs.declared.step.Step.{Step}
 use Rattle.sq_model.specs.declared.step.Step.TheVariants.{Split as Split_step, Claim, Begin, Cut, Load, Complete as Complete_step}
+use Rattle.sq_model.specs.declared.answer.Answer.{Answer}
 use Rattle.sq_model.specs.declared.answer.Answer.TheVariants.{Done, WasCut, WasLoaded}
 use Rattle.sq_model.specs.Trace.{Trace, notes, loads, link, load_count}
 use Rattle.sq_model.specs.Nodes.{Item, status_of, items}
@@ -71,35 +73,30 @@ open_item o t src dst item has =
 pub cut_item : (o : OpeningValue) (t : Trace) (src dst : ℕ) (item : Item) → next_item (open_items o t src dst) ≡ Some item → IsOpenOn o t src dst item
 cut_item o t src dst item next = open_item o t src dst item (next_in (open_items o t src dst) item next)
 
--- each note's segment goes from its source to its destination
-pub note_goes : (o : OpeningValue) (t : Trace) → IsLegal o t → (note : Note) → Contains (notes t) note → SegmentGoes o note.seg note.src note.dst
-note_goes o [] legal note has = absurd (Contains-nothing note has)
-note_goes o ((Cut src dst, WasCut next families) ∷ t) legal note has =
-    elim (Contains-cases next (notes t) note has) [
-      | inl same ↦
-          let cut = cut_goes o t src dst next families legal.0 in
-          let item = cut_item o t src dst cut.item cut.next in
-          subst (λ (n : Note). SegmentGoes o n.seg n.src n.dst) (sym cut.noted ∙ same) item.segment
-      | inr older ↦ note_goes o t legal.1 note older
-    ]
-note_goes o ((step, given) ∷ t) legal note has = note_goes o t legal.1 note has
+-- each note's segment goes from its source to its destination, and its node is begun
+abbrev IsOfBegun : OpeningValue → Trace → Note → Type 0
+IsOfBegun o t note = SegmentGoes o note.seg note.src note.dst × (is_begun (status_of t note.seg note.node) ≡ true)
 
--- and its node is begun
-pub note_begun : (o : OpeningValue) (t : Trace) → IsLegal o t → (note : Note) → Contains (notes t) note → is_begun (status_of t note.seg note.node) ≡ true
-note_begun o [] legal note has = absurd (Contains-nothing note has)
-note_begun o ((Cut src dst, WasCut next families) ∷ t) legal note has =
+still_of_begun : (o : OpeningValue) (t : Trace) (step : Step) (given : Answer) → IsLegal o ((step, given) ∷ t) → (note : Note) → IsOfBegun o t note → IsOfBegun o ((step, given) ∷ t) note
+still_of_begun o t step given legal note is = (is.0, stays_begun o t step given legal note.seg note.node is.1)
+
+of_begun : (o : OpeningValue) (t : Trace) → IsLegal o t → (note : Note) → Contains (notes t) note → IsOfBegun o t note
+of_begun o [] legal note has = absurd (Contains-nothing note has)
+of_begun o ((Cut src dst, WasCut next families) ∷ t) legal note has =
     elim (Contains-cases next (notes t) note has) [
       | inl same ↦
           let cut = cut_goes o t src dst next families legal.0 in
           let item = cut_item o t src dst cut.item cut.next in
-          subst (λ (n : Note). is_begun (status_of t n.seg n.node) ≡ true) (sym cut.noted ∙ same) (item_begun o t legal.1 cut.item item.among)
-      | inr older ↦ note_begun o t legal.1 note older
+          subst (IsOfBegun o t) (sym cut.noted ∙ same) (item.segment, item_begun o t legal.1 cut.item item.among)
+      | inr older ↦ of_begun o t legal.1 note older
     ]
-note_begun o ((Split_step seg node, Done) ∷ t) legal note has = stays_begun o t (Split_step seg node) Done legal note.seg note.node (note_begun o t legal.1 note has)
-note_begun o ((Claim seg node pull, Done) ∷ t) legal note has = stays_begun o t (Claim seg node pull) Done legal note.seg note.node (note_begun o t legal.1 note has)
-note_begun o ((Begin seg node pull, Done) ∷ t) legal note has = stays_begun o t (Begin seg node pull) Done legal note.seg note.node (note_begun o t legal.1 note has)
-note_begun o ((Complete_step seg node pull, Done) ∷ t) legal note has = stays_begun o t (Complete_step seg node pull) Done legal note.seg note.node (note_begun o t legal.1 note has)
-note_begun o ((step, given) ∷ t) legal note has = note_begun o t legal.1 note has
+of_begun o ((step, given) ∷ t) legal note has = still_of_begun o t step given legal note (of_begun o t legal.1 note has)
+
+pub note_goes : (o : OpeningValue) (t : Trace) → IsLegal o t → (note : Note) → Contains (notes t) note → SegmentGoes o note.seg note.src note.dst
+note_goes o t legal note has = (of_begun o t legal note has).0
+
+pub note_begun : (o : OpeningValue) (t : Trace) → IsLegal o t → (note : Note) → Contains (notes t) note → is_begun (status_of t note.seg note.node) ≡ true
+note_begun o t legal note has = (of_begun o t legal note has).1
 
 -- the notes of a link are numbered
 pub numbered : (o : OpeningValue) (t : Trace) → IsLegal o t → (src dst : ℕ) → AreNumbered (link src dst (notes t))

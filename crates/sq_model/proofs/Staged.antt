@@ -1,29 +1,26 @@
 -- On a legal trace the running stage alone tells what is where: the stages before it are done, and those after it haven't begun.
-use Rattle.std.proofs.Common.{◌≡◌, inl, inr, ⊎_elim, ℕ, ◌+◌, ◌<◌, ◌≤◌, Bool, true, false, ◌==◌, ◌&&◌, ◌||◌, not, nat_lt, is_none, is_some, if◌then◌else◌, List, [], ◌∷◌, ◌++◌, find, filter, slice_get, Contains, Option, Some, None, refl, sym, ap, ap₂, ◌∙◌, subst, subst₂, true≢false, append_assoc, arith}
+use Rattle.std.proofs.Common.{◌≡◌, inl, inr, ℕ, ◌+◌, ◌<◌, ◌≤◌, Bool, true, false, ◌==◌, ◌&&◌, ◌||◌, not, nat_lt, is_some, if◌then◌else◌, List, [], ◌∷◌, ◌++◌, find, filter, slice_get, Contains, Option, Some, None, refl, sym, ap, ap₂, ◌∙◌, subst, true≢false, append_assoc, arith}
 use Rattle.std.specs.List.{list_any}
-use Rattle.std.proofs.lemmas.Bool.{cases_Bool, and_parts, and_from, lt-ltb, ltb-true, eqb-true, cond_both, cond-true, cond-false, false_from_ne_true, true_from_ne_false}
+use Rattle.std.proofs.lemmas.Bool.{cases_Bool, and_parts, and_from, lt-ltb, ltb-true, eqb-true, cond_both, cond-true, cond-false, false_from_ne_true}
 use Rattle.std.proofs.lemmas.List.Elements.{Contains-append_cases, Contains-append_left, Contains-append_right, Contains-push_cases, filter-append}
 use Rattle.std.proofs.lemmas.List.Folds.{list_any-append}
-use Rattle.sq_tree.specs.declared.status.Status.{Status}
 use Rattle.sq_tree.specs.declared.status.Status.TheVariants.{Free, Split, Claimed, Partial, Complete}
 use Rattle.sq_chunk.specs.declared.chunk.Note.{Note}
 use Rattle.sq_chunk.specs.ChunkValue.{covers}
 use Rattle.sq_ranges.specs.declared.recon.Range.{Range}
-use Rattle.sq_ranges.specs.ReconValue.{ReconValue, segment_of, stage_on, stage_in, stage_found, stage_at, is_link}
+use Rattle.sq_ranges.specs.ReconValue.{segment_of, stage_on, stage_in, stage_found, stage_at, is_link}
 use Rattle.sq_ranges.specs.OpeningValue.{OpeningValue}
 use Rattle.sq_ranges.specs.Opening.{IsOpening}
-use Rattle.sq_model.specs.declared.step.Step.{Step}
 use Rattle.sq_model.specs.declared.step.Step.TheVariants.{Split as Split_step, Claim, Begin, Cut, Push, Pop, Load, Complete as Complete_step, Next}
-use Rattle.sq_model.specs.declared.answer.Answer.{Answer}
 use Rattle.sq_model.specs.declared.answer.Answer.TheVariants.{Done, WasCut, WasLoaded}
 use Rattle.sq_model.specs.Trace.{Trace, stage, notes, loads, link, pushes, push_count, pops, pop_count}
-use Rattle.sq_model.specs.Nodes.{Item, sets_status, set_if, status_of, items}
+use Rattle.sq_model.specs.Nodes.{Item, sets_status, status_of, items}
 use Rattle.sq_model.specs.Place.{At, source, destination, moves, is_covered, is_begun_over, extent_of, is_within, loaded_place, cut_place, place, runner}
 use Rattle.sq_model.specs.Links.{is_about, has_last, is_on_link, is_open, open_items}
-use Rattle.sq_model.specs.Answers.{running, is_running_link}
+use Rattle.sq_model.specs.Answers.{is_running_link}
 use Rattle.sq_model.specs.Legal.{IsLegal}
 use Rattle.sq_model.specs.Staged.{since, has_moved, owner_in, cut_from, place_in, runner_in, TellsAlone}
-use Rattle.sq_model.proofs.Lists.{Contains-nothing, Contains-cases, Contains-first, any_in, list_any-Contains, nothing_found, nothing_kept}
+use Rattle.sq_model.proofs.Lists.{Contains-nothing, Contains-cases, any_in, list_any-Contains, nothing_found, nothing_kept}
 use Rattle.sq_model.proofs.Steps.{IsRunning, of_stage_is, split_goes, claim_goes, begin_goes, complete_goes, cut_goes, load_goes, cut_is_of, load_is_of, push_runs, pop_runs}
 use Rattle.sq_model.proofs.Statuses.{set_if_at}
 use Rattle.sq_model.proofs.Notes.{SegmentGoes, on_link_goes, goes_once, note_goes, loaded_in}
@@ -187,33 +184,28 @@ status_since o ((Next, Done) ∷ t) legal g n segment there now = later_free o t
 status_since o ((step, given) ∷ t) legal g n segment there now = ap (sets_status step given g n) (status_since o t legal.1 g n segment there now)
 
 -- nothing went onto a link of a later stage, or came off it
-later_unpushed : (o : OpeningValue) (t : Trace) → IsLegal o t → (src dst : ℕ) → stage t < stage_on o.recon src dst → push_count t src dst ≡ 0
-later_unpushed o [] legal src dst later = refl
-later_unpushed o ((Next, Done) ∷ t) legal src dst later = later_unpushed o t legal.1 src dst (omega (arith, later))
-later_unpushed o ((Push from to, Done) ∷ t) legal src dst later =
-    cond_both ((from == src) && (to == dst)) (push_count t src dst + 1) (push_count t src dst) (λ n. n ≡ 0)
-    (λ same. other_link o t from to src dst same (push_runs o t from to legal.0) later)
-    (λ _. later_unpushed o t legal.1 src dst later)
-later_unpushed o ((step, given) ∷ t) legal src dst later = later_unpushed o t legal.1 src dst later
+later_unused : (o : OpeningValue) (t : Trace) → IsLegal o t → (src dst : ℕ) → stage t < stage_on o.recon src dst → (push_count t src dst ≡ 0) × (pop_count t src dst ≡ 0)
+later_unused o [] legal src dst later = (refl, refl)
+later_unused o ((Next, Done) ∷ t) legal src dst later = later_unused o t legal.1 src dst (omega (arith, later))
+later_unused o ((Push from to, Done) ∷ t) legal src dst later =
+    let before = later_unused o t legal.1 src dst later in (
+      cond_both ((from == src) && (to == dst)) (push_count t src dst + 1) (push_count t src dst) (λ n. n ≡ 0) (λ same. other_link o t from to src dst same (push_runs o t from to legal.0) later) (λ _. before.0),
+      before.1,
+    )
+later_unused o ((Pop from to, Done) ∷ t) legal src dst later =
+    let before = later_unused o t legal.1 src dst later in (
+      before.0,
+      cond_both ((from == src) && (to == dst)) (pop_count t src dst + 1) (pop_count t src dst) (λ n. n ≡ 0) (λ same. other_link o t from to src dst same (pop_runs o t from to legal.0) later) (λ _. before.1),
+    )
+later_unused o ((step, given) ∷ t) legal src dst later = later_unused o t legal.1 src dst later
 
-later_unpopped : (o : OpeningValue) (t : Trace) → IsLegal o t → (src dst : ℕ) → stage t < stage_on o.recon src dst → pop_count t src dst ≡ 0
-later_unpopped o [] legal src dst later = refl
-later_unpopped o ((Next, Done) ∷ t) legal src dst later = later_unpopped o t legal.1 src dst (omega (arith, later))
-later_unpopped o ((Pop from to, Done) ∷ t) legal src dst later =
-    cond_both ((from == src) && (to == dst)) (pop_count t src dst + 1) (pop_count t src dst) (λ n. n ≡ 0)
-    (λ same. other_link o t from to src dst same (pop_runs o t from to legal.0) later)
-    (λ _. later_unpopped o t legal.1 src dst later)
-later_unpopped o ((step, given) ∷ t) legal src dst later = later_unpopped o t legal.1 src dst later
-
-push_since : (o : OpeningValue) (t : Trace) → IsLegal o t → (src dst : ℕ) → stage t ≤ stage_on o.recon src dst → push_count t src dst ≡ push_count (since t) src dst
-push_since o [] legal src dst now = refl
-push_since o ((Next, Done) ∷ t) legal src dst now = later_unpushed o t legal.1 src dst (omega (arith, now))
-push_since o ((step, given) ∷ t) legal src dst now = ap (pushes step given src dst) (push_since o t legal.1 src dst now)
-
-pop_since : (o : OpeningValue) (t : Trace) → IsLegal o t → (src dst : ℕ) → stage t ≤ stage_on o.recon src dst → pop_count t src dst ≡ pop_count (since t) src dst
-pop_since o [] legal src dst now = refl
-pop_since o ((Next, Done) ∷ t) legal src dst now = later_unpopped o t legal.1 src dst (omega (arith, now))
-pop_since o ((step, given) ∷ t) legal src dst now = ap (pops step given src dst) (pop_since o t legal.1 src dst now)
+use_since : (o : OpeningValue) (t : Trace) → IsLegal o t → (src dst : ℕ) → stage t ≤ stage_on o.recon src dst
+    → (push_count t src dst ≡ push_count (since t) src dst) × (pop_count t src dst ≡ pop_count (since t) src dst)
+use_since o [] legal src dst now = (refl, refl)
+use_since o ((Next, Done) ∷ t) legal src dst now = later_unused o t legal.1 src dst (omega (arith, now))
+use_since o ((step, given) ∷ t) legal src dst now =
+    let before = use_since o t legal.1 src dst now in
+    (ap (pushes step given src dst) before.0, ap (pops step given src dst) before.1)
 
 module _ (o : OpeningValue) (is : IsOpening o) (t : Trace) (legal : IsLegal o t) where
   abbrev stage_for : ℕ → ℕ
@@ -432,7 +424,7 @@ module _ (o : OpeningValue) (is : IsOpening o) (t : Trace) (legal : IsLegal o t)
         status_since o t legal seg node at.0 at.1 (omega (arith, now));
     cut = λ src dst runs. link_since src dst (notes (since t)) (notes t) (notes_since o t legal) (link_runs src dst runs);
     loaded = λ src dst runs. link_since src dst (loads (since t)) (loads t) (loads_since o t legal) (link_runs src dst runs);
-    pushed = λ src dst runs. let now = link_runs src dst runs in push_since o t legal src dst (omega (arith, now));
-    popped = λ src dst runs. let now = link_runs src dst runs in pop_since o t legal src dst (omega (arith, now));
+    pushed = λ src dst runs. let now = link_runs src dst runs in (use_since o t legal src dst (omega (arith, now))).0;
+    popped = λ src dst runs. let now = link_runs src dst runs in (use_since o t legal src dst (omega (arith, now))).1;
     unfinished = λ src dst runs. open_since src dst (link_runs src dst runs);
   }

@@ -1,5 +1,5 @@
 -- What the running stage tells by itself: the steps since the last Next that went, and who owned a root key as the stage began.
-use Rattle.std.specs.Prelude.{◌≡◌, ℕ, Bool, true, false, ◌&&◌, nat_lt, is_none, if◌then◌else◌, List, [], ◌∷◌, find, Option, Some, None}
+use Rattle.std.specs.Prelude.{◌≡◌, ℕ, Bool, true, false, ◌&&◌, nat_lt, is_none, if◌then◌else◌, [], ◌∷◌, find, Option, Some, None}
 use Rattle.sq_chunk.specs.declared.chunk.Note.{Note}
 use Rattle.sq_chunk.specs.ChunkValue.{covers}
 use Rattle.sq_ranges.specs.ReconValue.{stage_on}
