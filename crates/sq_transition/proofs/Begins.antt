@@ -153,7 +153,7 @@ module _ (o : OpeningValue) (t : Trace) (w : WorldValue) (seg node pull : ℕ) (
       let was = source_before in
       record {
         set =
-            set_again o t ((Begin seg node pull, Done) ∷ t) range.src core core.started begun.outs core.inboxes begun.given_up core.loaded was.set was.set.started refl
+            set_again o t ((Begin seg node pull, Done) ∷ t) range.src core core.started core.stage begun.outs core.inboxes begun.given_up core.loaded was.set was.set.started was.set.stage
             (length-set core.outs range.dst (with_work (out_at core range.dst) (whole_node core range seg node pull))) refl (length-set core.given_up seg (given_up_with (given_up_at core seg) node)) refl;
         store = was.store;
         waiting = was.waiting;

@@ -76,17 +76,17 @@ SaySameOf o t after part =
       moves : SayTheSameMoves o t after part;
     }
 
--- a partition is set up after another history, with other ends of links and other keys given up and loaded, where there are as many of them
-pub set_again : (o : OpeningValue) (t after : Trace) (part : ℕ) (core : CoreValue) (started : Bool) (outs : List OutLinkValue) (inboxes : List (Option ChunkValue)) (given_up : List (List Bool)) (loaded : List (List Run))
-    → IsSetFor o t part core → started ≡ is_started after → stage after ≡ stage t → length outs ≡ length core.outs → length inboxes ≡ length core.inboxes → length given_up ≡ length core.given_up → length loaded ≡ length core.loaded
-    → IsSetFor o after part (record core { started = started; outs = outs; inboxes = inboxes; given_up = given_up; loaded = loaded })
-set_again o t after part core started outs inboxes given_up loaded h start same_stage out_count inbox_count given_up_count loaded_count = record {
+-- a partition is set up after another history, at another stage, with other ends of links and other keys given up and loaded, where there are as many of them
+pub set_again : (o : OpeningValue) (t after : Trace) (part : ℕ) (core : CoreValue) (started : Bool) (runs : ℕ) (outs : List OutLinkValue) (inboxes : List (Option ChunkValue)) (given_up : List (List Bool)) (loaded : List (List Run))
+    → IsSetFor o t part core → started ≡ is_started after → runs ≡ stage after → length outs ≡ length core.outs → length inboxes ≡ length core.inboxes → length given_up ≡ length core.given_up → length loaded ≡ length core.loaded
+    → IsSetFor o after part (record core { started = started; stage = runs; outs = outs; inboxes = inboxes; given_up = given_up; loaded = loaded })
+set_again o t after part core started runs outs inboxes given_up loaded h start running out_count inbox_count given_up_count loaded_count = record {
   part = h.part;
   plan = h.plan;
   recon = h.recon;
   limit = h.limit;
   started = start;
-  stage = h.stage ∙ sym same_stage;
+  stage = running;
   outs = out_count ∙ h.outs;
   inboxes = inbox_count ∙ h.inboxes;
   given_up = given_up_count ∙ h.given_up;
@@ -95,7 +95,7 @@ set_again o t after part core started outs inboxes given_up loaded h start same_
 
 -- what is set of a partition stays as it is where two histories say the same of the start
 pub set_kept : (o : OpeningValue) (t after : Trace) (part : ℕ) (core : CoreValue) → IsSetFor o t part core → is_started after ≡ is_started t → stage after ≡ stage t → IsSetFor o after part core
-set_kept o t after part core h same same_stage = set_again o t after part core core.started core.outs core.inboxes core.given_up core.loaded h (h.started ∙ sym same) same_stage refl refl refl refl
+set_kept o t after part core h same same_stage = set_again o t after part core core.started core.stage core.outs core.inboxes core.given_up core.loaded h (h.started ∙ sym same) (h.stage ∙ sym same_stage) refl refl refl refl
 
 -- and so does what it gave up and loaded
 pub moves_kept : (o : OpeningValue) (t after : Trace) (part : ℕ) (core : CoreValue) → MovesHold o t part core → SayTheSameMoves o t after part → MovesHold o after part core

@@ -7,6 +7,7 @@ use Rattle.std.proofs.lemmas.Bool.{leb-false, not-false}
 use Rattle.sq_tree.specs.Status.{reading}
 use Rattle.sq_ranges.specs.ReconValue.{of_stage, stages}
 use Rattle.sq_ranges.specs.OpeningValue.{OpeningValue}
+use Rattle.sq_leader.specs.declared.leader.Leader.{Leader}
 use Rattle.sq_leader.proofs.Marked.{same_within}
 use Rattle.sq_exec.specs.CoreValue.{CoreValue, entered_core, out_at, inbox_at}
 use Rattle.sq_model.specs.declared.step.Step.TheVariants.{Prepare, Start, Report, Next, Finish}
@@ -19,8 +20,8 @@ use Rattle.sq_model.specs.Leader.{phase, is_started, is_started_phase, is_moving
 use Rattle.sq_tree.specs.Reading.{is_complete_reading}
 use Rattle.sq_model.specs.Answers.{answer, is_whole, is_into, has_all, goes_into, counts_reported, partitions, segment_numbers, is_last_stage}
 use Rattle.sq_model.proofs.Lists.{list_all-Contains, row_has}
-use Rattle.sq_transition.specs.WorldValue.{WorldValue, running_stage, no_core, core_at, queue_at, link_value}
-use Rattle.sq_transition.specs.Leading.{parts_of, has_prepared, has_reported, after_prepare, after_start, after_report, after_finish}
+use Rattle.sq_transition.specs.WorldValue.{WorldValue, LinkValue, running_stage, no_core, core_at, queue_at, link_value}
+use Rattle.sq_transition.specs.Leading.{parts_of, has_prepared, has_reported, after_prepare, after_start, after_report, after_next, after_finish}
 use Rattle.sq_transition.specs.LeaderResults.{started_core, entered, runs_last, all_reported, is_segment_into, is_segment_whole, segment_range}
 use Rattle.sq_transition.specs.Transition.{step_result}
 use Rattle.sq_transition.specs.Holds.{CoreHolds, LeaderHolds, PartitionsHold, LinkHolds, LinksHold}
@@ -28,6 +29,10 @@ use Rattle.sq_transition.proofs.Cores.{same_moves, set_again, cores_kept}
 use Rattle.sq_transition.proofs.Changed.{PartsHold, leader_changed, partitions_changed, links_changed}
 use Rattle.sq_transition.proofs.Keeps.{Keeps, keeps_if, keeps_refused, keeps_while_moving}
 use Rattle.sq_transition.proofs.Leading.{prepared_leader, start_reported, start_stage, reported_leader, entered_leader, finished_leader}
+
+-- the leader knows each partition of the plans
+known : (o : OpeningValue) (t : Trace) (w : WorldValue) (part : ℕ) → PartsHold o t w → nat_le o.old.parts part ≡ false → part < parts_of w.leader
+known o t w part h below = omega (arith, h.leader.parts, leb-false o.old.parts part below)
 
 pub prepare_keeps : (o : OpeningValue) (t : Trace) (w : WorldValue) (part : ℕ) → PartsHold o t w → Keeps o t (Prepare part) (step_result w (Prepare part)) (answer o t (Prepare part))
 prepare_keeps o t w part h =
@@ -37,8 +42,7 @@ prepare_keeps o t w part h =
     keeps_if o t (Prepare part) _ _ _ _ _ _ (ap is_started_phase h.leader.phase)
     (λ _. keeps_refused o t w (Prepare part) AlreadyMoving h)
     (λ idle.
-    let below_leader : part < parts_of w.leader = omega (arith, h.leader.parts, leb-false o.old.parts part below) in
-    let after = prepared_leader w.leader part (ap is_started_phase h.leader.phase ∙ idle) below_leader in
+    let after = prepared_leader w.leader part (ap is_started_phase h.leader.phase ∙ idle) (known o t w part h below) in
     let now : LeaderHolds o ((Prepare part, Done) ∷ t) (record w { leader = after_prepare w.leader part }) = record {
       parts = after.parts ∙ h.leader.parts;
       moves = after.moves ∙ h.leader.moves;
@@ -50,36 +54,52 @@ prepare_keeps o t w part h =
     let cores = cores_kept o t ((Prepare part, Done) ∷ t) w h.partitions (λ p _. record { started = sym idle; stage = refl; shares = λ root. refl; waits = refl; moves = same_moves o t p }) in
     (refl, partitions_changed (leader_changed h now) cores)))
 
--- what can't tell whether a partition was told of the start
-seen_started : {X : Type 0} (seen : CoreValue → X) → ((core : CoreValue) → seen (started_core core) ≡ seen core) → (cores : List CoreValue) (p : ℕ)
-    → seen (slice_index_or (map started_core cores) p no_core) ≡ seen (slice_index_or cores p no_core)
-seen_started seen same [] p = refl
-seen_started seen same (core ∷ cores) zero = same core
-seen_started seen same (core ∷ cores) (suc p) = seen_started seen same cores p
+-- what can't tell whether a partition was told something
+seen_told : {X : Type 0} (told : CoreValue → CoreValue) (seen : CoreValue → X) → ((core : CoreValue) → seen (told core) ≡ seen core) → (cores : List CoreValue) (p : ℕ)
+    → seen (slice_index_or (map told cores) p no_core) ≡ seen (slice_index_or cores p no_core)
+seen_told told seen same [] p = refl
+seen_told told seen same (core ∷ cores) zero = same core
+seen_told told seen same (core ∷ cores) (suc p) = seen_told told seen same cores p
 
--- the partitions, once all were told of the start
-cores_started : (o : OpeningValue) (t : Trace) (w : WorldValue) → PartitionsHold o t w → PartitionsHold o ((Start, Done) ∷ t) (record w { leader = after_start w.leader; cores = map started_core w.cores })
-cores_started o t w h =
-    record {
-      count = length-map w.cores started_core ∙ h.count;
-      each = λ p below.
-          subst (CoreHolds o ((Start, Done) ∷ t) p) (sym (get_or-map started_core w.cores p no_core no_core (omega (arith, h.count, below))))
-          (let was = h.each p below in
-          record {
-            set = let core = core_at w p in set_again o t ((Start, Done) ∷ t) p core true core.outs core.inboxes core.given_up core.loaded was.set refl refl refl refl refl refl;
-            store = was.store;
-            waiting = was.waiting;
-            moves = was.moves;
-          });
-    }
+-- all partitions are told something by the leader
+module _ (w : WorldValue) (leader : Leader) (told : CoreValue → CoreValue) where
+  abbrev all_told : WorldValue
+  all_told = record w { leader = leader; cores = map told w.cores }
 
--- their links stay
-links_started : (w : WorldValue) (j : ℕ) → link_value (record w { leader = after_start w.leader; cores = map started_core w.cores }) j ≡ link_value w j
-links_started w j =
-    let q = queue_at w j in
-    let out = seen_started (λ core. out_at core q.dst) (λ core. refl) w.cores q.src in
-    let inbox = seen_started (λ core. inbox_at core q.src) (λ core. refl) w.cores q.dst in
-    λ i. record { src = q.src; dst = q.dst; out = out i; queue = q.chunks; inbox = inbox i }
+  -- and hold what the history after it says of them
+  cores_told : (o : OpeningValue) (t after : Trace) → ((p : ℕ) (core : CoreValue) → CoreHolds o t p core → CoreHolds o after p (told core)) → PartitionsHold o t w → PartitionsHold o after all_told
+  cores_told o t after keeps h =
+      record {
+        count = length-map w.cores told ∙ h.count;
+        each = λ p below.
+            subst (CoreHolds o after p) (sym (get_or-map told w.cores p no_core no_core (omega (arith, h.count, below)))) (keeps p (core_at w p) (h.each p below));
+      }
+
+  -- their links stay where it doesn't change their ends
+  links_told : (o : OpeningValue) (t after : Trace) → ((dst : ℕ) (core : CoreValue) → out_at (told core) dst ≡ out_at core dst) → ((src : ℕ) (core : CoreValue) → inbox_at (told core) src ≡ inbox_at core src)
+      → ((l : LinkValue) → LinkHolds o t l → LinkHolds o after l) → LinksHold o t w → LinksHold o after all_told
+  links_told o t after out_same inbox_same keeps h =
+      record {
+        each = λ j within. subst (LinkHolds o after) (sym (link_same j)) (keeps (link_value w j) (h.each j within));
+        ends = h.ends;
+        one_each = h.one_each;
+      }
+    where
+      link_same : (j : ℕ) → link_value all_told j ≡ link_value w j
+      link_same j =
+          let q = queue_at w j in
+          let out = seen_told told (λ core. out_at core q.dst) (out_same q.dst) w.cores q.src in
+          let inbox = seen_told told (λ core. inbox_at core q.src) (inbox_same q.src) w.cores q.dst in
+          λ i. record { src = q.src; dst = q.dst; out = out i; queue = q.chunks; inbox = inbox i }
+
+-- a partition, once it was told of the start
+core_started : (o : OpeningValue) (t : Trace) (p : ℕ) (core : CoreValue) → CoreHolds o t p core → CoreHolds o ((Start, Done) ∷ t) p (started_core core)
+core_started o t p core was = record {
+  set = set_again o t ((Start, Done) ∷ t) p core true core.stage core.outs core.inboxes core.given_up core.loaded was.set refl was.set.stage refl refl refl refl;
+  store = was.store;
+  waiting = was.waiting;
+  moves = was.moves;
+}
 
 pub start_keeps : (o : OpeningValue) (t : Trace) (w : WorldValue) → PartsHold o t w → Keeps o t Start (step_result w Start) (answer o t Start)
 start_keeps o t w h =
@@ -100,13 +120,10 @@ start_keeps o t w h =
       prepared = λ p low. sym (list_all-Contains (is_prepared t) (partitions o) p each (row_has 0 o.old.parts p (omega arith) (omega arith)));
       reported = λ p low. start_reported w.leader p (ap is_started_phase h.leader.phase ∙ idle) ∙ h.leader.reported p low;
     } in
-    let links : LinksHold o ((Start, Done) ∷ t) (record w { leader = after_start w.leader; cores = map started_core w.cores }) =
-    record {
-      each = λ j within. subst (LinkHolds o t) (sym (links_started w j)) (h.links.each j within);
-      ends = h.links.ends;
-      one_each = h.links.one_each;
-    } in
-    (refl, links_changed (partitions_changed (leader_changed h now) (cores_started o t w h.partitions)) links)))
+    let leader = after_start w.leader in
+    let cores = cores_told w leader started_core o t ((Start, Done) ∷ t) (core_started o t) h.partitions in
+    let links = links_told w leader started_core o t ((Start, Done) ∷ t) (λ dst core. refl) (λ src core. refl) (λ l holds. holds) h.links in
+    (refl, links_changed (partitions_changed (leader_changed h now) cores) links)))
 
 -- a segment has moved as a whole in the world just where it has by the history
 whole_same : (o : OpeningValue) (t : Trace) (w : WorldValue) (seg : ℕ) → PartsHold o t w → seg < length o.recon.segments → is_segment_whole w seg ≡ is_whole t seg
@@ -130,8 +147,7 @@ report_keeps o t w part h =
     (λ below.
     keeps_if o t (Report part) _ _ _ _ _ _ (arrived_same o t w part h)
     (λ _.
-    let below_leader : part < parts_of w.leader = omega (arith, h.leader.parts, leb-false o.old.parts part below) in
-    let after = reported_leader w.leader part (ap is_moving_phase h.leader.phase ∙ moving) below_leader in
+    let after = reported_leader w.leader part (ap is_moving_phase h.leader.phase ∙ moving) (known o t w part h below) in
     let now : LeaderHolds o ((Report part, Done) ∷ t) (record w { leader = after_report w.leader part }) = record {
       parts = after.parts ∙ h.leader.parts;
       moves = after.moves ∙ h.leader.moves;
@@ -160,47 +176,14 @@ moving_started Preparing e = e
 moving_started Moving e = refl
 moving_started Ended e = refl
 
--- what can't tell which stage runs
-seen_entered : {X : Type 0} (n : ℕ) (seen : CoreValue → X) → ((core : CoreValue) → seen (entered_core n core) ≡ seen core) → (cores : List CoreValue) (p : ℕ)
-    → seen (slice_index_or (map (entered_core n) cores) p no_core) ≡ seen (slice_index_or cores p no_core)
-seen_entered n seen same [] p = refl
-seen_entered n seen same (core ∷ cores) zero = same core
-seen_entered n seen same (core ∷ cores) (suc p) = seen_entered n seen same cores p
-
--- the partitions, once all were told of the stage
-cores_entered : (o : OpeningValue) (t : Trace) (w : WorldValue) → is_started t ≡ is_started ((Next, Done) ∷ t) → running_stage w ≡ stage t → PartitionsHold o t w → PartitionsHold o ((Next, Done) ∷ t) (entered w)
-cores_entered o t w started now h =
-    record {
-      count = length-map w.cores (entered_core (running_stage w + 1)) ∙ h.count;
-      each = λ p below.
-          subst (CoreHolds o ((Next, Done) ∷ t) p) (sym (get_or-map (entered_core (running_stage w + 1)) w.cores p no_core no_core (omega (arith, h.count, below))))
-          (let was = h.each p below in
-          record {
-            set = record {
-              part = was.set.part;
-              plan = was.set.plan;
-              recon = was.set.recon;
-              limit = was.set.limit;
-              started = was.set.started ∙ started;
-              stage = ap (λ i. i + 1) now;
-              outs = was.set.outs;
-              inboxes = was.set.inboxes;
-              given_up = was.set.given_up;
-              loaded = was.set.loaded;
-            };
-            store = was.store;
-            waiting = was.waiting;
-            moves = was.moves;
-          });
-    }
-
--- their links stay
-links_entered : (w : WorldValue) (j : ℕ) → link_value (entered w) j ≡ link_value w j
-links_entered w j =
-    let q = queue_at w j in
-    let out = seen_entered (running_stage w + 1) (λ core. out_at core q.dst) (λ core. refl) w.cores q.src in
-    let inbox = seen_entered (running_stage w + 1) (λ core. inbox_at core q.src) (λ core. refl) w.cores q.dst in
-    λ i. record { src = q.src; dst = q.dst; out = out i; queue = q.chunks; inbox = inbox i }
+-- a partition, once it was told of the stage
+core_entered : (o : OpeningValue) (t : Trace) (n : ℕ) → is_started t ≡ is_started ((Next, Done) ∷ t) → n ≡ stage t → (p : ℕ) (core : CoreValue) → CoreHolds o t p core → CoreHolds o ((Next, Done) ∷ t) p (entered_core (n + 1) core)
+core_entered o t n started now p core was = record {
+  set = set_again o t ((Next, Done) ∷ t) p core core.started (n + 1) core.outs core.inboxes core.given_up core.loaded was.set (was.set.started ∙ started) (ap (λ i. i + 1) now) refl refl refl refl;
+  store = was.store;
+  waiting = was.waiting;
+  moves = was.moves;
+}
 
 pub next_keeps : (o : OpeningValue) (t : Trace) (w : WorldValue) → PartsHold o t w → Keeps o t Next (step_result w Next) (answer o t Next)
 next_keeps o t w h =
@@ -219,13 +202,11 @@ next_keeps o t w h =
       prepared = λ p low. after.prepared p ∙ h.leader.prepared p low;
       reported = λ p low. after.reported p;
     } in
-    let links : LinksHold o ((Next, Done) ∷ t) (entered w) =
-    record {
-      each = λ j within. subst (LinkHolds o t) (sym (links_entered w j)) (h.links.each j within);
-      ends = h.links.ends;
-      one_each = h.links.one_each;
-    } in
-    (refl, links_changed (partitions_changed (leader_changed h now) (cores_entered o t w refl h.leader.stage h.partitions)) links))
+    let leader = after_next w.leader in
+    let told = entered_core (running_stage w + 1) in
+    let cores = cores_told w leader told o t ((Next, Done) ∷ t) (core_entered o t (running_stage w) refl h.leader.stage) h.partitions in
+    let links = links_told w leader told o t ((Next, Done) ∷ t) (λ dst core. refl) (λ src core. refl) (λ l holds. holds) h.links in
+    (refl, links_changed (partitions_changed (leader_changed h now) cores) links))
     (λ _. keeps_refused o t w Next NotFinished h)))
 
 pub finish_keeps : (o : OpeningValue) (t : Trace) (w : WorldValue) → PartsHold o t w → Keeps o t Finish (step_result w Finish) (answer o t Finish)

@@ -19,15 +19,15 @@ use Rattle.sq_transition.proofs.Links.{IsFrom, queue_after}
 
 -- a partition whose end of a link is another is set up as it was
 pub out_held : (o : OpeningValue) (t : Trace) (part dst : ℕ) (core : CoreValue) (out : OutLinkValue) → IsSetFor o t part core → IsSetFor o t part (with_out core dst out)
-out_held o t part dst core out h = set_again o t t part core core.started (slice_set core.outs dst out) core.inboxes core.given_up core.loaded h h.started refl (length-set core.outs dst out) refl refl refl
+out_held o t part dst core out h = set_again o t t part core core.started core.stage (slice_set core.outs dst out) core.inboxes core.given_up core.loaded h h.started h.stage (length-set core.outs dst out) refl refl refl
 
 -- so is one that has another chunk, or none, from a partition
 pub inbox_held : (o : OpeningValue) (t : Trace) (part src : ℕ) (core : CoreValue) (inbox : Option ChunkValue) → IsSetFor o t part core → IsSetFor o t part (with_inbox core src inbox)
-inbox_held o t part src core inbox h = set_again o t t part core core.started core.outs (slice_set core.inboxes src inbox) core.given_up core.loaded h h.started refl refl (length-set core.inboxes src inbox) refl refl
+inbox_held o t part src core inbox h = set_again o t t part core core.started core.stage core.outs (slice_set core.inboxes src inbox) core.given_up core.loaded h h.started h.stage refl (length-set core.inboxes src inbox) refl refl
 
 -- and one that loaded more of a segment
 pub loaded_held : (o : OpeningValue) (t : Trace) (part seg : ℕ) (core : CoreValue) (runs : List Run) → IsSetFor o t part core → IsSetFor o t part (record core { loaded = slice_set core.loaded seg runs })
-loaded_held o t part seg core runs h = set_again o t t part core core.started core.outs core.inboxes core.given_up (slice_set core.loaded seg runs) h h.started refl refl refl refl (length-set core.loaded seg runs)
+loaded_held o t part seg core runs h = set_again o t t part core core.started core.stage core.outs core.inboxes core.given_up (slice_set core.loaded seg runs) h h.started h.stage refl refl refl (length-set core.loaded seg runs)
 
 -- the source's end of a link
 pub out_of : (w : WorldValue) (i src dst : ℕ) → IsFrom w i src dst → (link_value w i).out ≡ out_at (core_at w src) dst
