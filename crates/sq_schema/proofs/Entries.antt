@@ -1,5 +1,5 @@
 -- Lists of entries whose keys strictly rise: what stands at a place, and what an edit there does.
-use Rattle.std.proofs.Common.{◌≡◌, ℕ, zero, suc, ◌<◌, ◌≤◌, not, List, [], ◌∷◌, length, get_or, set, Some, None, Ordering, IsTrue, cond, take, refl, sym, ap, ◌∙◌, inl, inr, arith}
+use Rattle.std.proofs.Common.{◌≡◌, ℕ, zero, suc, ◌+◌, ◌<◌, ◌≤◌, not, List, [], ◌∷◌, length, get_or, set, Some, None, Ordering, IsTrue, cond, take, refl, sym, ap, ◌∙◌, inl, inr, arith}
 use Rattle.std.specs.declared.cmp.Ordering.TheVariants.{Less, Equal, Greater}
 use Rattle.std.specs.List.{AllByRecursion, AllWithin, insert, remove}
 use Rattle.std.specs.List.Sorted.{IsNonDecreasingBy, IsStrictlySortedBy}
@@ -189,3 +189,14 @@ module _ {K X : Type 0} (R : K → K → Ordering) where
   put_next o (e ∷ es) (suc i) d rising within =
       let before = sorted_at R o (e ∷ es) 0 (suc i) d rising (omega arith) within in
       rw (turned R o e.0 (get_or es i d).0 Less before) (ap (λ t. e ∷ t) (put_next o es i d (and_parts (below_all R e.0 es) (is_sorted R es) rising).1 (omega arith)))
+
+  -- and so does a copy of it
+  pub copied_next : IsTotalOrder R → (es : List (K × X)) (i : ℕ) (e : K × X) (copy : X) (now new : List (K × X)) → IsTrue (is_sorted R es) → i < length es → e ≡ get_or es i e → copy ≡ e.1
+      → now ≡ take i es → new ≡ insert_entry R now e.0 copy → new ≡ take (i + 1) es
+  copied_next o es i e copy now new rising within is same before made =
+      let more : suc i ≡ i + 1 = omega arith in
+      made ∙ insert_entry-put now e.0 copy
+      ∙ (λ j. put R e.0 (same j) (before j))
+      ∙ ap (λ (f : K × X). put R f.0 f.1 (take i es)) is
+      ∙ put_next o es i e rising within
+      ∙ ap (λ (n : ℕ). take n es) more

@@ -64,9 +64,8 @@ returns-then-is_last-clause-ok t c =
 pub returns-else-is_last-clause-ok : goal.returns-else-is_last-clause-ok
 returns-else-is_last-clause-ok t c =
     let first = c.in-Some.first.now in
-    let later = c.in-Some.rest.now in
     let rows = c.args.rows.now.entries in
     let covered : c.is_written-is_last.result ≡ true = search rules in
     c.in_ok-write_all.ensures.ok
-    ∙ removal_covered rows first.0 later c.requires (sym c.is_written-is_last.ensures ∙ covered)
-    ∙ sym (first_written rows c.args.writes.now first later None c.in-Some.ensures.cases.0 (sym c.take.ensures.value ∙ c.in_default-take.is))
+    ∙ removal_covered rows first.0 c.in-Some.rest.now c.requires (sym c.is_written-is_last.ensures ∙ covered)
+    ∙ sym (first_written rows c.args.writes.now first c.in-Some.rest.now None c.in-Some.ensures.cases.0 (sym c.take.ensures.value ∙ c.in_default-take.is))

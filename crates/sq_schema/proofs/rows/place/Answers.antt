@@ -1,4 +1,4 @@
-use Rattle.std.proofs.Common.{◌≡◌, true, [], ◌-◌, pos, Some, length, get_or, sym, ap, ◌∙◌, arith, rules}
+use Rattle.std.proofs.Common.{◌≡◌, true, [], ◌-◌, pos, Some, length, sym, ap, ◌∙◌, arith, rules}
 use Rattle.std.specs.Prelude.{slice_get, option_copied}
 use Rattle.std.specs.Ordering.{is_lt}
 use Rattle.std.proofs.lemmas.List.Sorted.{answers_always}

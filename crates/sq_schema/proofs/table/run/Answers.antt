@@ -1,4 +1,4 @@
-use Rattle.std.proofs.Common.{◌≡◌, ℕ, true, [], None, Some, ◌==◌, not, if◌then◌else◌, length, unwrap_or, sym, ap, ◌∙◌, subst}
+use Rattle.std.proofs.Common.{◌≡◌, ℕ, true, [], None, Some, ◌==◌, not, if◌then◌else◌, length, unwrap_or, sym, ap, ◌∙◌}
 use Rattle.std.specs.BTreeMap.{is_at}
 use Rattle.std.specs.List.{AllPass}
 use Rattle.std.specs.Ordering.{nat_cmp}

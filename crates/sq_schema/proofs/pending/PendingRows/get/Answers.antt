@@ -1,4 +1,5 @@
-use Rattle.std.proofs.Common.{sym, ap, ◌∙◌, length, ◌≤◌, rules, tests}
+use Rattle.std.proofs.Common.{◌≡◌, sym, ap, ◌∙◌, length, ◌≤◌, rules, tests}
+use Rattle.std.specs.Prelude.{option_copied}
 use Rattle.std.proofs.lemmas.Iterator.Search.{find_from_yields_List}
 use Rattle.std.proofs.lemmas.Iterator.Adapters.{YieldsList-from_rev_slice}
 use Rattle.sq_schema.specs.Effect.{row_at}
@@ -6,26 +7,22 @@ use Rattle.sq_schema.specs.declared.schema.TheConstants.{MAX_NOTE}
 use Rattle.sq_schema.specs.Writes.{PendingValue, pending_rows}
 use Rattle.sq_schema.proofs.Latest.{is_key, row_or, latest, row_at-short, IfSome-copied}
 use Rattle.sq_schema.proofs.pending.PendingRows.get.Goals as goal
+use Rattle.sq_schema.proofs.pending.PendingRows.get.Goals.{After-find}
 
--- the newest write of the key was found
+-- the row of the key is the one of its newest write, or else the one that stood
+found_row : (c : After-find) → row_or (option_copied c.find.result) (row_at c.self.inside.rows.now c.args.key) ≡ row_at (pending_rows c.args.self.now) c.args.key
+found_row c =
+    let base = c.self.inside.rows.now in
+    let writes = c.self.inside.writes.items in
+    let road = YieldsList-from_rev_slice writes cc in
+    let found = find_from_yields_List (λ write. is_key write.0 c.args.key) _ _ c.find.result c.find.ensures.ran road (λ x b q k. search (rules, tests)) in
+    ap (λ write. row_or write (row_at base c.args.key)) found ∙ sym (latest base c.args.key writes) ∙ ap (λ pending. row_at (pending_rows pending) c.args.key) c.self.view_is
+
 pub returns-in-Some-clause-row : goal.returns-in-Some-clause-row
-returns-in-Some-clause-row c =
-    let base = c.self.inside.rows.now in
-    let writes = c.self.inside.writes.items in
-    let road = YieldsList-from_rev_slice writes cc in
-    let found = find_from_yields_List (λ write. is_key write.0 c.args.key) _ _ c.find.result c.find.ensures.ran road (λ x b q k. search (rules, tests)) in
-    let at = rw c.in-Some.is at found in
-    c.as_ref.ensures.value ∙ ap (λ write. row_or write (row_at base c.args.key)) at ∙ sym (latest base c.args.key writes) ∙ ap (λ pending. row_at (pending_rows pending) c.args.key) c.self.view_is
+returns-in-Some-clause-row c = c.as_ref.ensures.value ∙ rw c.in-Some.is at (found_row (goal.at.returns-in-Some-clause-row c).After-find)
 
--- no write has the key
 pub returns-in-None-clause-row : goal.returns-in-None-clause-row
-returns-in-None-clause-row c =
-    let base = c.self.inside.rows.now in
-    let writes = c.self.inside.writes.items in
-    let road = YieldsList-from_rev_slice writes cc in
-    let found = find_from_yields_List (λ write. is_key write.0 c.args.key) _ _ c.find.result c.find.ensures.ran road (λ x b q k. search (rules, tests)) in
-    let at = rw c.in-None.is at found in
-    c.get.ensures ∙ ap (λ write. row_or write (row_at base c.args.key)) at ∙ sym (latest base c.args.key writes) ∙ ap (λ pending. row_at (pending_rows pending) c.args.key) c.self.view_is
+returns-in-None-clause-row c = c.get.ensures ∙ rw c.in-None.is at (found_row (goal.at.returns-in-None-clause-row c).After-find)
 
 pub returns-in-None-clause-short : goal.returns-in-None-clause-short
 returns-in-None-clause-short c =

@@ -15,13 +15,10 @@ invariant_of-self c =
 
 pub returns-clause-ok : goal.returns-clause-ok
 returns-clause-ok c =
-    let root = c.args.root in
-    let key = c.args.key in
-    let row = c.args.row in
     let old = table_of c.self.inside.rows in
     let now = table_of c.put_row.new.self in
-    let rows = with_row (rows_in old root) key row in
-    OnOk-map c.put_row.result (now ≡ put nat_cmp root rows old) ((k : ℕ) → rows_in now k ≡ with_given (rows_in c.args.self.now) root key row k)
-    (λ is. subst (λ (table : TableValue). (k : ℕ) → rows_in now k ≡ with_given (rows_in table) root key row k) c.self.view_is
-    (rows_in-given old now root (rows_in old root) key row refl (λ k. ap (λ table. rows_in table k) is ∙ rows_in-put old root rows k)))
+    let rows = with_row (rows_in old c.args.root) c.args.key c.args.row in
+    OnOk-map c.put_row.result (now ≡ put nat_cmp c.args.root rows old) ((k : ℕ) → rows_in now k ≡ with_given (rows_in c.args.self.now) c.args.root c.args.key c.args.row k)
+    (λ is. subst (λ (table : TableValue). (k : ℕ) → rows_in now k ≡ with_given (rows_in table) c.args.root c.args.key c.args.row k) c.self.view_is
+    (rows_in-given old now c.args.root (rows_in old c.args.root) c.args.key c.args.row refl (λ k. ap (λ table. rows_in table k) is ∙ rows_in-put old c.args.root rows k)))
     c.put_row.ensures.ok
