@@ -147,8 +147,8 @@ fn live<'a>(alloc: Global) -> Result<Command<'a>, AllocError>
 {
     let folding = with(numbered(alloc)?, flag(alloc, "fold", help::FOLD))?;
     let summing = with(folding, flag(alloc, "summary", help::SUMMARY))?;
-    let timed = with(summing, path(alloc, "timeline", help::TIMELINE))?;
-    with_input(alloc, timed)
+    let timed = path(alloc, "timeline", help::TIMELINE);
+    with_input(alloc, with(summing, timed)?)
 }
 
 // The subcommand that tells what numbers mean.
