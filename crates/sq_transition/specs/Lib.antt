@@ -7,3 +7,4 @@ pub mod SubmitResults
 pub mod Transition
 pub mod Holds
 pub mod Headline
+pub mod EachStep

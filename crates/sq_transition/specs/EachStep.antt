@@ -1,0 +1,17 @@
+-- What holds of each step.
+use Rattle.std.specs.Prelude.{◌∷◌}
+use Rattle.sq_ranges.specs.OpeningValue.{OpeningValue}
+use Rattle.sq_ranges.specs.Opening.{IsOpening}
+use Rattle.sq_model.specs.declared.step.Step.{Step}
+use Rattle.sq_model.specs.declared.answer.Answer.{Answer}
+use Rattle.sq_model.specs.Trace.{Trace}
+use Rattle.sq_model.specs.Legal.{IsLegal}
+use Rattle.sq_transition.specs.WorldValue.{WorldValue}
+use Rattle.sq_transition.specs.Transition.{IsTransition}
+use Rattle.sq_transition.specs.Holds.{Holds}
+use Rattle.sq_transition.specs.Headline.{KeepsHeadline}
+
+-- where the steps so far were answered legally and the world is the one that they lead to, the headline is kept by the next step
+abbrev pub EachStepKeepsHeadline : Type 0
+EachStepKeepsHeadline =
+    (o : OpeningValue) (t : Trace) (old new : WorldValue) (step : Step) (given : Answer) → IsOpening o → IsLegal o t → Holds o t old → IsTransition old step given new → KeepsHeadline o ((step, given) ∷ t) new
