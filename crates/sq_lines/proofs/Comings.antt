@@ -12,7 +12,7 @@ use Rattle.sq_lines.specs.declared.reader.Reading.{Reading}
 use Rattle.sq_lines.specs.declared.reader.Reading.TheVariants.{Open, Ended}
 use Rattle.sq_lines.specs.declared.reader.Reading.TheVariants as reading
 use Rattle.sq_lines.specs.Pieces.{cut_at_ends, PieceValue, Line, Rest, Failed, Endless, TooMany, InputEnd, Whole, Cut, last_piece, ending_piece, line_then, pieces_of, pieces_in, next_line_number, bytes_of}
-use Rattle.sq_lines.specs.Coming.{LinesValue, Comes, CanCome, CameBefore, IsLong, Gives, Finds, GoesOn}
+use Rattle.sq_lines.specs.Coming.{LinesValue, Comes, CanCome, CameBefore, IsLong, Gives, Finds, ReadsOn}
 use Rattle.sq_lines.proofs.Ends.{HasFirst, has_first, unended_then, line_then_parts}
 
 -- some bytes can come, and then the reading ends somehow
@@ -210,7 +210,7 @@ fail_before old new ps was_open failed lines held can =
 
 -- ---- as much as is needed to tell what comes next
 
-pub found : (most : ℕ) (first old new : LinesValue) (told_next : NextPiece) → GoesOn first old → Gives most old told_next new → (told_next ≡ next.Unread → ⊥) → Finds most first told_next new
+pub found : (most : ℕ) (first old new : LinesValue) (told_next : NextPiece) → ReadsOn first old → Gives most old told_next new → (told_next ≡ next.Unread → ⊥) → Finds most first told_next new
 found most first old new next.Line on gives told =
     ((λ ps can. subst (λ n. CanCome first (Line (next_line_number n) new.piece ∷ ps)) on.1 (on.0 (Line (next_line_number old.lines) new.piece ∷ ps) (gives.0 ps can))), sym on.1 ∙ gives.1, gives.2)
 found most first old new next.Rest on gives told = (subst (λ n. CanCome first (Rest (next_line_number n) new.piece ∷ [])) on.1 (on.0 _ gives.0), gives.2)

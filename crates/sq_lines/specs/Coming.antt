@@ -69,8 +69,8 @@ abbrev pub reads_left : LinesValue → ℕ
 reads_left v = reads_for v.reading (length v.held)
 
 -- what can come now could come before
-abbrev pub GoesOn : LinesValue → LinesValue → Type 0
-GoesOn old new = ((ps : List PieceValue) → CanCome new ps → CanCome old ps) × (new.lines ≡ old.lines)
+abbrev pub ReadsOn : LinesValue → LinesValue → Type 0
+ReadsOn old new = ((ps : List PieceValue) → CanCome new ps → CanCome old ps) × (new.lines ≡ old.lines)
 
 -- what a reader of lines gives next, where it reads as much as it needs to tell
 abbrev pub Finds : ℕ → LinesValue → NextPiece → LinesValue → Type 0

@@ -1,7 +1,7 @@
 // Readers of lines.
 ghost use Rattle.std.specs.Prelude.{◌≡◌, ◌≤◌, ◌<◌, ◌+◌, [], ◌∷◌, length, ◌==◌, not, true, List, Some, IfOk, IfErr, IfSome, IfNone};
 ghost use Rattle.sq_lines.specs.Pieces.{next_begins, next_line_number, PieceValue};
-ghost use Rattle.sq_lines.specs.Coming.{CanCome, IsUndecided, Gives, Finds, GoesOn, reads_left};
+ghost use Rattle.sq_lines.specs.Coming.{CanCome, IsUndecided, Gives, Finds, ReadsOn, reads_left};
 ghost use Rattle.std.specs.List.{list_all};
 
 use crate::buffer::{MAX_UNENDED, buffer_of, move_to_front, place_of, read_behind};
@@ -228,7 +228,7 @@ impl<R: Read> LineReader<R> {
         requires unended { list_all (λ byte. not (byte == 10)) front.now ≡ true }
         requires some { 0 < length front.now }
         requires short { length front.now ≤ MAX_UNENDED }
-        ensures goes_on { GoesOn self.old self.new }
+        ensures goes_on { ReadsOn self.old self.new }
         ensures begins { (ps : List PieceValue) → CanCome self.new ps → next_begins front.now ps ≡ result }
     {
         loop {

@@ -22,7 +22,7 @@ use Rattle.sq_ranges.specs.Fault.{of_row}
 use Rattle.sq_ranges.specs.Given.{GivenValue, value_of, no_rows, with_one, IsOpeningOf}
 use Rattle.sq_ranges.specs.Refused.{config_fault, shape_fault, given_fault, MayRefuse}
 use Rattle.sq_lines.specs.Pieces.{PieceValue, Line, Rest, Failed, Endless, TooMany, bytes_of, next_begins}
-use Rattle.sq_lines.specs.Coming.{LinesValue, CanCome, GoesOn, Leaves}
+use Rattle.sq_lines.specs.Coming.{LinesValue, CanCome, ReadsOn, Leaves}
 use Rattle.sq_lines.proofs.Comings.{some_pieces}
 use Rattle.sq_text.specs.declared.step.TheConstants.{MAX_LINE}
 use Rattle.sq_text.specs.declared.header.FirstLines.{FirstLines}
@@ -219,7 +219,7 @@ RowsSoFar tables table first now taken at = Leaves first now (λ all left. rows_
 pub no_rows_yet : (tables : ℕ) (table : RowTable) (first : LinesValue) (at : ℕ) → at ≡ 0 → RowsSoFar tables table first first table at
 no_rows_yet tables table first at zero = λ left can. (left, can, ap (λ n. rows_taken tables table n left) zero)
 
-module _ (tables : ℕ) (table taken : RowTable) (at : ℕ) (first now mid new : LinesValue) (so_far : RowsSoFar tables table first now taken at) (on : GoesOn now mid) where
+module _ (tables : ℕ) (table taken : RowTable) (at : ℕ) (first now mid new : LinesValue) (so_far : RowsSoFar tables table first now taken at) (on : ReadsOn now mid) where
   pub one_more : (more : RowTable) (next : ℕ) → ((ps : List PieceValue) → CanCome mid ps → next_begins (codes "row ") ps ≡ true) → RowRead tables taken at more (Ok tt) mid new → next ≡ at + 1 → RowsSoFar tables table first new more next
   one_more more next begins reads is = λ left can.
       let m = reads left can in
