@@ -12,7 +12,7 @@ use Rattle.sq_model.specs.declared.step.Step.TheVariants.{Submit, Resume, Fold}
 use Rattle.sq_model.specs.declared.answer.Answer.TheVariants.{Done, Replied, Resumed}
 use Rattle.sq_model.specs.Trace.{Trace, committed, unfolded}
 use Rattle.sq_model.specs.Place.{destination}
-use Rattle.sq_model.specs.Tables.{IsFolded, opening_rows, now, base_of, log_of, family_of}
+use Rattle.sq_model.specs.Tables.{IsFoldedRoot, opening_rows, now, base_of, log_of, family_of}
 
 -- the rows of one root key on the whole table are those of its own transactions
 pub replayed_at : (table : RowTable) (txns : List TxnValue) (root : ℕ) → replay table txns root ≡ replay_rows (table root) (only root txns)
@@ -37,7 +37,7 @@ refolded : (o : OpeningValue) (t : Trace) (root : ℕ) (front : List TxnValue) �
 refolded o t root front commits base true = (only root (committed t), sym (append-nil (only root (committed t))), replayed_at (opening_rows o) (committed t) root)
 refolded o t root front commits base false = (front, commits, base)
 
-pub folded : (o : OpeningValue) (t : Trace) (root : ℕ) → IsFolded o t root
+pub folded : (o : OpeningValue) (t : Trace) (root : ℕ) → IsFoldedRoot o t root
 folded o [] root = record { front = []; commits = refl; base = refl }
 folded o ((Submit at txn, Replied id (Committed answers)) ∷ t) root =
     let before = folded o t root in

@@ -48,7 +48,7 @@ abbrev pub stands : OpeningValue → Trace → ℕ → Bool
 stands o t root = family_stands (family_of o t root)
 
 -- the transactions on a root key that committed are those that its base was made by, and then its log
-pub record IsFolded (o : OpeningValue) (t : Trace) (root : ℕ) : Type 0 where
+pub record IsFoldedRoot (o : OpeningValue) (t : Trace) (root : ℕ) : Type 0 where
   pub front : List TxnValue
   pub commits : only root (committed t) ≡ front ++ log_of o t root
   pub base : base_of o t root ≡ replay_rows (opening_rows o root) front

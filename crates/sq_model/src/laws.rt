@@ -5,7 +5,7 @@ ghost use Rattle.sq_ranges.specs.OpeningValue.{OpeningValue};
 ghost use Rattle.sq_ranges.specs.declared.opening.TheConstants.{MAX_WAITING};
 ghost use Rattle.sq_model.specs.Trace.{Trace, notes, loads};
 ghost use Rattle.sq_schema.specs.Family.{rows_of};
-ghost use Rattle.sq_model.specs.Tables.{IsFolded, now, stands, family_of, is_full};
+ghost use Rattle.sq_model.specs.Tables.{IsFoldedRoot, now, stands, family_of, is_full};
 ghost use Rattle.sq_model.specs.Leader.{phase};
 ghost use Rattle.sq_model.specs.Place.{At, place, destination, runner};
 ghost use Rattle.sq_model.specs.Waiting.{waiting, has_to_wait};
@@ -132,7 +132,7 @@ pub fn refuses_at_a_full_log()
 /// However often logs were folded: the transactions on a root key that committed are those that the rows its log starts
 /// from were made by, and then its log; so its family's rows are those of the one table.
 pub fn folds_lose_nothing()
-    ensures folded { (o : OpeningValue) (t : Trace) (root : ℕ) → IsFolded o t root }
+    ensures folded { (o : OpeningValue) (t : Trace) (root : ℕ) → IsFoldedRoot o t root }
     ensures rows { (o : OpeningValue) (t : Trace) (root : ℕ) → rows_of (family_of o t root) ≡ now o t root }
 {}
 
