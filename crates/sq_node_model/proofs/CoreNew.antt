@@ -18,7 +18,7 @@ use Rattle.sq_status.specs.View.{one_if}
 use Rattle.sq_node_model.specs.BeganWith.{BeganWith, given_family, CanBegin}
 use Rattle.sq_node_model.specs.NodeValue.{NodeValue}
 use Rattle.sq_node_model.specs.Chunks.{HasCut, HasLoaded}
-use Rattle.sq_node_model.specs.FamiliesHold.{IsStored, IsKept, GrowsFrom}
+use Rattle.sq_node_model.specs.FamiliesHold.{IsStored, IsStoredOrCut, GrowsFrom}
 use Rattle.sq_node_model.specs.NodeHolds.{NodeHolds}
 use Rattle.sq_node_model.specs.Cores.{staged_core, OpensWith, IsUnused}
 use Rattle.sq_node_model.proofs.Made.{node_with}
@@ -68,7 +68,7 @@ module _ (o : OpeningValue) (began : BeganWith) (can : CanBegin o began) (part :
       here true owned = (eqb-true (owner_in o began.stage root) part owned, sym (opens root ∙ ap (λ b. if b then began.families root else None) owned) ∙ has)
       here false owned = absurd (let e = sym (opens root ∙ ap (λ b. if b then began.families root else None) owned) ∙ has in cc)
 
-  kept_is : (root : ℕ) (family : FamilyValue) → IsKept (HasCut new) store root family → began.families root ≡ Some family
+  kept_is : (root : ℕ) (family : FamilyValue) → IsStoredOrCut (HasCut new) store root family → began.families root ≡ Some family
   kept_is root family kept = ⊎_elim (λ stored. (stored_is root family stored).1) (λ went. absurd (none_cut went.0 went.1)) kept
 
   given_is : (root : ℕ) (family : FamilyValue) → began.families root ≡ Some family → given_family began root ≡ family

@@ -22,7 +22,7 @@ use Rattle.sq_node_model.specs.NodeValue.{ReceiptValue}
 use Rattle.sq_node_model.specs.Steps.{receipt_of}
 use Rattle.sq_node_model.specs.Chunks.{IsCovered}
 use Rattle.sq_node_model.specs.Receipts.{is_commit, names, times_named, IsToldBy}
-use Rattle.sq_node_model.specs.FamiliesHold.{IsHome, IsStored, IsCarried, IsKept, IsOf, GrowsFrom, brought, StoreHolds, FamiliesHold, ReceiptsHold}
+use Rattle.sq_node_model.specs.FamiliesHold.{IsHome, IsStored, IsCarried, IsStoredOrCut, IsOf, GrowsFrom, brought, StoreHolds, FamiliesHold, ReceiptsHold}
 use Rattle.sq_node_model.proofs.Named.{unnamed, named_more}
 use Rattle.sq_node_model.proofs.Told.{told_more, told_new, one_more_position, none_before}
 
@@ -273,7 +273,7 @@ module _ {began : BeganWith} (o : OpeningValue) (part : ℕ) (cut loaded : Chunk
     first_below : (first : FamilyValue) → GrowsFrom first was → length first.log ≤ length was.log
     first_below first g = let sum = ap length g.log.1 ∙ length-append first.log g.log.0 in omega (arith, sum)
 
-    told_now : (other : ReceiptValue) → (family : FamilyValue) → IsKept cut store other.root family → IsToldBy family other → (now : FamilyValue) × IsKept cut more other.root now × IsToldBy now other
+    told_now : (other : ReceiptValue) → (family : FamilyValue) → IsStoredOrCut cut store other.root family → IsToldBy family other → (now : FamilyValue) × IsStoredOrCut cut more other.root now × IsToldBy now other
     told_now other family kept t =
         ⊎_elim
         (λ stored.
@@ -318,7 +318,7 @@ module _ {began : BeganWith} (o : OpeningValue) (part : ℕ) (cut loaded : Chunk
           ⊎_elim
           (λ old. let t = r.told other old commit in told_now other t.0 t.1 t.2)
           (λ one.
-          subst (λ any. (now : FamilyValue) × IsKept cut more any.root now × IsToldBy now any) one
+          subst (λ any. (now : FamilyValue) × IsStoredOrCut cut more any.root now × IsToldBy now any) one
           (new, inl (stored_new txn.root refl), told_new was txn receipt refl refl is))
           (Contains-push_cases receipts receipt other has);
     }

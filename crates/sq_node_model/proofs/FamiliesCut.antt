@@ -13,7 +13,7 @@ use Rattle.sq_node_model.specs.BeganWith.{BeganWith}
 use Rattle.sq_node_model.specs.NodeValue.{ReceiptValue}
 use Rattle.sq_node_model.specs.Chunks.{IsCovered}
 use Rattle.sq_node_model.specs.OutHolds.{IsWholeChunk}
-use Rattle.sq_node_model.specs.FamiliesHold.{IsHome, IsStored, IsCarried, IsKept, StoreHolds, FamiliesHold, ReceiptsHold}
+use Rattle.sq_node_model.specs.FamiliesHold.{IsHome, IsStored, IsCarried, IsStoredOrCut, StoreHolds, FamiliesHold, ReceiptsHold}
 use Rattle.sq_node_model.proofs.OneMore.{IsOneMore}
 
 -- where each stored family is its root key's, the store is kept by root key
@@ -64,7 +64,7 @@ module _ {began : BeganWith} (o : OpeningValue) (part : ℕ) (cut now loaded : C
     uncut = λ other has. ⊎_elim (λ old. h.uncut other old) (λ new. subst (λ (c : ChunkValue). covers c.note root ≡ false) new e) (m.only other has);
   }
 
-  kept_before : (root : ℕ) (family : FamilyValue) → IsKept now left root family → IsKept cut store root family
+  kept_before : (root : ℕ) (family : FamilyValue) → IsStoredOrCut now left root family → IsStoredOrCut cut store root family
   kept_before root family kept =
       ⊎_elim
       (λ stored. inl (stored_before root family stored).0)
@@ -75,7 +75,7 @@ module _ {began : BeganWith} (o : OpeningValue) (part : ℕ) (cut now loaded : C
       (m.only went.0 went.1))
       kept
 
-  kept_after : (root : ℕ) (family : FamilyValue) → IsKept cut store root family → IsKept now left root family
+  kept_after : (root : ℕ) (family : FamilyValue) → IsStoredOrCut cut store root family → IsStoredOrCut now left root family
   kept_after root family kept =
       ⊎_elim
       (λ stored.

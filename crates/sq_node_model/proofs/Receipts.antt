@@ -17,7 +17,7 @@ use Rattle.sq_status.specs.View.{one_if}
 use Rattle.sq_node_model.specs.BeganWith.{BeganWith, given_family, CanBegin}
 use Rattle.sq_node_model.specs.NodeValue.{NodeValue, ReceiptValue}
 use Rattle.sq_node_model.specs.Chunks.{HasCut, HasLoaded, IsCovered}
-use Rattle.sq_node_model.specs.FamiliesHold.{IsHome, IsCarried, IsKept, GrowsFrom, brought}
+use Rattle.sq_node_model.specs.FamiliesHold.{IsHome, IsCarried, IsStoredOrCut, GrowsFrom, brought}
 use Rattle.sq_node_model.specs.Receipts.{is_commit, times_named, IsToldBy}
 use Rattle.sq_node_model.specs.declared.spot.Spot.{Spot}
 use Rattle.sq_node_model.specs.declared.spot.Spot.TheVariants.{Store, Chunk}
@@ -52,12 +52,12 @@ grown_length first family grows =
 module _ (o : OpeningValue) (began : BeganWith) (is : IsOpening o) (nodes : List NodeValue) (g : GatheredValue) (gathers : Gathers o began nodes g) where
   -- a node that keeps no family of a root key names no position of it
   silent : (q : ℕ) (node : NodeValue) (root position : ℕ) → slice_get nodes q ≡ Some node
-      → ((family : FamilyValue) → IsKept (HasCut node) node.store root family → ⊥) → times_named root position node.receipts ≡ 0
+      → ((family : FamilyValue) → IsStoredOrCut (HasCut node) node.store root family → ⊥) → times_named root position node.receipts ≡ 0
   silent q node root position at none =
       unnamed root position node.receipts
       (λ receipt has commit same.
       let told = (gathers.holds q node at).receipts.told receipt has commit in
-      none told.0 (subst (λ k. IsKept (HasCut node) node.store k told.0) same told.1))
+      none told.0 (subst (λ k. IsStoredOrCut (HasCut node) node.store k told.0) same told.1))
 
   -- which one is that doesn't own the root key, and at which no family of it stands
   other_silent : (q : ℕ) (node : NodeValue) (root position : ℕ) → slice_get nodes q ≡ Some node
@@ -91,7 +91,7 @@ module _ (o : OpeningValue) (began : BeganWith) (is : IsOpening o) (nodes : List
       ∙ split_named (length (given_family began root).log) (length family.log) position (grown_length (given_family began root) family (grown_at o began is nodes g gathers spot root family stands))
 
   -- a family that its owner keeps is named there alone
-  named_once : (p : ℕ) (node : NodeValue) (root position : ℕ) (family : FamilyValue) → slice_get nodes p ≡ Some node → owner_in o began.stage root ≡ p → IsKept (HasCut node) node.store root family
+  named_once : (p : ℕ) (node : NodeValue) (root position : ℕ) (family : FamilyValue) → slice_get nodes p ≡ Some node → owner_in o began.stage root ≡ p → IsStoredOrCut (HasCut node) node.store root family
       → (spot : Spot) → StandsAt g spot root family → ((q : ℕ) → q ≢ p → spot ≢ Store q)
       → times_named root position theirs ≡ one_if (is_past_given root position family)
   named_once p node root position family at owned kept spot stands elsewhere =
@@ -122,7 +122,7 @@ module _ (o : OpeningValue) (began : BeganWith) (is : IsOpening o) (nodes : List
     away = λ e. (moved o began is nodes g gathers chunk c root covered).moves (e ∙ sym to)
 
     -- where a loaded chunk has no family of a root key, its source keeps none
-    none_kept : family_in chunk.families root ≡ None → (other : FamilyValue) → IsKept (HasCut c.ends.from) c.ends.from.store root other → ⊥
+    none_kept : family_in chunk.families root ≡ None → (other : FamilyValue) → IsStoredOrCut (HasCut c.ends.from) c.ends.from.store root other → ⊥
     none_kept none other kept =
         ⊎_elim
         (λ stored.

@@ -27,8 +27,8 @@ abbrev pub IsCarried : ChunkValue → ℕ → FamilyValue → Type 0
 IsCarried chunk root family = family_in chunk.families root ≡ Some family
 
 -- the family is in the store, or went with a chunk that was cut
-abbrev pub IsKept : (ChunkValue → Type 0) → StoreValue → ℕ → FamilyValue → Type 0
-IsKept cut store root family = IsStored store root family ⊎ ((chunk : ChunkValue) × cut chunk × IsCarried chunk root family)
+abbrev pub IsStoredOrCut : (ChunkValue → Type 0) → StoreValue → ℕ → FamilyValue → Type 0
+IsStoredOrCut cut store root family = IsStored store root family ⊎ ((chunk : ChunkValue) × cut chunk × IsCarried chunk root family)
 
 -- the family as the chunk brought it, which is an empty one where the chunk has none
 abbrev pub brought : ChunkValue → ℕ → FamilyValue
@@ -49,7 +49,7 @@ pub record StoreHolds (o : OpeningValue) (began : BeganWith) (part : ℕ) (cut l
 -- that was loaded goes on from what was brought
 pub record FamiliesHold (o : OpeningValue) (began : BeganWith) (part : ℕ) (cut loaded : ChunkValue → Type 0)
     (store : StoreValue) : Type 0 where
-  pub keyed : (root : ℕ) (family : FamilyValue) → IsKept cut store root family → IsOf root family
+  pub keyed : (root : ℕ) (family : FamilyValue) → IsStoredOrCut cut store root family → IsOf root family
   pub home_grown : (root : ℕ) (family : FamilyValue) → IsHome o began.stage part cut root → IsStored store root family
       → GrowsFrom (given_family began root) family
   pub cut_grown : (root : ℕ) (chunk : ChunkValue) (family : FamilyValue) → cut chunk → IsCarried chunk root family
@@ -67,9 +67,9 @@ NameGrowth root receipts first family =
 -- part where the partition owned the root key, and what came after the brought part where it was loaded
 pub record ReceiptsHold (o : OpeningValue) (began : BeganWith) (part : ℕ) (cut loaded : ChunkValue → Type 0)
     (store : StoreValue) (receipts : List ReceiptValue) : Type 0 where
-  pub named_home : (root : ℕ) (family : FamilyValue) → IsKept cut store root family → owner_in o began.stage root ≡ part
+  pub named_home : (root : ℕ) (family : FamilyValue) → IsStoredOrCut cut store root family → owner_in o began.stage root ≡ part
       → NameGrowth root receipts (given_family began root) family
   pub named_came : (root : ℕ) (chunk : ChunkValue) (family : FamilyValue) → loaded chunk → covers chunk.note root ≡ true
       → IsStored store root family → NameGrowth root receipts (brought chunk root) family
   pub told : (receipt : ReceiptValue) → Contains receipts receipt → is_commit receipt.reply ≡ true
-      → (family : FamilyValue) × IsKept cut store receipt.root family × IsToldBy family receipt
+      → (family : FamilyValue) × IsStoredOrCut cut store receipt.root family × IsToldBy family receipt
