@@ -26,7 +26,7 @@ abbrev pub IsToldOrRefused : (ReconValue → List ℕ → Type 0) → ReconValue
 IsToldOrRefused tells recon out ending = (tells recon out × (ending ≡ Done)) ⊎ IsFault (located Memory None) out ending
 
 -- the first three lines spell plans and sizes, and what tells of their reconfiguration is all that is written
-pub record IsListed (tells : ReconValue → List ℕ → Type 0) (tables : ℕ) (given : List PieceValue) (out : List ℕ) (ending : Ending) : Type 0 where
+pub record IsWholeListing (tells : ReconValue → List ℕ → Type 0) (tables : ℕ) (given : List PieceValue) (out : List ℕ) (ending : Ending) : Type 0 where
   pub opening : OpeningValue
   pub left : List PieceValue
   pub plans : Opens tables (Ok opening) left (plans_of given)
@@ -34,7 +34,7 @@ pub record IsListed (tells : ReconValue → List ℕ → Type 0) (tables : ℕ) 
   pub ends : ending ≡ Done
 
 -- the first three lines have a fault, which is their first, or memory ran out
-pub record IsNotListed (tables : ℕ) (given : List PieceValue) (out : List ℕ) (ending : Ending) : Type 0 where
+pub record IsRefusedListing (tables : ℕ) (given : List PieceValue) (out : List ℕ) (ending : Ending) : Type 0 where
   pub fault : LocatedFault
   pub left : List PieceValue
   pub plans : Opens tables (Err fault) left (plans_of given)
@@ -42,7 +42,7 @@ pub record IsNotListed (tables : ℕ) (given : List PieceValue) (out : List ℕ)
 
 -- what is told for the pieces of an input, and how that ends
 abbrev pub IsListing : (ReconValue → List ℕ → Type 0) → ℕ → List PieceValue → List ℕ → Ending → Type 0
-IsListing tells tables given out ending = IsListed tells tables given out ending ⊎ IsNotListed tables given out ending
+IsListing tells tables given out ending = IsWholeListing tells tables given out ending ⊎ IsRefusedListing tables given out ending
 
 -- what a reader gives is answered by what tells of its reconfiguration, and that goes to the end of what a writer holds
 abbrev pub Tells : (ReconValue → List ℕ → Type 0) → ℕ → Option (List ℕ) → Option (List ℕ) → Option (List ℕ) → Ending → Type 0
