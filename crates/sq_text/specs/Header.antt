@@ -131,14 +131,14 @@ abbrev pub header_in : OpeningValue → HeaderValue
 header_in o = record { old = o.old; new = o.new; config = o.config; rows = rows_in o.table }
 
 -- the opening of what is spelled, for this many tables, with what comes after that left to be read
-pub record IsOpened (tables : ℕ) (o : OpeningValue) (left : List PieceValue) (wanted : Result (HeaderValue × List PieceValue) LocatedFault) : Type 0 where
+pub record IsSpelledOpening (tables : ℕ) (o : OpeningValue) (left : List PieceValue) (wanted : Result (HeaderValue × List PieceValue) LocatedFault) : Type 0 where
   pub spelled : wanted ≡ Ok (header_in o, left)
   pub tables_are : o.tables ≡ tables
   pub moves : o.recon ≡ recon_of o.old o.new o.config.width
 
 -- the answer is the opening of what is spelled, or else the first fault, unless memory ran out
 abbrev pub Opens : ℕ → Result OpeningValue LocatedFault → List PieceValue → Result (HeaderValue × List PieceValue) LocatedFault → Type 0
-Opens tables (Ok opening) left wanted = IsOpened tables opening left wanted
+Opens tables (Ok opening) left wanted = IsSpelledOpening tables opening left wanted
 Opens tables (Err refused) left wanted = refused.fault ≢ Memory → wanted ≡ Err refused
 
 -- no line behind the one that a fault belongs to was taken
