@@ -9,7 +9,7 @@ use Rattle.sq_schema.specs.Family.{FamilyValue}
 use Rattle.sq_store.specs.StoreValue.{StoreValue, family_in, families_between, without_between}
 use Rattle.sq_store.specs.InOrder.{families_in, family_from, HoldsByRoot}
 use Rattle.sq_store.specs.Listed.{roots_rise}
-use Rattle.sq_store.specs.Merging.{IsPopped}
+use Rattle.sq_store.specs.Merging.{IsFirstTaken}
 use Rattle.sq_store.specs.First.{IsFirst}
 use Rattle.sq_store.proofs.Order.{is_below, first_rises, less_from_cmp}
 use Rattle.sq_store.proofs.Lists.{values-entries_of}
@@ -203,7 +203,7 @@ module _ (store : StoreValue) (lo hi : ℕ) (family : FamilyValue) (first : IsFi
       kept lo hi (remove store family.root) root ∙ left_at root ∙ sym (kept (family.root + 1) hi store root)))
       ∙ entries_between (family.root + 1) hi store
 
-  pub popped_first : IsPopped (families_between store lo hi) (get store family.root) (families_between (remove store family.root) lo hi)
+  pub popped_first : IsFirstTaken (families_between store lo hi) (get store family.root) (families_between (remove store family.root) lo hi)
   popped_first =
       let all = first.next hi first.below in
       rw (all, first.stands) (refl, left_between)
@@ -218,6 +218,6 @@ module _ (store : StoreValue) (lo hi : ℕ) (family : FamilyValue) (first : IsFi
       by_test root false outside = get-remove_other store family.root root (λ same. true≢false (sym (ap (is_between lo hi) same ∙ between_from lo hi family.root first.from first.below) ∙ outside))
 
 -- where none is taken none is left
-pub popped_none : (families after : List FamilyValue) → IsPopped families None after → after ≡ []
+pub popped_none : (families after : List FamilyValue) → IsFirstTaken families None after → after ≡ []
 popped_none [] after popped = popped.1
 popped_none (family ∷ families) after popped = let both : None ≡ Some family = popped.0 in absurd (cc)

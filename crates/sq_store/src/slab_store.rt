@@ -8,7 +8,7 @@ ghost use Rattle.sq_schema.specs.declared.root.TheConstants.{ROOT_END};
 ghost use Rattle.sq_ranges.specs.CutEnd.{end_within};
 ghost use Rattle.sq_store.specs.StoreValue.{StoreValue, store_reply, store_after, stored_size, take_end, families_between, without_between, with_families, folded_store, roots_differ, has_none_of};
 ghost use Rattle.sq_store.specs.InOrder.{AreKeyed, HoldsByRoot};
-ghost use Rattle.sq_store.specs.Merging.{IsPopped};
+ghost use Rattle.sq_store.specs.Merging.{IsFirstTaken};
 ghost use Rattle.sq_store.specs.First.{FirstIs};
 ghost use Rattle.sq_store.specs.PutIn.{IsPutIn};
 
@@ -199,7 +199,7 @@ impl SlabStore {
 
     // Takes the first family from one root key on and below another out.
     fn take_first(&mut self, lo: u64, hi: u64) -> Option<Family>
-        ensures family { IsPopped (families_between self.old lo hi) result (families_between self.new lo hi) }
+        ensures family { IsFirstTaken (families_between self.old lo hi) result (families_between self.new lo hi) }
         ensures rest { without_between self.new lo hi ≡ without_between self.old lo hi }
     {
         let root = self.first(lo, hi)?.root();
