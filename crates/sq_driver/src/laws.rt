@@ -9,7 +9,7 @@ ghost use Rattle.sq_node_model.specs.BeganWith.{BeganWith, first_began};
 ghost use Rattle.sq_node.specs.FabricValue.{FabricValue};
 ghost use Rattle.sq_node.specs.NodeState.{NodeState, IsNodeOf};
 ghost use Rattle.sq_node.specs.Holds.{HoldsUnder};
-ghost use Rattle.sq_node.specs.Opened.{IsOpened, IsResumed};
+ghost use Rattle.sq_node.specs.Opened.{IsOpened, IsReopened};
 ghost use Rattle.sq_driver.specs.Nodes.{AllDriven};
 ghost use Rattle.sq_driver.specs.Pumps.{HasAllSeats, AllPumpsDriven};
 
@@ -27,9 +27,9 @@ pub fn opened_workers_can_be_driven()
 /// The nodes and the pumps that a stage of a run begins with can be driven.
 pub fn resumed_workers_can_be_driven()
     ensures nodes { (o : OpeningValue) (stage : ℕ) (stores : List StoreValue) (receipts : List ReceiptValue) (count : ℕ) (fabric : FabricValue) (nodes : List NodeState) (pumps : List PumpValue)
-        → IsResumed o stage stores receipts count fabric nodes pumps → All (IsNodeOf fabric) nodes }
+        → IsReopened o stage stores receipts count fabric nodes pumps → All (IsNodeOf fabric) nodes }
     ensures pumps { (o : OpeningValue) (stage : ℕ) (stores : List StoreValue) (receipts : List ReceiptValue) (count : ℕ) (fabric : FabricValue) (nodes : List NodeState) (pumps : List PumpValue)
-        → IsResumed o stage stores receipts count fabric nodes pumps → All (HasAllSeats fabric) pumps }
+        → IsReopened o stage stores receipts count fabric nodes pumps → All (HasAllSeats fabric) pumps }
 {}
 
 /// What a node keeps holds of all nodes of a run once they were driven, under each opening, and each beginning of a stage,

@@ -13,7 +13,7 @@ use Rattle.sq_node_model.specs.Next.{next_began}
 use Rattle.sq_node_model.proofs.Began.{first_can}
 use Rattle.sq_node.specs.FabricValue.{FabricValue, HasBegun, IsFabric}
 use Rattle.sq_node.specs.NodeState.{NodeState}
-use Rattle.sq_node.specs.Opened.{AreFirstSeats, AllHoldUnder, AllOpenWith, IsResumed, IsOpened}
+use Rattle.sq_node.specs.Opened.{AreFirstSeats, AllHoldUnder, AllOpenWith, IsReopened, IsOpened}
 use Rattle.sq_gather.specs.Gathered.{AllHold}
 use Rattle.sq_gather.specs.Reopened.{IsRunInStage, AllStay, AllPumpsStay}
 use Rattle.sq_gather.proofs.Opens.{next_node, opens_where_held}
@@ -60,7 +60,7 @@ all_hold o began nodes hold part node there = (hold part node there).holds
 -- the stage after the one that was gathered is a run of what was gathered, where it can begin and new nodes with the families that were gathered hold
 pub run_resumes : (o : OpeningValue) (g : GatheredValue) (count : ℕ) (fabric : FabricValue) (nodes : List NodeState) (pumps : List PumpValue) → IsOpening o → IsPlaced o g → IsFabric fabric
     → CanBegin o (next_began o g) → ((q : ℕ) (store : StoreValue) → slice_get g.stores q ≡ Some store → NodeHolds o (next_began o g) (next_node o g q store))
-    → IsResumed o (g.stage + 1) g.stores g.receipts count fabric nodes pumps
+    → IsReopened o (g.stage + 1) g.stores g.receipts count fabric nodes pumps
     → ((began : BeganWith) → HasBegun began fabric → CanBegin o began → AllOpenWith o began g.stores → AllHoldUnder o began nodes)
     → IsRunInStage o (next_began o g) fabric nodes pumps
 run_resumes o g count fabric nodes pumps opening placed is can new_hold resumed hold =

@@ -35,7 +35,7 @@ use Rattle.sq_node.specs.NodeState.{NodeState, IsNodeOf, views_of, sent_by, rece
 use Rattle.sq_node.specs.Holds.{HoldsUnder}
 use Rattle.sq_node.specs.Settled.{IsNode}
 use Rattle.sq_pull.specs.Pump.{PumpValue}
-use Rattle.sq_node.specs.Opened.{IsNewPump, AreNewPumps, AreFirstSeats, AreNewSeats, GaveEach, HasEnds, LeavesEnds, HaveSentNothing, HaveReceivedNothing, AreNewSends, AreNewRecvs, IsFabricOf, IsNewNode, AreNewNodes, AllOpenWith, AllHoldUnder, IsResumed, opened_stores, started_core}
+use Rattle.sq_node.specs.Opened.{IsNewPump, AreNewPumps, AreFirstSeats, AreNewSeats, GaveEach, HasEnds, LeavesEnds, HaveSentNothing, HaveReceivedNothing, AreNewSends, AreNewRecvs, IsFabricOf, IsNewNode, AreNewNodes, AllOpenWith, AllHoldUnder, IsReopened, opened_stores, started_core}
 use Rattle.sq_node.proofs.NewLinks.{before, last}
 
 -- nothing is loaded at a partition as a stage begins
@@ -264,8 +264,8 @@ more_pumps old new count pumps pump same are made =
     })
 
 -- a stage that begins keeps whatever receipts are handed in
-pub told_run : (o : OpeningValue) (stage : ℕ) (stores : List StoreValue) (receipts : List ReceiptValue) (count : ℕ) (fabric : FabricValue) (nodes : List NodeState) (pumps : List PumpValue) → IsResumed o stage stores [] count fabric nodes pumps
-    → IsResumed o stage stores receipts count (record fabric { receipts = receipts }) nodes pumps
+pub told_run : (o : OpeningValue) (stage : ℕ) (stores : List StoreValue) (receipts : List ReceiptValue) (count : ℕ) (fabric : FabricValue) (nodes : List NodeState) (pumps : List PumpValue) → IsReopened o stage stores [] count fabric nodes pumps
+    → IsReopened o stage stores receipts count (record fabric { receipts = receipts }) nodes pumps
 told_run o stage stores receipts count fabric nodes pumps run =
     let now = record fabric { receipts = receipts } in
     record {

@@ -178,7 +178,7 @@ pub record AreNewPumps (fabric : FabricValue) (count : ℕ) (pumps : List PumpVa
 
 -- a stage of a run begins with a node for each partition, which has these families, with these receipts of earlier stages and
 -- with this many pumps, and all seats are handed out
-pub record IsResumed (o : OpeningValue) (i : ℕ) (stores : List StoreValue) (told : List ReceiptValue) (count : ℕ)
+pub record IsReopened (o : OpeningValue) (i : ℕ) (stores : List StoreValue) (told : List ReceiptValue) (count : ℕ)
     (fabric : FabricValue) (nodes : List NodeState) (pumps : List PumpValue) : Type 0 where
   pub shared : IsFabricOf o fabric
   pub stage : fabric.stage ≡ i

@@ -49,7 +49,7 @@ CutStep old Nothing new = (new ≡ old) × ((dst : ℕ) → HasNoneToCut old.cor
 CutStep old Memory new = new ≡ old
 
 -- the chunk for this partition was sent
-pub record Sends (old : NodeState) (dst : ℕ) (new : NodeState) : Type 0 where
+pub record SendsChunk (old : NodeState) (dst : ℕ) (new : NodeState) : Type 0 where
   pub chunk : ChunkValue
   pub end : SendEnd
   pub cut : (out_at old.core dst).outbox ≡ Some chunk
@@ -68,7 +68,7 @@ HasNoneToSend fabric node dst =
 
 -- for the first partition to which one can go
 abbrev pub SendStep : FabricValue → NodeState → Stepped → NodeState → Type 0
-SendStep fabric old Did new = (dst : ℕ) × Sends old dst new × ((lower : ℕ) → lower < dst → HasNoneToSend fabric old lower)
+SendStep fabric old Did new = (dst : ℕ) × SendsChunk old dst new × ((lower : ℕ) → lower < dst → HasNoneToSend fabric old lower)
 SendStep fabric old Nothing new = (new ≡ old) × ((dst : ℕ) → HasNoneToSend fabric old dst)
 SendStep fabric old Memory new = ⊥
 

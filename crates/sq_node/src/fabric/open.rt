@@ -7,7 +7,7 @@ ghost use Rattle.sq_pull.specs.Seats.{AreSeatsOf};
 ghost use Rattle.sq_pull.specs.declared.numbers.TheConstants.{MAX_PUMPS};
 ghost use Rattle.sq_node.specs.Ends.{link_from, send_end, recv_end, AreSendEnds, AreRecvEnds};
 ghost use Rattle.sq_node.specs.FabricValue.{ends_of, AreFirst, IsFabric};
-ghost use Rattle.sq_node.specs.Opened.{AreFirstSeats, AreNewSeats, GaveEach, GivesOut, HaveCapacity, HasAllEnds, HasSendEnds, HasRecvEnds, LeavesSendEnds, LeavesRecvEnds, HaveSentNothing, HaveReceivedNothing, AreNewSends, AreNewRecvs, IsFabricOf, IsNewNode, AreNewNodes, IsNewPump, AreNewPumps, IsResumed, IsOpened, opened_stores, started_core};
+ghost use Rattle.sq_node.specs.Opened.{AreFirstSeats, AreNewSeats, GaveEach, GivesOut, HaveCapacity, HasAllEnds, HasSendEnds, HasRecvEnds, LeavesSendEnds, LeavesRecvEnds, HaveSentNothing, HaveReceivedNothing, AreNewSends, AreNewRecvs, IsFabricOf, IsNewNode, AreNewNodes, IsNewPump, AreNewPumps, IsReopened, IsOpened, opened_stores, started_core};
 
 use super::{Fabric, JOB_PLACES, REQUEST_PLACES};
 use crate::ends::{Receiver, RecvEnd, SendEnd, Sender};
@@ -87,7 +87,7 @@ pub(super) fn open_run(
 ) -> Result<(Fabric, Vec<Node>, Vec<Pump>), Vec<SlabStore>>
     requires stores { length stores.items ≡ opening.now.old.parts }
     requires pumps { pumps ≤ MAX_PUMPS }
-    ensures run { IfOk result (λ run. IsResumed opening.now stage stores.items [] pumps run.0 run.1.items run.2.items) }
+    ensures run { IfOk result (λ run. IsReopened opening.now stage stores.items [] pumps run.0 run.1.items run.2.items) }
     ensures back { IfErr result (λ back. back.items ≡ stores.items) }
 {
     let Ok((mut fabric, mut ends)) = open_fabric(alloc, opening, stage) else {

@@ -1,7 +1,7 @@
 // Going on with a run in a stage.
 ghost use Rattle.std.specs.Prelude.{◌≡◌, ◌↔◌, ◌≤◌, length, IfOk, IfErr, OnOk, IsTrue};
 ghost use Rattle.sq_pull.specs.declared.numbers.TheConstants.{MAX_PUMPS};
-ghost use Rattle.sq_node.specs.Opened.{IsResumed, AllHoldAsBegun, HasStageFor};
+ghost use Rattle.sq_node.specs.Opened.{IsReopened, AllHoldAsBegun, HasStageFor};
 
 use super::Fabric;
 use super::left::{open_rooms, post_left};
@@ -42,7 +42,7 @@ impl Fabric {
         pumps: u32,
     ) -> Result<(Fabric, Vec<Node>, Vec<Pump>), Unresumed>
         requires { pumps ≤ MAX_PUMPS }
-        ensures run { IfOk result (λ run. IsResumed opening.now stage stores.items receipts.items pumps run.0 run.1.items run.2.items) }
+        ensures run { IfOk result (λ run. IsReopened opening.now stage stores.items receipts.items pumps run.0 run.1.items run.2.items) }
         ensures holds { IfOk result (λ run. AllHoldAsBegun opening.now run.0 stores.items run.1.items) }
         ensures fits { OnOk result (HasStageFor opening.now stage (length stores.items) (length left.items)) }
         ensures stores { IfErr result (λ back. back.stores.items ≡ stores.items) }

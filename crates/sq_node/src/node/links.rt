@@ -6,7 +6,7 @@ ghost use Rattle.sq_exec.specs.OutLink.{may_cut};
 ghost use Rattle.sq_node.specs.FabricValue.{FabricValue};
 ghost use Rattle.sq_node.specs.NodeState.{IsNodeOf};
 ghost use Rattle.sq_node.specs.Holds.{KeepsAll, HasNoneLoadable};
-ghost use Rattle.sq_node.specs.Steps.{Sends, Receives, HasNoneToCut, HasNoneToSend, HasNoneToReceive, CutStep, SendStep, RecvStep, LoadStep, may_load_now};
+ghost use Rattle.sq_node.specs.Steps.{SendsChunk, Receives, HasNoneToCut, HasNoneToSend, HasNoneToReceive, CutStep, SendStep, RecvStep, LoadStep, may_load_now};
 
 use super::Node;
 use crate::fabric::Fabric;
@@ -64,7 +64,7 @@ impl Node {
     fn send_to<R: Wait>(&mut self, rt: &R, fabric: &Fabric, dst: PartId) -> bool
         requires node { IsNodeOf fabric.now self.old }
         requires part { dst < fabric.now.parts }
-        ensures { MatchBool result (Sends self.old dst self.new) ((self.new ≡ self.old) × HasNoneToSend fabric.now self.old dst) }
+        ensures { MatchBool result (SendsChunk self.old dst self.new) ((self.new ≡ self.old) × HasNoneToSend fabric.now self.old dst) }
     {
         if self.core.outbox(dst).is_none() {
             return false;

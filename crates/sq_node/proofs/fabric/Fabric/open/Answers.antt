@@ -5,7 +5,7 @@ use Rattle.sq_opened.specs.Opened.{opened_part}
 use Rattle.sq_node_model.specs.BeganWith.{first_began}
 use Rattle.sq_node_model.proofs.Began.{first_can}
 use Rattle.sq_node.specs.FabricValue.{HasBegun}
-use Rattle.sq_node.specs.Opened.{IsResumed, opened_stores}
+use Rattle.sq_node.specs.Opened.{IsReopened, opened_stores}
 use Rattle.sq_node.proofs.NewNodes.{all_owned_open, new_nodes_hold}
 use Rattle.sq_node.proofs.fabric.Fabric.open.Goals as goal
 
@@ -19,7 +19,7 @@ returns-in-Ok c =
     let o = c.args.opening.now in
     let fabric = c.in-Ok.fabric in
     let nodes = c.in-Ok.nodes.items in
-    let run = subst (λ (stores : List StoreValue). IsResumed o 0 stores [] c.args.pumps fabric nodes c.in-Ok.pumps.items) c.in_ok-stores.ensures.stores c.in-Ok.ensures.run in
+    let run = subst (λ (stores : List StoreValue). IsReopened o 0 stores [] c.args.pumps fabric nodes c.in-Ok.pumps.items) c.in_ok-stores.ensures.stores c.in-Ok.ensures.run in
     let begun : HasBegun (first_began o) fabric = record { stage = sym run.stage; receipts = sym run.receipts } in
     record {
       shared = run.shared;

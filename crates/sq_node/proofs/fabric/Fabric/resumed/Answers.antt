@@ -1,7 +1,7 @@
 use Rattle.std.proofs.Common.{rules, ◌≡◌, List, ap, sym, subst, ◌∙◌, length}
 use Rattle.sq_node.specs.FabricValue.{FabricValue}
 use Rattle.sq_node.specs.NodeState.{NodeState}
-use Rattle.sq_node.specs.Opened.{IsResumed}
+use Rattle.sq_node.specs.Opened.{IsReopened}
 use Rattle.sq_node.proofs.NewNodes.{told_run, new_nodes_hold}
 use Rattle.sq_node.proofs.fabric.Fabric.resumed.Goals as goal
 
@@ -14,8 +14,8 @@ returns-in-Ok-open_run-clause-run c =
     let nodes = c.in-Ok-open_run.nodes.items in
     let pumps = c.in-Ok-open_run.pumps.items in
     let same : c.post_left.new.fabric ≡ record fabric { receipts = told } = c.post_left.ensures.fabric ∙ ap (λ (f : FabricValue). record f { receipts = told }) c.fabric.view_is in
-    subst (λ (f : FabricValue). IsResumed o c.args.stage stores told c.args.pumps f c.post_left.new.nodes.items pumps) (sym same)
-    (subst (λ (ns : List NodeState). IsResumed o c.args.stage stores told c.args.pumps (record fabric { receipts = told }) ns pumps) (sym c.post_left.ensures.nodes)
+    subst (λ (f : FabricValue). IsReopened o c.args.stage stores told c.args.pumps f c.post_left.new.nodes.items pumps) (sym same)
+    (subst (λ (ns : List NodeState). IsReopened o c.args.stage stores told c.args.pumps (record fabric { receipts = told }) ns pumps) (sym c.post_left.ensures.nodes)
     (told_run o c.args.stage stores told c.args.pumps fabric nodes pumps c.in-Ok-open_run.ensures.run))
 
 pub returns-in-Ok-open_run-clause-holds : goal.returns-in-Ok-open_run-clause-holds
