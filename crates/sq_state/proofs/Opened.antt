@@ -26,7 +26,7 @@ use Rattle.sq_exec.specs.OutLink.{new_out_link}
 use Rattle.sq_exec.specs.CoreValue.{CoreValue, out_at, inbox_at}
 use Rattle.sq_model.specs.Tables.{opening_rows, family_of}
 use Rattle.sq_model.specs.Place.{source}
-use Rattle.sq_transition.specs.WorldValue.{WorldValue, QueueValue, LinkValue, no_core, no_queue, core_at, queue_at, link_of, link_value}
+use Rattle.sq_transition.specs.WorldValue.{WorldValue, QueueValue, WholeLink, no_core, no_queue, core_at, queue_at, link_of, link_value}
 use Rattle.sq_transition.specs.Leading.{phase_of, parts_of, moves_of, stage_of, has_prepared, has_reported}
 use Rattle.sq_transition.specs.Holds.{share_at, LinkHolds, MovesHold, IsSetFor, CoreHolds, Holds}
 use Rattle.sq_state.specs.Queue.{opened_queue}
@@ -35,7 +35,7 @@ use Rattle.sq_opened.proofs.Families.{get_opened}
 use Rattle.sq_state.specs.Openings.{AreNewTrees, AreNewQueues}
 
 -- a link that has carried nothing
-abbrev new_link : Link → LinkValue
+abbrev new_link : Link → WholeLink
 new_link link = record { src = link.src; dst = link.dst; out = new_out_link; queue = []; inbox = None }
 
 -- it is what the empty history says of it

@@ -34,7 +34,7 @@ use Rattle.sq_model.specs.Nodes.{Item, items, status_of}
 use Rattle.sq_model.specs.Place.{extent_of, extent_in}
 use Rattle.sq_model.specs.Links.{is_about, has_last, reached, end_of_note, is_on_link, goes, is_open, open_items}
 use Rattle.sq_model.specs.Answers.{answer, begin_answered}
-use Rattle.sq_transition.specs.WorldValue.{WorldValue, LinkValue, core_at, with_core, link_index, link_value, status_in, source_of}
+use Rattle.sq_transition.specs.WorldValue.{WorldValue, WholeLink, core_at, with_core, link_index, link_value, status_in, source_of}
 use Rattle.sq_transition.specs.TreeResults.{with_node, if_done, with_begun}
 use Rattle.sq_transition.specs.Transition.{step_result}
 use Rattle.sq_transition.specs.Holds.{LinkHolds, LinksHold, CoreHolds, PartitionsHold, work_of, leaves_from, is_leaf_begun}
@@ -110,7 +110,7 @@ whole_is o t core seg node pull range same a =
     λ i. record { seg = seg; node = node; pull = pull; rest = low i; hi = (keys i).hi }
 
 -- the link of the node
-more_link : (o : OpeningValue) (t : Trace) (seg node pull : ℕ) (l : LinkValue) (work : WorkValue) → LinkHolds o t l → is_open o t l.src l.dst (item_of seg node pull) ≡ true → work ≡ work_of o (notes t) (item_of seg node pull)
+more_link : (o : OpeningValue) (t : Trace) (seg node pull : ℕ) (l : WholeLink) (work : WorkValue) → LinkHolds o t l → is_open o t l.src l.dst (item_of seg node pull) ≡ true → work ≡ work_of o (notes t) (item_of seg node pull)
     → LinkHolds o ((Begin seg node pull, Done) ∷ t) (record l { out = with_work l.out work })
 more_link o t seg node pull l work h mine is =
     record {

@@ -32,7 +32,7 @@ use Rattle.sq_model.specs.Answers.{answer, cut_for}
 use Rattle.sq_model.proofs.Lists.{kept_in, row_bounds, Contains-first, Contains-later, Contains-slice_get}
 use Rattle.sq_model.proofs.Tiles.{end_of_in, is_about-from}
 use Rattle.sq_model.proofs.Apart.{covers_bounds}
-use Rattle.sq_transition.specs.WorldValue.{WorldValue, LinkValue, core_at, with_core, link_value, option_list, under_way}
+use Rattle.sq_transition.specs.WorldValue.{WorldValue, WholeLink, core_at, with_core, link_value, option_list, under_way}
 use Rattle.sq_transition.specs.LinkResults.{cut_work}
 use Rattle.sq_transition.specs.LeaderResults.{StepResult, refuse}
 use Rattle.sq_transition.specs.Transition.{step_result}
@@ -322,7 +322,7 @@ work_stays o t note src dst off = ap (λ p. map (work_of o (note ∷ notes t)) (
         (λ x e. work_other o t note x (ap (λ b. b && (note.node == x.node)) (ne_eqb note.seg x.seg (λ one. true≢false (sym (open_parts o t src dst x e).0 ∙ subst (λ g. is_on_link o src dst g ≡ false) one off)))))
 
 -- the link after the cut
-module _ (o : OpeningValue) (t : Trace) (src dst count at : ℕ) (item : Item) (l : LinkValue) (chunk : ChunkValue) (lh : LinkHolds o t l) (starts : l.src ≡ src) (ends : l.dst ≡ dst) (none : l.out.outbox ≡ None)
+module _ (o : OpeningValue) (t : Trace) (src dst count at : ℕ) (item : Item) (l : WholeLink) (chunk : ChunkValue) (lh : LinkHolds o t l) (starts : l.src ≡ src) (ends : l.dst ≡ dst) (none : l.out.outbox ≡ None)
     (d : IsDistinct is_same_node (items t)) (there : slice_get (open_items o t src dst) at ≡ Some item) (is_open_item : is_open o t src dst item ≡ true)
     (is_note : chunk.note ≡ next_note o t src dst item) (c : ChunkHolds o t chunk) where
   on_it : link l.src l.dst (chunk.note ∷ notes t) ≡ chunk.note ∷ link l.src l.dst (notes t)

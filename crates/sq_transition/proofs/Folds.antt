@@ -21,7 +21,7 @@ use Rattle.sq_model.specs.Tables.{now, base_of, stands, family_of}
 use Rattle.sq_model.specs.Place.{At, place, destination}
 use Rattle.sq_model.specs.Answers.{answer}
 use Rattle.sq_model.proofs.Tables.{rows_now}
-use Rattle.sq_transition.specs.WorldValue.{WorldValue, LinkValue, core_at, with_core, link_value, under_way}
+use Rattle.sq_transition.specs.WorldValue.{WorldValue, WholeLink, core_at, with_core, link_value, under_way}
 use Rattle.sq_transition.specs.Transition.{step_result}
 use Rattle.sq_transition.specs.Holds.{LinkHolds, ChunkHolds, CoreHolds, share, share_at, is_at}
 use Rattle.sq_transition.proofs.Changed.{PartsHold}
@@ -34,7 +34,7 @@ use Rattle.sq_transition.proofs.Runs.{IsAway}
 -- what a fold rests on: once the reconfiguration has ended each root key is where the new plan has it, and no chunk under way covers a root key that is at a partition
 pub record FoldFacts (o : OpeningValue) (t : Trace) : Type 0 where
   pub placed : phase t ≡ Ended → (root : ℕ) → place o t root ≡ At (destination o root)
-  pub away : (root part : ℕ) → place o t root ≡ At part → (l : LinkValue) → LinkHolds o t l → (i : ℕ) (chunk : ChunkValue) → slice_get (under_way l) i ≡ Some chunk → IsAway o t root chunk
+  pub away : (root part : ℕ) → place o t root ≡ At part → (l : WholeLink) → LinkHolds o t l → (i : ℕ) (chunk : ChunkValue) → slice_get (under_way l) i ≡ Some chunk → IsAway o t root chunk
 
 -- the history with one more fold
 abbrev pub folded_more : Trace → ℕ → Trace

@@ -20,7 +20,7 @@ use Rattle.sq_model.specs.Leader.{phase, is_started, is_started_phase, is_moving
 use Rattle.sq_tree.specs.Reading.{is_complete_reading}
 use Rattle.sq_model.specs.Answers.{answer, is_whole, is_into, has_all, goes_into, counts_reported, partitions, segment_numbers, is_last_stage}
 use Rattle.sq_model.proofs.Lists.{list_all-Contains, row_has}
-use Rattle.sq_transition.specs.WorldValue.{WorldValue, LinkValue, running_stage, no_core, core_at, queue_at, link_value}
+use Rattle.sq_transition.specs.WorldValue.{WorldValue, WholeLink, running_stage, no_core, core_at, queue_at, link_value}
 use Rattle.sq_transition.specs.Leading.{parts_of, has_prepared, has_reported, after_prepare, after_start, after_report, after_next, after_finish}
 use Rattle.sq_transition.specs.LeaderResults.{started_core, entered, runs_last, all_reported, is_segment_into, is_segment_whole, segment_range}
 use Rattle.sq_transition.specs.Transition.{step_result}
@@ -77,7 +77,7 @@ module _ (w : WorldValue) (leader : Leader) (told : CoreValue → CoreValue) whe
 
   -- their links stay where it doesn't change their ends
   links_told : (o : OpeningValue) (t after : Trace) → ((dst : ℕ) (core : CoreValue) → out_at (told core) dst ≡ out_at core dst) → ((src : ℕ) (core : CoreValue) → inbox_at (told core) src ≡ inbox_at core src)
-      → ((l : LinkValue) → LinkHolds o t l → LinkHolds o after l) → LinksHold o t w → LinksHold o after all_told
+      → ((l : WholeLink) → LinkHolds o t l → LinkHolds o after l) → LinksHold o t w → LinksHold o after all_told
   links_told o t after out_same inbox_same keeps h =
       record {
         each = λ j within. subst (LinkHolds o after) (sym (link_same j)) (keeps (link_value w j) (h.each j within));

@@ -17,7 +17,7 @@ use Rattle.sq_model.proofs.Lists.{nothing_found, Contains-nothing, Contains-case
 use Rattle.sq_model.proofs.Statuses.{distinct_items}
 use Rattle.sq_model.proofs.Notes.{SegmentGoes, LoadNext, note_goes, prefix, next_has, next_found, open_item}
 use Rattle.sq_model.proofs.Places.{uncut_unloaded, left_uncut, left_home, next_place, goes_below}
-use Rattle.sq_transition.specs.WorldValue.{LinkValue, under_way}
+use Rattle.sq_transition.specs.WorldValue.{WholeLink, under_way}
 use Rattle.sq_transition.specs.Holds.{LinkHolds, comes_into}
 use Rattle.sq_transition.proofs.LinkEnds.{EndsBelow}
 use Rattle.sq_transition.proofs.Loads.{NextFacts, LoadFacts}
@@ -34,7 +34,7 @@ Contains-reverse (y ∷ xs) x has =
     ])
 
 -- the note of a chunk under way is one of those that aren't loaded
-pub on_its_way : (o : OpeningValue) (t : Trace) (l : LinkValue) → LinkHolds o t l → (i : ℕ) (chunk : ChunkValue) → slice_get (under_way l) i ≡ Some chunk → Contains (reverse (drop (load_count t l.src l.dst) l.out.notes)) chunk.note
+pub on_its_way : (o : OpeningValue) (t : Trace) (l : WholeLink) → LinkHolds o t l → (i : ℕ) (chunk : ChunkValue) → slice_get (under_way l) i ≡ Some chunk → Contains (reverse (drop (load_count t l.src l.dst) l.out.notes)) chunk.note
 on_its_way o t l h i chunk at =
     Contains-reverse (drop (load_count t l.src l.dst) l.out.notes) chunk.note
     (Contains-slice_get (drop (load_count t l.src l.dst) l.out.notes) i chunk.note

@@ -16,7 +16,7 @@ use Rattle.sq_model.specs.declared.answer.Refusal.TheVariants.{NoSuchLink}
 use Rattle.sq_model.specs.Trace.{Trace, stage, notes, link, push_count, pop_count, load_count}
 use Rattle.sq_model.specs.Links.{open_items}
 use Rattle.sq_model.specs.Answers.{while_moving, on_link}
-use Rattle.sq_transition.specs.WorldValue.{WorldValue, running_stage, QueueValue, LinkValue, no_queue, queue_at, with_queue, link_index, link_value, option_list, under_way}
+use Rattle.sq_transition.specs.WorldValue.{WorldValue, running_stage, QueueValue, WholeLink, no_queue, queue_at, with_queue, link_index, link_value, option_list, under_way}
 use Rattle.sq_transition.specs.LeaderResults.{StepResult, refuse}
 use Rattle.sq_transition.specs.LinkResults.{if_link, result_at_link}
 use Rattle.sq_transition.specs.Holds.{LinkHolds, LinksHold, ChunkHolds, work_of}
@@ -130,7 +130,7 @@ pub record SaySame (o : OpeningValue) (t after : Trace) (src dst : ℕ) : Type 0
   pub pushed : push_count after src dst ≡ push_count t src dst
 
 -- then the link stays, if its chunks do
-pub link_kept : (o : OpeningValue) (t after : Trace) (l : LinkValue) → LinkHolds o t l → SaySame o t after l.src l.dst
+pub link_kept : (o : OpeningValue) (t after : Trace) (l : WholeLink) → LinkHolds o t l → SaySame o t after l.src l.dst
     → ((i : ℕ) (chunk : ChunkValue) → slice_get (under_way l) i ≡ Some chunk → ChunkHolds o t chunk → ChunkHolds o after chunk) → LinkHolds o after l
 link_kept o t after l h same kept = record {
   work = h.work ∙ sym same.work;

@@ -27,7 +27,7 @@ use Rattle.sq_model.specs.Place.{At, Under_way, place, cut_place, loaded_place}
 use Rattle.sq_model.specs.Links.{has_last, family_count}
 use Rattle.sq_model.specs.Orderly.{IsPrefix}
 use Rattle.sq_model.specs.Answers.{answer, load_of}
-use Rattle.sq_transition.specs.WorldValue.{WorldValue, LinkValue, core_at, with_core, link_value, option_list, under_way}
+use Rattle.sq_transition.specs.WorldValue.{WorldValue, WholeLink, core_at, with_core, link_value, option_list, under_way}
 use Rattle.sq_transition.specs.LinkResults.{load_chunk}
 use Rattle.sq_transition.specs.Transition.{step_result}
 use Rattle.sq_transition.specs.Holds.{CoreHolds, LinkHolds, ChunkHolds, share, share_at, is_at, is_key_loaded, comes_into}
@@ -172,7 +172,7 @@ more_loads : (src dst s d : ℕ) (note : Note) (loads : List Note) → note.src 
 more_loads src dst s d note loads from to = λ i. if (from i == s) && (to i == d) then note ∷ link s d loads else link s d loads
 
 -- a link whose oldest chunk was loaded
-unloaded : (o : OpeningValue) (t : Trace) (src dst count : ℕ) (l : LinkValue) (chunk : ChunkValue) → LinkHolds o t l → l.inbox ≡ Some chunk → l.src ≡ src → l.dst ≡ dst → NextFacts o t src dst chunk.note
+unloaded : (o : OpeningValue) (t : Trace) (src dst count : ℕ) (l : WholeLink) (chunk : ChunkValue) → LinkHolds o t l → l.inbox ≡ Some chunk → l.src ≡ src → l.dst ≡ dst → NextFacts o t src dst chunk.note
     → LinkHolds o (loaded t src dst chunk.note count) (record l { inbox = None })
 unloaded o t src dst count l chunk h full same_src same_dst facts =
     let here : link l.src l.dst (chunk.note ∷ loads t) ≡ chunk.note ∷ link l.src l.dst (loads t) =
@@ -195,7 +195,7 @@ unloaded o t src dst count l chunk h full same_src same_dst facts =
     }
 
 -- the chunk that came to the destination of a link
-came_first : (o : OpeningValue) (t : Trace) (l : LinkValue) (chunk : ChunkValue) → LinkHolds o t l → l.inbox ≡ Some chunk → ChunkHolds o t chunk
+came_first : (o : OpeningValue) (t : Trace) (l : WholeLink) (chunk : ChunkValue) → LinkHolds o t l → l.inbox ≡ Some chunk → ChunkHolds o t chunk
 came_first o t l chunk h full = h.chunks 0 chunk (ap (λ box. slice_get (option_list box ++ (l.queue ++ option_list l.out.outbox)) 0) full)
 
 -- the world after a chunk was loaded
@@ -249,7 +249,7 @@ same_rest us vs xs ys e even =
     sym (drop-append_seam us xs) ∙ (λ i. drop (len i) (e i)) ∙ drop-append_seam vs ys
 
 -- the notes of a link that aren't loaded, and those that are
-pub way_and_loads : (o : OpeningValue) (t : Trace) (l : LinkValue) → LinkHolds o t l → IsPrefix t l.src l.dst → reverse (drop (load_count t l.src l.dst) l.out.notes) ++ link l.src l.dst (loads t) ≡ link l.src l.dst (notes t)
+pub way_and_loads : (o : OpeningValue) (t : Trace) (l : WholeLink) → LinkHolds o t l → IsPrefix t l.src l.dst → reverse (drop (load_count t l.src l.dst) l.out.notes) ++ link l.src l.dst (loads t) ≡ link l.src l.dst (notes t)
 way_and_loads o t l h prefix =
     let n = load_count t l.src l.dst in
     let parts : reverse (drop n l.out.notes) ++ reverse (take n l.out.notes) ≡ link l.src l.dst (notes t) =
@@ -257,7 +257,7 @@ way_and_loads o t l h prefix =
     let even : length (reverse (take n l.out.notes)) ≡ length (link l.src l.dst (loads t)) = length-reverse (take n l.out.notes) ∙ length-take-le n l.out.notes h.few_loaded in
     ap (λ ns. reverse (drop n l.out.notes) ++ ns) (sym (same_rest (reverse (drop n l.out.notes)) prefix.0 (reverse (take n l.out.notes)) (link l.src l.dst (loads t)) (parts ∙ sym prefix.1) even)) ∙ parts
 
-pub next_note_of : (o : OpeningValue) (t : Trace) (l : LinkValue) (chunk : ChunkValue) → LinkHolds o t l → IsPrefix t l.src l.dst → l.inbox ≡ Some chunk
+pub next_note_of : (o : OpeningValue) (t : Trace) (l : WholeLink) (chunk : ChunkValue) → LinkHolds o t l → IsPrefix t l.src l.dst → l.inbox ≡ Some chunk
     → reverse (map (λ (c : ChunkValue). c.note) (l.queue ++ option_list l.out.outbox)) ++ chunk.note ∷ link l.src l.dst (loads t) ≡ link l.src l.dst (notes t)
 next_note_of o t l chunk h prefix full =
     let rest = map (λ (c : ChunkValue). c.note) (l.queue ++ option_list l.out.outbox) in

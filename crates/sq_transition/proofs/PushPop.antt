@@ -12,7 +12,7 @@ use Rattle.sq_model.specs.declared.answer.Answer.TheVariants.{Done, Refused}
 use Rattle.sq_model.specs.declared.answer.Refusal.TheVariants.{OutboxEmpty, LinkFull, LinkEmpty, InboxFull}
 use Rattle.sq_model.specs.Trace.{Trace, cut_count, push_count, pop_count, load_count}
 use Rattle.sq_model.specs.Answers.{answer}
-use Rattle.sq_transition.specs.WorldValue.{WorldValue, LinkValue, core_at, with_core, queue_at, with_queue, link_value, option_list, under_way}
+use Rattle.sq_transition.specs.WorldValue.{WorldValue, WholeLink, core_at, with_core, queue_at, with_queue, link_value, option_list, under_way}
 use Rattle.sq_transition.specs.LeaderResults.{refuse}
 use Rattle.sq_transition.specs.LinkResults.{sent_core, push_chunk, pop_chunk}
 use Rattle.sq_transition.specs.Transition.{step_result}
@@ -32,12 +32,12 @@ pub count_there : (b : Bool) (n : ℕ) → b ≡ false → (if b then n + 1 else
 count_there b n e = ap (λ c. if c then n + 1 else n) e
 
 -- how many chunks of a link are where, by its ends
-pub record CountedAt (t : Trace) (from to : ℕ) (l : LinkValue) : Type 0 where
+pub record CountedAt (t : Trace) (from to : ℕ) (l : WholeLink) : Type 0 where
   pub cut : cut_count t from to ≡ push_count t from to + length (option_list l.out.outbox)
   pub pushed : push_count t from to ≡ pop_count t from to + length l.queue
   pub popped : pop_count t from to ≡ load_count t from to + length (option_list l.inbox)
 
-counted : (o : OpeningValue) (t : Trace) (l : LinkValue) → LinkHolds o t l → CountedAt t l.src l.dst l
+counted : (o : OpeningValue) (t : Trace) (l : WholeLink) → LinkHolds o t l → CountedAt t l.src l.dst l
 counted o t l h =
     let way = sym (length-map (under_way l) (λ (chunk : ChunkValue). chunk.note)) ∙ ap length h.way ∙ length-drop (load_count t l.src l.dst) l.out.notes in
     let parts = length-append (option_list l.inbox) (l.queue ++ option_list l.out.outbox) in
@@ -50,7 +50,7 @@ counted_at o t w i src dst h from =
     subst (λ (p : ℕ × ℕ). CountedAt t p.0 p.1 (link_value w i)) (λ k. (from.starts k, from.ends k)) (counted o t (link_value w i) (h.links.each i from.within))
 
 -- a link whose chunk went from the outbox into the queue
-pushed_link : (o : OpeningValue) (t : Trace) (src dst : ℕ) (l : LinkValue) (chunk : ChunkValue) → LinkHolds o t l → l.src ≡ src → l.dst ≡ dst → l.out.outbox ≡ Some chunk
+pushed_link : (o : OpeningValue) (t : Trace) (src dst : ℕ) (l : WholeLink) (chunk : ChunkValue) → LinkHolds o t l → l.src ≡ src → l.dst ≡ dst → l.out.outbox ≡ Some chunk
     → LinkHolds o ((Push src dst, Done) ∷ t) (record l { out = record l.out { outbox = None }; queue = l.queue ++ chunk ∷ [] })
 pushed_link o t src dst l chunk h starts ends full =
     let same : option_list l.inbox ++ ((l.queue ++ chunk ∷ []) ++ []) ≡ under_way l = ap (λ q. option_list l.inbox ++ q) (append-nil (l.queue ++ chunk ∷ []) ∙ ap (λ out. l.queue ++ option_list out) (sym full)) in
@@ -97,7 +97,7 @@ push_holds o t w src dst i chunk h from full =
     let new : WorldValue = with_queue one i chunks in
     let here : link_value new i ≡ record l { out = record l.out { outbox = None }; queue = chunks } =
     queue_set one i chunks from.within
-    ∙ ap (λ (link : LinkValue). record link { queue = chunks }) (out_set w i src dst sent from there refl)
+    ∙ ap (λ (link : WholeLink). record link { queue = chunks }) (out_set w i src dst sent from there refl)
     ∙ ap (λ (out : OutLinkValue). record l { out = out; queue = chunks }) (put ∙ ap (λ (out : OutLinkValue). record out { outbox = None }) (sym out_is)) in
     links_changed
     (partitions_changed h (core_set o t after w src sent h.partitions below.source (sent_holds o t src dst src core (h.partitions.each src below.source)) (λ _ _ _ c. c)))
@@ -134,7 +134,7 @@ pub push_keeps : (o : OpeningValue) (t : Trace) (w : WorldValue) (src dst : ℕ)
 push_keeps o t w src dst h = keeps_link o t w (Push src dst) src dst _ _ h (λ i from. push_case o t w src dst i (out_at (core_at w src) dst).outbox h from refl)
 
 -- a link whose oldest chunk went from the queue to its destination
-popped_link : (o : OpeningValue) (t : Trace) (src dst : ℕ) (l : LinkValue) (chunk : ChunkValue) (queue : List ChunkValue) → LinkHolds o t l → l.src ≡ src → l.dst ≡ dst → l.queue ≡ chunk ∷ queue → l.inbox ≡ None
+popped_link : (o : OpeningValue) (t : Trace) (src dst : ℕ) (l : WholeLink) (chunk : ChunkValue) (queue : List ChunkValue) → LinkHolds o t l → l.src ≡ src → l.dst ≡ dst → l.queue ≡ chunk ∷ queue → l.inbox ≡ None
     → LinkHolds o ((Pop src dst, Done) ∷ t) (record l { queue = queue; inbox = Some chunk })
 popped_link o t src dst l chunk queue h starts ends full free =
     let same : chunk ∷ [] ++ (queue ++ option_list l.out.outbox) ≡ under_way l = λ j. option_list (sym free j) ++ (sym full j ++ option_list l.out.outbox) in
@@ -180,7 +180,7 @@ pop_holds o t w src dst i chunk chunks h from full free =
     let new : WorldValue = with_queue one i chunks in
     let here : link_value new i ≡ record l { queue = chunks; inbox = Some chunk } =
     queue_set one i chunks from.within
-    ∙ ap (λ (link : LinkValue). record link { queue = chunks }) (inbox_set w i src dst came from there refl)
+    ∙ ap (λ (link : WholeLink). record link { queue = chunks }) (inbox_set w i src dst came from there refl)
     ∙ ap (λ (inbox : Option ChunkValue). record l { queue = chunks; inbox = inbox }) put in
     links_changed
     (partitions_changed h (core_set o t after w dst came h.partitions below.destination (came_holds o t src dst dst core chunk (h.partitions.each dst below.destination)) (λ _ _ _ c. c)))

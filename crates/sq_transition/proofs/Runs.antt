@@ -25,7 +25,7 @@ use Rattle.sq_model.specs.Place.{At, place, destination, runner, is_coming}
 use Rattle.sq_model.specs.Waiting.{waiting}
 use Rattle.sq_model.proofs.Waiters.{is_on}
 use Rattle.sq_model.proofs.Tables.{rows_now}
-use Rattle.sq_transition.specs.WorldValue.{WorldValue, LinkValue, core_at, with_core, link_value, under_way}
+use Rattle.sq_transition.specs.WorldValue.{WorldValue, WholeLink, core_at, with_core, link_value, under_way}
 use Rattle.sq_transition.specs.Holds.{LeaderHolds, SegmentsHold, LinkHolds, ChunkHolds, CoreHolds, share, share_at, is_at}
 use Rattle.sq_transition.proofs.Sets.{by_place}
 use Rattle.sq_transition.proofs.Changed.{PartsHold}
@@ -42,7 +42,7 @@ IsAway o t root chunk = covers chunk.note root ≡ false
 pub record RunningFacts (o : OpeningValue) (t : Trace) : Type 0 where
   pub routing : RoutingFacts o t
   pub placed : (root part : ℕ) → runner o t root ≡ Some part → place o t root ≡ At part
-  pub away : (root part : ℕ) → runner o t root ≡ Some part → (l : LinkValue) → LinkHolds o t l → (i : ℕ) (chunk : ChunkValue) → slice_get (under_way l) i ≡ Some chunk → IsAway o t root chunk
+  pub away : (root part : ℕ) → runner o t root ≡ Some part → (l : WholeLink) → LinkHolds o t l → (i : ℕ) (chunk : ChunkValue) → slice_get (under_way l) i ≡ Some chunk → IsAway o t root chunk
   pub resumes : (part root : ℕ) → is_on root (waiting o t part) ≡ true → is_coming o t part root ≡ false → runner o t root ≡ Some part
 
 -- the committed transactions after one with this reply
@@ -168,7 +168,7 @@ ran_core core txn given waits = record core { store = store_after core.store txn
 
 -- the world after a transaction ran: a chunk under way has no family of its root key, so it stays what it is
 pub ran_holds : (o : OpeningValue) (t after : Trace) (w : WorldValue) (part : ℕ) (txn : TxnValue) (given : Reply) (waits : List TxnValue) → SaysRan o t after part txn given → PartsHold o t w → part < o.old.parts → place o t txn.root ≡ At part
-    → ((l : LinkValue) → LinkHolds o t l → (i : ℕ) (chunk : ChunkValue) → slice_get (under_way l) i ≡ Some chunk → IsAway o t txn.root chunk)
+    → ((l : WholeLink) → LinkHolds o t l → (i : ℕ) (chunk : ChunkValue) → slice_get (under_way l) i ≡ Some chunk → IsAway o t txn.root chunk)
     → waits ≡ waiting o after part
     → PartsHold o after (with_core w part (ran_core (core_at w part) txn given waits))
 ran_holds o t after w part txn given waits says h there placed away waits_are =

@@ -23,7 +23,7 @@ use Rattle.sq_model.specs.Tables.{stands, family_of}
 use Rattle.sq_model.specs.Place.{Place, At, Under_way, place, extent_of}
 use Rattle.sq_model.specs.Links.{reached, has_last, open_items}
 use Rattle.sq_model.specs.Waiting.{waiting}
-use Rattle.sq_transition.specs.WorldValue.{WorldValue, LinkValue, running_stage, core_at, status_in, link_index, queue_at, link_value, option_list, under_way}
+use Rattle.sq_transition.specs.WorldValue.{WorldValue, WholeLink, running_stage, core_at, status_in, link_index, queue_at, link_value, option_list, under_way}
 use Rattle.sq_transition.specs.Leading.{phase_of, parts_of, moves_of, has_prepared, has_reported}
 
 abbrev pub is_at : ℕ → Place → Bool
@@ -58,7 +58,7 @@ work_of o notes item =
     }
 
 -- a link has the notes and the open nodes that the history says, and holds the chunks that were cut and aren't loaded
-abbrev pub LinkHolds : OpeningValue → Trace → LinkValue → Type 0
+abbrev pub LinkHolds : OpeningValue → Trace → WholeLink → Type 0
 LinkHolds o t link_now =
     record {
       work : link_now.out.work ≡ map (work_of o (notes t)) (open_items o t link_now.src link_now.dst);

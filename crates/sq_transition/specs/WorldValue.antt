@@ -101,7 +101,7 @@ abbrev pub destination_of : WorldValue → ℕ → ℕ
 destination_of w seg = option_map_or (λ range. range.dst) (range_of w seg) 0
 
 -- a link as a whole: the source's end of it, the queue, and the chunk that came and isn't loaded
-pub record LinkValue : Type 0 where
+pub record WholeLink : Type 0 where
   pub src : ℕ
   pub dst : ℕ
   pub out : OutLinkValue
@@ -109,7 +109,7 @@ pub record LinkValue : Type 0 where
   pub inbox : Option ChunkValue
 
 -- the link of a queue, with its ends at the partitions
-abbrev pub link_of : WorldValue → QueueValue → LinkValue
+abbrev pub link_of : WorldValue → QueueValue → WholeLink
 link_of w queue =
     record {
       src = queue.src;
@@ -120,7 +120,7 @@ link_of w queue =
     }
 
 -- the link whose queue stands at this place
-abbrev pub link_value : WorldValue → ℕ → LinkValue
+abbrev pub link_value : WorldValue → ℕ → WholeLink
 link_value w i = link_of w (queue_at w i)
 
 -- a chunk as a list, which is empty where there is none
@@ -129,5 +129,5 @@ option_list None = []
 option_list (Some chunk) = chunk ∷ []
 
 -- the chunks of a link that were cut and not loaded, the oldest first
-abbrev pub under_way : LinkValue → List ChunkValue
+abbrev pub under_way : WholeLink → List ChunkValue
 under_way link = option_list link.inbox ++ (link.queue ++ option_list link.out.outbox)

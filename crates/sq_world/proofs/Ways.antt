@@ -16,7 +16,7 @@ use Rattle.sq_model.specs.Legal.{IsLegal}
 use Rattle.sq_model.proofs.Lists.{Contains-slice_get, kept_in}
 use Rattle.sq_model.proofs.Notes.{note_goes}
 use Rattle.sq_model.proofs.Keys.{linked}
-use Rattle.sq_transition.specs.WorldValue.{WorldValue, LinkValue, link_index, link_value, under_way}
+use Rattle.sq_transition.specs.WorldValue.{WorldValue, WholeLink, link_index, link_value, under_way}
 use Rattle.sq_transition.specs.Holds.{Holds, LinkHolds}
 use Rattle.sq_transition.proofs.Links.{index_found}
 use Rattle.sq_state.specs.Readers.{way_of, chunk_at, way_notes, IsChunkAfter}
@@ -42,7 +42,7 @@ module _ (o : OpeningValue) (t : Trace) (w : WorldValue) (is : IsOpening o) (leg
           let to : goes.segment.dst ≡ dst = goes.destination ∙ eqb-true note.dst dst (and_parts (note.src == src) (note.dst == dst) kept.1).1 in
           true≢false (sym (linked o is note.seg goes.segment goes.there) ∙ (λ k. is_link o.recon.ranges (from k) (to k)) ∙ none)
 
-  chunk_by : (src dst i : ℕ) (l : LinkValue) → LinkHolds o t l → map (λ (c : ChunkValue). c.note) (under_way l) ≡ way_notes t src dst
+  chunk_by : (src dst i : ℕ) (l : WholeLink) → LinkHolds o t l → map (λ (c : ChunkValue). c.note) (under_way l) ≡ way_notes t src dst
       → (found : Option ChunkValue) → slice_get (under_way l) i ≡ found → IsChunkAfter o t src dst i found
   chunk_by src dst i l lh way None at =
       sym (ap (λ ns. slice_get ns i) way) ∙ slice_get-map (λ (c : ChunkValue). c.note) (under_way l) i ∙ ap (option_map (λ (c : ChunkValue). c.note)) at
