@@ -9,7 +9,7 @@ use Rattle.std.proofs.lemmas.List.Quantifiers.{position-Some}
 use Rattle.sq_chunk.specs.declared.chunk.Note.{Note}
 use Rattle.sq_chunk.specs.ChunkValue.{covers}
 use Rattle.sq_exec.specs.declared.run.Run.{Run}
-use Rattle.sq_exec.specs.Runs.{has_key, goes_on, run_with, run_of, grown, is_loaded, is_whole, runs_with}
+use Rattle.sq_exec.specs.Runs.{run_has, goes_on, run_with, run_of, grown, is_loaded, is_whole, runs_with}
 
 or_swapped : (a b c : Bool) → ((a || c) || b) ≡ ((a || b) || c)
 or_swapped true b c = refl
@@ -65,8 +65,8 @@ both false b c = refl
 
 pub loaded-runs_with : (runs : List Run) (note : Note) (key : ℕ) → is_loaded (runs_with runs note) key ≡ (is_loaded runs key || covers note key)
 loaded-runs_with runs note key =
-    any-runs_with note (λ run. has_key run key) (covers note key) refl (λ run on.
-    joined run.lo run.hi note.hi key (goes note run on).rises ∙ ap (λ lo. has_key run key || (nat_le lo key && nat_lt key note.hi)) (goes note run on).meets) runs
+    any-runs_with note (λ run. run_has run key) (covers note key) refl (λ run on.
+    joined run.lo run.hi note.hi key (goes note run on).rises ∙ ap (λ lo. run_has run key || (nat_le lo key && nat_lt key note.hi)) (goes note run on).meets) runs
 
 pub whole-runs_with : (runs : List Run) (note : Note) (node : ℕ) → is_whole (runs_with runs note) node ≡ (is_whole runs node || ((note.node == node) && note.last))
 whole-runs_with runs note node =

@@ -24,8 +24,8 @@ numbered (Done reply) n = n
 numbered (Moved part) n = n
 
 -- the arrival number of the first transaction that waits for a root key
-abbrev pub arrival_of : PartCoreValue → ℕ → Option ℕ
-arrival_of p root = option_and_then (slice_get p.numbering.numbers) (position (λ txn. txn.root == root) p.core.waiting)
+abbrev pub arrival_number : PartCoreValue → ℕ → Option ℕ
+arrival_number p root = option_and_then (slice_get p.numbering.numbers) (position (λ txn. txn.root == root) p.core.waiting)
 
 -- this is the arrival number of the first waiting transaction that is ready
 pub record IsFirstReady (p : PartCoreValue) (number : ℕ) : Type 0 where

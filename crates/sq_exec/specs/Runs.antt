@@ -5,8 +5,8 @@ use Rattle.sq_chunk.specs.declared.chunk.Note.{Note}
 use Rattle.sq_exec.specs.declared.run.Run.{Run}
 
 -- the root key is in the run
-abbrev pub has_key : Run → ℕ → Bool
-has_key run key = nat_le run.lo key && nat_lt key run.hi
+abbrev pub run_has : Run → ℕ → Bool
+run_has run key = nat_le run.lo key && nat_lt key run.hi
 
 -- one of the keys that the chunk covers is in the run
 abbrev pub meets : Note → Run → Bool
@@ -34,7 +34,7 @@ runs_with runs note = grown runs note (position (goes_on note) runs)
 
 -- the root key is loaded
 abbrev pub is_loaded : List Run → ℕ → Bool
-is_loaded runs key = list_any (λ run. has_key run key) runs
+is_loaded runs key = list_any (λ run. run_has run key) runs
 
 -- one of the keys that the chunk covers is loaded
 abbrev pub is_met : List Run → Note → Bool

@@ -1,6 +1,6 @@
 // What is loaded of a segment, as runs of root keys.
 ghost use Rattle.std.specs.Prelude.{◌≡◌, ◌<◌, position, vec_len, vec_capacity};
-ghost use Rattle.sq_exec.specs.Runs.{has_key, meets, goes_on, run_with, is_loaded, is_met, is_whole, runs_with};
+ghost use Rattle.sq_exec.specs.Runs.{run_has, meets, goes_on, run_with, is_loaded, is_met, is_whole, runs_with};
 
 use sq_chunk::Note;
 use sq_schema::Root;
@@ -22,7 +22,7 @@ pub(crate) struct Run {
 impl Run {
     // Whether the root key is in it.
     fn has_key(&self, key: u64) -> bool
-        ensures { result ≡ has_key self.now key }
+        ensures { result ≡ run_has self.now key }
     {
         self.lo <= key && key < self.hi
     }

@@ -15,7 +15,7 @@ use Rattle.sq_ranges.specs.ReconValue.{extent}
 use Rattle.sq_ranges.specs.OpeningValue.{OpeningValue}
 use Rattle.sq_ranges.specs.Opening.{IsOpening}
 use Rattle.sq_exec.specs.declared.run.Run.{Run}
-use Rattle.sq_exec.specs.Runs.{has_key, meets, is_met, runs_with}
+use Rattle.sq_exec.specs.Runs.{run_has, meets, is_met, runs_with}
 use Rattle.sq_exec.specs.CoreValue.{CoreValue, loaded_at}
 use Rattle.sq_exec.specs.Moving.{lies_in, can_load_in, LoadsFrom}
 use Rattle.sq_model.specs.Place.{extent_in, extent_of}
@@ -97,7 +97,7 @@ module _ (o : OpeningValue) (i : ℕ) (old new : CoreValue) (views : ℕ → Vie
       }
 
   -- a run that has one of the keys meets the chunk
-  run_meets : (run : Run) (root : ℕ) → covers chunk.note root ≡ true → has_key run root ≡ true → meets chunk.note run ≡ true
+  run_meets : (run : Run) (root : ℕ) → covers chunk.note root ≡ true → run_has run root ≡ true → meets chunk.note run ≡ true
   run_meets run root covered has =
       let bounds = covers_bounds chunk.note root covered in
       let low = bounds.0 in
@@ -111,7 +111,7 @@ module _ (o : OpeningValue) (i : ℕ) (old new : CoreValue) (views : ℕ → Vie
   fresh {began} runs is h root covered before =
       let node = node_with old views sent received receipts in
       let same = one_segment o is root before.0.note.seg before.0.note.node chunk.note.seg chunk.note.node (loaded_within o is node h before.0 root before.1 before.2) (arrived_within o began.stage src old.part chunk.note root (arrived began.stage runs) covered) in
-      let run = any_in (λ (run : Run). has_key run root) (loaded_at old chunk.note.seg) (h.loaded.all_keys chunk.note.seg root (before.0, before.1, same, before.2)) in
+      let run = any_in (λ (run : Run). run_has run root) (loaded_at old chunk.note.seg) (h.loaded.all_keys chunk.note.seg root (before.0, before.1, same, before.2)) in
       true≢false (sym (list_any-Contains (meets chunk.note) (loaded_at old chunk.note.seg) run.0 run.1 (run_meets run.0 root covered run.2)) ∙ fit.unmet)
 
   own : (root : ℕ) (family : FamilyValue) → IsCarried chunk root family → IsOf root family

@@ -11,7 +11,7 @@ use Rattle.sq_ranges.specs.ReconValue.{ReconValue, extent}
 use Rattle.sq_ranges.specs.OpeningValue.{OpeningValue}
 use Rattle.sq_ranges.specs.Opening.{IsOpening}
 use Rattle.sq_exec.specs.declared.run.Run.{Run}
-use Rattle.sq_exec.specs.Runs.{has_key, meets, is_met}
+use Rattle.sq_exec.specs.Runs.{run_has, meets, is_met}
 use Rattle.sq_exec.specs.CoreValue.{CoreValue, inbox_at, loaded_at}
 use Rattle.sq_exec.specs.Moving.{lies_in, can_load, can_load_in, may_load}
 use Rattle.sq_model.specs.Place.{extent_in, extent_of}
@@ -51,8 +51,8 @@ module _ {began : BeganWith} (o : OpeningValue) (is : IsOpening o) (core : CoreV
       let run = found.0 in
       let low = max run.lo chunk.note.lo in
       let below = ltb-true low (min run.hi chunk.note.hi) found.2 in
-      let in_run : has_key run low ≡ true = and_from (nat_le run.lo low) (nat_lt low run.hi) (le-leb run.lo low (omega arith)) (lt-ltb low run.hi (omega arith)) in
-      let loaded = h.loaded.keys chunk.note.seg low (list_any-Contains (λ (r : Run). has_key r low) (loaded_at core chunk.note.seg) run found.1 in_run) in
+      let in_run : run_has run low ≡ true = and_from (nat_le run.lo low) (nat_lt low run.hi) (le-leb run.lo low (omega arith)) (lt-ltb low run.hi (omega arith)) in
+      let loaded = h.loaded.keys chunk.note.seg low (list_any-Contains (λ (r : Run). run_has r low) (loaded_at core chunk.note.seg) run found.1 in_run) in
       (low, and_from (nat_le chunk.note.lo low) (nat_lt low chunk.note.hi) (le-leb chunk.note.lo low (omega arith)) (lt-ltb low chunk.note.hi (omega arith)), (loaded.0, loaded.1, loaded.3))
 
   -- the chunk covers the root keys of its families

@@ -15,7 +15,7 @@ use Rattle.sq_ranges.specs.ReconValue.{extent}
 use Rattle.sq_ranges.specs.OpeningValue.{OpeningValue}
 use Rattle.sq_ranges.specs.Opening.{IsOpening}
 use Rattle.sq_exec.specs.declared.run.Run.{Run}
-use Rattle.sq_exec.specs.Runs.{meets, has_key, is_loaded, is_met}
+use Rattle.sq_exec.specs.Runs.{meets, run_has, is_loaded, is_met}
 use Rattle.sq_exec.specs.CoreValue.{loaded_at}
 use Rattle.sq_exec.specs.Moving.{lies_in, can_load, can_load_in}
 use Rattle.sq_model.specs.Trace.{Trace, loads}
@@ -30,7 +30,7 @@ use Rattle.sq_transition.specs.Holds.{Holds, ChunkHolds, is_at, is_key_loaded}
 use Rattle.sq_transition.proofs.Parts.{share_none}
 
 -- a run that the chunk meets has one of its keys
-met_key : (run : Run) (note : Note) → meets note run ≡ true → (has_key run (max run.lo note.lo) ≡ true) × (covers note (max run.lo note.lo) ≡ true)
+met_key : (run : Run) (note : Note) → meets note run ≡ true → (run_has run (max run.lo note.lo) ≡ true) × (covers note (max run.lo note.lo) ≡ true)
 met_key run note met = (here run.lo note.lo run.hi note.hi met, there run.lo note.lo run.hi note.hi met)
   where
     here : (a b c d : ℕ) → nat_lt (max a b) (min c d) ≡ true → (nat_le a (max a b) && nat_lt (max a b) c) ≡ true
@@ -49,7 +49,7 @@ met_loaded (run ∷ runs) note met =
     (max run.lo note.lo, ap (λ b. b || is_loaded runs (max run.lo note.lo)) key.0, key.1))
     (λ (later : is_met runs note ≡ true).
     let key = met_loaded runs note later in
-    (key.0, ap (λ b. has_key run key.0 || b) key.1 ∙ or-true (has_key run key.0), key.2))
+    (key.0, ap (λ b. run_has run key.0 || b) key.1 ∙ or-true (run_has run key.0), key.2))
     (or_cases (meets note run) (is_met runs note) met)
 
 -- a note of a segment that covers a key is one that covers it

@@ -4,7 +4,7 @@ ghost use Rattle.std.specs.List.Sorted.{IsStrictlyIncreasing};
 ghost use Rattle.sq_store.specs.StoreValue.{log_length};
 ghost use Rattle.sq_exec.specs.Location.{location, is_coming, is_coming_from, route, route_from, waits_for};
 ghost use Rattle.sq_exec.specs.Serving.{is_stuck, served, must_wait, submit_refusal, submit_takes_memory, is_ready, stays_by, graver, first_ready, resume_refusal, resume_takes_memory, IsMadeToWait, IsTaken, IsResumed};
-ghost use Rattle.sq_exec.specs.Numbering.{numbered, arrival_of, IsFirstReady, TakesNumber};
+ghost use Rattle.sq_exec.specs.Numbering.{numbered, arrival_number, IsFirstReady, TakesNumber};
 
 use crate::fault::{ResumeFault, SubmitFault};
 use crate::location::Location;
@@ -68,7 +68,7 @@ impl<S: FamilyStore> PartCore<S> {
     /// The least arrival number of the transactions that wait for a root key. These numbers rise in the order in which
     /// the transactions came.
     pub fn arrival(&self, root: Root) -> Option<u64>
-        ensures number { result ≡ arrival_of self.now root }
+        ensures number { result ≡ arrival_number self.now root }
         ensures rises { IsStrictlyIncreasing self.now.numbering.numbers }
         ensures each { length self.now.numbering.numbers ≡ length self.now.core.waiting }
     {
