@@ -12,16 +12,16 @@ reason_line number None = refused_line number
 reason_line number (Some meaning) = codes "refused " ++ (decimal number ++ (codes ": " ++ (meaning ++ 10 ∷ [])))
 
 -- a line, and what goes behind it
-abbrev pub behind : List ℕ → List ℕ → List ℕ
-behind line text = line ++ (codes " -> " ++ text)
+abbrev pub echoed : List ℕ → List ℕ → List ℕ
+echoed line text = line ++ (codes " -> " ++ text)
 
 -- the refusal of a line
 abbrev pub refused_text : Bool → List ℕ → ℕ → List ℕ
 refused_text false line number = refused_line number
-refused_text true line number = behind line (reason_line number (meaning_of number))
+refused_text true line number = echoed line (reason_line number (meaning_of number))
 
 -- what a line is answered
 abbrev pub answer_text : Bool → List ℕ → Answer → List ℕ
 answer_text echoes line (Refused refusal) = refused_text echoes line (refusal_number refusal)
 answer_text false line given = answer_line given
-answer_text true line given = behind line (answer_line given)
+answer_text true line given = echoed line (answer_line given)
