@@ -19,13 +19,13 @@ use Rattle.sq_model.specs.Links.{goes, is_on_link}
 use Rattle.sq_model.specs.Orderly.{AreDisjoint}
 use Rattle.sq_model.specs.Place.{Place, At, Under_way, loaded_place}
 use Rattle.sq_model.specs.Staged.{owner_in}
-use Rattle.sq_node_model.specs.Stages.{cut_place, runs_in}
+use Rattle.sq_node_model.specs.Stages.{cut_place_in, runs_in}
 use Rattle.sq_model.proofs.Apart.{covers_bounds, cover_once}
 use Rattle.sq_model.proofs.Lists.{Contains-slice_get, slice_get-Contains, Contains-filter, kept_in, map_in, flat_map_in, found_in, not_found}
 use Rattle.sq_node_model.specs.declared.spot.Spot.{Spot}
 use Rattle.sq_node_model.specs.declared.spot.Spot.TheVariants.{Store, Chunk}
 use Rattle.sq_node_model.specs.Gathered.{GatheredLink, GatheredValue}
-use Rattle.sq_node_model.specs.Spots.{loaded_count, loads_of, cut_notes, loaded_notes, place_in, chunk_in, StandsAt, IsSpotOf}
+use Rattle.sq_node_model.specs.Spots.{loaded_count, loads_of, cut_notes, loaded_notes, gathered_place, chunk_in, StandsAt, IsSpotOf}
 use Rattle.sq_node_model.specs.Placed.{HasEachPart}
 use Rattle.sq_node_model.proofs.Carried.{carried_covered}
 use Rattle.sq_node_model.proofs.Members.{Contains-map, Contains-unreversed}
@@ -236,15 +236,15 @@ module _ (o : OpeningValue) (g : GatheredValue) (parts : HasEachPart o g) (links
         }
 
     module _ (root : ℕ) where
-      none_there : find (is_over root) notes ≡ None → place_in o g root ≡ At (owner_in o g.stage root)
+      none_there : find (is_over root) notes ≡ None → gathered_place o g root ≡ At (owner_in o g.stage root)
       none_there none =
           let fails = not_found (is_over root) notes none in
           let cut = none_found (λ note. covers note root) (cut_notes g) (λ note has covered. let m = of_cut note root has covered in true≢false (sym covered ∙ fails (note, m.0) (from_all (note, m.0) m.1))) in
           let loaded = none_found (λ note. covers note root) (loaded_notes g) (λ note has covered. true≢false (sym covered ∙ fails (note, true) (from_all (note, true) (of_loaded note root has covered)))) in
-          ap₂ (λ c l. loaded_place (cut_place o g.stage root c) l) cut loaded
+          ap₂ (λ c l. loaded_place (cut_place_in o g.stage root c) l) cut loaded
 
       module _ (one : Marked) (has : Contains (all_marked g) one) (covered : is_over root one ≡ true) where
-        loaded_there : one.1 ≡ true → place_in o g root ≡ At one.0.dst
+        loaded_there : one.1 ≡ true → gathered_place o g root ≡ At one.0.dst
         loaded_there mark =
             let m = marked_at g one has in
             let before = ltb-true m.place (loaded_count m.link) (sym m.mark ∙ mark) in
@@ -252,9 +252,9 @@ module _ (o : OpeningValue) (g : GatheredValue) (parts : HasEachPart o g) (links
             (Contains-slice_get (loads_of m.link) m.place one.0 (at_taken m.link.notes (loaded_count m.link) m.place one.0 m.note.at before)) in
             let found = some_found (λ note. covers note root) (loaded_notes g) one.0 among covered in
             let same = one_marked (found.one, true) one root (of_loaded found.one root found.among found.passes) has found.passes covered in
-            ap (loaded_place (cut_place o g.stage root (find (λ note. covers note root) (cut_notes g)))) (found.found ∙ ap (λ (x : Marked). Some x.0) same)
+            ap (loaded_place (cut_place_in o g.stage root (find (λ note. covers note root) (cut_notes g)))) (found.found ∙ ap (λ (x : Marked). Some x.0) same)
 
-        cut_there : one.1 ≡ false → place_in o g root ≡ Under_way one.0
+        cut_there : one.1 ≡ false → gathered_place o g root ≡ Under_way one.0
         cut_there mark =
             let m = marked_at g one has in
             let among = among_cut g m.list m.place m.link one.0 m.note in
@@ -265,25 +265,25 @@ module _ (o : OpeningValue) (g : GatheredValue) (parts : HasEachPart o g) (links
             (λ note among' covered'.
             let other = one_marked (note, true) one root (of_loaded note root among' covered') has covered' covered in
             true≢false (ap (λ (x : Marked). x.1) other ∙ mark)) in
-            ap₂ (λ c l. loaded_place (cut_place o g.stage root c) l) (found.found ∙ ap (λ (x : Marked). Some x.0) same) loaded
+            ap₂ (λ c l. loaded_place (cut_place_in o g.stage root c) l) (found.found ∙ ap (λ (x : Marked). Some x.0) same) loaded
 
-        marked_there : place_in o g root ≡ place_by o g.stage root (Some one)
+        marked_there : gathered_place o g root ≡ place_by o g.stage root (Some one)
         marked_there = go one.1 refl
           where
-            go : (b : Bool) → one.1 ≡ b → place_in o g root ≡ place_by o g.stage root (Some one)
+            go : (b : Bool) → one.1 ≡ b → gathered_place o g root ≡ place_by o g.stage root (Some one)
             go true is = loaded_there is ∙ sym (ap (λ (b : Bool). if b then At one.0.dst else Under_way one.0) is)
             go false is = cut_there is ∙ sym (ap (λ (b : Bool). if b then At one.0.dst else Under_way one.0) is)
 
       -- the note that is found to cover a root key tells its place
-      place_is : place_in o g root ≡ place_by o g.stage root (find (is_over root) notes)
+      place_is : gathered_place o g root ≡ place_by o g.stage root (find (is_over root) notes)
       place_is = go (find (is_over root) notes) refl
         where
-          go : (found : Option Marked) → find (is_over root) notes ≡ found → place_in o g root ≡ place_by o g.stage root (find (is_over root) notes)
+          go : (found : Option Marked) → find (is_over root) notes ≡ found → gathered_place o g root ≡ place_by o g.stage root (find (is_over root) notes)
           go None e = none_there e ∙ sym (ap (place_by o g.stage root) e)
           go (Some one) e = let is = found_in (is_over root) notes one e in marked_there one (to_all one is.0) is.1 ∙ sym (ap (place_by o g.stage root) e)
 
     -- a family of a chunk is where it belongs
-    chunk_placed : (i j root : ℕ) (family : FamilyValue) → StandsAt g (Chunk i j) root family → IsSpotOf g (Chunk i j) (place_in o g root)
+    chunk_placed : (i j root : ℕ) (family : FamilyValue) → StandsAt g (Chunk i j) root family → IsSpotOf g (Chunk i j) (gathered_place o g root)
     chunk_placed i j root family stands =
         let at = of_some (λ (c : ChunkValue). family_in c.families root) (chunk_in g i j) family stands in
         let chunk = at.0 in

@@ -6,7 +6,7 @@ use Rattle.sq_schema.specs.Family.{FamilyValue}
 use Rattle.sq_ranges.specs.OpeningValue.{OpeningValue}
 use Rattle.sq_node_model.specs.declared.spot.Spot.{Spot}
 use Rattle.sq_node_model.specs.Gathered.{GatheredLink, GatheredValue}
-use Rattle.sq_node_model.specs.Spots.{place_in, StandsAt, IsSpotOf}
+use Rattle.sq_node_model.specs.Spots.{gathered_place, StandsAt, IsSpotOf}
 use Rattle.sq_gather.specs.Gathered.{closed_ends}
 
 -- what was gathered is of this link
@@ -31,4 +31,4 @@ HaveOneEach recon stage links gathered = (link : Link) → Contains links link �
 
 -- each family is where the notes place its root key
 abbrev pub ArePlaced : OpeningValue → GatheredValue → Type 0
-ArePlaced o g = (spot : Spot) (root : ℕ) (family : FamilyValue) → StandsAt g spot root family → IsSpotOf g spot (place_in o g root)
+ArePlaced o g = (spot : Spot) (root : ℕ) (family : FamilyValue) → StandsAt g spot root family → IsSpotOf g spot (gathered_place o g root)

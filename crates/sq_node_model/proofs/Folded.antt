@@ -17,12 +17,12 @@ use Rattle.sq_model.specs.Place.{loaded_place}
 use Rattle.sq_model.specs.Orderly.{Tiles}
 use Rattle.sq_model.proofs.Lists.{Contains-nothing}
 use Rattle.sq_status.specs.View.{one_if}
-use Rattle.sq_node_model.specs.Stages.{cut_place}
+use Rattle.sq_node_model.specs.Stages.{cut_place_in}
 use Rattle.sq_node_model.specs.BeganWith.{is_opened, IsOf}
 use Rattle.sq_node_model.specs.declared.spot.Spot.{Spot}
 use Rattle.sq_node_model.specs.declared.spot.Spot.TheVariants.{Store, Chunk}
 use Rattle.sq_node_model.specs.Gathered.{GatheredLink, GatheredValue}
-use Rattle.sq_node_model.specs.Spots.{cut_notes, loaded_notes, place_in, family_at_spot, StandsAt, IsSpotOf}
+use Rattle.sq_node_model.specs.Spots.{cut_notes, loaded_notes, gathered_place, family_at_spot, StandsAt, IsSpotOf}
 use Rattle.sq_node_model.specs.Placed.{IsLinkPlaced, IsPlaced}
 use Rattle.sq_node_model.specs.Next.{IsStageDone}
 use Rattle.sq_node_model.specs.Folded.{folded_family, folded_opening, folded_gathered, IsFolded}
@@ -62,14 +62,14 @@ module _ (o : OpeningValue) (is : IsOpening o) (g : GatheredValue) (p : IsPlaced
       (λ was there e. (was, there, folded_is was family e))
   came_of (Chunk i j) root family stands = absurd (let e = stands_next o is g p done (Chunk i j) root family stands in cc)
 
-  same_cut : (root : ℕ) (found : Option Note) → cut_place now g.stage root found ≡ cut_place o g.stage root found
+  same_cut : (root : ℕ) (found : Option Note) → cut_place_in now g.stage root found ≡ cut_place_in o g.stage root found
   same_cut root None = refl
   same_cut root (Some note) = refl
 
-  same_place : (root : ℕ) → place_in now h root ≡ place_in o g root
+  same_place : (root : ℕ) → gathered_place now h root ≡ gathered_place o g root
   same_place root = ap (λ at. loaded_place at (find (λ note. covers note root) (loaded_notes g))) (same_cut root (find (λ note. covers note root) (cut_notes g)))
 
-  placed_too : (spot : Spot) (root : ℕ) (family : FamilyValue) → StandsAt h spot root family → IsSpotOf h spot (place_in now h root)
+  placed_too : (spot : Spot) (root : ℕ) (family : FamilyValue) → StandsAt h spot root family → IsSpotOf h spot (gathered_place now h root)
   placed_too (Store part) root family stands =
       let was = came_of (Store part) root family stands in
       same_place root ∙ p.fit.placed (Store part) root was.0 was.1

@@ -30,14 +30,14 @@ use Rattle.sq_model.proofs.Keys.{IsIn, found_in_segment, under, above_within, un
 use Rattle.sq_model.proofs.Tiles.{tile, last_reached, covers_of, covered_is}
 use Rattle.sq_model.proofs.Apart.{covers_extent}
 use Rattle.sq_model.specs.Staged.{owner_in}
-use Rattle.sq_node_model.specs.Stages.{runs_in, is_on_link_in, cut_place}
+use Rattle.sq_node_model.specs.Stages.{runs_in, is_on_link_in, cut_place_in}
 use Rattle.sq_node_model.specs.BeganWith.{CanBegin}
 use Rattle.sq_node_model.specs.NodeHolds.{NodeHolds}
 use Rattle.sq_node_model.specs.Cores.{staged_core, OpensWith, IsUnused}
 use Rattle.sq_node_model.specs.declared.spot.Spot.{Spot}
 use Rattle.sq_node_model.specs.declared.spot.Spot.TheVariants.{Store, Chunk}
 use Rattle.sq_node_model.specs.Gathered.{GatheredLink, GatheredValue}
-use Rattle.sq_node_model.specs.Spots.{word_in, cut_notes, loaded_notes, loaded_count, loads_of, place_in, family_at_spot, StandsAt}
+use Rattle.sq_node_model.specs.Spots.{word_in, cut_notes, loaded_notes, loaded_count, loads_of, gathered_place, family_at_spot, StandsAt}
 use Rattle.sq_node_model.specs.Placed.{IsPlaced}
 use Rattle.sq_node_model.specs.Next.{IsStageDone, next_began}
 use Rattle.sq_node_model.proofs.Made.{node_with}
@@ -129,17 +129,17 @@ module _ (o : OpeningValue) (is : IsOpening o) (g : GatheredValue) (p : IsPlaced
         )
 
     -- where the next stage has its source, the notes place a root key
-    next_place : (root : ℕ) → place_in o g root ≡ At (owner_in o (g.stage + 1) root)
+    next_place : (root : ℕ) → gathered_place o g root ≡ At (owner_in o (g.stage + 1) root)
     next_place root = by (segment_of o.recon.segments root) refl
       where
-        uncovered : ((note : Note) → IsMovingNote o g.stage root note → ⊥) → owner_in o g.stage root ≡ owner_in o (g.stage + 1) root → place_in o g root ≡ At (owner_in o (g.stage + 1) root)
+        uncovered : ((note : Note) → IsMovingNote o g.stage root note → ⊥) → owner_in o g.stage root ≡ owner_in o (g.stage + 1) root → gathered_place o g root ≡ At (owner_in o (g.stage + 1) root)
         uncovered none same =
-            ap₂ (λ cut loaded. loaded_place (cut_place o g.stage root cut) loaded)
+            ap₂ (λ cut loaded. loaded_place (cut_place_in o g.stage root cut) loaded)
             (none_found (λ note. covers note root) (cut_notes g) (λ note has covered. none note (moving_note root note has covered)))
             (none_found (λ note. covers note root) (loaded_notes g) (λ note has covered. none note (moving_note root note (loaded_is_cut note has) covered)))
             ∙ ap At same
 
-        by : (at : Option ℕ) → segment_of o.recon.segments root ≡ at → place_in o g root ≡ At (owner_in o (g.stage + 1) root)
+        by : (at : Option ℕ) → segment_of o.recon.segments root ≡ at → gathered_place o g root ≡ At (owner_in o (g.stage + 1) root)
         by None none =
             let stays = unfound_stays o is root none in
             uncovered (λ note m. absurd (let e = sym none ∙ (under o is root note.seg note.node m.within).found in cc))
@@ -156,7 +156,7 @@ module _ (o : OpeningValue) (is : IsOpening o) (g : GatheredValue) (p : IsPlaced
             let first = some_found (λ note. covers note root) (loaded_notes g) has.0 has.1 has.2 in
             let m = moving_note root first.one (loaded_is_cut first.one first.among) first.passes in
             let to = (moved_from o is g.stage root first.one.seg first.one.node m.src m.dst m.within m.on).destination_is in
-            ap (loaded_place (cut_place o g.stage root (find (λ note. covers note root) (cut_notes g)))) first.found
+            ap (loaded_place (cut_place_in o g.stage root (find (λ note. covers note root) (cut_notes g)))) first.found
             ∙ ap At (m.goes_to ∙ sym to ∙ sym (moved_source o (g.stage + 1) root (below_next (stage_on o.recon (source o root) (destination o root)) g.stage (pair ∙ now)))))
             (λ other.
             let side = same_side (stage_on o.recon (source o root) (destination o root)) g.stage (ap (λ n. n == g.stage) pair ∙ other) in

@@ -9,7 +9,7 @@ use Rattle.sq_ranges.specs.Opening.{IsOpening}
 use Rattle.sq_model.specs.Place.{Place, At, Under_way, loaded_place}
 use Rattle.sq_model.proofs.Lists.{Contains-slice_get}
 use Rattle.sq_model.specs.Staged.{owner_in}
-use Rattle.sq_node_model.specs.Stages.{cut_place}
+use Rattle.sq_node_model.specs.Stages.{cut_place_in}
 use Rattle.sq_node_model.specs.BeganWith.{BeganWith}
 use Rattle.sq_node_model.specs.NodeValue.{NodeValue}
 use Rattle.sq_node_model.specs.Chunks.{loaded_from, HasCut, HasLoaded, IsCovered}
@@ -17,7 +17,7 @@ use Rattle.sq_node_model.specs.FamiliesHold.{IsHome}
 use Rattle.sq_node_model.specs.declared.spot.Spot.{Spot}
 use Rattle.sq_node_model.specs.declared.spot.Spot.TheVariants.{Store, Chunk}
 use Rattle.sq_node_model.specs.Gathered.{GatheredLink, GatheredValue, Gathers}
-use Rattle.sq_node_model.specs.Spots.{cut_notes, loaded_notes, loads_of, place_in, StandsAt, IsSpotOf}
+use Rattle.sq_node_model.specs.Spots.{cut_notes, loaded_notes, loads_of, gathered_place, StandsAt, IsSpotOf}
 use Rattle.sq_node_model.specs.Placed.{StandOnce}
 use Rattle.sq_node_model.proofs.Members.{slice_get-front}
 use Rattle.sq_node_model.proofs.Lists.{Contains-flat_map, at_map, some_found, none_found}
@@ -58,14 +58,14 @@ module _ (o : OpeningValue) (began : BeganWith) (is : IsOpening o) (nodes : List
   home_uncovered q node root at home note noted covered =
       home_uncut q node root at home noted.chunk noted.cut (subst (λ (n : Note). covers n root ≡ true) (sym noted.same) covered)
 
-  home_placed : (q : ℕ) (node : NodeValue) (root : ℕ) → slice_get nodes q ≡ Some node → IsHome o began.stage node.part (HasCut node) root → place_in o g root ≡ At q
+  home_placed : (q : ℕ) (node : NodeValue) (root : ℕ) → slice_get nodes q ≡ Some node → IsHome o began.stage node.part (HasCut node) root → gathered_place o g root ≡ At q
   home_placed q node root at home =
       let none_cut = none_found (λ note. covers note root) (cut_notes g) (λ note has covered. home_uncovered q node root at home note (cut_note o began is nodes g gathers note has) covered) in
       let none_loaded = none_found (λ note. covers note root) (loaded_notes g)
       (λ note has covered. home_uncovered q node root at home note (loaded_note o began is nodes g gathers note has).noted covered) in
-      ap₂ (λ cut loaded. loaded_place (cut_place o g.stage root cut) loaded) none_cut none_loaded ∙ ap At (ap (λ i. owner_in o i root) gathers.stage ∙ home.owned ∙ gathers.parts q node at)
+      ap₂ (λ cut loaded. loaded_place (cut_place_in o g.stage root cut) loaded) none_cut none_loaded ∙ ap At (ap (λ i. owner_in o i root) gathers.stage ∙ home.owned ∙ gathers.parts q node at)
 
-  loaded_placed : (q : ℕ) (node : NodeValue) (root : ℕ) → slice_get nodes q ≡ Some node → IsCovered (HasLoaded node) root → place_in o g root ≡ At q
+  loaded_placed : (q : ℕ) (node : NodeValue) (root : ℕ) → slice_get nodes q ≡ Some node → IsCovered (HasLoaded node) root → gathered_place o g root ≡ At q
   loaded_placed q node root at covered =
       let chunk = covered.0 in
       let here = loaded_at o began is nodes g gathers q node chunk at covered.1 in
@@ -74,9 +74,9 @@ module _ (o : OpeningValue) (began : BeganWith) (is : IsOpening o) (nodes : List
       let there = moved o began is nodes g gathers noted.chunk noted.cut root (subst (λ (n : Note). covers n root ≡ true) (sym noted.same) found.passes) in
       let to : found.one.dst ≡ q =
       ap (λ (n : Note). n.dst) (sym noted.same) ∙ to_is o began is nodes g gathers noted.chunk noted.cut ∙ sym there.destination_is ∙ (moved o began is nodes g gathers chunk here.0 root covered.2).destination_is ∙ here.1 in
-      ap (loaded_place (cut_place o g.stage root (find (λ note. covers note root) (cut_notes g)))) found.found ∙ ap At to
+      ap (loaded_place (cut_place_in o g.stage root (find (λ note. covers note root) (cut_notes g)))) found.found ∙ ap At to
 
-  way_placed : (i j root : ℕ) (family : FamilyValue) (way : IsInChunk o began nodes g i j root family) → place_in o g root ≡ Under_way way.chunk.note
+  way_placed : (i j root : ℕ) (family : FamilyValue) (way : IsInChunk o began nodes g i j root family) → gathered_place o g root ≡ Under_way way.chunk.note
   way_placed i j root family way =
       let covered = carried o began is nodes g gathers way.chunk way.cut root family way.carried in
       let found = some_found (λ note. covers note root) (cut_notes g) way.chunk.note (cut_among way.chunk way.cut) covered in
@@ -92,9 +92,9 @@ module _ (o : OpeningValue) (began : BeganWith) (is : IsOpening o) (nodes : List
       let loaded = ap (λ (list : List ChunkValue). length list) same.loaded in
       let past = way.number in
       omega (arith, number, before, loaded, past)) in
-      ap₂ (λ cut loaded. loaded_place (cut_place o g.stage root cut) loaded) (found.found ∙ ap Some (sym noted.same ∙ ap (λ (c : ChunkValue). c.note) one.same)) none
+      ap₂ (λ cut loaded. loaded_place (cut_place_in o g.stage root cut) loaded) (found.found ∙ ap Some (sym noted.same ∙ ap (λ (c : ChunkValue). c.note) one.same)) none
 
-  pub placed : (spot : Spot) (root : ℕ) (family : FamilyValue) → StandsAt g spot root family → IsSpotOf g spot (place_in o g root)
+  pub placed : (spot : Spot) (root : ℕ) (family : FamilyValue) → StandsAt g spot root family → IsSpotOf g spot (gathered_place o g root)
   placed (Store part) root family stands =
       let here = in_store o began nodes g gathers part root family stands in
       ⊎_elim (λ home. home_placed part here.node root here.there home) (λ covered. loaded_placed part here.node root here.there covered)
@@ -124,9 +124,9 @@ module _ (o : OpeningValue) (began : BeganWith) (is : IsOpening o) (nodes : List
       ap Store same
   once (Store p) (Chunk i j) root family again one other =
       let there = placed (Chunk i j) root again other in
-      absurd (not_both p there.0.note (place_in o g root) (placed (Store p) root family one) there.2)
+      absurd (not_both p there.0.note (gathered_place o g root) (placed (Store p) root family one) there.2)
   once (Chunk i j) (Store q) root family again one other =
       let here = placed (Chunk i j) root family one in
-      absurd (not_both q here.0.note (place_in o g root) (placed (Store q) root again other) here.2)
+      absurd (not_both q here.0.note (gathered_place o g root) (placed (Store q) root again other) here.2)
   once (Chunk i j) (Chunk k l) root family again one other =
       one_way i j k l root family again (in_chunk o began nodes g gathers i j root family one) (in_chunk o began nodes g gathers k l root again other)

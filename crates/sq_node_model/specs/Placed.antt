@@ -19,7 +19,7 @@ use Rattle.sq_node_model.specs.Receipts.{is_commit, times_named, IsToldBy}
 use Rattle.sq_node_model.specs.FamiliesHold.{IsOf, GrowsFrom}
 use Rattle.sq_node_model.specs.declared.spot.Spot.{Spot}
 use Rattle.sq_node_model.specs.Gathered.{GatheredLink, GatheredValue, HasEachLink}
-use Rattle.sq_node_model.specs.Spots.{loaded_count, cut_notes, loaded_notes, place_in, word_in, StandsAt, IsSpotOf}
+use Rattle.sq_node_model.specs.Spots.{loaded_count, cut_notes, loaded_notes, gathered_place, word_in, StandsAt, IsSpotOf}
 
 -- there is a store for each partition, a link wherever a range moves in the stage, and a tree for each segment
 pub record HasEachPart (o : OpeningValue) (g : GatheredValue) : Type 0 where
@@ -53,7 +53,7 @@ pub record FitTogether (o : OpeningValue) (g : GatheredValue) : Type 0 where
   pub grown : (seg : ℕ) → IsGrown (word_in g seg)
   pub complete : (seg n : ℕ) → is_complete (word_in g seg n) ≡ true → has_last seg n (loaded_notes g) ≡ true
   pub placed : (spot : Spot) (root : ℕ) (family : FamilyValue) → StandsAt g spot root family
-      → IsSpotOf g spot (place_in o g root)
+      → IsSpotOf g spot (gathered_place o g root)
   pub keyed : (spot : Spot) (root : ℕ) (family : FamilyValue) → StandsAt g spot root family → IsOf root family
 
 -- no root key has a family at two spots

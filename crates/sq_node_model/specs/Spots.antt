@@ -10,7 +10,7 @@ use Rattle.sq_chunk.specs.declared.chunk.Note.{Note}
 use Rattle.sq_chunk.specs.ChunkValue.{ChunkValue, covers}
 use Rattle.sq_ranges.specs.OpeningValue.{OpeningValue}
 use Rattle.sq_model.specs.Place.{Place, At, Under_way, loaded_place}
-use Rattle.sq_node_model.specs.Stages.{cut_place}
+use Rattle.sq_node_model.specs.Stages.{cut_place_in}
 use Rattle.sq_node_model.specs.declared.spot.Spot.{Spot}
 use Rattle.sq_node_model.specs.declared.spot.Spot.TheVariants.{Store, Chunk}
 use Rattle.sq_node_model.specs.Gathered.{GatheredLink, GatheredValue}
@@ -34,9 +34,9 @@ abbrev pub note_over : ℕ → List Note → Option Note
 note_over root notes = find (λ note. covers note root) notes
 
 -- where these notes place a root key
-abbrev pub place_in : OpeningValue → GatheredValue → ℕ → Place
-place_in o g root =
-    loaded_place (cut_place o g.stage root (note_over root (cut_notes g))) (note_over root (loaded_notes g))
+abbrev pub gathered_place : OpeningValue → GatheredValue → ℕ → Place
+gathered_place o g root =
+    loaded_place (cut_place_in o g.stage root (note_over root (cut_notes g))) (note_over root (loaded_notes g))
 
 -- the status of a node of a segment's tree
 abbrev pub word_in : GatheredValue → ℕ → ℕ → Status

@@ -20,5 +20,5 @@ abbrev pub is_link_in : OpeningValue → ℕ → ℕ → ℕ → Bool
 is_link_in o i src dst = is_link o.recon.ranges src dst && runs_in o i src dst
 
 -- a key that no note of the stage covers is where it was as the stage began
-abbrev pub cut_place : OpeningValue → ℕ → ℕ → Option Note → Place
-cut_place o i root note = cut_from (owner_in o i root) note
+abbrev pub cut_place_in : OpeningValue → ℕ → ℕ → Option Note → Place
+cut_place_in o i root note = cut_from (owner_in o i root) note
