@@ -12,7 +12,7 @@ use Rattle.sq_store.proofs.Order.{less_from_cmp}
 use Rattle.sq_store.proofs.Between.{sorted_is}
 use Rattle.sq_store.proofs.Lists.{get-store_of}
 use Rattle.sq_store.proofs.Keys.{same_store}
-use Rattle.sq_store.specs.Listed.{entries_of, roots_rise, store_of, folded_families}
+use Rattle.sq_store.specs.Listed.{keyed_families, roots_rise, store_of, folded_families}
 use Rattle.sq_store.specs.First.{IsFirst}
 use Rattle.sq_store.specs.InOrder.{family_from, HoldsByRoot}
 use Rattle.sq_store.proofs.Firsts.{first_is, first_none, none_between}
@@ -126,14 +126,14 @@ folded_to_next i [] none lt = absurd (omega arith)
 folded_to_next zero (family ∷ families) none lt = refl
 folded_to_next (suc i) (family ∷ families) none lt = ap (λ (rest : List FamilyValue). folded family ∷ rest) (folded_to_next i families none (omega arith))
 
-entry_folded : (family : FamilyValue) (families : List FamilyValue) (none : Bool) → folded_entries (entries_of families) ≡ entries_of (folded_families families)
-    → (if none then folded_entries (entries_of families) else (family.root, folded family) ∷ folded_entries (entries_of families))
-    ≡ entries_of (map folded (if not none then family ∷ filter (λ f. not (length (rows_of f) == 0)) families else filter (λ f. not (length (rows_of f) == 0)) families))
+entry_folded : (family : FamilyValue) (families : List FamilyValue) (none : Bool) → folded_entries (keyed_families families) ≡ keyed_families (folded_families families)
+    → (if none then folded_entries (keyed_families families) else (family.root, folded family) ∷ folded_entries (keyed_families families))
+    ≡ keyed_families (map folded (if not none then family ∷ filter (λ f. not (length (rows_of f) == 0)) families else filter (λ f. not (length (rows_of f) == 0)) families))
 entry_folded family families true rest = rest
 entry_folded family families false rest = ap (λ (es : List (ℕ × FamilyValue)). (family.root, folded family) ∷ es) rest
 
 -- the entries of families that are folded
-entries_folded : (families : List FamilyValue) → folded_entries (entries_of families) ≡ entries_of (folded_families families)
+entries_folded : (families : List FamilyValue) → folded_entries (keyed_families families) ≡ keyed_families (folded_families families)
 entries_folded [] = refl
 entries_folded (family ∷ families) = entry_folded family families (length (rows_of family) == 0) (entries_folded families)
 
@@ -155,12 +155,12 @@ sorted_folded (e ∷ es) rising =
 
 -- families whose root keys rise still do once they are folded, and then they are the folded store
 pub rise_folded : (families : List FamilyValue) → roots_rise families ≡ true → roots_rise (folded_families families) ≡ true
-rise_folded families rising = ap (is_sorted nat_cmp) (sym (entries_folded families)) ∙ sorted_folded (entries_of families) rising
+rise_folded families rising = ap (is_sorted nat_cmp) (sym (entries_folded families)) ∙ sorted_folded (keyed_families families) rising
 
 pub store_folded : (families : List FamilyValue) → roots_rise families ≡ true → store_of (folded_families families) ≡ folded_store (store_of families)
 store_folded families rising =
     is_folded (store_of families) (store_of (folded_families families)) (λ root.
     get-store_of (folded_families families) root (rise_folded families rising)
     ∙ ap (find nat_cmp root) (sym (entries_folded families))
-    ∙ find_folded root (entries_of families) rising
+    ∙ find_folded root (keyed_families families) rising
     ∙ ap fold_of (sym (get-store_of families root rising)))

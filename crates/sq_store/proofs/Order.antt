@@ -10,7 +10,7 @@ use Rattle.std.proofs.lemmas.Bool.{and_parts, and_from, lt-ltb, le-ltb, eq-eqb, 
 use Rattle.sq_schema.specs.Family.{FamilyValue}
 use Rattle.sq_schema.proofs.Entries.{below_before}
 use Rattle.sq_store.specs.StoreValue.{roots_differ}
-use Rattle.sq_store.specs.Listed.{entries_of, roots_rise}
+use Rattle.sq_store.specs.Listed.{keyed_families, roots_rise}
 use Rattle.sq_store.proofs.Given.{names, or_false, first_differs}
 
 pub cmp_less : (x y : ℕ) → x < y → nat_cmp x y ≡ Less
@@ -36,7 +36,7 @@ less_from_greater x y e = less_from_less y x (nat_cmp_total.antisymm y x ∙ ap 
 
 -- the key is below the root keys of a list
 abbrev pub is_below : ℕ → List FamilyValue → Bool
-is_below key families = below_all nat_cmp key (entries_of families)
+is_below key families = below_all nat_cmp key (keyed_families families)
 
 pub record FirstRises (family : FamilyValue) (families : List FamilyValue) : Type 0 where
   pub below : is_below family.root families ≡ true
@@ -70,7 +70,7 @@ rising_upto families i j d rising upto within =
 pub below_cons : (key : ℕ) (family : FamilyValue) (families : List FamilyValue) → key < family.root → roots_rise (family ∷ families) ≡ true → is_below key (family ∷ families) ≡ true
 below_cons key family families less rising =
     and_from (is_lt (nat_cmp key family.root)) (is_below key families) (ap is_lt (cmp_less key family.root less))
-    (below_before nat_cmp nat_cmp_total key family.root (entries_of families) (cmp_less key family.root less) (first_rises family families rising).below)
+    (below_before nat_cmp nat_cmp_total key family.root (keyed_families families) (cmp_less key family.root less) (first_rises family families rising).below)
 
 -- a family in front of rising ones
 pub rising_cons : (family other : FamilyValue) (families : List FamilyValue) → family.root < other.root → roots_rise (other ∷ families) ≡ true → roots_rise (family ∷ other ∷ families) ≡ true

@@ -16,14 +16,14 @@ use Rattle.sq_schema.specs.Family.{FamilyValue}
 use Rattle.sq_schema.proofs.Entries.{comparisons_rise}
 use Rattle.sq_store.specs.StoreValue.{absent}
 use Rattle.sq_store.specs.InOrder.{family_from}
-use Rattle.sq_store.specs.Listed.{entries_of, roots_rise, store_of, IsRootPlace, IsStart}
+use Rattle.sq_store.specs.Listed.{keyed_families, roots_rise, store_of, IsRootPlace, IsStart}
 use Rattle.sq_store.proofs.Order.{rising_at, rising_upto, less_from_less, less_from_greater}
 use Rattle.sq_store.proofs.Lists.{entry_root, families_in-store_of}
 
 comparisons_at : (families : List FamilyValue) (root : ℕ) → roots_rise families ≡ true → IsNonDecreasingBy (λ family. ordering_index (nat_cmp family.root root)) families
 comparisons_at families root rising i j d upto within =
-    let inside : j < length (entries_of families) = rw length-map within in
-    let rise = comparisons_rise nat_cmp nat_cmp_total root (entries_of families) rising i j (d.root, d) upto inside in
+    let inside : j < length (keyed_families families) = rw length-map within in
+    let rise = comparisons_rise nat_cmp nat_cmp_total root (keyed_families families) rising i j (d.root, d) upto inside in
     rw (entry_root families i (d.root, d) (omega (arith, upto, within)), entry_root families j (d.root, d) within) at rise
 
 -- a binary search by root key ends at the family of the root key, or at the gap for it

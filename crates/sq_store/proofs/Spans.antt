@@ -13,7 +13,7 @@ use Rattle.std.proofs.lemmas.List.{take-append-drop, drop-drop, get_or-take, get
 use Rattle.std.proofs.lemmas.List.Elements.{filter-append, All-tail}
 use Rattle.sq_schema.specs.Family.{FamilyValue}
 use Rattle.sq_store.specs.StoreValue.{families_between, without_between}
-use Rattle.sq_store.specs.Listed.{entries_of, roots_rise, store_of, IsStart}
+use Rattle.sq_store.specs.Listed.{keyed_families, roots_rise, store_of, IsStart}
 use Rattle.sq_store.proofs.Lists.{entries-store_of, get-store_of, values-entries_of, IsListed, from_T}
 
 -- every element passes, or none
@@ -61,11 +61,11 @@ module _ {X : Type 0} (xs : List X) (first last : ℕ) (rise : first ≤ last) (
       ∙ (λ i. filter_all p (take first xs) (All-front (λ x. p x ≡ true) before) i ++ filter-append p (slice_range xs first last) (drop last xs) i)
       ∙ (λ i. take first xs ++ (filter_none p (slice_range xs first last) (All-middle (λ x. p x ≡ false) inside) i ++ filter_all p (drop last xs) (All-back (λ x. p x ≡ true) after) i))
 
-pub filter-entries_of : (p : ℕ → Bool) (families : List FamilyValue) → filter (λ entry. p entry.0) (entries_of families) ≡ entries_of (filter (λ family. p family.root) families)
+pub filter-entries_of : (p : ℕ → Bool) (families : List FamilyValue) → filter (λ entry. p entry.0) (keyed_families families) ≡ keyed_families (filter (λ family. p family.root) families)
 filter-entries_of p [] = refl
 filter-entries_of p (family ∷ families) =
     let rest = filter-entries_of p families in
-    elim (p family.root) as (λ b. cond b ((family.root, family) ∷ filter (λ entry. p entry.0) (entries_of families)) (filter (λ entry. p entry.0) (entries_of families)) ≡ entries_of (cond b (family ∷ filter (λ f. p f.root) families) (filter (λ f. p f.root) families))) [
+    elim (p family.root) as (λ b. cond b ((family.root, family) ∷ filter (λ entry. p entry.0) (keyed_families families)) (filter (λ entry. p entry.0) (keyed_families families)) ≡ keyed_families (cond b (family ∷ filter (λ f. p f.root) families) (filter (λ f. p f.root) families))) [
       | true ↦ ap (λ es. (family.root, family) ∷ es) rest
       | false ↦ rest
     ]
@@ -76,12 +76,12 @@ kept p families rising =
     let alike : (q x : ℕ) → nat_cmp q x ≡ Equal → p x ≡ p q = λ q x tied. ap p (sym (nat_cmp-IsAntisymmetric q x tied)) in
     let left = filter (λ family. p family.root) families in
     let left_rises : roots_rise left ≡ true =
-    ap (is_sorted nat_cmp) (sym (filter-entries_of p families)) ∙ from_T (is_sorted nat_cmp (where_key nat_cmp p (entries_of families))) (is_sorted-where_key nat_cmp p (entries_of families) (T_from_true (roots_rise families) rising)) in
+    ap (is_sorted nat_cmp) (sym (filter-entries_of p families)) ∙ from_T (is_sorted nat_cmp (where_key nat_cmp p (keyed_families families))) (is_sorted-where_key nat_cmp p (keyed_families families) (T_from_true (roots_rise families) rising)) in
     record {
       rising = left_rises;
       same = same_map nat_cmp_total nat_cmp-IsAntisymmetric (retain_keys (store_of families) p) (store_of left) (λ q.
           get-retain_keys (store_of families) p q (alike q) ∙ ap (λ found. cond (p q) found None) (get-store_of families q rising)
-          ∙ sym (get-store_of left q left_rises ∙ ap (find nat_cmp q) (sym (filter-entries_of p families)) ∙ find-where_key nat_cmp p q (alike q) (entries_of families)));
+          ∙ sym (get-store_of left q left_rises ∙ ap (find nat_cmp q) (sym (filter-entries_of p families)) ∙ find-where_key nat_cmp p q (alike q) (keyed_families families)));
     }
 
 module _ (families : List FamilyValue) (lo hi first last : ℕ) (rising : roots_rise families ≡ true) (rise : first ≤ last) (low : IsStart families lo first) (high : IsStart families hi last) where

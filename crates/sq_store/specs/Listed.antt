@@ -10,16 +10,16 @@ use Rattle.sq_schema.specs.Family.{FamilyValue, rows_of, folded}
 use Rattle.sq_store.specs.StoreValue.{StoreValue, absent, with_txn}
 
 -- each family with its root key
-abbrev pub entries_of : List FamilyValue → List (ℕ × FamilyValue)
-entries_of families = map (λ family. (family.root, family)) families
+abbrev pub keyed_families : List FamilyValue → List (ℕ × FamilyValue)
+keyed_families families = map (λ family. (family.root, family)) families
 
 -- the root keys strictly rise
 abbrev pub roots_rise : List FamilyValue → Bool
-roots_rise families = is_sorted nat_cmp (entries_of families)
+roots_rise families = is_sorted nat_cmp (keyed_families families)
 
 -- the store of rising families
 abbrev pub store_of : List FamilyValue → StoreValue
-store_of families = from_sorted (entries_of families)
+store_of families = from_sorted (keyed_families families)
 
 -- the family of this root key is at this place
 pub record IsRootAt (families : List FamilyValue) (root at : ℕ) : Type 0 where
