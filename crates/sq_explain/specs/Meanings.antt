@@ -76,22 +76,22 @@ abbrev pub meaning_of : ℕ → Option (List ℕ)
 meaning_of number = option_map (λ row. row.1) (find (λ row. row.0 == number) meanings)
 
 -- three lines: the number and what it means, what it is given to, and what to do
-abbrev pub entry_text : Entry → List ℕ
-entry_text entry =
+abbrev pub entry_lines : Entry → List ℕ
+entry_lines entry =
     decimal entry.number ++ 32 ∷ entry.meaning.now ++ codes "\n    " ++ entry.given.now ++ codes "\n    " ++ entry.advice.now ++ 10 ∷ []
 
 -- the entries of all numbers are written
 pub record TellsAll (before now : Option (List ℕ)) : Type 0 where
   pub entries : List Entry
   pub are : map (λ entry. (entry.number, entry.meaning.now)) entries ≡ meanings
-  pub written : Appends before now (flat_map entry_text entries)
+  pub written : Appends before now (flat_map entry_lines entries)
 
 -- the entry of this number is written
 pub record TellsOne (number : ℕ) (before now : Option (List ℕ)) : Type 0 where
   pub entry : Entry
   pub is : entry.number ≡ number
   pub means : meaning_of number ≡ Some entry.meaning.now
-  pub written : Appends before now (entry_text entry)
+  pub written : Appends before now (entry_lines entry)
 
 -- nothing is written of this number, which has no entry
 pub record TellsNothing (number : ℕ) (before now : Option (List ℕ)) : Type 0 where

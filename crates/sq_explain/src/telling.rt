@@ -2,7 +2,7 @@
 ghost use Rattle.std.specs.Prelude.{◌≡◌, IfOk, OnOk, IfSome, map, option_map};
 ghost use Rattle.std.specs.List.{flat_map};
 ghost use Rattle.std.specs.Io.KnownBytes.{Appends};
-ghost use Rattle.sq_explain.specs.Meanings.{meanings, meaning_of, entry_text, Explains};
+ghost use Rattle.sq_explain.specs.Meanings.{meanings, meaning_of, entry_lines, Explains};
 
 use crate::table::{ENTRIES, Entry};
 use std::io;
@@ -26,7 +26,7 @@ pub fn entry(number: u16) -> Option<Entry>
 
 /// Writes an entry. An error is the writer's.
 pub fn write_entry<W: Write>(writer: &mut W, entry: &Entry) -> io::Result<()>
-    ensures { OnOk result (Appends (W.contents writer.old) (W.contents writer.new) (entry_text entry.now)) }
+    ensures { OnOk result (Appends (W.contents writer.old) (W.contents writer.new) (entry_lines entry.now)) }
 {
     let Entry {
         number,
@@ -39,7 +39,7 @@ pub fn write_entry<W: Write>(writer: &mut W, entry: &Entry) -> io::Result<()>
 
 /// Writes entries, one behind the other. An error is the writer's.
 pub fn write_entries<W: Write>(writer: &mut W, entries: &[Entry]) -> io::Result<()>
-    ensures { OnOk result (Appends (W.contents writer.old) (W.contents writer.new) (flat_map entry_text entries.now)) }
+    ensures { OnOk result (Appends (W.contents writer.old) (W.contents writer.new) (flat_map entry_lines entries.now)) }
 {
     for entry in entries {
         write_entry(writer, entry)?;
