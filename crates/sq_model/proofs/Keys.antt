@@ -6,7 +6,7 @@ use Rattle.sq_tree.specs.declared.node.TheConstants.{LEAVES}
 use Rattle.sq_tree.specs.Node.{is_above}
 use Rattle.sq_plan.specs.declared.plan.PlanRange.{PlanRange}
 use Rattle.sq_schema.specs.declared.root.TheConstants.{ROOT_END}
-use Rattle.sq_plan.specs.PlanValue.{PlanValue, IsPlan, is_tiling, holds, owner, owner_in}
+use Rattle.sq_plan.specs.PlanValue.{PlanValue, IsPlan, is_tiling, holds, owner, found_owner}
 use Rattle.sq_ranges.specs.declared.recon.Range.{Range}
 use Rattle.sq_ranges.specs.declared.recon.TheConstants.{MAX_WIDTH}
 use Rattle.sq_ranges.specs.ReconValue.{IsRecon, has_key, segment_at, segment_count, segments_in, segments_of, segment_of, leaf_of, extent, is_link}
@@ -23,7 +23,7 @@ use Rattle.sq_model.proofs.Lists.{Contains-slice_get, found_in, list_any-Contain
 owner_below : (plan : PlanValue) (key : ℕ) → IsPlan plan → owner plan key < plan.parts
 owner_below plan key is = among (find (λ range. holds range key) plan.ranges) refl
   where
-    among : (found : Option PlanRange) → find (λ (range : PlanRange). holds range key) plan.ranges ≡ found → owner_in found < plan.parts
+    among : (found : Option PlanRange) → find (λ (range : PlanRange). holds range key) plan.ranges ≡ found → found_owner found < plan.parts
     among None none = omega (arith, is.some_part)
     among (Some range) found =
         let at = found_in (λ (other : PlanRange). holds other key) plan.ranges range found in
@@ -39,7 +39,7 @@ past_end key lo (range ∷ ranges) past tiling =
     ∙ past_end key range.hi ranges past parts.2
 
 owner_past : (plan : PlanValue) (key : ℕ) → IsPlan plan → ROOT_END ≤ key → owner plan key ≡ 0
-owner_past plan key is past = ap owner_in (past_end key 0 plan.ranges past is.tiling)
+owner_past plan key is past = ap found_owner (past_end key 0 plan.ranges past is.tiling)
 
 -- the key is one of these
 pub covers_within : (o : OpeningValue) (g n root : ℕ) (segment : Range) → slice_get o.recon.segments g ≡ Some segment → is_within (extent_of o g n) root ≡ true → Covers (extent o.recon.width segment n) root

@@ -7,7 +7,7 @@ use Rattle.std.proofs.lemmas.Option.{same_Some}
 use Rattle.std.proofs.lemmas.Bool.Decides.{nat_tests}
 use Rattle.sq_schema.specs.declared.root.TheConstants.{ROOT_END}
 use Rattle.sq_plan.specs.declared.plan.PlanRange.{PlanRange}
-use Rattle.sq_plan.specs.PlanValue.{PlanValue, IsPlan, is_tiling, holds, owner, owner_in, IsHolder}
+use Rattle.sq_plan.specs.PlanValue.{PlanValue, IsPlan, is_tiling, holds, owner, found_owner, IsHolder}
 use Rattle.sq_plan.proofs.Tiling.{Follows-from_tiling, tiling-end, ends_rise, within}
 
 pub holds_from : (range : PlanRange) (key : ℕ) → range.lo ≤ key → key < range.hi → holds range key ≡ true
@@ -81,13 +81,13 @@ pub held : (plan : PlanValue) (key : ℕ) → IsPlan plan → key < ROOT_END →
 held plan key is_plan high =
     let it = found 0 plan.ranges key is_plan.tiling (omega arith) high in
     let exists = list_all-find _ _ plan.ranges it.0 is_plan.owners it.2 in
-    (it.0, record { alone = it.1; owns = ap owner_in it.2; exists = ltb-true _ _ exists })
+    (it.0, record { alone = it.1; owns = ap found_owner it.2; exists = ltb-true _ _ exists })
 
 -- each key has an owner among the partitions
 pub owner_exists : (plan : PlanValue) (key : ℕ) → IsPlan plan → owner plan key < plan.parts
 owner_exists plan key is_plan = owned_in (find (λ range. holds range key) plan.ranges) refl
   where
-    owned_in : (o : Option PlanRange) → find (λ range. holds range key) plan.ranges ≡ o → owner_in o < plan.parts
+    owned_in : (o : Option PlanRange) → find (λ range. holds range key) plan.ranges ≡ o → found_owner o < plan.parts
     owned_in None is = omega (arith, is_plan.some_part)
     owned_in (Some range) is = ltb-true _ _ (list_all-find _ _ plan.ranges range is_plan.owners is)
 
@@ -108,7 +108,7 @@ find_at_point plan ranges key i d is_plan same high le clause =
 
 -- the owner of what was found
 pub owner_found : (plan : PlanValue) (key : ℕ) (range : PlanRange) → IsPlan plan → find (λ range. holds range key) plan.ranges ≡ Some range → (range.owner ≡ owner plan key) × (range.owner < plan.parts)
-owner_found plan key range is_plan is = (sym (ap owner_in is), ltb-true _ _ (list_all-find _ _ plan.ranges range is_plan.owners is))
+owner_found plan key range is_plan is = (sym (ap found_owner is), ltb-true _ _ (list_all-find _ _ plan.ranges range is_plan.owners is))
 
 cons_nil : (x : PlanRange) (xs : List PlanRange) → (x ∷ xs) ≡ [] → ⊥
 cons_nil x xs is = cc

@@ -31,13 +31,13 @@ abbrev pub holds : PlanRange → ℕ → Bool
 holds range key = nat_le range.lo key && nat_lt key range.hi
 
 -- the owner of a range that was found
-abbrev pub owner_in : Option PlanRange → ℕ
-owner_in None = 0
-owner_in (Some range) = range.owner
+abbrev pub found_owner : Option PlanRange → ℕ
+found_owner None = 0
+found_owner (Some range) = range.owner
 
 -- the partition that owns a root key
 abbrev pub owner : PlanValue → ℕ → ℕ
-owner plan key = owner_in (find (λ range. holds range key) plan.ranges)
+owner plan key = found_owner (find (λ range. holds range key) plan.ranges)
 
 -- the range alone holds the key, and its owner is the key's: one of the plan's partitions
 pub record IsHolder (plan : PlanValue) (key : ℕ) (range : PlanRange) : Type 0 where

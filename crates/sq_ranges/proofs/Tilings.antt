@@ -4,11 +4,11 @@ use Rattle.std.proofs.lemmas.Bool.{and_parts, and_from, eqb-true, ltb-true, lt-l
 use Rattle.std.proofs.lemmas.Bool.Decides.{nat_tests}
 use Rattle.sq_plan.specs.declared.plan.PlanRange.{PlanRange}
 use Rattle.sq_schema.specs.declared.root.TheConstants.{ROOT_END}
-use Rattle.sq_plan.specs.PlanValue.{is_tiling, holds, owner_in}
+use Rattle.sq_plan.specs.PlanValue.{is_tiling, holds, found_owner}
 
 -- the owner of a key by these ranges
 abbrev pub owner_among : List PlanRange → ℕ → ℕ
-owner_among ranges key = owner_in (find (λ range. holds range key) ranges)
+owner_among ranges key = found_owner (find (λ range. holds range key) ranges)
 
 pub holds_within : (range : PlanRange) (key : ℕ) → range.lo ≤ key → key < range.hi → holds range key ≡ true
 holds_within range key low high = and_from (nat_le range.lo key) (nat_lt key range.hi) (le-leb range.lo key low) (lt-ltb key range.hi high)
@@ -34,9 +34,9 @@ tiling_bounds lo (range ∷ ranges) tiling =
 -- the first range owns its keys
 pub owner_among-first : (range : PlanRange) (ranges : List PlanRange) (key : ℕ) → range.lo ≤ key → key < range.hi → owner_among (range ∷ ranges) key ≡ range.owner
 owner_among-first range ranges key low high =
-    ap owner_in (cond-true (holds range key) (Some range) (find (λ r. holds r key) ranges) (holds_within range key low high))
+    ap found_owner (cond-true (holds range key) (Some range) (find (λ r. holds r key) ranges) (holds_within range key low high))
 
 -- behind it the others do
 pub owner_among-rest : (range : PlanRange) (ranges : List PlanRange) (key : ℕ) → range.hi ≤ key → owner_among (range ∷ ranges) key ≡ owner_among ranges key
 owner_among-rest range ranges key high =
-    ap owner_in (cond-false (holds range key) (Some range) (find (λ r. holds r key) ranges) (holds_past range key high))
+    ap found_owner (cond-false (holds range key) (Some range) (find (λ r. holds r key) ranges) (holds_past range key high))

@@ -2,7 +2,7 @@
 use Rattle.std.specs.Prelude.{◌≡◌, ◌≢◌, ℕ, ◌+◌, ◌≤◌, ◌<◌, ◌==◌, min, if◌then◌else◌, List, [], ◌∷◌, length, find, true, Option, Some, None}
 use Rattle.sq_plan.specs.declared.plan.PlanRange.{PlanRange}
 use Rattle.sq_schema.specs.declared.root.TheConstants.{ROOT_END}
-use Rattle.sq_plan.specs.PlanValue.{PlanValue, is_tiling, holds, owner, owner_in}
+use Rattle.sq_plan.specs.PlanValue.{PlanValue, is_tiling, holds, owner, found_owner}
 use Rattle.sq_ranges.specs.declared.recon.Range.{Range}
 use Rattle.sq_ranges.specs.declared.sweep.Sweep.{Sweep}
 use Rattle.sq_ranges.specs.Moves.{IsMovingRun}
@@ -29,7 +29,7 @@ pub record AreAhead (plan : PlanValue) (at : ℕ) (ranges : List PlanRange) : Ty
   pub begun : start ≤ at
   pub tiling : is_tiling start ranges ≡ true
   pub behind : EndsBehind at ranges
-  pub owners : (key : ℕ) → at ≤ key → owner_in (find (λ range. holds range key) ranges) ≡ owner plan key
+  pub owners : (key : ℕ) → at ≤ key → found_owner (find (λ range. holds range key) ranges) ≡ owner plan key
 
 -- the first run of keys that move, from this key on, as far as it goes
 pub record IsNextRun (old new : PlanValue) (at : ℕ) (run : Range) : Type 0 where
