@@ -33,7 +33,7 @@ use Rattle.sq_text.specs.declared.located.InputLine.TheVariants as line
 use Rattle.sq_text.specs.declared.located.LocatedFault.{LocatedFault}
 use Rattle.sq_text.specs.InputFaults.{◌>>=◌, IsRead, IsReadGivenMemory}
 use Rattle.sq_text.specs.Located.{at_line, located, line_number, of_opening}
-use Rattle.sq_text.specs.Header.{line_in, next_line, line_as, plan_of, config_of, row_of, first_lines, IsReadBefore, unless, HeaderValue, plans_of, row_taken, rows_taken, header_of, header_in, Opens}
+use Rattle.sq_text.specs.Header.{line_in, next_line, line_as, plan_behind, config_of, given_of, first_lines, IsReadBefore, unless_faulty, HeaderValue, plans_of, row_taken, rows_taken, header_of, header_in, Opens}
 
 -- a line that isn't too long
 pub short_line : (number : ℕ) (line : List ℕ) (others : List PieceValue) → length line ≤ MAX_LINE → next_line (Line number line ∷ others) ≡ Ok (line, others)
@@ -126,7 +126,7 @@ same_left {A} (Ok bytes) read pieces left value e = by_value (read bytes) e
 
 -- a row that is read, on top of a table
 abbrev taken_on : ℕ → RowTable → ℕ → Result (GivenValue × List PieceValue) InputFault → Result (RowTable × List PieceValue) LocatedFault
-taken_on tables table at r = at_line (line.Row at) r >>= (λ row. unless (given_fault tables table at row.0) (with_one table row.0, row.1))
+taken_on tables table at r = at_line (line.Row at) r >>= (λ row. unless_faulty (given_fault tables table at row.0) (with_one table row.0, row.1))
 
 abbrev behind_taken : List PieceValue → Result (RowTable × List PieceValue) LocatedFault → List PieceValue
 behind_taken none (Ok x) = x.1
@@ -137,15 +137,15 @@ row_read : (tables : ℕ) (table now : RowTable) (at : ℕ) (r : Result (GivenVa
 row_read tables table now at (Err f) left e = absurd cc
 row_read tables table now at (Ok row) left e = (row.0, ap (λ (l : List PieceValue). Ok (row.0, l)) (by_fault (given_fault tables table at row.0) e))
   where
-    by_fault : (f : Option OpeningFault) → unless {A = RowTable × List PieceValue} f (with_one table row.0, row.1) ≡ Ok (now, left) → row.1 ≡ left
+    by_fault : (f : Option OpeningFault) → unless_faulty {A = RowTable × List PieceValue} f (with_one table row.0, row.1) ≡ Ok (now, left) → row.1 ≡ left
     by_fault None e = ap (behind_taken []) e
     by_fault (Some f) e = absurd cc
 
 row_next : (tables : ℕ) (table now : RowTable) (at : ℕ) (mid left : List PieceValue) → next_begins (codes "row ") mid ≡ true → row_taken tables table at mid ≡ Ok (now, left) → rows_taken tables table at mid ≡ rows_taken tables now (at + 1) left
 row_next tables table now at [] left begins e = absurd cc
 row_next tables table now at (piece ∷ pieces) left begins e =
-    let read = row_read tables table now at (line_as row_of (piece ∷ pieces)) left e in
-    let same : pieces ≡ left = same_left (line_in piece) row_of pieces left read.0 read.1 in
+    let read = row_read tables table now at (line_as given_of (piece ∷ pieces)) left e in
+    let same : pieces ≡ left = same_left (line_in piece) given_of pieces left read.0 read.1 in
     rw (begins, e, same) refl
 
 row_fails : (tables : ℕ) (table : RowTable) (at : ℕ) (mid : List PieceValue) (f : LocatedFault) → next_begins (codes "row ") mid ≡ true → row_taken tables table at mid ≡ Err f → rows_taken tables table at mid ≡ Err f
@@ -170,15 +170,15 @@ abbrev pub RowRead : ℕ → RowTable → ℕ → RowTable → Result Unit Locat
 RowRead tables table at now r old new = Leaves old new (λ all left. IsReadBefore (λ _. now) r left (row_taken tables table at all))
 
 module _ (tables : ℕ) (table : RowTable) (at : ℕ) (old new : LinesValue) where
-  pub row_malformed : (now : RowTable) (f : InputFault) → Leaves old new (λ all left. IsReadGivenMemory {X = GivenRow} {Y = GivenValue × List PieceValue} (λ row. (value_of row, left)) (Err f) (line_as row_of all)) → RowRead tables table at now (Err (located f (Some (line.Row at)))) old new
+  pub row_malformed : (now : RowTable) (f : InputFault) → Leaves old new (λ all left. IsReadGivenMemory {X = GivenRow} {Y = GivenValue × List PieceValue} (λ row. (value_of row, left)) (Err f) (line_as given_of all)) → RowRead tables table at now (Err (located f (Some (line.Row at)))) old new
   row_malformed now f reads = λ left can.
       let m = reads left can in
-      (m.0, m.1, λ apart. rw (is_told {X = GivenRow} f (λ row. (value_of row, left)) (line_as row_of m.0) apart m.2) refl)
+      (m.0, m.1, λ apart. rw (is_told {X = GivenRow} f (λ row. (value_of row, left)) (line_as given_of m.0) apart m.2) refl)
 
   pub row_unread : (now : RowTable) → RowRead tables table at now (Err (located fault.Memory None)) old new
   row_unread now = λ left can. let some = some_pieces old in (some.pieces, some.can_come, λ apart. absurd (apart refl))
 
-  module _ (given : GivenRow) (reads : Leaves old new (λ all left. line_as row_of all ≡ Ok (value_of given, left))) where
+  module _ (given : GivenRow) (reads : Leaves old new (λ all left. line_as given_of all ≡ Ok (value_of given, left))) where
     pub row_fits : (now : TableValue) → given_fault tables table at (value_of given) ≡ None → ((root : ℕ) → rows_in now root ≡ with_one table (value_of given) root) → RowRead tables table at (rows_in now) (Ok tt) old new
     row_fits now none taken = λ left can.
         let m = reads left can in
@@ -256,24 +256,24 @@ Fails {Y} read f old new = Leaves old new (λ all left. IsReadGivenMemory {X = Y
 abbrev pub FirstRead : Result FirstLines LocatedFault → LinesValue → LinesValue → Type 0
 FirstRead r old new = Leaves old new (λ all left. IsReadBefore (λ first. first) r left (first_lines all))
 
-pub no_old : (f : InputFault) (v0 v1 : LinesValue) → Fails (plan_of (codes "old ")) f v0 v1 → FirstRead (Err (located f (Some line.Old))) v0 v1
+pub no_old : (f : InputFault) (v0 v1 : LinesValue) → Fails (plan_behind (codes "old ")) f v0 v1 → FirstRead (Err (located f (Some line.Old))) v0 v1
 no_old f v0 v1 fails = λ left can. let a = fails left can in
-    (a.0, a.1, refused f line.Old left (first_lines a.0) (λ y. y) (line_as (plan_of (codes "old ")) a.0) (told_again {X = PlanValue} f (λ y. (y, left)) _ a.2) (λ e. rw e refl))
+    (a.0, a.1, refused f line.Old left (first_lines a.0) (λ y. y) (line_as (plan_behind (codes "old ")) a.0) (told_again {X = PlanValue} f (λ y. (y, left)) _ a.2) (λ e. rw e refl))
 
-pub no_new : (f : InputFault) (old : PlanValue) (v0 v1 v2 : LinesValue) → Reads (plan_of (codes "old ")) old v0 v1 → Fails (plan_of (codes "new ")) f v1 v2 → FirstRead (Err (located f (Some line.New))) v0 v2
+pub no_new : (f : InputFault) (old : PlanValue) (v0 v1 v2 : LinesValue) → Reads (plan_behind (codes "old ")) old v0 v1 → Fails (plan_behind (codes "new ")) f v1 v2 → FirstRead (Err (located f (Some line.New))) v0 v2
 no_new f old v0 v1 v2 first fails = λ left can.
     let b = fails left can in
     let a = first b.0 b.1 in
-    (a.0, a.1, refused f line.New left (first_lines a.0) (λ y. y) (line_as (plan_of (codes "new ")) b.0) (told_again {X = PlanValue} f (λ y. (y, left)) _ b.2) (λ e. rw (a.2, e) refl))
+    (a.0, a.1, refused f line.New left (first_lines a.0) (λ y. y) (line_as (plan_behind (codes "new ")) b.0) (told_again {X = PlanValue} f (λ y. (y, left)) _ b.2) (λ e. rw (a.2, e) refl))
 
-pub no_config : (f : InputFault) (old new : PlanValue) (v0 v1 v2 v3 : LinesValue) → Reads (plan_of (codes "old ")) old v0 v1 → Reads (plan_of (codes "new ")) new v1 v2 → Fails config_of f v2 v3 → FirstRead (Err (located f (Some line.Config))) v0 v3
+pub no_config : (f : InputFault) (old new : PlanValue) (v0 v1 v2 v3 : LinesValue) → Reads (plan_behind (codes "old ")) old v0 v1 → Reads (plan_behind (codes "new ")) new v1 v2 → Fails config_of f v2 v3 → FirstRead (Err (located f (Some line.Config))) v0 v3
 no_config f old new v0 v1 v2 v3 first second fails = λ left can.
     let d = fails left can in
     let b = second d.0 d.1 in
     let a = first b.0 b.1 in
     (a.0, a.1, refused f line.Config left (first_lines a.0) (λ y. y) (line_as config_of d.0) (told_again {X = Config} f (λ y. (y, left)) _ d.2) (λ e. rw (a.2, b.2, e) refl))
 
-pub all_three : (old new : PlanValue) (config : Config) (v0 v1 v2 v3 : LinesValue) → Reads (plan_of (codes "old ")) old v0 v1 → Reads (plan_of (codes "new ")) new v1 v2 → Reads config_of config v2 v3 → FirstRead (Ok (record { old = old; new = new; config = config })) v0 v3
+pub all_three : (old new : PlanValue) (config : Config) (v0 v1 v2 v3 : LinesValue) → Reads (plan_behind (codes "old ")) old v0 v1 → Reads (plan_behind (codes "new ")) new v1 v2 → Reads config_of config v2 v3 → FirstRead (Ok (record { old = old; new = new; config = config })) v0 v3
 all_three old new config v0 v1 v2 v3 first second third = λ left can.
     let d = third left can in
     let b = second d.0 d.1 in

@@ -57,8 +57,8 @@ plan_told (Ok plan) = Ok plan
 plan_told (Err fault) = Err (Plan fault)
 
 -- the plan of a line that begins so
-abbrev pub plan_of : List ℕ → List ℕ → Result PlanValue InputFault
-plan_of front line = do
+abbrev pub plan_behind : List ℕ → List ℕ → Result PlanValue InputFault
+plan_behind front line = do
   text ← behind front line
   plan_told (plan_in text)
 
@@ -69,16 +69,16 @@ config_of line = do
   ok_or (config_in (words_of text)) BadHeader
 
 -- the opening row of a line: row ROOT T S N NOTE
-abbrev pub row_of : List ℕ → Result GivenValue InputFault
-row_of line = do
+abbrev pub given_of : List ℕ → Result GivenValue InputFault
+given_of line = do
   text ← behind (codes "row ") line
   ok_or (given_in (words_of text)) BadHeader
 
 -- the plans and the sizes that pieces begin with, and what comes after these three lines
 abbrev pub first_lines : List PieceValue → Result (FirstLines × List PieceValue) LocatedFault
 first_lines pieces = do
-  old ← at_line line.Old (line_as (plan_of (codes "old ")) pieces)
-  new ← at_line line.New (line_as (plan_of (codes "new ")) old.1)
+  old ← at_line line.Old (line_as (plan_behind (codes "old ")) pieces)
+  new ← at_line line.New (line_as (plan_behind (codes "new ")) old.1)
   config ← at_line line.Config (line_as config_of new.1)
   Ok (record { old = old.0; new = new.0; config = config.0 }, config.1)
 
@@ -88,9 +88,9 @@ IsReadBefore view (Ok x) left wanted = wanted ≡ Ok (view x, left)
 IsReadBefore view (Err refused) left wanted = refused.fault ≢ Memory → wanted ≡ Err refused
 
 -- this, unless an opening has a fault
-abbrev pub unless : {A : Type 0} → Option OpeningFault → A → Result A LocatedFault
-unless None x = Ok x
-unless (Some fault) x = Err (of_opening fault)
+abbrev pub unless_faulty : {A : Type 0} → Option OpeningFault → A → Result A LocatedFault
+unless_faulty None x = Ok x
+unless_faulty (Some fault) x = Err (of_opening fault)
 
 -- what a header spells: the plans, the sizes, and the table of its rows
 pub record HeaderValue : Type 0 where
@@ -103,13 +103,13 @@ pub record HeaderValue : Type 0 where
 abbrev pub plans_of : List PieceValue → Result (HeaderValue × List PieceValue) LocatedFault
 plans_of pieces = do
   first ← first_lines pieces
-  unless (config_fault first.0.old first.0.new first.0.config) (record { old = first.0.old; new = first.0.new; config = first.0.config; rows = no_rows }, first.1)
+  unless_faulty (config_fault first.0.old first.0.new first.0.config) (record { old = first.0.old; new = first.0.new; config = first.0.config; rows = no_rows }, first.1)
 
 -- the table with the row of the next line, which has this number, and what comes after it
 abbrev pub row_taken : ℕ → RowTable → ℕ → List PieceValue → Result (RowTable × List PieceValue) LocatedFault
 row_taken tables table at pieces = do
-  row ← at_line (line.Row at) (line_as row_of pieces)
-  unless (given_fault tables table at row.0) (with_one table row.0, row.1)
+  row ← at_line (line.Row at) (line_as given_of pieces)
+  unless_faulty (given_fault tables table at row.0) (with_one table row.0, row.1)
 
 -- as long as lines begin as a row's line does, their rows are taken one after another, numbered from this on; the first that isn't taken ends it
 abbrev pub rows_taken : ℕ → RowTable → ℕ → List PieceValue → Result (RowTable × List PieceValue) LocatedFault

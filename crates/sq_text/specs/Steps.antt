@@ -83,15 +83,15 @@ submit_unless None txn = Ok (step.Submit txn.part (record { id = txn.id; root = 
 submit_unless (Some fault) txn = Err (Txn fault)
 
 -- the transaction is submitted, unless no schema of this many tables has it
-abbrev pub submitted : ℕ → Option TxnLine → Result Step LineFault
-submitted tables None = Err NotAStep
-submitted tables (Some txn) = submit_unless (txn_fault tables txn.root txn.ops) txn
+abbrev pub txn_step : ℕ → Option TxnLine → Result Step LineFault
+txn_step tables None = Err NotAStep
+txn_step tables (Some txn) = submit_unless (txn_fault tables txn.root txn.ops) txn
 
 -- the step that the words spell
 abbrev pub step_in : ℕ → List Word → Result Step LineFault
 step_in tables [] = Err NotAStep
 step_in tables (first ∷ words) =
-    if bytes_eq first (codes "txn") then submitted tables (txn_in words) else ok_or (verb_step first words) NotAStep
+    if bytes_eq first (codes "txn") then txn_step tables (txn_in words) else ok_or (verb_step first words) NotAStep
 
 -- a line that begins with the word txn, which is read into memory
 abbrev pub begins_txn : List Word → Bool

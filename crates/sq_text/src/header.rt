@@ -8,7 +8,7 @@ ghost use Rattle.sq_text.specs.Faults.{IsParsed, IsParsedGivenMemory};
 ghost use Rattle.sq_text.specs.InputFaults.{IsRead, IsReadGivenMemory};
 ghost use Rattle.sq_text.specs.Located.{line_number};
 ghost use Rattle.sq_text.specs.HeaderFields.{config_in, given_in};
-ghost use Rattle.sq_text.specs.Header.{next_line, line_as, behind, plan_of, config_of, row_of, IsReadBefore, first_lines, row_taken, rows_taken, header_of, plans_of, Opens, StopsAt};
+ghost use Rattle.sq_text.specs.Header.{next_line, line_as, behind, plan_behind, config_of, given_of, IsReadBefore, first_lines, row_taken, rows_taken, header_of, plans_of, Opens, StopsAt};
 
 use crate::fault::{Malformed, ReadFault};
 use crate::input_fault::InputFault;
@@ -52,7 +52,7 @@ fn behind<'a>(front: &[u8], bytes: &'a [u8]) -> Result<&'a [u8], InputFault>
 
 // The plan of a line that begins so.
 fn plan(alloc: Global, front: &[u8], line: &[u8]) -> Result<Plan, InputFault>
-    ensures { IsReadGivenMemory (λ plan. plan) result (plan_of front.now line.now) }
+    ensures { IsReadGivenMemory (λ plan. plan) result (plan_behind front.now line.now) }
 {
     let text = behind(front, line)?;
     Ok(Plan::read(alloc, text)?)
@@ -64,7 +64,7 @@ fn plan_line<R: Read>(
     front: &[u8],
     lines: &mut LineReader<R>,
 ) -> Result<Plan, InputFault>
-    ensures plan { Leaves lines.old lines.new (λ all left. IsReadGivenMemory (λ plan. (plan, left)) result (line_as (plan_of front.now) all)) }
+    ensures plan { Leaves lines.old lines.new (λ all left. IsReadGivenMemory (λ plan. (plan, left)) result (line_as (plan_behind front.now) all)) }
     ensures one_line { lines.old.lines ≤ lines.new.lines + 1 }
 {
     next_line(lines)?;
@@ -130,7 +130,7 @@ fn given(alloc: Global, mut words: Words<'_>) -> Result<GivenRow, ReadFault>
 
 // The opening row of a line.
 fn row(alloc: Global, line: &[u8]) -> Result<GivenRow, InputFault>
-    ensures { IsReadGivenMemory value_of result (row_of line.now) }
+    ensures { IsReadGivenMemory value_of result (given_of line.now) }
 {
     let text = behind(b"row ", line)?;
     Ok(given(alloc, Words::of(text))?)
@@ -138,7 +138,7 @@ fn row(alloc: Global, line: &[u8]) -> Result<GivenRow, InputFault>
 
 // The opening row of the next line.
 fn row_line<R: Read>(alloc: Global, lines: &mut LineReader<R>) -> Result<GivenRow, InputFault>
-    ensures row { Leaves lines.old lines.new (λ all left. IsReadGivenMemory (λ row. (value_of row, left)) result (line_as row_of all)) }
+    ensures row { Leaves lines.old lines.new (λ all left. IsReadGivenMemory (λ row. (value_of row, left)) result (line_as given_of all)) }
     ensures one_line { lines.old.lines ≤ lines.new.lines + 1 }
     ensures fewer { OnOk result (lines.old.lines ≡ lines.new.lines + 1) }
 {

@@ -1,7 +1,7 @@
 // The steps that lines of the script spell.
 ghost use Rattle.std.specs.Prelude.{◌≡◌, true, Err, ok_or};
 ghost use Rattle.sq_text.specs.Fields.{value_at_end};
-ghost use Rattle.sq_text.specs.Steps.{pair_field, pull_field, step_with, verb_step, txn_in, submitted, step_in, step_of, begins_txn};
+ghost use Rattle.sq_text.specs.Steps.{pair_field, pull_field, step_with, verb_step, txn_in, txn_step, step_in, step_of, begins_txn};
 ghost use Rattle.sq_text.specs.Words.{words_of};
 ghost use Rattle.sq_text.specs.Faults.{IsParsed, IsParsedGivenMemory, IsStep};
 
@@ -98,7 +98,7 @@ fn verb_step(verb: Verb, mut words: Words<'_>) -> Result<Step, LineFault>
 // The step of a line that begins with `txn`.
 #[tactic(auto, unfolding(crate::specs::Steps::txn_in))]
 fn submit(alloc: Global, schema: &Schema, mut words: Words<'_>) -> Result<Step, LineFault>
-    ensures { IsStep result (submitted schema.now (txn_in words.entry)) }
+    ensures { IsStep result (txn_step schema.now (txn_in words.entry)) }
 {
     let part = words.number()?;
     let id = words.number()?;
