@@ -35,7 +35,7 @@ use Rattle.sq_node.specs.NodeState.{NodeState, IsNodeOf, views_of, sent_by, rece
 use Rattle.sq_node.specs.Holds.{HoldsUnder}
 use Rattle.sq_node.specs.Settled.{IsNode}
 use Rattle.sq_pull.specs.Pump.{PumpValue}
-use Rattle.sq_node.specs.Opened.{IsNewPump, AreNewPumps, AreFirstSeats, AreNewSeats, GaveEach, HasEnds, LeavesEnds, HaveSentNothing, HaveReceivedNothing, AreNewSends, AreNewRecvs, IsFabricOf, IsNewNode, AreNewNodes, AllOpenWith, AllHoldUnder, IsReopened, opened_stores, started_core}
+use Rattle.sq_node.specs.Opened.{IsNewPump, AreNewPumps, AreFirstSeats, AreNewSeats, GaveEach, HasEnds, LeavesEnds, HaveSentNothing, HaveReceivedNothing, AreNewSends, AreNewRecvs, IsFabricOf, IsNewNode, AreNewNodes, AllOpenWith, AllHoldUnder, IsReopened, opened_stores, running_core}
 use Rattle.sq_node.proofs.NewLinks.{before, last}
 
 -- nothing is loaded at a partition as a stage begins
@@ -119,9 +119,9 @@ all_owned_open o owned part store there =
 -- a node is new that is made of a partition as the stage begins, of new seats and of ends that nothing was sent and received by
 pub new_node : (o : OpeningValue) (fabric : FabricValue) (part : ℕ) (store : StoreValue) (core : CoreValue) (seats : List SeatValue) (sends : List (Option SendEnd)) (recvs : List (Option RecvEnd)) (node : NodeState)
     → IsFabricOf o fabric → part < o.old.parts → core ≡ staged_core o fabric.stage part store → AreNewSeats fabric.trees seats → AreNewSends fabric.links fabric.parts part sends → AreNewRecvs fabric.links fabric.parts part recvs
-    → node ≡ record { core = record core { started = true }; seats = seats; sends = sends; recvs = recvs; receipts = []; claims = 0 } → IsNewNode fabric (started_core o fabric.stage part store) node
+    → node ≡ record { core = record core { started = true }; seats = seats; sends = sends; recvs = recvs; receipts = []; claims = 0 } → IsNewNode fabric (running_core o fabric.stage part store) node
 new_node o fabric part store core seats sends recvs node shared below opened new out into is =
-    subst (IsNewNode fabric (started_core o fabric.stage part store)) (sym (is ∙ ap (λ (c : CoreValue). record { core = record c { started = true }; seats = seats; sends = sends; recvs = recvs; receipts = []; claims = 0 }) opened))
+    subst (IsNewNode fabric (running_core o fabric.stage part store)) (sym (is ∙ ap (λ (c : CoreValue). record { core = record c { started = true }; seats = seats; sends = sends; recvs = recvs; receipts = []; claims = 0 }) opened))
     (record {
       of = record {
         recon = sym shared.recon;
@@ -160,15 +160,15 @@ alike old new same = λ k. record (same k) { seats = new.seats; receipts = new.r
 pub same_nodes : (o : OpeningValue) (old new : FabricValue) (stores : List StoreValue) (nodes : List NodeState) → IsAlike old new → AreNewNodes o old stores nodes → AreNewNodes o new stores nodes
 same_nodes o old new stores nodes same are =
     subst (λ (fabric : FabricValue). AreNewNodes o fabric stores nodes) (sym same)
-    (record { all = are.all; each = λ part node there. same_node old new.seats new.receipts (started_core o old.stage part (slice_index_or stores part empty)) node (are.each part node there) })
+    (record { all = are.all; each = λ part node there. same_node old new.seats new.receipts (running_core o old.stage part (slice_index_or stores part empty)) node (are.each part node there) })
 
-pub same_new : (o : OpeningValue) (old new : FabricValue) (part : ℕ) (store : StoreValue) (node : NodeState) → IsAlike old new → IsNewNode old (started_core o old.stage part store) node → IsNewNode new (started_core o new.stage part store) node
+pub same_new : (o : OpeningValue) (old new : FabricValue) (part : ℕ) (store : StoreValue) (node : NodeState) → IsAlike old new → IsNewNode old (running_core o old.stage part store) node → IsNewNode new (running_core o new.stage part store) node
 same_new o old new part store node same made =
-    subst (λ (fabric : FabricValue). IsNewNode fabric (started_core o fabric.stage part store) node) (sym same) (same_node old new.seats new.receipts (started_core o old.stage part store) node made)
+    subst (λ (fabric : FabricValue). IsNewNode fabric (running_core o fabric.stage part store) node) (sym same) (same_node old new.seats new.receipts (running_core o old.stage part store) node made)
 
 -- one more node, of a partition with one more store
 pub more_nodes : (o : OpeningValue) (fabric : FabricValue) (stores : List StoreValue) (store : StoreValue) (nodes : List NodeState) (node : NodeState) → AreNewNodes o fabric stores nodes
-    → IsNewNode fabric (started_core o fabric.stage (length stores) store) node → AreNewNodes o fabric (stores ++ store ∷ []) (nodes ++ node ∷ [])
+    → IsNewNode fabric (running_core o fabric.stage (length stores) store) node → AreNewNodes o fabric (stores ++ store ∷ []) (nodes ++ node ∷ [])
 more_nodes o fabric stores store nodes node are made =
     record {
       all = length-append nodes (node ∷ []) ∙ ap (λ (n : ℕ). n + 1) are.all ∙ sym (length-append stores (store ∷ []));
@@ -176,12 +176,12 @@ more_nodes o fabric stores store nodes node are made =
           (λ (earlier : slice_get nodes part ≡ Some one).
           let lt = slice_get_within nodes part one earlier in
           let within : part < length stores = omega (arith, are.all) in
-          subst (λ (s : StoreValue). IsNewNode fabric (started_core o fabric.stage part s) one) (sym (before stores store empty part within)) (are.each part one earlier))
+          subst (λ (s : StoreValue). IsNewNode fabric (running_core o fabric.stage part s) one) (sym (before stores store empty part within)) (are.each part one earlier))
           (λ (end : (part ≡ length nodes) × (node ≡ one)).
           let here : length stores ≡ part = sym are.all ∙ sym end.0 in
           let store_is : store ≡ slice_index_or (stores ++ store ∷ []) part empty = sym (last stores store empty) ∙ ap (λ (k : ℕ). get_or (stores ++ store ∷ []) k empty) here in
-          subst (IsNewNode fabric (started_core o fabric.stage part (slice_index_or (stores ++ store ∷ []) part empty))) end.1
-          (subst (λ (core : CoreValue). IsNewNode fabric core node) (λ k. started_core o fabric.stage (here k) (store_is k)) made))
+          subst (IsNewNode fabric (running_core o fabric.stage part (slice_index_or (stores ++ store ∷ []) part empty))) end.1
+          (subst (λ (core : CoreValue). IsNewNode fabric core node) (λ k. running_core o fabric.stage (here k) (store_is k)) made))
           (push_stood nodes node part one there);
     }
 
@@ -218,10 +218,10 @@ left_ends links part_of end_of old new part other leaves apart has =
 
 -- of a new node all holds under each beginning of its stage in which its root keys were given its families
 new_holds : (o : OpeningValue) (began : BeganWith) (fabric : FabricValue) (part : ℕ) (store : StoreValue) (node : NodeState) → part < o.old.parts → HasBegun began fabric → CanBegin o began → OpensWith o began part store
-    → IsNewNode fabric (started_core o fabric.stage part store) node → HoldsUnder o began node
+    → IsNewNode fabric (running_core o fabric.stage part store) node → HoldsUnder o began node
 new_holds o began fabric part store node below begun can opens new =
-    let core : node.core ≡ started_core o began.stage part store = new.core ∙ ap (λ stage. started_core o stage part store) (sym begun.stage) in
-    subst (HoldsUnder o began) {x = record { core = started_core o began.stage part store; seats = node.seats; sends = node.sends; recvs = node.recvs; receipts = []; claims = node.claims }} {y = node}
+    let core : node.core ≡ running_core o began.stage part store = new.core ∙ ap (λ stage. running_core o stage part store) (sym begun.stage) in
+    subst (HoldsUnder o began) {x = record { core = running_core o began.stage part store; seats = node.seats; sends = node.sends; recvs = node.recvs; receipts = []; claims = node.claims }} {y = node}
     (λ k. record { core = sym core k; seats = node.seats; sends = node.sends; recvs = node.recvs; receipts = sym new.receipts k; claims = node.claims })
     (record {
       core = record { plan = refl; recon = refl; stage = refl; outs = length-replicate o.old.parts new_out_link; given_up = length-replicate (length o.recon.segments) none_given_up; loaded = length-replicate (length o.recon.segments) [] };

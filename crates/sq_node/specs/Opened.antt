@@ -26,8 +26,8 @@ use Rattle.sq_node.specs.NodeState.{NodeState, IsNodeOf}
 use Rattle.sq_node.specs.Holds.{HoldsUnder}
 
 -- a partition with these families as a stage begins, whose move has started
-abbrev pub started_core : OpeningValue → ℕ → ℕ → StoreValue → CoreValue
-started_core o stage part store = record (staged_core o stage part store) { started = true }
+abbrev pub running_core : OpeningValue → ℕ → ℕ → StoreValue → CoreValue
+running_core o stage part store = record (staged_core o stage part store) { started = true }
 
 -- the families of each partition before the move
 abbrev pub opened_stores : OpeningValue → List StoreValue
@@ -144,7 +144,7 @@ pub record IsFabricOf (o : OpeningValue) (fabric : FabricValue) : Type 0 where
 pub record AreNewNodes (o : OpeningValue) (fabric : FabricValue) (stores : List StoreValue) (nodes : List NodeState) : Type 0 where
   pub all : length nodes ≡ length stores
   pub each : (part : ℕ) (node : NodeState) → slice_get nodes part ≡ Some node
-      → IsNewNode fabric (started_core o fabric.stage part (slice_index_or stores part empty)) node
+      → IsNewNode fabric (running_core o fabric.stage part (slice_index_or stores part empty)) node
 
 -- of each node all holds that a node keeps
 abbrev pub AllHoldUnder : OpeningValue → BeganWith → List NodeState → Type 0

@@ -7,7 +7,7 @@ ghost use Rattle.sq_pull.specs.Seats.{AreSeatsOf};
 ghost use Rattle.sq_pull.specs.declared.numbers.TheConstants.{MAX_PUMPS};
 ghost use Rattle.sq_node.specs.Ends.{link_from, send_end, recv_end, AreSendEnds, AreRecvEnds};
 ghost use Rattle.sq_node.specs.FabricValue.{ends_of, AreFirst, IsFabric};
-ghost use Rattle.sq_node.specs.Opened.{AreFirstSeats, AreNewSeats, GaveEach, GivesOut, HaveCapacity, HasAllEnds, HasSendEnds, HasRecvEnds, LeavesSendEnds, LeavesRecvEnds, HaveSentNothing, HaveReceivedNothing, AreNewSends, AreNewRecvs, IsFabricOf, IsNewNode, AreNewNodes, IsNewPump, AreNewPumps, IsReopened, IsOpened, opened_stores, started_core};
+ghost use Rattle.sq_node.specs.Opened.{AreFirstSeats, AreNewSeats, GaveEach, GivesOut, HaveCapacity, HasAllEnds, HasSendEnds, HasRecvEnds, LeavesSendEnds, LeavesRecvEnds, HaveSentNothing, HaveReceivedNothing, AreNewSends, AreNewRecvs, IsFabricOf, IsNewNode, AreNewNodes, IsNewPump, AreNewPumps, IsReopened, IsOpened, opened_stores, running_core};
 
 use super::{Fabric, JOB_PLACES, REQUEST_PLACES};
 use crate::ends::{Receiver, RecvEnd, SendEnd, Sender};
@@ -286,7 +286,7 @@ fn open_node(
     requires recvs { HasRecvEnds fabric.old.links ends.old.recvs.items part }
     ensures same { fabric.new ≡ record fabric.old { seats = fabric.new.seats } }
     ensures gave { OnOk result (GaveEach fabric.old.seats fabric.new.seats) }
-    ensures node { IfOk result (IsNewNode fabric.old (started_core opening.now fabric.old.stage part store)) }
+    ensures node { IfOk result (IsNewNode fabric.old (running_core opening.now fabric.old.stage part store)) }
     ensures sends { OnOk result (LeavesSendEnds fabric.old.links ends.old.sends.items part ends.new.sends.items) }
     ensures recvs { OnOk result (LeavesRecvEnds fabric.old.links ends.old.recvs.items part ends.new.recvs.items) }
     ensures back { IfErr result (λ back. back ≡ store) }

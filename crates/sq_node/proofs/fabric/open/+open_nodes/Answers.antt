@@ -3,7 +3,7 @@ use Rattle.atomic_table.specs.Seated.{TableId}
 use Rattle.sq_link.specs.Values.{LinkValue}
 use Rattle.sq_store.specs.StoreValue.{StoreValue}
 use Rattle.sq_node.specs.FabricValue.{FabricValue}
-use Rattle.sq_node.specs.Opened.{AreFirstSeats, HasSendEnds, HasRecvEnds, IsNewNode, AreNewNodes, new_send_end, new_recv_end, started_core}
+use Rattle.sq_node.specs.Opened.{AreFirstSeats, HasSendEnds, HasRecvEnds, IsNewNode, AreNewNodes, new_send_end, new_recv_end, running_core}
 use Rattle.sq_node.proofs.NewNodes.{alike, same_shared, same_new, more_nodes, left_ends, gave_one_more}
 use Rattle.sq_node.proofs.fabric.open.+open_nodes.Goals as goal
 
@@ -53,7 +53,7 @@ returns-in-Ok-open_nodes-clause-nodes t c =
     let node = c.in-Ok.node in
     let rest : c.len.result ≡ length stores = search rules in
     let same : new ≡ record old { seats = new.seats } = c.in-Ok-open_nodes.ensures.same ∙ ap (λ (f : FabricValue). record f { seats = new.seats }) c.in-Ok.ensures.same in
-    let made : IsNewNode old (started_core o old.stage (length stores) store) node = subst (λ (part : ℕ). IsNewNode old (started_core o old.stage part store) node) (c.new-part.ensures ∙ rest) c.in-Ok.ensures.node in
+    let made : IsNewNode old (running_core o old.stage (length stores) store) node = subst (λ (part : ℕ). IsNewNode old (running_core o old.stage part store) node) (c.new-part.ensures ∙ rest) c.in-Ok.ensures.node in
     subst (λ (all : List StoreValue). AreNewNodes o new all c.push_reserved-in-Ok-open_nodes.new.self.items) (sym c.in-Some.ensures.items)
     (subst (AreNewNodes o new (stores ++ store ∷ [])) (sym c.push_reserved-in-Ok-open_nodes.ensures.items)
     (more_nodes o new stores store nodes node c.in-Ok-open_nodes.ensures.nodes (same_new o old new (length stores) store node (alike old new same) made)))
