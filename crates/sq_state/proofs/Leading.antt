@@ -31,7 +31,7 @@ use Rattle.sq_model.specs.declared.answer.Answer.TheVariants.{Done, Refused}
 use Rattle.sq_model.specs.declared.answer.Refusal.TheVariants.{NotMoving, AlreadyMoving, NotPrepared, NotFinished, NoSuchPartition, LastStage}
 use Rattle.sq_model.specs.Leader.{is_moving_phase, is_started_phase}
 use Rattle.sq_transition.specs.WorldValue.{WorldValue, running_stage}
-use Rattle.sq_transition.specs.Leading.{phase_of, parts_of, moves_of, stage_of, has_prepared, has_reported, after_start, after_report, after_next, after_finish}
+use Rattle.sq_transition.specs.Leading.{phase_of, parts_of, moved_by, stage_of, has_prepared, has_reported, after_start, after_report, after_next, after_finish}
 use Rattle.sq_transition.specs.LeaderResults.{StepResult, refuse, if_partition, started_core, is_segment_into, is_segment_whole, segment_range, all_reported, start_result, report_result, next_result, finish_result}
 use Rattle.sq_state.specs.Results.{report_refused, next_refused}
 use Rattle.sq_state.specs.Sound.{IsSound}
@@ -137,7 +137,7 @@ module _ (w : WorldValue) where
   -- who reported, by the leader
   module _ (sound : IsSound w) (at : StageValue) (is : w.leader ≡ Moving at) where
     moves_are : w.recon ≡ at.recon
-    moves_are = sym sound.moves ∙ ap moves_of is
+    moves_are = sym sound.moves ∙ ap moved_by is
 
     parts_are : length at.reported ≡ w.old.parts
     parts_are = sym (ap parts_of is) ∙ sound.leader

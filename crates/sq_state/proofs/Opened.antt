@@ -27,7 +27,7 @@ use Rattle.sq_exec.specs.CoreValue.{CoreValue, out_at, inbox_at}
 use Rattle.sq_model.specs.Tables.{opening_rows, family_of}
 use Rattle.sq_model.specs.Place.{source}
 use Rattle.sq_transition.specs.WorldValue.{WorldValue, QueueValue, WholeLink, no_core, no_queue, core_at, queue_at, link_of, link_value}
-use Rattle.sq_transition.specs.Leading.{phase_of, parts_of, moves_of, stage_of, has_prepared, has_reported}
+use Rattle.sq_transition.specs.Leading.{phase_of, parts_of, moved_by, stage_of, has_prepared, has_reported}
 use Rattle.sq_transition.specs.Holds.{share_at, LinkHolds, MovesHold, IsSetFor, CoreHolds, Holds}
 use Rattle.sq_state.specs.Queue.{opened_queue}
 use Rattle.sq_opened.specs.Opened.{opened_part}
@@ -169,7 +169,7 @@ module _ (o : OpeningValue) (w : WorldValue) (built : IsBuilt o w) where
         plans = record { old = built.old; new = built.new; recon = built.recon; config = built.config };
         leader = record {
           parts = ap parts_of built.leader;
-          moves = ap moves_of built.leader;
+          moves = ap moved_by built.leader;
           stage = ap stage_of built.leader;
           phase = ap phase_of built.leader;
           prepared = λ part low. ap (λ leader. has_prepared leader part) built.leader;

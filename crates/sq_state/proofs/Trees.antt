@@ -25,7 +25,7 @@ use Rattle.sq_transition.specs.WorldValue.{WorldValue, tree_at, core_at, status_
 use Rattle.sq_transition.specs.Leading.{phase_of}
 use Rattle.sq_transition.specs.LeaderResults.{StepResult, if_moving}
 use Rattle.sq_transition.specs.TreeResults.{status_result, begin_result, with_begun, with_node, if_done, if_segment, if_node}
-use Rattle.sq_transition.specs.SubmitResults.{is_given_up}
+use Rattle.sq_transition.specs.SubmitResults.{is_root_given_up}
 use Rattle.sq_transition.specs.Transition.{IsResult}
 use Rattle.sq_model.specs.Legal.{takes_memory}
 use Rattle.sq_state.specs.Sound.{IsSound}
@@ -72,7 +72,7 @@ leaf_exists recon root seg leaf found = found_within recon root seg leaf (segmen
 
 -- the node over a root key was begun just where the one was that covers its leaf
 pub given_up_there : (w : WorldValue) (root seg leaf node : ℕ) (tree : List Status) (status : Status) → length w.trees ≡ length w.recon.segments → Some (seg, leaf) ≡ leaf_at w.recon root
-    → tree ≡ get_or w.trees seg tree → node ≡ covering (status_at tree) leaf → status ≡ status_at tree node → is_begun status ≡ is_given_up w root
+    → tree ≡ get_or w.trees seg tree → node ≡ covering (status_at tree) leaf → status ≡ status_at tree node → is_begun status ≡ is_root_given_up w root
 given_up_there w root seg leaf node tree status many found is covers status_is =
     let at : tree ≡ tree_at w seg = tree_read w seg tree (omega (arith, many, leaf_exists w.recon root seg leaf found)) is in
     let begun = λ (t : List Status). is_begun (status_at t (covering (status_at t) leaf)) in

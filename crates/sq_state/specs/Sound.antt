@@ -9,7 +9,7 @@ use Rattle.sq_exec.specs.CoreValue.{inbox_at}
 use Rattle.sq_exec.specs.Location.{is_coming, route}
 use Rattle.sq_exec.specs.Moving.{can_load}
 use Rattle.sq_transition.specs.WorldValue.{WorldValue, QueueValue, core_at, range_of}
-use Rattle.sq_transition.specs.Leading.{parts_of, moves_of}
+use Rattle.sq_transition.specs.Leading.{parts_of, moved_by}
 
 -- a partition knows its number, the plan and what moves; and a transaction that waits there runs there once its rows came
 pub record IsSoundCore (w : WorldValue) (part : ℕ) : Type 0 where
@@ -29,7 +29,7 @@ pub record IsSound (w : WorldValue) : Type 0 where
   pub some_part : 1 ≤ w.old.parts
   pub few_segments : length w.recon.segments ≤ SEGMENT_LIMIT
   pub leader : parts_of w.leader ≡ w.old.parts
-  pub moves : moves_of w.leader ≡ w.recon
+  pub moves : moved_by w.leader ≡ w.recon
   pub cores : length w.cores ≡ w.old.parts
   pub trees : length w.trees ≡ length w.recon.segments
   pub capacity : w.config.capacity ≤ MAX_CAPACITY

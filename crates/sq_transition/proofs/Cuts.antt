@@ -152,8 +152,8 @@ abbrev cut_out : CoreValue → OutLinkValue → ℕ → Note → OutLinkValue
 cut_out core out at note =
     record { notes = out.notes ++ note ∷ []; work = work_after out.work at note.hi; outbox = Some (record { note = note; families = families_between core.store note.lo note.hi }) }
 
-abbrev cut_core : CoreValue → ℕ → ℕ → Note → CoreValue
-cut_core core dst at note = record (with_out core dst (cut_out core (out_at core dst) at note)) { store = without_between core.store note.lo note.hi }
+abbrev core_after_cut : CoreValue → ℕ → ℕ → Note → CoreValue
+core_after_cut core dst at note = record (with_out core dst (cut_out core (out_at core dst) at note)) { store = without_between core.store note.lo note.hi }
 
 -- the source after the cut, and the other partitions
 module _ (o : OpeningValue) (t : Trace) (src dst count : ℕ) (note : Note)
@@ -161,7 +161,7 @@ module _ (o : OpeningValue) (t : Trace) (src dst count : ℕ) (note : Note)
   free : (root : ℕ) → covers note root ≡ true → find (λ n. covers n root) (loads t) ≡ None
   free root e = let p = covers_bounds note root e in unloaded root p.0 p.1
 
-  source_cut : (at : ℕ) (core : CoreValue) → CoreHolds o t src core → CoreHolds o (cut_more t src dst note count) src (cut_core core dst at note)
+  source_cut : (at : ℕ) (core : CoreValue) → CoreHolds o t src core → CoreHolds o (cut_more t src dst note count) src (core_after_cut core dst at note)
   source_cut at core h = record {
     set = out_held o t src dst core (cut_out core (out_at core dst) at note) h.set;
     store = λ root.
@@ -383,7 +383,7 @@ passes p xs i item e = (kept_in p xs item (Contains-slice_get (filter p xs) i it
 
 -- the world after the cut
 cut_holds : (o : OpeningValue) (t : Trace) (w : WorldValue) (src dst i at count : ℕ) (item : Item) → PartsHold o t w → IsFrom w i src dst → (out_at (core_at w src) dst).outbox ≡ None → CutFacts o t → slice_get (open_items o t src dst) at ≡ Some item
-    → PartsHold o (cut_more t src dst (next_note o t src dst item) count) (with_core w src (cut_core (core_at w src) dst at (next_note o t src dst item)))
+    → PartsHold o (cut_more t src dst (next_note o t src dst item) count) (with_core w src (core_after_cut (core_at w src) dst at (next_note o t src dst item)))
 cut_holds o t w src dst i at count item h from none facts there =
     let l = link_value w i in
     let core = core_at w src in
@@ -396,7 +396,7 @@ cut_holds o t w src dst i at count item h from none facts there =
     let unloaded : (root : ℕ) → note.lo ≤ root → root < note.hi → find (λ n. covers n root) (loads t) ≡ None = λ root low high. known.unloaded root low (omega (arith, high, upto)) in
     let held = h.partitions.each src known.below.source in
     let chunk : ChunkValue = record { note = note; families = families_between core.store note.lo note.hi } in
-    let cut = cut_core core dst at note in
+    let cut = core_after_cut core dst at note in
     let after = cut_more t src dst note count in
     let ready : out_at core dst ≡ l.out = sym (out_of w i src dst from) in
     let put : out_at cut dst ≡ cut_out core l.out at note =
@@ -420,7 +420,7 @@ cut_holds o t w src dst i at count item h from none facts there =
 -- what a cut comes to, by its note
 abbrev cut_told : WorldValue → ℕ → ℕ → ℕ → Note → StepResult
 cut_told w src dst at note =
-    (WasCut note (length (families_between (core_at w src).store note.lo note.hi)), with_core w src (cut_core (core_at w src) dst at note))
+    (WasCut note (length (families_between (core_at w src).store note.lo note.hi)), with_core w src (core_after_cut (core_at w src) dst at note))
 
 -- the work of a link is the open items'
 works_of : (o : OpeningValue) (t : Trace) (w : WorldValue) (src dst i : ℕ) → PartsHold o t w → IsFrom w i src dst → (out_at (core_at w src) dst).work ≡ map (work_of o (notes t)) (open_items o t src dst)

@@ -8,7 +8,7 @@ use Rattle.sq_leader.specs.Marks.{none_marked, is_marked, with_mark}
 use Rattle.sq_leader.proofs.Marked.{is_marked-none_marked}
 use Rattle.sq_model.specs.declared.step.Phase.TheVariants.{Preparing, Ended}
 use Rattle.sq_model.specs.Leader.{is_started_phase, is_moving_phase}
-use Rattle.sq_transition.specs.Leading.{phase_of, parts_of, moves_of, stage_of, has_prepared, has_reported, after_prepare, after_start, after_report, after_next, after_finish}
+use Rattle.sq_transition.specs.Leading.{phase_of, parts_of, moved_by, stage_of, has_prepared, has_reported, after_prepare, after_start, after_report, after_next, after_finish}
 use Rattle.sq_transition.proofs.Sets.{get_or-set}
 
 -- who is marked, with one more
@@ -22,7 +22,7 @@ marked_too marks part other there = get_or-set marks part other true false there
 -- what a Prepare makes of a leader that hasn't started the move
 pub record IsPrepared (before : Leader) (part : ℕ) : Type 0 where
   pub parts : parts_of (after_prepare before part) ≡ parts_of before
-  pub moves : moves_of (after_prepare before part) ≡ moves_of before
+  pub moves : moved_by (after_prepare before part) ≡ moved_by before
   pub stage : stage_of (after_prepare before part) ≡ stage_of before
   pub phase : phase_of (after_prepare before part) ≡ Preparing
   pub prepared : (other : ℕ) → has_prepared (after_prepare before part) other ≡ ((part == other) || has_prepared before other)
@@ -65,7 +65,7 @@ start_stage (leader.Ended at) started = absurd (true≢false started)
 -- what a Report makes of a leader while the move is under way
 pub record IsReported (before : Leader) (part : ℕ) : Type 0 where
   pub parts : parts_of (after_report before part) ≡ parts_of before
-  pub moves : moves_of (after_report before part) ≡ moves_of before
+  pub moves : moved_by (after_report before part) ≡ moved_by before
   pub stage : stage_of (after_report before part) ≡ stage_of before
   pub phase : phase_of (after_report before part) ≡ phase_of before
   pub prepared : (other : ℕ) → has_prepared (after_report before part) other ≡ has_prepared before other
@@ -87,7 +87,7 @@ reported_leader (leader.Ended at) part moving there = absurd (true≢false (sym 
 -- what a Next makes of it: none has reported
 pub record IsEntered (before : Leader) : Type 0 where
   pub parts : parts_of (after_next before) ≡ parts_of before
-  pub moves : moves_of (after_next before) ≡ moves_of before
+  pub moves : moved_by (after_next before) ≡ moved_by before
   pub stage : stage_of (after_next before) ≡ stage_of before + 1
   pub phase : phase_of (after_next before) ≡ phase_of before
   pub prepared : (other : ℕ) → has_prepared (after_next before) other ≡ has_prepared before other
@@ -109,7 +109,7 @@ entered_leader (leader.Ended at) moving = absurd (true≢false (sym moving))
 -- what the Finish makes of it
 pub record IsFinished (before : Leader) : Type 0 where
   pub parts : parts_of (after_finish before) ≡ parts_of before
-  pub moves : moves_of (after_finish before) ≡ moves_of before
+  pub moves : moved_by (after_finish before) ≡ moved_by before
   pub stage : stage_of (after_finish before) ≡ stage_of before
   pub phase : phase_of (after_finish before) ≡ Ended
   pub prepared : (other : ℕ) → has_prepared (after_finish before) other ≡ has_prepared before other

@@ -19,7 +19,7 @@ use Rattle.sq_model.specs.Leader.{is_started}
 use Rattle.sq_model.specs.Nodes.{status_of}
 use Rattle.sq_model.specs.Place.{source, destination, moves, is_covered, is_begun_over, runner, is_coming}
 use Rattle.sq_transition.specs.WorldValue.{WorldValue, status_in}
-use Rattle.sq_transition.specs.SubmitResults.{is_given_up, sent_to}
+use Rattle.sq_transition.specs.SubmitResults.{is_root_given_up, sent_to}
 use Rattle.sq_transition.specs.Holds.{is_leaf_begun, is_key_loaded, CoreHolds}
 use Rattle.sq_transition.proofs.Sets.{by_place}
 use Rattle.sq_transition.proofs.Changed.{PartsHold}
@@ -206,7 +206,7 @@ runs_same o t part root core (Some at) facts h s =
     (routes_here part (source o root) (destination o root) at.given_up at.loaded (is_covered (loads t) root) (is_begun_over o t root)
     (owners_differ o root s.moving) (facts.loaded_begun root) (λ here. s.given_up (sym s.comes_from ∙ here)) (λ here. s.loaded (sym s.goes_to ∙ here)))
 
-given_up_by : (o : OpeningValue) (t : Trace) (w : WorldValue) (root : ℕ) (found : Option ℕ) → RoutingFacts o t → PartsHold o t w → segment_of o.recon.segments root ≡ found → is_given_up w root ≡ is_begun_over o t root
+given_up_by : (o : OpeningValue) (t : Trace) (w : WorldValue) (root : ℕ) (found : Option ℕ) → RoutingFacts o t → PartsHold o t w → segment_of o.recon.segments root ≡ found → is_root_given_up w root ≡ is_begun_over o t root
 given_up_by o t w root None facts h e =
     (λ i. option_map_or (λ (at : ℕ × ℕ). is_begun (status_in w at.0 (covering (status_in w at.0) at.1))) (leaf_at (h.plans.recon i) root) false)
     ∙ ap (λ at. option_map_or (λ (at : ℕ × ℕ). is_begun (status_in w at.0 (covering (status_in w at.0) at.1))) at false) (leaf_none o.recon root e)
@@ -221,7 +221,7 @@ given_up_by o t w root (Some seg) facts h e =
     ∙ sym is.begun
 
 -- the node over a root key was begun in the world just where it was by the history
-pub given_up_same : (o : OpeningValue) (t : Trace) (w : WorldValue) (root : ℕ) → RoutingFacts o t → PartsHold o t w → is_given_up w root ≡ is_begun_over o t root
+pub given_up_same : (o : OpeningValue) (t : Trace) (w : WorldValue) (root : ℕ) → RoutingFacts o t → PartsHold o t w → is_root_given_up w root ≡ is_begun_over o t root
 given_up_same o t w root facts h = given_up_by o t w root (segment_of o.recon.segments root) facts h refl
 
 -- a transaction is sent to the partition that runs it, or where there is none to its destination

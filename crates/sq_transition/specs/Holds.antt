@@ -24,7 +24,7 @@ use Rattle.sq_model.specs.Place.{Place, At, Under_way, place, extent_of}
 use Rattle.sq_model.specs.Links.{reached, has_last, open_items}
 use Rattle.sq_model.specs.Waiting.{waiting}
 use Rattle.sq_transition.specs.WorldValue.{WorldValue, WholeLink, running_stage, core_at, status_in, link_index, queue_at, link_value, option_list, under_way}
-use Rattle.sq_transition.specs.Leading.{phase_of, parts_of, moves_of, has_prepared, has_reported}
+use Rattle.sq_transition.specs.Leading.{phase_of, parts_of, moved_by, has_prepared, has_reported}
 
 abbrev pub is_at : ℕ → Place → Bool
 is_at part (At other) = other == part
@@ -85,7 +85,7 @@ abbrev pub LeaderHolds : OpeningValue → Trace → WorldValue → Type 0
 LeaderHolds o t w =
     record {
       parts : parts_of w.leader ≡ o.old.parts;
-      moves : moves_of w.leader ≡ o.recon;
+      moves : moved_by w.leader ≡ o.recon;
       phase : phase_of w.leader ≡ phase t;
       stage : running_stage w ≡ stage t;
       prepared : (part : ℕ) → part < o.old.parts → has_prepared w.leader part ≡ is_prepared t part;

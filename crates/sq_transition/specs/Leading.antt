@@ -23,11 +23,11 @@ parts_of (leader.Moving at) = length at.reported
 parts_of (leader.Ended at) = length at.reported
 
 -- what it moves
-abbrev pub moves_of : Leader → ReconValue
-moves_of (leader.Idle idle) = idle.recon
-moves_of (leader.Preparing preparing) = preparing.recon
-moves_of (leader.Moving at) = at.recon
-moves_of (leader.Ended at) = at.recon
+abbrev pub moved_by : Leader → ReconValue
+moved_by (leader.Idle idle) = idle.recon
+moved_by (leader.Preparing preparing) = preparing.recon
+moved_by (leader.Moving at) = at.recon
+moved_by (leader.Ended at) = at.recon
 
 -- the stage that runs: the first, before the move was started, and the last, once it has ended
 abbrev pub stage_of : Leader → ℕ
@@ -58,7 +58,7 @@ after_prepare started part = started
 
 -- after the Start: stage 0, in which none has reported
 abbrev pub after_start : Leader → Leader
-after_start before = leader.Moving (first_stage (parts_of before) (moves_of before))
+after_start before = leader.Moving (first_stage (parts_of before) (moved_by before))
 
 -- after a Report, which there is while the move is under way
 abbrev pub after_report : Leader → ℕ → Leader

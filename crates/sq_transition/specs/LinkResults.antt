@@ -26,8 +26,8 @@ if_link w src dst result =
     )
 
 -- a chunk of the work at this place, cut for another partition: its note, and the partition that it leaves
-abbrev pub cut_from : CoreValue → ℕ → ℕ → Note × CoreValue
-cut_from core dst at =
+abbrev pub cut_core : CoreValue → ℕ → ℕ → Note × CoreValue
+cut_core core dst at =
     let cut = cut_here core.limit (link_to core dst) (out_at core dst) core.store at in
     (cut.0, record (with_out core dst cut.1.0) { store = cut.1.1 })
 
@@ -35,7 +35,7 @@ abbrev pub cut_work : WorldValue → ℕ → ℕ → Option ℕ → StepResult
 cut_work w src dst None = refuse w NothingToCut
 cut_work w src dst (Some at) =
     let core = core_at w src in
-    let cut = cut_from core dst at in
+    let cut = cut_core core dst at in
     (WasCut cut.0 (length (families_between core.store cut.0.lo cut.0.hi)), with_core w src cut.1)
 
 abbrev pub cut_at : WorldValue → ℕ → ℕ → StepResult

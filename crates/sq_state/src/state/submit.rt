@@ -1,7 +1,7 @@
 // Transactions that are submitted, and those that waited.
 ghost use Rattle.std.specs.Prelude.{◌≡◌, length};
 ghost use Rattle.sq_model.specs.declared.step.Step.{Step};
-ghost use Rattle.sq_transition.specs.SubmitResults.{is_given_up, sent_to, submitted, submit_refused, resume_refused, submit_result, resume_result};
+ghost use Rattle.sq_transition.specs.SubmitResults.{is_root_given_up, sent_to, submitted, submit_refused, resume_refused, submit_result, resume_result};
 ghost use Rattle.sq_transition.specs.Transition.{IsResult};
 ghost use Rattle.sq_state.specs.Results.{answer_of};
 ghost use Rattle.sq_state.specs.Sound.{IsSound};
@@ -74,7 +74,7 @@ impl State {
     // Whether the node over a root key was begun.
     fn is_given_up(&self, root: Root) -> bool
         requires { length self.now.trees ≡ length self.now.recon.segments }
-        ensures { result ≡ is_given_up self.now root }
+        ensures { result ≡ is_root_given_up self.now root }
     {
         let Some(at) = self.recon.find(root) else {
             return false;

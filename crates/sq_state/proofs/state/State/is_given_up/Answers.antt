@@ -2,13 +2,13 @@ use Rattle.std.proofs.Common.{◌≡◌, get_or, ap, ◌∙◌}
 use Rattle.sq_tree.specs.Status.{is_begun}
 use Rattle.sq_ranges.specs.ReconValue.{leaf_at}
 use Rattle.sq_transition.specs.WorldValue.{WorldValue}
-use Rattle.sq_transition.specs.SubmitResults.{is_given_up}
+use Rattle.sq_transition.specs.SubmitResults.{is_root_given_up}
 use Rattle.sq_state.proofs.Trees.{given_up_there, begun_status, not_begun}
 use Rattle.sq_state.proofs.state.State.is_given_up.Goals as goal
 use Rattle.sq_state.proofs.state.State.is_given_up.Goals.{After-status}
 
 -- the status of the node that covers the leaf tells
-told : (c : After-status) → is_begun c.status.result ≡ is_given_up c.args.self.now c.args.root
+told : (c : After-status) → is_begun c.status.result ≡ is_root_given_up c.args.self.now c.args.root
 told c =
     let w = c.args.self.now in
     let at = c.in-Some.at in
