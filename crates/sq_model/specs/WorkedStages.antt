@@ -40,17 +40,17 @@ carried_to dst = Cut 0 dst ∷ Push 0 dst ∷ Pop 0 dst ∷ Load 0 dst ∷ []
 abbrev pub carried_answered : Note → ℕ → List Answer
 carried_answered note families = WasCut note families ∷ Done ∷ Done ∷ WasLoaded note families ∷ []
 
-abbrev pub first_stage : List Step
-first_stage =
+abbrev pub first_stage_steps : List Step
+first_stage_steps =
     Prepare 0 ∷ Prepare 1 ∷ Prepare 2 ∷ Start ∷ Claim 0 1 2 ∷ Claim 1 1 4 ∷ Cut 0 2 ∷ Next ∷ Finish ∷ Begin 0 1 2 ∷ carried_to 1 ++ Complete 0 1 2
     ∷ Claim 2 1 4 ∷ Begin 2 1 4 ∷ carried_to 1 ++ Complete 2 1 4 ∷ Report 1 ∷ Submit 2 (get_row 7 9) ∷ Next ∷ []
 
-abbrev pub second_stage : List Step
-second_stage =
+abbrev pub second_stage_steps : List Step
+second_stage_steps =
     Submit 2 (get_row 8 9) ∷ Claim 0 1 6 ∷ Submit 1 (get_row 6 5) ∷ Claim 1 1 6 ∷ Begin 1 1 6 ∷ carried_to 2 ++ Complete 1 1 6 ∷ Report 2 ∷ Next ∷ Finish ∷ Resume 2 ∷ []
 
 abbrev pub in_stages : List Step
-in_stages = first_stage ++ second_stage
+in_stages = first_stage_steps ++ second_stage_steps
 
 abbrev pub in_stages_answers : List Answer
 in_stages_answers =
