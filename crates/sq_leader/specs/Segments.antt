@@ -1,14 +1,10 @@
 -- The segments that move into a partition in a stage, and what is wanted of them.
-use Rattle.std.specs.Prelude.{ℕ, Bool, false, ◌==◌, ◌||◌, not, List, length, slice_get, slice_index_or, Option, Some, None}
+use Rattle.std.specs.Prelude.{ℕ, Bool, false, ◌==◌, ◌||◌, not, List, length, slice_get, slice_index_or}
 use Rattle.std.specs.List.{list_any, list_all, range_with_len}
 use Rattle.sq_ranges.specs.declared.recon.Range.{Range}
-use Rattle.sq_ranges.specs.ReconValue.{ReconValue, stage_in, of_stage}
+use Rattle.sq_ranges.specs.ReconValue.{ReconValue, stage_in, of_stage, goes_into}
 use Rattle.sq_leader.specs.LeaderValue.{StageValue}
 use Rattle.sq_leader.specs.Marks.{is_marked}
-
-abbrev pub goes_into : Option Range → ℕ → Bool
-goes_into None part = false
-goes_into (Some segment) part = segment.dst == part
 
 -- the segment of this number moves into the partition in this stage
 abbrev pub is_into : ReconValue → ℕ → ℕ → ℕ → Bool

@@ -7,13 +7,13 @@ use Rattle.std.proofs.lemmas.List.FromFn.{length-range_with_len, get_or-range_wi
 use Rattle.std.proofs.lemmas.List.Sums.{count_by-le-length, AllPass-from_list_all}
 use Rattle.std.proofs.lemmas.Option.{slice_get-get_or, slice_get_within, slice_get_past}
 use Rattle.sq_ranges.specs.declared.recon.Range.{Range}
-use Rattle.sq_ranges.specs.ReconValue.{stage_in, stage_at, stage_found, stages, of_stage}
+use Rattle.sq_ranges.specs.ReconValue.{stage_in, stage_at, stage_found, stages, of_stage, goes_into}
 use Rattle.sq_ranges.specs.OpeningValue.{OpeningValue}
 use Rattle.sq_ranges.specs.Opening.{IsOpening}
 use Rattle.sq_ranges.proofs.Stages.{stage_below}
 use Rattle.sq_leader.proofs.Wholes.{all_pass}
 use Rattle.sq_leader.specs.LeaderValue.{StageValue}
-use Rattle.sq_leader.specs.Segments.{goes_into, is_into}
+use Rattle.sq_leader.specs.Segments.{is_into}
 use Rattle.sq_model.proofs.Keys.{linked}
 use Rattle.sq_node_model.specs.Gathered.{GatheredValue}
 use Rattle.sq_node_model.specs.Next.{is_whole_in, IsStageDone}

@@ -12,7 +12,7 @@ use Rattle.sq_tree.specs.Status.{is_free, is_split, is_begun, is_complete, is_pa
 use Rattle.sq_tree.proofs.Covering.{covering_is, covering_touched}
 use Rattle.sq_tree.proofs.Readings.{all_complete_is}
 use Rattle.sq_ranges.specs.declared.recon.Range.{Range}
-use Rattle.sq_ranges.specs.ReconValue.{segment_of, leaf_of, stage_in, of_stage}
+use Rattle.sq_ranges.specs.ReconValue.{segment_of, leaf_of, stage_in, of_stage, goes_into}
 use Rattle.sq_ranges.proofs.Stages.{stage_below}
 use Rattle.sq_ranges.specs.OpeningValue.{OpeningValue}
 use Rattle.sq_model.specs.declared.step.Step.{Step}
@@ -28,7 +28,7 @@ use Rattle.sq_model.specs.Nodes.{status_of}
 use Rattle.sq_model.specs.Place.{At, place, destination, is_covered, extent_of, is_within}
 use Rattle.sq_model.specs.Links.{reached}
 use Rattle.sq_tree.specs.Reading.{is_complete_reading}
-use Rattle.sq_model.specs.Answers.{is_whole, is_into, goes_into, segment_numbers, has_all, partitions, counts_reported}
+use Rattle.sq_model.specs.Answers.{is_whole, is_into, segment_numbers, has_all, partitions, counts_reported}
 use Rattle.sq_model.specs.Legal.{IsLegal}
 use Rattle.sq_model.proofs.Lists.{list_any-Contains, list_all-Contains, row_has}
 use Rattle.sq_model.proofs.Steps.{next_goes, FinishGoes, finish_goes, report_goes, cut_goes, load_goes}

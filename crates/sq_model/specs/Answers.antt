@@ -1,5 +1,5 @@
 -- The answer to each step, as the trace before it determines it.
-use Rattle.std.specs.Prelude.{ℕ, Bool, false, ◌+◌, ◌-◌, ◌==◌, ◌||◌, ◌&&◌, not, is_none, nat_le, nat_lt, if◌then◌else◌, List, find, length, Option, Some, None, Result, Ok, Err, slice_get, unwrap_or}
+use Rattle.std.specs.Prelude.{ℕ, Bool, ◌+◌, ◌-◌, ◌==◌, ◌||◌, ◌&&◌, not, is_none, nat_le, nat_lt, if◌then◌else◌, List, find, length, Option, Some, None, Result, Ok, Err, slice_get, unwrap_or}
 use Rattle.std.specs.List.{list_any, list_all, range_with_len}
 use Rattle.sq_schema.specs.TxnValue.{TxnValue}
 use Rattle.sq_schema.specs.Effect.{reply}
@@ -18,7 +18,7 @@ use Rattle.sq_tree.specs.Answer.{split_answer, claim_answer, begin_answer, compl
 use Rattle.sq_chunk.specs.declared.chunk.Note.{Note}
 use Rattle.sq_ranges.specs.declared.recon.Range.{Range}
 use Rattle.sq_ranges.specs.declared.opening.TheConstants.{MAX_WAITING}
-use Rattle.sq_ranges.specs.ReconValue.{ReconValue, is_link, leaf_at, stage_on, stages, of_stage}
+use Rattle.sq_ranges.specs.ReconValue.{ReconValue, is_link, leaf_at, stage_on, stages, of_stage, goes_into}
 use Rattle.sq_ranges.specs.OpeningValue.{OpeningValue}
 use Rattle.sq_model.specs.declared.step.Step.{Step}
 use Rattle.sq_model.specs.declared.step.Step.TheVariants.{Prepare, Start, Submit, Resume, Split, Claim, Begin, Cut, Push, Pop, Load, Complete, Report, Next, Finish, Status, Fold}
@@ -187,10 +187,6 @@ load_answer o t src dst =
 -- the segment of this number is whole at its destination
 abbrev pub is_whole : Trace → ℕ → Bool
 is_whole t seg = is_complete_reading (reading (status_of t seg) 1)
-
-abbrev pub goes_into : Option Range → ℕ → Bool
-goes_into None part = false
-goes_into (Some segment) part = segment.dst == part
 
 -- the segment of this number moves into the partition in the running stage
 abbrev pub is_into : OpeningValue → Trace → ℕ → ℕ → Bool

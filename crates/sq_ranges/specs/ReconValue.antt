@@ -142,6 +142,11 @@ abbrev pub of_stage : ReconValue → ℕ → Option Range → Option Range
 of_stage recon i None = None
 of_stage recon i (Some segment) = if stage_in recon segment == i then Some segment else None
 
+-- the segment moves into the partition; where there is none it doesn't
+abbrev pub goes_into : Option Range → ℕ → Bool
+goes_into None part = false
+goes_into (Some segment) part = segment.dst == part
+
 -- links in their order: by source, and then by destination
 abbrev pub link_cmp : Link → Link → Ordering
 link_cmp one other = ordering_then (nat_cmp one.src other.src) (nat_cmp one.dst other.dst)

@@ -6,7 +6,7 @@ use Rattle.std.proofs.lemmas.Bool.{eq-eqb, lt-ltb}
 use Rattle.std.proofs.lemmas.List.Sums.{list_all-from_AllPass}
 use Rattle.std.proofs.lemmas.Option.{slice_get-get_or}
 use Rattle.sq_plan.specs.PlanValue.{PlanValue}
-use Rattle.sq_ranges.specs.ReconValue.{ReconValue, of_stage, stages}
+use Rattle.sq_ranges.specs.ReconValue.{ReconValue, of_stage, stages, goes_into}
 use Rattle.sq_leader.specs.declared.leader.Leader.{Leader}
 use Rattle.sq_leader.specs.declared.leader.Leader.TheVariants.{Preparing, Moving, Ended}
 use Rattle.sq_leader.specs.declared.leader.Refused.{Refused as RefusedCall}
@@ -22,7 +22,7 @@ use Rattle.sq_leader.specs.declared.fault.FinishFault.{FinishFault}
 use Rattle.sq_leader.specs.declared.fault.FinishFault.TheVariants as finish
 use Rattle.sq_leader.specs.LeaderValue.{PreparingValue, StageValue, ReportValue}
 use Rattle.sq_leader.specs.Marks.{with_mark, all_marked}
-use Rattle.sq_leader.specs.Segments.{goes_into, is_whole, has_all, have_reported}
+use Rattle.sq_leader.specs.Segments.{is_whole, has_all, have_reported}
 use Rattle.sq_leader.specs.Leader.{first_stage, start_answer, made_answer, report_answer, is_last, next_stage, next_answer, finish_answer}
 use Rattle.sq_leader.proofs.Counted.{have_reported-counted}
 use Rattle.sq_exec.specs.CoreValue.{entered_core}
