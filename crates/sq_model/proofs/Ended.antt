@@ -28,7 +28,7 @@ use Rattle.sq_model.specs.Nodes.{status_of}
 use Rattle.sq_model.specs.Place.{At, place, destination, is_covered, extent_of, is_within}
 use Rattle.sq_model.specs.Links.{reached}
 use Rattle.sq_tree.specs.Reading.{is_complete_reading}
-use Rattle.sq_model.specs.Answers.{is_whole, is_into, segment_numbers, has_all, partitions, counts_reported}
+use Rattle.sq_model.specs.Answers.{is_complete_segment, is_into, segment_numbers, has_all, partitions, counts_reported}
 use Rattle.sq_model.specs.Legal.{IsLegal}
 use Rattle.sq_model.proofs.Lists.{list_any-Contains, list_all-Contains, row_has}
 use Rattle.sq_model.proofs.Steps.{next_goes, FinishGoes, finish_goes, report_goes, cut_goes, load_goes}
@@ -52,11 +52,11 @@ reads_complete reads.Complete e = refl
 reads_complete now e = absurd cc
 
 -- each leaf's node is complete in a segment that is whole
-whole_leaf : (o : OpeningValue) (t : Trace) → IsLegal o t → (g : ℕ) → is_whole t g ≡ true → (leaf : ℕ) → leaf < LEAVES → is_complete (status_of t g (covering (status_of t g) leaf)) ≡ true
+whole_leaf : (o : OpeningValue) (t : Trace) → IsLegal o t → (g : ℕ) → is_complete_segment t g ≡ true → (leaf : ℕ) → leaf < LEAVES → is_complete (status_of t g (covering (status_of t g) leaf)) ≡ true
 whole_leaf o t legal g whole = (all_complete_is (status_of t g) (grown o t legal g)).0 (reads_complete (reading (status_of t g) 1) whole)
 
 -- a segment that is whole stays so
-pub stays_whole : (o : OpeningValue) (t : Trace) (step : Step) (given : Answer) → IsLegal o ((step, given) ∷ t) → (g : ℕ) → is_whole t g ≡ true → is_whole ((step, given) ∷ t) g ≡ true
+pub stays_whole : (o : OpeningValue) (t : Trace) (step : Step) (given : Answer) → IsLegal o ((step, given) ∷ t) → (g : ℕ) → is_complete_segment t g ≡ true → is_complete_segment ((step, given) ∷ t) g ≡ true
 stays_whole o t step given legal g whole = ap is_complete_reading ((all_complete_is (status_of ((step, given) ∷ t) g) (grown o ((step, given) ∷ t) legal g)).1 each)
   where
     each : (leaf : ℕ) → leaf < LEAVES → is_complete (status_of ((step, given) ∷ t) g (covering (status_of ((step, given) ∷ t) g) leaf)) ≡ true
@@ -70,15 +70,15 @@ stays_whole o t step given legal g whole = ap is_complete_reading ((all_complete
         ap (λ k. is_complete (now k)) same ∙ complete
 
 -- what moves to a partition that reported is whole
-into_whole : (o : OpeningValue) (t : Trace) (part g : ℕ) → has_all o t part ≡ true → g < length o.recon.segments → is_into o t part g ≡ true → is_whole t g ≡ true
+into_whole : (o : OpeningValue) (t : Trace) (part g : ℕ) → has_all o t part ≡ true → g < length o.recon.segments → is_into o t part g ≡ true → is_complete_segment t g ≡ true
 into_whole o t part g all there into =
-    let here = list_all-Contains (λ seg. not (is_into o t part seg) || is_whole t seg) (segment_numbers o) g all (row_has 0 (length o.recon.segments) g (omega arith) (omega arith)) in
-    elim (or_cases (not (is_into o t part g)) (is_whole t g) here) [
+    let here = list_all-Contains (λ seg. not (is_into o t part seg) || is_complete_segment t seg) (segment_numbers o) g all (row_has 0 (length o.recon.segments) g (omega arith) (omega arith)) in
+    elim (or_cases (not (is_into o t part g)) (is_complete_segment t g) here) [
       | inl other ↦ absurd (true≢false (sym into ∙ not-true (is_into o t part g) other))
       | inr whole ↦ whole
     ]
 
-pub reported_whole : (o : OpeningValue) (t : Trace) → IsLegal o t → (part g : ℕ) → is_reported t part ≡ true → g < length o.recon.segments → is_into o t part g ≡ true → is_whole t g ≡ true
+pub reported_whole : (o : OpeningValue) (t : Trace) → IsLegal o t → (part g : ℕ) → is_reported t part ≡ true → g < length o.recon.segments → is_into o t part g ≡ true → is_complete_segment t g ≡ true
 reported_whole o [] legal part g reported there into = absurd (true≢false (sym reported))
 reported_whole o ((Report which, Done) ∷ t) legal part g reported there into =
     elim (or_cases (which == part) (is_reported t part) reported) [
@@ -98,7 +98,7 @@ reported_whole o ((step, given) ∷ t) legal part g reported there into = report
 
 module _ (o : OpeningValue) (is : IsOpening o) (t : Trace) (legal : IsLegal o t) where
   -- each key of a whole segment was loaded
-  pub whole_loaded : (root g : ℕ) (segment : Range) → segment_of o.recon.segments root ≡ Some g → IsIn o root g segment → is_whole t g ≡ true → is_covered (loads t) root ≡ true
+  pub whole_loaded : (root g : ℕ) (segment : Range) → segment_of o.recon.segments root ≡ Some g → IsIn o root g segment → is_complete_segment t g ≡ true → is_covered (loads t) root ≡ true
   whole_loaded root g segment found at whole =
       let leaf = leaf_of o.recon.width segment root in
       let n = covering (status_of t g) leaf in
@@ -113,7 +113,7 @@ module _ (o : OpeningValue) (is : IsOpening o) (t : Trace) (legal : IsLegal o t)
       (lt-ltb root (reached o g n (loads t)) (omega arith))
 
   -- once each partition has reported, each segment of the running stage is whole
-  pub stage_whole : list_all (counts_reported o t) (partitions o) ≡ true → (g : ℕ) (segment : Range) → slice_get o.recon.segments g ≡ Some segment → stage_in o.recon segment ≡ stage t → is_whole t g ≡ true
+  pub stage_whole : list_all (counts_reported o t) (partitions o) ≡ true → (g : ℕ) (segment : Range) → slice_get o.recon.segments g ≡ Some segment → stage_in o.recon segment ≡ stage t → is_complete_segment t g ≡ true
   stage_whole reported g segment there now =
       let below = (ends_below o is g segment there).1 in
       let within = slice_get_within o.recon.segments g segment there in
@@ -132,7 +132,7 @@ module _ (o : OpeningValue) (is : IsOpening o) (t : Trace) (legal : IsLegal o t)
       ]
 
 -- the segments of the stages that went are whole
-pub past_whole : (o : OpeningValue) → IsOpening o → (t : Trace) → IsLegal o t → (g : ℕ) (segment : Range) → slice_get o.recon.segments g ≡ Some segment → stage_in o.recon segment < stage t → is_whole t g ≡ true
+pub past_whole : (o : OpeningValue) → IsOpening o → (t : Trace) → IsLegal o t → (g : ℕ) (segment : Range) → slice_get o.recon.segments g ≡ Some segment → stage_in o.recon segment < stage t → is_complete_segment t g ≡ true
 past_whole o is [] legal g segment there past = absurd (omega (arith, past))
 past_whole o is ((Next, Done) ∷ t) legal g segment there past =
     elim (cases_lt (stage_in o.recon segment) (stage t)) [
@@ -151,7 +151,7 @@ module _ (o : OpeningValue) (is : IsOpening o) (t : Trace) (legal : IsLegal o t)
   past_loaded root g segment found at past = whole_loaded o is t legal root g segment found at (past_whole o is t legal g segment at.there past)
 
   -- where Finish goes, each segment is whole
-  finish_whole : FinishGoes o t → (g : ℕ) (segment : Range) → slice_get o.recon.segments g ≡ Some segment → is_whole t g ≡ true
+  finish_whole : FinishGoes o t → (g : ℕ) (segment : Range) → slice_get o.recon.segments g ≡ Some segment → is_complete_segment t g ≡ true
   finish_whole goes g segment there =
       let below = stage_below o.recon segment.src segment.dst (linked o is g segment there) in
       elim (cases_lt (stage_in o.recon segment) (stage t)) [

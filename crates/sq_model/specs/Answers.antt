@@ -185,8 +185,8 @@ load_answer o t src dst =
     ))
 
 -- the segment of this number is whole at its destination
-abbrev pub is_whole : Trace → ℕ → Bool
-is_whole t seg = is_complete_reading (reading (status_of t seg) 1)
+abbrev pub is_complete_segment : Trace → ℕ → Bool
+is_complete_segment t seg = is_complete_reading (reading (status_of t seg) 1)
 
 -- the segment of this number moves into the partition in the running stage
 abbrev pub is_into : OpeningValue → Trace → ℕ → ℕ → Bool
@@ -198,7 +198,7 @@ segment_numbers o = range_with_len 0 (length o.recon.segments)
 
 -- each segment of the running stage into the partition is whole
 abbrev pub has_all : OpeningValue → Trace → ℕ → Bool
-has_all o t part = list_all (λ seg. not (is_into o t part seg) || is_whole t seg) (segment_numbers o)
+has_all o t part = list_all (λ seg. not (is_into o t part seg) || is_complete_segment t seg) (segment_numbers o)
 
 abbrev pub report_answer : OpeningValue → Trace → ℕ → Answer
 report_answer o t part = while_moving t (at_partition o part (if has_all o t part then Done else Refused NotFinished))

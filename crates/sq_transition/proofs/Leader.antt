@@ -18,7 +18,7 @@ use Rattle.sq_model.specs.declared.answer.Refusal.TheVariants.{AlreadyMoving, No
 use Rattle.sq_model.specs.Trace.{Trace, stage}
 use Rattle.sq_model.specs.Leader.{phase, is_started, is_started_phase, is_moving_phase, is_prepared}
 use Rattle.sq_tree.specs.Reading.{is_complete_reading}
-use Rattle.sq_model.specs.Answers.{answer, is_whole, is_into, has_all, counts_reported, partitions, segment_numbers, is_last_stage}
+use Rattle.sq_model.specs.Answers.{answer, is_complete_segment, is_into, has_all, counts_reported, partitions, segment_numbers, is_last_stage}
 use Rattle.sq_model.proofs.Lists.{list_all-Contains, row_has}
 use Rattle.sq_transition.specs.WorldValue.{WorldValue, WholeLink, running_stage, no_core, core_at, queue_at, link_value}
 use Rattle.sq_transition.specs.Leading.{parts_of, has_prepared, has_reported, after_prepare, after_start, after_report, after_next, after_finish}
@@ -126,7 +126,7 @@ start_keeps o t w h =
     (refl, links_changed (partitions_changed (leader_changed h now) cores) links)))
 
 -- a segment has moved as a whole in the world just where it has by the history
-whole_same : (o : OpeningValue) (t : Trace) (w : WorldValue) (seg : ℕ) → PartsHold o t w → seg < length o.recon.segments → is_segment_whole w seg ≡ is_whole t seg
+whole_same : (o : OpeningValue) (t : Trace) (w : WorldValue) (seg : ℕ) → PartsHold o t w → seg < length o.recon.segments → is_segment_whole w seg ≡ is_complete_segment t seg
 whole_same o t w seg h there = λ i. is_complete_reading (reading (λ node. h.segments.statuses seg node there i) 1)
 
 -- a segment moves into a partition in the world just where it does by the history
