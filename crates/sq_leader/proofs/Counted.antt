@@ -10,7 +10,7 @@ use Rattle.sq_ranges.specs.declared.recon.Range.{Range}
 use Rattle.sq_ranges.specs.ReconValue.{ReconValue, stage_in}
 use Rattle.sq_leader.specs.LeaderValue.{StageValue}
 use Rattle.sq_leader.specs.Marks.{is_marked}
-use Rattle.sq_leader.specs.Segments.{is_into, have_reported, counts_reported}
+use Rattle.sq_leader.specs.Segments.{moves_into, have_reported, owes_no_report}
 use Rattle.sq_leader.proofs.Wholes.{all_pass, is_into-at}
 
 abbrev no_range : Range
@@ -19,7 +19,7 @@ no_range = record { lo = 0; hi = 0; src = 0; dst = 0 }
 module _ (recon : ReconValue) (stage : ℕ) (told : ℕ → Bool) where
   -- some segment moves into the partition in the stage
   abbrev has_any : ℕ → Bool
-  has_any part = list_any (is_into recon stage part) (range_with_len 0 (length recon.segments))
+  has_any part = list_any (moves_into recon stage part) (range_with_len 0 (length recon.segments))
 
   -- the segment moves in another stage, or its destination told it
   abbrev is_told : Range → Bool
@@ -36,19 +36,19 @@ module _ (recon : ReconValue) (stage : ℕ) (told : ℕ → Bool) where
       let count = length recon.segments in
       let dst = (get_or recon.segments seg d).dst in
       let at : get_or (range_with_len 0 count) seg 0 ≡ seg = get_or-range_with_len 0 count seg 0 lt ∙ omega arith in
-      list_any_at (is_into recon stage dst) (range_with_len 0 count) seg 0 (omega (arith, length-range_with_len 0 count, lt))
-      (ap (is_into recon stage dst) at ∙ is_into-at recon stage dst seg d lt ∙ and_from (stage_in recon (get_or recon.segments seg d) == stage) (dst == dst) now (eq-eqb dst dst refl))
+      list_any_at (moves_into recon stage dst) (range_with_len 0 count) seg 0 (omega (arith, length-range_with_len 0 count, lt))
+      (ap (moves_into recon stage dst) at ∙ is_into-at recon stage dst seg d lt ∙ and_from (stage_in recon (get_or recon.segments seg d) == stage) (dst == dst) now (eq-eqb dst dst refl))
 
   -- a partition into which a segment moves told it, where all of those did
   told_there : (part : ℕ) → list_all is_told recon.segments ≡ true → has_any part ≡ true → told part ≡ true
   told_there part all some =
       let count = length recon.segments in
-      let (at, seg, within, is, goes) = Any-from_list_any (is_into recon stage part) (range_with_len 0 count) some in
+      let (at, seg, within, is, goes) = Any-from_list_any (moves_into recon stage part) (range_with_len 0 count) some in
       let low : at < count = omega (arith, within, length-range_with_len 0 count) in
       let here : seg ≡ at = sym is ∙ get_or-range_with_len 0 count at seg low ∙ omega arith in
       let segment = get_or recon.segments at no_range in
       let parts = and_parts (stage_in recon segment == stage) (segment.dst == part)
-      (sym (is_into-at recon stage part at no_range low) ∙ ap (is_into recon stage part) (sym here) ∙ goes) in
+      (sym (is_into-at recon stage part at no_range low) ∙ ap (moves_into recon stage part) (sym here) ∙ goes) in
       elim (or_cases (not (stage_in recon segment == stage)) (told segment.dst) (AllPass-from_list_all is_told recon.segments all at no_range low)) [
         | inl other ↦ absurd (both_ways (stage_in recon segment == stage) (not-true (stage_in recon segment == stage) other) parts.0)
         | inr did ↦ ap told (sym (eqb-true segment.dst part parts.1)) ∙ did
@@ -85,7 +85,7 @@ module _ (recon : ReconValue) (stage : ℕ) (told : ℕ → Bool) where
   -- where each segment moves into one of the partitions, those into which one moves told it just where each of the partitions counts
   pub told-counted : (parts : ℕ) → list_all (λ segment. nat_lt segment.dst parts) recon.segments ≡ true
       → list_all (λ segment. not (stage_in recon segment == stage) || told segment.dst) recon.segments
-      ≡ list_all (λ part. told part || not (list_any (is_into recon stage part) (range_with_len 0 (length recon.segments)))) (range_with_len 0 parts)
+      ≡ list_all (λ part. told part || not (list_any (moves_into recon stage part) (range_with_len 0 (length recon.segments)))) (range_with_len 0 parts)
   told-counted parts exist = elim (cases_Bool (list_all is_told recon.segments)) [
     | inl all ↦ all ∙ sym (all_pass counts 0 parts (λ part low high. counted part all))
     | inr not_all ↦
@@ -96,5 +96,5 @@ module _ (recon : ReconValue) (stage : ℕ) (told : ℕ → Bool) where
 
 -- so it is with reports
 pub have_reported-counted : (at : StageValue) → list_all (λ segment. nat_lt segment.dst (length at.reported)) at.recon.segments ≡ true
-    → have_reported at ≡ list_all (counts_reported at) (range_with_len 0 (length at.reported))
+    → have_reported at ≡ list_all (owes_no_report at) (range_with_len 0 (length at.reported))
 have_reported-counted at exist = told-counted at.recon at.stage (is_marked at.reported) (length at.reported) exist

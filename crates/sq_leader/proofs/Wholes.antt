@@ -9,7 +9,7 @@ use Rattle.std.proofs.lemmas.List.Sums.{AllPass-from_list_all}
 use Rattle.std.proofs.lemmas.Option.{slice_get-get_or, slice_get_past}
 use Rattle.sq_ranges.specs.declared.recon.Range.{Range}
 use Rattle.sq_ranges.specs.ReconValue.{ReconValue, stage_in, of_stage, goes_into}
-use Rattle.sq_leader.specs.Segments.{is_into, is_whole, has_all}
+use Rattle.sq_leader.specs.Segments.{moves_into, is_told_whole, all_told_whole}
 
 -- each number passes
 pub all_pass : (p : ℕ → Bool) (a n : ℕ) → ((k : ℕ) → a ≤ k → k < a + n → p k ≡ true) → list_all p (range_with_len a n) ≡ true
@@ -33,21 +33,21 @@ goes_into-of_stage recon stage part segment = by_case (stage_in recon segment ==
     by_case false = refl
 
 pub is_into-at : (recon : ReconValue) (stage part seg : ℕ) (d : Range) → seg < length recon.segments
-    → is_into recon stage part seg ≡ ((stage_in recon (get_or recon.segments seg d) == stage) && ((get_or recon.segments seg d).dst == part))
+    → moves_into recon stage part seg ≡ ((stage_in recon (get_or recon.segments seg d) == stage) && ((get_or recon.segments seg d).dst == part))
 is_into-at recon stage part seg d lt =
     ap (λ found. goes_into (of_stage recon stage found) part) (slice_get-get_or recon.segments seg d lt) ∙ goes_into-of_stage recon stage part (get_or recon.segments seg d)
 
 -- nothing past the last segment does
-is_into-past : (recon : ReconValue) (stage part seg : ℕ) → length recon.segments ≤ seg → is_into recon stage part seg ≡ false
+is_into-past : (recon : ReconValue) (stage part seg : ℕ) → length recon.segments ≤ seg → moves_into recon stage part seg ≡ false
 is_into-past recon stage part seg past = ap (λ found. goes_into (of_stage recon stage found) part) (slice_get_past recon.segments seg past)
 
 -- a segment is missing if it moves into the partition in the stage and isn't whole
 pub is_missing-at : (recon : ReconValue) (stage part seg : ℕ) (whole : List Bool) (segment : Range) → seg < length recon.segments → segment ≡ get_or recon.segments seg segment
-    → (not (is_into recon stage part seg) || is_whole whole seg) ≡ (not ((stage_in recon segment == stage) && (segment.dst == part)) || is_whole whole seg)
+    → (not (moves_into recon stage part seg) || is_told_whole whole seg) ≡ (not ((stage_in recon segment == stage) && (segment.dst == part)) || is_told_whole whole seg)
 is_missing-at recon stage part seg whole segment lt is =
-    let goes : is_into recon stage part seg ≡ ((stage_in recon segment == stage) && (segment.dst == part)) =
+    let goes : moves_into recon stage part seg ≡ ((stage_in recon segment == stage) && (segment.dst == part)) =
     is_into-at recon stage part seg segment lt ∙ ap (λ (range : Range). (stage_in recon range == stage) && (range.dst == part)) (sym is) in
-    ap (λ b. not b || is_whole whole seg) goes
+    ap (λ b. not b || is_told_whole whole seg) goes
 
 -- one that moves elsewhere isn't
 elsewhere : (now done : Bool) → (not (now && false) || done) ≡ true
@@ -58,17 +58,17 @@ pub moves_elsewhere : (now here done : Bool) → here ≡ false → (not (now &&
 moves_elsewhere now here done away = (λ i. not (now && away i) || done) ∙ elsewhere now done
 
 -- where all are whole that move into the partition in the stage, each that does is whole
-pub each_whole : (recon : ReconValue) (stage : ℕ) (whole : List Bool) (part : ℕ) → has_all recon stage whole part ≡ true → (seg : ℕ) → is_into recon stage part seg ≡ true → is_whole whole seg ≡ true
+pub each_whole : (recon : ReconValue) (stage : ℕ) (whole : List Bool) (part : ℕ) → all_told_whole recon stage whole part ≡ true → (seg : ℕ) → moves_into recon stage part seg ≡ true → is_told_whole whole seg ≡ true
 each_whole recon stage whole part all seg goes = elim (cases_lt seg (length recon.segments)) [
   | inl lt ↦
       let count = length recon.segments in
       let at : get_or (range_with_len 0 count) seg 0 ≡ seg = get_or-range_with_len 0 count seg 0 lt ∙ omega arith in
-      let test : ℕ → Bool = λ k. not (is_into recon stage part k) || is_whole whole k in
-      let here : (not (is_into recon stage part seg) || is_whole whole seg) ≡ true =
+      let test : ℕ → Bool = λ k. not (moves_into recon stage part k) || is_told_whole whole k in
+      let here : (not (moves_into recon stage part seg) || is_told_whole whole seg) ≡ true =
       ap test (sym at) ∙ AllPass-from_list_all test (range_with_len 0 count) all seg 0 (omega (arith, length-range_with_len 0 count, lt)) in
-      elim (or_cases (not (is_into recon stage part seg)) (is_whole whole seg) here) [
-        | inl away ↦ absurd (both_ways (is_into recon stage part seg) (not-true (is_into recon stage part seg) away) goes)
+      elim (or_cases (not (moves_into recon stage part seg)) (is_told_whole whole seg) here) [
+        | inl away ↦ absurd (both_ways (moves_into recon stage part seg) (not-true (moves_into recon stage part seg) away) goes)
         | inr done ↦ done
       ]
-  | inr past ↦ absurd (both_ways (is_into recon stage part seg) (is_into-past recon stage part seg past) goes)
+  | inr past ↦ absurd (both_ways (moves_into recon stage part seg) (is_into-past recon stage part seg past) goes)
 ]

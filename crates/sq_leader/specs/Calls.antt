@@ -4,7 +4,7 @@ use Rattle.std.specs.Result.{is_ok}
 use Rattle.sq_ranges.specs.declared.recon.Range.{Range}
 use Rattle.sq_ranges.specs.ReconValue.{ReconValue, stage_in}
 use Rattle.sq_leader.specs.LeaderValue.{StageValue, ReportValue}
-use Rattle.sq_leader.specs.Leader.{first_stage, report_answer, next_answer, finish_answer}
+use Rattle.sq_leader.specs.Leader.{first_stage, answer_to_report, answer_to_next, answer_to_finish}
 
 -- a report is told to the leader, or the next stage is asked for
 pub data Call : Type 0 where
@@ -17,8 +17,8 @@ state_after at (Ok next) = next
 state_after at (Err fault) = at
 
 abbrev pub after_call : StageValue → Call → StageValue
-after_call at (Hear told) = state_after at (report_answer at told)
-after_call at Next = state_after at (next_answer at)
+after_call at (Hear told) = state_after at (answer_to_report at told)
+after_call at Next = state_after at (answer_to_next at)
 
 -- a move of this many partitions after these calls, the last of them first
 abbrev pub after_calls : ℕ → ReconValue → List Call → StageValue
@@ -35,5 +35,5 @@ was_heard parts recon (Next ∷ calls) part stage = was_heard parts recon calls 
 -- where the move can end after these calls, a report was heard for each segment: of the partition into which it moves, in the segment's stage
 abbrev pub EndsHeard : ℕ → ReconValue → List Call → Type 0
 EndsHeard parts recon calls =
-    is_ok (finish_answer (after_calls parts recon calls)) ≡ true → (segment : Range) → Contains recon.segments segment
+    is_ok (answer_to_finish (after_calls parts recon calls)) ≡ true → (segment : Range) → Contains recon.segments segment
     → was_heard parts recon calls segment.dst (stage_in recon segment) ≡ true

@@ -17,17 +17,17 @@ use Rattle.sq_leader.specs.declared.fault.FinishFault.TheVariants as finish
 use Rattle.sq_leader.specs.declared.leader.Refused.{Refused}
 use Rattle.sq_leader.specs.LeaderValue.{IdleValue, PreparingValue, StageValue, ReportValue}
 use Rattle.sq_leader.specs.Marks.{none_marked, with_mark, all_marked}
-use Rattle.sq_leader.specs.Segments.{has_all, have_reported}
+use Rattle.sq_leader.specs.Segments.{all_told_whole, have_reported}
 
 -- the first partition prepares
-abbrev pub first_prepare_answer : IdleValue → ℕ → Result PreparingValue (Refused IdleValue PrepareFault)
-first_prepare_answer idle part =
+abbrev pub answer_to_first_prepare : IdleValue → ℕ → Result PreparingValue (Refused IdleValue PrepareFault)
+answer_to_first_prepare idle part =
     if nat_le idle.parts part then Err (record { leader = idle; fault = prepare.NoSuchPartition })
     else Ok (record { prepared = with_mark (none_marked idle.parts) part; recon = idle.recon })
 
 -- one more partition prepares, or one once more
-abbrev pub prepare_answer : PreparingValue → ℕ → Result PreparingValue (Refused PreparingValue PrepareFault)
-prepare_answer preparing part =
+abbrev pub answer_to_prepare : PreparingValue → ℕ → Result PreparingValue (Refused PreparingValue PrepareFault)
+answer_to_prepare preparing part =
     if nat_le (length preparing.prepared) part then Err (record { leader = preparing; fault = prepare.NoSuchPartition })
     else Ok (record preparing { prepared = with_mark preparing.prepared part })
 
@@ -36,8 +36,8 @@ abbrev pub first_stage : ℕ → ReconValue → StageValue
 first_stage parts recon = record { reported = none_marked parts; stage = 0; recon = recon }
 
 -- the move starts, where each partition has prepared
-abbrev pub start_answer : PreparingValue → Result StageValue (Refused PreparingValue StartFault)
-start_answer preparing =
+abbrev pub answer_to_start : PreparingValue → Result StageValue (Refused PreparingValue StartFault)
+answer_to_start preparing =
     if all_marked preparing.prepared then Ok (first_stage (length preparing.prepared) preparing.recon)
     else Err (record { leader = preparing; fault = start.NotPrepared })
 
@@ -45,12 +45,12 @@ start_answer preparing =
 abbrev pub made_answer : PlanValue → ReconValue → ℕ → List Bool → ℕ → Result ReportValue ReportFault
 made_answer plan recon stage whole part =
     if nat_le plan.parts part then Err report.NoSuchPartition
-    else if has_all recon stage whole part then Ok (record { part = part; stage = stage })
+    else if all_told_whole recon stage whole part then Ok (record { part = part; stage = stage })
     else Err report.NotFinished
 
 -- a report of the running stage counts
-abbrev pub report_answer : StageValue → ReportValue → Result StageValue (Refused StageValue StageFault)
-report_answer at told =
+abbrev pub answer_to_report : StageValue → ReportValue → Result StageValue (Refused StageValue StageFault)
+answer_to_report at told =
     if told.stage == at.stage then Ok (record at { reported = with_mark at.reported told.part })
     else Err (record { leader = at; fault = stage_fault.OtherStage })
 
@@ -67,14 +67,14 @@ abbrev pub next_stage : StageValue → StageValue
 next_stage at = record { reported = none_marked (length at.reported); stage = at.stage + 1; recon = at.recon }
 
 -- the next stage runs, where there is one and each partition into which a segment of the running stage moves reported
-abbrev pub next_answer : StageValue → Result StageValue (Refused StageValue NextFault)
-next_answer at =
+abbrev pub answer_to_next : StageValue → Result StageValue (Refused StageValue NextFault)
+answer_to_next at =
     if is_last at then Err (record { leader = at; fault = next.LastStage })
     else if have_reported at then Ok (next_stage at)
     else Err (record { leader = at; fault = next.NotFinished })
 
 -- the move ends, where the last stage runs and each partition into which a segment of it moves reported
-abbrev pub finish_answer : StageValue → Result StageValue (Refused StageValue FinishFault)
-finish_answer at =
+abbrev pub answer_to_finish : StageValue → Result StageValue (Refused StageValue FinishFault)
+answer_to_finish at =
     if is_last at && have_reported at then Ok at
     else Err (record { leader = at; fault = finish.NotFinished })

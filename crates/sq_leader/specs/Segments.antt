@@ -7,16 +7,16 @@ use Rattle.sq_leader.specs.LeaderValue.{StageValue}
 use Rattle.sq_leader.specs.Marks.{is_marked}
 
 -- the segment of this number moves into the partition in this stage
-abbrev pub is_into : ReconValue → ℕ → ℕ → ℕ → Bool
-is_into recon stage part seg = goes_into (of_stage recon stage (slice_get recon.segments seg)) part
+abbrev pub moves_into : ReconValue → ℕ → ℕ → ℕ → Bool
+moves_into recon stage part seg = goes_into (of_stage recon stage (slice_get recon.segments seg)) part
 
 -- the segment of this number is whole; one of which nothing is said isn't
-abbrev pub is_whole : List Bool → ℕ → Bool
-is_whole whole seg = slice_index_or whole seg false
+abbrev pub is_told_whole : List Bool → ℕ → Bool
+is_told_whole whole seg = slice_index_or whole seg false
 
 -- each segment into the partition in this stage is whole
-abbrev pub has_all : ReconValue → ℕ → List Bool → ℕ → Bool
-has_all recon stage whole part = list_all (λ seg. not (is_into recon stage part seg) || is_whole whole seg) (range_with_len 0 (length recon.segments))
+abbrev pub all_told_whole : ReconValue → ℕ → List Bool → ℕ → Bool
+all_told_whole recon stage whole part = list_all (λ seg. not (moves_into recon stage part seg) || is_told_whole whole seg) (range_with_len 0 (length recon.segments))
 
 -- the segment moves in another stage, or the partition into which it moves reported
 abbrev pub is_heard : StageValue → Range → Bool
@@ -27,5 +27,5 @@ abbrev pub have_reported : StageValue → Bool
 have_reported at = list_all (is_heard at) at.recon.segments
 
 -- the partition reported, or no segment moves into it in the running stage
-abbrev pub counts_reported : StageValue → ℕ → Bool
-counts_reported at part = is_marked at.reported part || not (list_any (is_into at.recon at.stage part) (range_with_len 0 (length at.recon.segments)))
+abbrev pub owes_no_report : StageValue → ℕ → Bool
+owes_no_report at part = is_marked at.reported part || not (list_any (moves_into at.recon at.stage part) (range_with_len 0 (length at.recon.segments)))

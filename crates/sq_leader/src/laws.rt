@@ -4,7 +4,7 @@ ghost use Rattle.std.specs.List.{list_any, list_all, range_with_len};
 ghost use Rattle.sq_ranges.specs.ReconValue.{ReconValue, IsRecon, stage_in};
 ghost use Rattle.sq_leader.specs.LeaderValue.{StageValue};
 ghost use Rattle.sq_leader.specs.Marks.{is_marked, all_marked, marks_after};
-ghost use Rattle.sq_leader.specs.Segments.{have_reported, counts_reported};
+ghost use Rattle.sq_leader.specs.Segments.{have_reported, owes_no_report};
 ghost use Rattle.sq_leader.specs.Calls.{Call, EndsHeard};
 
 /// Just those partitions are marked that there are and that told it, in whichever order and however often.
@@ -27,7 +27,7 @@ pub fn a_stage_is_over_once_each_segment_of_it_is_reported()
 /// Where each segment moves into one of the partitions, a stage can be left just where each partition counts as reported.
 pub fn a_partition_without_segments_counts_as_reported()
     ensures { (at : StageValue) → list_all (λ segment. nat_lt segment.dst (length at.reported)) at.recon.segments ≡ true
-        → have_reported at ≡ list_all (counts_reported at) (range_with_len 0 (length at.reported)) }
+        → have_reported at ≡ list_all (owes_no_report at) (range_with_len 0 (length at.reported)) }
 {}
 
 /// Whatever reports a leader is told and however often the next stage is asked for, the move can end only after a report

@@ -1,7 +1,7 @@
 // The states of the leader until the move starts.
 ghost use Rattle.std.specs.Prelude.{◌≡◌};
 ghost use Rattle.sq_leader.specs.Marks.{is_marked};
-ghost use Rattle.sq_leader.specs.Leader.{first_prepare_answer, prepare_answer, start_answer};
+ghost use Rattle.sq_leader.specs.Leader.{answer_to_first_prepare, answer_to_prepare, answer_to_start};
 
 use crate::fault::{PrepareFault, StartFault};
 use crate::marks::Marks;
@@ -82,7 +82,7 @@ impl Idle {
 
     /// A partition has prepared. Refused where there is no such partition.
     pub fn prepare(self, part: u64) -> Result<Preparing, Refused<Idle, PrepareFault>>
-        ensures { result ≡ first_prepare_answer self part }
+        ensures { result ≡ answer_to_first_prepare self part }
     {
         if part >= u64::from(self.parts) {
             return Err(Refused {
@@ -116,7 +116,7 @@ impl Preparing {
 
     /// A partition has prepared, which it may say again. Refused where there is no such partition.
     pub fn prepare(mut self, part: u64) -> Result<Preparing, Refused<Preparing, PrepareFault>>
-        ensures { result ≡ prepare_answer self part }
+        ensures { result ≡ answer_to_prepare self part }
     {
         if part >= u64::from(self.prepared.parts()) {
             return Err(Refused {
@@ -130,7 +130,7 @@ impl Preparing {
 
     /// Starts the move, with stage 0. Refused where a partition hasn't prepared.
     pub fn start(self) -> Result<Moving, Refused<Preparing, StartFault>>
-        ensures { result ≡ start_answer self }
+        ensures { result ≡ answer_to_start self }
     {
         if !self.prepared.has_all() {
             return Err(Refused {

@@ -5,7 +5,7 @@ ghost use Rattle.sq_plan.specs.declared.plan.TheConstants.{MAX_PARTS};
 ghost use Rattle.sq_ranges.specs.ReconValue.{stages};
 ghost use Rattle.sq_leader.specs.Marks.{is_marked};
 ghost use Rattle.sq_leader.specs.Segments.{is_heard, have_reported};
-ghost use Rattle.sq_leader.specs.Leader.{first_stage, report_answer, following, next_answer, finish_answer};
+ghost use Rattle.sq_leader.specs.Leader.{first_stage, answer_to_report, following, answer_to_next, answer_to_finish};
 
 use crate::fault::{FinishFault, NextFault, StageFault};
 use crate::leader::Refused;
@@ -88,7 +88,7 @@ impl Moving {
     /// Notes a report, which may come again. That of a partition which the leader hasn't changes nothing. Refused where it
     /// is a report of another stage than the running one.
     pub fn report(mut self, report: Report) -> Result<Moving, Refused<Moving, StageFault>>
-        ensures { result ≡ report_answer self report }
+        ensures { result ≡ answer_to_report self report }
     {
         if report.stage() != self.stage {
             return Err(Refused {
@@ -103,7 +103,7 @@ impl Moving {
     /// Runs the next stage, in which none has reported. Refused for the first of these: the running stage is the last, and
     /// a partition into which a segment of the running stage moves hasn't reported.
     pub fn next(self) -> Result<Moving, Refused<Moving, NextFault>>
-        ensures answer { result ≡ next_answer self }
+        ensures answer { result ≡ answer_to_next self }
         // The next stage runs only where for each segment of this one the partition has reported into which it moves.
         ensures reported { OnOk result (AllPass (is_heard self) self.recon.segments) }
     {
@@ -129,7 +129,7 @@ impl Moving {
     /// Ends the move. Refused where the running stage isn't the last, or a partition into which a segment of it moves
     /// hasn't reported.
     pub fn finish(self) -> Result<Ended, Refused<Moving, FinishFault>>
-        ensures answer { result ≡ finish_answer self }
+        ensures answer { result ≡ answer_to_finish self }
         // The move ends only where for each segment of the last stage the partition has reported into which it moves.
         ensures reported { OnOk result (AllPass (is_heard self) self.recon.segments) }
     {

@@ -1,6 +1,6 @@
 // Reports of partitions.
 ghost use Rattle.std.specs.Prelude.{◌≡◌, ℕ, IsTrue, OnOk};
-ghost use Rattle.sq_leader.specs.Segments.{has_all, is_into, is_whole};
+ghost use Rattle.sq_leader.specs.Segments.{all_told_whole, moves_into, is_told_whole};
 ghost use Rattle.sq_leader.specs.Leader.{made_answer};
 
 use crate::fault::ReportFault;
@@ -36,7 +36,7 @@ impl Report {
     ) -> Result<Report, ReportFault>
         ensures answer { result ≡ made_answer plan.now recon.now stage whole.now part }
         // There is a report only where each segment into the partition in the stage is whole.
-        ensures whole { OnOk result ((seg : ℕ) → IsTrue (is_into recon.now stage part seg) → IsTrue (is_whole whole.now seg)) }
+        ensures whole { OnOk result ((seg : ℕ) → IsTrue (moves_into recon.now stage part seg) → IsTrue (is_told_whole whole.now seg)) }
     {
         if part >= u64::from(plan.parts()) {
             return Err(ReportFault::NoSuchPartition);
@@ -65,7 +65,7 @@ impl Report {
 
 // Whether every segment that moves into a partition in a stage is whole.
 fn has_all(part: PartId, recon: &Recon, stage: u64, whole: &[bool]) -> bool
-    ensures { result ≡ has_all recon.now stage whole.now part }
+    ensures { result ≡ all_told_whole recon.now stage whole.now part }
 {
     for (seg, segment) in recon.segments().iter().enumerate() {
         if segment.dst == part
@@ -80,7 +80,7 @@ fn has_all(part: PartId, recon: &Recon, stage: u64, whole: &[bool]) -> bool
 
 // Whether the segment of this number is whole.
 fn is_whole(whole: &[bool], seg: usize) -> bool
-    ensures { result ≡ is_whole whole.now seg }
+    ensures { result ≡ is_told_whole whole.now seg }
 {
     whole.get(seg).copied().unwrap_or(false)
 }

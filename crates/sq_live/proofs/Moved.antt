@@ -13,7 +13,7 @@ use Rattle.sq_ranges.specs.Opening.{IsOpening}
 use Rattle.sq_ranges.proofs.Stages.{stage_below}
 use Rattle.sq_leader.proofs.Wholes.{all_pass}
 use Rattle.sq_leader.specs.LeaderValue.{StageValue}
-use Rattle.sq_leader.specs.Segments.{is_into}
+use Rattle.sq_leader.specs.Segments.{moves_into}
 use Rattle.sq_model.proofs.Keys.{linked}
 use Rattle.sq_node_model.specs.Gathered.{GatheredValue}
 use Rattle.sq_node_model.specs.Next.{is_whole_in, IsStageDone}
@@ -132,7 +132,7 @@ module _ (o : OpeningValue) (stage : ℕ) (by is_complete : ℕ → Bool) (same 
     heard = λ part seg marked into. sym (same seg (goes_within part seg into)) ∙ has.heard part seg marked into;
   }
     where
-      goes_within : (part seg : ℕ) → is_into o.recon stage part seg ≡ true → seg < length o.recon.segments
+      goes_within : (part seg : ℕ) → moves_into o.recon stage part seg ≡ true → seg < length o.recon.segments
       goes_within part seg goes = elim (cases_lt seg (length o.recon.segments)) [
         | inl lt ↦ lt
         | inr past ↦ absurd (true≢false (sym goes ∙ ap (λ found. goes_into (of_stage o.recon stage found) part) (slice_get_past o.recon.segments seg past)))

@@ -5,7 +5,7 @@ use Rattle.sq_ranges.specs.OpeningValue.{OpeningValue}
 use Rattle.sq_ranges.specs.Opening.{IsOpening}
 use Rattle.sq_leader.specs.LeaderValue.{StageValue}
 use Rattle.sq_leader.specs.Marks.{none_marked}
-use Rattle.sq_leader.specs.Segments.{is_whole}
+use Rattle.sq_leader.specs.Segments.{is_told_whole}
 use Rattle.sq_node_model.specs.BeganWith.{BeganWith, first_began}
 use Rattle.sq_node_model.specs.Gathered.{GatheredValue}
 use Rattle.sq_node_model.specs.Placed.{IsPlaced}
@@ -35,20 +35,20 @@ pub record WasTold (account : AccountValue) (moving : StageValue) (began : Began
   pub now : moving.stage ≡ g.stage
 
 module _ (account : AccountValue) (moving : StageValue) (began : BeganWith) (g : GatheredValue) (moved : List Bool) (told : WasTold account moving began g moved) where
-  same : (seg : ℕ) → seg < length account.opening.recon.segments → is_whole moved seg ≡ is_whole_in g seg
+  same : (seg : ℕ) → seg < length account.opening.recon.segments → is_told_whole moved seg ≡ is_whole_in g seg
   same seg lt = let few = told.is.few_segments in told.marks seg (omega (arith, lt, few))
 
-  stage_done : AreComplete account.opening moving.stage (is_whole moved) → IsStageDone account.opening g
-  stage_done all = subst (λ (n : ℕ). AreComplete account.opening n (is_whole_in g)) told.now (complete_by account.opening moving.stage (is_whole moved) (is_whole_in g) same all)
+  stage_done : AreComplete account.opening moving.stage (is_told_whole moved) → IsStageDone account.opening g
+  stage_done all = subst (λ (n : ℕ). AreComplete account.opening n (is_whole_in g)) told.now (complete_by account.opening moving.stage (is_told_whole moved) (is_whole_in g) same all)
 
-  gone_on : (at : StageValue) → HasGoneOn account.opening moving.stage (is_whole moved) at → HasGoneOn account.opening g.stage (is_whole_in g) at
-  gone_on at has = subst (λ (n : ℕ). HasGoneOn account.opening n (is_whole_in g) at) told.now (gone_on_by account.opening moving.stage (is_whole moved) (is_whole_in g) same at has)
+  gone_on : (at : StageValue) → HasGoneOn account.opening moving.stage (is_told_whole moved) at → HasGoneOn account.opening g.stage (is_whole_in g) at
+  gone_on at has = subst (λ (n : ℕ). HasGoneOn account.opening n (is_whole_in g) at) told.now (gone_on_by account.opening moving.stage (is_told_whole moved) (is_whole_in g) same at has)
 
-  ended : (at : StageValue) → HasEnded account.opening moving.stage (is_whole moved) at → HasEnded account.opening g.stage (is_whole_in g) at
-  ended at has = subst (λ (n : ℕ). HasEnded account.opening n (is_whole_in g) at) told.now (ended_by account.opening moving.stage (is_whole moved) (is_whole_in g) same at has)
+  ended : (at : StageValue) → HasEnded account.opening moving.stage (is_told_whole moved) at → HasEnded account.opening g.stage (is_whole_in g) at
+  ended at has = subst (λ (n : ℕ). HasEnded account.opening n (is_whole_in g) at) told.now (ended_by account.opening moving.stage (is_told_whole moved) (is_whole_in g) same at has)
 
   -- it went on
-  module _ (next : StageValue) (led : Leads account.opening moving.stage (is_whole moved) (Next next)) where
+  module _ (next : StageValue) (led : Leads account.opening moving.stage (is_told_whole moved) (Next next)) where
     pub done_before : IsStageDone account.opening g
     done_before = stage_done led.1
 
@@ -59,7 +59,7 @@ module _ (account : AccountValue) (moving : StageValue) (began : BeganWith) (g :
     leads_next = led.0 ∙ ap (λ (n : ℕ). leading account.opening (n + 1)) told.now
 
   -- it ended the move
-  module _ (led : Leads account.opening moving.stage (is_whole moved) Ended) where
+  module _ (led : Leads account.opening moving.stage (is_told_whole moved) Ended) where
     pub last_stage : g.stage + 1 ≡ stages account.opening.recon
     last_stage = ap (λ (n : ℕ). n + 1) (sym told.now) ∙ led.0
 
@@ -70,8 +70,8 @@ module _ (account : AccountValue) (moving : StageValue) (began : BeganWith) (g :
     has_ended = (led.2, ended led.2 led.3)
 
   -- it did neither
-  pub not_done : Leads account.opening moving.stage (is_whole moved) Missing → IsStageDone account.opening g → ⊥
-  not_done none done = none (marked_by account.opening moving.stage (is_whole moved) (is_whole_in g) same (subst (λ (n : ℕ). AreComplete account.opening n (is_whole_in g)) (sym told.now) done))
+  pub not_done : Leads account.opening moving.stage (is_told_whole moved) Missing → IsStageDone account.opening g → ⊥
+  not_done none done = none (marked_by account.opening moving.stage (is_told_whole moved) (is_whole_in g) same (subst (λ (n : ℕ). AreComplete account.opening n (is_whole_in g)) (sym told.now) done))
 
 module _ (o : OpeningValue) (moving : StageValue) (stage : ℕ) (led : moving ≡ leading o stage) where
   -- a leader leads one of the stages

@@ -9,7 +9,7 @@ use Rattle.sq_tree.specs.Status.{reading}
 use Rattle.sq_tree.specs.Tree.{status_at}
 use Rattle.sq_ranges.specs.declared.segment.TheConstants.{SEGMENT_LIMIT}
 use Rattle.sq_ranges.specs.ReconValue.{ReconValue, stage_at}
-use Rattle.sq_leader.specs.Segments.{is_whole}
+use Rattle.sq_leader.specs.Segments.{is_told_whole}
 use Rattle.sq_node_model.specs.NodeValue.{ReceiptValue}
 
 -- the set has just the ids of these receipts
@@ -22,8 +22,8 @@ is_moved words seg = is_complete_reading (reading (status_at (slice_index_or wor
 
 -- just the segments are marked that are complete
 abbrev pub MarksMoved : List (List Status) → List Bool → Type 0
-MarksMoved words moved = (seg : ℕ) → seg < SEGMENT_LIMIT → is_whole moved seg ≡ is_moved words seg
+MarksMoved words moved = (seg : ℕ) → seg < SEGMENT_LIMIT → is_told_whole moved seg ≡ is_moved words seg
 
 -- how many segments moved in an earlier stage than this, or are marked
 abbrev pub marked_count : ReconValue → ℕ → List Bool → ℕ
-marked_count recon stage moved = count_by (λ seg. nat_lt (stage_at recon seg) stage || is_whole moved seg) (range_with_len 0 (length recon.segments))
+marked_count recon stage moved = count_by (λ seg. nat_lt (stage_at recon seg) stage || is_told_whole moved seg) (range_with_len 0 (length recon.segments))

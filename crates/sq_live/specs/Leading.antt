@@ -5,8 +5,8 @@ use Rattle.sq_ranges.specs.ReconValue.{stage_in, stages}
 use Rattle.sq_ranges.specs.OpeningValue.{OpeningValue}
 use Rattle.sq_leader.specs.LeaderValue.{StageValue}
 use Rattle.sq_leader.specs.Marks.{none_marked, is_marked}
-use Rattle.sq_leader.specs.Segments.{is_into, has_all}
-use Rattle.sq_leader.specs.Leader.{next_answer, finish_answer}
+use Rattle.sq_leader.specs.Segments.{moves_into, all_told_whole}
+use Rattle.sq_leader.specs.Leader.{answer_to_next, answer_to_finish}
 use Rattle.sq_live.specs.declared.leader.Led.{Led}
 use Rattle.sq_live.specs.declared.leader.Led.TheVariants.{Next, Ended, Missing}
 
@@ -23,22 +23,22 @@ pub record LeadsStage (o : OpeningValue) (stage : ℕ) (at : StageValue) : Type 
 pub record HaveReported (o : OpeningValue) (stage : ℕ) (whole : List Bool) (at : StageValue) : Type 0 where
   pub leads : LeadsStage o stage at
   pub parts : length at.reported ≡ o.old.parts
-  pub each : (part : ℕ) → is_marked at.reported part ≡ (nat_lt part o.old.parts && has_all o.recon stage whole part)
+  pub each : (part : ℕ) → is_marked at.reported part ≡ (nat_lt part o.old.parts && all_told_whole o.recon stage whole part)
 
 -- partitions reported in the stage, each only where all segments that move into it then are complete
 pub record HasHeard (o : OpeningValue) (stage : ℕ) (is_complete : ℕ → Bool) (at : StageValue) : Type 0 where
   pub leads : LeadsStage o stage at
-  pub heard : (part seg : ℕ) → IsTrue (is_marked at.reported part) → IsTrue (is_into o.recon stage part seg) → IsTrue (is_complete seg)
+  pub heard : (part seg : ℕ) → IsTrue (is_marked at.reported part) → IsTrue (moves_into o.recon stage part seg) → IsTrue (is_complete seg)
 
 -- the leader went on to the next stage, for which those reports were enough
 pub record HasGoneOn (o : OpeningValue) (stage : ℕ) (is_complete : ℕ → Bool) (at : StageValue) : Type 0 where
   pub hears : HasHeard o stage is_complete at
-  pub next : next_answer at ≡ Ok (leading o (stage + 1))
+  pub next : answer_to_next at ≡ Ok (leading o (stage + 1))
 
 -- the leader ended the move after its last stage, for which those reports were enough
 pub record HasEnded (o : OpeningValue) (stage : ℕ) (is_complete : ℕ → Bool) (at : StageValue) : Type 0 where
   pub hears : HasHeard o stage is_complete at
-  pub ended : finish_answer at ≡ Ok at
+  pub ended : answer_to_finish at ≡ Ok at
 
 -- each segment of the stage is complete
 abbrev pub AreComplete : OpeningValue → ℕ → (ℕ → Bool) → Type 0

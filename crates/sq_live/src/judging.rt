@@ -4,7 +4,7 @@ ghost use Rattle.std.specs.FinMap.{len};
 ghost use Rattle.sq_ranges.specs.declared.segment.TheConstants.{SEGMENT_LIMIT};
 ghost use Rattle.sq_ranges.specs.ReconValue.{stages, stage_at};
 ghost use Rattle.sq_leader.specs.LeaderValue.{StageValue};
-ghost use Rattle.sq_leader.specs.Segments.{is_whole};
+ghost use Rattle.sq_leader.specs.Segments.{is_told_whole};
 ghost use Rattle.sq_node_model.specs.Next.{is_whole_in, IsStageDone};
 ghost use Rattle.sq_gather.specs.Grown.{AreGrown};
 ghost use Rattle.sq_live.specs.Leading.{HasEnded};
@@ -143,7 +143,7 @@ fn count_complete(recon: &Recon, stage: u64, moved: &[bool]) -> u64
 
 // Whether a segment moved in an earlier stage than this, or is marked.
 fn is_counted(recon: &Recon, stage: u64, moved: &[bool], seg: SegId) -> bool
-    ensures { result ≡ (nat_lt (stage_at recon.now seg) stage || is_whole moved.now seg) }
+    ensures { result ≡ (nat_lt (stage_at recon.now seg) stage || is_told_whole moved.now seg) }
 {
     recon.stage_of(seg) < stage || moved.get(seg.index()).copied().unwrap_or(false)
 }

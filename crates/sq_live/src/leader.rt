@@ -1,7 +1,7 @@
 // The leader of a live run.
 ghost use Rattle.std.specs.Prelude.{◌≡◌, length, true, IfOk};
 ghost use Rattle.sq_leader.specs.Marks.{all_marked};
-ghost use Rattle.sq_leader.specs.Segments.{is_whole};
+ghost use Rattle.sq_leader.specs.Segments.{is_told_whole};
 ghost use Rattle.sq_leader.specs.Leader.{is_last};
 ghost use Rattle.sq_live.specs.Leading.{leading, HaveReported, Leads};
 
@@ -56,7 +56,7 @@ fn prepare_all(plan: &Plan, recon: Recon) -> Preparing
 /// partition reports first that may.
 pub(crate) fn lead_on(moving: Moving, opening: &Opening, whole: &[bool]) -> Led
     requires { moving ≡ leading opening.now moving.stage }
-    ensures { Leads opening.now moving.stage (is_whole whole.now) result }
+    ensures { Leads opening.now moving.stage (is_told_whole whole.now) result }
 {
     // For the proof alone: what was handed in is an opening.
     let _recon = opening.recon();
@@ -73,7 +73,7 @@ pub(crate) fn lead_on(moving: Moving, opening: &Opening, whole: &[bool]) -> Led
 fn end_move(moving: Moving, opening: &Opening, whole: &[bool]) -> Led
     requires reported { HaveReported opening.now moving.stage whole.now moving }
     requires last { is_last moving ≡ true }
-    ensures { Leads opening.now moving.stage (is_whole whole.now) result }
+    ensures { Leads opening.now moving.stage (is_told_whole whole.now) result }
 {
     // For the proof alone: what was handed in is an opening.
     let _recon = opening.recon();

@@ -22,8 +22,8 @@ use Rattle.sq_leader.specs.declared.fault.FinishFault.{FinishFault}
 use Rattle.sq_leader.specs.declared.fault.FinishFault.TheVariants as finish
 use Rattle.sq_leader.specs.LeaderValue.{PreparingValue, StageValue, ReportValue}
 use Rattle.sq_leader.specs.Marks.{with_mark, all_marked}
-use Rattle.sq_leader.specs.Segments.{is_whole, has_all, have_reported}
-use Rattle.sq_leader.specs.Leader.{first_stage, start_answer, made_answer, report_answer, is_last, next_stage, next_answer, finish_answer}
+use Rattle.sq_leader.specs.Segments.{is_told_whole, all_told_whole, have_reported}
+use Rattle.sq_leader.specs.Leader.{first_stage, answer_to_start, made_answer, answer_to_report, is_last, next_stage, answer_to_next, answer_to_finish}
 use Rattle.sq_leader.proofs.Counted.{have_reported-counted}
 use Rattle.sq_exec.specs.CoreValue.{entered_core}
 use Rattle.sq_leader.proofs.Marked.{all_marked-by_part, same_within}
@@ -58,9 +58,9 @@ not_made w false true part fault done is = cc
 not_made w false false part fault done is = ap (λ f. (Refused (report_refused f), w)) (let same : fault ≡ report.NotFinished = cc in same)
 
 -- a report of the running stage counts
-counted : (at : StageValue) (part : ℕ) (given : ReportValue) (next : StageValue) → given ≡ record { part = part; stage = at.stage } → Ok next ≡ report_answer at given → next ≡ record at { reported = with_mark at.reported part }
+counted : (at : StageValue) (part : ℕ) (given : ReportValue) (next : StageValue) → given ≡ record { part = part; stage = at.stage } → Ok next ≡ answer_to_report at given → next ≡ record at { reported = with_mark at.reported part }
 counted at part given next is answer =
-    by_stage (at.stage == at.stage) (eq-eqb at.stage at.stage refl) (answer ∙ ap (report_answer at) is)
+    by_stage (at.stage == at.stage) (eq-eqb at.stage at.stage refl) (answer ∙ ap (answer_to_report at) is)
   where
     by_stage : (here : Bool) → here ≡ true → Ok next ≡ (let r : Result StageValue (RefusedCall StageValue StageFault) = if here then Ok (record at { reported = with_mark at.reported part }) else Err (record { leader = at; fault = stage_fault.OtherStage }) in r)
         → next ≡ record at { reported = with_mark at.reported part }
@@ -68,10 +68,10 @@ counted at part given next is answer =
     by_stage false same is = absurd cc
 
 pub never_refused : (plan : PlanValue) (recon : ReconValue) (whole : List Bool) (at : StageValue) (part : ℕ) (given : ReportValue) (back : RefusedCall StageValue StageFault)
-    → Ok given ≡ made_answer plan recon at.stage whole part → Err back ≡ report_answer at given → ⊥
+    → Ok given ≡ made_answer plan recon at.stage whole part → Err back ≡ answer_to_report at given → ⊥
 never_refused plan recon whole at part given back answer refused =
-    let so = made (nat_le plan.parts part) (has_all recon at.stage whole part) report.NoSuchPartition report.NotFinished (let named : ReportValue = record { part = part; stage = at.stage } in named) given answer in
-    by_stage (at.stage == at.stage) (eq-eqb at.stage at.stage refl) (refused ∙ ap (report_answer at) so.2)
+    let so = made (nat_le plan.parts part) (all_told_whole recon at.stage whole part) report.NoSuchPartition report.NotFinished (let named : ReportValue = record { part = part; stage = at.stage } in named) given answer in
+    by_stage (at.stage == at.stage) (eq-eqb at.stage at.stage refl) (refused ∙ ap (answer_to_report at) so.2)
   where
     by_stage : (here : Bool) → here ≡ true → Err back ≡ (let r : Result StageValue (RefusedCall StageValue StageFault) = if here then Ok (record at { reported = with_mark at.reported part }) else Err (record { leader = at; fault = stage_fault.OtherStage }) in r) → ⊥
     by_stage true same is = cc
@@ -92,14 +92,14 @@ module _ (w : WorldValue) where
         ∙ ap (λ all. if is_started_phase (phase_of l) then refuse w AlreadyMoving else if not all then refuse w NotPrepared else (Done, record w { leader = after_start l; cores = map started_core w.cores }))
         (ap (λ k. list_all (has_prepared l) (range_with_len 0 k)) (sym n) ∙ e)
 
-    pub start_went : (before : PreparingValue) (at : StageValue) → w.leader ≡ Preparing before → Ok at ≡ start_answer before
+    pub start_went : (before : PreparingValue) (at : StageValue) → w.leader ≡ Preparing before → Ok at ≡ answer_to_start before
         → (Done, record w { leader = Moving at; cores = map started_core w.cores }) ≡ start_result w
     start_went before at is answer =
         let so = passed (all_marked before.prepared) (record { leader = before; fault = start.NotPrepared }) (first_stage (length before.prepared) before.recon) at answer in
         ap (λ next. (Done, record w { leader = Moving next; cores = map started_core w.cores })) so.1
         ∙ sym (start_by (Preparing before) true is (sym (all_marked-by_part before.prepared) ∙ so.0))
 
-    pub start_refused : (before : PreparingValue) (back : RefusedCall PreparingValue StartFault) → w.leader ≡ Preparing before → Err back ≡ start_answer before
+    pub start_refused : (before : PreparingValue) (back : RefusedCall PreparingValue StartFault) → w.leader ≡ Preparing before → Err back ≡ answer_to_start before
         → (Refused NotPrepared, record w { leader = Preparing back.leader }) ≡ start_result w
     start_refused before back is answer =
         let so = failed (all_marked before.prepared) (record { leader = before; fault = start.NotPrepared }) back (first_stage (length before.prepared) before.recon) answer in
@@ -113,16 +113,16 @@ module _ (w : WorldValue) where
       λ i. if not (is_moving_phase (phase_of (is i))) then refuse w NotMoving else if_partition w part (if e i then (Done, record w { leader = after_report (is i) part }) else refuse w NotFinished)
 
   -- what is told of each segment is so
-  module _ (sound : IsSound w) (whole : List Bool) (told : (seg : ℕ) → seg < length w.trees → is_whole whole seg ≡ is_segment_whole w seg) where
-    all_told : (at : StageValue) (part : ℕ) → w.leader ≡ Moving at → list_all (λ seg. not (is_segment_into w part seg) || is_segment_whole w seg) (segment_range w) ≡ has_all w.recon at.stage whole part
+  module _ (sound : IsSound w) (whole : List Bool) (told : (seg : ℕ) → seg < length w.trees → is_told_whole whole seg ≡ is_segment_whole w seg) where
+    all_told : (at : StageValue) (part : ℕ) → w.leader ≡ Moving at → list_all (λ seg. not (is_segment_into w part seg) || is_segment_whole w seg) (segment_range w) ≡ all_told_whole w.recon at.stage whole part
     all_told at part is =
         let runs : running_stage w ≡ at.stage = ap stage_of is in
         same_within _ _ 0 (length w.recon.segments) (λ seg low high. λ i. not (goes_into (of_stage w.recon (runs i) (slice_get w.recon.segments seg)) part) || sym (told seg (omega (arith, high, sound.trees))) i)
 
-    pub report_went : (at : StageValue) (part : ℕ) (given : ReportValue) (next : StageValue) → w.leader ≡ Moving at → Ok given ≡ made_answer w.old w.recon at.stage whole part → Ok next ≡ report_answer at given
+    pub report_went : (at : StageValue) (part : ℕ) (given : ReportValue) (next : StageValue) → w.leader ≡ Moving at → Ok given ≡ made_answer w.old w.recon at.stage whole part → Ok next ≡ answer_to_report at given
         → (Done, record w { leader = Moving next }) ≡ report_result w part
     report_went at part given next is answer counts =
-        let so = made (nat_le w.old.parts part) (has_all w.recon at.stage whole part) report.NoSuchPartition report.NotFinished (let named : ReportValue = record { part = part; stage = at.stage } in named) given answer in
+        let so = made (nat_le w.old.parts part) (all_told_whole w.recon at.stage whole part) report.NoSuchPartition report.NotFinished (let named : ReportValue = record { part = part; stage = at.stage } in named) given answer in
         ap (λ leader. (Done, record w { leader = Moving leader })) (counted at part given next so.2 counts)
         ∙ ap (λ b. if b then refuse w NoSuchPartition else (Done, record w { leader = Moving (record at { reported = with_mark at.reported part }) })) (sym so.0)
         ∙ sym (report_by (Moving at) part true is (all_told at part is ∙ so.1))
@@ -131,8 +131,8 @@ module _ (w : WorldValue) where
         → (Refused (report_refused fault), record w { leader = Moving at }) ≡ report_result w part
     report_fails at part fault is answer =
         ap (λ same. (Refused (report_refused fault), same)) (stays (Moving at) (Moving at) is refl)
-        ∙ not_made w (nat_le w.old.parts part) (has_all w.recon at.stage whole part) (let named : ReportValue = record { part = part; stage = at.stage } in named) fault (Done, record w { leader = Moving (record at { reported = with_mark at.reported part }) }) answer
-        ∙ sym (report_by (Moving at) part (has_all w.recon at.stage whole part) is (all_told at part is))
+        ∙ not_made w (nat_le w.old.parts part) (all_told_whole w.recon at.stage whole part) (let named : ReportValue = record { part = part; stage = at.stage } in named) fault (Done, record w { leader = Moving (record at { reported = with_mark at.reported part }) }) answer
+        ∙ sym (report_by (Moving at) part (all_told_whole w.recon at.stage whole part) is (all_told at part is))
 
   -- who reported, by the leader
   module _ (sound : IsSound w) (at : StageValue) (is : w.leader ≡ Moving at) where
@@ -162,7 +162,7 @@ module _ (w : WorldValue) where
         else if all_are i then (Done, record w { leader = after_next (is i); cores = map (entered_core (stage_of (is i) + 1)) w.cores })
         else refuse w NotFinished
 
-    pub next_went : (given : StageValue) → Ok given ≡ next_answer at → (Done, record w { leader = Moving given; cores = map (entered_core given.stage) w.cores }) ≡ next_result w
+    pub next_went : (given : StageValue) → Ok given ≡ answer_to_next at → (Done, record w { leader = Moving given; cores = map (entered_core given.stage) w.cores }) ≡ next_result w
     next_went given answer = by_tests (is_last at) (have_reported at) answer ∙ sym next_by
       where
         by_tests : (last all : Bool) → Ok given ≡ (let r : Result StageValue (RefusedCall StageValue NextFault) = if last then Err (record { leader = at; fault = next.LastStage }) else if all then Ok (next_stage at) else Err (record { leader = at; fault = next.NotFinished }) in r)
@@ -172,7 +172,7 @@ module _ (w : WorldValue) where
         by_tests false true is = ap (λ (value : StageValue). (Done, record w { leader = Moving value; cores = map (entered_core value.stage) w.cores })) (let same : given ≡ next_stage at = cc in same)
         by_tests false false is = absurd cc
 
-    pub next_fails : (back : RefusedCall StageValue NextFault) → Err back ≡ next_answer at → (Refused (next_refused back.fault), record w { leader = Moving back.leader }) ≡ next_result w
+    pub next_fails : (back : RefusedCall StageValue NextFault) → Err back ≡ answer_to_next at → (Refused (next_refused back.fault), record w { leader = Moving back.leader }) ≡ next_result w
     next_fails back answer = by_tests (is_last at) (have_reported at) answer ∙ sym next_by
       where
         same_world : record w { leader = Moving at } ≡ w
@@ -198,13 +198,13 @@ module _ (w : WorldValue) where
         else if (stage_of (is i) + 1 == stages (moves_are i)) && all_are i then (Done, record w { leader = after_finish (is i) })
         else refuse w NotFinished
 
-    pub finish_went : (given : StageValue) → Ok given ≡ finish_answer at → (Done, record w { leader = Ended given }) ≡ finish_result w
+    pub finish_went : (given : StageValue) → Ok given ≡ answer_to_finish at → (Done, record w { leader = Ended given }) ≡ finish_result w
     finish_went given answer =
         let so = passed (is_last at && have_reported at) (record { leader = at; fault = finish.NotFinished }) at given answer in
         ap (λ value. (Done, record w { leader = Ended value })) so.1
         ∙ sym (finish_by ∙ ap (λ b. if b then (Done, record w { leader = Ended at }) else refuse w NotFinished) so.0)
 
-    pub finish_fails : (back : RefusedCall StageValue FinishFault) → Err back ≡ finish_answer at → (Refused NotFinished, record w { leader = Moving back.leader }) ≡ finish_result w
+    pub finish_fails : (back : RefusedCall StageValue FinishFault) → Err back ≡ answer_to_finish at → (Refused NotFinished, record w { leader = Moving back.leader }) ≡ finish_result w
     finish_fails back answer =
         let so = failed (is_last at && have_reported at) (record { leader = at; fault = finish.NotFinished }) back at answer in
         ap (λ same. (Refused NotFinished, same)) (stays (Moving at) (Moving back.leader) is (ap (λ (r : RefusedCall StageValue FinishFault). Moving r.leader) so.1))

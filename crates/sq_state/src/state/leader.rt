@@ -1,6 +1,6 @@
 // The steps of the leader.
 ghost use Rattle.std.specs.Prelude.{◌≡◌, ℕ, ◌<◌, ◌≤◌, [], length, map, slice_index_or};
-ghost use Rattle.sq_leader.specs.Segments.{is_whole};
+ghost use Rattle.sq_leader.specs.Segments.{is_told_whole};
 ghost use Rattle.sq_leader.specs.declared.leader.Leader.{Leader};
 ghost use Rattle.sq_ranges.specs.declared.segment.TheConstants.{SEGMENT_LIMIT};
 ghost use Rattle.sq_ranges.specs.ReconValue.{no_moves};
@@ -186,7 +186,7 @@ fn enter_all(cores: &mut [PartCore<SlabStore>], stage: u64)
 // Which segments are whole, by their trees.
 fn whole_segments(trees: &[PlainTree]) -> [bool; SEGMENTS]
     requires { length trees.now ≤ SEGMENT_LIMIT }
-    ensures { (seg : ℕ) → seg < length trees.now → is_whole result seg ≡ is_complete_reading (reading (status_at (slice_index_or trees.now seg [])) 1) }
+    ensures { (seg : ℕ) → seg < length trees.now → is_told_whole result seg ≡ is_complete_reading (reading (status_at (slice_index_or trees.now seg [])) 1) }
 {
     let mut whole = [false; SEGMENTS];
     for (seg, tree) in trees.iter().enumerate() {

@@ -1,7 +1,7 @@
 use Rattle.std.proofs.Common.{◌≡◌, ℕ, ◌<◌, ◌||◌, not, true}
-use Rattle.sq_leader.specs.Segments.{is_into, is_whole}
+use Rattle.sq_leader.specs.Segments.{moves_into, is_told_whole}
 use Rattle.sq_leader.proofs.report.has_all.Given as goal
 
 -- each segment so far that moves into the partition in the stage is whole
 abbrev pub invariant-loop-seg : goal.invariant-loop-seg
-invariant-loop-seg l = (k : ℕ) → k < l.seg → (not (is_into l.recon l.stage l.part k) || is_whole l.whole k) ≡ true
+invariant-loop-seg l = (k : ℕ) → k < l.seg → (not (moves_into l.recon l.stage l.part k) || is_told_whole l.whole k) ≡ true

@@ -2,7 +2,7 @@ use Rattle.std.proofs.Common.{◌≡◌, List, Bool, sym, ap, ◌∙◌, subst}
 use Rattle.sq_tree.specs.declared.status.Status.{Status}
 use Rattle.sq_ranges.specs.Opening.{IsOpening}
 use Rattle.sq_leader.specs.LeaderValue.{StageValue}
-use Rattle.sq_leader.specs.Segments.{is_whole}
+use Rattle.sq_leader.specs.Segments.{is_told_whole}
 use Rattle.sq_node_model.specs.BeganWith.{BeganWith}
 use Rattle.sq_node_model.specs.Gathered.{GatheredValue}
 use Rattle.sq_gather.specs.Grown.{AreGrown}
@@ -40,14 +40,14 @@ told g c moved marks began ready =
     }
 
 -- what the leader did, by what the account has
-led_next : (g : Over) (c : In-Next g) → Leads c.args.ready.account.opening c.args.ready.moving.stage (is_whole c.moved_segments-moved.result) (Next c.in-Next.moving)
-led_next g c = subst (λ (a : AccountValue). Leads a.opening c.args.ready.moving.stage (is_whole c.moved_segments-moved.result) (Next c.in-Next.moving)) c.account.view_is c.in-Next.ensures
+led_next : (g : Over) (c : In-Next g) → Leads c.args.ready.account.opening c.args.ready.moving.stage (is_told_whole c.moved_segments-moved.result) (Next c.in-Next.moving)
+led_next g c = subst (λ (a : AccountValue). Leads a.opening c.args.ready.moving.stage (is_told_whole c.moved_segments-moved.result) (Next c.in-Next.moving)) c.account.view_is c.in-Next.ensures
 
-led_end : (g : Over) (c : In-Ended g) → Leads c.args.ready.account.opening c.args.ready.moving.stage (is_whole c.moved_segments-moved.result) Ended
-led_end g c = subst (λ (a : AccountValue). Leads a.opening c.args.ready.moving.stage (is_whole c.moved_segments-moved.result) Ended) c.account.view_is c.in-Ended.ensures
+led_end : (g : Over) (c : In-Ended g) → Leads c.args.ready.account.opening c.args.ready.moving.stage (is_told_whole c.moved_segments-moved.result) Ended
+led_end g c = subst (λ (a : AccountValue). Leads a.opening c.args.ready.moving.stage (is_told_whole c.moved_segments-moved.result) Ended) c.account.view_is c.in-Ended.ensures
 
-led_missing : (g : Over) (c : In-Missing g) → Leads c.args.ready.account.opening c.args.ready.moving.stage (is_whole c.moved_segments-moved.result) Missing
-led_missing g c = subst (λ (a : AccountValue). Leads a.opening c.args.ready.moving.stage (is_whole c.moved_segments-moved.result) Missing) c.account.view_is c.in-Missing.ensures
+led_missing : (g : Over) (c : In-Missing g) → Leads c.args.ready.account.opening c.args.ready.moving.stage (is_told_whole c.moved_segments-moved.result) Missing
+led_missing g c = subst (λ (a : AccountValue). Leads a.opening c.args.ready.moving.stage (is_told_whole c.moved_segments-moved.result) Missing) c.account.view_is c.in-Missing.ensures
 
 -- what the run goes on with
 continues : (g : Over) (c : In-With g) → ContinuesWith c.args.manner.folds c.args.ready.account c.in_ok-gathered.gathered c.in-With.account c.in-With.gathered
@@ -55,7 +55,7 @@ continues g c = subst (Continues c.args.manner.folds c.args.ready.account c.in_o
 
 goes : (g : Over) (d : After-deref g) (n : In-Next g) (c : In-With g)
     → WasTold c.args.ready.account c.args.ready.moving c.requires.ready.0 c.in_ok-gathered.gathered c.moved_segments-moved.result
-    → Leads c.args.ready.account.opening c.args.ready.moving.stage (is_whole c.moved_segments-moved.result) (Next c.in-Next.moving)
+    → Leads c.args.ready.account.opening c.args.ready.moving.stage (is_told_whole c.moved_segments-moved.result) (Next c.in-Next.moving)
     → GoesOnWith c.args.ready.account c.in_ok-gathered.gathered c.in-With.account c.in-With.gathered
 goes g d n c told led =
     goes_on_with c.args.ready.account c.in_ok-gathered.gathered c.in-With.account c.in-With.gathered c.args.manner.folds (continues g c) told.ran.placed

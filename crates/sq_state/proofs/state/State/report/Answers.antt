@@ -1,6 +1,6 @@
 use Rattle.std.proofs.Common.{◌≡◌, ℕ, ◌<◌, Bool, List, [], length, subst, sym, ap, ◌∙◌}
 use Rattle.std.specs.Prelude.{slice_index_or}
-use Rattle.sq_leader.specs.Segments.{is_whole}
+use Rattle.sq_leader.specs.Segments.{is_told_whole}
 use Rattle.sq_leader.specs.Leader.{made_answer}
 use Rattle.sq_leader.specs.declared.leader.Leader.TheVariants.{Moving}
 use Rattle.sq_tree.specs.declared.status.Status.{Status}
@@ -17,12 +17,12 @@ use Rattle.sq_state.proofs.state.State.report.Goals.{After-made}
 
 -- what is told of each tree is told of each segment of the world whose trees they are
 told_of : (w : WorldValue) (trees : List (List Status)) (whole : List Bool) → trees ≡ w.trees
-    → ((seg : ℕ) → seg < length trees → is_whole whole seg ≡ is_complete_reading (reading (status_at (slice_index_or trees seg [])) 1))
-    → (seg : ℕ) → seg < length w.trees → is_whole whole seg ≡ is_segment_whole w seg
+    → ((seg : ℕ) → seg < length trees → is_told_whole whole seg ≡ is_complete_reading (reading (status_at (slice_index_or trees seg [])) 1))
+    → (seg : ℕ) → seg < length w.trees → is_told_whole whole seg ≡ is_segment_whole w seg
 told_of w trees whole same told =
-    subst (λ (seen : List (List Status)). (seg : ℕ) → seg < length seen → is_whole whole seg ≡ is_complete_reading (reading (status_at (slice_index_or seen seg [])) 1)) same told
+    subst (λ (seen : List (List Status)). (seg : ℕ) → seg < length seen → is_told_whole whole seg ≡ is_complete_reading (reading (status_at (slice_index_or seen seg [])) 1)) same told
 
-told : (c : After-made) → let w = c.args.self.now in (seg : ℕ) → seg < length w.trees → is_whole c.whole_segments-whole.result seg ≡ is_segment_whole w seg
+told : (c : After-made) → let w = c.args.self.now in (seg : ℕ) → seg < length w.trees → is_told_whole c.whole_segments-whole.result seg ≡ is_segment_whole w seg
 told c =
     let opened = c.self.view_is ∙ c.take_leader.ensures.after in
     told_of c.args.self.now c.deref.result.now c.whole_segments-whole.result (c.deref.ensures.value ∙ ap (λ (v : WorldValue). v.trees) opened) c.whole_segments-whole.ensures

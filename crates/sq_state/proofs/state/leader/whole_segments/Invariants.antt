@@ -1,6 +1,6 @@
 use Rattle.std.proofs.Common.{◌≡◌, ℕ, ◌<◌, [], length}
 use Rattle.std.specs.Prelude.{slice_index_or}
-use Rattle.sq_leader.specs.Segments.{is_whole}
+use Rattle.sq_leader.specs.Segments.{is_told_whole}
 use Rattle.sq_ranges.specs.declared.segment.TheConstants.{SEGMENT_LIMIT}
 use Rattle.sq_tree.specs.Status.{reading}
 use Rattle.sq_tree.specs.Tree.{status_at}
@@ -11,5 +11,5 @@ use Rattle.sq_state.proofs.state.leader.whole_segments.Given as goal
 abbrev pub invariant-loop-seg : goal.invariant-loop-seg
 invariant-loop-seg l = record {
   room : length l.whole ≡ SEGMENT_LIMIT;
-  each : (seg : ℕ) → seg < l.seg → is_whole l.whole seg ≡ is_complete_reading (reading (status_at (slice_index_or l.trees seg [])) 1);
+  each : (seg : ℕ) → seg < l.seg → is_told_whole l.whole seg ≡ is_complete_reading (reading (status_at (slice_index_or l.trees seg [])) 1);
 }
