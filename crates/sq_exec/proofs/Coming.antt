@@ -16,7 +16,7 @@ use Rattle.sq_exec.specs.declared.run.Run.{Run}
 use Rattle.sq_exec.specs.Runs.{is_loaded, runs_with}
 use Rattle.sq_exec.specs.CoreValue.{CoreValue, PartCoreValue}
 use Rattle.sq_exec.specs.Moving.{loaded_core}
-use Rattle.sq_exec.specs.Location.{location_in, is_coming, is_coming_from}
+use Rattle.sq_exec.specs.Location.{location_in, is_coming_here, is_coming_from}
 use Rattle.sq_exec.specs.Kept.{is_due_here, IsCore}
 use Rattle.sq_exec.proofs.Runs.{loaded-runs_with}
 use Rattle.sq_exec.proofs.Kept.{still_core}
@@ -39,7 +39,7 @@ coming_in recon stage started part loaded root i segment = started && ((stage_in
 abbrev pub coming_by : ℕ → Bool → ℕ → ReconValue → List (List Run) → ℕ → Bool
 coming_by stage started part recon loaded root = option_map_or (λ at. option_map_or (coming_in recon stage started part loaded root at.0) (slice_get recon.segments at.0) false) (leaf_at recon root) false
 
-pub coming_is : (core : CoreValue) (root : ℕ) → is_coming core root ≡ coming_by core.stage core.started core.part core.recon core.loaded root
+pub coming_is : (core : CoreValue) (root : ℕ) → is_coming_here core root ≡ coming_by core.stage core.started core.part core.recon core.loaded root
 coming_is core root = by_leaf (leaf_at core.recon root)
   where
     by_segment : (at : ℕ × ℕ) (read : Option Range) → is_coming_from core (option_map (location_in core root at) read) ≡ option_map_or (coming_in core.recon core.stage core.started core.part core.loaded root at.0) read false

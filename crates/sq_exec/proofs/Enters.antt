@@ -6,14 +6,14 @@ use Rattle.sq_schema.specs.TxnValue.{TxnValue}
 use Rattle.sq_ranges.specs.ReconValue.{leaf_at}
 use Rattle.sq_waiting.specs.Waiting.{Arrival, WaitingValue, txns_of, numbers_of, due_if, with_due}
 use Rattle.sq_exec.specs.CoreValue.{CoreValue, Numbering, PartCoreValue, entered_core}
-use Rattle.sq_exec.specs.Location.{is_coming}
+use Rattle.sq_exec.specs.Location.{is_coming_here}
 use Rattle.sq_exec.specs.Kept.{is_due_here, IsCore}
 use Rattle.sq_exec.proofs.Loads.{same_waiting, same_numbering, more_by}
 
 -- whatever comes here, all are due once all were made due
 all_are_due : (core : CoreValue) (arrivals : List Arrival) → list_all (is_due_here core) (map (due_if (λ a. true)) arrivals) ≡ true
 all_are_due core [] = refl
-all_are_due core (a ∷ arrivals) = λ k. due a.is_due (is_coming core (a.txn).root) k && all_are_due core arrivals k
+all_are_due core (a ∷ arrivals) = λ k. due a.is_due (is_coming_here core (a.txn).root) k && all_are_due core arrivals k
   where
     due : (x y : Bool) → ((x || true) || y) ≡ true
     due true y = refl

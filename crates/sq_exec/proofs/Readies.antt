@@ -13,17 +13,17 @@ use Rattle.sq_waiting.specs.Waiting.{Arrival, txns_of, numbers_of, is_on, is_due
 use Rattle.sq_exec.specs.declared.fault.ResumeFault.{ResumeFault}
 use Rattle.sq_exec.specs.declared.fault.ResumeFault.TheVariants.{NoneReady, LogFull}
 use Rattle.sq_exec.specs.CoreValue.{CoreValue}
-use Rattle.sq_exec.specs.Serving.{is_stuck, is_ready, stays_by, graver, first_ready, resume_refusal}
+use Rattle.sq_exec.specs.Serving.{is_stuck, is_ready_here, stays_by, graver, first_ready_here, resume_refusal}
 use Rattle.sq_exec.specs.Kept.{is_due_here}
-use Rattle.sq_exec.specs.Location.{is_coming, route}
+use Rattle.sq_exec.specs.Location.{is_coming_here, route}
 use Rattle.sq_exec.proofs.Coming.{all_follow}
 use Rattle.sq_exec.proofs.Due.{pass_below, pass_unless_due, none_left, from_found, one_more, first_found, position_or_len-map, slice_get-map, position_at, no_position}
 
 abbrev pub comes : CoreValue → Arrival → Bool
-comes core a = is_coming core (a.txn).root
+comes core a = is_coming_here core (a.txn).root
 
 abbrev pub is_off : CoreValue → Arrival → Bool
-is_off core a = not (is_ready core a.txn)
+is_off core a = not (is_ready_here core a.txn)
 
 -- what was found, with its number and transaction
 abbrev pub seen_as : Arrival → ℕ × TxnValue
@@ -63,7 +63,7 @@ and_true false = refl
 
 module _ (core : CoreValue) (arrivals : List Arrival) (due : list_all (is_due_here core) arrivals ≡ true) where
   off_unless_due : list_all (pass_unless_due (is_off core)) arrivals ≡ true
-  off_unless_due = all_follow (is_due_here core) (pass_unless_due (is_off core)) (λ a. a) (λ a here. follows a.is_due (is_coming core (a.txn).root) (is_stuck core.part (route core (a.txn).root) core.store a.txn) here) arrivals due
+  off_unless_due = all_follow (is_due_here core) (pass_unless_due (is_off core)) (λ a. a) (λ a here. follows a.is_due (is_coming_here core (a.txn).root) (is_stuck core.part (route core (a.txn).root) core.store a.txn) here) arrivals due
     where
       follows : (d c s : Bool) → (d || c) ≡ true → (d || not (not c && not s)) ≡ true
       follows true c s h = refl
@@ -75,67 +75,67 @@ module _ (core : CoreValue) (arrivals : List Arrival) (due : list_all (is_due_he
     not_below = omega (arith, from_found (comes core) from found.arrival arrivals found.is, found.number_is)
 
     module _ (rises : IsStrictlyIncreasing (numbers_of arrivals)) where
-      more_come : list_all (pass_below (comes core) (number + 1)) arrivals ≡ (list_all (pass_below (comes core) from) arrivals && is_coming core txn.root)
+      more_come : list_all (pass_below (comes core) (number + 1)) arrivals ≡ (list_all (pass_below (comes core) from) arrivals && is_coming_here core txn.root)
       more_come =
           ap (λ n. list_all (pass_below (comes core) (n + 1)) arrivals) (sym found.number_is)
           ∙ one_more (comes core) from found.arrival arrivals (sorted_from_strictly_increasing (numbers_of arrivals) rises) found.is due
-          ∙ ap (λ t. list_all (pass_below (comes core) from) arrivals && is_coming core t.root) found.txn_is
+          ∙ ap (λ t. list_all (pass_below (comes core) from) arrivals && is_coming_here core t.root) found.txn_is
 
       -- one that doesn't go
-      pub one_stays : (fault before other : ResumeFault) → other ≡ stays_by (is_coming core txn.root) → before ≡ stays_by (list_all (pass_below (comes core) from) arrivals) → fault ≡ graver before other
+      pub one_stays : (fault before other : ResumeFault) → other ≡ stays_by (is_coming_here core txn.root) → before ≡ stays_by (list_all (pass_below (comes core) from) arrivals) → fault ≡ graver before other
           → fault ≡ stays_by (list_all (pass_below (comes core) (number + 1)) arrivals)
-      one_stays fault before other why was is = is ∙ ap (graver before) why ∙ joined (is_coming core txn.root) ∙ sym (ap stays_by more_come)
+      one_stays fault before other why was is = is ∙ ap (graver before) why ∙ joined (is_coming_here core txn.root) ∙ sym (ap stays_by more_come)
         where
           joined : (coming : Bool) → graver before (stays_by coming) ≡ stays_by (list_all (pass_below (comes core) from) arrivals && coming)
           joined true = was ∙ sym (ap stays_by (and_true (list_all (pass_below (comes core) from) arrivals)))
           joined false = sym (ap stays_by (and_false (list_all (pass_below (comes core) from) arrivals)))
 
       -- one that isn't ready
-      pub one_off : is_ready core txn ≡ false → list_all (pass_below (is_off core) from) arrivals ≡ true → list_all (pass_below (is_off core) (number + 1)) arrivals ≡ true
+      pub one_off : is_ready_here core txn ≡ false → list_all (pass_below (is_off core) from) arrivals ≡ true → list_all (pass_below (is_off core) (number + 1)) arrivals ≡ true
       one_off off none =
           ap (λ n. list_all (pass_below (is_off core) (n + 1)) arrivals) (sym found.number_is)
           ∙ one_more (is_off core) from found.arrival arrivals (sorted_from_strictly_increasing (numbers_of arrivals) rises) found.is off_unless_due
-          ∙ (λ k. none k && not ((ap (is_ready core) found.txn_is ∙ off) k))
+          ∙ (λ k. none k && not ((ap (is_ready_here core) found.txn_is ∙ off) k))
 
     -- one that is ready is the first
-    pub one_ready : is_ready core txn ≡ true → list_all (pass_below (is_off core) from) arrivals ≡ true
-        → (place : ℕ) × (position (is_ready core) (txns_of arrivals) ≡ Some place) × (slice_get (numbers_of arrivals) place ≡ Some number) × (slice_get (txns_of arrivals) place ≡ Some txn)
+    pub one_ready : is_ready_here core txn ≡ true → list_all (pass_below (is_off core) from) arrivals ≡ true
+        → (place : ℕ) × (position (is_ready_here core) (txns_of arrivals) ≡ Some place) × (slice_get (numbers_of arrivals) place ≡ Some number) × (slice_get (txns_of arrivals) place ≡ Some txn)
     one_ready ready none =
-        let first = first_found (is_off core) from found.arrival arrivals found.is off_unless_due none (ap not (ap (is_ready core) found.txn_is ∙ ready)) in
+        let first = first_found (is_off core) from found.arrival arrivals found.is off_unless_due none (ap not (ap (is_ready_here core) found.txn_is ∙ ready)) in
         let place = first.0 in
-        let at : position_or_len (is_ready core) (txns_of arrivals) ≡ place =
-        position_or_len-map (λ (a : Arrival). a.txn) (is_ready core) (λ a. not (is_off core a)) (λ a. not_not (is_ready core a.txn)) arrivals ∙ first.1 in (
+        let at : position_or_len (is_ready_here core) (txns_of arrivals) ≡ place =
+        position_or_len-map (λ (a : Arrival). a.txn) (is_ready_here core) (λ a. not (is_off core a)) (λ a. not_not (is_ready_here core a.txn)) arrivals ∙ first.1 in (
           place,
-          position_at (is_ready core) (txns_of arrivals) place at (omega (arith, first.3, length-map arrivals (λ (a : Arrival). a.txn))),
+          position_at (is_ready_here core) (txns_of arrivals) place at (omega (arith, first.3, length-map arrivals (λ (a : Arrival). a.txn))),
           slice_get-map (λ (a : Arrival). a.number) arrivals place found.arrival first.2 ∙ ap Some found.number_is,
           slice_get-map (λ (a : Arrival). a.txn) arrivals place found.arrival first.2 ∙ ap Some found.txn_is,
         )
 
     -- and goes to this partition
-    pub one_goes : (who : ℕ) → who ≡ route core txn.root → is_ready core txn ≡ true → list_all (pass_below (is_off core) from) arrivals ≡ true → core.waiting ≡ txns_of arrivals
-        → option_map (λ (t : TxnValue). route core t.root) (first_ready core) ≡ Some who
+    pub one_goes : (who : ℕ) → who ≡ route core txn.root → is_ready_here core txn ≡ true → list_all (pass_below (is_off core) from) arrivals ≡ true → core.waiting ≡ txns_of arrivals
+        → option_map (λ (t : TxnValue). route core t.root) (first_ready_here core) ≡ Some who
     one_goes who who_is ready none waiting_is =
         let first = one_ready ready none in
-        let chosen : first_ready core ≡ Some txn =
-        (λ k. option_and_then (slice_get (waiting_is k)) (position (is_ready core) (waiting_is k))) ∙ ap (option_and_then (slice_get (txns_of arrivals))) first.1 ∙ first.3 in
+        let chosen : first_ready_here core ≡ Some txn =
+        (λ k. option_and_then (slice_get (waiting_is k)) (position (is_ready_here core) (waiting_is k))) ∙ ap (option_and_then (slice_get (txns_of arrivals))) first.1 ∙ first.3 in
         ap (option_map (λ (t : TxnValue). route core t.root)) chosen ∙ ap Some (sym who_is)
 
   -- none is ready
   pub none_is_ready : (from : ℕ) (fault : ResumeFault) → find (is_due_from from) arrivals ≡ None → list_all (pass_below (is_off core) from) arrivals ≡ true → fault ≡ stays_by (list_all (pass_below (comes core) from) arrivals)
       → core.waiting ≡ txns_of arrivals → Some fault ≡ resume_refusal core
-  none_is_ready from fault none off fault_is waiting_is = ap Some (fault_is ∙ ap stays_by all_come) ∙ by_all (list_all (λ txn. is_coming core txn.root) core.waiting) refl
+  none_is_ready from fault none off fault_is waiting_is = ap Some (fault_is ∙ ap stays_by all_come) ∙ by_all (list_all (λ txn. is_coming_here core txn.root) core.waiting) refl
     where
-      all_come : list_all (pass_below (comes core) from) arrivals ≡ list_all (λ txn. is_coming core txn.root) core.waiting
-      all_come = none_left (comes core) from arrivals none due ∙ sym (list_all-map (λ (txn : TxnValue). is_coming core txn.root) (λ (a : Arrival). a.txn) arrivals) ∙ ap (list_all (λ txn. is_coming core txn.root)) (sym waiting_is)
+      all_come : list_all (pass_below (comes core) from) arrivals ≡ list_all (λ txn. is_coming_here core txn.root) core.waiting
+      all_come = none_left (comes core) from arrivals none due ∙ sym (list_all-map (λ (txn : TxnValue). is_coming_here core txn.root) (λ (a : Arrival). a.txn) arrivals) ∙ ap (list_all (λ txn. is_coming_here core txn.root)) (sym waiting_is)
 
-      nowhere : position (is_ready core) core.waiting ≡ None
+      nowhere : position (is_ready_here core) core.waiting ≡ None
       nowhere =
-          ap (position (is_ready core)) waiting_is
-          ∙ no_position (is_ready core) (txns_of arrivals)
-          (list_all-map (λ (txn : TxnValue). not (is_ready core txn)) (λ (a : Arrival). a.txn) arrivals ∙ sym (none_left (is_off core) from arrivals none off_unless_due) ∙ off)
+          ap (position (is_ready_here core)) waiting_is
+          ∙ no_position (is_ready_here core) (txns_of arrivals)
+          (list_all-map (λ (txn : TxnValue). not (is_ready_here core txn)) (λ (a : Arrival). a.txn) arrivals ∙ sym (none_left (is_off core) from arrivals none off_unless_due) ∙ off)
 
-      by_all : (b : Bool) → list_all (λ txn. is_coming core txn.root) core.waiting ≡ b → Some (stays_by (list_all (λ txn. is_coming core txn.root) core.waiting)) ≡ resume_refusal core
-      by_all true all = ap (λ b. Some (stays_by b)) all ∙ sym (ap (λ b. if b then Some NoneReady else if is_none (position (is_ready core) core.waiting) then Some LogFull else None) all)
+      by_all : (b : Bool) → list_all (λ txn. is_coming_here core txn.root) core.waiting ≡ b → Some (stays_by (list_all (λ txn. is_coming_here core txn.root) core.waiting)) ≡ resume_refusal core
+      by_all true all = ap (λ b. Some (stays_by b)) all ∙ sym (ap (λ b. if b then Some NoneReady else if is_none (position (is_ready_here core) core.waiting) then Some LogFull else None) all)
       by_all false all = ap (λ b. Some (stays_by b)) all ∙ sym (λ k. if all k then Some NoneReady else if is_none (nowhere k) then Some LogFull else None)
 
 -- whether one waits for a root key

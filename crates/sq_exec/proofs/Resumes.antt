@@ -14,8 +14,8 @@ use Rattle.sq_waiting.proofs.Arrivals.{IsAt, at_number, is_there}
 use Rattle.sq_exec.specs.declared.fault.ResumeFault.TheVariants.{NoneReady, LogFull}
 use Rattle.sq_exec.specs.declared.outcome.Outcome.{Outcome}
 use Rattle.sq_exec.specs.CoreValue.{CoreValue, Numbering, PartCoreValue}
-use Rattle.sq_exec.specs.Location.{is_coming, route}
-use Rattle.sq_exec.specs.Serving.{is_stuck, served, is_ready, first_ready, resume_refusal, resume_takes_memory, IsResumed}
+use Rattle.sq_exec.specs.Location.{is_coming_here, route}
+use Rattle.sq_exec.specs.Serving.{is_stuck, served, is_ready_here, first_ready_here, resume_refusal, resume_takes_memory, IsResumed}
 use Rattle.sq_exec.specs.Kept.{is_due_here}
 use Rattle.sq_exec.specs.Numbering.{IsFirstReady, TakesNumber}
 
@@ -34,18 +34,18 @@ list_all-remove p [] (suc i) all = refl
 list_all-remove p (x ∷ xs) zero all = and_right (p x) (list_all p xs) all
 list_all-remove p (x ∷ xs) (suc i) all = λ k. and_left (p x) (list_all p xs) all k && list_all-remove p xs i (and_right (p x) (list_all p xs) all) k
 
-module _ (core : CoreValue) (place : ℕ) (first : position (is_ready core) core.waiting ≡ Some place) where
+module _ (core : CoreValue) (place : ℕ) (first : position (is_ready_here core) core.waiting ≡ Some place) where
   abbrev none : TxnValue
   none = record { id = 0; root = 0; ops = [] }
 
   -- where one is ready, nothing refuses
   pub nothing_refuses : resume_refusal core ≡ None
   nothing_refuses =
-      let ready = position-Some (is_ready core) core.waiting place none first in
+      let ready = position-Some (is_ready_here core) core.waiting place none first in
       let here : TxnValue = get_or core.waiting place none in
-      let not_coming : is_coming core here.root ≡ false =
-      was_false (is_coming core here.root) (and_left (not (is_coming core here.root)) (not (is_stuck core.part (route core here.root) core.store here)) ready.1) in
-      let not_all : list_all (λ txn. is_coming core txn.root) core.waiting ≡ false = list_all_at (λ txn. is_coming core txn.root) core.waiting place none ready.0 not_coming in
+      let not_coming : is_coming_here core here.root ≡ false =
+      was_false (is_coming_here core here.root) (and_left (not (is_coming_here core here.root)) (not (is_stuck core.part (route core here.root) core.store here)) ready.1) in
+      let not_all : list_all (λ txn. is_coming_here core txn.root) core.waiting ≡ false = list_all_at (λ txn. is_coming_here core txn.root) core.waiting place none ready.0 not_coming in
       λ k. if not_all k then Some NoneReady else if is_none (first k) then Some LogFull else None
     where
       was_false : (b : Bool) → not b ≡ true → b ≡ false
@@ -55,14 +55,14 @@ module _ (core : CoreValue) (place : ℕ) (first : position (is_ready core) core
   -- it takes memory to run it
   pub runs_here : (txn : TxnValue) → slice_get core.waiting place ≡ Some txn → route core txn.root ≡ core.part → IsTrue (resume_takes_memory core)
   runs_here txn there same =
-      let chosen : first_ready core ≡ Some txn = ap (option_and_then (slice_get core.waiting)) first ∙ there in
+      let chosen : first_ready_here core ≡ Some txn = ap (option_and_then (slice_get core.waiting)) first ∙ there in
       ap (λ t. option_map_or (λ txn. route core txn.root == core.part) t false) chosen ∙ eq-eqb (route core txn.root) core.part same
 
 -- the partition that the first ready transaction goes to
-routed : {seen now : PartCoreValue} → seen ≡ now → (place who : ℕ) (txn : TxnValue) → position (is_ready now.core) now.core.waiting ≡ Some place → slice_get seen.core.waiting place ≡ Some txn
-    → option_map (λ (t : TxnValue). route now.core t.root) (first_ready now.core) ≡ Some who → who ≡ route seen.core txn.root
+routed : {seen now : PartCoreValue} → seen ≡ now → (place who : ℕ) (txn : TxnValue) → position (is_ready_here now.core) now.core.waiting ≡ Some place → slice_get seen.core.waiting place ≡ Some txn
+    → option_map (λ (t : TxnValue). route now.core t.root) (first_ready_here now.core) ≡ Some who → who ≡ route seen.core txn.root
 routed {seen} {now} view_is place who txn first there goes =
-    let chosen : first_ready now.core ≡ Some txn = ap (option_and_then (slice_get now.core.waiting)) first ∙ ap (λ (v : PartCoreValue). slice_get v.core.waiting place) (sym view_is) ∙ there in
+    let chosen : first_ready_here now.core ≡ Some txn = ap (option_and_then (slice_get now.core.waiting)) first ∙ ap (λ (v : PartCoreValue). slice_get v.core.waiting place) (sym view_is) ∙ there in
     let both : Some (route now.core txn.root) ≡ Some who = sym (ap (option_map (λ (t : TxnValue). route now.core t.root)) chosen) ∙ goes in
     let same : route now.core txn.root ≡ who = cc in
     sym same ∙ ap (λ (v : PartCoreValue). route v.core txn.root) (sym view_is)
@@ -103,13 +103,13 @@ module _ {seen now : PartCoreValue} (view_is : seen ≡ now) (number : ℕ) (rea
 
     -- the parts of the partition are those of the definition
     pub was_resumed : (left : List Arrival) → left ≡ without number arrivals → (read txn : TxnValue) (who : ℕ) (outcome : Outcome) (store : StoreValue)
-        → Some read ≡ txn_at arrivals number → Some txn ≡ txn_at arrivals number → option_map (λ (t : TxnValue). route now.core t.root) (first_ready now.core) ≡ Some who
+        → Some read ≡ txn_at arrivals number → Some txn ≡ txn_at arrivals number → option_map (λ (t : TxnValue). route now.core t.root) (first_ready_here now.core) ≡ Some who
         → outcome ≡ (served seen.core.part who seen.core.store read).0 → store ≡ (served seen.core.part who seen.core.store read).1
         → IsResumed now.core (record { txn = txn; outcome = outcome }) (record seen.core { store = store; waiting = txns_of left })
     was_resumed left left_is read txn who outcome store read_is txn_is goes outcome_is store_is =
         let core = seen.core in
         let place = ready.place in
-        let first : position (is_ready core) core.waiting ≡ Some place = ap (λ (v : PartCoreValue). position (is_ready v.core) v.core.waiting) view_is ∙ ready.first in
+        let first : position (is_ready_here core) core.waiting ≡ Some place = ap (λ (v : PartCoreValue). position (is_ready_here v.core) v.core.waiting) view_is ∙ ready.first in
         let both : Some read ≡ Some txn = read_is ∙ sym txn_is in
         let same : read ≡ txn = cc in
         let there : slice_get core.waiting place ≡ Some txn = ap (λ txns. slice_get txns place) (sym waiting_is) ∙ txn_by_place arrivals place number at txn txn_is in
@@ -136,11 +136,11 @@ module _ {seen now : PartCoreValue} (view_is : seen ≡ now) (number : ℕ) (rea
     }
 
     -- the one that didn't find memory runs here
-    pub memory_here : (read : TxnValue) (who here : ℕ) → Some read ≡ txn_at arrivals number → option_map (λ (t : TxnValue). route now.core t.root) (first_ready now.core) ≡ Some who
+    pub memory_here : (read : TxnValue) (who here : ℕ) → Some read ≡ txn_at arrivals number → option_map (λ (t : TxnValue). route now.core t.root) (first_ready_here now.core) ≡ Some who
         → here ≡ seen.core.part → who ≡ here → IsTrue (resume_takes_memory now.core)
     memory_here read who here read_is goes here_is same =
         let core = seen.core in
-        let first : position (is_ready core) core.waiting ≡ Some ready.place = ap (λ (v : PartCoreValue). position (is_ready v.core) v.core.waiting) view_is ∙ ready.first in
+        let first : position (is_ready_here core) core.waiting ≡ Some ready.place = ap (λ (v : PartCoreValue). position (is_ready_here v.core) v.core.waiting) view_is ∙ ready.first in
         let there : slice_get core.waiting ready.place ≡ Some read = ap (λ txns. slice_get txns ready.place) (sym waiting_is) ∙ txn_by_place arrivals ready.place number at read read_is in
         subst (λ (v : PartCoreValue). IsTrue (resume_takes_memory v.core)) view_is
         (runs_here core ready.place first read there (sym (routed view_is ready.place who read ready.first there goes) ∙ same ∙ here_is))

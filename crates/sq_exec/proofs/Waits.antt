@@ -14,7 +14,7 @@ use Rattle.sq_exec.specs.declared.location.Location.{Location}
 use Rattle.sq_exec.specs.CoreValue.{CoreValue, Numbering, PartCoreValue}
 use Rattle.sq_exec.specs.Kept.{is_due_here, IsCore}
 use Rattle.sq_exec.specs.Numbering.{counted_from, with_arrival}
-use Rattle.sq_exec.specs.Location.{location, location_in, is_coming, is_coming_from, waits_for}
+use Rattle.sq_exec.specs.Location.{location, location_in, is_coming_here, is_coming_from, waits_for}
 use Rattle.sq_exec.specs.Serving.{must_wait}
 use Rattle.sq_exec.proofs.Kept.{still_core}
 
@@ -79,13 +79,13 @@ module _ (w : WaitingValue) (txn : TxnValue) (is_due : Bool) where
       by_left true = map-append (λ (a : Arrival). a.txn) (numbered_from 0 w.arrivals) (record { number = length w.arrivals; txn = txn; is_due = is_due } ∷ []) ∙ ap (λ txns. txns ++ txn ∷ []) (txns-numbered_from 0 w.arrivals)
       by_left false = map-append (λ (a : Arrival). a.txn) w.arrivals (record { number = w.next; txn = txn; is_due = is_due } ∷ [])
 
-  pub due_pushed : (core : CoreValue) → list_all (is_due_here core) w.arrivals ≡ true → (is_due || is_coming core txn.root) ≡ true → list_all (is_due_here core) pushed.arrivals ≡ true
+  pub due_pushed : (core : CoreValue) → list_all (is_due_here core) w.arrivals ≡ true → (is_due || is_coming_here core txn.root) ≡ true → list_all (is_due_here core) pushed.arrivals ≡ true
   due_pushed core all last = by_left (w.next == no_number)
     where
       by_left : (b : Bool) → list_all (is_due_here core) (pushed_if b).arrivals ≡ true
       by_left true =
           list_all-append (is_due_here core) (numbered_from 0 w.arrivals) (record { number = length w.arrivals; txn = txn; is_due = is_due } ∷ [])
-          ∙ (λ k. (all-numbered_from (λ t d. d || is_coming core t.root) 0 w.arrivals ∙ all) k && (last k && true))
+          ∙ (λ k. (all-numbered_from (λ t d. d || is_coming_here core t.root) 0 w.arrivals ∙ all) k && (last k && true))
       by_left false = list_all-append (is_due_here core) w.arrivals (record { number = w.next; txn = txn; is_due = is_due } ∷ []) ∙ (λ k. all k && (last k && true))
 
   pub numbering_pushed : ◌≡◌ {A = Numbering} (record { numbers = numbers_of pushed.arrivals; next = pushed.next }) (with_arrival (record { numbers = numbers_of w.arrivals; next = w.next }))
@@ -123,11 +123,11 @@ due_or_comes false true same = refl
 
 -- the partition keeps what holds of it when one more waits
 pub waits_kept : {seen now : PartCoreValue} → seen ≡ now → (w more : WaitingValue) (txn : TxnValue) (is_due : Bool) (at : Location) → IsCore seen.core w.arrivals → txns_of w.arrivals ≡ seen.core.waiting → more ≡ with_last (with_a_number_left w) txn is_due
-    → location now.core txn.root ≡ Some at → (is_due || is_coming now.core txn.root) ≡ true → IsCore (record seen.core { waiting = txns_of more.arrivals }) more.arrivals
+    → location now.core txn.root ≡ Some at → (is_due || is_coming_here now.core txn.root) ≡ true → IsCore (record seen.core { waiting = txns_of more.arrivals }) more.arrivals
 waits_kept {seen} {now} view_is w more txn is_due at is waiting_is more_is moves due =
     let core = seen.core in
     let leaf : is_some (leaf_at core.recon txn.root) ≡ true = ap (λ (v : PartCoreValue). is_some (leaf_at v.core.recon txn.root)) view_is ∙ has_leaf now.core txn.root at moves in
-    let here : (is_due || is_coming core txn.root) ≡ true = ap (λ (v : PartCoreValue). is_due || is_coming v.core txn.root) view_is ∙ due in
+    let here : (is_due || is_coming_here core txn.root) ≡ true = ap (λ (v : PartCoreValue). is_due || is_coming_here v.core txn.root) view_is ∙ due in
     still_core is core.started core.store (txns_of more.arrivals) more.arrivals
     (ap (λ (v : WaitingValue). list_all (λ t. is_some (leaf_at core.recon t.root)) (txns_of v.arrivals)) more_is ∙ ap (list_all (λ t. is_some (leaf_at core.recon t.root))) (txns_pushed w txn is_due ∙ ap (λ ts. ts ++ txn ∷ []) waiting_is)
     ∙ list_all-append (λ (t : TxnValue). is_some (leaf_at core.recon t.root)) core.waiting (txn ∷ []) ∙ (λ k. is.moving k && (leaf k && true)))

@@ -4,11 +4,11 @@ use Rattle.std.specs.List.{list_all}
 use Rattle.sq_ranges.specs.ReconValue.{leaf_at}
 use Rattle.sq_waiting.specs.Waiting.{Arrival}
 use Rattle.sq_exec.specs.CoreValue.{CoreValue, has_ends}
-use Rattle.sq_exec.specs.Location.{is_coming}
+use Rattle.sq_exec.specs.Location.{is_coming_here}
 
 -- the waiting transaction is due, or its rows are on their way here
 abbrev pub is_due_here : CoreValue → Arrival → Bool
-is_due_here core a = a.is_due || is_coming core (a.txn).root
+is_due_here core a = a.is_due || is_coming_here core (a.txn).root
 
 -- each partition and each segment has its place, each segment goes from one partition to another, what waits moves, and all of it whose rows aren't on their way here is due
 pub record IsCore (core : CoreValue) (arrivals : List Arrival) : Type 0 where

@@ -30,8 +30,8 @@ is_coming_from core None = false
 is_coming_from core (Some at) = core.started && ((at.stage == core.stage) && ((at.dst == core.part) && not at.loaded))
 
 -- the root key comes to this partition in the running stage and isn't loaded
-abbrev pub is_coming : CoreValue → ℕ → Bool
-is_coming core root = is_coming_from core (location core root)
+abbrev pub is_coming_here : CoreValue → ℕ → Bool
+is_coming_here core root = is_coming_from core (location core root)
 
 abbrev pub route_from : CoreValue → ℕ → Option Location → ℕ
 route_from core root None = owner core.plan root

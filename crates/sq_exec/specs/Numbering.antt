@@ -4,7 +4,7 @@ use Rattle.sq_waiting.specs.Waiting.{no_number}
 use Rattle.sq_exec.specs.declared.outcome.Outcome.{Outcome}
 use Rattle.sq_exec.specs.declared.outcome.Outcome.TheVariants.{Done, Moved, Waits}
 use Rattle.sq_exec.specs.CoreValue.{Numbering, PartCoreValue}
-use Rattle.sq_exec.specs.Serving.{is_ready}
+use Rattle.sq_exec.specs.Serving.{is_ready_here}
 
 -- as many numbers, from this one on
 abbrev pub counted_from : ℕ → List ℕ → List ℕ
@@ -30,11 +30,11 @@ arrival_number p root = option_and_then (slice_get p.numbering.numbers) (positio
 -- this is the arrival number of the first waiting transaction that is ready
 pub record IsFirstReady (p : PartCoreValue) (number : ℕ) : Type 0 where
   pub place : ℕ
-  pub first : position (is_ready p.core) p.core.waiting ≡ Some place
+  pub first : position (is_ready_here p.core) p.core.waiting ≡ Some place
   pub found : slice_get p.numbering.numbers place ≡ Some number
 
 -- the first waiting transaction that was ready took its arrival number with it, and all others kept theirs
 pub record TakesNumber (old new : PartCoreValue) : Type 0 where
   pub place : ℕ
-  pub first : position (is_ready old.core) old.core.waiting ≡ Some place
+  pub first : position (is_ready_here old.core) old.core.waiting ≡ Some place
   pub rest : new.numbering ≡ record old.numbering { numbers = remove old.numbering.numbers place }

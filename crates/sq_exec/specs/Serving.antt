@@ -15,7 +15,7 @@ use Rattle.sq_exec.specs.declared.outcome.Outcome.TheVariants.{Done, Moved, Wait
 use Rattle.sq_exec.specs.declared.outcome.Resumed.{Resumed}
 use Rattle.sq_exec.specs.declared.location.Location.{Location}
 use Rattle.sq_exec.specs.CoreValue.{CoreValue}
-use Rattle.sq_exec.specs.Location.{location, is_coming, route, waits_for}
+use Rattle.sq_exec.specs.Location.{location, is_coming_here, route, waits_for}
 
 -- the log of the transaction's root key is full
 abbrev pub is_log_full : StoreValue → TxnValue → Bool
@@ -32,7 +32,7 @@ served here who store txn =
 
 -- a transaction on the root key has to wait: one does already, or the rows come and aren't here
 abbrev pub must_wait : CoreValue → ℕ → Bool
-must_wait core root = waits_for core root || is_coming core root
+must_wait core root = waits_for core root || is_coming_here core root
 
 -- why a transaction isn't taken
 abbrev pub submit_refusal : CoreValue → TxnValue → Option SubmitFault
@@ -62,8 +62,8 @@ IsTaken true old txn outcome new = IsMadeToWait old txn outcome new
 IsTaken false old txn outcome new = IsServed old txn outcome new
 
 -- a waiting transaction can go: its rows aren't on their way here, and where it would run the log has room
-abbrev pub is_ready : CoreValue → TxnValue → Bool
-is_ready core txn = not (is_coming core txn.root) && not (is_stuck core.part (route core txn.root) core.store txn)
+abbrev pub is_ready_here : CoreValue → TxnValue → Bool
+is_ready_here core txn = not (is_coming_here core txn.root) && not (is_stuck core.part (route core txn.root) core.store txn)
 
 -- why one doesn't go: its rows are on their way, or else the log is full
 abbrev pub stays_by : Bool → ResumeFault
@@ -79,22 +79,22 @@ graver fault resume.Memory = resume.Memory
 -- why no waiting transaction goes
 abbrev pub resume_refusal : CoreValue → Option ResumeFault
 resume_refusal core =
-    if list_all (λ txn. is_coming core txn.root) core.waiting then Some resume.NoneReady
-    else if is_none (position (is_ready core) core.waiting) then Some resume.LogFull
+    if list_all (λ txn. is_coming_here core txn.root) core.waiting then Some resume.NoneReady
+    else if is_none (position (is_ready_here core) core.waiting) then Some resume.LogFull
     else None
 
 -- the first waiting transaction that is ready
-abbrev pub first_ready : CoreValue → Option TxnValue
-first_ready core = option_and_then (slice_get core.waiting) (position (is_ready core) core.waiting)
+abbrev pub first_ready_here : CoreValue → Option TxnValue
+first_ready_here core = option_and_then (slice_get core.waiting) (position (is_ready_here core) core.waiting)
 
 -- it runs here, which uses memory
 abbrev pub resume_takes_memory : CoreValue → Bool
-resume_takes_memory core = option_map_or (λ txn. route core txn.root == core.part) (first_ready core) false
+resume_takes_memory core = option_map_or (λ txn. route core txn.root == core.part) (first_ready_here core) false
 
 -- the first waiting transaction that is ready was served, and waits no more
 pub record IsResumed (old : CoreValue) (resumed : Resumed) (new : CoreValue) : Type 0 where
   pub place : ℕ
-  pub first : position (is_ready old) old.waiting ≡ Some place
+  pub first : position (is_ready_here old) old.waiting ≡ Some place
   pub found : slice_get old.waiting place ≡ Some resumed.txn
   pub told : resumed.outcome ≡ (served old.part (route old resumed.txn.root) old.store resumed.txn).0
   pub after : new ≡ record old { store = (served old.part (route old resumed.txn.root) old.store resumed.txn).1; waiting = remove old.waiting place }

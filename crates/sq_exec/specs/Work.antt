@@ -10,8 +10,8 @@ pub record WorkValue : Type 0 where
   pub hi : ℕ
 
 -- its pull is odd: a transaction waits for it
-abbrev pub is_reactive : WorkValue → Bool
-is_reactive work = work.pull % 2 == 1
+abbrev pub is_reactive_work : WorkValue → Bool
+is_reactive_work work = work.pull % 2 == 1
 
 abbrev pub or_front : List WorkValue → Option ℕ → Option ℕ
 or_front work (Some i) = Some i
@@ -20,7 +20,7 @@ or_front (first ∷ rest) None = Some 0
 
 -- where the work stands that is done next: the first reactive one, or where there is none the first
 abbrev pub next_work : List WorkValue → Option ℕ
-next_work work = or_front work (position is_reactive work)
+next_work work = or_front work (position is_reactive_work work)
 
 abbrev pub no_work : WorkValue
 no_work = record { seg = 0; node = 0; pull = 0; rest = 0; hi = 0 }

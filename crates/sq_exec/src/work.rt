@@ -1,6 +1,6 @@
 // What the source of a link has to cut.
 ghost use Rattle.std.specs.Prelude.{◌≡◌, ◌≤◌, ◌<◌, position, vec_len, slice_index_or};
-ghost use Rattle.sq_exec.specs.Work.{is_reactive, next_work, no_work, work_after};
+ghost use Rattle.sq_exec.specs.Work.{is_reactive_work, next_work, no_work, work_after};
 
 use sq_ranges::{Extent, SegId};
 use sq_tree::NodeId;
@@ -67,7 +67,7 @@ impl Work {
 
     /// Whether a transaction waits for it.
     fn is_reactive(self) -> bool
-        ensures { result ≡ is_reactive self }
+        ensures { result ≡ is_reactive_work self }
     {
         self.pull % 2 == 1
     }
@@ -87,7 +87,7 @@ impl Work {
 
 // Where the first work stands that a transaction waits for.
 fn first_reactive(work: &[Work]) -> Option<usize>
-    ensures { result ≡ position is_reactive work.now }
+    ensures { result ≡ position is_reactive_work work.now }
 {
     work.iter().position(|work| work.is_reactive())
 }

@@ -19,8 +19,8 @@ use Rattle.sq_exec.specs.declared.outcome.Outcome.{Outcome}
 use Rattle.sq_exec.specs.declared.outcome.Outcome.TheVariants as outcome
 use Rattle.sq_exec.specs.declared.outcome.Resumed.{Resumed}
 use Rattle.sq_exec.specs.CoreValue.{CoreValue, PartCoreValue}
-use Rattle.sq_exec.specs.Location.{location, location_in, is_coming, route}
-use Rattle.sq_exec.specs.Serving.{is_stuck, served, must_wait, submit_refusal, submit_takes_memory, is_ready, resume_refusal, IsTaken, IsResumed}
+use Rattle.sq_exec.specs.Location.{location, location_in, is_coming_here, route}
+use Rattle.sq_exec.specs.Serving.{is_stuck, served, must_wait, submit_refusal, submit_takes_memory, is_ready_here, resume_refusal, IsTaken, IsResumed}
 use Rattle.sq_exec.proofs.Resumes.{nothing_refuses}
 use Rattle.sq_model.specs.declared.step.Step.TheVariants.{Submit, Resume}
 use Rattle.sq_model.specs.declared.answer.Answer.{Answer}
@@ -110,17 +110,17 @@ was_false true is = sym is
 was_false false is = refl
 
 -- the rows of a transaction that is ready aren't on their way
-not_coming : (core : CoreValue) (place : ℕ) (txn : TxnValue) → position (is_ready core) core.waiting ≡ Some place → slice_get core.waiting place ≡ Some txn → is_coming core txn.root ≡ false
+not_coming : (core : CoreValue) (place : ℕ) (txn : TxnValue) → position (is_ready_here core) core.waiting ≡ Some place → slice_get core.waiting place ≡ Some txn → is_coming_here core txn.root ≡ false
 not_coming core place txn first found =
-    let ready : is_ready core txn ≡ true = ap (is_ready core) (sym (get_or_from_slice_get core.waiting place txn txn found)) ∙ (position-Some (is_ready core) core.waiting place txn first).1 in
-    was_false (is_coming core txn.root) (and_parts (not (is_coming core txn.root)) (not (is_stuck core.part (route core txn.root) core.store txn)) ready).0
+    let ready : is_ready_here core txn ≡ true = ap (is_ready_here core) (sym (get_or_from_slice_get core.waiting place txn txn found)) ∙ (position-Some (is_ready_here core) core.waiting place txn first).1 in
+    was_false (is_coming_here core txn.root) (and_parts (not (is_coming_here core txn.root)) (not (is_stuck core.part (route core txn.root) core.store txn)) ready).0
 
-resume_refused_by : (w : WorldValue) (number : ℕ) (place : Option ℕ) (fault : ResumeFault) → position (is_ready (core_at w number)) (core_at w number).waiting ≡ place
+resume_refused_by : (w : WorldValue) (number : ℕ) (place : Option ℕ) (fault : ResumeFault) → position (is_ready_here (core_at w number)) (core_at w number).waiting ≡ place
     → fault ≡ unwrap_or (resume_refusal (core_at w number)) resume.Memory → IsResult (Resume number) w (resumed_at w number place) (answer.Refused (resume_refused fault)) w
 resume_refused_by w number None fault first is =
     let core = core_at w number in
     let whole = λ (coming : Bool) (o : Option ℕ). if coming then Some resume.NoneReady else if is_none o then Some resume.LogFull else None in
-    inl (ap (λ (f : ResumeFault). (answer.Refused (resume_refused f), w)) (is ∙ either (list_all (λ txn. is_coming core txn.root) core.waiting) (position (is_ready core) core.waiting) first))
+    inl (ap (λ (f : ResumeFault). (answer.Refused (resume_refused f), w)) (is ∙ either (list_all (λ txn. is_coming_here core txn.root) core.waiting) (position (is_ready_here core) core.waiting) first))
   where
     either : (coming : Bool) (o : Option ℕ) → o ≡ None
         → unwrap_or (if coming then Some resume.NoneReady else if is_none o then Some resume.LogFull else None) resume.Memory
@@ -208,7 +208,7 @@ module _ (w : WorldValue) (parts : List PartCoreValue) (number : ℕ) (part : Pa
       ∙ ap (λ (v : WorldValue). (answer.Resumed txn given, v)) (written after ∙ ap (with_core w number) (is_here.after ∙ ap left serves))
       ∙ ap at (sym (get_or_from_slice_get here.waiting is_here.place txn no_txn is_here.found))
       ∙ ap (resumed_at w number) (sym is_here.first)
-      ∙ goes (resumed_at w number (position (is_ready here) here.waiting))
+      ∙ goes (resumed_at w number (position (is_ready_here here) here.waiting))
 
   pub resume_fails : (fault : ResumeFault) (after : PartCoreValue) → fault ≡ unwrap_or (resume_refusal part.core) resume.Memory → after.core ≡ part.core
       → IsResult (Resume number) w (resume_result w number) (answer.Refused (resume_refused fault)) (record w { cores = map core_of (set parts number after) })
@@ -216,5 +216,5 @@ module _ (w : WorldValue) (parts : List PartCoreValue) (number : ℕ) (part : Pa
       let here = core_at w number in
       let why_here : fault ≡ unwrap_or (resume_refusal here) resume.Memory = why ∙ ap (λ (c : CoreValue). unwrap_or (resume_refusal c) resume.Memory) core in
       subst (λ (v : WorldValue). IsResult (Resume number) w (resume_result w number) (answer.Refused (resume_refused fault)) v) (sym (kept after same))
-      (subst (λ (r : StepResult). IsResult (Resume number) w r (answer.Refused (resume_refused fault)) w) (goes (resumed_at w number (position (is_ready here) here.waiting)))
-      (resume_refused_by w number (position (is_ready here) here.waiting) fault refl why_here))
+      (subst (λ (r : StepResult). IsResult (Resume number) w r (answer.Refused (resume_refused fault)) w) (goes (resumed_at w number (position (is_ready_here here) here.waiting)))
+      (resume_refused_by w number (position (is_ready_here here) here.waiting) fault refl why_here))

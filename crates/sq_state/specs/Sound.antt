@@ -6,7 +6,7 @@ use Rattle.sq_ranges.specs.declared.segment.TheConstants.{SEGMENT_LIMIT}
 use Rattle.sq_ranges.specs.declared.recon.Range.{Range}
 use Rattle.sq_chunk.specs.ChunkValue.{ChunkValue}
 use Rattle.sq_exec.specs.CoreValue.{inbox_at}
-use Rattle.sq_exec.specs.Location.{is_coming, route}
+use Rattle.sq_exec.specs.Location.{is_coming_here, route}
 use Rattle.sq_exec.specs.Moving.{can_load}
 use Rattle.sq_transition.specs.WorldValue.{WorldValue, QueueValue, core_at, range_of}
 use Rattle.sq_transition.specs.Leading.{parts_of, moved_by}
@@ -16,7 +16,7 @@ pub record IsSoundCore (w : WorldValue) (part : ℕ) : Type 0 where
   pub number : (core_at w part).part ≡ part
   pub plan : (core_at w part).plan ≡ w.old
   pub recon : (core_at w part).recon ≡ w.recon
-  pub runs : (place : ℕ) (txn : TxnValue) → slice_get (core_at w part).waiting place ≡ Some txn → is_coming (core_at w part) txn.root ≡ false → route (core_at w part) txn.root ≡ part
+  pub runs : (place : ℕ) (txn : TxnValue) → slice_get (core_at w part).waiting place ≡ Some txn → is_coming_here (core_at w part) txn.root ≡ false → route (core_at w part) txn.root ≡ part
 
 -- a queue goes from one partition to another, and a chunk that came off it can be loaded
 pub record IsSoundLink (w : WorldValue) (queue : QueueValue) : Type 0 where

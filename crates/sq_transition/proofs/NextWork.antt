@@ -5,7 +5,7 @@ use Rattle.std.specs.List.{position_or_len, IsDistinct, AllByRecursion}
 use Rattle.std.proofs.lemmas.List.{length-map}
 use Rattle.std.proofs.lemmas.Option.{slice_get_past, slice_get-get_or, same_Some}
 use Rattle.std.proofs.lemmas.Bool.{ltb-true, ltb-false, cond_both}
-use Rattle.sq_exec.specs.Work.{WorkValue, is_reactive as is_reactive_work, next_work, or_front}
+use Rattle.sq_exec.specs.Work.{WorkValue, is_reactive_work, next_work, or_front}
 use Rattle.sq_model.specs.Nodes.{Item}
 use Rattle.sq_model.specs.Links.{is_reactive, next_item, or_first}
 use Rattle.sq_model.proofs.Statuses.{is_same_node, same_node_laws}

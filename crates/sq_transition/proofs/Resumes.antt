@@ -17,15 +17,15 @@ use Rattle.sq_ranges.proofs.Found.{none_passes}
 use Rattle.sq_exec.specs.declared.fault.ResumeFault.{ResumeFault}
 use Rattle.sq_exec.specs.declared.fault.ResumeFault.TheVariants as resume
 use Rattle.sq_exec.specs.CoreValue.{CoreValue}
-use Rattle.sq_exec.specs.Location.{location, is_coming, route}
-use Rattle.sq_exec.specs.Serving.{is_stuck, is_ready, resume_refusal}
+use Rattle.sq_exec.specs.Location.{location, is_coming_here, route}
+use Rattle.sq_exec.specs.Serving.{is_stuck, is_ready_here, resume_refusal}
 use Rattle.sq_model.specs.declared.step.Step.TheVariants.{Resume}
 use Rattle.sq_model.specs.declared.answer.Answer.TheVariants.{Resumed, Refused}
 use Rattle.sq_model.specs.declared.answer.Refusal.TheVariants.{NoSuchPartition, NoneReady, LogFull}
 use Rattle.sq_model.specs.Trace.{Trace, unfolded}
 use Rattle.sq_model.specs.Tables.{is_full}
-use Rattle.sq_model.specs.Place.{is_coming as comes_by, runner}
-use Rattle.sq_model.specs.Waiting.{waiting, is_ready as ready_by, without_ready, are_coming, first_ready}
+use Rattle.sq_model.specs.Place.{is_coming, runner}
+use Rattle.sq_model.specs.Waiting.{waiting, is_ready, without_ready, are_coming, first_ready}
 use Rattle.sq_model.specs.Answers.{answer, resumed as resumed_answer}
 use Rattle.sq_model.proofs.Lists.{Contains-first, Contains-later, Contains-slice_get, list_any-Contains, nothing_found}
 use Rattle.sq_transition.specs.WorldValue.{WorldValue, core_at}
@@ -92,14 +92,14 @@ module _ (o : OpeningValue) (t : Trace) (w : WorldValue) (part : ℕ) (facts : R
   waits_are = (h.partitions.each part there).waiting
 
   -- whether the rows of a root key are on their way
-  coming_same : (root : ℕ) → is_coming core root ≡ comes_by o t part root
+  coming_same : (root : ℕ) → is_coming_here core root ≡ is_coming o t part root
   coming_same root = comes_same o t part root core (location core root) (h.partitions.each part there) (location_holds o t part root core facts.routing (h.partitions.each part there))
 
-  all_coming : list_all (λ txn. is_coming core txn.root) core.waiting ≡ are_coming o t part
+  all_coming : list_all (λ txn. is_coming_here core txn.root) core.waiting ≡ are_coming o t part
   all_coming = λ i. list_all (λ txn. coming_same txn.root i) (waits_are i)
 
   -- the partition runs what waits at it, once its rows came
-  runs_it : (txn : TxnValue) → Contains core.waiting txn → comes_by o t part txn.root ≡ false → runner o t txn.root ≡ Some part
+  runs_it : (txn : TxnValue) → Contains core.waiting txn → is_coming o t part txn.root ≡ false → runner o t txn.root ≡ Some part
   runs_it txn has gone =
       facts.resumes part txn.root
       (list_any-Contains (λ other. other.root == txn.root) (waiting o t part) txn (subst (λ txns. Contains txns txn) waits_are has) (eq-eqb txn.root txn.root refl))
@@ -110,9 +110,9 @@ module _ (o : OpeningValue) (t : Trace) (w : WorldValue) (part : ℕ) (facts : R
       let is = h.partitions.each part there in
       runs_same o t part root core (location core root) facts.routing is (location_holds o t part root core facts.routing is) ∙ ap (runs_at part) runs ∙ eq-eqb part part refl
 
-  ready_same : (txn : TxnValue) → Contains core.waiting txn → is_ready core txn ≡ ready_by o t part txn
+  ready_same : (txn : TxnValue) → Contains core.waiting txn → is_ready_here core txn ≡ is_ready o t part txn
   ready_same txn has =
-      elim (cases_Bool (comes_by o t part txn.root)) [
+      elim (cases_Bool (is_coming o t part txn.root)) [
         | inl coming ↦
             ap (λ b. not b && not (is_stuck core.part (route core txn.root) core.store txn)) (coming_same txn.root ∙ coming)
             ∙ sym (ap (λ b. not b && not (is_full o t txn.root)) coming)
@@ -123,12 +123,12 @@ module _ (o : OpeningValue) (t : Trace) (w : WorldValue) (part : ℕ) (facts : R
       ]
 
   -- so the first that is ready is the same
-  first_same : position (is_ready core) core.waiting ≡ position (ready_by o t part) (waiting o t part)
-  first_same = position_same (is_ready core) (ready_by o t part) core.waiting ready_same ∙ ap (position (ready_by o t part)) waits_are
+  first_same : position (is_ready_here core) core.waiting ≡ position (is_ready o t part) (waiting o t part)
+  first_same = position_same (is_ready_here core) (is_ready o t part) core.waiting ready_same ∙ ap (position (is_ready o t part)) waits_are
 
-  none_keeps : position (is_ready core) core.waiting ≡ None → Keeps o t (Resume part) (resumed_at w part None) (if are_coming o t part then Refused NoneReady else resumed_answer o t (first_ready o t part))
+  none_keeps : position (is_ready_here core) core.waiting ≡ None → Keeps o t (Resume part) (resumed_at w part None) (if are_coming o t part then Refused NoneReady else resumed_answer o t (first_ready o t part))
   none_keeps none =
-      let nothing : first_ready o t part ≡ None = found_nowhere (ready_by o t part) (waiting o t part) (sym first_same ∙ none) in
+      let nothing : first_ready o t part ≡ None = found_nowhere (is_ready o t part) (waiting o t part) (sym first_same ∙ none) in
       let refusal : resume_refusal core ≡ (if are_coming o t part then Some resume.NoneReady else Some resume.LogFull) =
       λ i. if all_coming i then Some resume.NoneReady else if is_none (none i) then Some resume.LogFull else None in
       subst (λ (result : StepResult). Keeps o t (Resume part) result (if are_coming o t part then Refused NoneReady else resumed_answer o t (first_ready o t part)))
@@ -137,16 +137,16 @@ module _ (o : OpeningValue) (t : Trace) (w : WorldValue) (part : ℕ) (facts : R
       (λ _. keeps_refused o t w (Resume part) NoneReady h)
       (λ _. subst (Keeps o t (Resume part) (refuse w LogFull)) (sym (ap (resumed_answer o t) nothing)) (keeps_refused o t w (Resume part) LogFull h)))
 
-  some_keeps : (place : ℕ) → position (is_ready core) core.waiting ≡ Some place
+  some_keeps : (place : ℕ) → position (is_ready_here core) core.waiting ≡ Some place
       → Keeps o t (Resume part) (resumed_at w part (Some place)) (if are_coming o t part then Refused NoneReady else resumed_answer o t (first_ready o t part))
   some_keeps place first =
       let txn = slice_index_or core.waiting place no_txn in
-      let at = position-Some (is_ready core) core.waiting place no_txn first in
+      let at = position-Some (is_ready_here core) core.waiting place no_txn first in
       let has = Contains-slice_get core.waiting place txn (slice_get-get_or core.waiting place no_txn at.0) in
-      let here : is_coming core txn.root ≡ false = not-true (is_coming core txn.root) (and_parts (not (is_coming core txn.root)) (not (is_stuck core.part (route core txn.root) core.store txn)) at.1).0 in
-      let some : are_coming o t part ≡ false = sym all_coming ∙ list_all_at (λ txn. is_coming core txn.root) core.waiting place no_txn at.0 here in
+      let here : is_coming_here core txn.root ≡ false = not-true (is_coming_here core txn.root) (and_parts (not (is_coming_here core txn.root)) (not (is_stuck core.part (route core txn.root) core.store txn)) at.1).0 in
+      let some : are_coming o t part ≡ false = sym all_coming ∙ list_all_at (λ txn. is_coming_here core txn.root) core.waiting place no_txn at.0 here in
       let found : first_ready o t part ≡ Some txn =
-      found_at (ready_by o t part) (waiting o t part) place no_txn (sym first_same ∙ first) ∙ ap (λ txns. Some (slice_index_or txns place no_txn)) (sym waits_are) in
+      found_at (is_ready o t part) (waiting o t part) place no_txn (sym first_same ∙ first) ∙ ap (λ txns. Some (slice_index_or txns place no_txn)) (sym waits_are) in
       let runs = runs_it txn has (sym (coming_same txn.root) ∙ here) in
       let placed = facts.placed txn.root part runs in
       let given = store_reply core.store txn in
@@ -161,7 +161,7 @@ module _ (o : OpeningValue) (t : Trace) (w : WorldValue) (part : ℕ) (facts : R
         ran_holds o t after w part txn given (remove core.waiting place) (resume_ran o t part txn given) h there placed (facts.away txn.root part runs) left,
       )
 
-  at_first : (found : Option ℕ) → position (is_ready core) core.waiting ≡ found → Keeps o t (Resume part) (resumed_at w part found) (if are_coming o t part then Refused NoneReady else resumed_answer o t (first_ready o t part))
+  at_first : (found : Option ℕ) → position (is_ready_here core) core.waiting ≡ found → Keeps o t (Resume part) (resumed_at w part found) (if are_coming o t part then Refused NoneReady else resumed_answer o t (first_ready o t part))
   at_first None e = none_keeps e
   at_first (Some place) e = some_keeps place e
 
@@ -169,4 +169,4 @@ pub resume_keeps : (o : OpeningValue) (t : Trace) (w : WorldValue) (part : ℕ) 
 resume_keeps o t w part facts h =
     keeps_if o t (Resume part) _ _ _ _ _ _ (ap (λ plan. nat_le plan.parts part) h.plans.old)
     (λ _. keeps_refused o t w (Resume part) NoSuchPartition h)
-    (λ below. at_first o t w part facts h (leb-false o.old.parts part below) (position (is_ready (core_at w part)) (core_at w part).waiting) refl)
+    (λ below. at_first o t w part facts h (leb-false o.old.parts part below) (position (is_ready_here (core_at w part)) (core_at w part).waiting) refl)

@@ -14,7 +14,7 @@ use Rattle.sq_exec.specs.declared.outcome.Outcome.{Outcome}
 use Rattle.sq_exec.specs.declared.outcome.Outcome.TheVariants as outcome
 use Rattle.sq_exec.specs.CoreValue.{CoreValue}
 use Rattle.sq_exec.specs.Location.{route}
-use Rattle.sq_exec.specs.Serving.{served, must_wait, submit_refusal, resume_refusal, is_ready}
+use Rattle.sq_exec.specs.Serving.{served, must_wait, submit_refusal, resume_refusal, is_ready_here}
 use Rattle.sq_model.specs.declared.answer.Answer.{Answer}
 use Rattle.sq_model.specs.declared.answer.Answer.TheVariants.{Replied, Moved, Waits, Resumed}
 use Rattle.sq_model.specs.declared.answer.Refusal.{Refusal}
@@ -78,4 +78,4 @@ resumed_at w part (Some place) =
 
 abbrev pub resume_result : WorldValue → ℕ → StepResult
 resume_result w part =
-    if_partition w part (resumed_at w part (position (is_ready (core_at w part)) (core_at w part).waiting))
+    if_partition w part (resumed_at w part (position (is_ready_here (core_at w part)) (core_at w part).waiting))

@@ -15,7 +15,7 @@ use Rattle.sq_ranges.specs.OpeningValue.{OpeningValue}
 use Rattle.sq_ranges.specs.Opening.{IsOpening}
 use Rattle.sq_chunk.specs.ChunkValue.{ChunkValue}
 use Rattle.sq_exec.specs.CoreValue.{inbox_at}
-use Rattle.sq_exec.specs.Location.{location, is_coming, route}
+use Rattle.sq_exec.specs.Location.{location, is_coming_here, route}
 use Rattle.sq_exec.specs.Moving.{can_load}
 use Rattle.sq_model.specs.Trace.{Trace}
 use Rattle.sq_model.specs.Legal.{IsLegal}
@@ -46,7 +46,7 @@ module _ (o : OpeningValue) (t : Trace) (w : WorldValue) (is : IsOpening o) (leg
       (omega (arith, owned.0, source, is_src), omega (arith, owned.1, destination, is_dst, same))
 
   -- a transaction that waits runs at its partition once its rows came
-  runs_here : (part : ℕ) → part < o.old.parts → (place : ℕ) (txn : TxnValue) → slice_get (core_at w part).waiting place ≡ Some txn → is_coming (core_at w part) txn.root ≡ false → route (core_at w part) txn.root ≡ part
+  runs_here : (part : ℕ) → part < o.old.parts → (place : ℕ) (txn : TxnValue) → slice_get (core_at w part).waiting place ≡ Some txn → is_coming_here (core_at w part) txn.root ≡ false → route (core_at w part) txn.root ≡ part
   runs_here part below place txn there come =
       let core = core_at w part in
       let holds = h.partitions.each part below in

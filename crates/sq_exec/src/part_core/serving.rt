@@ -2,8 +2,8 @@
 ghost use Rattle.std.specs.Prelude.{◌≡◌, true, false, length, Some, option_map, unwrap_or, IfOk, IfErr, OnOk, OnErr, IsErrOf, ◌↔◌, MatchResult, IsTrue};
 ghost use Rattle.std.specs.List.Sorted.{IsStrictlyIncreasing};
 ghost use Rattle.sq_store.specs.StoreValue.{log_length};
-ghost use Rattle.sq_exec.specs.Location.{location, is_coming, is_coming_from, route, route_from, waits_for};
-ghost use Rattle.sq_exec.specs.Serving.{is_stuck, served, must_wait, submit_refusal, submit_takes_memory, is_ready, stays_by, graver, first_ready, resume_refusal, resume_takes_memory, IsMadeToWait, IsTaken, IsResumed};
+ghost use Rattle.sq_exec.specs.Location.{location, is_coming_here, is_coming_from, route, route_from, waits_for};
+ghost use Rattle.sq_exec.specs.Serving.{is_stuck, served, must_wait, submit_refusal, submit_takes_memory, is_ready_here, stays_by, graver, first_ready_here, resume_refusal, resume_takes_memory, IsMadeToWait, IsTaken, IsResumed};
 ghost use Rattle.sq_exec.specs.Numbering.{numbered, arrival_number, IsFirstReady, TakesNumber};
 
 use crate::fault::{ResumeFault, SubmitFault};
@@ -163,10 +163,10 @@ impl<S: FamilyStore> PartCore<S> {
 
     // Where a waiting transaction goes; or why it can't go.
     fn destination(&self, txn: &Txn) -> Result<PartId, ResumeFault>
-        ensures ready { IfOk result (λ _. is_ready self.now.core txn.now ≡ true) }
+        ensures ready { IfOk result (λ _. is_ready_here self.now.core txn.now ≡ true) }
         ensures goes { IfOk result (λ who. who ≡ route self.now.core txn.now.root) }
-        ensures stays { IfErr result (λ _. is_ready self.now.core txn.now ≡ false) }
-        ensures why { IfErr result (λ fault. fault ≡ stays_by (is_coming self.now.core txn.now.root)) }
+        ensures stays { IfErr result (λ _. is_ready_here self.now.core txn.now ≡ false) }
+        ensures why { IfErr result (λ fault. fault ≡ stays_by (is_coming_here self.now.core txn.now.root)) }
     {
         let root = txn.root();
         let found = self.location(root);
@@ -183,7 +183,7 @@ impl<S: FamilyStore> PartCore<S> {
     // The arrival number of the first waiting transaction that can go, and where it goes; or why none can.
     fn first_ready(&self) -> Result<(u64, PartId), ResumeFault>
         ensures ok { IfOk result (λ ready. IsFirstReady self.now ready.0) }
-        ensures goes { IfOk result (λ ready. option_map (λ txn. route self.now.core txn.root) (first_ready self.now.core) ≡ Some ready.1) }
+        ensures goes { IfOk result (λ ready. option_map (λ txn. route self.now.core txn.root) (first_ready_here self.now.core) ≡ Some ready.1) }
         ensures err { IfErr result (λ fault. Some fault ≡ resume_refusal self.now.core) }
     {
         let mut fault = ResumeFault::NoneReady;

@@ -4,7 +4,7 @@ use Rattle.std.specs.List.{list_all}
 use Rattle.sq_waiting.specs.Waiting.{is_due_from}
 use Rattle.sq_exec.specs.CoreValue.{PartCoreValue}
 use Rattle.sq_exec.specs.Kept.{is_due_here}
-use Rattle.sq_exec.specs.Serving.{is_ready, stays_by}
+use Rattle.sq_exec.specs.Serving.{is_ready_here, stays_by}
 use Rattle.sq_exec.proofs.Due.{pass_below_0}
 use Rattle.sq_exec.proofs.Readies.{Found, comes, is_off, found_as, found_none, not_below, one_stays, one_off, one_ready, one_goes, none_is_ready}
 use Rattle.sq_exec.proofs.part_core.PartCore.first_ready.Given.{Over}
@@ -32,7 +32,7 @@ returns-in-Ok-clause-ok g c =
     let first = one_ready core c.self.inside.waiting.arrivals (due g there.After-next_due) c.loop-number.from c.in-Some.number (c.in-Some.txn).now (found g there.In-Some) c.in-Ok.ensures.ready c.loop-number.invariant.off in
     record {
       place = first.0;
-      first = sym (ap (λ (v : PartCoreValue). position (is_ready core) v.core.waiting) c.self.view_is) ∙ first.1;
+      first = sym (ap (λ (v : PartCoreValue). position (is_ready_here core) v.core.waiting) c.self.view_is) ∙ first.1;
       found = sym (ap (λ (v : PartCoreValue). slice_get v.numbering.numbers first.0) c.self.view_is) ∙ first.2;
     }
 

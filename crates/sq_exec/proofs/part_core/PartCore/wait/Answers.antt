@@ -2,7 +2,7 @@ use Rattle.std.proofs.Common.{◌≡◌, ◌++◌, ◌∷◌, [], sym, ap, subst
 use Rattle.std.specs.Prelude.{not}
 use Rattle.sq_waiting.specs.Waiting.{WaitingValue, txns_of, numbers_of, with_a_number_left, with_last}
 use Rattle.sq_exec.specs.CoreValue.{PartCoreValue}
-use Rattle.sq_exec.specs.Location.{is_coming, is_coming_from}
+use Rattle.sq_exec.specs.Location.{is_coming_here, is_coming_from}
 use Rattle.sq_exec.specs.Kept.{IsCore}
 use Rattle.sq_exec.specs.Numbering.{with_arrival}
 use Rattle.sq_exec.proofs.Waits.{waits_located, txns_pushed, numbering_pushed, waits_last, waits_kept, due_or_comes}
@@ -30,7 +30,7 @@ returns-clause-numbered g c =
 
 pub invariant_of-self-2 : goal.invariant_of-self-2
 invariant_of-self-2 g c =
-    let coming : c.is_coming-is_due.result ≡ is_coming c.args.self.now.core c.args.txn.now.root = c.is_coming-is_due.ensures ∙ ap (is_coming_from c.args.self.now.core) c.requires.located in
+    let coming : c.is_coming-is_due.result ≡ is_coming_here c.args.self.now.core c.args.txn.now.root = c.is_coming-is_due.ensures ∙ ap (is_coming_from c.args.self.now.core) c.requires.located in
     waits_kept c.self.view_is c.self.inside.waiting c.push.new.self c.args.txn.now (not c.is_coming-is_due.result) c.in-Some.at c.self.invariant refl
     (c.in-Ok-push.ensures.ok ∙ ap (λ t. with_last (with_a_number_left c.self.inside.waiting) t (not c.is_coming-is_due.result)) c.in-Ok.ensures.cases)
-    (sym c.requires.located ∙ c.in-Some.is) (due_or_comes c.is_coming-is_due.result (is_coming c.args.self.now.core c.args.txn.now.root) coming)
+    (sym c.requires.located ∙ c.in-Some.is) (due_or_comes c.is_coming-is_due.result (is_coming_here c.args.self.now.core c.args.txn.now.root) coming)
