@@ -2,8 +2,8 @@
 use Rattle.std.proofs.Common.{◌≡◌, ℕ, ◌+◌, ◌-◌, ◌≤◌, List, [], ◌∷◌, ◌++◌, length, take, Option, None, sym, ap, ◌∙◌, arith}
 use Rattle.std.specs.Prelude.{slice_range, position, Some, ◌==◌}
 use Rattle.std.specs.Io.KnownBytes.{IsAtEnd}
-use Rattle.sq_lines.specs.declared.reader.Reading.{Reading}
-use Rattle.sq_lines.specs.declared.reader.Reading.TheVariants.{Ended}
+use Rattle.sq_lines.specs.declared.reader.ReadState.{ReadState}
+use Rattle.sq_lines.specs.declared.reader.ReadState.TheVariants.{Ended}
 use Rattle.sq_lines.specs.Pieces.{cut_at_ends}
 use Rattle.sq_lines.specs.Buffered.{IsBuffered}
 use Rattle.sq_lines.proofs.Ranges.{FoundLine, length_range, found_line, found_none, split_range, take_range}
@@ -13,7 +13,7 @@ pub record HeldUnended (xs : List ℕ) (start end : ℕ) : Type 0 where
   pub unended : cut_at_ends (slice_range xs start end) ≡ slice_range xs start end ∷ []
   pub count : length (slice_range xs start end) ≡ end - start
 
-pub none_held : {xs : List ℕ} {ps pe start searched end : ℕ} {status : Reading} {known : Option (List ℕ)} → IsBuffered xs ps pe start searched end status known → position (λ b. b == 10) (slice_range xs searched end) ≡ None
+pub none_held : {xs : List ℕ} {ps pe start searched end : ℕ} {status : ReadState} {known : Option (List ℕ)} → IsBuffered xs ps pe start searched end status known → position (λ b. b == 10) (slice_range xs searched end) ≡ None
     → HeldUnended xs start end
 none_held {xs} {ps} {pe} {start} {searched} {end} is none = record {
   unended = found_none xs start searched end is.searched_after is.searched_before is.unended none;
@@ -21,12 +21,12 @@ none_held {xs} {ps} {pe} {start} {searched} {end} is none = record {
 }
 
 -- a line of it that ends
-pub line_held : {xs : List ℕ} {ps pe start searched end : ℕ} {status : Reading} {known : Option (List ℕ)} → IsBuffered xs ps pe start searched end status known → (at : ℕ) → position (λ b. b == 10) (slice_range xs searched end) ≡ Some at
+pub line_held : {xs : List ℕ} {ps pe start searched end : ℕ} {status : ReadState} {known : Option (List ℕ)} → IsBuffered xs ps pe start searched end status known → (at : ℕ) → position (λ b. b == 10) (slice_range xs searched end) ≡ Some at
     → FoundLine xs start (searched + at) end
 line_held {xs} {ps} {pe} {start} {searched} {end} is at some = found_line xs start searched end at is.searched_after is.searched_before (omega (arith, is.within, is.room)) is.unended some
 
 -- all that is held was searched
-pub all_searched : (xs : List ℕ) (ps pe start searched end : ℕ) (status : Reading) (known : Option (List ℕ)) → IsBuffered xs ps pe start searched end status known
+pub all_searched : (xs : List ℕ) (ps pe start searched end : ℕ) (status : ReadState) (known : Option (List ℕ)) → IsBuffered xs ps pe start searched end status known
     → position (λ b. b == 10) (slice_range xs searched end) ≡ None → IsBuffered xs ps pe start end end status known
 all_searched xs ps pe start searched end status known is none = record {
   room = is.room;
@@ -62,7 +62,7 @@ read_behind old mid new start end now order after moved before = record {
     same : slice_range new 0 (end - start) ≡ slice_range old start end
     same = from_zero new (end - start) ∙ before ∙ sym (from_zero mid (end - start)) ∙ moved
 
-pub read_on : (old mid new : List ℕ) (ps pe start searched end now : ℕ) (before_it status : Reading) (was known : Option (List ℕ)) → IsBuffered old ps pe start searched end before_it was
+pub read_on : (old mid new : List ℕ) (ps pe start searched end now : ℕ) (before_it status : ReadState) (was known : Option (List ℕ)) → IsBuffered old ps pe start searched end before_it was
     → slice_range mid 0 (end - start) ≡ slice_range old start end → take (end - start) new ≡ take (end - start) mid → length new ≡ length old → end - start ≤ now → now ≤ length new
     → (status ≡ Ended → IsAtEnd known) → IsBuffered new 0 0 0 (searched - start) now status known
 read_on old mid new ps pe start searched end now before_it status was known is moved before long after within ended =

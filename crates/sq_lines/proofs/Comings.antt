@@ -8,20 +8,20 @@ use Rattle.std.proofs.lemmas.List.{append-nil, length-append}
 use Rattle.sq_lines.specs.declared.buffer.TheConstants.{MAX_UNENDED}
 use Rattle.sq_lines.specs.declared.reader.Next.{Next as NextPiece}
 use Rattle.sq_lines.specs.declared.reader.Next.TheVariants as next
-use Rattle.sq_lines.specs.declared.reader.Reading.{Reading}
-use Rattle.sq_lines.specs.declared.reader.Reading.TheVariants.{Open, Ended}
-use Rattle.sq_lines.specs.declared.reader.Reading.TheVariants as reading
+use Rattle.sq_lines.specs.declared.reader.ReadState.{ReadState}
+use Rattle.sq_lines.specs.declared.reader.ReadState.TheVariants.{Open, Ended}
+use Rattle.sq_lines.specs.declared.reader.ReadState.TheVariants as reading
 use Rattle.sq_lines.specs.Pieces.{cut_at_ends, PieceValue, Line, Rest, Failed, Endless, TooMany, InputEnd, Whole, Cut, last_piece, ending_piece, line_then, pieces_of, pieces_in, next_line_number, bytes_of}
 use Rattle.sq_lines.specs.Coming.{LinesValue, Comes, CanCome, CameBefore, IsLong, Gives, Finds, ReadsOn}
 use Rattle.sq_lines.proofs.Ends.{HasFirst, has_first, unended_then, line_then_parts}
 
 -- some bytes can come, and then the reading ends somehow
-pub record SomeMore (status : Reading) (known : Option (List ℕ)) : Type 0 where
+pub record SomeMore (status : ReadState) (known : Option (List ℕ)) : Type 0 where
   pub more : List ℕ
   pub end : InputEnd
   pub comes : Comes status known end more
 
-pub some_more : (now : Reading) (known : Option (List ℕ)) → SomeMore now known
+pub some_more : (now : ReadState) (known : Option (List ℕ)) → SomeMore now known
 some_more Ended known = record { more = []; end = Whole; comes = (refl, refl) }
 some_more reading.Failed known = record { more = []; end = Cut; comes = (refl, refl) }
 some_more Open None = record { more = []; end = Whole; comes = tt }
@@ -37,7 +37,7 @@ some_pieces v = let some = some_more v.reading v.known in
     record { pieces = pieces_in some.end v.lines (v.held ++ some.more); can_come = record { more = some.more; end = some.end; comes = some.comes; are = refl } }
 
 -- nothing can come after the end
-ended_comes : (now : Reading) (known : Option (List ℕ)) → now ≡ Ended → Comes now known Whole []
+ended_comes : (now : ReadState) (known : Option (List ℕ)) → now ≡ Ended → Comes now known Whole []
 ended_comes now known e = subst (λ r. Comes r known Whole []) (sym e) (refl, refl)
 
 pub at_end : (v : LinesValue) → v.reading ≡ Ended → v.held ≡ [] → CanCome v []
@@ -171,7 +171,7 @@ long_unended v most some unended long =
 
 -- ---- reading more
 
-comes_before : (now : Reading) (old new : Option (List ℕ)) (bytes : List ℕ) (end : InputEnd) (more : List ℕ) → now ≡ Open → Consumes old new bytes → Comes Open new end more → Comes now old end (bytes ++ more)
+comes_before : (now : ReadState) (old new : Option (List ℕ)) (bytes : List ℕ) (end : InputEnd) (more : List ℕ) → now ≡ Open → Consumes old new bytes → Comes Open new end more → Comes now old end (bytes ++ more)
 comes_before now old new bytes end more still took comes = subst (λ r. Comes r old end (bytes ++ more)) (sym still) (before old new end took comes)
   where
     before : (old new : Option (List ℕ)) (end : InputEnd) → Consumes old new bytes → Comes Open new end more → Comes Open old end (bytes ++ more)
@@ -193,7 +193,7 @@ open_cut None = tt
 open_cut (Some left) = (left, refl)
 
 -- what comes after the end of the reading is nothing
-pub nothing_comes : (now : Reading) (known : Option (List ℕ)) (end : InputEnd) (more : List ℕ) → (now ≡ Open → ⊥) → Comes now known end more → more ≡ []
+pub nothing_comes : (now : ReadState) (known : Option (List ℕ)) (end : InputEnd) (more : List ℕ) → (now ≡ Open → ⊥) → Comes now known end more → more ≡ []
 nothing_comes Open known end more closed comes = absurd (closed refl)
 nothing_comes Ended known end more closed comes = comes.1
 nothing_comes reading.Failed known end more closed comes = comes.1

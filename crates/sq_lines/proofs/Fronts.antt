@@ -6,7 +6,7 @@ use Rattle.std.proofs.lemmas.Bool.{eqb-true}
 use Rattle.std.proofs.lemmas.Bool.Decides.{nat_tests}
 use Rattle.std.proofs.lemmas.List.{append-nil}
 use Rattle.sq_lines.specs.declared.buffer.TheConstants.{MAX_UNENDED}
-use Rattle.sq_lines.specs.declared.reader.Reading.TheVariants.{Open}
+use Rattle.sq_lines.specs.declared.reader.ReadState.TheVariants.{Open}
 use Rattle.sq_lines.specs.Pieces.{cut_at_ends, PieceValue, Line, Endless, InputEnd, Whole, Cut, ending_piece, pieces_of, pieces_in, next_line_number, next_begins}
 use Rattle.sq_lines.specs.Coming.{LinesValue, CanCome, IsUndecided}
 use Rattle.sq_lines.proofs.Ends.{HasFirst, has_first}

@@ -1,7 +1,7 @@
 -- What a reader gives, by what can come of a reader of its lines.
 use Rattle.std.proofs.Common.{◌≡◌, ℕ, List, [], Option, refl, subst, ◌∙◌}
 use Rattle.sq_lines.specs.declared.reader.TheConstants.{MAX_LINES}
-use Rattle.sq_lines.specs.declared.reader.Reading.TheVariants.{Open}
+use Rattle.sq_lines.specs.declared.reader.ReadState.TheVariants.{Open}
 use Rattle.sq_lines.specs.Pieces.{PieceValue}
 use Rattle.sq_lines.specs.Coming.{LinesValue, Comes, CanCome}
 use Rattle.sq_lines.specs.Given.{IsGiven}

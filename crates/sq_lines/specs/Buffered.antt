@@ -2,12 +2,12 @@
 use Rattle.std.specs.Prelude.{◌≡◌, ◌≤◌, ℕ, List, [], ◌∷◌, length, slice_range, Option}
 use Rattle.std.specs.Io.KnownBytes.{IsAtEnd}
 use Rattle.sq_lines.specs.declared.buffer.TheConstants.{ROOM}
-use Rattle.sq_lines.specs.declared.reader.Reading.{Reading}
-use Rattle.sq_lines.specs.declared.reader.Reading.TheVariants.{Ended}
+use Rattle.sq_lines.specs.declared.reader.ReadState.{ReadState}
+use Rattle.sq_lines.specs.declared.reader.ReadState.TheVariants.{Ended}
 use Rattle.sq_lines.specs.Pieces.{cut_at_ends}
 
 -- the places of a buffer: of the piece given last, and of what wasn't given, which has no line end in its searched part
-pub record IsBuffered (buffer : List ℕ) (piece_start piece_end start searched end : ℕ) (reading : Reading) (known : Option (List ℕ)) : Type 0 where
+pub record IsBuffered (buffer : List ℕ) (piece_start piece_end start searched end : ℕ) (reading : ReadState) (known : Option (List ℕ)) : Type 0 where
   pub room : length buffer ≡ ROOM
   pub piece : piece_start ≤ piece_end
   pub piece_within : piece_end ≤ ROOM

@@ -1,8 +1,8 @@
 -- What a reader of lines gives, and what can still come of it.
 use Rattle.std.specs.Prelude.{◌≡◌, ◌<◌, ◌≤◌, ◌⊎◌, ℕ, ◌+◌, ◌-◌, List, [], ◌∷◌, ◌++◌, length, Option, Some, None}
 use Rattle.sq_lines.specs.declared.buffer.TheConstants.{MAX_UNENDED}
-use Rattle.sq_lines.specs.declared.reader.Reading.{Reading}
-use Rattle.sq_lines.specs.declared.reader.Reading.TheVariants as reading
+use Rattle.sq_lines.specs.declared.reader.ReadState.{ReadState}
+use Rattle.sq_lines.specs.declared.reader.ReadState.TheVariants as reading
 use Rattle.sq_lines.specs.declared.reader.Next.{Next as NextPiece}
 use Rattle.sq_lines.specs.declared.reader.Next.TheVariants as next
 use Rattle.sq_lines.specs.Pieces.{cut_at_ends, PieceValue, Line, Rest, Failed, TooMany, InputEnd, Whole, Cut, pieces_in, next_line_number, bytes_of}
@@ -11,12 +11,12 @@ use Rattle.sq_lines.specs.Pieces.{cut_at_ends, PieceValue, Line, Rest, Failed, T
 pub record LinesValue : Type 0 where
   pub piece : List ℕ
   pub held : List ℕ
-  pub reading : Reading
+  pub reading : ReadState
   pub lines : ℕ
   pub known : Option (List ℕ)
 
 -- these bytes can come of a reader that has this left, where that is known, and then the reading ends so
-abbrev pub Comes : Reading → Option (List ℕ) → InputEnd → List ℕ → Type 0
+abbrev pub Comes : ReadState → Option (List ℕ) → InputEnd → List ℕ → Type 0
 Comes reading.Ended known end bytes = (end ≡ Whole) × (bytes ≡ [])
 Comes reading.Failed known end bytes = (end ≡ Cut) × (bytes ≡ [])
 Comes reading.Open None end bytes = Unit {0}
@@ -59,7 +59,7 @@ Gives most old next.End new = CanCome old [] × (new ≡ old)
 Gives most old next.Unread new = IsUndecided most old × (new ≡ old)
 
 -- how many reads there are at most, where this much is held
-abbrev pub reads_for : Reading → ℕ → ℕ
+abbrev pub reads_for : ReadState → ℕ → ℕ
 reads_for reading.Open held = MAX_UNENDED + 1 - held
 reads_for reading.Ended held = 0
 reads_for reading.Failed held = 0

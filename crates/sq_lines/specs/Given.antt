@@ -1,6 +1,6 @@
 -- What a reader gives.
 use Rattle.std.specs.Prelude.{◌≡◌, ℕ, List, Option}
-use Rattle.sq_lines.specs.declared.reader.Reading.TheVariants.{Open}
+use Rattle.sq_lines.specs.declared.reader.ReadState.TheVariants.{Open}
 use Rattle.sq_lines.specs.Pieces.{PieceValue, InputEnd, pieces}
 use Rattle.sq_lines.specs.Coming.{Comes}
 

@@ -5,4 +5,4 @@ mod buffer;
 mod reader;
 
 pub use buffer::{BLOCK, MAX_UNENDED, place_of};
-pub use reader::{LineReader, MAX_LINES, Next, Reading};
+pub use reader::{LineReader, MAX_LINES, Next, ReadState};

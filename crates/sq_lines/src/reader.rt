@@ -33,7 +33,7 @@ pub enum Next {
 
 /// How the reading of an input stands.
 #[derive(Clone, Copy, Debug, PartialEq, Eq)]
-pub enum Reading {
+pub enum ReadState {
     /// More may come.
     Open,
     /// All was read.
@@ -54,7 +54,7 @@ pub struct LineReader<R: Read> {
     start: usize,
     searched: usize,
     end: usize,
-    reading: Reading,
+    reading: ReadState,
     lines: u32,
 }
 
@@ -75,7 +75,7 @@ impl<R: Read> LineReader<R> {
     /// The lines of what a reader gives. Where there is no memory for the buffer, the reader comes back as it was.
     pub fn new(alloc: Global, reader: R) -> Result<LineReader<R>, AllocFailed<R>>
         ensures held { IfOk result (λ lines. lines.held ≡ []) }
-        ensures open { IfOk result (λ lines. lines.reading ≡ Reading.Open) }
+        ensures open { IfOk result (λ lines. lines.reading ≡ ReadState.Open) }
         ensures lines { IfOk result (λ lines. lines.lines ≡ MAX_LINES) }
         ensures known { IfOk result (λ lines. lines.known ≡ R.remaining reader) }
         ensures returned { IfErr result (λ refused. refused.value ≡ reader) }
@@ -89,7 +89,7 @@ impl<R: Read> LineReader<R> {
                 start: 0,
                 searched: 0,
                 end: 0,
-                reading: Reading::Open,
+                reading: ReadState::Open,
                 lines: MAX_LINES,
             }),
             Err(_) => Err(AllocFailed { value: reader }),
@@ -140,8 +140,8 @@ impl<R: Read> LineReader<R> {
             return Some(held.starts_with(front));
         }
         match self.reading {
-            Reading::Open if front.starts_with(held) => None,
-            Reading::Open => Some(false),
+            ReadState::Open if front.starts_with(held) => None,
+            ReadState::Open => Some(false),
             _ => Some(held.starts_with(front)),
         }
     }
@@ -153,9 +153,9 @@ impl<R: Read> LineReader<R> {
     {
         if self.start == self.end {
             match self.reading {
-                Reading::Open => return Next::Unread,
-                Reading::Ended => return Next::End,
-                Reading::Failed => return Next::Failed,
+                ReadState::Open => return Next::Unread,
+                ReadState::Ended => return Next::End,
+                ReadState::Failed => return Next::Failed,
             }
         }
         if self.lines == 0 {
@@ -167,9 +167,9 @@ impl<R: Read> LineReader<R> {
                 return Next::Long;
             }
             match self.reading {
-                Reading::Open => return Next::Unread,
-                Reading::Failed => return Next::Failed,
-                Reading::Ended => {
+                ReadState::Open => return Next::Unread,
+                ReadState::Failed => return Next::Failed,
+                ReadState::Ended => {
                     self.piece_start = self.start;
                     self.piece_end = self.end;
                     self.start = self.end;
@@ -203,9 +203,9 @@ impl<R: Read> LineReader<R> {
         self.piece_start = 0;
         self.piece_end = 0;
         match read_behind(&mut self.reader, &mut self.buffer, self.end) {
-            Ok(0) => self.reading = Reading::Ended,
+            Ok(0) => self.reading = ReadState::Ended,
             Ok(count) => self.end += count,
-            Err(_) => self.reading = Reading::Failed,
+            Err(_) => self.reading = ReadState::Failed,
         }
     }
 

@@ -15,7 +15,7 @@ use Rattle.sq_live.specs.declared.fault.LiveFault.TheVariants.{Input}
 use Rattle.sq_live.specs.JobLines.{jobs_in, AreJobs, IsFirstFault}
 use Rattle.sq_live.specs.Live.{ComesToSpell, ComesToFail, HaveFault}
 use Rattle.sq_live.specs.Faults.{out_of_memory}
-use Rattle.sq_lines.specs.declared.reader.Reading.TheVariants.{Open}
+use Rattle.sq_lines.specs.declared.reader.ReadState.TheVariants.{Open}
 use Rattle.sq_lines.specs.Pieces.{PieceValue, pieces}
 use Rattle.sq_lines.specs.Given.{IsGiven}
 

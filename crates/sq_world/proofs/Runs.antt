@@ -7,7 +7,7 @@ use Rattle.sq_ranges.specs.OpeningValue.{OpeningValue}
 use Rattle.sq_model.specs.Trace.{Trace}
 use Rattle.sq_transition.specs.WorldValue.{WorldValue}
 use Rattle.sq_lines.specs.declared.reader.TheConstants.{MAX_LINES}
-use Rattle.sq_lines.specs.declared.reader.Reading.TheVariants.{Open}
+use Rattle.sq_lines.specs.declared.reader.ReadState.TheVariants.{Open}
 use Rattle.sq_lines.specs.Pieces.{PieceValue, pieces}
 use Rattle.sq_lines.specs.Coming.{LinesValue, CanCome, Leaves}
 use Rattle.sq_lines.specs.Given.{IsGiven}

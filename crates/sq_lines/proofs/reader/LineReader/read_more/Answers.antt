@@ -1,15 +1,15 @@
 use Rattle.std.proofs.Common.{◌≡◌, ◌+◌, ◌-◌, ◌++◌, length, refl, sym, ap, ◌∙◌, subst, arith}
 use Rattle.std.specs.Prelude.{slice_range}
 use Rattle.std.specs.Io.KnownBytes.{Consumes}
-use Rattle.sq_lines.specs.declared.reader.Reading.{Reading}
-use Rattle.sq_lines.specs.declared.reader.Reading.TheVariants.{Open, Ended}
+use Rattle.sq_lines.specs.declared.reader.ReadState.{ReadState}
+use Rattle.sq_lines.specs.declared.reader.ReadState.TheVariants.{Open, Ended}
 use Rattle.sq_lines.specs.Coming.{LinesValue}
 use Rattle.sq_lines.proofs.Ranges.{length_range}
 use Rattle.sq_lines.proofs.Comings.{read_before, fail_before}
 use Rattle.sq_lines.proofs.Buffers.{read_on, read_behind}
 use Rattle.sq_lines.proofs.reader.LineReader.read_more.Goals as goal
 
-not_both : {P : Type 0} {r : Reading} → r ≡ Open → r ≡ Ended → P
+not_both : {P : Type 0} {r : ReadState} → r ≡ Open → r ≡ Ended → P
 not_both o e = absurd cc
 
 pub invariant_of-self : goal.invariant_of-self
