@@ -3,7 +3,7 @@ ghost use Rattle.std.specs.Prelude.{IfOk};
 ghost use Rattle.sq_audit.specs.Answers.{IdsDiffer};
 
 use crate::node::PAIR;
-use crate::run::{Run, job, read_opening};
+use crate::run::{TestRun, job, read_opening};
 use crate::text::text_of;
 use sq_audit::{Defect, Folded, Job, Unfolded, Verdict, audit, fold};
 use sq_gather::Gathered;
@@ -36,7 +36,7 @@ fn jobs(alloc: Global, first: &str, second: &str) -> Result<Vec<Job>, Fail>
 
 // What is gathered of the run, in which partition 0 answers both.
 fn worked<R: Wait>(rt: &R, alloc: Global) -> Result<Gathered, Fail> {
-    let mut run = Run::opened(alloc, PAIR, 1)?;
+    let mut run = TestRun::opened(alloc, PAIR, 1)?;
     run.post(rt, alloc, FIRST)?;
     run.post(rt, alloc, SECOND)?;
     for _turn in 0..4 {
@@ -171,7 +171,7 @@ fn one_job(alloc: Global, line: &str) -> Result<Vec<Job>, Fail>
 
 // What is gathered of the run of this job after so many turns, first of partition 0 and then of 1 and so on.
 fn pulled<R: Wait>(rt: &R, alloc: Global, turns: usize) -> Result<Gathered, Fail> {
-    let mut run = Run::opened(alloc, PAIR, 1)?;
+    let mut run = TestRun::opened(alloc, PAIR, 1)?;
     run.post(rt, alloc, PULL)?;
     for turn in 0..turns {
         run.turn(rt, turn % 2)?;
@@ -207,7 +207,7 @@ const ADD_MORE: &str = "txn 0 1 5 add 0 0 2";
 
 // What is gathered of the run of the first of these jobs, of which a pump moves all.
 fn moved<R: Wait>(rt: &R, alloc: Global) -> Result<Gathered, Fail> {
-    let mut run = Run::opened(alloc, PAIR, 1)?;
+    let mut run = TestRun::opened(alloc, PAIR, 1)?;
     run.post(rt, alloc, ADD)?;
     run.turn(rt, 0)?;
     run.turn_pump(rt, 0)?;

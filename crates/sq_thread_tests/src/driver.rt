@@ -1,7 +1,7 @@
 // Workers one by one: how many turns they take, and what they ask before each step.
 use crate::gates::Recorder;
 use crate::node::PAIR;
-use crate::run::Run;
+use crate::run::TestRun;
 use sq_driver::{NodeStep, OpenGate};
 use std::alloc::Global;
 use std::sync::Wait;
@@ -14,8 +14,8 @@ config 1 64 1
 "#;
 
 // Two transactions on one root key, which the only partition has.
-fn two_jobs<R: Wait>(rt: &R, alloc: Global) -> Result<Run, Fail> {
-    let run = Run::opened(alloc, ALONE, 0)?;
+fn two_jobs<R: Wait>(rt: &R, alloc: Global) -> Result<TestRun, Fail> {
+    let run = TestRun::opened(alloc, ALONE, 0)?;
     run.post(rt, alloc, "txn 0 1 5 put 0 0 1 -")?;
     run.post(rt, alloc, "txn 0 2 5 get 0 0")?;
     Ok(run)
@@ -69,7 +69,7 @@ fn a_gate_ends_a_node(rt: HostRuntime) -> Result<(), Fail> {
 #[test]
 fn a_pump_takes_its_turns(rt: HostRuntime) -> Result<(), Fail> {
     let alloc = rt.alloc();
-    let mut run = Run::opened(alloc, PAIR, 1)?;
+    let mut run = TestRun::opened(alloc, PAIR, 1)?;
     let closed = Recorder::new(Some(NodeStep::Pump));
     run.drive_pump(&rt, 0, 1_000_000, &closed)?;
     assert!(rt; closed.told() == (2, 0x9));

@@ -1,14 +1,14 @@
 // Gathering a run that turned in one thread.
 use crate::node::PAIR;
-use crate::run::Run;
+use crate::run::TestRun;
 use crate::text::text_of;
 use std::alloc::Global;
 use std::sync::Wait;
 use std::test::Fail;
 
 // The run in which a transaction at partition 1 pulled leaf 1, until node 0 cut the chunk for it.
-fn cut<R: Wait>(rt: &R, alloc: Global) -> Result<Run, Fail> {
-    let mut run = Run::opened(alloc, PAIR, 1)?;
+fn cut<R: Wait>(rt: &R, alloc: Global) -> Result<TestRun, Fail> {
+    let mut run = TestRun::opened(alloc, PAIR, 1)?;
     run.post(rt, alloc, "txn 1 9 5 get 0 0")?;
     for part in [0, 1, 0] {
         run.turn(rt, part)?;

@@ -1,5 +1,5 @@
 // Nodes in one thread: a pull of one leaf, and requests that no claim made.
-use crate::run::Run;
+use crate::run::TestRun;
 use crate::text::{receipts_text, text_of};
 use sq_node::Stepped;
 use sq_pull::{PumpTurn, Request};
@@ -35,7 +35,7 @@ receipt 5 0 commit 9 10/-
 #[test]
 fn a_pull_of_one_leaf(rt: HostRuntime) -> Result<(), Fail> {
     let alloc = rt.alloc();
-    let mut run = Run::opened(alloc, PAIR, 1)?;
+    let mut run = TestRun::opened(alloc, PAIR, 1)?;
     run.post(&rt, alloc, "txn 1 9 5 get 0 0")?;
     for part in [0, 1, 0, 1] {
         run.turn(&rt, part)?;
@@ -71,8 +71,8 @@ fn won(node: u64) -> Result<PumpTurn, Fail> {
 const CHECK: &str = "txn 0 1 9 check 0 0 1";
 
 // A run whose queue of jobs to partition 0 is full: it has 4,096 places, and one more job comes back.
-fn full_of_jobs<R: Wait>(rt: &R, alloc: Global) -> Result<Run, Fail> {
-    let run = Run::opened(alloc, PAIR, 0)?;
+fn full_of_jobs<R: Wait>(rt: &R, alloc: Global) -> Result<TestRun, Fail> {
+    let run = TestRun::opened(alloc, PAIR, 0)?;
     for _job in 0..4096 {
         run.post(rt, alloc, CHECK)?;
     }
@@ -129,7 +129,7 @@ const NO_SEGMENT: Request = Request {
 };
 
 // How many places the queue of requests to a partition has left. It is full then.
-fn places_left<R: Wait>(rt: &R, run: &Run, part: u8) -> Result<u64, Fail> {
+fn places_left<R: Wait>(rt: &R, run: &TestRun, part: u8) -> Result<u64, Fail> {
     for taken in 0..1000 {
         if !run.has_requested(rt, part, NO_SEGMENT)? {
             return Ok(taken);
@@ -142,7 +142,7 @@ fn places_left<R: Wait>(rt: &R, run: &Run, part: u8) -> Result<u64, Fail> {
 #[test]
 fn a_request_that_finds_a_full_queue_is_kept(rt: HostRuntime) -> Result<(), Fail> {
     let alloc = rt.alloc();
-    let mut run = Run::opened(alloc, PAIR, 0)?;
+    let mut run = TestRun::opened(alloc, PAIR, 0)?;
     assert!(rt; places_left(&rt, &run, 0)? == 256);
     run.post(&rt, alloc, "txn 1 9 5 get 0 0")?;
     for _turn in 0..3 {
@@ -177,7 +177,7 @@ const PULLS: [(u8, &str, [u64; 3]); 3] = [
 fn a_request_goes_to_the_source_alone(rt: HostRuntime) -> Result<(), Fail> {
     let alloc = rt.alloc();
     for (part, line, left) in PULLS {
-        let mut run = Run::opened(alloc, ROUND, 0)?;
+        let mut run = TestRun::opened(alloc, ROUND, 0)?;
         run.post(&rt, alloc, line)?;
         // The turn of the partition takes this one, and leaves there what comes behind it.
         run.request(&rt, part, NO_SEGMENT)?;
@@ -193,7 +193,7 @@ fn a_request_goes_to_the_source_alone(rt: HostRuntime) -> Result<(), Fail> {
 #[test]
 fn a_job_that_is_refused_is_taken_again(rt: HostRuntime) -> Result<(), Fail> {
     let alloc = rt.alloc();
-    let mut run = Run::opened(alloc, PAIR, 0)?;
+    let mut run = TestRun::opened(alloc, PAIR, 0)?;
     for id in 0..1025 {
         let line = format!(in alloc; "txn 1 {id} 5 get 0 0")?;
         run.post(&rt, alloc, &line)?;
@@ -221,8 +221,8 @@ const WRONG: [(u8, u64, u64, u32); 5] = [
 ];
 
 // The run after these requests and five turns of each node.
-fn after_wrong_requests<R: Wait>(rt: &R, alloc: Global) -> Result<Run, Fail> {
-    let mut run = Run::opened(alloc, PAIR, 1)?;
+fn after_wrong_requests<R: Wait>(rt: &R, alloc: Global) -> Result<TestRun, Fail> {
+    let mut run = TestRun::opened(alloc, PAIR, 1)?;
     for (part, seg, node, pull) in WRONG {
         run.request(rt, part, Request { seg, node, pull })?;
     }

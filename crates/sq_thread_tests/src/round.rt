@@ -1,5 +1,5 @@
 // Four partitions, each of which gives its five root keys to the next, with all workers at once.
-use crate::run::Run;
+use crate::run::TestRun;
 use crate::text::answer_text;
 use sq_chunk::Note;
 use sq_driver::OpenGate;
@@ -24,13 +24,13 @@ const KEYS: u64 = 20;
 const JOBS: u64 = 2000;
 
 // The run of these partitions, where each of the root keys has a root row with the number 0, and two pumps.
-fn opened(alloc: Global) -> Result<Run, Fail> {
+fn opened(alloc: Global) -> Result<TestRun, Fail> {
     let mut header = String::new(alloc);
     header.push_str(HEADER)?;
     for key in 0..KEYS {
         header.push_str(&format!(in alloc; "row {key} 0 0 0 -\n")?)?;
     }
-    Run::opened(alloc, &header, 2)
+    TestRun::opened(alloc, &header, 2)
 }
 
 // The family of a root key, where the partition has it that is to have it in the end.

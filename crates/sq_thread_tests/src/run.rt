@@ -42,38 +42,38 @@ pub fn job(alloc: Global, line: &str) -> Result<Job, Fail> {
 
 /// A run: what its nodes share, all nodes and all pumps.
 #[derive(Drop)]
-pub struct Run {
+pub struct TestRun {
     fabric: Fabric,
     nodes: Vec<Node>,
     pumps: Vec<Pump>,
     ghost whole: { AreAllOf fabric nodes.items pumps.items },
 }
 
-impl Run {
+impl TestRun {
     /// The run of a header, with this many pumps.
-    pub fn opened(alloc: Global, header: &str, pumps: u32) -> Result<Run, Fail>
+    pub fn opened(alloc: Global, header: &str, pumps: u32) -> Result<TestRun, Fail>
         requires { pumps ≤ MAX_PUMPS }
     {
         let opening = read_opening(alloc, header)?;
-        Ok(Run::of(alloc, &opening, pumps)?)
+        Ok(TestRun::of(alloc, &opening, pumps)?)
     }
 
     /// The run of an opening, with this many pumps.
-    pub fn of(alloc: Global, opening: &Opening, pumps: u32) -> Result<Run, AllocError>
+    pub fn of(alloc: Global, opening: &Opening, pumps: u32) -> Result<TestRun, AllocError>
         requires { pumps ≤ MAX_PUMPS }
     {
         let (fabric, nodes, pumps) = Fabric::open(alloc, opening, pumps)?;
         // For the proof: what holds of each opening and each fabric, which these say.
         let _recon = opening.recon();
         let _links = fabric.links();
-        Ok(Run::new(fabric, nodes, pumps))
+        Ok(TestRun::new(fabric, nodes, pumps))
     }
 
     /// The run of these, which are all.
-    pub fn new(fabric: Fabric, nodes: Vec<Node>, pumps: Vec<Pump>) -> Run
+    pub fn new(fabric: Fabric, nodes: Vec<Node>, pumps: Vec<Pump>) -> TestRun
         requires { AreAllOf fabric nodes.items pumps.items }
     {
-        Run {
+        TestRun {
             fabric,
             nodes,
             pumps,
@@ -203,8 +203,8 @@ impl Run {
     }
 
     /// What is gathered of it. Where there is no memory for it, it comes back.
-    pub fn gather<R: Wait>(self, rt: &R, alloc: Global) -> Result<Gathered, Run> {
-        let Run {
+    pub fn gather<R: Wait>(self, rt: &R, alloc: Global) -> Result<Gathered, TestRun> {
+        let TestRun {
             fabric,
             nodes,
             pumps,
@@ -217,7 +217,7 @@ impl Run {
                     nodes,
                     pumps,
                 },
-            ) => Err(Run {
+            ) => Err(TestRun {
                 fabric,
                 nodes,
                 pumps,

@@ -1,6 +1,6 @@
 use Rattle.std.proofs.Common.{arith}
 use Rattle.sq_thread_tests.proofs.Whole.{node_at, with_node}
-use Rattle.sq_thread_tests.proofs.run.Run.steps.Goals as goal
+use Rattle.sq_thread_tests.proofs.run.TestRun.steps.Goals as goal
 
 pub make_steps-requires : goal.make_steps-requires
 make_steps-requires g c =

@@ -1,6 +1,6 @@
 use Rattle.std.proofs.Common.{arith}
 use Rattle.sq_thread_tests.proofs.Whole.{turn_part, node_at, with_node}
-use Rattle.sq_thread_tests.proofs.run.Run.turn.Goals as goal
+use Rattle.sq_thread_tests.proofs.run.TestRun.turn.Goals as goal
 
 pub turn-requires : goal.turn-requires
 turn-requires g c =

@@ -1,6 +1,6 @@
 use Rattle.std.proofs.Common.{◌∙◌, arith}
 use Rattle.sq_thread_tests.proofs.Whole.{with_pump}
-use Rattle.sq_thread_tests.proofs.run.Run.turn_pump.Goals as goal
+use Rattle.sq_thread_tests.proofs.run.TestRun.turn_pump.Goals as goal
 
 pub invariant_of-self-2 : goal.invariant_of-self-2
 invariant_of-self-2 g c =

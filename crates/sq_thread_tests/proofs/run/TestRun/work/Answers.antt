@@ -8,7 +8,7 @@ use Rattle.sq_driver.specs.Nodes.{AllDriven}
 use Rattle.sq_driver.specs.Pumps.{AllPumpsDriven}
 use Rattle.sq_live.proofs.Driven.{written, whole_driven}
 use Rattle.sq_thread_tests.proofs.Whole.{all_nodes, all_pumps}
-use Rattle.sq_thread_tests.proofs.run.Run.work.Goals as goal
+use Rattle.sq_thread_tests.proofs.run.TestRun.work.Goals as goal
 
 pub run_workers-requires-clause-nodes : goal.run_workers-requires-clause-nodes
 run_workers-requires-clause-nodes g c κs within =
