@@ -107,7 +107,7 @@ PROGRAM
 refused_nodes() {
     cat <<'PROGRAM'
 
-use sq_link::Link;
+use sq_link::SharedLink;
 use sq_plan::PartId;
 use sq_status::StatusTree;
 use sq_tree::NodeId;
@@ -136,11 +136,11 @@ fn try_tree<R: Print>(rt: &R, alloc: Global) -> Result<(), Fail> {
 
 // A link of two chunks, which is empty.
 fn try_link<R: Wait + Print>(rt: &R, alloc: Global) -> Result<(), Fail> {
-    let (link, send, recv) = match Link::open(alloc, PartId::new(3), PartId::new(1), 2) {
+    let (link, send, recv) = match SharedLink::open(alloc, PartId::new(3), PartId::new(1), 2) {
         Ok(opened) => opened,
         Err(_) => {
             println!(rt; "refused link")?;
-            Link::open(alloc, PartId::new(3), PartId::new(1), 2)?
+            SharedLink::open(alloc, PartId::new(3), PartId::new(1), 2)?
         }
     };
     let (src, dst, capacity) = (link.src().number(), link.dst().number(), link.capacity());

@@ -23,8 +23,8 @@ use Rattle.sq_status.specs.contracts.tree.StatusTree as StatusTree
 use Rattle.sq_status.specs.contracts.tree.TreeSeat as TreeSeat
 use Rattle.sq_status.specs.contracts.tree.TreeSeat.TheInside as Held
 use Rattle.sq_status.proofs.tree.StatusTree.TheSendSync as tree
-use Rattle.sq_link.specs.contracts.link.Link as Link
-use Rattle.sq_link.proofs.link.Link.TheSendSync as link
+use Rattle.sq_link.specs.contracts.link.SharedLink as SharedLink
+use Rattle.sq_link.proofs.link.SharedLink.TheSendSync as link
 use Rattle.sq_node.specs.contracts.receipt.Receipt as Receipt
 use Rattle.sq_node.proofs.receipt.Receipt.TheSendSync as receipt
 use Rattle.sq_node.specs.contracts.fabric.Fabric as Fabric
@@ -58,7 +58,7 @@ fabric_sync =
             (
               vec_sync TreeSeat.the_row tree_seat,
               (
-                vec_sync Link.the_row link.the_sync,
+                vec_sync SharedLink.the_row link.the_sync,
                 (
                   vec_sync Receipt.the_row receipt.the_sync,
                   (vec_sync _ (queue_sync Request.the_row request.the_send), (vec_sync _ (queue_sync Txn.the_row txn.the_send), (atomic.the_sync, (atomic.the_sync, tt)))),

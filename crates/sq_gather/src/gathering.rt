@@ -13,7 +13,7 @@ use crate::links::{ClosedLink, close_links};
 use crate::trees::close_trees;
 use crossbeam_queue::ArrayQueue;
 use sq_exec::CoreParts;
-use sq_link::Link;
+use sq_link::SharedLink;
 use sq_node::{Fabric, Node, NodeParts, Receipt};
 use sq_pull::Pump;
 use sq_schema::Txn;
@@ -178,7 +178,7 @@ impl Gathering {
         stage: u64,
         trees: Vec<StatusTree>,
         first: Vec<TreeSeat>,
-        links: Vec<Link>,
+        links: Vec<SharedLink>,
     ) -> Gathered
         requires { IsClosable trees.items first.items links.items self }
         ensures stage { result.stage ≡ stage }
@@ -211,7 +211,7 @@ fn count_receipts(past: usize, nodes: &[Node]) -> Option<usize>
 }
 
 // Room for what is under way on each link.
-fn reserve_ends(alloc: Global, links: &[Link]) -> Result<Vec<LinkEnds>, AllocError>
+fn reserve_ends(alloc: Global, links: &[SharedLink]) -> Result<Vec<LinkEnds>, AllocError>
     ensures { IfOk result (λ ends. AreReserved links.now ends.items) }
 {
     let mut ends = Vec::new(alloc);

@@ -3,7 +3,7 @@ ghost use Rattle.std.specs.Prelude.{◌≡◌, ◌+◌, Some, IfOk};
 ghost use Rattle.sq_gather.specs.Links.{no_ends};
 
 use sq_chunk::{Chunk, Note};
-use sq_link::{Link, RecvPass, SendPass};
+use sq_link::{RecvPass, SendPass, SharedLink};
 use std::alloc::{AllocError, Global};
 use std::marker::Model;
 
@@ -32,7 +32,7 @@ impl Model for LinkEnds {
 
 impl LinkEnds {
     /// Room for what is under way on a link: what its queue holds, and a chunk at each end. Its ends aren't there yet.
-    pub fn reserve(alloc: Global, link: &Link) -> Result<LinkEnds, AllocError>
+    pub fn reserve(alloc: Global, link: &SharedLink) -> Result<LinkEnds, AllocError>
         ensures { IfOk result (λ ends. ends ≡ no_ends (link.now.capacity + 2)) }
     {
         let places = (link.capacity() as usize).checked_add(2).ok_or(AllocError)?;

@@ -4,7 +4,7 @@ ghost use Rattle.sq_gather.specs.Links.{HasBothEnds, IsClosed, HaveBothEnds, Are
 
 use crate::link_ends::LinkEnds;
 use sq_chunk::{Chunk, Note};
-use sq_link::Link;
+use sq_link::SharedLink;
 use sq_plan::PartId;
 use std::marker::Model;
 use std::sync::Wait;
@@ -33,7 +33,7 @@ impl Model for ClosedLink {
 /// Closes the links, each with what its ends left of it. What comes is in the room that was brought.
 pub fn close_links<R: Wait>(
     rt: &R,
-    links: Vec<Link>,
+    links: Vec<SharedLink>,
     ends: Vec<LinkEnds>,
     mut room: Vec<ClosedLink>,
 ) -> Vec<ClosedLink>
@@ -53,7 +53,7 @@ pub fn close_links<R: Wait>(
 }
 
 /// Closes a link with what its ends left of it.
-pub fn close_link<R: Wait>(rt: &R, link: Link, ends: LinkEnds) -> ClosedLink
+pub fn close_link<R: Wait>(rt: &R, link: SharedLink, ends: LinkEnds) -> ClosedLink
     requires { HasBothEnds link ends }
     ensures { IsClosed link ends result }
 {

@@ -6,40 +6,40 @@ use lib.ListN.{get_elem?}
 use Rattle.crossbeam_queue.specs.Fifo.{Pushes, Pops, Forks, Merges, Learns}
 use Rattle.crossbeam_queue.proofs.Lists.{at_set}
 use Rattle.sq_chunk.specs.ChunkValue.{ChunkValue}
-use Rattle.sq_link.specs.declared.order.View.{View}
+use Rattle.sq_link.specs.declared.order.EndView.{EndView}
 use Rattle.sq_link.specs.Order.{ends, IsInOrder, IsEndOf, ComesAfter}
 
 -- what the rule says of a pass that may send, and of one that may receive
-abbrev MaySend : ℕ → List ChunkValue → ℕ → View → Type 0
+abbrev MaySend : ℕ → List ChunkValue → ℕ → EndView → Type 0
 MaySend sender sent pass v = v.sends ≡ true → (pass ≡ sender) × (v.sent ≡ sent)
 
-abbrev MayReceive : ℕ → List ChunkValue → ℕ → View → Type 0
+abbrev MayReceive : ℕ → List ChunkValue → ℕ → EndView → Type 0
 MayReceive receiver received pass v = v.receives ≡ true → (pass ≡ receiver) × (v.received ≡ received)
 
-abbrev EachPass : (ℕ → View → Type 0) → List View → Type 0
-EachPass Fact views = (pass : ℕ) (v : View) → get_elem? views pass ≡ some v → Fact pass v
+abbrev EachPass : (ℕ → EndView → Type 0) → List EndView → Type 0
+EachPass Fact views = (pass : ℕ) (v : EndView) → get_elem? views pass ≡ some v → Fact pass v
 
 -- after a change of one pass
-each-set : (Fact : ℕ → View → Type 0) (views : List View) (pass : ℕ) (w : View) → Fact pass w
-    → ((j : ℕ) (u : View) → j ≢ pass → get_elem? views j ≡ some u → Fact j u) → EachPass Fact (set views pass w)
+each-set : (Fact : ℕ → EndView → Type 0) (views : List EndView) (pass : ℕ) (w : EndView) → Fact pass w
+    → ((j : ℕ) (u : EndView) → j ≢ pass → get_elem? views j ≡ some u → Fact j u) → EachPass Fact (set views pass w)
 each-set Fact views pass w mine others j u at =
-    ⊎_elim (λ (same : (j ≡ pass) × (w ≡ u)). subst (λ (p : ℕ × View). Fact p.0 p.1) (λ i. (sym same.0 i, same.1 i)) mine)
+    ⊎_elim (λ (same : (j ≡ pass) × (w ≡ u)). subst (λ (p : ℕ × EndView). Fact p.0 p.1) (λ i. (sym same.0 i, same.1 i)) mine)
     (λ (other : (j ≢ pass) × (get_elem? views j ≡ some u)). others j u other.0 other.1) (at_set views pass j w u at)
 
-at-snoc : (views : List View) (w u : View) (j : ℕ) → get_elem? (views ++ w ∷ []) j ≡ some u → (get_elem? views j ≡ some u) ⊎ ((j ≡ length views) × (w ≡ u))
+at-snoc : (views : List EndView) (w u : EndView) (j : ℕ) → get_elem? (views ++ w ∷ []) j ≡ some u → (get_elem? views j ≡ some u) ⊎ ((j ≡ length views) × (w ≡ u))
 at-snoc [] w u zero at = inr (refl, some-injective w u at)
 at-snoc [] w u (suc j) at = absurd (some-ne-none u (sym at))
 at-snoc (v ∷ views) w u zero at = inl at
 at-snoc (v ∷ views) w u (suc j) at = ⊎_elim (λ old. inl old) (λ new. inr (ap suc new.0, new.1)) (at-snoc views w u j at)
 
 -- with one pass more
-each-snoc : (Fact : ℕ → View → Type 0) (views : List View) (w : View) → EachPass Fact views → Fact (length views) w → EachPass Fact (views ++ w ∷ [])
+each-snoc : (Fact : ℕ → EndView → Type 0) (views : List EndView) (w : EndView) → EachPass Fact views → Fact (length views) w → EachPass Fact (views ++ w ∷ [])
 each-snoc Fact views w old new j u at =
-    ⊎_elim (λ there. old j u there) (λ (last : (j ≡ length views) × (w ≡ u)). subst (λ (p : ℕ × View). Fact p.0 p.1) (λ i. (sym last.0 i, last.1 i)) new) (at-snoc views w u j at)
+    ⊎_elim (λ there. old j u there) (λ (last : (j ≡ length views) × (w ≡ u)). subst (λ (p : ℕ × EndView). Fact p.0 p.1) (λ i. (sym last.0 i, last.1 i)) new) (at-snoc views w u j at)
 
 -- the first pass, which has both ends of an empty link
 pub begins : IsInOrder [] (ends true true [] [] ∷ [])
-begins = let first : View = ends true true [] [] in record {
+begins = let first : EndView = ends true true [] [] in record {
   sender = 0;
   receiver = 0;
   sent = [];
@@ -50,9 +50,9 @@ begins = let first : View = ends true true [] [] in record {
 }
 
 -- a push by the pass that may send
-pub sends : (n pass : ℕ) (v : View) (chunk : ChunkValue) → v.sends ≡ true → Pushes IsInOrder n pass v chunk (λ w. w ≡ ends v.sends v.receives (v.sent ++ chunk ∷ []) v.received)
+pub sends : (n pass : ℕ) (v : EndView) (chunk : ChunkValue) → v.sends ≡ true → Pushes IsInOrder n pass v chunk (λ w. w ≡ ends v.sends v.receives (v.sent ++ chunk ∷ []) v.received)
 sends n pass v chunk may items views _ rule at =
-    let w : View = ends v.sends v.receives (v.sent ++ chunk ∷ []) v.received in
+    let w : EndView = ends v.sends v.receives (v.sent ++ chunk ∷ []) v.received in
     let sent = rule.sent ++ chunk ∷ [] in
     let mine = rule.sends pass v at may in (
       w,
@@ -69,9 +69,9 @@ sends n pass v chunk may items views _ rule at =
     )
 
 -- a pop by the pass that may receive
-pub receives : (pass : ℕ) (v : View) → v.receives ≡ true → Pops IsInOrder pass v (λ chunk w. w ≡ ends v.sends v.receives v.sent (v.received ++ chunk ∷ []))
+pub receives : (pass : ℕ) (v : EndView) → v.receives ≡ true → Pops IsInOrder pass v (λ chunk w. w ≡ ends v.sends v.receives v.sent (v.received ++ chunk ∷ []))
 receives pass v may chunk items views rule at =
-    let w : View = ends v.sends v.receives v.sent (v.received ++ chunk ∷ []) in
+    let w : EndView = ends v.sends v.receives v.sent (v.received ++ chunk ∷ []) in
     let received = rule.received ++ chunk ∷ [] in
     let mine = rule.receives pass v at may in (
       w,
@@ -88,11 +88,11 @@ receives pass v may chunk items views rule at =
     )
 
 -- the pass with both ends keeps the sending one and gives the other away
-pub parts : (pass : ℕ) (v : View) → v.sends ≡ true → v.receives ≡ true → Forks IsInOrder pass v (ends true false v.sent []) (ends false true [] v.received)
+pub parts : (pass : ℕ) (v : EndView) → v.sends ≡ true → v.receives ≡ true → Forks IsInOrder pass v (ends true false v.sent []) (ends false true [] v.received)
 parts pass v may_send may_receive items views rule at =
-    let sender : View = ends true false v.sent [] in
-    let receiver : View = ends false true [] v.received in
-    let rest : List View = set views pass sender in
+    let sender : EndView = ends true false v.sent [] in
+    let receiver : EndView = ends false true [] v.received in
+    let rest : List EndView = set views pass sender in
     let mine = rule.sends pass v at may_send in
     let theirs = rule.receives pass v at may_receive in
     let none : EachPass (λ j u. u.receives ≡ true → ⊥) rest =
@@ -108,12 +108,12 @@ parts pass v may_send may_receive items views rule at =
     }
 
 -- the sending pass takes the receiving one in, which is given up
-pub joins : (pass : ℕ) (v : View) (other : ℕ) (u : View) → v.sends ≡ true → u.receives ≡ true
+pub joins : (pass : ℕ) (v : EndView) (other : ℕ) (u : EndView) → v.sends ≡ true → u.receives ≡ true
     → Merges IsInOrder pass v other u (ends true true v.sent u.received) (ends false false [] [])
 joins pass v other u may_send may_receive items views rule at apart at_other =
-    let both : View = ends true true v.sent u.received in
-    let spent : View = ends false false [] [] in
-    let rest : List View = set views pass both in
+    let both : EndView = ends true true v.sent u.received in
+    let spent : EndView = ends false false [] [] in
+    let rest : List EndView = set views pass both in
     let was : get_elem? views other ≡ some u =
     ⊎_elim (λ (same : (other ≡ pass) × (both ≡ u)). absurd (apart same.0)) (λ (kept : (other ≢ pass) × (get_elem? views other ≡ some u)). kept.1) (at_set views pass other both u at_other) in
     let mine = rule.sends pass v at may_send in
@@ -132,20 +132,20 @@ joins pass v other u may_send may_receive items views rule at apart at_other =
     }
 
 -- the sender knows that the queue holds the last ones of what it sent
-pub learns_end : (pass : ℕ) (v : View) → v.sends ≡ true → Learns IsInOrder pass v (IsEndOf v.sent)
+pub learns_end : (pass : ℕ) (v : EndView) → v.sends ≡ true → Learns IsInOrder pass v (IsEndOf v.sent)
 learns_end pass v may items views rule at = (rule.received, (rule.sends pass v at may).1 ∙ rule.order)
 
 -- the receiver knows that what the queue holds was sent after what it received
-pub learns_next : (pass : ℕ) (v : View) → v.receives ≡ true → Learns IsInOrder pass v (ComesAfter v.received)
+pub learns_next : (pass : ℕ) (v : EndView) → v.receives ≡ true → Learns IsInOrder pass v (ComesAfter v.received)
 learns_next pass v may items views rule at = (rule.sent, rule.order ∙ ap (λ l. l ++ items) (sym (rule.receives pass v at may).1))
 
 -- who has both ends knows what the queue holds
-pub learns_whole : (pass : ℕ) (v : View) → v.sends ≡ true → v.receives ≡ true → Learns IsInOrder pass v (λ items. v.sent ≡ v.received ++ items)
+pub learns_whole : (pass : ℕ) (v : EndView) → v.sends ≡ true → v.receives ≡ true → Learns IsInOrder pass v (λ items. v.sent ≡ v.received ++ items)
 learns_whole pass v may_send may_receive items views rule at =
     (rule.sends pass v at may_send).1 ∙ rule.order ∙ ap (λ l. l ++ items) (sym (rule.receives pass v at may_receive).1)
 
 -- after as many pops as the queue held, nothing is left
-pub empties : (before after : View) (sent received rest items more : List ChunkValue) → before ≡ ends true true sent received → after ≡ ends true true sent (received ++ rest)
+pub empties : (before after : EndView) (sent received rest items more : List ChunkValue) → before ≡ ends true true sent received → after ≡ ends true true sent (received ++ rest)
     → before.sent ≡ before.received ++ items → after.sent ≡ after.received ++ more → length items ≡ length rest → sent ≡ received ++ rest
 empties before after sent received rest items more was is held left long =
     let first : sent ≡ received ++ items = ap (λ v. v.sent) (sym was) ∙ held ∙ ap (λ v. v.received ++ items) was in

@@ -3,21 +3,21 @@ use Rattle.std.specs.Prelude.{◌≡◌, ℕ, Bool, true, List, ◌++◌}
 use mathlib.Core.Option.{some}
 use lib.ListN.{get_elem?}
 use Rattle.sq_chunk.specs.ChunkValue.{ChunkValue}
-use Rattle.sq_link.specs.declared.order.View.{View}
+use Rattle.sq_link.specs.declared.order.EndView.{EndView}
 
 -- a pass that may send or not and may receive or not, with what it sent and what it received
-abbrev pub ends : Bool → Bool → List ChunkValue → List ChunkValue → View
+abbrev pub ends : Bool → Bool → List ChunkValue → List ChunkValue → EndView
 ends sends receives sent received = record { sends = sends; receives = receives; sent = sent; received = received }
 
 -- The rule of the queue, whatever each thread has done: one pass at most sends, and it knows all that was sent; one at most receives, and it knows all that was received
-pub record IsInOrder (items : List ChunkValue) (views : List View) : Type 0 where
+pub record IsInOrder (items : List ChunkValue) (views : List EndView) : Type 0 where
   pub sender : ℕ
   pub receiver : ℕ
   pub sent : List ChunkValue
   pub received : List ChunkValue
   pub order : sent ≡ received ++ items
-  pub sends : (pass : ℕ) (v : View) → get_elem? views pass ≡ some v → v.sends ≡ true → (pass ≡ sender) × (v.sent ≡ sent)
-  pub receives : (pass : ℕ) (v : View) → get_elem? views pass ≡ some v → v.receives ≡ true → (pass ≡ receiver) × (v.received ≡ received)
+  pub sends : (pass : ℕ) (v : EndView) → get_elem? views pass ≡ some v → v.sends ≡ true → (pass ≡ sender) × (v.sent ≡ sent)
+  pub receives : (pass : ℕ) (v : EndView) → get_elem? views pass ≡ some v → v.receives ≡ true → (pass ≡ receiver) × (v.received ≡ received)
 
 -- the items are the last ones of what was sent
 abbrev pub IsEndOf : List ChunkValue → List ChunkValue → Type 0

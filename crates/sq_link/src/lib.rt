@@ -5,5 +5,5 @@ mod link;
 mod order;
 mod pass;
 
-pub use link::Link;
+pub use link::SharedLink;
 pub use pass::{RecvPass, SendPass};

@@ -3,7 +3,7 @@ ghost use Rattle.std.specs.Prelude.{◌≡◌, ◌<◌, ◌≤◌, [], ◌∷◌
 ghost use Rattle.crossbeam_queue.specs.Fifo.{Held};
 ghost use Rattle.sq_link.specs.Order.{IsEndOf, ComesAfter};
 
-use crate::order::{Ends, Queue, Receives, Sends, Whole};
+use crate::order::{Ends, LinkQueue, Receives, Sends, Whole};
 use crate::pass::{RecvPass, SendPass};
 use sq_chunk::Chunk;
 use sq_plan::PartId;
@@ -13,14 +13,14 @@ use std::sync::Wait;
 
 /// The way of chunks from one partition to another, which the two threads share by `&`. To a contract it is a `LinkValue`.
 #[derive(Drop)]
-pub struct Link {
+pub struct SharedLink {
     src: PartId,
     dst: PartId,
-    queue: Queue,
+    queue: LinkQueue,
     room: Vec<Chunk>,
 }
 
-impl Model for Link {
+impl Model for SharedLink {
     ghost use Rattle.std.specs.Prelude.{◌≡◌, ◌≤◌, vec_len, vec_capacity};
     ghost use Rattle.sq_link.specs.Values.{LinkValue};
 
@@ -33,14 +33,14 @@ impl Model for Link {
     ghost invariant = { λ l. (vec_len l.room ≡ 0) × (ruled_capacity l.queue ≤ vec_capacity l.room) };
 }
 
-impl Link {
+impl SharedLink {
     /// An empty link from `src` to `dst` with room for `capacity` chunks, and its two ends.
     pub fn open(
         alloc: Global,
         src: PartId,
         dst: PartId,
         capacity: u64,
-    ) -> Result<(Link, SendPass, RecvPass), AllocError>
+    ) -> Result<(SharedLink, SendPass, RecvPass), AllocError>
         requires { 0 < capacity }
         ensures link { IfOk result (λ opened. (opened.0.src ≡ src) × (opened.0.dst ≡ dst) × (opened.0.capacity ≡ capacity)) }
         ensures sender { IfOk result (λ opened. opened.1 ≡ record { queue = opened.0.queue; sent = [] }) }
@@ -48,9 +48,9 @@ impl Link {
     {
         let capacity = capacity as usize;
         let room = Vec::with_capacity(alloc, capacity)?;
-        let (queue, mut sender) = Queue::ruled(alloc, capacity)?;
+        let (queue, mut sender) = LinkQueue::ruled(alloc, capacity)?;
         let receiver = queue.another::<Ends>(&mut sender);
-        let link = Link {
+        let link = SharedLink {
             src,
             dst,
             queue,
@@ -107,7 +107,7 @@ impl Link {
         ensures rest { sender.sent ≡ receiver.received ++ result.items }
         ensures few { length result.items ≤ self.capacity }
     {
-        let Link {
+        let SharedLink {
             src: _,
             dst: _,
             queue,

@@ -5,21 +5,21 @@ use sq_chunk::Chunk;
 use std::collections::LinkedList;
 
 // What a pass knows: which ends of the link it has, what it sent and what it received. No value of it is made.
-pub struct View {
+pub struct EndView {
     pub sends: bool,
     pub receives: bool,
     pub sent: LinkedList<Chunk>,
     pub received: LinkedList<Chunk>,
 }
 
-pub type End = Pass<Chunk, View>;
+pub type End = Pass<Chunk, EndView>;
 
-pub type Queue = RuledArrayQueue<Chunk, View, InOrder>;
+pub type LinkQueue = RuledArrayQueue<Chunk, EndView, InOrder>;
 
 // What was sent is what was received and then what the queue holds.
 pub struct InOrder;
 
-impl Protocol<Chunk, View> for InOrder {
+impl Protocol<Chunk, EndView> for InOrder {
     ghost use Rattle.std.specs.Prelude.{true, []};
     ghost use Rattle.sq_link.specs.Order.{ends, IsInOrder};
 
@@ -31,7 +31,7 @@ impl Protocol<Chunk, View> for InOrder {
 // The two ends, from one pass into two and back.
 pub struct Ends;
 
-impl Split<View> for Ends {
+impl Split<EndView> for Ends {
     ghost use Rattle.std.specs.Prelude.{true, false, []};
     ghost use Rattle.sq_link.specs.Order.{ends};
 
@@ -40,7 +40,7 @@ impl Split<View> for Ends {
     ghost right = { λ v. ends false true [] v.received };
 }
 
-impl Join<View> for Ends {
+impl Join<EndView> for Ends {
     ghost use Rattle.std.specs.Prelude.{true, false, []};
     ghost use Rattle.sq_link.specs.Order.{ends};
 
@@ -52,14 +52,14 @@ impl Join<View> for Ends {
 // A push, and what a sender knows of a full queue.
 pub struct Sends;
 
-impl Outcome<Chunk, View> for Sends {
+impl Outcome<Chunk, EndView> for Sends {
     ghost use Rattle.std.specs.Prelude.{◌≡◌, [], ◌∷◌, ◌++◌};
     ghost use Rattle.sq_link.specs.Order.{ends};
 
     ghost then = { λ v chunk w. w ≡ ends v.sends v.receives (v.sent ++ chunk ∷ []) v.received };
 }
 
-impl Lesson<Chunk, View> for Sends {
+impl Lesson<Chunk, EndView> for Sends {
     ghost use Rattle.sq_link.specs.Order.{IsEndOf};
 
     ghost fact = { λ v. IsEndOf v.sent };
@@ -68,14 +68,14 @@ impl Lesson<Chunk, View> for Sends {
 // A pop, and what a receiver knows of an empty queue.
 pub struct Receives;
 
-impl Outcome<Chunk, View> for Receives {
+impl Outcome<Chunk, EndView> for Receives {
     ghost use Rattle.std.specs.Prelude.{◌≡◌, [], ◌∷◌, ◌++◌};
     ghost use Rattle.sq_link.specs.Order.{ends};
 
     ghost then = { λ v chunk w. w ≡ ends v.sends v.receives v.sent (v.received ++ chunk ∷ []) };
 }
 
-impl Lesson<Chunk, View> for Receives {
+impl Lesson<Chunk, EndView> for Receives {
     ghost use Rattle.sq_link.specs.Order.{ComesAfter};
 
     ghost fact = { λ v. ComesAfter v.received };
@@ -84,14 +84,14 @@ impl Lesson<Chunk, View> for Receives {
 // What a pass with both ends knows: what was sent and isn't received is what the queue holds.
 pub struct Whole;
 
-impl Outcome<Chunk, View> for Whole {
+impl Outcome<Chunk, EndView> for Whole {
     ghost use Rattle.std.specs.Prelude.{◌≡◌, [], ◌∷◌, ◌++◌};
     ghost use Rattle.sq_link.specs.Order.{ends};
 
     ghost then = { λ v chunk w. w ≡ ends v.sends v.receives v.sent (v.received ++ chunk ∷ []) };
 }
 
-impl Lesson<Chunk, View> for Whole {
+impl Lesson<Chunk, EndView> for Whole {
     ghost use Rattle.std.specs.Prelude.{◌≡◌, ◌++◌};
 
     ghost fact = { λ v items. v.sent ≡ v.received ++ items };

@@ -5,7 +5,7 @@ ghost use Rattle.sq_node.specs.declared.ends.RecvEnd.{RecvEnd};
 ghost use Rattle.sq_node.specs.Ends.{sent_on, received_on, IsSendEnd, IsRecvEnd, WasFull, WasEmpty};
 
 use sq_chunk::Chunk;
-use sq_link::{Link, RecvPass, SendPass};
+use sq_link::{RecvPass, SendPass, SharedLink};
 use std::marker::Model;
 use std::sync::Wait;
 
@@ -86,7 +86,7 @@ impl Sender {
     pub(crate) fn send<R: Wait>(
         &mut self,
         rt: &R,
-        links: &[Link],
+        links: &[SharedLink],
         chunk: Chunk,
     ) -> Result<(), Chunk>
         requires { (end : SendEnd) → self.old ≡ Some end → IsSendEnd links.now end }
@@ -129,7 +129,7 @@ impl Receiver {
     }
 
     /// The next chunk. There is none where there is no link, and where the link was empty at one moment of the call.
-    pub(crate) fn recv<R: Wait>(&mut self, rt: &R, links: &[Link]) -> Option<Chunk>
+    pub(crate) fn recv<R: Wait>(&mut self, rt: &R, links: &[SharedLink]) -> Option<Chunk>
         requires { (end : RecvEnd) → self.old ≡ Some end → IsRecvEnd links.now end }
         ensures received { IfSome result (λ chunk.
             (end : RecvEnd) × (self.old ≡ Some end) × (self.new ≡ Some (received_on end chunk))) }

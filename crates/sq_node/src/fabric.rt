@@ -5,7 +5,7 @@ ghost use Rattle.sq_node.specs.FabricValue.{IsFabric};
 
 use crate::receipt::Receipt;
 use crossbeam_queue::ArrayQueue;
-use sq_link::Link;
+use sq_link::SharedLink;
 use sq_plan::PartId;
 use sq_pull::{Request, Shared};
 use sq_ranges::Recon;
@@ -36,7 +36,7 @@ pub struct Fabric {
     parts: u8,
     trees: Vec<StatusTree>,
     seats: Vec<TreeSeat>,
-    links: Vec<Link>,
+    links: Vec<SharedLink>,
     receipts: Vec<Receipt>,
     requests: Vec<ArrayQueue<Request>>,
     jobs: Vec<ArrayQueue<Txn>>,
@@ -82,7 +82,7 @@ pub struct FabricParts {
     /// For each segment the seat that its tree was opened with.
     pub seats: Vec<TreeSeat>,
     /// The links.
-    pub links: Vec<Link>,
+    pub links: Vec<SharedLink>,
     /// The receipts of earlier stages, in the order in which they were handed in.
     pub receipts: Vec<Receipt>,
     /// For each partition the requests that weren't taken.
@@ -122,7 +122,7 @@ impl Fabric {
     }
 
     /// The links.
-    pub fn links(&self) -> &[Link]
+    pub fn links(&self) -> &[SharedLink]
         ensures links { result.now ≡ self.now.links }
         ensures fabric { IsFabric self.now }
     {

@@ -3,7 +3,7 @@ ghost use Rattle.std.specs.Prelude.{◌≡◌, [], IfOk};
 
 use crate::fixtures::note;
 use sq_chunk::{Chunk, Note};
-use sq_link::{Link, RecvPass, SendPass};
+use sq_link::{RecvPass, SendPass, SharedLink};
 use sq_plan::PartId;
 use sq_schema::{Family, Root, Row, RowKey, Rows};
 use std::alloc::Global;
@@ -75,7 +75,7 @@ fn chunks(alloc: Global, count: u32) -> Result<Vec<Chunk>, Fail> {
 // Sends the chunks in order, with at most this many tries, and gives back those that didn't go.
 fn send_all<R: Wait>(
     rt: &R,
-    link: &Link,
+    link: &SharedLink,
     mut pass: SendPass,
     chunks: Vec<Chunk>,
     tries: u64,
@@ -103,7 +103,7 @@ fn send_all<R: Wait>(
 // Receives as many chunks as the list has room for, if they come.
 fn receive_all<R: Wait>(
     rt: &R,
-    link: &Link,
+    link: &SharedLink,
     mut pass: RecvPass,
     mut into: Vec<Chunk>,
     tries: u64,
@@ -130,7 +130,12 @@ fn pass_on<R: Abort + Wait>(rt: &R, alloc: Global, capacity: u32, room: u32) -> 
     let count = u64::from(capacity);
     let to_send = chunks(alloc, capacity + 1)?;
     let into = Vec::with_capacity(alloc, room as usize)?;
-    let (link, sender, mut receiver) = Link::open(alloc, PartId::new(3), PartId::new(5), count)?;
+    let (link, sender, mut receiver) = SharedLink::open(
+        alloc,
+        PartId::new(3),
+        PartId::new(5),
+        count,
+    )?;
     assert!(rt; link.src().number() == 3 && link.dst().number() == 5 && link.capacity() == count);
     let (mut sender, held) = send_all(rt, &link, sender, to_send, count + 1);
     let first = link.recv(rt, &mut receiver).expect(rt, "a chunk comes");
@@ -157,7 +162,7 @@ fn as_many_as_the_link_holds(rt: HostRuntime) -> Result<(), Fail> {
 fn a_thousand_chunks_between_two_threads(rt: HostRuntime) -> Result<(), Fail> {
     let to_send = chunks(rt.alloc(), CHUNKS)?;
     let into = Vec::with_capacity(rt.alloc(), CHUNKS as usize)?;
-    let (link, sender, receiver) = Link::open(rt.alloc(), PartId::new(3), PartId::new(5), 4)?;
+    let (link, sender, receiver) = SharedLink::open(rt.alloc(), PartId::new(3), PartId::new(5), 4)?;
     let shared = &link;
     let runtime = &rt;
     let (sent, came) = thread::join(

@@ -14,11 +14,11 @@ use crate::ends::{Receiver, RecvEnd, SendEnd, Sender};
 use crate::node::{Node, Place};
 use crossbeam_queue::ArrayQueue;
 use sq_exec::PartCore;
-use sq_link::Link;
+use sq_link::SharedLink;
 use sq_opened::open_partition;
 use sq_plan::PartId;
 use sq_pull::Pump;
-use sq_ranges::{Link as Between, Opening, Recon};
+use sq_ranges::{Link, Opening, Recon};
 use sq_status::{StatusTree, TreeSeat};
 use sq_store::SlabStore;
 use std::alloc::{AllocError, Global};
@@ -151,8 +151,8 @@ fn stage_links(
     alloc: Global,
     recon: &Recon,
     stage: u64,
-    links: &[Between],
-) -> Result<Vec<Between>, AllocError>
+    links: &[Link],
+) -> Result<Vec<Link>, AllocError>
     ensures { IfOk result (λ kept. kept.items ≡ filter (λ link. stage_on recon.now link.src link.dst == stage) links.now) }
 {
     links
@@ -165,9 +165,9 @@ fn stage_links(
 // Links between these partitions, each of which holds this many chunks, with their ends.
 fn open_links(
     alloc: Global,
-    between: &[Between],
+    between: &[Link],
     capacity: u64,
-) -> Result<(Vec<Link>, Ends), AllocError>
+) -> Result<(Vec<SharedLink>, Ends), AllocError>
     requires { 0 < capacity }
     ensures links { IfOk result (λ opened. map ends_of opened.0.items ≡ between.now) }
     ensures capacities { IfOk result (λ opened. HaveCapacity capacity opened.0.items) }
@@ -177,7 +177,7 @@ fn open_links(
     let mut sends = Vec::new(alloc);
     let mut recvs = Vec::new(alloc);
     for (at, ends) in between.iter().enumerate() {
-        let (link, send, recv) = Link::open(alloc, ends.src, ends.dst, capacity)?;
+        let (link, send, recv) = SharedLink::open(alloc, ends.src, ends.dst, capacity)?;
         links.push(link)?;
         sends.push(Sender::new(Some(SendEnd {
             link: at,
@@ -361,7 +361,7 @@ fn open_pump(alloc: Global, fabric: &mut Fabric, number: u32) -> Result<Pump, Al
 fn take_sends(
     alloc: Global,
     parts: u8,
-    links: &[Link],
+    links: &[SharedLink],
     ends: &mut [Sender],
     part: PartId,
 ) -> Result<Vec<Sender>, AllocError>
@@ -381,7 +381,7 @@ fn take_sends(
 fn take_recvs(
     alloc: Global,
     parts: u8,
-    links: &[Link],
+    links: &[SharedLink],
     ends: &mut [Receiver],
     part: PartId,
 ) -> Result<Vec<Receiver>, AllocError>
@@ -398,7 +398,7 @@ fn take_recvs(
 }
 
 // The end of the link from one partition to another, if there is such a link.
-fn take_send(links: &[Link], ends: &mut [Sender], src: PartId, dst: PartId) -> Sender
+fn take_send(links: &[SharedLink], ends: &mut [Sender], src: PartId, dst: PartId) -> Sender
     requires { length ends.old ≡ length links.now }
     ensures { MatchOption (link_from links.now src dst)
         ((result ≡ None) × (ends.new ≡ ends.old))
@@ -411,7 +411,7 @@ fn take_send(links: &[Link], ends: &mut [Sender], src: PartId, dst: PartId) -> S
 }
 
 // The end of the link from one partition to another, if there is such a link.
-fn take_recv(links: &[Link], ends: &mut [Receiver], src: PartId, dst: PartId) -> Receiver
+fn take_recv(links: &[SharedLink], ends: &mut [Receiver], src: PartId, dst: PartId) -> Receiver
     requires { length ends.old ≡ length links.now }
     ensures { MatchOption (link_from links.now src dst)
         ((result ≡ None) × (ends.new ≡ ends.old))
@@ -424,7 +424,7 @@ fn take_recv(links: &[Link], ends: &mut [Receiver], src: PartId, dst: PartId) ->
 }
 
 // Where the link from one partition to another stands.
-fn link_from(links: &[Link], src: PartId, dst: PartId) -> Option<usize>
+fn link_from(links: &[SharedLink], src: PartId, dst: PartId) -> Option<usize>
     ensures { result ≡ link_from links.now src dst }
 {
     links

@@ -1,7 +1,7 @@
 use Rattle.std.proofs.Common.{ap, rules, arith}
 use Rattle.crossbeam_queue.specs.Passes.{view}
 use Rattle.sq_link.proofs.Moves.{joins, receives, learns_whole, empties}
-use Rattle.sq_link.proofs.link.Link.close.Goals as goal
+use Rattle.sq_link.proofs.link.SharedLink.close.Goals as goal
 
 pub absorb-requires-clause-rule : goal.absorb-requires-clause-rule
 absorb-requires-clause-rule g c = joins _ _ _ _ (ap (λ v. v.sends) c.sender.invariant.0) (ap (λ v. v.receives) c.receiver.invariant.0)

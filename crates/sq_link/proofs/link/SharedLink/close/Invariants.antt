@@ -2,7 +2,7 @@ use Rattle.std.proofs.Common.{◌≡◌, ◌≤◌, ◌++◌, true, vec_len}
 use Rattle.std.specs.Prelude.{vec_capacity}
 use Rattle.crossbeam_queue.specs.Passes.{view, IsPassOf}
 use Rattle.sq_link.specs.Order.{ends}
-use Rattle.sq_link.proofs.link.Link.close.Given as goal
+use Rattle.sq_link.proofs.link.SharedLink.close.Given as goal
 
 -- the chunks that were popped so far follow those that were received before
 abbrev pub invariant-loop : goal.invariant-loop

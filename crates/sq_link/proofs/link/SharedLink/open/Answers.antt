@@ -1,6 +1,6 @@
 use Rattle.std.proofs.Common.{ap}
 use Rattle.sq_link.proofs.Moves.{begins, parts}
-use Rattle.sq_link.proofs.link.Link.open.Goals as goal
+use Rattle.sq_link.proofs.link.SharedLink.open.Goals as goal
 
 pub ruled-requires-clause-rule : goal.ruled-requires-clause-rule
 ruled-requires-clause-rule c = begins

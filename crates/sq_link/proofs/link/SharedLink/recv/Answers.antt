@@ -1,6 +1,6 @@
 use Rattle.std.proofs.Common.{ap}
 use Rattle.sq_link.proofs.Moves.{receives, learns_next}
-use Rattle.sq_link.proofs.link.Link.recv.Goals as goal
+use Rattle.sq_link.proofs.link.SharedLink.recv.Goals as goal
 
 pub pop_as-requires-clause-rule : goal.pop_as-requires-clause-rule
 pop_as-requires-clause-rule g c =

@@ -1,6 +1,6 @@
 use Rattle.std.proofs.Common.{ap}
 use Rattle.sq_link.proofs.Moves.{sends, learns_end}
-use Rattle.sq_link.proofs.link.Link.send.Goals as goal
+use Rattle.sq_link.proofs.link.SharedLink.send.Goals as goal
 
 pub push_as-requires-clause-rule : goal.push_as-requires-clause-rule
 push_as-requires-clause-rule g c =
