@@ -67,7 +67,7 @@ impl Model for Node {
 
 /// What a node has in a run besides its partition.
 #[derive(Drop)]
-pub(crate) struct Place {
+pub(crate) struct SeatsAndEnds {
     /// For each segment its seat at the tree.
     pub seats: Vec<TreeSeat>,
     /// For each partition its end of the link to it.
@@ -80,7 +80,7 @@ pub(crate) struct Place {
 
 impl Node {
     /// The node of a partition at this place of a run. Its move has started.
-    pub(crate) fn open(alloc: Global, mut core: PartCore<SlabStore>, place: Place) -> Node
+    pub(crate) fn open(alloc: Global, mut core: PartCore<SlabStore>, place: SeatsAndEnds) -> Node
         requires part { core.core.part < MAX_OWNERS }
         requires fresh { (seg n : ℕ) → is_whole (loaded_at core.core seg) n ≡ false }
         requires flags { place.complete.items ≡ replicate (length core.core.recon.segments) false }

@@ -11,7 +11,7 @@ ghost use Rattle.sq_node.specs.Opened.{AreFirstSeats, AreNewSeats, GaveEach, Giv
 
 use super::{Fabric, JOB_PLACES, REQUEST_PLACES};
 use crate::ends::{Receiver, RecvEnd, SendEnd, Sender};
-use crate::node::{Node, Place};
+use crate::node::{Node, SeatsAndEnds};
 use crossbeam_queue::ArrayQueue;
 use sq_exec::PartCore;
 use sq_link::SharedLink;
@@ -304,7 +304,7 @@ fn open_place(
     fabric: &mut Fabric,
     ends: &mut Ends,
     part: PartId,
-) -> Result<Place, AllocError>
+) -> Result<SeatsAndEnds, AllocError>
     requires sends { HasSendEnds fabric.old.links ends.old.sends.items part }
     requires recvs { HasRecvEnds fabric.old.links ends.old.recvs.items part }
     ensures same { fabric.new ≡ record fabric.old { seats = fabric.new.seats } }
@@ -321,7 +321,7 @@ fn open_place(
     let sends = take_sends(alloc, parts, fabric.links(), &mut ends.sends, part)?;
     let recvs = take_recvs(alloc, parts, fabric.links(), &mut ends.recvs, part)?;
     let complete = vec![in alloc; false; fabric.recon().segments().len()]?;
-    Ok(Place {
+    Ok(SeatsAndEnds {
         seats,
         sends,
         recvs,
