@@ -163,10 +163,22 @@ pub record AtEnd (w : WorldValue) (parts : List PartCoreValue) (src dst at near 
   pub to_is : to ≡ far
   pub part_is : part ≡ get_or parts from part
 
-pub at_end : {w : WorldValue} {parts : List PartCoreValue} {src dst at near far from to : ℕ} {queue : QueueValue} {part : PartCoreValue} {done : Unit {0}} → map core_of parts ≡ w.cores → IsSound w
-    → Ok done ≡ refuse_if (not (is_moving_phase (phase_of w.leader))) NotMoving → Ok at ≡ running_link w src dst → queue ≡ get_or w.queues at queue → from ≡ near → to ≡ far → part ≡ get_or parts from part
+-- the same, of the world as it was seen
+pub at_end : {seen w : WorldValue} {parts : List PartCoreValue} {src dst at near far from to : ℕ} {queue : QueueValue} {part : PartCoreValue} {done : Unit {0}} → seen ≡ w → map core_of parts ≡ seen.cores → IsSound w
+    → Ok done ≡ refuse_if (not (is_moving_phase (phase_of w.leader))) NotMoving → Ok at ≡ running_link w src dst → queue ≡ get_or seen.queues at queue → from ≡ near → to ≡ far → part ≡ get_or parts from part
     → AtEnd w parts src dst at near far from to queue part
-at_end {done = done} are sound moving found queue_is from_is to_is part_is = record { done = done; are = are; sound = sound; moving = moving; found = found; queue_is = queue_is; from_is = from_is; to_is = to_is; part_is = part_is }
+at_end {at = at} {queue = queue} {done = done} same are sound moving found queue_is from_is to_is part_is =
+    record {
+      done = done;
+      are = are ∙ ap (λ (v : WorldValue). v.cores) same;
+      sound = sound;
+      moving = moving;
+      found = found;
+      queue_is = queue_is ∙ ap (λ (v : WorldValue). get_or v.queues at queue) same;
+      from_is = from_is;
+      to_is = to_is;
+      part_is = part_is;
+    }
 
 -- a link, and the partition at its source
 module _ {w : WorldValue} {parts : List PartCoreValue} {src dst at from to : ℕ} {queue : QueueValue} {part : PartCoreValue} (end : AtEnd w parts src dst at queue.src queue.dst from to queue part) where

@@ -181,28 +181,36 @@ module _ (w : WorldValue) (answered : (ℕ → Status) → ℕ → ℕ → Answe
   abbrev named_step : ℕ → ℕ → StepResult
   named_step number named = if_moving w (if_segment w number (if_node w named (whole_step number named)))
 
-  module _ {number named seg node at : ℕ} {tree : List Status} {done : Unit {0}} (sound : IsSound w) (moving : Ok done ≡ refuse_if (not (is_moving_phase (phase_of w.leader))) NotMoving) (here : IsNamed w number named seg node)
-      (at_is : at ≡ seg) (is : tree ≡ get_or w.trees at tree) where
+  -- it is made in the world as it was seen
+  module _ {seen : WorldValue} {number named seg node at : ℕ} {tree : List Status} {done : Unit {0}} (same : seen ≡ w) (sound : IsSound w) (moving : Ok done ≡ refuse_if (not (is_moving_phase (phase_of w.leader))) NotMoving)
+      (here : IsNamed w number named seg node) (at_is : at ≡ seg) (is : tree ≡ get_or seen.trees at tree) where
     goes_there : whole_step seg node ≡ named_step number named
     goes_there =
         ap (λ (s : ℕ). whole_step s node) here.segment ∙ ap (whole_step number) here.which
         ∙ here.goes (whole_step number named)
         ∙ passed (not (is_moving_phase (phase_of w.leader))) NotMoving w (if_segment w number (if_node w named (whole_step number named))) done moving
 
-    tree_here : tree ≡ tree_at w seg
-    tree_here = tree_read w at tree (omega (arith, at_is, here.exists, sound.trees)) is ∙ ap (tree_at w) at_is
+    is_now : tree ≡ get_or w.trees at tree
+    is_now = is ∙ ap (λ (v : WorldValue). get_or v.trees at tree) same
 
-    pub node_done : {written : List Status} → Done ≡ answered (status_at tree) seg node → written ≡ with_status tree node new → (Done, record w { trees = set w.trees at written }) ≡ named_step number named
+    tree_here : tree ≡ tree_at w seg
+    tree_here = tree_read w at tree (omega (arith, at_is, here.exists, sound.trees)) is_now ∙ ap (tree_at w) at_is
+
+    answered_here : (answer : Answer) → answer ≡ answered (status_at tree) seg node → answer ≡ answered (status_in w seg) seg node
+    answered_here answer may = may ∙ ap (λ (t : List Status). answered (status_at t) seg node) tree_here
+
+    pub node_done : {written : List Status} → Done ≡ answered (status_at tree) seg node → written ≡ with_status tree node new → (Done, record seen { trees = set seen.trees at written }) ≡ named_step number named
     node_done {written} may written_is =
-        let answer : Done ≡ answered (status_in w seg) seg node = may ∙ ap (λ (t : List Status). answered (status_at t) seg node) tree_here in
         let trees : set w.trees at written ≡ slice_set w.trees seg (with_status (tree_at w seg) node new) =
         ap (set w.trees at) (written_is ∙ ap (λ (t : List Status). with_status t node new) tree_here) ∙ ap (λ (s : ℕ). set w.trees s (with_status (tree_at w seg) node new)) at_is in
-        ap (λ (v : WorldValue). (Done, v)) (λ k. record w { trees = trees k })
-        ∙ ap (λ (a : Answer). if_done a w (with_node w seg node new)) answer ∙ goes_there
+        ap (λ (v : WorldValue). (Done, record v { trees = set v.trees at written })) same
+        ∙ ap (λ (v : WorldValue). (Done, v)) (λ k. record w { trees = trees k })
+        ∙ ap (λ (a : Answer). if_done a w (with_node w seg node new)) (answered_here Done may) ∙ goes_there
 
-    pub node_stays : {written : List Status} → (refusal : Refusal) → Refused refusal ≡ answered (status_at tree) seg node → written ≡ tree → (Refused refusal, record w { trees = set w.trees at written }) ≡ named_step number named
-    node_stays {written} refusal may written_is =
-        let answer : Refused refusal ≡ answered (status_in w seg) seg node = may ∙ ap (λ (t : List Status). answered (status_at t) seg node) tree_here in
-        let trees : set w.trees at written ≡ w.trees = ap (set w.trees at) (written_is ∙ is) ∙ set-get_or w.trees at tree in
-        ap (λ (v : WorldValue). (Refused refusal, v)) (λ k. record w { trees = trees k })
-        ∙ ap (λ (a : Answer). if_done a w (with_node w seg node new)) answer ∙ goes_there
+    pub node_stays : {written : List Status} {answer : Answer} → (refusal : Refusal) → answer ≡ Refused refusal → Refused refusal ≡ answered (status_at tree) seg node → written ≡ tree → (answer, record seen { trees = set seen.trees at written }) ≡ named_step number named
+    node_stays {written} {answer} refusal gave may written_is =
+        let trees : set w.trees at written ≡ w.trees = ap (set w.trees at) (written_is ∙ is_now) ∙ set-get_or w.trees at tree in
+        ap (λ (a : Answer). (a, record seen { trees = set seen.trees at written })) gave
+        ∙ ap (λ (v : WorldValue). (Refused refusal, record v { trees = set v.trees at written })) same
+        ∙ ap (λ (v : WorldValue). (Refused refusal, v)) (λ k. record w { trees = trees k })
+        ∙ ap (λ (a : Answer). if_done a w (with_node w seg node new)) (answered_here (Refused refusal) may) ∙ goes_there

@@ -1,4 +1,4 @@
-use Rattle.std.proofs.Common.{◌≡◌, map, get_or, set, sym, ap, ◌∙◌, subst, inl}
+use Rattle.std.proofs.Common.{◌≡◌, map, get_or, set, sym, refl, ap, ◌∙◌, subst, inl}
 use Rattle.sq_model.specs.declared.step.Step.TheVariants.{Cut}
 use Rattle.sq_model.specs.declared.answer.Answer.TheVariants.{WasCut, Refused}
 use Rattle.sq_exec.specs.CoreValue.{PartCoreValue}
@@ -14,10 +14,7 @@ use Rattle.sq_state.proofs.state.State.cut.Goals.{After-from, in-Ok, in-Err}
 -- the link, and the partition at its source
 at_source : (c : After-from) (part : PartCoreValue) → part ≡ get_or c.self.inside.cores.items c.from.result part
     → let queue = c.index-queue.result.now in AtEnd c.args.self.now c.self.inside.cores.items c.args.src c.args.dst c.in_ok-at.at queue.src queue.dst c.from.result c.dst-dst.result queue part
-at_source c part is =
-    at_end (ap (λ (v : WorldValue). v.cores) c.self.view_is) c.requires c.in_ok-check_moving.ensures c.in_ok-at.ensures
-    (c.index-queue.ensures ∙ ap (λ (v : WorldValue). get_or v.queues c.in_ok-at.at c.index-queue.result.now) c.self.view_is)
-    (c.from.ensures ∙ c.number.ensures ∙ c.src.ensures) c.dst-dst.ensures is
+at_source c part is = at_end c.self.view_is refl c.requires c.in_ok-check_moving.ensures c.in_ok-at.ensures c.index-queue.ensures (c.from.ensures ∙ c.number.ensures ∙ c.src.ensures) c.dst-dst.ensures is
 
 pub returns : goal.returns
 returns c =

@@ -1,4 +1,4 @@
-use Rattle.std.proofs.Common.{◌≡◌, map, get_or, set, sym, ap, ◌∙◌, subst, inl}
+use Rattle.std.proofs.Common.{◌≡◌, map, get_or, set, sym, refl, ap, ◌∙◌, subst, inl}
 use Rattle.sq_model.specs.declared.step.Step.TheVariants.{Load}
 use Rattle.sq_model.specs.declared.answer.Answer.TheVariants.{WasLoaded, Refused}
 use Rattle.sq_exec.specs.CoreValue.{PartCoreValue}
@@ -11,13 +11,10 @@ use Rattle.sq_state.proofs.LinkSteps.{AtEnd, at_end, may_be_loaded, load_done, l
 use Rattle.sq_state.proofs.state.State.load.Goals as goal
 use Rattle.sq_state.proofs.state.State.load.Goals.{After-from, in-Ok, in-Err}
 
--- the link, and the partition at its destination
+-- the link, and the partition that it leads to
 at_destination : (c : After-from) (part : PartCoreValue) → part ≡ get_or c.self.inside.cores.items c.from.result part
     → let queue = c.index-queue.result.now in AtEnd c.args.self.now c.self.inside.cores.items c.args.src c.args.dst c.in_ok-at.at queue.dst queue.src c.from.result c.src-src.result queue part
-at_destination c part is =
-    at_end (ap (λ (v : WorldValue). v.cores) c.self.view_is) c.requires c.in_ok-check_moving.ensures c.in_ok-at.ensures
-    (c.index-queue.ensures ∙ ap (λ (v : WorldValue). get_or v.queues c.in_ok-at.at c.index-queue.result.now) c.self.view_is)
-    (c.from.ensures ∙ c.number.ensures ∙ c.dst.ensures) c.src-src.ensures is
+at_destination c part is = at_end c.self.view_is refl c.requires c.in_ok-check_moving.ensures c.in_ok-at.ensures c.index-queue.ensures (c.from.ensures ∙ c.number.ensures ∙ c.dst.ensures) c.src-src.ensures is
 
 pub load-requires : goal.load-requires
 load-requires c =

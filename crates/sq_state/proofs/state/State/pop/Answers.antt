@@ -8,13 +8,10 @@ use Rattle.sq_state.proofs.LinkSteps.{AtEnd, at_end, pop_full, pop_empty, pop_do
 use Rattle.sq_state.proofs.state.State.pop.Goals as goal
 use Rattle.sq_state.proofs.state.State.pop.Goals.{After-from-destination}
 
--- the link, and the partition at its destination
+-- the link, and the partition that it leads to
 at_destination : (c : After-from-destination) (part : PartCoreValue) → part ≡ get_or c.self.inside.cores.items c.from-destination.result part
     → let queue = c.index-queue.result.now in AtEnd c.args.self.now c.self.inside.cores.items c.args.src c.args.dst c.in_ok-at.at queue.dst queue.src c.from-destination.result c.src-src.result queue part
-at_destination c part is =
-    at_end (ap (λ (v : WorldValue). v.cores) c.self.view_is) c.requires c.in_ok-check_moving.ensures c.in_ok-at.ensures
-    (c.index-queue.ensures ∙ ap (λ (v : WorldValue). get_or v.queues c.in_ok-at.at c.index-queue.result.now) c.self.view_is)
-    (c.from-destination.ensures ∙ c.number.ensures ∙ c.dst.ensures) c.src-src.ensures is
+at_destination c part is = at_end c.self.view_is refl c.requires c.in_ok-check_moving.ensures c.in_ok-at.ensures c.index-queue.ensures (c.from-destination.ensures ∙ c.number.ensures ∙ c.dst.ensures) c.src-src.ensures is
 
 pub returns-then-is_some : goal.returns-then-is_some
 returns-then-is_some c =

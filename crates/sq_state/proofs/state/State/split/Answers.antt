@@ -1,11 +1,8 @@
-use Rattle.std.proofs.Common.{◌≡◌, get_or, set, ap, ◌∙◌, rules}
+use Rattle.std.proofs.Common.{◌≡◌, rules}
 use Rattle.sq_tree.specs.declared.status.Status.TheVariants as status
 use Rattle.sq_tree.specs.Answer.{split_answer}
 use Rattle.sq_model.specs.Answers.{split_answered}
-use Rattle.sq_model.specs.declared.answer.Answer.TheVariants.{Done, Refused}
-use Rattle.sq_transition.specs.WorldValue.{WorldValue}
-use Rattle.std.specs.Vec.{with_item}
-use Rattle.sq_state.specs.contracts.state.State.{the_view}
+use Rattle.sq_model.specs.declared.answer.Answer.TheVariants.{Refused}
 use Rattle.sq_state.specs.Results.{answer_of}
 use Rattle.sq_state.proofs.Guards.{node_here}
 use Rattle.sq_state.proofs.Trees.{node_done, node_stays}
@@ -14,20 +11,14 @@ use Rattle.sq_state.proofs.state.State.split.Goals as goal
 pub returns-in_err-split_node : goal.returns-in_err-split_node
 returns-in_err-split_node c =
     let w = c.args.self.now in
-    let refusal = (c.in_err-split_node.field-0).0 in
-    let gave : answer_of c.from_residual-in_err-split_node.result ≡ Refused refusal = search rules in
-    let tree = c.index_mut.result.now in
-    ap (λ answer. (answer, the_view (record c.self.inside { trees = with_item c.self.inside.trees c.index.result c.split_node.new.tree }))) gave
-    ∙ ap (λ (v : WorldValue). (Refused refusal, record v { trees = set v.trees c.index.result c.split_node.new.tree })) c.self.view_is
-    ∙ node_stays w (λ st seg n. split_answered (split_answer st n)) status.Split c.requires c.in_ok-check_moving.ensures
-    (node_here w c.args.seg c.args.node c.in_ok-seg.seg c.in_ok-node.node c.in_ok-seg.ensures.named c.in_ok-node.ensures) c.index.ensures.place
-    (c.index_mut.ensures.value ∙ ap (λ (v : WorldValue). get_or v.trees c.index.result tree) c.self.view_is) refusal c.in_err-split_node.ensures.answer c.in_err-split_node.ensures.after
+    let gave : answer_of c.from_residual-in_err-split_node.result ≡ Refused (c.in_err-split_node.field-0).0 = search rules in
+    node_stays w (λ st seg n. split_answered (split_answer st n)) status.Split c.self.view_is c.requires c.in_ok-check_moving.ensures
+    (node_here w c.args.seg c.args.node c.in_ok-seg.seg c.in_ok-node.node c.in_ok-seg.ensures.named c.in_ok-node.ensures) c.index.ensures.place c.index_mut.ensures.value (c.in_err-split_node.field-0).0 gave
+    c.in_err-split_node.ensures.answer c.in_err-split_node.ensures.after
 
 pub returns : goal.returns
 returns c =
     let w = c.args.self.now in
-    let tree = c.index_mut.result.now in
-    ap (λ (v : WorldValue). (Done, record v { trees = set v.trees c.index.result c.split_node.new.tree })) c.self.view_is
-    ∙ node_done w (λ st seg n. split_answered (split_answer st n)) status.Split c.requires c.in_ok-check_moving.ensures
-    (node_here w c.args.seg c.args.node c.in_ok-seg.seg c.in_ok-node.node c.in_ok-seg.ensures.named c.in_ok-node.ensures) c.index.ensures.place
-    (c.index_mut.ensures.value ∙ ap (λ (v : WorldValue). get_or v.trees c.index.result tree) c.self.view_is) c.in_ok-split_node.ensures.answer c.in_ok-split_node.ensures.after
+    node_done w (λ st seg n. split_answered (split_answer st n)) status.Split c.self.view_is c.requires c.in_ok-check_moving.ensures
+    (node_here w c.args.seg c.args.node c.in_ok-seg.seg c.in_ok-node.node c.in_ok-seg.ensures.named c.in_ok-node.ensures) c.index.ensures.place c.index_mut.ensures.value c.in_ok-split_node.ensures.answer
+    c.in_ok-split_node.ensures.after

@@ -1,12 +1,11 @@
-use Rattle.std.proofs.Common.{◌≡◌, ◌++◌, take, drop, length, map, sym, ap, ◌∙◌, arith}
-use Rattle.std.proofs.Math.Seq.{take-append_seam}
+use Rattle.std.proofs.Common.{sym, ap, ◌∙◌, arith}
 use Rattle.sq_model.specs.declared.answer.Answer.TheVariants.{Done, Refused}
 use Rattle.sq_model.specs.declared.answer.Refusal.TheVariants.{NotPrepared}
 use Rattle.sq_leader.specs.declared.leader.Leader.TheVariants.{Preparing, Moving}
 use Rattle.sq_transition.specs.WorldValue.{WorldValue}
 use Rattle.sq_transition.specs.LeaderResults.{started_core}
 use Rattle.sq_state.specs.Results.{answer_of}
-use Rattle.sq_state.proofs.Cores.{core_of}
+use Rattle.sq_state.proofs.Cores.{told_all}
 use Rattle.sq_state.proofs.Leading.{start_went, start_refused}
 use Rattle.sq_state.proofs.state.State.start.Goals as goal
 
@@ -14,13 +13,7 @@ pub returns-in-Ok : goal.returns-in-Ok
 returns-in-Ok c =
     let w = c.args.self.now in
     let opened = c.self.view_is ∙ c.take_leader.ensures.after in
-    let cores : map core_of c.self.inside.cores.items ≡ w.cores = ap (λ (v : WorldValue). v.cores) opened in
-    let parts = c.start_all.new.cores in
-    let others = drop (length parts) c.self.inside.cores.items in
-    let count : c.self.inside.cores.len ≡ length parts = omega (arith, c.start_all.auto.cores, c.deref_mut.ensures.len) in
-    let written : take c.self.inside.cores.len (parts ++ others) ≡ parts = ap (λ n. take n (parts ++ others)) count ∙ take-append_seam parts others in
-    let started : map core_of (take c.self.inside.cores.len (parts ++ others)) ≡ map started_core w.cores =
-    ap (map core_of) written ∙ c.start_all.ensures ∙ ap (λ before. map started_core (map core_of before)) c.deref_mut.ensures.value ∙ ap (map started_core) cores in
+    let started = told_all started_core c.self.inside.cores.len c.self.inside.cores.items c.start_all.new.cores (omega (arith, c.start_all.auto.cores, c.deref_mut.ensures.len)) c.deref_mut.ensures.value c.start_all.ensures (ap (λ (v : WorldValue). v.cores) opened) in
     (λ i. (answer_of (c.go_on.ensures.answer i), c.go_on.ensures.after i))
     ∙ (λ i. (Done, record (opened i) { leader = Moving c.in-Ok.moving; cores = started i }))
     ∙ start_went w c.requires c.in-Preparing.preparing c.in-Ok.moving (sym c.in-Preparing.ensures.leader) c.in-Ok.ensures
