@@ -14,3 +14,4 @@ pub mod Due
 pub mod Coming
 pub mod Readies
 pub mod Enters
+pub mod Families

@@ -9,3 +9,4 @@ pub mod Kept
 pub mod Numbering
 pub mod Serving
 pub mod Moving
+pub mod Opened

@@ -1,4 +1,5 @@
-//! One partition by itself: its families, the transactions that wait at it, and its ends of the links.
+//! One partition by itself: its families, the transactions that wait at it, and its ends of the links. And the partitions
+//! of an opening, each with the families of the root keys that it owns.
 #![tactic(auto)]
 
 mod fault;
@@ -8,6 +9,7 @@ mod location;
 mod out_link;
 mod outcome;
 mod part_core;
+mod partition;
 mod run;
 mod work;
 
@@ -15,3 +17,4 @@ pub use fault::{CutFault, LoadFault, ResumeFault, SubmitFault};
 pub use out_link::OutLink;
 pub use outcome::{Outcome, Resumed};
 pub use part_core::{CoreParts, PartCore};
+pub use partition::{open_partition, open_partitions};

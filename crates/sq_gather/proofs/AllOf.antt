@@ -18,7 +18,7 @@ use Rattle.sq_model.proofs.Lists.{any_in, Contains-slice_get}
 use Rattle.sq_store.specs.StoreValue.{StoreValue}
 use Rattle.sq_link.specs.Values.{LinkValue}
 use Rattle.sq_exec.specs.CoreValue.{CoreValue}
-use Rattle.sq_opened.specs.Opened.{opened_part}
+use Rattle.sq_exec.specs.Opened.{opened_part}
 use Rattle.sq_status.specs.declared.view.View.{View}
 use Rattle.sq_status.specs.View.{fresh}
 use Rattle.sq_status.specs.Seat.{SeatValue}

@@ -17,7 +17,7 @@ use Rattle.sq_exec.specs.Runs.{is_whole}
 use Rattle.sq_exec.specs.GivenUp.{none_given_up}
 use Rattle.sq_exec.specs.OutLink.{new_out_link}
 use Rattle.sq_exec.specs.CoreValue.{CoreValue, loaded_at}
-use Rattle.sq_opened.specs.Opened.{opened_part, HasOwned}
+use Rattle.sq_exec.specs.Opened.{opened_part, HasOwned}
 use Rattle.std.proofs.lemmas.Bool.Decides.{nat_tests}
 use Rattle.sq_model.specs.Place.{source}
 use Rattle.sq_store.specs.StoreValue.{StoreValue}

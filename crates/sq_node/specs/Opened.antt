@@ -11,7 +11,7 @@ use Rattle.sq_status.specs.View.{fresh, gave}
 use Rattle.sq_status.specs.Seat.{SeatValue}
 use Rattle.sq_store.specs.StoreValue.{StoreValue}
 use Rattle.sq_exec.specs.CoreValue.{CoreValue}
-use Rattle.sq_opened.specs.Opened.{opened_part}
+use Rattle.sq_exec.specs.Opened.{opened_part}
 use Rattle.sq_pull.specs.Seats.{AreSeatsOf}
 use Rattle.sq_pull.specs.Wins.{no_wins}
 use Rattle.sq_pull.specs.Pump.{PumpValue, stage_round}

@@ -11,3 +11,8 @@ pub mod Said
 pub mod Serves
 pub mod Steps
 pub mod Trees
+pub mod Histories
+pub mod Reaches
+pub mod Sound
+pub mod Stores
+pub mod Ways

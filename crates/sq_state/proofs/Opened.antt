@@ -30,8 +30,8 @@ use Rattle.sq_transition.specs.WorldValue.{WorldValue, QueueValue, WholeLink, no
 use Rattle.sq_transition.specs.Leading.{phase_of, parts_of, moved_by, stage_of, has_prepared, has_reported}
 use Rattle.sq_transition.specs.Holds.{share_at, LinkHolds, MovesHold, IsSetFor, CoreHolds, Holds}
 use Rattle.sq_state.specs.Queue.{opened_queue}
-use Rattle.sq_opened.specs.Opened.{opened_part}
-use Rattle.sq_opened.proofs.Families.{get_opened}
+use Rattle.sq_exec.specs.Opened.{opened_part}
+use Rattle.sq_exec.proofs.Families.{get_opened}
 use Rattle.sq_state.specs.Openings.{AreNewTrees, AreNewQueues}
 
 -- a link that has carried nothing

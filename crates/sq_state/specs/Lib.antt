@@ -4,3 +4,5 @@ pub mod Openings
 pub mod Readers
 pub mod Sound
 pub mod Results
+pub mod History
+pub mod Reached

@@ -1,7 +1,10 @@
-//! The state of a world in memory, and what each step does to it.
+//! Worlds: the state of one in memory, what each step does to it, and whole lists of steps.
 #![tactic(auto)]
 
 mod queue;
 mod state;
+mod whole_run;
+mod world;
 
-pub use state::State;
+pub use whole_run::run_world;
+pub use world::{NotOpened, World};

@@ -1,5 +1,3 @@
-pub mod History
-pub mod Reached
 pub mod Echo
 pub mod Run
 pub mod Script

@@ -1,6 +1,6 @@
-//! Worlds, whole runs, runs of an input from bytes to bytes, and what moves between two plans.
+//! Runs of an input from bytes to bytes, and what moves between two plans.
 //!
-//! What the calls of a [`World`] take and give is named here too, so that a caller needs no other crate.
+//! A [`World`], and what its calls take and give, is named here too, so that a caller needs no other crate.
 #![tactic(auto)]
 
 mod echo;
@@ -9,8 +9,6 @@ mod input;
 mod listing;
 mod script;
 mod telling;
-mod whole_run;
-mod world;
 
 pub use ending::Ending;
 pub use input::{run, run_and_echo, run_and_keep};
@@ -22,9 +20,8 @@ pub use sq_ranges::{Config, GivenRow, Opening, OpeningFault, OpeningParts, Refus
 pub use sq_schema::{
     Cause, Family, Op, OpAnswer, OpAnswers, Reply, Root, Row, RowKey, Rows, Schema, Txn, TxnFault,
 };
+pub use sq_state::{NotOpened, World, run_world};
 pub use sq_store::{FamilyStore, SlabStore};
 pub use sq_text::WriteFault;
 pub use sq_tree::{Leaf, NodeId, Reading, Status};
 pub use telling::{Telling, Told};
-pub use whole_run::run_world;
-pub use world::{NotOpened, World};

@@ -10,9 +10,9 @@ ghost use Rattle.sq_world.specs.Script.{LeadsTo, IsAnswered, IsWritten};
 
 use crate::echo::{write_refusal, write_told};
 use crate::ending::Ending;
-use crate::world::World;
 use sq_lines::{LineReader, MAX_LINES, MAX_UNENDED, Next};
 use sq_schema::Schema;
+use sq_state::World;
 use sq_text::{InputFault, InputLine, LineFault, LocatedFault, read_step, write_fault};
 use std::alloc::Global;
 use std::io;
@@ -64,7 +64,7 @@ fn end<W: Write>(world: &World, writer: &mut W) -> io::Result<Ending>
     ensures done { IfOk result (λ ending. ending ≡ Ending.Done) }
     ensures dumped { OnOk result (Appends (W.contents writer.old) (W.contents writer.new) (dump world.now)) }
 {
-    world.state().write_dump(writer)?;
+    world.write_dump(writer)?;
     Ok(Ending::Done)
 }
 

@@ -1,6 +1,6 @@
 // Opening a run, and a stage of it.
 ghost use Rattle.std.specs.Prelude.{◌≡◌, ◌≢◌, ℕ, ◌+◌, ◌<◌, ◌≤◌, ◌==◌, false, [], length, replicate, map, filter, slice_get, slice_set, Some, None, MatchOption, IfOk, IfErr, OnOk, OnErr, vec_capacity};
-ghost use Rattle.sq_opened.specs.Opened.{opened_part, HasOwned};
+ghost use Rattle.sq_exec.specs.Opened.{opened_part, HasOwned};
 ghost use Rattle.sq_ranges.specs.ReconValue.{stage_on};
 ghost use Rattle.sq_link.specs.Values.{LinkValue};
 ghost use Rattle.sq_pull.specs.Seats.{AreSeatsOf};
@@ -13,9 +13,8 @@ use super::{Fabric, JOB_PLACES, REQUEST_PLACES};
 use crate::ends::{Receiver, RecvEnd, SendEnd, Sender};
 use crate::node::{Node, SeatsAndEnds};
 use crossbeam_queue::ArrayQueue;
-use sq_exec::PartCore;
+use sq_exec::{PartCore, open_partition};
 use sq_link::SharedLink;
-use sq_opened::open_partition;
 use sq_plan::PartId;
 use sq_pull::Pump;
 use sq_ranges::{Link, Opening, Recon};

@@ -3,14 +3,13 @@ ghost use Rattle.std.specs.Prelude.{◌≡◌, ℕ, [], map, IfOk, IfErr};
 ghost use Rattle.std.specs.List.{range_with_len};
 ghost use Rattle.sq_ranges.specs.SetUp.{IsSetUp};
 ghost use Rattle.sq_transition.specs.Holds.{Holds};
-ghost use Rattle.sq_opened.specs.Opened.{opened_part};
+ghost use Rattle.sq_exec.specs.Opened.{opened_part};
 ghost use Rattle.sq_state.specs.Openings.{AreNewTrees, AreNewQueues};
 
 use crate::queue::Queue;
 use crate::state::State;
-use sq_exec::PartCore;
+use sq_exec::{PartCore, open_partitions};
 use sq_leader::{Idle, Leader};
-use sq_opened::open_partitions;
 use sq_ranges::{Opening, Range, Recon};
 use sq_store::SlabStore;
 use sq_tree::PlainTree;

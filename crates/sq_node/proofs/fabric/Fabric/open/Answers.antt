@@ -1,7 +1,7 @@
 use Rattle.std.proofs.Common.{[], ◌∙◌, ap, sym, subst, length, List}
 use Rattle.std.proofs.lemmas.List.FromFn.{length-map-range_with_len}
 use Rattle.sq_store.specs.StoreValue.{StoreValue}
-use Rattle.sq_opened.specs.Opened.{opened_part}
+use Rattle.sq_exec.specs.Opened.{opened_part}
 use Rattle.sq_node_model.specs.BeganWith.{first_began}
 use Rattle.sq_node_model.proofs.Began.{first_can}
 use Rattle.sq_node.specs.FabricValue.{HasBegun}

@@ -3,7 +3,7 @@ use Rattle.std.proofs.lemmas.Bool.{cases_lt}
 use Rattle.std.proofs.lemmas.List.FromFn.{map-range_with_len_more}
 use Rattle.sq_store.specs.StoreValue.{StoreValue}
 use Rattle.sq_exec.specs.CoreValue.{CoreValue}
-use Rattle.sq_opened.specs.Opened.{opened_part, HasOwned}
+use Rattle.sq_exec.specs.Opened.{opened_part, HasOwned}
 use Rattle.sq_node.proofs.fabric.open.open_stores.Goals as goal
 
 pub loop-number-preserved : goal.loop-number-preserved

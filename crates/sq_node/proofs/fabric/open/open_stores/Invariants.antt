@@ -1,6 +1,6 @@
 use Rattle.std.proofs.Common.{◌≡◌, ℕ, ◌<◌, map}
 use Rattle.std.specs.List.{range_with_len}
-use Rattle.sq_opened.specs.Opened.{opened_part, HasOwned}
+use Rattle.sq_exec.specs.Opened.{opened_part, HasOwned}
 use Rattle.sq_node.proofs.fabric.open.open_stores.Given as goal
 
 -- the families of the partitions so far are there
