@@ -11,12 +11,14 @@ ghost use Rattle.sq_audit.specs.Defects.{Clears, IsVerdict};
 
 /// What was gathered is sound exactly if it is clear of each defect.
 pub fn sound_is_clear_of_each_defect()
-    ensures { (o : OpeningValue) (g : GatheredValue) (jobs : List Job) → IsSoundRun o g jobs ↔ ((defect : Defect) → Clears o g jobs defect) }
+    ensures { (o : OpeningValue) (g : GatheredValue) (jobs : List Job) → IsSoundRun o g jobs
+        ↔ ((defect : Defect) → Clears o g jobs defect) }
 {}
 
 /// There is one verdict at most.
 pub fn one_verdict()
-    ensures { (o : OpeningValue) (g : GatheredValue) (jobs : List Job) (one other : Verdict) → IsVerdict o g jobs one → IsVerdict o g jobs other → one ≡ other }
+    ensures { (o : OpeningValue) (g : GatheredValue) (jobs : List Job) (one other : Verdict) → IsVerdict o g jobs one
+        → IsVerdict o g jobs other → one ≡ other }
 {}
 
 /// What is found sound is placed: each family is where the notes place its root key, and nowhere else, it starts from its

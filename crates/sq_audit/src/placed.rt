@@ -40,7 +40,9 @@ pub(crate) fn are_placed(
 // Whether a family that is in a store is where the notes of a stage place its root key. One that is in a chunk always is.
 fn is_placed(opening: &Opening, stage: u64, spans: &[Span], located: &Located) -> bool
     requires { AreByKey (marked_in spans.now) }
-    ensures { let root = located.now.family.now.root in Decides result (IsAtPart (spot_of located.now.site) (part_by opening.now stage root (find (is_over root) (marked_in spans.now)))) }
+    ensures { let root = located.now.family.now.root in
+        Decides result (IsAtPart (spot_of located.now.site)
+            (part_by opening.now stage root (find (is_over root) (marked_in spans.now)))) }
 {
     let Site::Store(part) = located.site else {
         return true;

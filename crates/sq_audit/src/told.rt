@@ -212,7 +212,8 @@ fn first_from(sorted: &[&Receipt], from: usize, root: u64) -> usize
     requires { from ≤ length sorted.now }
     ensures from { from ≤ result }
     ensures within { result ≤ length sorted.now }
-    ensures below { (k : ℕ) (receipt : ReceiptValue) → from ≤ k → k < result → slice_get (values_of sorted.now) k ≡ Some receipt → receipt.root < root }
+    ensures below { (k : ℕ) (receipt : ReceiptValue) → from ≤ k → k < result
+        → slice_get (values_of sorted.now) k ≡ Some receipt → receipt.root < root }
     ensures first { (receipt : ReceiptValue) → slice_get (values_of sorted.now) result ≡ Some receipt → root ≤ receipt.root }
 {
     let mut at = from;

@@ -97,7 +97,8 @@ fn is_ended(ended: &BTreeSet<(u64, u64)>, seg: u64, node: NodeId, status: Status
 
 // The nodes, by segment and number, whose last notes were loaded.
 fn ended(alloc: Global, links: &[ClosedLink]) -> Result<BTreeSet<(u64, u64)>, AllocError>
-    ensures { IfOk result (λ ended. (seg node : ℕ) → contains key_order ended (seg, node) ≡ has_last seg node (flat_map loads_of links.now)) }
+    ensures { IfOk result (λ ended. (seg node : ℕ)
+        → contains key_order ended (seg, node) ≡ has_last seg node (flat_map loads_of links.now)) }
 {
     let mut ended = BTreeSet::new(alloc);
     for link in links {
@@ -108,7 +109,8 @@ fn ended(alloc: Global, links: &[ClosedLink]) -> Result<BTreeSet<(u64, u64)>, Al
 
 // Adds the nodes that have their last note among these.
 fn add_ended(ended: &mut BTreeSet<(u64, u64)>, notes: &[Note]) -> Result<(), AllocError>
-    ensures { OnOk result ((seg node : ℕ) → contains key_order ended.new (seg, node) ≡ (contains key_order ended.old (seg, node) || has_last seg node notes.now)) }
+    ensures { OnOk result ((seg node : ℕ) → contains key_order ended.new (seg, node)
+        ≡ (contains key_order ended.old (seg, node) || has_last seg node notes.now)) }
 {
     for note in notes {
         if note.last {

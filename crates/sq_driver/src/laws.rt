@@ -26,9 +26,11 @@ pub fn opened_workers_can_be_driven()
 
 /// The nodes and the pumps that a stage of a run begins with can be driven.
 pub fn resumed_workers_can_be_driven()
-    ensures nodes { (o : OpeningValue) (stage : ℕ) (stores : List StoreValue) (receipts : List ReceiptValue) (count : ℕ) (fabric : FabricValue) (nodes : List NodeState) (pumps : List PumpValue)
+    ensures nodes { (o : OpeningValue) (stage : ℕ) (stores : List StoreValue) (receipts : List ReceiptValue) (count : ℕ)
+        (fabric : FabricValue) (nodes : List NodeState) (pumps : List PumpValue)
         → IsReopened o stage stores receipts count fabric nodes pumps → All (IsNodeOf fabric) nodes }
-    ensures pumps { (o : OpeningValue) (stage : ℕ) (stores : List StoreValue) (receipts : List ReceiptValue) (count : ℕ) (fabric : FabricValue) (nodes : List NodeState) (pumps : List PumpValue)
+    ensures pumps { (o : OpeningValue) (stage : ℕ) (stores : List StoreValue) (receipts : List ReceiptValue) (count : ℕ)
+        (fabric : FabricValue) (nodes : List NodeState) (pumps : List PumpValue)
         → IsReopened o stage stores receipts count fabric nodes pumps → All (HasAllSeats fabric) pumps }
 {}
 

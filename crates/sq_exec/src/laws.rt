@@ -11,11 +11,14 @@ ghost use Rattle.sq_exec.specs.Runs.{is_loaded, is_whole, runs_with};
 /// A chunk adds to what is loaded just the keys that its note covers, whichever chunks came before, and its node is
 /// whole if it is the last.
 pub fn a_chunk_adds_what_its_note_covers()
-    ensures keys { (runs : List Run) (note : Note) (key : ℕ) → is_loaded (runs_with runs note) key ≡ (is_loaded runs key || covers note key) }
-    ensures whole { (runs : List Run) (note : Note) (node : ℕ) → is_whole (runs_with runs note) node ≡ (is_whole runs node || ((note.node == node) && note.last)) }
+    ensures keys { (runs : List Run) (note : Note) (key : ℕ)
+        → is_loaded (runs_with runs note) key ≡ (is_loaded runs key || covers note key) }
+    ensures whole { (runs : List Run) (note : Note) (node : ℕ)
+        → is_whole (runs_with runs note) node ≡ (is_whole runs node || ((note.node == node) && note.last)) }
 {}
 
 /// A node that is begun gives up just its leaves.
 pub fn a_node_gives_up_its_leaves()
-    ensures { (leaves : List Bool) (node leaf : ℕ) → leaf < LEAVES → is_given_up (given_up_with leaves node) leaf ≡ (is_given_up leaves leaf || is_above node leaf) }
+    ensures { (leaves : List Bool) (node leaf : ℕ) → leaf < LEAVES
+        → is_given_up (given_up_with leaves node) leaf ≡ (is_given_up leaves leaf || is_above node leaf) }
 {}

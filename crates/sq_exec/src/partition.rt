@@ -14,7 +14,8 @@ pub fn open_partitions(
     alloc: Global,
     opening: &Opening,
 ) -> Result<Vec<PartCore<SlabStore>>, AllocError>
-    ensures { IfOk result (λ cores. map (λ part. part.core) cores.items ≡ map (opened_part opening.now) (range_with_len 0 opening.now.old.parts)) }
+    ensures { IfOk result (λ cores. map (λ part. part.core) cores.items
+        ≡ map (opened_part opening.now) (range_with_len 0 opening.now.old.parts)) }
 {
     let mut cores = Vec::new(alloc);
     for number in 0..opening.old_plan().parts() {

@@ -34,5 +34,6 @@ pub fn a_run_can_be_gathered()
 
 /// A pump that turned is one of the run still, whose seats began and completed nothing.
 pub fn a_pump_stays_a_pump()
-    ensures { (fabric : FabricValue) (old new : PumpValue) → IsPumpOf fabric old → AreSeatsOf fabric.trees new.seats → OnlyClaimed old.seats new.seats → IsPumpOf fabric new }
+    ensures { (fabric : FabricValue) (old new : PumpValue) → IsPumpOf fabric old → AreSeatsOf fabric.trees new.seats
+        → OnlyClaimed old.seats new.seats → IsPumpOf fabric new }
 {}

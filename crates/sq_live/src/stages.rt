@@ -175,7 +175,8 @@ fn drive_all<R: Threads + Wait + Sync, G: Watch>(
     watch: &G,
 ) -> Result<Gathered, AllocError>
     requires { AreAllOf fabric nodes.items pumps.items }
-    ensures { IfOk result (λ g. (o : OpeningValue) (began : BeganWith) → IsOpening o → IsRunInStage o began fabric nodes.items pumps.items → RanFrom o began g) }
+    ensures { IfOk result (λ g. (o : OpeningValue) (began : BeganWith) → IsOpening o
+        → IsRunInStage o began fabric nodes.items pumps.items → RanFrom o began g) }
 {
     watch.stage_begins();
     run_workers(rt, &fabric, &mut nodes, &mut pumps, turns, watch);

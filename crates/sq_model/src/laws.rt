@@ -126,7 +126,9 @@ pub fn folds_only_at_the_end()
 
 /// A log that is full takes no further transaction, whatever came before.
 pub fn refuses_at_a_full_log()
-    ensures { (o : OpeningValue) (t : Trace) (part : ℕ) (txn : TxnValue) → part < o.old.parts → has_to_wait o t part txn.root ≡ false → runner o t txn.root ≡ Some part → is_full o t txn.root ≡ true → answer o t (Step.Submit part txn) ≡ Answer.Refused Refusal.LogFull }
+    ensures { (o : OpeningValue) (t : Trace) (part : ℕ) (txn : TxnValue) → part < o.old.parts
+        → has_to_wait o t part txn.root ≡ false → runner o t txn.root ≡ Some part → is_full o t txn.root ≡ true
+        → answer o t (Step.Submit part txn) ≡ Answer.Refused Refusal.LogFull }
 {}
 
 /// However often logs were folded: the transactions on a root key that committed are those that the rows its log starts
@@ -138,7 +140,9 @@ pub fn folds_lose_nothing()
 
 /// Where as many wait as can, a further transaction isn't let in, whatever came before.
 pub fn refuses_a_crowd()
-    ensures { (o : OpeningValue) (t : Trace) (part : ℕ) (txn : TxnValue) → part < o.old.parts → has_to_wait o t part txn.root ≡ true → MAX_WAITING ≤ length (waiting o t part) → answer o t (Step.Submit part txn) ≡ Answer.Refused Refusal.WaitFull }
+    ensures { (o : OpeningValue) (t : Trace) (part : ℕ) (txn : TxnValue) → part < o.old.parts
+        → has_to_wait o t part txn.root ≡ true → MAX_WAITING ≤ length (waiting o t part)
+        → answer o t (Step.Submit part txn) ≡ Answer.Refused Refusal.WaitFull }
 {}
 
 /// Whatever the steps: of two places in the list of the notes that were cut both are the same place where they cover one
@@ -156,5 +160,6 @@ pub fn moves_in_order()
 
 /// Once the move has ended, the family of each root key is where the new plan has it.
 pub fn ends_where_planned()
-    ensures { (o : OpeningValue) (t : Trace) (root : ℕ) → IsOpening o → IsLegal o t → phase t ≡ Phase.Ended → place o t root ≡ At (destination o root) }
+    ensures { (o : OpeningValue) (t : Trace) (root : ℕ) → IsOpening o → IsLegal o t → phase t ≡ Phase.Ended
+        → place o t root ≡ At (destination o root) }
 {}

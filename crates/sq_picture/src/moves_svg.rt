@@ -157,7 +157,8 @@ fn write_segment<W: Write>(writer: &mut W, seg: usize) -> io::Result<()>
 
 // Writes the segments from the first number up to the other one.
 fn write_each<W: Write>(writer: &mut W, first: usize, end: usize) -> io::Result<()>
-    ensures { OnOk result (Appends (W.contents writer.old) (W.contents writer.new) (flat_map segment_text (range_with_len first (end - first)))) }
+    ensures { OnOk result (Appends (W.contents writer.old) (W.contents writer.new)
+        (flat_map segment_text (range_with_len first (end - first)))) }
 {
     for seg in first..end {
         write_segment(writer, seg)?;
@@ -227,7 +228,8 @@ fn write_column<W: Write>(writer: &mut W, recon: &Recon, i: usize, range: &Range
 
 // Writes the columns of all ranges.
 fn write_columns<W: Write>(writer: &mut W, recon: &Recon) -> io::Result<()>
-    ensures { OnOk result (Appends (W.contents writer.old) (W.contents writer.new) (flat_map (column_text recon.now) (enumerate_from 0 recon.now.ranges))) }
+    ensures { OnOk result (Appends (W.contents writer.old) (W.contents writer.new)
+        (flat_map (column_text recon.now) (enumerate_from 0 recon.now.ranges))) }
 {
     for (i, range) in recon.ranges().iter().enumerate() {
         write_column(writer, recon, i, range)?;

@@ -152,7 +152,8 @@ fn write_node<W: Write>(writer: &mut W, tree: &PlainTree, node: NodeId) -> io::R
 
 // Writes all nodes, in the order of their numbers.
 fn write_nodes<W: Write>(writer: &mut W, tree: &PlainTree) -> io::Result<()>
-    ensures { OnOk result (Appends (W.contents writer.old) (W.contents writer.new) (flat_map (node_text (status_at tree.now)) (range_with_len 1 NODES))) }
+    ensures { OnOk result (Appends (W.contents writer.old) (W.contents writer.new)
+        (flat_map (node_text (status_at tree.now)) (range_with_len 1 NODES))) }
 {
     for n in 1..NODES as u64 + 1 {
         let Some(node) = NodeId::new(n) else {

@@ -96,7 +96,8 @@ impl Puller {
         ensures seats { AreSeatsOf shared.now.trees.now seats.new.items }
         ensures pulled { IfOk result (HasPulled shared.now.recon.now seg leaf self.old.puller seats.old.items self.new.puller seats.new.items) }
         ensures memory { OnErr result (self.old.has_room ≡ false) }
-        ensures err { OnErr result ((self.old.puller.wins.count < MAX_CLAIMS) × (self.new ≡ self.old) × (seats.new.items ≡ seats.old.items)) }
+        ensures err { OnErr result ((self.old.puller.wins.count < MAX_CLAIMS) × (self.new ≡ self.old)
+            × (seats.new.items ≡ seats.old.items)) }
         ensures work { OnlyClaimed seats.old.items seats.new.items }
         ensures claims { AreWonClaims seats.old.items self.old.puller.wins → AreWonClaims seats.new.items self.new.puller.wins }
     {

@@ -51,7 +51,8 @@ fn write_link<W: Write>(writer: &mut W, link: LinkCount) -> io::Result<()>
 
 // Writes the lines of partitions.
 fn write_parts<W: Write>(writer: &mut W, parts: &[PartCount], waited: &[u64]) -> io::Result<()>
-    ensures { OnOk result (Appends (W.contents writer.old) (W.contents writer.new) (flat_map (part_line parts.now waited.now) (range_with_len 0 (length parts.now)))) }
+    ensures { OnOk result (Appends (W.contents writer.old) (W.contents writer.new)
+        (flat_map (part_line parts.now waited.now) (range_with_len 0 (length parts.now)))) }
 {
     for number in 0..parts.len() {
         write_part(writer, parts, waited, number)?;

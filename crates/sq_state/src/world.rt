@@ -68,7 +68,8 @@ impl World {
         rows: Vec<GivenRow>,
     ) -> Result<World, NotOpened>
         ensures faultless { IfOk result (λ _. opening_fault schema old new config rows.items ≡ None) }
-        ensures opened { IfOk result (λ world. (o : OpeningValue) × IsOpeningOf schema old new config rows.items o × IsOpening o × Holds o [] world) }
+        ensures opened { IfOk result (λ world. (o : OpeningValue) × IsOpeningOf schema old new config rows.items o
+            × IsOpening o × Holds o [] world) }
         ensures refused { IfErr result (IsNotOpened schema old new config rows.items) }
     {
         match Opening::new(alloc, schema, old, new, config, rows) {
@@ -94,8 +95,10 @@ impl World {
     /// ends the move, each root key is at its owner by the new plan.
     pub fn step(&mut self, step: &Step) -> Answer
         ensures step_result { IsTransition self.old step.now result self.new }
-        ensures headline { (o : OpeningValue) (t : Trace) → IsOpening o → IsLegal o t → Holds o t self.old → KeepsHeadline o ((step.now, result) ∷ t) self.new }
-        ensures finished { (o : OpeningValue) (t : Trace) → IsOpening o → IsLegal o t → Holds o t self.old → step.now ≡ Step.Finish → result ≡ Answer.Done → IsAsPlanned o ((step.now, result) ∷ t) }
+        ensures headline { (o : OpeningValue) (t : Trace) → IsOpening o → IsLegal o t → Holds o t self.old
+            → KeepsHeadline o ((step.now, result) ∷ t) self.new }
+        ensures finished { (o : OpeningValue) (t : Trace) → IsOpening o → IsLegal o t → Holds o t self.old
+            → step.now ≡ Step.Finish → result ≡ Answer.Done → IsAsPlanned o ((step.now, result) ∷ t) }
     {
         self.state.step(step)
     }
@@ -142,7 +145,8 @@ impl World {
     /// oldest first, as the history tells, with exactly the families that its note covers; `None` where there is none.
     pub fn under_way(&self, src: u64, dst: u64, i: u64) -> Option<&Chunk>
         ensures chunk { option_copied result ≡ chunk_at self.now src dst i }
-        ensures by_history { (o : OpeningValue) (t : Trace) → IsOpening o → IsLegal o t → Holds o t self.now → IsChunkAfter o t src dst i (option_copied result) }
+        ensures by_history { (o : OpeningValue) (t : Trace) → IsOpening o → IsLegal o t → Holds o t self.now
+            → IsChunkAfter o t src dst i (option_copied result) }
     {
         self.state.under_way(src, dst, i)
     }

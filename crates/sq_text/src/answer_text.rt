@@ -32,7 +32,8 @@ fn cause_text(cause: Cause) -> &'static [u8]
 
 // Writes what operations are answered, each behind a space.
 fn write_op_answers<W: Write>(writer: &mut W, answers: &[OpAnswer]) -> io::Result<()>
-    ensures { OnOk result (Appends (W.contents writer.old) (W.contents writer.new) (flat_map (λ answer. 32 ∷ op_answer_text answer) answers.now)) }
+    ensures { OnOk result (Appends (W.contents writer.old) (W.contents writer.new)
+        (flat_map (λ answer. 32 ∷ op_answer_text answer) answers.now)) }
 {
     for answer in answers {
         write_op_answer(writer, answer)?;

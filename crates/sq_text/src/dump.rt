@@ -36,7 +36,8 @@ pub fn write_end<W: Write>(writer: &mut W, phase: Phase) -> io::Result<()>
 
 // Writes rows with their keys, each behind a space.
 fn write_entries<W: Write>(writer: &mut W, entries: RowIter<'_>) -> io::Result<()>
-    ensures { OnOk result (Appends (W.contents writer.old) (W.contents writer.new) (flat_map (λ entry. 32 ∷ entry_text entry) entries.entry)) }
+    ensures { OnOk result (Appends (W.contents writer.old) (W.contents writer.new)
+        (flat_map (λ entry. 32 ∷ entry_text entry) entries.entry)) }
 {
     for (key, row) in entries {
         write_entry(writer, *key, row)?;
@@ -57,7 +58,8 @@ fn put_family(text: &mut Text, family: &Family)
 
 // Writes a text, and then the rows of a family up to the end of the line.
 fn write_before_rows<W: Write>(writer: &mut W, text: &Text, family: &Family) -> io::Result<()>
-    ensures { OnOk result (Appends (W.contents writer.old) (W.contents writer.new) (text.now ++ (flat_map (λ entry. 32 ∷ entry_text entry) (rows_of family.now) ++ (10 ∷ [])))) }
+    ensures { OnOk result (Appends (W.contents writer.old) (W.contents writer.new)
+        (text.now ++ (flat_map (λ entry. 32 ∷ entry_text entry) (rows_of family.now) ++ (10 ∷ [])))) }
 {
     writer.write_all(text.as_bytes())?;
     write_entries(writer, family.rows().iter())?;
@@ -89,7 +91,8 @@ fn write_in<W: Write>(writer: &mut W, family: &Family) -> io::Result<()>
 /// Writes the lines of a chunk that was cut and isn't loaded: its note, and then each of its families. An error is
 /// the writer's.
 pub fn write_way<W: Write>(writer: &mut W, note: &Note, families: &[Family]) -> io::Result<()>
-    ensures { OnOk result (Appends (W.contents writer.old) (W.contents writer.new) (way_lines (record { note = note.now; families = families.now }))) }
+    ensures { OnOk result (Appends (W.contents writer.old) (W.contents writer.new)
+        (way_lines (record { note = note.now; families = families.now }))) }
 {
     let mut text = Text::new();
     put_note(&mut text, note, families.len() as u64);

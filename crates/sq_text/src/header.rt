@@ -64,7 +64,8 @@ fn plan_line<R: Read>(
     front: &[u8],
     lines: &mut LineReader<R>,
 ) -> Result<Plan, InputFault>
-    ensures plan { Leaves lines.old lines.new (λ all left. IsReadGivenMemory (λ plan. (plan, left)) result (line_as (plan_behind front.now) all)) }
+    ensures plan { Leaves lines.old lines.new
+        (λ all left. IsReadGivenMemory (λ plan. (plan, left)) result (line_as (plan_behind front.now) all)) }
     ensures one_line { lines.old.lines ≤ lines.new.lines + 1 }
 {
     next_line(lines)?;
@@ -184,7 +185,9 @@ fn take_row<R: Read>(
     at: usize,
     opening: &mut Opening,
 ) -> Result<(), LocatedFault>
-    ensures row { Leaves lines.old lines.new (λ all left. IsReadBefore (λ _. rows_in opening.new.table) result left (row_taken opening.old.tables (rows_in opening.old.table) at all)) }
+    ensures row { Leaves lines.old lines.new
+        (λ all left. IsReadBefore (λ _. rows_in opening.new.table) result left
+            (row_taken opening.old.tables (rows_in opening.old.table) at all)) }
     ensures kept { opening.new ≡ record opening.old { table = opening.new.table } }
     ensures one_line { lines.old.lines ≤ lines.new.lines + 1 }
     ensures fewer { OnOk result (lines.old.lines ≡ lines.new.lines + 1) }
@@ -207,7 +210,9 @@ fn take_rows<R: Read>(
     lines: &mut LineReader<R>,
     opening: &mut Opening,
 ) -> Result<(), LocatedFault>
-    ensures rows { Leaves lines.old lines.new (λ all left. IsReadBefore (λ _. rows_in opening.new.table) result left (rows_taken opening.old.tables (rows_in opening.old.table) 0 all)) }
+    ensures rows { Leaves lines.old lines.new
+        (λ all left. IsReadBefore (λ _. rows_in opening.new.table) result left
+            (rows_taken opening.old.tables (rows_in opening.old.table) 0 all)) }
     ensures kept { opening.new ≡ record opening.old { table = opening.new.table } }
     ensures stops { IfErr result (λ refused. IfSome refused.line (λ line. lines.old.lines + 3 ≤ lines.new.lines + line_number line)) }
 {

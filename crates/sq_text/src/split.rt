@@ -13,7 +13,8 @@ fn near_place_of(byte: u8, bytes: &[u8]) -> Option<usize>
 
 // What stands before the first of these bytes, and what stands after it; `None` where there is none.
 pub(crate) fn split_once(byte: u8, bytes: &[u8]) -> Option<(&[u8], &[u8])>
-    ensures { MatchOption result (split_by byte bytes.now ≡ bytes.now ∷ []) (λ x. split_by byte bytes.now ≡ x.0.now ∷ split_by byte x.1.now) }
+    ensures { MatchOption result (split_by byte bytes.now ≡ bytes.now ∷ [])
+        (λ x. split_by byte bytes.now ≡ x.0.now ∷ split_by byte x.1.now) }
 {
     let at = near_place_of(byte, bytes)?;
     Some((&bytes[..at], &bytes[at + 1..]))
@@ -21,7 +22,8 @@ pub(crate) fn split_once(byte: u8, bytes: &[u8]) -> Option<(&[u8], &[u8])>
 
 // The same, where the byte may be far from the front.
 pub(crate) fn split_once_far(byte: u8, bytes: &[u8]) -> Option<(&[u8], &[u8])>
-    ensures { MatchOption result (split_by byte bytes.now ≡ bytes.now ∷ []) (λ x. split_by byte bytes.now ≡ x.0.now ∷ split_by byte x.1.now) }
+    ensures { MatchOption result (split_by byte bytes.now ≡ bytes.now ∷ [])
+        (λ x. split_by byte bytes.now ≡ x.0.now ∷ split_by byte x.1.now) }
 {
     let at = place_of(byte, bytes)?;
     Some((&bytes[..at], &bytes[at + 1..]))

@@ -58,7 +58,8 @@ pub fn told_run<
     source: &Source<'_>,
 ) -> u8
     requires { manner.pumps ≤ MAX_PUMPS }
-    ensures { EndsAs (RunsLive manner.folds MAX_TABLES (recalling_remaining R.remaining reader.old) (W.contents writer.old) (W.contents writer.new)) live_status result }
+    ensures { EndsAs (RunsLive manner.folds MAX_TABLES (recalling_remaining R.remaining reader.old)
+        (W.contents writer.old) (W.contents writer.new)) live_status result }
 {
     if !report.summary && report.timeline.is_none() {
         return live_run(rt, reader, writer, manner, watch, source);
@@ -134,7 +135,8 @@ pub fn live_run<
     source: &Source<'_>,
 ) -> u8
     requires { manner.pumps ≤ MAX_PUMPS }
-    ensures { EndsAs (RunsLive manner.folds MAX_TABLES (recalling_remaining R.remaining reader.old) (W.contents writer.old) (W.contents writer.new)) live_status result }
+    ensures { EndsAs (RunsLive manner.folds MAX_TABLES (recalling_remaining R.remaining reader.old)
+        (W.contents writer.old) (W.contents writer.new)) live_status result }
 {
     let Manner {
         turns,

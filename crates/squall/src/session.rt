@@ -32,7 +32,9 @@ pub fn script<T: Eprint + Files + AllocGlobal, R: Read, W: Write>(
     echoes: bool,
     source: &Source<'_>,
 ) -> u8
-    ensures { EndsAs (Runs echoes MAX_TABLES (recalling_remaining R.remaining reader.old) (W.contents writer.old) (W.contents writer.new)) exit_status result }
+    ensures { EndsAs
+        (Runs echoes MAX_TABLES (recalling_remaining R.remaining reader.old) (W.contents writer.old) (W.contents writer.new))
+        exit_status result }
 {
     let mut world = None;
     let ran = run_and_echo(rt.alloc(), reader, writer, echoes, &mut world);
@@ -51,7 +53,9 @@ pub fn listing<T: Eprint + Files + AllocGlobal, R: Read, W: Write>(
     form: Form,
     source: &Source<'_>,
 ) -> u8
-    ensures { EndsAs (ListsAs form (recalling_remaining R.remaining reader.old) (W.contents writer.old) (W.contents writer.new)) exit_status result }
+    ensures { EndsAs
+        (ListsAs form (recalling_remaining R.remaining reader.old) (W.contents writer.old) (W.contents writer.new))
+        exit_status result }
 {
     let listed = match form {
         Form::Lines => ranges(rt.alloc(), reader, writer),

@@ -97,7 +97,8 @@ impl Places {
         ensures inboxes { IfOk result (λ places. places.inboxes.items ≡ replicate opening.now.old.parts None) }
         ensures given_up { IfOk result (λ places. places.given_up.items ≡ replicate (length opening.now.recon.segments) none_given_up) }
         ensures ends { IfOk result (λ _. list_all (has_ends opening.now.old.parts) opening.now.recon.segments ≡ true) }
-        ensures loaded { IfOk result (λ places. map (λ runs. runs.items) places.loaded.items ≡ replicate (length opening.now.recon.segments) []) }
+        ensures loaded { IfOk result (λ places. map (λ runs. runs.items) places.loaded.items
+            ≡ replicate (length opening.now.recon.segments) []) }
     {
         let parts = usize::from(opening.old_plan().parts());
         let segments = opening.recon().segments().len();

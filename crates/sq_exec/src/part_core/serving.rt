@@ -183,7 +183,8 @@ impl<S: FamilyStore> PartCore<S> {
     // The arrival number of the first waiting transaction that can go, and where it goes; or why none can.
     fn first_ready(&self) -> Result<(u64, PartId), ResumeFault>
         ensures ok { IfOk result (λ ready. IsFirstReady self.now ready.0) }
-        ensures goes { IfOk result (λ ready. option_map (λ txn. route self.now.core txn.root) (first_ready_here self.now.core) ≡ Some ready.1) }
+        ensures goes { IfOk result (λ ready. option_map (λ txn. route self.now.core txn.root)
+            (first_ready_here self.now.core) ≡ Some ready.1) }
         ensures err { IfErr result (λ fault. Some fault ≡ resume_refusal self.now.core) }
     {
         let mut fault = ResumeFault::NoneReady;

@@ -32,7 +32,8 @@ impl State {
     // Writes the families of each partition.
     fn write_parts<W: Write>(&self, writer: &mut W) -> io::Result<()>
         requires { IsSound self.now }
-        ensures { OnOk result (Appends (W.contents writer.old) (W.contents writer.new) (flat_map (part_lines self.now) (range_with_len 0 self.now.old.parts))) }
+        ensures { OnOk result (Appends (W.contents writer.old) (W.contents writer.new)
+            (flat_map (part_lines self.now) (range_with_len 0 self.now.old.parts))) }
     {
         for part in 0..self.old_plan.parts() {
             let store = self.cores[usize::from(part)].store();
@@ -43,7 +44,8 @@ impl State {
 
     // Writes what is under way from each partition.
     fn write_links<W: Write>(&self, writer: &mut W) -> io::Result<()>
-        ensures { OnOk result (Appends (W.contents writer.old) (W.contents writer.new) (flat_map (source_lines self.now) (range_with_len 0 self.now.old.parts))) }
+        ensures { OnOk result (Appends (W.contents writer.old) (W.contents writer.new)
+            (flat_map (source_lines self.now) (range_with_len 0 self.now.old.parts))) }
     {
         for src in 0..self.old_plan.parts() {
             self.write_source(writer, u64::from(src))?;
@@ -63,7 +65,8 @@ impl State {
 
     // Writes what is under way from one partition to another.
     fn write_link<W: Write>(&self, writer: &mut W, src: u64, dst: u64) -> io::Result<()>
-        ensures { OnOk result (Appends (W.contents writer.old) (W.contents writer.new) (link_lines self.now (link_index self.now src dst))) }
+        ensures { OnOk result (Appends (W.contents writer.old) (W.contents writer.new)
+            (link_lines self.now (link_index self.now src dst))) }
     {
         match self.link_at(src, dst) {
             Some(at) => self.write_under_way(writer, &self.queues[at]),
@@ -73,7 +76,8 @@ impl State {
 
     // Writes the chunks of a queue's link that were cut and aren't loaded, the oldest first.
     fn write_under_way<W: Write>(&self, writer: &mut W, queue: &Queue) -> io::Result<()>
-        ensures { OnOk result (Appends (W.contents writer.old) (W.contents writer.new) (flat_map way_lines (under_way (link_of self.now queue.now)))) }
+        ensures { OnOk result (Appends (W.contents writer.old) (W.contents writer.new)
+            (flat_map way_lines (under_way (link_of self.now queue.now)))) }
     {
         write_slot(writer, self.inbox(queue))?;
         write_queue(writer, queue)?;
@@ -95,7 +99,8 @@ fn write_families<W: Write>(writer: &mut W, part: PartId, store: &SlabStore) -> 
 
 // Writes a chunk, if there is one.
 fn write_slot<W: Write>(writer: &mut W, slot: Option<&Chunk>) -> io::Result<()>
-    ensures { OnOk result (Appends (W.contents writer.old) (W.contents writer.new) (flat_map way_lines (option_list (option_copied slot.entry)))) }
+    ensures { OnOk result (Appends (W.contents writer.old) (W.contents writer.new)
+        (flat_map way_lines (option_list (option_copied slot.entry)))) }
 {
     match slot {
         Some(chunk) => write_way(writer, &chunk.note(), chunk.families()),

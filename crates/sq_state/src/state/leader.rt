@@ -186,7 +186,8 @@ fn enter_all(cores: &mut [PartCore<SlabStore>], stage: u64)
 // Which segments are whole, by their trees.
 fn whole_segments(trees: &[PlainTree]) -> [bool; SEGMENTS]
     requires { length trees.now ≤ SEGMENT_LIMIT }
-    ensures { (seg : ℕ) → seg < length trees.now → is_told_whole result seg ≡ is_complete_reading (reading (status_at (slice_index_or trees.now seg [])) 1) }
+    ensures { (seg : ℕ) → seg < length trees.now
+        → is_told_whole result seg ≡ is_complete_reading (reading (status_at (slice_index_or trees.now seg [])) 1) }
 {
     let mut whole = [false; SEGMENTS];
     for (seg, tree) in trees.iter().enumerate() {
