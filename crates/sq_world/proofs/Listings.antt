@@ -13,20 +13,19 @@ use Rattle.sq_text.specs.Located.{located}
 use Rattle.sq_text.specs.Header.{plans_of, Opens}
 use Rattle.sq_text.proofs.Appending.{both}
 use Rattle.sq_world.specs.declared.ending.Ending.{Ending}
-use Rattle.sq_world.specs.Run.{IsFault}
-use Rattle.sq_world.specs.Listing.{IsToldOrRefused, IsListing}
-use Rattle.sq_world.proofs.Runs.{OfLines}
+use Rattle.sq_world.specs.Run.{IsFault, EndsAtFault}
+use Rattle.sq_world.specs.Listing.{IsListing, TellsLines, TellsOrRefuses}
 
 -- there was no memory to tell what moves, and nothing of it was written
 pub not_told : {E : Type 0} (tells : ReconValue → List ℕ → Type 0) (r : Result Ending E) (recon : ReconValue) (fault : LocatedFault) (before mid now : Option (List ℕ)) → fault ≡ located Memory None → Appends before mid []
-    → IfOk r (λ ending. (out : List ℕ) × Appends mid now out × IsFault fault out ending) → IfOk r (λ ending. (out : List ℕ) × Appends before now out × IsToldOrRefused tells recon out ending)
+    → IfOk r (EndsAtFault fault mid now) → IfOk r (TellsOrRefuses tells recon before now)
 not_told tells (Err e) recon fault before mid now is nothing wrote = tt
 not_told tells (Ok ending) recon fault before mid now is nothing wrote = (wrote.0, both before mid now [] wrote.0 wrote.0 nothing wrote.1 refl, inr (subst (λ f. IsFault f wrote.0 ending) is wrote.2))
 
 -- what moves was told
 pub listed : {E : Type 0} (tells : ReconValue → List ℕ → Type 0) (r : Result Ending E) (tables : ℕ) (o : OpeningValue) (recon : ReconValue) (begin lines : LinesValue) (before now : Option (List ℕ)) → tables ≡ MAX_TABLES → recon ≡ o.recon
     → Leaves begin lines (λ all left. Opens tables (Ok o) left (plans_of all))
-    → IfOk r (λ ending. (out : List ℕ) × Appends before now out × IsToldOrRefused tells recon out ending) → IfOk r (OfLines (IsListing tells MAX_TABLES) begin before now)
+    → IfOk r (TellsOrRefuses tells recon before now) → IfOk r (TellsLines tells MAX_TABLES begin before now)
 listed tells (Err e) tables o recon begin lines before now eight same opens wrote = tt
 listed tells (Ok ending) tables o recon begin lines before now eight same opens wrote =
     let some = some_pieces lines in
@@ -44,7 +43,7 @@ listed tells (Ok ending) tables o recon begin lines before now eight same opens 
 -- the lines were refused
 pub not_listed : {E : Type 0} (tells : ReconValue → List ℕ → Type 0) (r : Result Ending E) (tables : ℕ) (fault : LocatedFault) (begin lines : LinesValue) (before now : Option (List ℕ)) → tables ≡ MAX_TABLES
     → Leaves begin lines (λ all left. Opens tables (Err fault) left (plans_of all))
-    → IfOk r (λ ending. (out : List ℕ) × Appends before now out × IsFault fault out ending) → IfOk r (OfLines (IsListing tells MAX_TABLES) begin before now)
+    → IfOk r (EndsAtFault fault before now) → IfOk r (TellsLines tells MAX_TABLES begin before now)
 not_listed tells (Err e) tables fault begin lines before now eight opens wrote = tt
 not_listed tells (Ok ending) tables fault begin lines before now eight opens wrote =
     let some = some_pieces lines in

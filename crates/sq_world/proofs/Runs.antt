@@ -1,16 +1,14 @@
 -- Runs of whole inputs.
 use Rattle.std.proofs.Common.{◌≡◌, ℕ, Bool, List, [], Option, inl, inr, refl, subst}
 use Rattle.std.specs.Prelude.{None, Result, Ok, Err, IfOk}
-use Rattle.std.specs.Io.KnownBytes.{Appends, Keeps}
+use Rattle.std.specs.Io.KnownBytes.{Keeps}
 use Rattle.sq_schema.specs.declared.schema.TheConstants.{MAX_TABLES}
 use Rattle.sq_ranges.specs.OpeningValue.{OpeningValue}
-use Rattle.sq_model.specs.Trace.{Trace}
 use Rattle.sq_transition.specs.WorldValue.{WorldValue}
 use Rattle.sq_lines.specs.declared.reader.TheConstants.{MAX_LINES}
 use Rattle.sq_lines.specs.declared.reader.ReadState.TheVariants.{Open}
 use Rattle.sq_lines.specs.Pieces.{PieceValue, pieces}
-use Rattle.sq_lines.specs.Coming.{LinesValue, CanCome, Leaves}
-use Rattle.sq_lines.specs.Given.{IsGiven}
+use Rattle.sq_lines.specs.Coming.{LinesValue}
 use Rattle.sq_lines.proofs.Comings.{some_more, some_pieces}
 use Rattle.sq_lines.proofs.Givens.{given_first}
 use Rattle.sq_text.specs.declared.located.LocatedFault.{LocatedFault}
@@ -19,17 +17,13 @@ use Rattle.sq_text.specs.Located.{located}
 use Rattle.sq_text.specs.Header.{header_of, Opens}
 use Rattle.sq_text.proofs.Appending.{kept}
 use Rattle.sq_world.specs.declared.ending.Ending.{Ending}
-use Rattle.sq_world.specs.Run.{IsFault, IsRun}
-use Rattle.sq_world.specs.Script.{LeadsTo, IsWritten}
-
-abbrev RunsLines : Bool → LinesValue → Option (List ℕ) → Option (List ℕ) → Ending → Type 0
-RunsLines echoes lines before now ending = (given : List PieceValue) × CanCome lines given × (out : List ℕ) × Appends before now out × IsRun echoes MAX_TABLES given out ending
+use Rattle.sq_world.specs.Inputs.{OfLines, OfReader}
+use Rattle.sq_world.specs.Run.{IsFault, EndsAtFault, RunsLines}
+use Rattle.sq_world.specs.Script.{OpensWorld, RefusesHeader, RunsScript}
 
 -- a script that is run from a header's opening
 pub run_from : {E : Type 0} (echoes : Bool) (r : Result Ending E) (tables : ℕ) (begin lines : LinesValue) (before now : Option (List ℕ)) (w : WorldValue) → tables ≡ MAX_TABLES
-    → (o : OpeningValue) × LeadsTo o [] w × Leaves begin lines (λ all left. Opens tables (Ok o) left (header_of tables all))
-    → IfOk r (λ ending. (o : OpeningValue) (t : Trace) → LeadsTo o t w → o.tables ≡ tables → IsWritten echoes o t lines before now ending)
-    → IfOk r (RunsLines echoes begin before now)
+    → OpensWorld tables begin lines w → IfOk r (RunsScript echoes tables w lines before now) → IfOk r (RunsLines echoes MAX_TABLES begin before now)
 run_from echoes (Err e) tables begin lines before now w eight opens writes = tt
 run_from echoes (Ok ending) tables begin lines before now w eight opens writes =
     let o = opens.0 in
@@ -41,21 +35,12 @@ run_from echoes (Ok ending) tables begin lines before now w eight opens writes =
 
 -- a header that is refused
 pub run_refused : {E : Type 0} (echoes : Bool) (r : Result Ending E) (tables : ℕ) (fault : LocatedFault) (begin lines : LinesValue) (before now : Option (List ℕ)) → tables ≡ MAX_TABLES
-    → Leaves begin lines (λ all left. Opens tables (Err fault) left (header_of tables all))
-    → IfOk r (λ ending. (out : List ℕ) × Appends before now out × IsFault fault out ending) → IfOk r (RunsLines echoes begin before now)
+    → RefusesHeader tables begin lines fault → IfOk r (EndsAtFault fault before now) → IfOk r (RunsLines echoes MAX_TABLES begin before now)
 run_refused echoes (Err e) tables fault begin lines before now eight opens wrote = tt
 run_refused echoes (Ok ending) tables fault begin lines before now eight opens wrote =
     let some = some_pieces lines in
     let all = opens some.pieces some.can_come in
     (all.0, all.1, wrote.0, wrote.1, inr (record { fault = fault; left = some.pieces; header = subst (λ n. Opens n (Err fault) some.pieces (header_of n all.0)) eight all.2; wrote = wrote.2 }))
-
--- what is written for the lines of a reader, and how that ends, are as this says
-abbrev pub OfLines : (List PieceValue → List ℕ → Ending → Type 0) → LinesValue → Option (List ℕ) → Option (List ℕ) → Ending → Type 0
-OfLines says lines before now ending = (given : List PieceValue) × CanCome lines given × (out : List ℕ) × Appends before now out × says given out ending
-
--- what is written for what a reader gives, and how that ends, are as this says
-abbrev pub OfReader : (List PieceValue → List ℕ → Ending → Type 0) → Option (List ℕ) → Option (List ℕ) → Option (List ℕ) → Ending → Type 0
-OfReader says known before now ending = (given : List PieceValue) × IsGiven known given × (out : List ℕ) × Appends before now out × says given out ending
 
 pub run_given : {E : Type 0} (says : List PieceValue → List ℕ → Ending → Type 0) (r : Result Ending E) (v : LinesValue) (known before now : Option (List ℕ)) → v.held ≡ [] → v.reading ≡ Open → v.lines ≡ MAX_LINES → v.known ≡ known → IfOk r (OfLines says v before now) → IfOk r (OfReader says known before now)
 run_given says (Err e) v known before now none still most same ran = tt
@@ -63,7 +48,7 @@ run_given says (Ok ending) v known before now none still most same ran = (ran.0,
 
 -- there was no memory for a line
 pub run_nothing : {E : Type 0} (says : List PieceValue → List ℕ → Ending → Type 0) (r : Result Ending E) (known before now : Option (List ℕ)) (fault : LocatedFault) → fault ≡ located Memory None → ((given : List PieceValue) (out : List ℕ) (ending : Ending) → IsFault (located Memory None) out ending → says given out ending)
-    → IfOk r (λ ending. (out : List ℕ) × Appends before now out × IsFault fault out ending) → IfOk r (OfReader says known before now)
+    → IfOk r (EndsAtFault fault before now) → IfOk r (OfReader says known before now)
 run_nothing says (Err e) known before now fault is nothing wrote = tt
 run_nothing says (Ok ending) known before now fault is nothing wrote =
     let some = some_more Open known in

@@ -30,8 +30,8 @@ use Rattle.sq_world.specs.declared.ending.Ending.{Ending}
 use Rattle.sq_world.specs.declared.ending.Ending.TheVariants.{Done}
 use Rattle.sq_state.specs.Dump.{dump}
 use Rattle.sq_world.specs.Echo.{answer_text, refused_text}
-use Rattle.sq_world.specs.Run.{Writes, IsFault, AnswersLine}
-use Rattle.sq_world.specs.Script.{LeadsTo, IsAnswered, IsWritten}
+use Rattle.sq_world.specs.Run.{Writes, IsFault, EndsAtFault, AnswersLine}
+use Rattle.sq_world.specs.Script.{LeadsTo, IsAnswered, IsWritten, AnswersWorld, RunsScript}
 use Rattle.sq_state.proofs.Dumps.{nothing}
 
 module _ (echoes : Bool) where
@@ -86,19 +86,16 @@ module _ (echoes : Bool) where
   abbrev AllBefore : ℕ → LinesValue → LinesValue → Option (List ℕ) → Option (List ℕ) → WorldValue → WorldValue → Type 0
   AllBefore tables begin was first mid start w = (o : OpeningValue) (t : Trace) → LeadsTo o t start → o.tables ≡ tables → Before o t begin was first mid w
 
-  abbrev AllWritten : ℕ → LinesValue → Option (List ℕ) → Option (List ℕ) → WorldValue → Ending → Type 0
-  AllWritten tables begin first now start ending = (o : OpeningValue) (t : Trace) → LeadsTo o t start → o.tables ≡ tables → IsWritten echoes o t begin first now ending
-
   -- the end of the script
   pub at_end : {E : Type 0} (r : Result Ending E) (tables : ℕ) (begin was : LinesValue) (first mid now : Option (List ℕ)) (start w : WorldValue) → AllBefore tables begin was first mid start w → CanCome was []
-      → IfOk r (λ ending. ending ≡ Done) → OnOk r (Appends mid now (dump w)) → IfOk r (AllWritten tables begin first now start)
+      → IfOk r (λ ending. ending ≡ Done) → OnOk r (Appends mid now (dump w)) → IfOk r (RunsScript echoes tables start begin first now)
   at_end (Err e) tables begin was first mid now start w before none is written = tt
   at_end (Ok ending) tables begin was first mid now start w before none is written =
       λ o t leads same. let b = before o t leads same in ended_by o t begin was [] (dump w) ending first mid now w b none (record { world = w; holds = b.leads.holds; says = refl }, is) written
 
   -- a rest, and then the end of the script
   pub at_rest : {E : Type 0} (r : Result Ending E) (tables : ℕ) (begin was : LinesValue) (line : ℕ) (bytes : List ℕ) (number : ℕ) (first mid said now : Option (List ℕ)) (start w : WorldValue) → AllBefore tables begin was first mid start w → CanCome was (Rest line bytes ∷ [])
-      → number ≡ line_fault_number faults.NotAStep → Appends mid said (refused_text echoes bytes number) → IfOk r (λ ending. ending ≡ Done) → OnOk r (Appends said now (dump w)) → IfOk r (AllWritten tables begin first now start)
+      → number ≡ line_fault_number faults.NotAStep → Appends mid said (refused_text echoes bytes number) → IfOk r (λ ending. ending ≡ Done) → OnOk r (Appends said now (dump w)) → IfOk r (RunsScript echoes tables start begin first now)
   at_rest (Err e) tables begin was line bytes number first mid said now start w before rest says told is written = tt
   at_rest (Ok ending) tables begin was line bytes number first mid said now start w before rest says told is written =
       λ o t leads same.
@@ -110,22 +107,22 @@ module _ (echoes : Bool) where
   -- a fault, which ends the run
   at_fault : {E : Type 0} (r : Result Ending E) (tables : ℕ) (begin was : LinesValue) (left : List PieceValue) (fault : LocatedFault) (first mid now : Option (List ℕ)) (start w : WorldValue) → AllBefore tables begin was first mid start w → CanCome was left
       → ((o : OpeningValue) (t : Trace) (out : List ℕ) (ending : Ending) → IsFault fault out ending → Writes echoes o t left out ending)
-      → IfOk r (λ ending. (out : List ℕ) × Appends mid now out × IsFault fault out ending) → IfOk r (AllWritten tables begin first now start)
+      → IfOk r (EndsAtFault fault mid now) → IfOk r (RunsScript echoes tables start begin first now)
   at_fault (Err e) tables begin was left fault first mid now start w before can writes over = tt
   at_fault (Ok ending) tables begin was left fault first mid now start w before can writes over =
       λ o t leads same. let b = before o t leads same in ended_by o t begin was left over.0 ending first mid now w b can (writes o b.here over.0 ending over.2) over.1
 
   -- the reading failed, or it ended in a line without end, or behind the last line that may come
   pub at_failed : {E : Type 0} (r : Result Ending E) (tables : ℕ) (begin was : LinesValue) (line : ℕ) (bytes : List ℕ) (fault : LocatedFault) (first mid now : Option (List ℕ)) (start w : WorldValue) → AllBefore tables begin was first mid start w → CanCome was (Failed line bytes ∷ [])
-      → fault ≡ located ReadFailed (Some (Later line)) → IfOk r (λ ending. (out : List ℕ) × Appends mid now out × IsFault fault out ending) → IfOk r (AllWritten tables begin first now start)
+      → fault ≡ located ReadFailed (Some (Later line)) → IfOk r (EndsAtFault fault mid now) → IfOk r (RunsScript echoes tables start begin first now)
   at_failed r tables begin was line bytes fault first mid now start w before can is over = at_fault r tables begin was (Failed line bytes ∷ []) fault first mid now start w before can (λ o t out ending wrote. subst (λ f. IsFault f out ending) is wrote) over
 
   pub at_too_many : {E : Type 0} (r : Result Ending E) (tables : ℕ) (begin was : LinesValue) (fault : LocatedFault) (first mid now : Option (List ℕ)) (start w : WorldValue) → AllBefore tables begin was first mid start w → CanCome was (TooMany ∷ [])
-      → fault ≡ located TooLong (Some (Later (MAX_LINES + 1))) → IfOk r (λ ending. (out : List ℕ) × Appends mid now out × IsFault fault out ending) → IfOk r (AllWritten tables begin first now start)
+      → fault ≡ located TooLong (Some (Later (MAX_LINES + 1))) → IfOk r (EndsAtFault fault mid now) → IfOk r (RunsScript echoes tables start begin first now)
   at_too_many r tables begin was fault first mid now start w before can is over = at_fault r tables begin was (TooMany ∷ []) fault first mid now start w before can (λ o t out ending wrote. subst (λ f. IsFault f out ending) is wrote) over
 
   pub at_long : {E : Type 0} (r : Result Ending E) (tables : ℕ) (begin was : LinesValue) (fault : LocatedFault) (first mid now : Option (List ℕ)) (start w : WorldValue) → AllBefore tables begin was first mid start w → IsLong MAX_UNENDED was
-      → fault ≡ located TooLong (Some (Later (next_line_number was.lines))) → IfOk r (λ ending. (out : List ℕ) × Appends mid now out × IsFault fault out ending) → IfOk r (AllWritten tables begin first now start)
+      → fault ≡ located TooLong (Some (Later (next_line_number was.lines))) → IfOk r (EndsAtFault fault mid now) → IfOk r (RunsScript echoes tables start begin first now)
   at_long r tables begin was fault first mid now start w before long is over =
       let endless = is_endless was long in
       at_fault r tables begin was (Endless (next_line_number was.lines) endless.bytes ∷ endless.others) fault first mid now start w before endless.can_come (λ o t out ending wrote. subst (λ f. IsFault f out ending) is wrote) over
@@ -144,7 +141,7 @@ module _ (echoes : Bool) where
   -- a step was answered
   pub on_step : {T E : Type 0} (r : Result T E) (tables : ℕ) (line : List ℕ) (step : Step) (given : Answer) (before now : Option (List ℕ)) (w new : WorldValue) → Ok step ≡ step_of tables line
       → ((o : OpeningValue) (t : Trace) → IsOpening o → IsLegal o t → Holds o t w → KeepsHeadline o ((step, given) ∷ t) new)
-      → OnOk r (Appends before now (answer_text echoes line given)) → OnOk r ((o : OpeningValue) (t : Trace) → LeadsTo o t w → o.tables ≡ tables → IsAnswered echoes o t line before now new)
+      → OnOk r (Appends before now (answer_text echoes line given)) → OnOk r (AnswersWorld echoes tables line w new before now)
   on_step (Err e) tables line step given before now w new spelled goes written = tt
   on_step (Ok x) tables line step given before now w new spelled goes written =
       λ o t leads same. stepped o t tables line step given before now w new leads same spelled (goes o t leads.is_opening leads.legal leads.holds) written
@@ -152,7 +149,7 @@ module _ (echoes : Bool) where
   -- a line that spells no step was refused, or no memory was left to read it
   pub on_refusal : {T E : Type 0} (r : Result T E) (tables : ℕ) (line : List ℕ) (fault : LineFault) (number : ℕ) (before now : Option (List ℕ)) (w : WorldValue) → IsStep {A = Step} (Err fault) (step_of tables line)
       → (◌≡◌ {A = Result Step LineFault} (Err fault) (Err faults.Memory) → begins_txn (words_of line) ≡ true) → number ≡ line_fault_number fault → OnOk r (Appends before now (refused_text echoes line number))
-      → OnOk r ((o : OpeningValue) (t : Trace) → LeadsTo o t w → o.tables ≡ tables → IsAnswered echoes o t line before now w)
+      → OnOk r (AnswersWorld echoes tables line w w before now)
   on_refusal (Err e) tables line fault number before now w read memory says written = tt
   on_refusal (Ok x) tables line fault number before now w read memory says written =
       λ o t leads same. record {

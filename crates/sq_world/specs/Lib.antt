@@ -1,4 +1,5 @@
 pub mod Echo
+pub mod Inputs
 pub mod Run
 pub mod Script
 pub mod Listing

@@ -4,7 +4,7 @@ use Rattle.std.specs.Io.KnownBytes.{Appends}
 use Rattle.sq_ranges.specs.OpeningValue.{OpeningValue}
 use Rattle.sq_ranges.specs.ReconValue.{ReconValue}
 use Rattle.sq_lines.specs.Pieces.{PieceValue}
-use Rattle.sq_lines.specs.Given.{IsGiven}
+use Rattle.sq_lines.specs.Coming.{LinesValue}
 use Rattle.sq_text.specs.declared.located.LocatedFault.{LocatedFault}
 use Rattle.sq_text.specs.declared.input_fault.InputFault.TheVariants.{Memory}
 use Rattle.sq_text.specs.Located.{located}
@@ -14,6 +14,7 @@ use Rattle.sq_world.specs.declared.ending.Ending.{Ending}
 use Rattle.sq_world.specs.declared.ending.Ending.TheVariants.{Done}
 use Rattle.sq_world.specs.declared.telling.Told.{Told}
 use Rattle.sq_world.specs.declared.telling.Told.TheVariants.{Written, NoMemory}
+use Rattle.sq_world.specs.Inputs.{Writing, OfLines, OfReader}
 use Rattle.sq_world.specs.Run.{IsFault}
 
 -- a text that tells of a reconfiguration goes to the end of what a writer holds; where there was no memory for it, nothing does
@@ -46,7 +47,15 @@ IsListing tells tables given out ending = IsWholeListing tells tables given out 
 
 -- what a reader gives is answered by what tells of its reconfiguration, and that goes to the end of what a writer holds
 abbrev pub Tells : (ReconValue → List ℕ → Type 0) → ℕ → Option (List ℕ) → Option (List ℕ) → Option (List ℕ) → Ending → Type 0
-Tells tells tables known before now ending = (given : List PieceValue) × IsGiven known given × (out : List ℕ) × Appends before now out × IsListing tells tables given out ending
+Tells tells tables = OfReader (IsListing tells tables)
+
+-- the same of what can come of a reader of lines
+abbrev pub TellsLines : (ReconValue → List ℕ → Type 0) → ℕ → LinesValue → Option (List ℕ) → Option (List ℕ) → Ending → Type 0
+TellsLines tells tables = OfLines (IsListing tells tables)
+
+-- what tells of a reconfiguration, or that memory ran out, goes to the end of what a writer holds
+abbrev pub TellsOrRefuses : (ReconValue → List ℕ → Type 0) → ReconValue → Option (List ℕ) → Option (List ℕ) → Ending → Type 0
+TellsOrRefuses tells recon = Writing (IsToldOrRefused tells recon)
 
 -- the lines of what moves
 abbrev pub IsMovesText : ReconValue → List ℕ → Type 0

@@ -1,6 +1,5 @@
 -- A run: what is written for an input.
 use Rattle.std.specs.Prelude.{◌≡◌, ◌⊎◌, ℕ, ◌+◌, Bool, true, List, [], ◌∷◌, ◌++◌, Option, Some, Ok, Err}
-use Rattle.std.specs.Io.KnownBytes.{Appends}
 use Rattle.sq_ranges.specs.OpeningValue.{OpeningValue}
 use Rattle.sq_model.specs.declared.step.Step.{Step}
 use Rattle.sq_model.specs.declared.answer.Answer.{Answer}
@@ -22,12 +21,13 @@ use Rattle.sq_text.specs.Located.{located}
 use Rattle.sq_text.specs.Texts.{fault_line}
 use Rattle.sq_lines.specs.declared.reader.TheConstants.{MAX_LINES}
 use Rattle.sq_lines.specs.Pieces.{PieceValue, Line, Rest, Failed, Endless, TooMany}
-use Rattle.sq_lines.specs.Given.{IsGiven}
+use Rattle.sq_lines.specs.Coming.{LinesValue}
 use Rattle.sq_text.specs.Header.{header_of, Opens}
 use Rattle.sq_world.specs.declared.ending.Ending.{Ending}
 use Rattle.sq_world.specs.declared.ending.Ending.TheVariants.{Done, Fault}
 use Rattle.sq_state.specs.Dump.{dump}
 use Rattle.sq_world.specs.Echo.{answer_text, refused_text}
+use Rattle.sq_world.specs.Inputs.{Writing, OfLines, OfReader}
 
 -- the line spells a step, which is answered by the history
 pub record IsStepLine (echoes : Bool) (o : OpeningValue) (t : Trace) (line : List ℕ) (after : Trace) (text : List ℕ) : Type 0 where
@@ -51,9 +51,11 @@ pub record IsUnread (echoes : Bool) (t : Trace) (line : List ℕ) (after : Trace
   pub stays : after ≡ t
   pub says : text ≡ refused_text echoes line (line_fault_number line_fault.Memory)
 
--- what a line is answered after this history, and the history after it; echoes says whether the line stands before its answer
+-- what a line is answered after this history, and the history after it; echoes says whether the line stands before its
+-- answer
 abbrev pub AnswersLine : Bool → OpeningValue → Trace → List ℕ → Trace → List ℕ → Type 0
-AnswersLine echoes o t line after text = IsStepLine echoes o t line after text ⊎ (IsNoStep echoes o t line after text ⊎ IsUnread echoes t line after text)
+AnswersLine echoes o t line after text =
+    IsStepLine echoes o t line after text ⊎ (IsNoStep echoes o t line after text ⊎ IsUnread echoes t line after text)
 
 -- at the end of the script the world that the history leads to is dumped
 pub record IsDumped (o : OpeningValue) (t : Trace) (out : List ℕ) : Type 0 where
@@ -71,7 +73,8 @@ abbrev pub Writes : Bool → OpeningValue → Trace → List PieceValue → List
 Writes echoes o t [] out ending = IsDumped o t out × (ending ≡ Done)
 Writes echoes o t (Line number line ∷ others) out ending =
     (after : Trace) × (text : List ℕ) × (later : List ℕ) × AnswersLine echoes o t line after text × (out ≡ text ++ later) × Writes echoes o after others later ending
-Writes echoes o t (Rest number bytes ∷ others) out ending = (later : List ℕ) × (out ≡ refused_text echoes bytes (line_fault_number line_fault.NotAStep) ++ later) × Writes echoes o t others later ending
+Writes echoes o t (Rest number bytes ∷ others) out ending =
+    (later : List ℕ) × (out ≡ refused_text echoes bytes (line_fault_number line_fault.NotAStep) ++ later) × Writes echoes o t others later ending
 Writes echoes o t (Failed number bytes ∷ others) out ending = IsFault (located ReadFailed (Some (Later number))) out ending
 Writes echoes o t (Endless number bytes ∷ others) out ending = IsFault (located TooLong (Some (Later number))) out ending
 Writes echoes o t (TooMany ∷ others) out ending = IsFault (located TooLong (Some (Later (MAX_LINES + 1)))) out ending
@@ -97,7 +100,15 @@ IsRun echoes tables given out ending = IsRunFrom echoes tables given out ending 
 
 -- what a reader gives is run, and what is written for it goes to the end of what a writer holds
 abbrev pub Runs : Bool → ℕ → Option (List ℕ) → Option (List ℕ) → Option (List ℕ) → Ending → Type 0
-Runs echoes tables known before now ending = (given : List PieceValue) × IsGiven known given × (out : List ℕ) × Appends before now out × IsRun echoes tables given out ending
+Runs echoes tables = OfReader (IsRun echoes tables)
+
+-- the same of what can come of a reader of lines
+abbrev pub RunsLines : Bool → ℕ → LinesValue → Option (List ℕ) → Option (List ℕ) → Ending → Type 0
+RunsLines echoes tables = OfLines (IsRun echoes tables)
+
+-- the number of a fault goes to the end of what a writer holds, and ends the run
+abbrev pub EndsAtFault : LocatedFault → Option (List ℕ) → Option (List ℕ) → Ending → Type 0
+EndsAtFault located = Writing (IsFault located)
 
 -- the exit status of an ending
 abbrev pub exit_status_of : Ending → ℕ

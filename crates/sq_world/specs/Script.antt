@@ -1,5 +1,5 @@
 -- A script that is run, line by line.
-use Rattle.std.specs.Prelude.{ℕ, Bool, List, Option}
+use Rattle.std.specs.Prelude.{◌≡◌, ℕ, Bool, List, [], Option, Ok, Err}
 use Rattle.std.specs.Io.KnownBytes.{Appends}
 use Rattle.sq_ranges.specs.OpeningValue.{OpeningValue}
 use Rattle.sq_model.specs.Trace.{Trace}
@@ -8,7 +8,9 @@ use Rattle.sq_model.specs.Legal.{IsLegal}
 use Rattle.sq_transition.specs.WorldValue.{WorldValue}
 use Rattle.sq_transition.specs.Holds.{Holds}
 use Rattle.sq_lines.specs.Pieces.{PieceValue}
-use Rattle.sq_lines.specs.Coming.{LinesValue, CanCome}
+use Rattle.sq_lines.specs.Coming.{LinesValue, CanCome, Leaves}
+use Rattle.sq_text.specs.declared.located.LocatedFault.{LocatedFault}
+use Rattle.sq_text.specs.Header.{header_of, Opens}
 use Rattle.sq_world.specs.declared.ending.Ending.{Ending}
 use Rattle.sq_world.specs.Run.{AnswersLine, Writes}
 
@@ -33,3 +35,22 @@ pub record IsWritten (echoes : Bool) (o : OpeningValue) (t : Trace) (lines : Lin
   pub out : List ℕ
   pub writes : Writes echoes o t pieces out ending
   pub written : Appends before now out
+
+-- whatever legal history of an opening with these tables led to the world, a line is answered after it
+abbrev pub AnswersWorld : Bool → ℕ → List ℕ → WorldValue → WorldValue → Option (List ℕ) → Option (List ℕ) → Type 0
+AnswersWorld echoes tables line old new before now =
+    (o : OpeningValue) (t : Trace) → LeadsTo o t old → o.tables ≡ tables → IsAnswered echoes o t line before now new
+
+-- whatever legal history of an opening with these tables led to the world, a script is run after it
+abbrev pub RunsScript : Bool → ℕ → WorldValue → LinesValue → Option (List ℕ) → Option (List ℕ) → Ending → Type 0
+RunsScript echoes tables world lines before now ending =
+    (o : OpeningValue) (t : Trace) → LeadsTo o t world → o.tables ≡ tables → IsWritten echoes o t lines before now ending
+
+-- the lines of a reader give an opening up to those that are left, and the world is that of the opening
+abbrev pub OpensWorld : ℕ → LinesValue → LinesValue → WorldValue → Type 0
+OpensWorld tables old new world =
+    (o : OpeningValue) × LeadsTo o [] world × Leaves old new (λ all left. Opens tables (Ok o) left (header_of tables all))
+
+-- the lines of a reader have this fault in their header
+abbrev pub RefusesHeader : ℕ → LinesValue → LinesValue → LocatedFault → Type 0
+RefusesHeader tables old new fault = Leaves old new (λ all left. Opens tables (Err fault) left (header_of tables all))

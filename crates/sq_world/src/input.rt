@@ -1,12 +1,7 @@
 // Inputs: bytes in, bytes out.
-ghost use Rattle.std.specs.Prelude.{◌≡◌, false, List, ℕ, [], Ok, Err, IfOk, IfErr};
-ghost use Rattle.std.specs.Io.KnownBytes.{Appends};
-ghost use Rattle.sq_ranges.specs.OpeningValue.{OpeningValue};
-ghost use Rattle.sq_lines.specs.Pieces.{PieceValue};
-ghost use Rattle.sq_lines.specs.Coming.{CanCome, Leaves};
-ghost use Rattle.sq_text.specs.Header.{header_of, Opens};
-ghost use Rattle.sq_world.specs.Run.{IsRun, Runs};
-ghost use Rattle.sq_world.specs.Script.{LeadsTo};
+ghost use Rattle.std.specs.Prelude.{false, IfOk, IfErr};
+ghost use Rattle.sq_world.specs.Run.{Runs, RunsLines};
+ghost use Rattle.sq_world.specs.Script.{OpensWorld, RefusesHeader};
 
 use crate::ending::Ending;
 use crate::script::{end_by, run_script};
@@ -89,7 +84,7 @@ fn run_lines<R: Read, W: Write>(
     echoes: bool,
     kept: &mut Option<World>,
 ) -> io::Result<Ending>
-    ensures { IfOk result (λ ending. (given : List PieceValue) × CanCome lines.old given × (out : List ℕ) × Appends (W.contents writer.old) (W.contents writer.new) out × IsRun echoes MAX_TABLES given out ending) }
+    ensures { IfOk result (RunsLines echoes MAX_TABLES lines.old (W.contents writer.old) (W.contents writer.new)) }
 {
     let Some(schema) = Schema::new(MAX_TABLES) else {
         unreachable!()
@@ -106,8 +101,8 @@ fn open_world<R: Read>(
     schema: Schema,
     lines: &mut LineReader<R>,
 ) -> Result<World, LocatedFault>
-    ensures world { IfOk result (λ world. (o : OpeningValue) × LeadsTo o [] world × Leaves lines.old lines.new (λ all left. Opens schema (Ok o) left (header_of schema all))) }
-    ensures fault { IfErr result (λ fault. Leaves lines.old lines.new (λ all left. Opens schema (Err fault) left (header_of schema all))) }
+    ensures world { IfOk result (OpensWorld schema lines.old lines.new) }
+    ensures fault { IfErr result (RefusesHeader schema lines.old lines.new) }
 {
     let opening = read_header(alloc, schema, lines)?;
     match World::from_opening(alloc, opening) {

@@ -1,9 +1,6 @@
 // What moves between two plans: bytes in, bytes out.
-ghost use Rattle.std.specs.Prelude.{◌≡◌, List, ℕ, IfOk};
-ghost use Rattle.std.specs.Io.KnownBytes.{Appends};
-ghost use Rattle.sq_lines.specs.Pieces.{PieceValue};
-ghost use Rattle.sq_lines.specs.Coming.{CanCome};
-ghost use Rattle.sq_world.specs.Listing.{IsToldOrRefused, IsListing, IsMovesText, Tells, Lists};
+ghost use Rattle.std.specs.Prelude.{IfOk};
+ghost use Rattle.sq_world.specs.Listing.{IsMovesText, Tells, TellsLines, TellsOrRefuses, Lists};
 
 use crate::ending::Ending;
 use crate::script::end_by;
@@ -41,7 +38,8 @@ pub fn list<R: Read, W: Write, T: Telling>(
     writer: &mut W,
     telling: &T,
 ) -> Result<Ending, WriteFault>
-    ensures { IfOk result (Tells (T.tells telling.now) MAX_TABLES (R.remaining reader.old) (W.contents writer.old) (W.contents writer.new)) }
+    ensures { IfOk result
+        (Tells (T.tells telling.now) MAX_TABLES (R.remaining reader.old) (W.contents writer.old) (W.contents writer.new)) }
 {
     let ending = list_unflushed(alloc, reader, writer, telling)?;
     writer.flush()?;
@@ -67,7 +65,8 @@ fn list_unflushed<R: Read, W: Write, T: Telling>(
     writer: &mut W,
     telling: &T,
 ) -> io::Result<Ending>
-    ensures { IfOk result (Tells (T.tells telling.now) MAX_TABLES (R.remaining reader.old) (W.contents writer.old) (W.contents writer.new)) }
+    ensures { IfOk result
+        (Tells (T.tells telling.now) MAX_TABLES (R.remaining reader.old) (W.contents writer.old) (W.contents writer.new)) }
 {
     match LineReader::new(alloc, reader) {
         Ok(mut lines) => list_moves(alloc, &mut lines, writer, telling),
@@ -82,7 +81,8 @@ fn list_moves<R: Read, W: Write, T: Telling>(
     writer: &mut W,
     telling: &T,
 ) -> io::Result<Ending>
-    ensures { IfOk result (λ ending. (given : List PieceValue) × CanCome lines.old given × (out : List ℕ) × Appends (W.contents writer.old) (W.contents writer.new) out × IsListing (T.tells telling.now) MAX_TABLES given out ending) }
+    ensures { IfOk result
+        (TellsLines (T.tells telling.now) MAX_TABLES lines.old (W.contents writer.old) (W.contents writer.new)) }
 {
     let Some(schema) = Schema::new(MAX_TABLES) else {
         unreachable!()
@@ -100,7 +100,8 @@ fn tell<W: Write, T: Telling>(
     telling: &T,
     recon: &Recon,
 ) -> io::Result<Ending>
-    ensures { IfOk result (λ ending. (out : List ℕ) × Appends (W.contents writer.old) (W.contents writer.new) out × IsToldOrRefused (T.tells telling.now) recon.now out ending) }
+    ensures { IfOk result
+        (TellsOrRefuses (T.tells telling.now) recon.now (W.contents writer.old) (W.contents writer.new)) }
 {
     match telling.tell(alloc, writer, recon)? {
         Told::Written => Ok(Ending::Done),

@@ -1,12 +1,10 @@
 // Scripts.
-ghost use Rattle.std.specs.Prelude.{◌≡◌, List, ℕ, OnOk, IfOk};
+ghost use Rattle.std.specs.Prelude.{◌≡◌, OnOk, IfOk};
 ghost use Rattle.std.specs.Io.KnownBytes.{Appends};
-ghost use Rattle.sq_ranges.specs.OpeningValue.{OpeningValue};
-ghost use Rattle.sq_model.specs.Trace.{Trace};
-ghost use Rattle.sq_state.specs.Dump.{dump};
 ghost use Rattle.sq_lines.specs.Pieces.{next_line_number};
-ghost use Rattle.sq_world.specs.Run.{IsFault};
-ghost use Rattle.sq_world.specs.Script.{LeadsTo, IsAnswered, IsWritten};
+ghost use Rattle.sq_state.specs.Dump.{dump};
+ghost use Rattle.sq_world.specs.Run.{EndsAtFault};
+ghost use Rattle.sq_world.specs.Script.{AnswersWorld, RunsScript};
 
 use crate::echo::{write_refusal, write_told};
 use crate::ending::Ending;
@@ -21,7 +19,8 @@ use std::io::{Read, Write};
 // The line after the last one that an input may have.
 const AFTER_THE_LAST: InputLine = InputLine::Later(MAX_LINES + 1);
 
-// Writes what the lines of a script are answered, each answer behind its line where it echoes, and then the dump. What is written goes out before more is read.
+// Writes what the lines of a script are answered, each answer behind its line where it echoes, and then the dump. What is
+// written goes out before more is read.
 pub(crate) fn run_script<R: Read, W: Write>(
     alloc: Global,
     schema: &Schema,
@@ -30,7 +29,8 @@ pub(crate) fn run_script<R: Read, W: Write>(
     writer: &mut W,
     echoes: bool,
 ) -> io::Result<Ending>
-    ensures { IfOk result (λ ending. (o : OpeningValue) (t : Trace) → LeadsTo o t world.old → o.tables ≡ schema.now → IsWritten echoes o t lines.old (W.contents writer.old) (W.contents writer.new) ending) }
+    ensures { IfOk result
+        (RunsScript echoes schema.now world.old lines.old (W.contents writer.old) (W.contents writer.new)) }
 {
     loop {
         match lines.next(MAX_UNENDED) {
@@ -77,7 +77,8 @@ fn write_line<W: Write>(
     writer: &mut W,
     echoes: bool,
 ) -> io::Result<()>
-    ensures { OnOk result ((o : OpeningValue) (t : Trace) → LeadsTo o t world.old → o.tables ≡ schema.now → IsAnswered echoes o t line.now (W.contents writer.old) (W.contents writer.new) world.new) }
+    ensures { OnOk result
+        (AnswersWorld echoes schema.now line.now world.old world.new (W.contents writer.old) (W.contents writer.new)) }
 {
     match read_step(alloc, schema, line) {
         Ok(step) => {
@@ -90,7 +91,7 @@ fn write_line<W: Write>(
 
 // Writes the number of a fault, which ends the run.
 pub(crate) fn end_by<W: Write>(writer: &mut W, located: LocatedFault) -> io::Result<Ending>
-    ensures { IfOk result (λ ending. (out : List ℕ) × Appends (W.contents writer.old) (W.contents writer.new) out × IsFault located out ending) }
+    ensures { IfOk result (EndsAtFault located (W.contents writer.old) (W.contents writer.new)) }
 {
     write_fault(writer, located.fault.number())?;
     Ok(Ending::Fault(located))
