@@ -42,7 +42,7 @@ fn is_placed(opening: &Opening, stage: u64, spans: &[Span], located: &Located) -
     requires { AreByKey (marked_in spans.now) }
     ensures { let root = located.now.family.now.root in
         Decides result (IsAtPart (spot_of located.now.site)
-            (part_by opening.now stage root (find (is_over root) (marked_in spans.now)))) }
+        (part_by opening.now stage root (find (is_over root) (marked_in spans.now)))) }
 {
     let Site::Store(part) = located.site else {
         return true;

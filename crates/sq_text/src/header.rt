@@ -187,7 +187,7 @@ fn take_row<R: Read>(
 ) -> Result<(), LocatedFault>
     ensures row { Leaves lines.old lines.new
         (λ all left. IsReadBefore (λ _. rows_in opening.new.table) result left
-            (row_taken opening.old.tables (rows_in opening.old.table) at all)) }
+        (row_taken opening.old.tables (rows_in opening.old.table) at all)) }
     ensures kept { opening.new ≡ record opening.old { table = opening.new.table } }
     ensures one_line { lines.old.lines ≤ lines.new.lines + 1 }
     ensures fewer { OnOk result (lines.old.lines ≡ lines.new.lines + 1) }
@@ -212,7 +212,7 @@ fn take_rows<R: Read>(
 ) -> Result<(), LocatedFault>
     ensures rows { Leaves lines.old lines.new
         (λ all left. IsReadBefore (λ _. rows_in opening.new.table) result left
-            (rows_taken opening.old.tables (rows_in opening.old.table) 0 all)) }
+        (rows_taken opening.old.tables (rows_in opening.old.table) 0 all)) }
     ensures kept { opening.new ≡ record opening.old { table = opening.new.table } }
     ensures stops { IfErr result (λ refused. IfSome refused.line (λ line. lines.old.lines + 3 ≤ lines.new.lines + line_number line)) }
 {
