@@ -1,27 +1,39 @@
 -- What a search by key finds among entries whose keys rise, and what an edit at that place leaves.
-use Rattle.std.proofs.Common.{◌≡◌, ◌<◌, ℕ, suc, true, List, length, get_or, arith, Ordering, Result, Ok, Err}
+use Rattle.std.proofs.Common.{◌≡◌, ◌<◌, ◌-◌, ℕ, suc, true, List, [], ◌∷◌, length, get_or, ap, ◌∙◌, arith, Ordering, Result, Ok, Err, Some}
+use Rattle.std.specs.Prelude.{slice_get}
 use Rattle.std.specs.declared.cmp.Ordering.TheVariants.{Less, Equal}
 use Rattle.std.specs.Cmp.{IsTotalOrder}
 use Rattle.std.specs.List.Sorted.{IsSearchInRange, IsBinarySearchResult}
 use Rattle.std.specs.FinMap.Entries.{is_sorted}
+use Rattle.std.proofs.lemmas.Option.{get_or_from_slice_get}
 use Rattle.sq_schema.specs.Places.{IsAt, IsPlace}
 use Rattle.sq_schema.proofs.Entries.{comparisons_rise, all_below, find_at, put_at, where_key_at, find_gap, put_gap, where_key_gap}
 
+-- an entry of a list that has some
+one_of : {E : Type 0} (es : List E) (at : ℕ) → at < length es → E
+one_of [] at within = absurd (omega arith)
+one_of (e ∷ es) at within = e
+
 module _ {K X : Type 0} (R : K → K → Ordering) (o : IsTotalOrder R) (es : List (K × X)) (key : K) where
   -- an entry whose key ties is the key's
-  pub tied_at : (at : ℕ) → X → is_sorted R es ≡ true → at < length es → ((d : K × X) → R (get_or es at d).0 key ≡ Equal) → IsAt R es key at
-  tied_at at x rising within here =
+  pub tied_at : (at : ℕ) → is_sorted R es ≡ true → at < length es → ((d : K × X) → R (get_or es at d).0 key ≡ Equal) → IsAt R es key at
+  tied_at at rising within here =
+      let one = one_of es at within in
       record {
         within = within;
         found = λ d. find_at R o key es at d rising within (here d);
         put = λ y d. put_at R o key y es at d rising within (here d);
-        removed = where_key_at R o key es at (key, x) rising within (here (key, x));
+        removed = where_key_at R o key es at one rising within (here one);
       }
 
+  -- what the last entry's key is to the key, that of the entry at the end is to it
+  pub last_compares : (last : K × X) (order : Ordering) → slice_get es (length es - 1) ≡ Some last → R last.0 key ≡ order → (d : K × X) → R (get_or es (length es - 1) d).0 key ≡ order
+  last_compares last order stands is d = ap (λ (entry : K × X). R entry.0 key) (get_or_from_slice_get es (length es - 1) last d stands) ∙ is
+
   -- a binary search by key ends at the key's entry, or at the gap for it
-  pub searched : (r : Result ℕ ℕ) → X → is_sorted R es ≡ true → IsSearchInRange r (length es) → IsBinarySearchResult (λ entry. R entry.0 key) es r → IsPlace R es key r
-  searched (Ok at) x rising within here = tied_at at x rising within here
-  searched (Err at) x rising within parted =
+  pub searched : (r : Result ℕ ℕ) → is_sorted R es ≡ true → IsSearchInRange r (length es) → IsBinarySearchResult (λ entry. R entry.0 key) es r → IsPlace R es key r
+  searched (Ok at) rising within here = tied_at at rising within here
+  searched (Err at) rising within parted =
       let sides = parted (comparisons_rise R o key es rising) in
       record {
         within = within;

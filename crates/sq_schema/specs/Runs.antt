@@ -1,22 +1,24 @@
 -- What running operations comes to in the code.
-use Rattle.std.specs.Prelude.{◌≡◌, ⊤, List, Ok, Err}
+use Rattle.std.specs.Prelude.{◌≡◌, ⊤, List, Result, Ok, Err}
 use Rattle.std.specs.List.{AllPass}
 use Rattle.sq_schema.specs.declared.txn.Op.{Op}
+use Rattle.sq_schema.specs.declared.txn.OpAnswer.{OpAnswer}
 use Rattle.sq_schema.specs.declared.pending.Stop.{Stop}
 use Rattle.sq_schema.specs.declared.pending.Stop.TheVariants.{Abort, Memory}
 use Rattle.sq_schema.specs.declared.pending.RunOutcome.{RunOutcome}
-use Rattle.sq_schema.specs.declared.pending.RunOutcome.TheVariants.{Committed, Aborted}
-use Rattle.sq_schema.specs.Effect.{RowList, OpOutcome, ops_outcome}
+use Rattle.sq_schema.specs.Effect.{RowList, OpOutcome, ops_outcome, reply_of, rows_after}
 use Rattle.sq_schema.specs.Family.{rows_size}
 use Rattle.sq_schema.specs.Writes.{is_write, with_writes}
 
--- an operation stops for the cause that its outcome has, or because memory ran out
-abbrev pub StopsBy : OpOutcome → Stop → Type 0
-StopsBy outcome (Abort cause) = outcome ≡ Err cause
-StopsBy outcome Memory = ⊤
+-- an operation with this outcome ends so: with its answer and these rows after it, for its cause, or because memory ran out
+abbrev pub ComesTo : OpOutcome → RowList → Result OpAnswer Stop → Type 0
+ComesTo outcome rows (Ok answer) = outcome ≡ Ok (rows, answer)
+ComesTo outcome rows (Err (Abort cause)) = outcome ≡ Err cause
+ComesTo outcome rows (Err Memory) = ⊤
 
 -- operations on these rows end so
-abbrev pub EndsBy : RowList → List Op → RunOutcome → Type 0
-EndsBy rows ops (Committed answers writes size) =
-    (ops_outcome 0 ops rows ≡ Ok (with_writes rows writes.items, answers)) × AllPass is_write writes.items × (size ≡ rows_size (with_writes rows writes.items))
-EndsBy rows ops (Aborted at cause) = ops_outcome 0 ops rows ≡ Err (at, cause)
+pub record EndsBy (rows : RowList) (ops : List Op) (outcome : RunOutcome) : Type 0 where
+  pub reply : outcome.reply ≡ reply_of (ops_outcome 0 ops rows)
+  pub after : with_writes rows outcome.writes.items ≡ rows_after rows (ops_outcome 0 ops rows)
+  pub writes : AllPass is_write outcome.writes.items
+  pub size : outcome.size ≡ rows_size (with_writes rows outcome.writes.items)

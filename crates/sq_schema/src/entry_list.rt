@@ -9,9 +9,9 @@ ghost use Rattle.sq_schema.specs.EntryList.{entries_of, HasRoom, IsListed, IsOne
 ghost use Rattle.sq_schema.specs.Writes.{with_write, with_writes};
 
 use crate::entry_iter::RowIter;
+use crate::keyed_entries::{get, insert, map_of, moves_entries, place};
 use crate::row::{Row, RowKey};
 use crate::row_map;
-use crate::rows::place;
 use std::alloc::{AllocError, AllocFailed, Global};
 use std::collections::BTreeMap;
 use std::fmt::{self, Debug, Formatter, Write};
@@ -83,7 +83,7 @@ impl EntryList {
             return Err(AllocFailed { value: row });
         }
         match self {
-            EntryList::Map(rows) => row_map::insert(rows, key, row),
+            EntryList::Map(rows) => insert(rows, key, row),
             EntryList::One(_) | EntryList::Many(_) => self.insert_listed(key, row),
         }
     }
@@ -184,7 +184,7 @@ impl EntryList {
     // Whether a write of this key moves rows of a list that has many.
     fn moves_many(&self, key: RowKey, removes: bool) -> bool {
         match self {
-            EntryList::Many(rows) => rows.len() >= MAX_MOVED && moves_rows(rows, key, removes),
+            EntryList::Many(rows) => rows.len() >= MAX_MOVED && moves_entries(rows, key, removes),
             EntryList::One(_) | EntryList::Map(_) => false,
         }
     }
@@ -195,7 +195,7 @@ impl EntryList {
         ensures { entries_of self.new ≡ entries_of self.old }
     {
         if let EntryList::Many(rows) = self {
-            *self = EntryList::Map(row_map::map_of(*rows.allocator(), rows)?);
+            *self = EntryList::Map(map_of(*rows.allocator(), rows)?);
         }
         Ok(())
     }
@@ -292,27 +292,6 @@ impl Clone for EntryList {
 impl Debug for EntryList {
     fn fmt<W: Write>(&self, f: &mut Formatter<W>) -> fmt::Result {
         f.debug_list().entries(self.iter()).finish()
-    }
-}
-
-// The row of a key in a list.
-fn get(rows: &[(RowKey, Row)], key: RowKey) -> Option<&Row>
-    requires { is_sorted key_cmp rows.now ≡ true }
-    ensures { option_copied result ≡ row_at rows.now key }
-{
-    match place(rows, key) {
-        Ok(at) => Some(&rows[at].1),
-        Err(_) => None,
-    }
-}
-
-// Whether a write of this key moves rows of a list: it removes one that isn't the last, or puts a new one before another.
-fn moves_rows(rows: &[(RowKey, Row)], key: RowKey, removes: bool) -> bool {
-    match rows.last() {
-        Some((last, _)) if *last > key => {
-            removes || rows.binary_search_by_key(&key, |(own, _)| *own).is_err()
-        }
-        _ => false,
     }
 }
 

@@ -77,20 +77,18 @@ impl Family {
             return Err(ApplyFault::LogFull);
         }
         let alloc = *self.log.allocator();
-        match run(alloc, self.rows.rows(), txn.ops())? {
-            RunOutcome::Aborted { at, cause } => Ok(Reply::Aborted { at, cause }),
-            RunOutcome::Committed {
-                answers,
-                writes,
-                size,
-            } => {
-                let entry = txn.clone()?;
-                self.log.reserve(1)?;
-                self.rows.write_all(alloc, writes, size)?;
-                self.log.push_reserved(entry);
-                Ok(Reply::Committed(answers))
-            }
+        let RunOutcome {
+            reply,
+            writes,
+            size,
+        } = run(alloc, self.rows.rows(), txn.ops())?;
+        if let Reply::Committed(_) = reply {
+            let entry = txn.clone()?;
+            self.log.reserve(1)?;
+            self.rows.write_all(alloc, writes, size)?;
+            self.log.push_reserved(entry);
         }
+        Ok(reply)
     }
 
     /// Folds the log: the family starts anew from its rows. It takes no memory, since rows that are those that the log

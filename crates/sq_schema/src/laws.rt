@@ -29,7 +29,8 @@ pub fn worked_replies()
 
 /// What a table has of one root key after transactions is the replay of that root key's own on its rows.
 pub fn replays_by_root()
-    ensures { (table : RowTable) (txns : List TxnValue) (root : ℕ) → replay table txns root ≡ replay_rows (table root) (only root txns) }
+    ensures { (table : RowTable) (txns : List TxnValue) (root : ℕ)
+        → replay table txns root ≡ replay_rows (table root) (only root txns) }
 {}
 
 /// Rows, transactions and replies are equal exactly if they are one value.

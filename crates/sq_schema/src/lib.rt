@@ -5,6 +5,7 @@ mod entry_iter;
 mod entry_list;
 mod family;
 mod fault;
+mod keyed_entries;
 pub mod laws;
 mod logged_rows;
 mod op_list;

@@ -1,5 +1,5 @@
 // Operations on the rows of a root key, which make no write before all of them have run.
-ghost use Rattle.std.specs.Prelude.{◌≡◌, ◌≤◌, ◌++◌, ◌∷◌, [], None, Ok, length, IfOk, IfErr, IfSome, OnOk, OnErr};
+ghost use Rattle.std.specs.Prelude.{◌≡◌, ◌≤◌, ◌++◌, ◌∷◌, [], None, length, IfOk, IfSome, OnOk};
 ghost use Rattle.std.specs.Option.{option_copied};
 ghost use Rattle.sq_schema.specs.declared.schema.TheConstants.{MAX_NOTE, MAX_TABLES};
 ghost use Rattle.sq_schema.specs.Refusals.{ops_fault};
@@ -7,7 +7,7 @@ ghost use Rattle.sq_schema.specs.Runs.{EndsBy};
 
 use crate::row::{Row, RowKey};
 use crate::rows::{Rows, weight};
-use crate::txn::{Cause, Op, OpAnswer, OpAnswers};
+use crate::txn::{Cause, Op, OpAnswer, OpAnswers, Reply};
 use std::alloc::{AllocError, Global};
 use std::marker::Model;
 
@@ -40,21 +40,13 @@ pub(crate) enum Stop {
 
 /// What running operations comes to.
 #[derive(Drop)]
-pub(crate) enum RunOutcome {
-    /// All have an answer.
-    Committed {
-        answers: OpAnswers,
-        /// What is still to be written.
-        writes: Vec<(RowKey, Option<Row>)>,
-        /// The size in bytes of a family with the rows after these writes.
-        size: u64,
-    },
-    /// One of them aborts.
-    Aborted {
-        /// Its position, from 0.
-        at: usize,
-        cause: Cause,
-    },
+pub(crate) struct RunOutcome {
+    /// What their transaction is answered.
+    pub(crate) reply: Reply,
+    /// What is still to be written: nothing where one of them aborts.
+    pub(crate) writes: Vec<(RowKey, Option<Row>)>,
+    /// The size in bytes of a family with the rows after these writes.
+    pub(crate) size: u64,
 }
 
 impl From<Cause> for Stop {
@@ -80,10 +72,10 @@ impl From<AllocError> for Stop {
 }
 
 impl<'a> PendingRows<'a> {
-    ghost use Rattle.sq_schema.specs.Effect.{row_at, op_outcome, put_outcome, add_outcome, del_outcome, check_outcome};
+    ghost use Rattle.sq_schema.specs.Effect.{row_at, op_outcome};
     ghost use Rattle.sq_schema.specs.Refusals.{op_fault};
     ghost use Rattle.sq_schema.specs.Writes.{is_write, pending_rows};
-    ghost use Rattle.sq_schema.specs.Runs.{StopsBy};
+    ghost use Rattle.sq_schema.specs.Runs.{ComesTo};
 
     // These rows, and no writes.
     fn new(alloc: Global, rows: &'a Rows) -> PendingRows<'a>
@@ -127,8 +119,7 @@ impl<'a> PendingRows<'a> {
     fn run(&mut self, op: &Op) -> Result<OpAnswer, Stop>
         requires { op_fault MAX_TABLES op.now ≡ None }
         ensures base { self.new.base ≡ self.old.base }
-        ensures ok { IfOk result (λ answer. op_outcome (pending_rows self.old) op.now ≡ Ok (pending_rows self.new, answer)) }
-        ensures err { IfErr result (StopsBy (op_outcome (pending_rows self.old) op.now)) }
+        ensures outcome { ComesTo (op_outcome (pending_rows self.old) op.now) (pending_rows self.new) result }
     {
         match op {
             Op::Get(key) => self.find(*key),
@@ -140,8 +131,7 @@ impl<'a> PendingRows<'a> {
     }
 
     fn find(&self, key: RowKey) -> Result<OpAnswer, Stop>
-        ensures ok { IfOk result (λ answer. answer ≡ OpAnswer.Found (row_at (pending_rows self.now) key)) }
-        ensures err { IfErr result (λ stop. stop ≡ Stop.Memory) }
+        ensures { ComesTo (op_outcome (pending_rows self.now) (Op.Get key)) (pending_rows self.now) result }
     {
         match self.get(key) {
             Some(row) => Ok(OpAnswer::Found(Some(row.clone()?))),
@@ -152,8 +142,7 @@ impl<'a> PendingRows<'a> {
     fn put(&mut self, key: RowKey, row: &Row) -> Result<OpAnswer, Stop>
         requires { length row.now.note ≤ MAX_NOTE }
         ensures base { self.new.base ≡ self.old.base }
-        ensures ok { IfOk result (λ answer. put_outcome (pending_rows self.old) key row.now ≡ Ok (pending_rows self.new, answer)) }
-        ensures err { IfErr result (StopsBy (put_outcome (pending_rows self.old) key row.now)) }
+        ensures outcome { ComesTo (op_outcome (pending_rows self.old) (Op.Put key row.now)) (pending_rows self.new) result }
     {
         if key.table != 0 && self.get(RowKey::ROOT).is_none() {
             return Err(Stop::Abort(Cause::NoRoot));
@@ -164,8 +153,7 @@ impl<'a> PendingRows<'a> {
 
     fn add(&mut self, key: RowKey, by: i64) -> Result<OpAnswer, Stop>
         ensures base { self.new.base ≡ self.old.base }
-        ensures ok { IfOk result (λ answer. add_outcome (pending_rows self.old) key by (row_at (pending_rows self.old) key) ≡ Ok (pending_rows self.new, answer)) }
-        ensures err { IfErr result (StopsBy (add_outcome (pending_rows self.old) key by (row_at (pending_rows self.old) key))) }
+        ensures outcome { ComesTo (op_outcome (pending_rows self.old) (Op.Add key by)) (pending_rows self.new) result }
     {
         let row = self.get(key).ok_or(Cause::Absent)?;
         let number = row.number().checked_add(by).ok_or(Cause::Range)?;
@@ -176,8 +164,7 @@ impl<'a> PendingRows<'a> {
 
     fn del(&mut self, key: RowKey) -> Result<OpAnswer, Stop>
         ensures base { self.new.base ≡ self.old.base }
-        ensures ok { IfOk result (λ answer. del_outcome (pending_rows self.old) key (row_at (pending_rows self.old) key) ≡ Ok (pending_rows self.new, answer)) }
-        ensures err { IfErr result (StopsBy (del_outcome (pending_rows self.old) key (row_at (pending_rows self.old) key))) }
+        ensures outcome { ComesTo (op_outcome (pending_rows self.old) (Op.Del key)) (pending_rows self.new) result }
     {
         if self.get(key).is_none() {
             return Err(Stop::Abort(Cause::Absent));
@@ -190,8 +177,7 @@ impl<'a> PendingRows<'a> {
     }
 
     fn check(&self, key: RowKey, least: i64) -> Result<OpAnswer, Stop>
-        ensures ok { IfOk result (λ answer. check_outcome (pending_rows self.now) least (row_at (pending_rows self.now) key) ≡ Ok (pending_rows self.now, answer)) }
-        ensures err { IfErr result (StopsBy (check_outcome (pending_rows self.now) least (row_at (pending_rows self.now) key))) }
+        ensures { ComesTo (op_outcome (pending_rows self.now) (Op.Check key least)) (pending_rows self.now) result }
     {
         let row = self.get(key).ok_or(Cause::Absent)?;
         if row.number() < least {
@@ -211,7 +197,13 @@ pub(crate) fn run(alloc: Global, rows: &Rows, ops: &[Op]) -> Result<RunOutcome, 
     for (at, op) in ops.iter().enumerate() {
         match pending.run(op) {
             Ok(answer) => answers.push(answer)?,
-            Err(Stop::Abort(cause)) => return Ok(RunOutcome::Aborted { at, cause }),
+            Err(Stop::Abort(cause)) => {
+                return Ok(RunOutcome {
+                    reply: Reply::Aborted { at, cause },
+                    writes: Vec::new(alloc),
+                    size: rows.size(),
+                });
+            }
             Err(Stop::Memory) => return Err(AllocError),
         }
     }
@@ -221,8 +213,8 @@ pub(crate) fn run(alloc: Global, rows: &Rows, ops: &[Op]) -> Result<RunOutcome, 
         count: _,
         size,
     } = pending;
-    Ok(RunOutcome::Committed {
-        answers: OpAnswers::new(answers),
+    Ok(RunOutcome {
+        reply: Reply::Committed(OpAnswers::new(answers)),
         writes,
         size,
     })

@@ -5,16 +5,15 @@ ghost use Rattle.std.specs.Ordering.{nat_cmp};
 ghost use Rattle.std.specs.FinMap.Entries.{find, put, is_sorted};
 ghost use Rattle.sq_schema.specs.declared.schema.TheConstants.{MAX_NOTE};
 ghost use Rattle.sq_schema.specs.Effect.{with_row};
-ghost use Rattle.sq_schema.specs.Places.{IsPlace};
 ghost use Rattle.sq_schema.specs.RootList.{table_of};
 ghost use Rattle.sq_schema.specs.Table.{rows_in};
 
 use crate::entry_iter::EntryIter;
+use crate::keyed_entries::{get, insert, map_of, moves_entries, place};
 use crate::root::Root;
 use crate::row::{Row, RowKey};
 use crate::rows::Rows;
 use std::alloc::{AllocError, AllocFailed, Global};
-use std::cmp::Ordering;
 use std::collections::BTreeMap;
 
 /// Root keys with their rows, by rising root key. They lie in a list as long as they come in this order, and from then
@@ -76,7 +75,7 @@ impl RootList {
         }
         match self {
             RootList::Listed(list) => put(list, root, rows),
-            RootList::Mapped(map) => put_mapped(map, root, rows),
+            RootList::Mapped(map) => insert(map, root, rows),
         }
     }
 
@@ -90,13 +89,22 @@ impl RootList {
         requires rising { is_sorted nat_cmp (table_of self.old) ≡ true }
         requires present { IsSome (find nat_cmp root (table_of self.old)) }
         requires note { length row.note ≤ MAX_NOTE }
-        ensures ok { OnOk result (table_of self.new ≡ put nat_cmp root (with_row (rows_in (table_of self.old) root) key row) (table_of self.old)) }
+        ensures ok { OnOk result (table_of self.new
+            ≡ put nat_cmp root (with_row (rows_in (table_of self.old) root) key row) (table_of self.old)) }
         ensures err { OnErr result (table_of self.new ≡ table_of self.old) }
         ensures row_returned { IfErr result (λ failed. failed.value ≡ row) }
     {
         match self {
-            RootList::Listed(list) => put_row(list, root, key, row),
-            RootList::Mapped(map) => put_row_mapped(map, root, key, row),
+            RootList::Listed(list) => match place(list, root) {
+                Ok(at) => list[at].1.insert(key, row),
+                Err(_) => unreachable!(),
+            },
+            RootList::Mapped(map) => {
+                let Some(rows) = map.get_mut(&root) else {
+                    unreachable!()
+                };
+                rows.insert(key, row)
+            }
         }
     }
 
@@ -114,12 +122,7 @@ impl RootList {
     // Whether a root key is new to a list, and goes before another.
     fn goes_between(&self, root: Root) -> bool {
         match self {
-            RootList::Listed(rows) => match rows.last() {
-                Some((last, _)) if *last > root => {
-                    rows.binary_search_by_key(&root, |(own, _)| *own).is_err()
-                }
-                _ => false,
-            },
+            RootList::Listed(rows) => moves_entries(rows, root, false),
             RootList::Mapped(_) => false,
         }
     }
@@ -145,33 +148,6 @@ impl Clone for RootList {
     }
 }
 
-// Where the rows of a root key are, or where they would go.
-fn place(rows: &[(Root, Rows)], root: Root) -> Result<usize, usize>
-    requires { is_sorted nat_cmp rows.now ≡ true }
-    ensures { IsPlace nat_cmp rows.now root result }
-{
-    // Root keys mostly come in rising order: the last needs no search, and neither does one past it.
-    if let Some((last, _)) = rows.last() {
-        match last.cmp(&root) {
-            Ordering::Less => return Err(rows.len()),
-            Ordering::Equal => return Ok(rows.len() - 1),
-            Ordering::Greater => {}
-        }
-    }
-    rows.binary_search_by_key(&root, |(own, _)| *own)
-}
-
-// The rows of a root key in a list.
-fn get(rows: &[(Root, Rows)], root: Root) -> Option<&Rows>
-    requires { is_sorted nat_cmp rows.now ≡ true }
-    ensures { option_copied result ≡ find nat_cmp root rows.now }
-{
-    match place(rows, root) {
-        Ok(at) => Some(&rows[at].1),
-        Err(_) => None,
-    }
-}
-
 // Gives a root key these rows in a list.
 fn put(list: &mut Vec<(Root, Rows)>, root: Root, rows: Rows) -> Result<(), AllocFailed<Rows>>
     requires { is_sorted nat_cmp list.old.items ≡ true }
@@ -191,74 +167,4 @@ fn put(list: &mut Vec<(Root, Rows)>, root: Root, rows: Rows) -> Result<(), Alloc
             }),
         },
     }
-}
-
-// Gives a root key these rows in a map.
-fn put_mapped(
-    map: &mut BTreeMap<Root, Rows>,
-    root: Root,
-    rows: Rows,
-) -> Result<(), AllocFailed<Rows>>
-    ensures ok { OnOk result (map.new.entries ≡ put nat_cmp root rows map.old.entries) }
-    ensures err { OnErr result (map.new.entries ≡ map.old.entries) }
-    ensures rows_returned { IfErr result (λ failed. failed.value ≡ rows) }
-{
-    match map.insert(root, rows) {
-        Ok(_) => Ok(()),
-        Err(failed) => Err(AllocFailed {
-            value: failed.value.1,
-        }),
-    }
-}
-
-// Puts a row of a root key that has some in a list.
-fn put_row(
-    list: &mut Vec<(Root, Rows)>,
-    root: Root,
-    key: RowKey,
-    row: Row,
-) -> Result<(), AllocFailed<Row>>
-    requires rising { is_sorted nat_cmp list.old.items ≡ true }
-    requires present { IsSome (find nat_cmp root list.old.items) }
-    requires note { length row.note ≤ MAX_NOTE }
-    ensures ok { OnOk result (list.new.items ≡ put nat_cmp root (with_row (rows_in list.old.items root) key row) list.old.items) }
-    ensures err { OnErr result (list.new.items ≡ list.old.items) }
-    ensures row_returned { IfErr result (λ failed. failed.value ≡ row) }
-{
-    match place(list, root) {
-        Ok(at) => list[at].1.insert(key, row),
-        Err(_) => unreachable!(),
-    }
-}
-
-// Puts a row of a root key that has some in a map.
-fn put_row_mapped(
-    map: &mut BTreeMap<Root, Rows>,
-    root: Root,
-    key: RowKey,
-    row: Row,
-) -> Result<(), AllocFailed<Row>>
-    requires rising { is_sorted nat_cmp map.old.entries ≡ true }
-    requires present { IsSome (find nat_cmp root map.old.entries) }
-    requires note { length row.note ≤ MAX_NOTE }
-    ensures ok { OnOk result (map.new.entries ≡ put nat_cmp root (with_row (rows_in map.old.entries root) key row) map.old.entries) }
-    ensures err { OnErr result (map.new.entries ≡ map.old.entries) }
-    ensures row_returned { IfErr result (λ failed. failed.value ≡ row) }
-{
-    let Some(rows) = map.get_mut(&root) else {
-        unreachable!()
-    };
-    rows.insert(key, row)
-}
-
-// A map of copies of these rows.
-fn map_of(alloc: Global, list: &[(Root, Rows)]) -> Result<BTreeMap<Root, Rows>, AllocError>
-    requires { is_sorted nat_cmp list.now ≡ true }
-    ensures { IfOk result (λ map. map.entries ≡ list.now) }
-{
-    let mut map = BTreeMap::new(alloc);
-    for (root, rows) in list {
-        map.insert(*root, rows.clone()?)?;
-    }
-    Ok(map)
 }

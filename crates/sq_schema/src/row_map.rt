@@ -1,46 +1,13 @@
 // Rows in a map by key, where they are many.
-ghost use Rattle.std.specs.Prelude.{◌≡◌, true, IfOk, IfErr, OnOk, OnErr, IsSome, is_some};
+ghost use Rattle.std.specs.Prelude.{◌≡◌, true, OnOk, OnErr, IsSome, is_some};
 ghost use Rattle.std.specs.FinMap.Entries.{is_sorted};
-ghost use Rattle.sq_schema.specs.Effect.{row_at, with_row};
+ghost use Rattle.sq_schema.specs.Effect.{row_at};
 ghost use Rattle.sq_schema.specs.Keys.{key_cmp};
 ghost use Rattle.sq_schema.specs.Writes.{last_write, with_write, with_writes};
 
 use crate::row::{Row, RowKey};
-use std::alloc::{AllocError, AllocFailed, Global};
+use std::alloc::AllocError;
 use std::collections::BTreeMap;
-
-/// A map of these rows.
-pub(crate) fn map_of(
-    alloc: Global,
-    list: &[(RowKey, Row)],
-) -> Result<BTreeMap<RowKey, Row>, AllocError>
-    requires { is_sorted key_cmp list.now ≡ true }
-    ensures { IfOk result (λ rows. rows.entries ≡ list.now) }
-{
-    let mut rows = BTreeMap::new(alloc);
-    for (key, row) in list {
-        rows.insert(*key, row.clone()?)?;
-    }
-    Ok(rows)
-}
-
-/// Puts a row, new or in place of the one that stands. Where there is no memory the row comes back.
-pub(crate) fn insert(
-    rows: &mut BTreeMap<RowKey, Row>,
-    key: RowKey,
-    row: Row,
-) -> Result<(), AllocFailed<Row>>
-    ensures ok { OnOk result (rows.new.entries ≡ with_row rows.old.entries key row) }
-    ensures err { OnErr result (rows.new.entries ≡ rows.old.entries) }
-    ensures row_returned { IfErr result (λ failed. failed.value ≡ row) }
-{
-    match rows.insert(key, row) {
-        Ok(_) => Ok(()),
-        Err(failed) => Err(AllocFailed {
-            value: failed.value.1,
-        }),
-    }
-}
 
 /// Makes these writes in their order, or none where there is no memory. A row is removed once the later writes are
 /// made, since it would take memory to put it back.

@@ -2,13 +2,10 @@
 ghost use Rattle.std.specs.Prelude.{◌≡◌, ◌+◌, ◌*◌, ◌^◌, ◌<◌, ◌≤◌, ◌==◌, true, [], ◌∷◌, length, vec_len, vec_capacity, OnOk, OnErr, IfOk, IfErr, IfSome};
 ghost use Rattle.std.specs.Option.{option_copied, option_map_or};
 ghost use Rattle.std.specs.List.{AllPass};
-ghost use Rattle.std.specs.FinMap.Entries.{is_sorted};
 ghost use Rattle.sq_schema.specs.declared.row.RowKey.{RowKey};
 ghost use Rattle.sq_schema.specs.declared.schema.TheConstants.{MAX_NOTE};
-ghost use Rattle.sq_schema.specs.Keys.{key_cmp};
 ghost use Rattle.sq_schema.specs.Effect.{RowList, row_at, with_row, effect, reply};
 ghost use Rattle.sq_schema.specs.Family.{row_size, rows_size};
-ghost use Rattle.sq_schema.specs.Places.{IsPlace};
 ghost use Rattle.sq_schema.specs.Rows.{IsRowList};
 ghost use Rattle.sq_schema.specs.Writes.{is_write, with_write, with_writes};
 
@@ -119,17 +116,13 @@ impl Rows {
         ensures rows { OnOk result (self.new ≡ effect self.old txn.now) }
         ensures err { OnErr result (self.new ≡ self.old) }
     {
-        match run(alloc, self, txn.ops())? {
-            RunOutcome::Aborted { at, cause } => Ok(Reply::Aborted { at, cause }),
-            RunOutcome::Committed {
-                answers,
-                writes,
-                size,
-            } => {
-                self.write_all(writes, size)?;
-                Ok(Reply::Committed(answers))
-            }
-        }
+        let RunOutcome {
+            reply,
+            writes,
+            size,
+        } = run(alloc, self, txn.ops())?;
+        self.write_all(writes, size)?;
+        Ok(reply)
     }
 
     // Runs a transaction on the rows. Where there is no memory they stay.
@@ -192,20 +185,6 @@ impl Clone for Rows {
             size: self.size,
         })
     }
-}
-
-// Where the row of a key is, or where it would go.
-pub(crate) fn place(rows: &[(RowKey, Row)], key: RowKey) -> Result<usize, usize>
-    requires { is_sorted key_cmp rows.now ≡ true }
-    ensures { IsPlace key_cmp rows.now key result }
-{
-    // Rows are mostly put in rising order, and a key past the last needs no search.
-    if let Some((last, _)) = rows.last()
-        && *last < key
-    {
-        return Err(rows.len());
-    }
-    rows.binary_search_by_key(&key, |(key, _)| *key)
 }
 
 // How many rows this is, and their size.

@@ -1,8 +1,9 @@
-use Rattle.std.proofs.Common.{◌≡◌, sym, ap, ◌∙◌, arith}
+use Rattle.std.proofs.Common.{◌≡◌, true, Ok, Err, sym, ap, ◌∙◌, arith}
+use Rattle.std.proofs.lemmas.List.Elements.{All-nil}
 use Rattle.sq_schema.specs.declared.schema.TheConstants.{MAX_TABLES}
-use Rattle.sq_schema.specs.Effect.{RowList}
+use Rattle.sq_schema.specs.Effect.{RowList, ops_outcome, reply_of, rows_after}
 use Rattle.sq_schema.specs.Family.{rows_size}
-use Rattle.sq_schema.specs.Writes.{PendingValue, with_writes, pending_rows}
+use Rattle.sq_schema.specs.Writes.{PendingValue, is_write, with_writes, pending_rows}
 use Rattle.sq_schema.proofs.Runs.{op_fault-at, ran_one, aborted_at, ran_all}
 use Rattle.sq_schema.proofs.pending.run.Goals as goal
 
@@ -12,11 +13,20 @@ run-requires c = rw c.index-ops-at.is (op_fault-at MAX_TABLES c.args.ops.now c.l
 pub loop-at-preserved : goal.loop-at-preserved
 loop-at-preserved c = record {
   base = c.in-Ok.ensures.base ∙ c.loop-at.invariant.base;
-  rest = rw c.in_ok-push-in-Ok.ensures.items (ran_one c.args.ops.now c.args.rows.now c.loop-at.at c.loop-at.answers.items (pending_rows c.loop-at.pending) c.loop-at.invariant.rest c.index-ops-at.result (omega arith) c.index-ops-at.is (pending_rows c.run.new.self) c.in-Ok.answer c.in-Ok.ensures.ok);
+  rest = rw c.in_ok-push-in-Ok.ensures.items (ran_one c.args.ops.now c.args.rows.now c.loop-at.at c.loop-at.answers.items (pending_rows c.loop-at.pending) c.loop-at.invariant.rest c.index-ops-at.result (omega arith) c.index-ops-at.is (pending_rows c.run.new.self) c.in-Ok.answer c.in-Ok.ensures.outcome);
 }
 
 pub returns-in-Err-Abort : goal.returns-in-Err-Abort
-returns-in-Err-Abort c = rw c.in-Err-Abort.cause-is (aborted_at c.args.ops.now c.args.rows.now c.loop-at.at c.loop-at.answers.items (pending_rows c.loop-at.pending) c.loop-at.invariant.rest c.index-ops-at.result (omega arith) c.index-ops-at.is c.in-Err-Abort.cause (rw c.in-Err-Abort.field-0-is at c.in-Err-Abort.ensures.err))
+returns-in-Err-Abort c =
+    let rows = c.args.rows.now in
+    let cause = c.in-Err-Abort.cause in
+    let stopped : ops_outcome 0 c.args.ops.now rows ≡ Err (c.loop-at.at, cause) = aborted_at c.args.ops.now rows c.loop-at.at c.loop-at.answers.items (pending_rows c.loop-at.pending) c.loop-at.invariant.rest c.index-ops-at.result (omega arith) c.index-ops-at.is cause (rw c.in-Err-Abort.field-0-is at c.in-Err-Abort.ensures.outcome) in
+    record {
+      reply = rw c.in-Err-Abort.cause-is (sym (ap reply_of stopped));
+      after = rw c.new.ensures.items (sym (ap (rows_after rows) stopped));
+      writes = rw c.new.ensures.items (All-nil (λ write. is_write write ≡ true));
+      size = rw c.new.ensures.items c.size.ensures;
+    }
 
 pub returns : goal.returns
 returns c =
@@ -24,5 +34,10 @@ returns c =
     let writes = c.pending-2.inside.writes.items in
     let base : c.pending-2.inside.rows.now ≡ rows = ap (λ (p : PendingValue). p.base) c.pending-2.view_is ∙ c.loop-at.invariant.base in
     let now : pending_rows c.loop-at.pending ≡ with_writes rows writes = ap pending_rows (sym c.pending-2.view_is) ∙ ap (λ (r : RowList). with_writes r writes) base in
-    let ran = ran_all c.args.ops.now rows c.loop-at.at c.loop-at.answers.items (pending_rows c.loop-at.pending) c.loop-at.invariant.rest c.loop-at-test.false in
-    (rw (c.new.ensures, ← now) ran, c.pending-2.invariant.writes, c.pending-2.invariant.size ∙ ap (λ (r : RowList). rows_size (with_writes r writes)) base)
+    let ran : ops_outcome 0 c.args.ops.now rows ≡ Ok (with_writes rows writes, c.loop-at.answers.items) = rw (← now) (ran_all c.args.ops.now rows c.loop-at.at c.loop-at.answers.items (pending_rows c.loop-at.pending) c.loop-at.invariant.rest c.loop-at-test.false) in
+    record {
+      reply = rw c.new-2.ensures (sym (ap reply_of ran));
+      after = sym (ap (rows_after rows) ran);
+      writes = c.pending-2.invariant.writes;
+      size = c.pending-2.invariant.size ∙ ap (λ (r : RowList). rows_size (with_writes r writes)) base;
+    }

@@ -1,7 +1,0 @@
-use Rattle.std.proofs.Common.{◌∙◌}
-use Rattle.sq_schema.specs.Keys.{key_cmp}
-use Rattle.sq_schema.proofs.Entries.{insert_entry-put}
-use Rattle.sq_schema.proofs.row_map.insert.Goals as goal
-
-pub returns-in-Ok-clause-ok : goal.returns-in-Ok-clause-ok
-returns-in-Ok-clause-ok c = c.in-Ok.ensures.entries ∙ insert_entry-put key_cmp c.args.rows.now.entries c.args.key c.args.row
