@@ -1,3 +1,4 @@
+pub mod Chain
 pub mod Values
 pub mod Keys
 pub mod TxnValue

@@ -239,7 +239,8 @@ impl PartialEq for Txn {
 
     ghost eq = { txn_eq };
 
-    ghost laws = { and_per (on_per (λ t. t.id) (partial_equiv_from_equiv nat_eq_equiv)) (and_per (on_per (λ t. t.root) (partial_equiv_from_equiv nat_eq_equiv)) (on_per (λ t. t.ops) (lists_per op.laws-law))) };
+    ghost laws = { and_per (on_per (λ t. t.id) (partial_equiv_from_equiv nat_eq_equiv))
+        (and_per (on_per (λ t. t.root) (partial_equiv_from_equiv nat_eq_equiv)) (on_per (λ t. t.ops) (lists_per op.laws-law))) };
 
     fn eq(&self, other: &Txn) -> bool {
         self.id == other.id && self.root == other.root && self.ops() == other.ops()
@@ -251,7 +252,8 @@ impl Eq for Txn {
     ghost use Rattle.std.specs.Cmp.Lexicographic.{lists_equiv};
     ghost use Rattle.sq_schema.specs.contracts.txn.OpEq.TheImpl.Laws as op;
 
-    ghost laws = { and_equiv (on_equiv (λ t. t.id) nat_eq_equiv) (and_equiv (on_equiv (λ t. t.root) nat_eq_equiv) (on_equiv (λ t. t.ops) (lists_equiv op.laws-law))) };
+    ghost laws = { and_equiv (on_equiv (λ t. t.id) nat_eq_equiv)
+        (and_equiv (on_equiv (λ t. t.root) nat_eq_equiv) (on_equiv (λ t. t.ops) (lists_equiv op.laws-law))) };
 }
 
 impl Clone for Txn {
