@@ -31,8 +31,9 @@ pub(crate) fn moves_and_table(
     requires { tables ≤ MAX_TABLES }
     ensures fault { MatchResult result
         (λ _. opening_fault tables old.now new.now config rows.now ≡ None)
-        (λ fault. MayRefuse (early_fault tables old.now new.now config rows.now) (opening_fault tables old.now new.now config rows.now) fault) }
-    ensures recon { IfOk result (λ parts. (parts.0 ≡ recon_of old.now new.now config.width) × IsReconOf old.now new.now config.width parts.0) }
+        (MayRefuse (early_fault tables old.now new.now config rows.now) (opening_fault tables old.now new.now config rows.now)) }
+    ensures recon { IfOk result (λ parts. (parts.0 ≡ recon_of old.now new.now config.width)
+        × IsReconOf old.now new.now config.width parts.0) }
     ensures table { IfOk result (λ parts. IsTableOf rows.now parts.1) }
     ensures plans { IsPlan old.now × IsPlan new.now }
 {
@@ -50,8 +51,10 @@ pub(crate) fn moves(
     new: &Plan,
     config: Config,
 ) -> Result<Recon, OpeningFault>
-    ensures fault { let fault = config_fault old.now new.now config in MatchResult result (λ _. fault ≡ None) (MayRefuse fault fault) }
-    ensures recon { IfOk result (λ recon. (recon ≡ recon_of old.now new.now config.width) × IsReconOf old.now new.now config.width recon) }
+    ensures fault { let fault = config_fault old.now new.now config in
+        MatchResult result (λ _. fault ≡ None) (MayRefuse fault fault) }
+    ensures recon { IfOk result (λ recon. (recon ≡ recon_of old.now new.now config.width)
+        × IsReconOf old.now new.now config.width recon) }
     ensures plans { IsPlan old.now × IsPlan new.now }
 {
     check(old, new, config)?;
@@ -80,7 +83,7 @@ fn table_of(alloc: Global, tables: u8, rows: &[GivenRow]) -> Result<Table, Openi
     requires { tables ≤ MAX_TABLES }
     ensures fault { MatchResult result
         (λ _. rows_fault tables no_rows 0 rows.now ≡ None)
-        (λ fault. MayRefuse (first_fault tables no_rows 0 rows.now) (rows_fault tables no_rows 0 rows.now) fault) }
+        (MayRefuse (first_fault tables no_rows 0 rows.now) (rows_fault tables no_rows 0 rows.now)) }
     ensures table { IfOk result (IsTableOf rows.now) }
 {
     let mut table = Table::new(alloc);
@@ -95,9 +98,8 @@ fn table_of(alloc: Global, tables: u8, rows: &[GivenRow]) -> Result<Table, Openi
 // Takes one row, which has this number, into a table. No memory is taken before the row was found fit.
 fn take(table: &mut Table, tables: u8, at: usize, given: &GivenRow) -> Result<(), OpeningFault>
     requires { tables ≤ MAX_TABLES }
-    ensures fault { MatchResult result
-        (λ _. given_fault tables (rows_in table.old) at (value_of given.now) ≡ None)
-        (λ fault. MayRefuse (given_fault tables (rows_in table.old) at (value_of given.now)) (given_fault tables (rows_in table.old) at (value_of given.now)) fault) }
+    ensures fault { let fault = given_fault tables (rows_in table.old) at (value_of given.now) in
+        MatchResult result (λ _. fault ≡ None) (MayRefuse fault fault) }
     ensures ok { OnOk result ((root : ℕ) → rows_in table.new root ≡ with_one (rows_in table.old) (value_of given.now) root) }
 {
     let root = match given.root(tables) {
@@ -123,7 +125,8 @@ pub(crate) fn take_over(
     given: GivenRow,
 ) -> Result<(), (OpeningFault, GivenRow)>
     requires { tables ≤ MAX_TABLES }
-    ensures fault { let fault = given_fault tables (rows_in table.old) at (value_of given) in MatchResult result (λ _. fault ≡ None) (λ refused. MayRefuse fault fault refused.0) }
+    ensures fault { let fault = given_fault tables (rows_in table.old) at (value_of given) in
+        MatchResult result (λ _. fault ≡ None) (λ refused. MayRefuse fault fault refused.0) }
     ensures ok { OnOk result ((root : ℕ) → rows_in table.new root ≡ with_one (rows_in table.old) (value_of given) root) }
     ensures err { OnErr result (table.new ≡ table.old) }
     ensures row_returned { IfErr result (λ refused. value_of refused.1 ≡ value_of given) }

@@ -22,7 +22,8 @@ ghost use Rattle.sq_ranges.specs.Laws.{IsHoldingSegment, IsSegmentOf, Covers, Li
 pub fn the_limits()
     ensures parts { (parts_limit First ≡ 16) × ((stages : Stages) → parts_limit (Second stages) ≡ 64) × (MAX_PARTS ≡ 64) }
     ensures ranges { MAX_RANGES ≡ 256 }
-    ensures segments { (segment_limit First ≡ 256) × ((stages : Stages) → segment_limit (Second stages) ≡ 1024) × (SEGMENT_LIMIT ≡ 1024) }
+    ensures segments { (segment_limit First ≡ 256) × ((stages : Stages) → segment_limit (Second stages) ≡ 1024)
+        × (SEGMENT_LIMIT ≡ 1024) }
     ensures leaves { (LEAVES ≡ 32) × (MAX_WIDTH ≡ 65536) }
     ensures chunks { (MIN_LIMIT ≡ 64) × (MAX_LIMIT ≡ 1048576) × (MAX_CAPACITY ≡ 64) }
     ensures waiting { MAX_WAITING ≡ 1024 }

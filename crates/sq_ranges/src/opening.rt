@@ -128,7 +128,8 @@ impl Opening {
     ) -> Result<Opening, RefusedOpening>
         ensures fault { MatchResult result
             (λ _. opening_fault schema old new config rows.items ≡ None)
-            (λ refused. MayRefuse (early_fault schema old new config rows.items) (opening_fault schema old new config rows.items) refused.fault) }
+            (λ refused. MayRefuse (early_fault schema old new config rows.items) (opening_fault schema old new config rows.items)
+            refused.fault) }
         ensures ok { IfOk result (IsOpeningOf schema old new config rows.items) }
         ensures set_up { IfOk result IsSetUp }
         ensures old_returned { IfErr result (λ refused. refused.old ≡ old) }
@@ -165,7 +166,8 @@ impl Opening {
         new: Plan,
         config: Config,
     ) -> Result<Opening, RefusedPlans>
-        ensures fault { let fault = config_fault old new config in MatchResult result (λ _. fault ≡ None) (λ refused. MayRefuse fault fault refused.fault) }
+        ensures fault { let fault = config_fault old new config in
+            MatchResult result (λ _. fault ≡ None) (λ refused. MayRefuse fault fault refused.fault) }
         ensures ok { IfOk result (IsOpeningOf schema old new config []) }
         ensures set_up { IfOk result IsSetUp }
         ensures old_returned { IfErr result (λ refused. refused.old ≡ old) }
@@ -190,8 +192,10 @@ impl Opening {
     /// and the row comes back, with its first fault as [`Opening::new`] has them. That memory ran out is told in place of
     /// none of these.
     pub fn take_row(&mut self, at: usize, given: GivenRow) -> Result<(), (OpeningFault, GivenRow)>
-        ensures fault { let fault = given_fault self.old.tables (rows_in self.old.table) at (value_of given) in MatchResult result (λ _. fault ≡ None) (λ refused. MayRefuse fault fault refused.0) }
-        ensures ok { OnOk result ((root : ℕ) → rows_in self.new.table root ≡ with_one (rows_in self.old.table) (value_of given) root) }
+        ensures fault { let fault = given_fault self.old.tables (rows_in self.old.table) at (value_of given) in
+            MatchResult result (λ _. fault ≡ None) (λ refused. MayRefuse fault fault refused.0) }
+        ensures ok { OnOk result ((root : ℕ)
+            → rows_in self.new.table root ≡ with_one (rows_in self.old.table) (value_of given) root) }
         ensures kept { self.new ≡ record self.old { table = self.new.table } }
         ensures err { OnErr result (self.new ≡ self.old) }
         ensures row_returned { IfErr result (λ refused. value_of refused.1 ≡ value_of given) }

@@ -82,7 +82,8 @@ impl Recon {
 
     /// Why there is no reconfiguration between two plans: the first of these. They name different numbers of
     /// partitions; the width of a leaf isn't from 1 to [`MAX_WIDTH`] root keys; what moves comes to more
-    /// than [`SEGMENT_LIMIT`] segments, or [`crate::FIRST_SEGMENT_LIMIT`] where the new plan is of the first version. `None` where there is one. It takes no memory.
+    /// than [`SEGMENT_LIMIT`] segments, or [`crate::FIRST_SEGMENT_LIMIT`] where the new plan is of the first version.
+    /// `None` where there is one. It takes no memory.
     pub fn fault(old: &Plan, new: &Plan, width: u64) -> Option<ReconFault>
         ensures fault { result ≡ recon_fault old.now new.now width }
         ensures plans { IsPlan old.now × IsPlan new.now }
@@ -267,7 +268,8 @@ fn is_width(width: u64) -> bool
 fn count_up_to(segments: &[Range], key: u64) -> usize
     requires { are_in_key_order 0 segments.now ≡ true }
     ensures bound { result ≤ length segments.now }
-    ensures point { IsPartitionPoint (λ segment. nat_le segment.hi key ≡ true) (λ segment. nat_le segment.hi key ≡ false) segments.now result }
+    ensures point { IsPartitionPoint (λ segment. nat_le segment.hi key ≡ true) (λ segment. nat_le segment.hi key ≡ false)
+        segments.now result }
 {
     segments.partition_point(
         |segment: &Range| -> bool

@@ -3,15 +3,16 @@ use Rattle.std.proofs.Common.{◌≡◌, ◌<◌, ◌∷◌, ◌+◌, false, tru
 use Rattle.std.proofs.lemmas.Bool.{eq-eqb}
 use Rattle.std.proofs.lemmas.List.{at_drop_more, at_drop_all, length-replicate, length-set}
 use Rattle.sq_ranges.specs.declared.recon.Range.{Range}
+use Rattle.sq_ranges.specs.declared.stage.TheConstants.{PART_NUMBERS}
 use Rattle.sq_ranges.proofs.Places.{ahead, ahead-first, none_seen, ahead-other, ahead-here, ahead-seen, ahead-new}
 use Rattle.sq_ranges.proofs.stage.place_on.Goals as goal
 use Rattle.sq_ranges.proofs.stage.place_on.Goals.{then-eq+else-eq-2+then-not-seen-other, then-eq+else-eq-2+else-not-seen-other, else-eq}
 
 pub loop-range-init : goal.loop-range-init
 loop-range-init c = record {
-  found = ahead-first 256 c.args.src c.args.dst c.args.ranges.now;
-  unseen = none_seen 256 c.args.dst;
-  size = length-replicate 256 false;
+  found = ahead-first PART_NUMBERS c.args.src c.args.dst c.args.ranges.now;
+  unseen = none_seen PART_NUMBERS c.args.dst;
+  size = length-replicate PART_NUMBERS false;
   few = omega arith;
 }
 

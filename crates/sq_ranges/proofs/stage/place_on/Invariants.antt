@@ -1,4 +1,5 @@
 use Rattle.std.proofs.Common.{◌≡◌, ◌≤◌, drop, get_or, length, false}
+use Rattle.sq_ranges.specs.declared.stage.TheConstants.{PART_NUMBERS}
 use Rattle.sq_ranges.specs.ReconValue.{place_on}
 use Rattle.sq_ranges.proofs.Places.{ahead}
 use Rattle.sq_ranges.proofs.stage.place_on.Given as goal
@@ -8,6 +9,6 @@ abbrev pub invariant-loop-range : goal.invariant-loop-range
 invariant-loop-range l = record {
   found : ahead l.seen l.place l.src l.dst (drop l.range-index l.ranges) ≡ place_on l.ranges l.src l.dst;
   unseen : get_or l.seen l.dst false ≡ false;
-  size : length l.seen ≡ 256;
+  size : length l.seen ≡ PART_NUMBERS;
   few : l.place ≤ l.range-index;
 }
