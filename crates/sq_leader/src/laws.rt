@@ -9,19 +9,22 @@ ghost use Rattle.sq_leader.specs.Calls.{Call, EndsHeard};
 
 /// Just those partitions are marked that there are and that told it, in whichever order and however often.
 pub fn those_that_told_it_are_marked()
-    ensures { (parts : ℕ) (told : List ℕ) (part : ℕ) → is_marked (marks_after parts told) part ≡ (list_any (λ one. one == part) told && nat_lt part parts) }
+    ensures { (parts : ℕ) (told : List ℕ) (part : ℕ)
+        → is_marked (marks_after parts told) part ≡ (list_any (λ one. one == part) told && nat_lt part parts) }
 {}
 
 /// A move can start just where each of its partitions has told that it has prepared.
 pub fn a_move_starts_once_each_partition_prepared()
-    ensures { (parts : ℕ) (told : List ℕ) → all_marked (marks_after parts told) ≡ list_all (λ part. list_any (λ one. one == part) told) (range_with_len 0 parts) }
+    ensures { (parts : ℕ) (told : List ℕ) → all_marked (marks_after parts told)
+        ≡ list_all (λ part. list_any (λ one. one == part) told) (range_with_len 0 parts) }
 {}
 
 /// A stage can be left just where for each segment of it a report came of the partition into which it moves.
 pub fn a_stage_is_over_once_each_segment_of_it_is_reported()
     ensures { (recon : ReconValue) (stage parts : ℕ) (told : List ℕ)
         → have_reported (record { reported = marks_after parts told; stage = stage; recon = recon })
-        ≡ list_all (λ segment. not (stage_in recon segment == stage) || (list_any (λ one. one == segment.dst) told && nat_lt segment.dst parts)) recon.segments }
+        ≡ list_all (λ segment. not (stage_in recon segment == stage)
+        || (list_any (λ one. one == segment.dst) told && nat_lt segment.dst parts)) recon.segments }
 {}
 
 /// Where each segment moves into one of the partitions, a stage can be left just where each partition counts as reported.

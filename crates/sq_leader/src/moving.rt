@@ -25,9 +25,7 @@ pub struct Moving {
 /// The move has ended. To a contract it is a `StageValue`: the last stage as it was.
 #[derive(Debug, Drop)]
 pub struct Ended {
-    reported: Marks,
-    stage: u64,
-    recon: Recon,
+    last: Moving,
 }
 
 impl Model for Moving {
@@ -47,7 +45,7 @@ impl Model for Ended {
 
     ghost Value = { StageValue };
 
-    ghost view = { λ e. record { reported = e.reported; stage = e.stage; recon = e.recon } };
+    ghost view = { λ e. e.last };
 }
 
 impl Moving {
@@ -139,11 +137,7 @@ impl Moving {
                 fault: FinishFault::NotFinished,
             });
         }
-        Ok(Ended {
-            reported: self.reported,
-            stage: self.stage,
-            recon: self.recon,
-        })
+        Ok(Ended { last: self })
     }
 
     // The stage after the running one; `None` where that is the last.
@@ -172,20 +166,20 @@ impl Ended {
     pub fn recon(&self) -> &Recon
         ensures { result.now ≡ self.now.recon }
     {
-        &self.recon
+        self.last.recon()
     }
 
     /// The last stage.
     pub fn stage(&self) -> u64
         ensures { result ≡ self.now.stage }
     {
-        self.stage
+        self.last.stage()
     }
 
     /// Whether the partition has reported in the last stage.
     pub fn has_reported(&self, part: u64) -> bool
         ensures { result ≡ is_marked self.now.reported part }
     {
-        self.reported.has(part)
+        self.last.has_reported(part)
     }
 }
