@@ -6,12 +6,13 @@ use Rattle.std.proofs.lemmas.Bool.{false≢true}
 use Rattle.std.proofs.lemmas.Option.{same_Some, none-some}
 use Rattle.serde_json.specs.Data.{Data}
 use Rattle.serde_json.proofs.OnLiterals.{serde_json_on_literals}
+use Rattle.sq_schema.specs.Chain.{◌>>=◌}
 use Rattle.sq_plan.specs.declared.plan.TheConstants.{MAX_RANGES}
 use Rattle.sq_plan.specs.declared.fault.PlanFault.{PlanFault}
 use Rattle.sq_plan.specs.declared.fault.PlanFault.TheVariants.{NotJson, Shape, Version, PartitionCount, RangeOrder, PartitionNumber, TooManyRanges, BadStages, Memory}
 use Rattle.sq_plan.specs.PlanValue.{PlanValue, IsPlan, is_tiling}
 use Rattle.sq_plan.specs.Spelling.{Spells}
-use Rattle.sq_plan.specs.Reading.{◌>>=◌, check, whole_at, ranges_at, stages_at, version_by, parts_limit_by, plan_of, json_of, ReadsPlan}
+use Rattle.sq_plan.specs.Reading.{check, whole_at, ranges_at, stages_at, version_by, parts_limit_by, plan_of, json_of, ReadsPlan}
 use Rattle.sq_plan.proofs.Spelled.{plan_of-ok, plan_of-spelled}
 
 json_of-nothing : json_of [] ≡ None

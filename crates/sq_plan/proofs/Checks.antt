@@ -3,6 +3,7 @@ use Rattle.std.proofs.Common.{◌≡◌, ℕ, ◌^◌, ◌≤◌, ◌&&◌, leb,
 use Rattle.std.specs.List.{list_all}
 use Rattle.std.proofs.lemmas.Bool.{and_parts, and_from, leb-true, le-leb, ltb-true, lt-ltb}
 use Rattle.std.proofs.lemmas.Option.{same_Some}
+use Rattle.sq_schema.specs.Chain.{◌>>=◌}
 use Rattle.sq_plan.specs.declared.plan.PlanRange.{PlanRange}
 use Rattle.sq_plan.specs.declared.plan.TheConstants.{MAX_PARTS, MAX_RANGES}
 use Rattle.sq_plan.specs.declared.version.Stages.{Stages}
@@ -12,7 +13,7 @@ use Rattle.sq_plan.specs.Version.{parts_limit, stages_named}
 use Rattle.sq_plan.specs.declared.fault.PlanFault.{PlanFault}
 use Rattle.sq_plan.specs.declared.fault.PlanFault.TheVariants.{PartitionCount, RangeOrder, PartitionNumber, TooManyRanges, BadStages}
 use Rattle.sq_plan.specs.PlanValue.{PlanValue, IsPlan, is_tiling}
-use Rattle.sq_plan.specs.Reading.{check, checked, version_by, parts_limit_by, ◌>>=◌}
+use Rattle.sq_plan.specs.Reading.{check, checked, version_by, parts_limit_by}
 
 -- what the checks come to, the last of them being which version it is
 abbrev pub outcome : Bool → Bool → Bool → Bool → Option Version → ℕ → List PlanRange → Result PlanValue PlanFault

@@ -3,13 +3,14 @@ use Rattle.std.proofs.Common.{◌≡◌, ℕ, eqb, ◌||◌, Bool, true, false, 
 use Rattle.std.proofs.lemmas.Option.{same_Some, option_and_then_some}
 use Rattle.serde_json.specs.Data.{Num, unsigned, negative, float, Data, null, boolean, number, string, array, object, Items, no_items, item}
 use Rattle.serde_json.specs.Find.{get, as_array, as_u64}
+use Rattle.sq_schema.specs.Chain.{◌>>=◌}
 use Rattle.sq_plan.specs.declared.plan.PlanRange.{PlanRange}
 use Rattle.sq_plan.specs.declared.fault.PlanFault.{PlanFault}
 use Rattle.sq_plan.specs.declared.fault.PlanFault.TheVariants.{Shape, Version}
 use Rattle.sq_plan.specs.Version.{version_number}
 use Rattle.sq_plan.specs.PlanValue.{PlanValue, IsPlan}
 use Rattle.sq_plan.specs.Spelling.{number_data, range_data, ranges_data, Spells}
-use Rattle.sq_plan.specs.Reading.{◌>>=◌, check, whole_in, whole_at, range_in, range_of_items, ranges_in, ranges_at, stages_at, checked, plan_of}
+use Rattle.sq_plan.specs.Reading.{check, whole_in, whole_at, range_in, range_of_items, ranges_in, ranges_at, stages_at, checked, plan_of}
 use Rattle.sq_plan.proofs.Checks.{checked-ok, checked-plan}
 use Rattle.sq_plan.proofs.Versions.{version_spelled, stages_said, version_said, known_number, stages_at-said}
 

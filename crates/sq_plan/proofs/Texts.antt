@@ -22,6 +22,7 @@ use Rattle.serde_json.specs.Written.{outline, items_outline, has_float, items_ha
 use Rattle.serde_json.proofs.Numbers.{number_of-decimal}
 use Rattle.serde_json.proofs.Texts.{print-outline}
 use Rattle.serde_json.proofs.OnLiterals.{serde_json_on_literals}
+use Rattle.sq_schema.specs.Chain.{◌>>=◌}
 use Rattle.sq_plan.specs.declared.plan.PlanRange.{PlanRange}
 use Rattle.sq_plan.specs.declared.fault.PlanFault.TheVariants.{NotJson}
 use Rattle.sq_plan.specs.declared.version.Stages.TheVariants.{One, Auto}
@@ -30,7 +31,7 @@ use Rattle.sq_plan.specs.declared.version.Version.TheVariants.{First, Second}
 use Rattle.sq_plan.specs.PlanValue.{PlanValue, IsPlan, is_tiling}
 use Rattle.sq_plan.specs.PlanText.{range_text, ranges_text, version_text, plan_text}
 use Rattle.sq_plan.specs.Spelling.{number_data, range_data, ranges_data, version_data, plan_data, Spells}
-use Rattle.sq_plan.specs.Reading.{◌>>=◌, json_of, plan_of, plan_in}
+use Rattle.sq_plan.specs.Reading.{json_of, plan_of, plan_in}
 use Rattle.sq_plan.proofs.Checks.{parts_bound}
 use Rattle.sq_plan.proofs.Spelled.{plan_of-spelled}
 use Rattle.sq_plan.proofs.Tiling.{Follows-from_tiling, within}

@@ -6,6 +6,7 @@ use Rattle.std.specs.Str.{is_utf8}
 use Rattle.serde_json.specs.Data.{Data, Items, no_items, item}
 use Rattle.serde_json.specs.Read.{read}
 use Rattle.serde_json.specs.Find.{get, as_number, as_array, as_str, as_u64}
+use Rattle.sq_schema.specs.Chain.{◌>>=◌}
 use Rattle.sq_plan.specs.declared.plan.PlanRange.{PlanRange}
 use Rattle.sq_plan.specs.declared.plan.TheConstants.{MAX_PARTS, FIRST_MAX_PARTS, MAX_RANGES}
 use Rattle.sq_plan.specs.declared.version.Version.{Version as PlanVersion}
@@ -58,12 +59,6 @@ version_by (Some text) = option_map Second (stages_named text)
 abbrev pub parts_limit_by : Option (List ℕ) → ℕ
 parts_limit_by None = FIRST_MAX_PARTS
 parts_limit_by (Some text) = MAX_PARTS
-
--- the next step goes on with what this one found, and a fault stops
-infixl 10 ◌>>=◌
-abbrev pub ◌>>=◌ : {A B : Type 0} → Result A PlanFault → (A → Result B PlanFault) → Result B PlanFault
-(Ok x) >>= f = f x
-(Err fault) >>= f = Err fault
 
 -- the fault, unless the test holds
 abbrev pub check : Bool → PlanFault → Result ⊤ PlanFault

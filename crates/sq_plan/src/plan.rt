@@ -69,8 +69,9 @@ impl Plan {
     }
 
     /// The plan that the bytes spell in JSON, as `{"version":1,"partitions":P,"ranges":[[lo,hi,owner],..]}`, or with
-    /// `"version":2` and `"stages":"one"` or `"stages":"auto"`: the fields in any order and among others. Otherwise the fault of the first check that fails, in the order that
-    /// [`PlanFault`] has. For bytes that aren't empty, [`PlanFault::Memory`] may come in place of any answer.
+    /// `"version":2` and `"stages":"one"` or `"stages":"auto"`: the fields in any order and among others. Otherwise the
+    /// fault of the first check that fails, in the order that [`PlanFault`] has. For bytes that aren't empty,
+    /// [`PlanFault::Memory`] may come in place of any answer.
     pub fn read(alloc: Global, bytes: &[u8]) -> Result<Plan, PlanFault>
         // The plan, or the fault of the first check that fails.
         ensures exact { ReadsPlan result (plan_in bytes.now) }
@@ -89,7 +90,8 @@ impl Plan {
     }
 
     /// The plan in compact JSON, as `{"partitions":P,"ranges":[[lo,hi,owner],..],"version":1}`, in the second version
-    /// with `"stages"` before `"version"`, and with the ranges as they are: none is merged. The only fault is that memory ran out.
+    /// with `"stages"` before `"version"`, and with the ranges as they are: none is merged. The only fault is that
+    /// memory ran out.
     pub fn write(&self) -> Result<String, AllocError>
         ensures text { IfOk result (λ text. string_bytes text ≡ plan_text self.now) }
         // Reading the text gives the plan again.

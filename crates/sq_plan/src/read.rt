@@ -196,7 +196,8 @@ struct Heading {
 // What the plan says besides its ranges, or the fault of the first check that fails.
 fn heading_of(fields: PlanFields<'_>) -> Result<Heading, PlanFault>
     ensures { (ranges : List PlanRange) → HasRanges fields.entry ranges → MatchResult result
-        (λ heading. checked (stages_of fields.entry) fields.entry.parts ranges ≡ Ok (record { version = heading.version; parts = heading.parts; ranges = ranges }))
+        (λ heading. checked (stages_of fields.entry) fields.entry.parts ranges
+        ≡ Ok (record { version = heading.version; parts = heading.parts; ranges = ranges }))
         (λ fault. checked (stages_of fields.entry) fields.entry.parts ranges ≡ Err fault) }
 {
     if !(1..=parts_limit(fields.stages)).contains(&fields.parts) {
