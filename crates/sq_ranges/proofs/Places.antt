@@ -60,17 +60,21 @@ ahead-other seen n src dst range rest other = ap (λ ds. found n dst (filter (is
 abbrev others_of : ℕ → List ℕ → List ℕ
 others_of first rest = filter (λ dst. not (dst == first)) rest
 
+-- a range of the source leads to its destination, and then to others
+ahead-from : (seen : List Bool) (n src dst : ℕ) (range : Range) (rest : List Range) → range.src == src ≡ true → ahead seen n src dst (range ∷ rest) ≡ found n dst (filter (is_unseen seen) (range.dst ∷ others_of range.dst (destinations src rest)))
+ahead-from seen n src dst range rest same = ap (λ ds. found n dst (filter (is_unseen seen) ds)) (cond-true (range.src == src) (range.dst ∷ others_of range.dst (destinations src rest)) (destinations src rest) same)
+
 pub ahead-here : (seen : List Bool) (n src dst : ℕ) (range : Range) (rest : List Range) → range.src == src ≡ true → range.dst == dst ≡ true → get_or seen dst false ≡ false → n ≡ ahead seen n src dst (range ∷ rest)
 ahead-here seen n src dst range rest same is unseen =
     let fresh : is_unseen seen range.dst ≡ true = ap (λ d. not (get_or seen d false)) (eqb-true _ _ is) ∙ ap not unseen in
     sym (
-    ap (λ ds. found n dst (filter (is_unseen seen) ds)) (cond-true (range.src == src) (range.dst ∷ others_of range.dst (destinations src rest)) (destinations src rest) same)
+    ahead-from seen n src dst range rest same
     ∙ ap (found n dst) (cond-true (is_unseen seen range.dst) _ _ fresh) ∙ cond-true _ _ _ is)
 
 pub ahead-seen : (seen : List Bool) (n src dst : ℕ) (range : Range) (rest : List Range) → range.src == src ≡ true → get_or seen range.dst false ≡ true → ahead seen n src dst (range ∷ rest) ≡ ahead seen n src dst rest
 ahead-seen seen n src dst range rest same passed =
     let stale : is_unseen seen range.dst ≡ false = ap not passed in
-    ap (λ ds. found n dst (filter (is_unseen seen) ds)) (cond-true (range.src == src) (range.dst ∷ others_of range.dst (destinations src rest)) (destinations src rest) same)
+    ahead-from seen n src dst range rest same
     ∙ ap (found n dst) (cond-false (is_unseen seen range.dst) _ _ stale ∙ both_pass (is_unseen seen) (λ d. not (d == range.dst)) (is_unseen seen) tests (destinations src rest))
   where
     tests : (d : ℕ) → (not (d == range.dst) && is_unseen seen d) ≡ is_unseen seen d
@@ -84,7 +88,7 @@ pub ahead-new : (seen : List Bool) (n src dst : ℕ) (range : Range) (rest : Lis
     → ahead seen n src dst (range ∷ rest) ≡ ahead (set seen range.dst true) (n + 1) src dst rest
 ahead-new seen n src dst range rest same apart fresh low =
     let first : is_unseen seen range.dst ≡ true = ap not fresh in
-    ap (λ ds. found n dst (filter (is_unseen seen) ds)) (cond-true (range.src == src) (range.dst ∷ others_of range.dst (destinations src rest)) (destinations src rest) same)
+    ahead-from seen n src dst range rest same
     ∙ ap (found n dst) (cond-true (is_unseen seen range.dst) _ _ first)
     ∙ cond-false _ _ _ apart
     ∙ ap (found (n + 1) dst) (both_pass (is_unseen seen) (λ d. not (d == range.dst)) (is_unseen (set seen range.dst true)) tests (destinations src rest))

@@ -7,17 +7,12 @@ use Rattle.sq_ranges.proofs.Cuts.{length-segments_of-append, length-segments_of-
 use Rattle.sq_ranges.proofs.Sweeps.{runs_within}
 use Rattle.sq_ranges.proofs.cut.fits.Goals as goal
 
-pub segment_count-count-requires-clause-some : goal.segment_count-count-requires-clause-some
-segment_count-count-requires-clause-some c =
+pub segment_count-count-requires : goal.segment_count-count-requires
+segment_count-count-requires c =
     let ahead = c.loop-run.invariant.ahead in
     let next = c.in-Some.ensures.next ahead.1 ahead.3 in
-    (runs_within c.loop-run.sweep c.in-Some.run' ahead.1 next.0 ahead.3 next.1).0
-
-pub segment_count-count-requires-clause-within : goal.segment_count-count-requires-clause-within
-segment_count-count-requires-clause-within c =
-    let ahead = c.loop-run.invariant.ahead in
-    let next = c.in-Some.ensures.next ahead.1 ahead.3 in
-    (runs_within c.loop-run.sweep c.in-Some.run' ahead.1 next.0 ahead.3 next.1).1
+    let within = runs_within c.loop-run.sweep c.in-Some.run' ahead.1 next.0 ahead.3 next.1 in
+    record { width = c.requires; some = within.0; within = within.1 }
 
 pub returns-then-count-limit : goal.returns-then-count-limit
 returns-then-count-limit c =

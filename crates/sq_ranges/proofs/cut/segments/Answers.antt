@@ -5,14 +5,9 @@ use Rattle.sq_ranges.proofs.Rows.{row_at}
 use Rattle.sq_ranges.proofs.Cuts.{Moves, row_from_rising}
 use Rattle.sq_ranges.proofs.cut.segments.Goals as goal
 
-pub push_segments-requires-clause-some : goal.push_segments-requires-clause-some
-push_segments-requires-clause-some c =
+pub push_segments-requires : goal.push_segments-requires
+push_segments-requires c =
     let ranges = c.args.ranges.now in
     let at = slice_get_read ranges (length ranges) c.loop-range.range-index c.range-item.result refl (omega arith) c.range-item.is in
-    (row_at Moves 0 ROOT_END ranges c.loop-range.range-index c.range-item.result (row_from_rising 0 ranges (omega arith) c.requires.rising) at).some
-
-pub push_segments-requires-clause-within : goal.push_segments-requires-clause-within
-push_segments-requires-clause-within c =
-    let ranges = c.args.ranges.now in
-    let at = slice_get_read ranges (length ranges) c.loop-range.range-index c.range-item.result refl (omega arith) c.range-item.is in
-    (row_at Moves 0 ROOT_END ranges c.loop-range.range-index c.range-item.result (row_from_rising 0 ranges (omega arith) c.requires.rising) at).high
+    let stands = row_at Moves 0 ROOT_END ranges c.loop-range.range-index c.range-item.result (row_from_rising 0 ranges (omega arith) c.requires.rising) at in
+    record { width = c.requires.width; some = stands.some; within = stands.high }
