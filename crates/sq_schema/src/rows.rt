@@ -121,7 +121,9 @@ impl Rows {
             writes,
             size,
         } = run(alloc, self, txn.ops())?;
-        self.write_all(writes, size)?;
+        if let Reply::Committed(_) = reply {
+            self.write_all(writes, size)?;
+        }
         Ok(reply)
     }
 
