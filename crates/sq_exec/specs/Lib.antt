@@ -4,6 +4,7 @@ pub mod GivenUp
 pub mod Work
 pub mod OutLink
 pub mod CoreValue
+pub mod CoreInside
 pub mod Location
 pub mod Kept
 pub mod Numbering

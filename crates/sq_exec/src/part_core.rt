@@ -38,51 +38,26 @@ pub struct PartCore<S: FamilyStore> {
 }
 
 impl<S: FamilyStore> Model for PartCore<S> {
-    ghost use Rattle.std.specs.Prelude.{map};
     ghost use Rattle.std.specs.List.{list_all};
     ghost use Rattle.std.specs.Coded.{codes};
     ghost use Rattle.sq_store.proofs.Codes.{store_coded};
-    ghost use Rattle.sq_waiting.specs.Waiting.{txns_of, numbers_of};
-    ghost use Rattle.sq_exec.specs.CoreValue.{CoreValue, PartCoreValue};
+    ghost use Rattle.sq_waiting.specs.Waiting.{numbers_of};
+    ghost use Rattle.sq_exec.specs.CoreValue.{PartCoreValue};
     ghost use Rattle.sq_exec.specs.Kept.{IsCore};
 
     ghost Value = { PartCoreValue };
 
     ghost coded = { Prim.hlevel (codes, store_coded) };
 
+    ghost use Rattle.sq_exec.specs.CoreInside.{core_inside};
+
     ghost view = { λ p. record {
-      core = record {
-        part = p.part;
-        plan = p.plan;
-        recon = p.recon;
-        limit = p.limit;
-        started = p.started;
-        stage = p.stage;
-        store = S.contents p.store;
-        waiting = txns_of p.waiting.arrivals;
-        outs = map (λ out. out.link) p.outs.items;
-        inboxes = p.inboxes.items;
-        given_up = p.given_up.items;
-        loaded = map (λ runs. runs.items) p.loaded.items;
-      };
+      core = core_inside S.contents p;
       has_room = list_all (λ out. out.has_room) p.outs.items;
       numbering = record { numbers = numbers_of p.waiting.arrivals; next = p.waiting.next };
     } };
 
-    ghost invariant = { λ p. IsCore (record {
-      part = p.part;
-      plan = p.plan;
-      recon = p.recon;
-      limit = p.limit;
-      started = p.started;
-      stage = p.stage;
-      store = S.contents p.store;
-      waiting = txns_of p.waiting.arrivals;
-      outs = map (λ out. out.link) p.outs.items;
-      inboxes = p.inboxes.items;
-      given_up = p.given_up.items;
-      loaded = map (λ runs. runs.items) p.loaded.items;
-    }) p.waiting.arrivals };
+    ghost invariant = { λ p. IsCore (core_inside S.contents p) p.waiting.arrivals };
 }
 
 /// What a partition that is closed hands out.
