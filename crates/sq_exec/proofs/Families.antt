@@ -1,12 +1,11 @@
 -- The families of the root keys that a partition owns.
-use Rattle.std.proofs.Common.{⊎_elim, ◌≡◌, ℕ, Bool, true, false, [], ◌∷◌, refl, sym, ap, ◌∙◌, arith, true≢false, length, List, ◌++◌, append_assoc}
+use Rattle.std.proofs.Common.{⊎_elim, ◌≡◌, ℕ, Bool, true, false, [], ◌∷◌, refl, sym, ap, ◌∙◌, arith, true≢false, length}
 use Rattle.std.specs.Prelude.{◌+◌, ◌<◌, ◌≢◌, ◌==◌, ◌&&◌, if◌then◌else◌, not, nat_le, nat_lt, map, filter, Option, Some, None, is_some, unwrap_or}
 use Rattle.std.specs.List.{list_all}
 use Rattle.std.specs.Ordering.{nat_cmp, is_lt, eq_by_cmp}
 use Rattle.std.specs.Cmp.{unsigned_tied}
 use Rattle.std.specs.FinMap.{get, empty, get-empty}
 use Rattle.std.specs.FinMap.Entries.{find, below_all, is_sorted}
-use Rattle.std.proofs.Math.Bool.{and-true, and-false}
 use Rattle.std.proofs.lemmas.Bool.{ne_eqb, eq-eqb, le-leb, and_from, and_parts}
 use Rattle.std.proofs.lemmas.Bool.Decides.{eqb_tells}
 use Rattle.sq_schema.specs.Effect.{RowList}
@@ -19,6 +18,7 @@ use Rattle.sq_store.specs.StoreValue.{family_in, with_families}
 use Rattle.sq_store.proofs.Order.{less_from_cmp}
 use Rattle.sq_store.proofs.Rising.{get-with_families}
 use Rattle.sq_store.specs.Opened.{opened_family, opened_families}
+use Rattle.sq_exec.specs.Opened.{opened_at}
 
 -- the root keys are this one or later ones
 abbrev from_key : ℕ → TableValue → Bool
@@ -80,9 +80,6 @@ elsewhere plan part root (entry ∷ table) other =
     by_owner true e none =
         not_first root entry rest true (ne_eqb entry.0 root (λ same. absurd (true≢false (sym e ∙ ap (λ k. owner plan k == part) same ∙ other)))) ∙ none
 
-abbrev opened_at : RowList → ℕ → Option FamilyValue
-opened_at rows root = if not (length rows == 0) then Some (record { root = root; base = rows; log = [] }) else None
-
 -- its owner has its family, where it has rows
 at_owner : (plan : PlanValue) (part root : ℕ) (table : TableValue) → (owner plan root == part) ≡ true → list_all (λ entry. is_opening entry.1) table ≡ true
     → family_in (opened_families plan part table) root ≡ opened_at (rows_in table root) root
@@ -98,37 +95,45 @@ at_owner plan part root (entry ∷ table) owns each =
     let tied : eq_by_cmp nat_cmp root entry.0 ≡ true = unsigned_tied root entry.0 ∙ eq-eqb root entry.0 (sym same.1) in
     ap (λ b. family_in (map opened_family (if b then entry ∷ rest else rest)) root) kept
     ∙ ap (λ b. if b then Some (opened_family entry) else family_in (map opened_family rest) root) same.0
-    ∙ ap (λ k. Some (family k entry.1)) same.1
-    ∙ sym (ap (λ b. opened_at (unwrap_or (if b then Some entry.1 else find nat_cmp root table) []) root) tied ∙ ap (λ b. if b then Some (family root entry.1) else None) some))
+    ∙ ap (λ k. Some (opened_family (k, entry.1))) same.1
+    ∙ sym (ap (λ b. opened_at (unwrap_or (if b then Some entry.1 else find nat_cmp root table) []) root) tied ∙ ap (λ b. if b then Some (opened_family (root, entry.1)) else None) some))
     (λ (apart : (entry.0 == root ≡ false) × (entry.0 ≢ root)).
     let untied : eq_by_cmp nat_cmp root entry.0 ≡ false = unsigned_tied root entry.0 ∙ ne_eqb root entry.0 (λ same. apart.1 (sym same)) in
     not_first root entry rest (owner plan entry.0 == part) apart.0
     ∙ after
     ∙ sym (ap (λ b. opened_at (unwrap_or (if b then Some entry.1 else find nat_cmp root table) []) root) untied))
     (eqb_tells entry.0 root)
-  where
-    family : ℕ → RowList → FamilyValue
-    family root rows = record { root = root; base = rows; log = [] }
 
 opened_in : (plan : PlanValue) (part root : ℕ) (table : TableValue) (b : Bool) → (owner plan root == part) ≡ b → list_all (λ entry. is_opening entry.1) table ≡ true
-    → family_in (opened_families plan part table) root ≡ (if not (length (rows_in table root) == 0) && b then Some (record { root = root; base = rows_in table root; log = [] }) else None)
-opened_in plan part root table true owns each =
-    at_owner plan part root table owns each ∙ ap (λ b. if b then Some (record { root = root; base = rows_in table root; log = [] }) else None) (sym (and-true (not (length (rows_in table root) == 0))))
-opened_in plan part root table false other each =
-    elsewhere plan part root table other ∙ ap (λ b. if b then Some (record { root = root; base = rows_in table root; log = [] }) else None) (sym (and-false (not (length (rows_in table root) == 0))))
+    → family_in (opened_families plan part table) root ≡ (if b then opened_at (rows_in table root) root else None)
+opened_in plan part root table true owns each = at_owner plan part root table owns each
+opened_in plan part root table false other each = elsewhere plan part root table other
 
 only_some : (o : Option FamilyValue) → (if is_some o then o else None) ≡ o
 only_some None = refl
 only_some (Some family) = refl
 
 -- the store with these families has each family of a root key with rows that the partition owns
-pub get_opened : (plan : PlanValue) (part root hi : ℕ) (table : TableValue) → is_sorted nat_cmp table ≡ true → list_all (λ entry. nat_lt entry.0 hi) table ≡ true
+pub get_owned : (plan : PlanValue) (part root hi : ℕ) (table : TableValue) → is_sorted nat_cmp table ≡ true → list_all (λ entry. nat_lt entry.0 hi) table ≡ true
     → list_all (λ entry. is_opening entry.1) table ≡ true
-    → get (with_families empty (opened_families plan part table)) root
-    ≡ (if not (length (rows_in table root) == 0) && (owner plan root == part) then Some (record { root = root; base = rows_in table root; log = [] }) else None)
-get_opened plan part root hi table rising below each =
+    → get (with_families empty (opened_families plan part table)) root ≡ (if owner plan root == part then opened_at (rows_in table root) root else None)
+get_owned plan part root hi table rising below each =
     let families = opened_families plan part table in
     get-with_families 0 hi families empty root (opened_within plan part hi table rising below)
     ∙ ap (λ found. if is_some (family_in families root) then family_in families root else found) (get-empty nat_cmp root)
     ∙ only_some (family_in families root)
     ∙ opened_in plan part root table (owner plan root == part) refl each
+
+other_first : {X : Type 0} (a b : Bool) (x : X) → (if b then (if a then Some x else None) else None) ≡ (if a && b then Some x else None)
+other_first true b x = refl
+other_first false true x = refl
+other_first false false x = refl
+
+-- the same, where the rows are looked at first
+pub get_opened : (plan : PlanValue) (part root hi : ℕ) (table : TableValue) → is_sorted nat_cmp table ≡ true → list_all (λ entry. nat_lt entry.0 hi) table ≡ true
+    → list_all (λ entry. is_opening entry.1) table ≡ true
+    → get (with_families empty (opened_families plan part table)) root
+    ≡ (if not (length (rows_in table root) == 0) && (owner plan root == part) then Some (opened_family (root, rows_in table root)) else None)
+get_opened plan part root hi table rising below each =
+    get_owned plan part root hi table rising below each
+    ∙ other_first (not (length (rows_in table root) == 0)) (owner plan root == part) (opened_family (root, rows_in table root))

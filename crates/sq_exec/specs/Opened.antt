@@ -1,6 +1,8 @@
 -- What the partitions of an opening hold.
-use Rattle.std.specs.Prelude.{◌≡◌, ℕ, ◌==◌, ◌&&◌, not, if◌then◌else◌, length, Some, None}
+use Rattle.std.specs.Prelude.{◌≡◌, ℕ, ◌==◌, not, if◌then◌else◌, length, Option, Some, None}
 use Rattle.std.specs.FinMap.{get, empty}
+use Rattle.sq_schema.specs.Effect.{RowList}
+use Rattle.sq_schema.specs.Family.{FamilyValue}
 use Rattle.sq_schema.specs.Table.{rows_in}
 use Rattle.sq_plan.specs.PlanValue.{owner}
 use Rattle.sq_ranges.specs.OpeningValue.{OpeningValue}
@@ -12,7 +14,15 @@ use Rattle.sq_exec.specs.CoreValue.{CoreValue, opened_core}
 abbrev pub opened_part : OpeningValue → ℕ → CoreValue
 opened_part o part = opened_core o part (with_families empty (opened_families o.old part o.table))
 
+-- the family that a root key opens with that has these rows, if it has some
+abbrev pub opened_at : RowList → ℕ → Option FamilyValue
+opened_at rows root = if not (length rows == 0) then Some (opened_family (root, rows)) else None
+
+-- the store has the families of the root keys that the partition owns, by the owners and the families of root keys, and no
+-- others
+abbrev pub HasOwnedOf : (ℕ → ℕ) → (ℕ → Option FamilyValue) → ℕ → StoreValue → Type 0
+HasOwnedOf owners families part store = (root : ℕ) → get store root ≡ (if owners root == part then families root else None)
+
 -- the store has the family of each root key with opening rows that the partition owns, as it opens, and no other
 abbrev pub HasOwned : OpeningValue → ℕ → StoreValue → Type 0
-HasOwned o part store =
-    (root : ℕ) → get store root ≡ (if not (length (rows_in o.table root) == 0) && (owner o.old root == part) then Some (opened_family (root, rows_in o.table root)) else None)
+HasOwned o part store = HasOwnedOf (owner o.old) (λ root. opened_at (rows_in o.table root) root) part store

@@ -9,7 +9,7 @@ use Rattle.sq_store.specs.StoreValue.{with_families}
 use Rattle.sq_exec.specs.CoreValue.{CoreValue}
 use Rattle.sq_store.specs.Opened.{opened_families}
 use Rattle.sq_exec.specs.Opened.{HasOwned}
-use Rattle.sq_exec.proofs.Families.{get_opened}
+use Rattle.sq_exec.proofs.Families.{get_owned}
 use Rattle.sq_exec.proofs.partition.open_partition.Goals as goal
 
 pub returns-in-Ok-clause-families : goal.returns-in-Ok-clause-families
@@ -21,5 +21,5 @@ returns-in-Ok-clause-families c =
     c.in_ok-store.ensures ∙ (λ i. with_families empty (opened_families (c.old_plan.ensures.plan i) part (c.table.ensures.table i))) in
     let store : c.in-Ok.core.core.store ≡ with_families empty (opened_families o.old part o.table) = ap (λ (core : CoreValue). core.store) c.in-Ok.ensures.ok ∙ is in
     subst (HasOwned o part) (sym store)
-    (λ root. get_opened o.old part root ROOT_END o.table set_up.rising (list_all-from_AllPass (λ (entry : ℕ × RowList). nat_lt entry.0 ROOT_END) o.table set_up.roots)
+    (λ root. get_owned o.old part root ROOT_END o.table set_up.rising (list_all-from_AllPass (λ (entry : ℕ × RowList). nat_lt entry.0 ROOT_END) o.table set_up.roots)
     (list_all-from_AllPass (λ (entry : ℕ × RowList). is_opening entry.1) o.table set_up.rows))
