@@ -12,7 +12,10 @@ use Rattle.sq_exec.specs.declared.run.Run.{Run}
 use Rattle.sq_exec.specs.GivenUp.{none_given_up}
 use Rattle.sq_exec.specs.OutLink.{OutLinkValue, new_out_link}
 
--- a partition: the plan before the move and what moves, how many bytes of families a chunk holds, whether the move has started, and which stage runs; its families, and the transactions that wait in the order in which they came; for each partition the end of the link to it, and the chunk that came from it; and for each segment the leaves that were given up, and what was loaded
+-- a partition: the plan before the move and what moves, how many bytes of families a chunk holds, whether the move has
+-- started, and which stage runs; its families, and the transactions that wait in the order in which they came; for each
+-- partition the end of the link to it, and the chunk that came from it; and for each segment the leaves that were given up,
+-- and what was loaded
 pub record CoreValue : Type 0 where
   pub part : ℕ
   pub plan : PlanValue

@@ -21,9 +21,11 @@ location_in core root at segment =
       loaded = is_loaded (loaded_at core at.0) root;
     }
 
--- where a root key is that moves: its segment and leaf, the ends of the segment and its stage, and whether the key was given up and loaded here; none where it doesn't move
+-- where a root key is that moves: its segment and leaf, the ends of the segment and its stage, and whether the key was
+-- given up and loaded here; none where it doesn't move
 abbrev pub location : CoreValue → ℕ → Option Location
-location core root = option_and_then (λ at. option_map (location_in core root at) (slice_get core.recon.segments at.0)) (leaf_at core.recon root)
+location core root =
+    option_and_then (λ at. option_map (location_in core root at) (slice_get core.recon.segments at.0)) (leaf_at core.recon root)
 
 abbrev pub is_coming_from : CoreValue → Option Location → Bool
 is_coming_from core None = false
@@ -37,9 +39,13 @@ abbrev pub route_from : CoreValue → ℕ → Option Location → ℕ
 route_from core root None = owner core.plan root
 route_from core root (Some at) =
     if nat_lt at.stage core.stage then at.dst
-    else if at.src == core.part then if at.given_up then at.dst else at.src else if (at.dst == core.part) && at.loaded then at.dst else at.src
+    else if at.src == core.part then (if at.given_up then at.dst else at.src)
+    else if (at.dst == core.part) && at.loaded then at.dst
+    else at.src
 
--- the partition that transactions on the root key go to, as far as this one can tell: its owner where it doesn't move, the destination once its stage went, and else the source until it gave the key up, and the destination from then on at the source, and once it loaded the key at the destination
+-- the partition that transactions on the root key go to, as far as this one can tell: its owner where it doesn't move, the
+-- destination once its stage went, and else the source until it gave the key up, and the destination from then on at the
+-- source, and once it loaded the key at the destination
 abbrev pub route : CoreValue → ℕ → ℕ
 route core root = route_from core root (location core root)
 

@@ -18,7 +18,7 @@ use Rattle.sq_exec.specs.CoreValue.{CoreValue, out_at, with_out, link_to, inbox_
 -- the work on a whole node
 abbrev pub whole_node : CoreValue → Range → ℕ → ℕ → ℕ → WorkValue
 whole_node core segment seg node pull =
-    record { seg = seg; node = node; pull = pull; rest = (extent core.recon.width segment node).lo; hi = (extent core.recon.width segment node).hi }
+    let keys = extent core.recon.width segment node in record { seg = seg; node = node; pull = pull; rest = keys.lo; hi = keys.hi }
 
 abbrev pub with_work : OutLinkValue → WorkValue → OutLinkValue
 with_work out work = record out { work = out.work ++ work ∷ [] }
@@ -51,7 +51,8 @@ can_load_in core src chunk (Some segment) =
     && (lies_in chunk.note (extent core.recon.width segment chunk.note.node)
     && (not (is_met (loaded_at core chunk.note.seg) chunk.note) && has_none_of core.store chunk.families)))
 
--- the chunk is about a node of a segment that comes here from this partition, none of the keys that it covers is loaded, and none of its families is here
+-- the chunk is about a node of a segment that comes here from this partition, none of the keys that it covers is loaded,
+-- and none of its families is here
 abbrev pub can_load : CoreValue → ℕ → ChunkValue → Bool
 can_load core src chunk = can_load_in core src chunk (slice_get core.recon.segments chunk.note.seg)
 

@@ -45,7 +45,8 @@ may_cut out = is_none out.outbox && is_some (next_work out.work)
 abbrev pub cut_fault : OutLinkValue → CutFault
 cut_fault out = if is_some out.outbox then fault.OutboxFull else if is_none (next_work out.work) then fault.NothingToCut else fault.Memory
 
--- a chunk of the work at this place, which takes as many families as fit: its note, the end of the link with it, and the store that it leaves
+-- a chunk of the work at this place, which takes as many families as fit: its note, the end of the link with it, and the
+-- store that it leaves
 abbrev pub cut_here : ℕ → Link → OutLinkValue → StoreValue → ℕ → Note × (OutLinkValue × StoreValue)
 cut_here limit ends out store at =
     let work = work_at out.work at in
@@ -53,13 +54,18 @@ cut_here limit ends out store at =
     let note = note_for ends out work end in (
       note,
       (
-        record { notes = out.notes ++ note ∷ []; work = work_after out.work at end; outbox = Some (record { note = note; families = families_between store work.rest end }) },
+        record {
+          notes = out.notes ++ note ∷ [];
+          work = work_after out.work at end;
+          outbox = Some (record { note = note; families = families_between store work.rest end });
+        },
         without_between store work.rest end,
       ),
     )
 
 -- a chunk of the work that is done next was cut, and came into the empty outbox
-pub record IsCut (limit : ℕ) (ends : Link) (out : OutLinkValue) (store : StoreValue) (note : Note) (after : OutLinkValue) (left : StoreValue) : Type 0 where
+pub record IsCut (limit : ℕ) (ends : Link) (out : OutLinkValue) (store : StoreValue)
+    (note : Note) (after : OutLinkValue) (left : StoreValue) : Type 0 where
   pub place : ℕ
   pub empty : is_some out.outbox ≡ false
   pub next : next_work out.work ≡ Some place

@@ -25,10 +25,15 @@ is_log_full store txn = nat_le MAX_LOG (log_length store txn.root)
 abbrev pub is_stuck : ℕ → ℕ → StoreValue → TxnValue → Bool
 is_stuck here who store txn = (who == here) && is_log_full store txn
 
--- a transaction that belongs to one partition is served at another: it runs where these are one, and else it is sent on; with the store after it
+-- a transaction that belongs to one partition is served at another: it runs where these are one, and else it is sent on;
+-- with the store after it
 abbrev pub served : ℕ → ℕ → StoreValue → TxnValue → Outcome × StoreValue
 served here who store txn =
     if who == here then (Done (store_reply store txn), store_after store txn (store_reply store txn)) else (Moved who, store)
+
+-- a transaction is served at the partition, which belongs to the one that transactions on its root key go to
+abbrev pub served_here : CoreValue → TxnValue → Outcome × StoreValue
+served_here core txn = served core.part (route core txn.root) core.store txn
 
 -- a transaction on the root key has to wait: one does already, or the rows come and aren't here
 abbrev pub must_wait : CoreValue → ℕ → Bool
@@ -54,8 +59,8 @@ pub record IsMadeToWait (old : CoreValue) (txn : TxnValue) (outcome : Outcome) (
 
 -- a transaction that needn't wait is served
 pub record IsServed (old : CoreValue) (txn : TxnValue) (outcome : Outcome) (new : CoreValue) : Type 0 where
-  pub told : outcome ≡ (served old.part (route old txn.root) old.store txn).0
-  pub after : new ≡ record old { store = (served old.part (route old txn.root) old.store txn).1 }
+  pub told : outcome ≡ (served_here old txn).0
+  pub after : new ≡ record old { store = (served_here old txn).1 }
 
 abbrev pub IsTaken : Bool → CoreValue → TxnValue → Outcome → CoreValue → Type 0
 IsTaken true old txn outcome new = IsMadeToWait old txn outcome new
@@ -96,5 +101,5 @@ pub record IsResumed (old : CoreValue) (resumed : Resumed) (new : CoreValue) : T
   pub place : ℕ
   pub first : position (is_ready_here old) old.waiting ≡ Some place
   pub found : slice_get old.waiting place ≡ Some resumed.txn
-  pub told : resumed.outcome ≡ (served old.part (route old resumed.txn.root) old.store resumed.txn).0
-  pub after : new ≡ record old { store = (served old.part (route old resumed.txn.root) old.store resumed.txn).1; waiting = remove old.waiting place }
+  pub told : resumed.outcome ≡ (served_here old resumed.txn).0
+  pub after : new ≡ record old { store = (served_here old resumed.txn).1; waiting = remove old.waiting place }

@@ -27,7 +27,10 @@ impl Model for OutLink {
 
     ghost Value = { RoomyOutLink };
 
-    ghost view = { λ l. record { link = record { notes = l.notes.items; work = l.work.items; outbox = l.outbox }; has_room = nat_lt (vec_len l.work) (vec_capacity l.work) } };
+    ghost view = { λ l. record {
+      link = record { notes = l.notes.items; work = l.work.items; outbox = l.outbox };
+      has_room = nat_lt (vec_len l.work) (vec_capacity l.work);
+    } };
 }
 
 impl OutLink {
@@ -95,7 +98,8 @@ impl OutLink {
         ends: Link,
         limit: u64,
     ) -> Result<Note, CutFault>
-        ensures ok { IfOk result (λ note. IsCut limit ends self.old.link (S.contents store.old) note self.new.link (S.contents store.new)) }
+        ensures ok { IfOk result
+            (λ note. IsCut limit ends self.old.link (S.contents store.old) note self.new.link (S.contents store.new)) }
         ensures refusal { IfErr result (λ fault. fault ≡ cut_fault self.old.link) }
         ensures err { OnErr result ((self.new.link ≡ self.old.link) × (S.contents store.new ≡ S.contents store.old)) }
     {
