@@ -7,7 +7,8 @@ use Rattle.sq_lines.specs.declared.reader.ReadState.TheVariants.{Ended}
 use Rattle.sq_lines.specs.Pieces.{cut_at_ends}
 
 -- the places of a buffer: of the piece given last, and of what wasn't given, which has no line end in its searched part
-pub record IsBuffered (buffer : List ℕ) (piece_start piece_end start searched end : ℕ) (reading : ReadState) (known : Option (List ℕ)) : Type 0 where
+pub record IsBuffered (buffer : List ℕ) (piece_start piece_end start searched end : ℕ)
+    (reading : ReadState) (known : Option (List ℕ)) : Type 0 where
   pub room : length buffer ≡ ROOM
   pub piece : piece_start ≤ piece_end
   pub piece_within : piece_end ≤ ROOM

@@ -7,7 +7,8 @@ use Rattle.sq_lines.specs.declared.reader.Next.{Next as NextPiece}
 use Rattle.sq_lines.specs.declared.reader.Next.TheVariants as next
 use Rattle.sq_lines.specs.Pieces.{cut_at_ends, PieceValue, Line, Rest, Failed, TooMany, InputEnd, Whole, Cut, pieces_in, next_line_number, bytes_of}
 
--- a reader of lines: the bytes of the piece that it gave last, what was read and not given, how the reading stands, how many lines may still come, and what its reader has left, where that is known
+-- a reader of lines: the bytes of the piece that it gave last, what was read and not given, how the reading stands, how many
+-- lines may still come, and what its reader has left, where that is known
 pub record LinesValue : Type 0 where
   pub piece : List ℕ
   pub held : List ℕ
@@ -48,11 +49,20 @@ pub record IsLong (most : ℕ) (v : LinesValue) : Type 0 where
   pub can_come : CanCome v (piece ∷ others)
   pub long : most < length (bytes_of piece)
 
+-- the next line is given
+abbrev pub GivesLine : LinesValue → LinesValue → Type 0
+GivesLine old new =
+    CameBefore old (Line (next_line_number old.lines) new.piece) new × (old.lines ≡ new.lines + 1) × (length new.piece ≤ MAX_UNENDED)
+
+-- a piece of this kind with these bytes can come, and then nothing else
+abbrev pub CanEndIn : LinesValue → (ℕ → List ℕ → PieceValue) → List ℕ → Type 0
+CanEndIn v piece bytes = CanCome v (piece (next_line_number v.lines) bytes ∷ [])
+
 -- what a reader of lines gives next, where it looks for the end of a line in this many bytes
 abbrev pub Gives : ℕ → LinesValue → NextPiece → LinesValue → Type 0
-Gives most old next.Line new = CameBefore old (Line (next_line_number old.lines) new.piece) new × (old.lines ≡ new.lines + 1) × (length new.piece ≤ MAX_UNENDED)
-Gives most old next.Rest new = CanCome old (Rest (next_line_number old.lines) new.piece ∷ []) × (new.lines ≡ old.lines) × (length new.piece ≤ most)
-Gives most old next.Failed new = CanCome old (Failed (next_line_number old.lines) old.held ∷ []) × (length old.held ≤ most) × (new ≡ old)
+Gives most old next.Line new = GivesLine old new
+Gives most old next.Rest new = CanEndIn old Rest new.piece × (new.lines ≡ old.lines) × (length new.piece ≤ most)
+Gives most old next.Failed new = CanEndIn old Failed old.held × (length old.held ≤ most) × (new ≡ old)
 Gives most old next.Long new = IsLong most old × (new ≡ old)
 Gives most old next.TooMany new = CanCome old (TooMany ∷ []) × (new ≡ old)
 Gives most old next.End new = CanCome old [] × (new ≡ old)
@@ -74,9 +84,9 @@ ReadsOn old new = ((ps : List PieceValue) → CanCome new ps → CanCome old ps)
 
 -- what a reader of lines gives next, where it reads as much as it needs to tell
 abbrev pub Finds : ℕ → LinesValue → NextPiece → LinesValue → Type 0
-Finds most old next.Line new = CameBefore old (Line (next_line_number old.lines) new.piece) new × (old.lines ≡ new.lines + 1) × (length new.piece ≤ MAX_UNENDED)
-Finds most old next.Rest new = CanCome old (Rest (next_line_number old.lines) new.piece ∷ []) × (length new.piece ≤ most)
-Finds most old next.Failed new = (bytes : List ℕ) × CanCome old (Failed (next_line_number old.lines) bytes ∷ []) × (length bytes ≤ most)
+Finds most old next.Line new = GivesLine old new
+Finds most old next.Rest new = CanEndIn old Rest new.piece × (length new.piece ≤ most)
+Finds most old next.Failed new = (bytes : List ℕ) × CanEndIn old Failed bytes × (length bytes ≤ most)
 Finds most old next.Long new = IsLong most old
 Finds most old next.TooMany new = CanCome old (TooMany ∷ [])
 Finds most old next.End new = CanCome old []

@@ -80,7 +80,8 @@ pub(crate) fn read_behind<R: Read>(
     ensures len { vec_len buffer.new ≡ vec_len buffer.old }
     ensures before { take end buffer.new.items ≡ take end buffer.old.items }
     ensures within { IfOk result (λ n. n ≤ BLOCK) }
-    ensures took { IfOk result (λ n. Consumes (R.remaining reader.old) (R.remaining reader.new) (slice_range buffer.new.items end (end + n))) }
+    ensures took { IfOk result
+        (λ n. Consumes (R.remaining reader.old) (R.remaining reader.new) (slice_range buffer.new.items end (end + n))) }
     ensures ended { IfOk result (λ n. n ≡ 0 → IsAtEnd (R.remaining reader.new)) }
     ensures failed { OnErr result (Keeps (R.remaining reader.old) (R.remaining reader.new)) }
 {

@@ -66,9 +66,16 @@ impl<R: Read> Model for LineReader<R> {
 
     ghost use Rattle.sq_lines.specs.Buffered.{IsBuffered};
 
-    ghost view = { λ r. record { piece = slice_range r.buffer.items r.piece_start r.piece_end; held = slice_range r.buffer.items r.start r.end; reading = r.reading; lines = r.lines; known = R.remaining r.reader } };
+    ghost view = { λ r. record {
+      piece = slice_range r.buffer.items r.piece_start r.piece_end;
+      held = slice_range r.buffer.items r.start r.end;
+      reading = r.reading;
+      lines = r.lines;
+      known = R.remaining r.reader;
+    } };
 
-    ghost invariant = { λ r. IsBuffered r.buffer.items r.piece_start r.piece_end r.start r.searched r.end r.reading (R.remaining r.reader) };
+    ghost invariant = { λ r.
+        IsBuffered r.buffer.items r.piece_start r.piece_end r.start r.searched r.end r.reading (R.remaining r.reader) };
 }
 
 impl<R: Read> LineReader<R> {
