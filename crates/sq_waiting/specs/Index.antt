@@ -12,13 +12,16 @@ entry_cmp x y = ordering_then (nat_cmp x.0 y.0) (nat_cmp x.1 y.1)
 abbrev pub has_entry : BTreeSet (ℕ × ℕ) → ℕ → ℕ → Bool
 has_entry by_root root number = contains entry_cmp by_root (root, number)
 
--- the index has the root key with the arrival number or not, and the number is due or not, and else both sets have what they had
-pub record SetsEntry (root number : ℕ) (stands is_due : Bool) (old : BTreeSet (ℕ × ℕ)) (old_due : BTreeSet ℕ) (new : BTreeSet (ℕ × ℕ)) (new_due : BTreeSet ℕ) : Type 0 where
+-- the index has the root key with the arrival number or not, and the number is due or not, and else both sets have what they
+-- had
+pub record SetsEntry (root number : ℕ) (stands is_due : Bool)
+    (old : BTreeSet (ℕ × ℕ)) (old_due : BTreeSet ℕ) (new : BTreeSet (ℕ × ℕ)) (new_due : BTreeSet ℕ) : Type 0 where
   pub entries : (r n : ℕ) → has_entry new r n ≡ (if (root == r) && (number == n) then stands else has_entry old r n)
   pub due : (n : ℕ) → contains nat_cmp new_due n ≡ (if number == n then is_due else contains nat_cmp old_due n)
 
 -- both sets have what they had
-pub record HasSameEntries (old : BTreeSet (ℕ × ℕ)) (old_due : BTreeSet ℕ) (new : BTreeSet (ℕ × ℕ)) (new_due : BTreeSet ℕ) : Type 0 where
+pub record HasSameEntries
+    (old : BTreeSet (ℕ × ℕ)) (old_due : BTreeSet ℕ) (new : BTreeSet (ℕ × ℕ)) (new_due : BTreeSet ℕ) : Type 0 where
   pub entries : (root number : ℕ) → has_entry new root number ≡ has_entry old root number
   pub due : (number : ℕ) → contains nat_cmp new_due number ≡ contains nat_cmp old_due number
 
@@ -35,11 +38,13 @@ pub record IsNumberedBetween (by_root : BTreeSet (ℕ × ℕ)) (lo hi number : �
 -- the set has what it had, and else only arrival numbers of root keys from lo on and below hi
 pub record AddsBetween (by_root : BTreeSet (ℕ × ℕ)) (lo hi : ℕ) (old new : BTreeSet ℕ) : Type 0 where
   pub kept : (number : ℕ) → contains nat_cmp old number ≡ true → contains nat_cmp new number ≡ true
-  pub only : (number : ℕ) → contains nat_cmp new number ≡ true → (contains nat_cmp old number ≡ true) ⊎ IsNumberedBetween by_root lo hi number
+  pub only : (number : ℕ) → contains nat_cmp new number ≡ true
+      → (contains nat_cmp old number ≡ true) ⊎ IsNumberedBetween by_root lo hi number
 
 -- the set has the arrival numbers of all root keys from lo on and below hi
 abbrev pub HasAllBetween : BTreeSet (ℕ × ℕ) → ℕ → ℕ → BTreeSet ℕ → Type 0
-HasAllBetween by_root lo hi numbers = (root number : ℕ) → has_entry by_root root number ≡ true → is_between lo hi root ≡ true → contains nat_cmp numbers number ≡ true
+HasAllBetween by_root lo hi numbers =
+    (root number : ℕ) → has_entry by_root root number ≡ true → is_between lo hi root ≡ true → contains nat_cmp numbers number ≡ true
 
 -- the number is the least that the index has with the root key
 pub record IsFirstOf (by_root : BTreeSet (ℕ × ℕ)) (root number : ℕ) : Type 0 where

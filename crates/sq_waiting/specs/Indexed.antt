@@ -1,4 +1,5 @@
--- Waiting transactions as a map from arrival numbers, with an index by root key, and the numbers that are due: all below a bound, and those of a set.
+-- Waiting transactions as a map from arrival numbers, with an index by root key, and the numbers that are due: all below a
+-- bound, and those of a set.
 use Rattle.std.specs.Prelude.{◌≡◌, ◌<◌, ◌≤◌, ◌==◌, ◌||◌, nat_lt, ℕ, Bool, true, false, List, map, IsSome}
 use Rattle.std.specs.Option.{option_map_or}
 use Rattle.std.specs.Ordering.{nat_cmp}
@@ -21,11 +22,14 @@ arrival_of is_due entry = record { number = entry.0; txn = entry.1; is_due = is_
 abbrev pub arrivals_of : List (ℕ × TxnValue) → (ℕ → Bool) → List Arrival
 arrivals_of entries is_due = map (arrival_of is_due) entries
 
--- the index has exactly the map's transactions by root key, those of the set wait, and all numbers are below the next, which fits and isn't below the bound
-pub record IsIndexed (txns : BTreeMap ℕ TxnValue) (entries : BTreeSet (ℕ × ℕ)) (numbers : BTreeSet ℕ) (due_below next : ℕ) : Type 0 where
+-- the index has exactly the map's transactions by root key, those of the set wait, and all numbers are below the next, which
+-- fits and isn't below the bound
+pub record IsIndexed
+    (txns : BTreeMap ℕ TxnValue) (entries : BTreeSet (ℕ × ℕ)) (numbers : BTreeSet ℕ) (due_below next : ℕ) : Type 0 where
   pub ordered : tree.IsOrdered nat_cmp txns
   pub left : next ≤ no_number
   pub bound : due_below ≤ next
   pub below : (number : ℕ) → IsSome (tree.get nat_cmp txns number) → number < next
-  pub by_root : (root number : ℕ) → has_entry entries root number ≡ option_map_or (λ txn. txn.root == root) (tree.get nat_cmp txns number) false
+  pub by_root : (root number : ℕ)
+      → has_entry entries root number ≡ option_map_or (λ txn. txn.root == root) (tree.get nat_cmp txns number) false
   pub due : (number : ℕ) → set.contains nat_cmp numbers number ≡ true → IsSome (tree.get nat_cmp txns number)

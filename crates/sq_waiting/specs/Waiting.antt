@@ -49,13 +49,18 @@ numbered_from number (a ∷ arrivals) = record a { number = number } ∷ numbere
 abbrev pub no_number : ℕ
 no_number = 18446744073709551615
 
--- before one more waits: where there is no number for it, all are numbered anew from 0
+-- all with arrival numbers from 0 on
+abbrev pub numbered_anew : WaitingValue → WaitingValue
+numbered_anew w = record { arrivals = numbered_from 0 w.arrivals; next = length w.arrivals }
+
+-- before one more waits: where there is no number for it, all are numbered anew
 abbrev pub with_a_number_left : WaitingValue → WaitingValue
-with_a_number_left w = if w.next == no_number then record { arrivals = numbered_from 0 w.arrivals; next = length w.arrivals } else w
+with_a_number_left w = if w.next == no_number then numbered_anew w else w
 
 -- one more waits, after all others, with the next number
 abbrev pub with_last : WaitingValue → TxnValue → Bool → WaitingValue
-with_last w txn is_due = record { arrivals = w.arrivals ++ record { number = w.next; txn = txn; is_due = is_due } ∷ []; next = w.next + 1 }
+with_last w txn is_due =
+    record { arrivals = w.arrivals ++ record { number = w.next; txn = txn; is_due = is_due } ∷ []; next = w.next + 1 }
 
 -- it is due too if it passes
 abbrev pub due_if : (Arrival → Bool) → Arrival → Arrival

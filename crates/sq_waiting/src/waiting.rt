@@ -4,7 +4,7 @@ ghost use Rattle.std.specs.List.{list_any};
 ghost use Rattle.std.specs.List.Sorted.{IsStrictlyIncreasing};
 ghost use Rattle.sq_schema.specs.TxnValue.{TxnValue};
 ghost use Rattle.sq_waiting.specs.Index.{is_between};
-ghost use Rattle.sq_waiting.specs.Waiting.{WaitingValue, numbers_of, is_on, is_numbered, is_due_from, txn_at, without, numbered_from, no_number, with_a_number_left, with_last, with_due, IsMoreDue};
+ghost use Rattle.sq_waiting.specs.Waiting.{WaitingValue, numbers_of, is_on, is_numbered, is_due_from, txn_at, without, numbered_anew, no_number, with_a_number_left, with_last, with_due, IsMoreDue};
 
 use crate::index::{add_between, enter, first_of, strike};
 use sq_schema::{Root, Txn};
@@ -82,7 +82,8 @@ impl Waiting {
 
     /// The first that is due whose arrival number isn't below this one.
     pub fn next_due(&self, from: u64) -> Option<(u64, &Txn)>
-        ensures due { option_map {U = ℕ × TxnValue} (λ found. (found.0, found.1.now)) result ≡ option_map {U = ℕ × TxnValue} (λ a. (a.number, a.txn)) (find (is_due_from from) self.now.arrivals) }
+        ensures due { option_map {U = ℕ × TxnValue} (λ found. (found.0, found.1.now)) result
+            ≡ option_map {U = ℕ × TxnValue} (λ a. (a.number, a.txn)) (find (is_due_from from) self.now.arrivals) }
         ensures below { IfSome result (λ found. found.0 < no_number) }
         ensures rises { IsStrictlyIncreasing (numbers_of self.now.arrivals) }
     {
@@ -178,7 +179,7 @@ impl Waiting {
 
     // The same transactions with arrival numbers from 0 on.
     fn numbered_anew(&self) -> Result<Waiting, AllocError>
-        ensures anew { IfOk result (λ anew. anew ≡ record { arrivals = numbered_from 0 self.now.arrivals; next = length self.now.arrivals }) }
+        ensures anew { IfOk result (λ anew. anew ≡ numbered_anew self.now) }
         ensures left { IfOk result (λ anew. anew.next < no_number) }
     {
         let mut anew = Waiting::new(self.alloc, 0);
