@@ -18,9 +18,12 @@ IsStoreAnswer store (Apply txn) (Applied (Err Memory)) after = (log_length store
 IsStoreAnswer store (Take extent limit) (Taken (Ok cut)) after =
     IsCutOf store extent limit cut × (after ≡ without_between store extent.lo cut.end)
 IsStoreAnswer store (Take extent limit) (Taken (Err memory)) after = after ≡ store
-IsStoreAnswer store (Give families) (Given (Ok done)) after = (can_give store families.items ≡ true) × (after ≡ with_families store families.items)
-IsStoreAnswer store (Give families) (Given (Err back)) after = (can_give store families.items ≡ true) × (back.items ≡ families.items) × (after ≡ store)
-IsStoreAnswer store (Give families) (NotGiven back) after = (can_give store families.items ≡ false) × (back.items ≡ families.items) × (after ≡ store)
+IsStoreAnswer store (Give families) (Given (Ok done)) after =
+    (can_give store families.items ≡ true) × (after ≡ with_families store families.items)
+IsStoreAnswer store (Give families) (Given (Err back)) after =
+    (can_give store families.items ≡ true) × (back.items ≡ families.items) × (after ≡ store)
+IsStoreAnswer store (Give families) (NotGiven back) after =
+    (can_give store families.items ≡ false) × (back.items ≡ families.items) × (after ≡ store)
 IsStoreAnswer store command answer after = ⊥
 
 -- the answers to commands in their order, and the store after them

@@ -14,4 +14,5 @@ total_size families = sum_by family_size families
 pub record IsFullest (store : StoreValue) (lo hi limit end : ℕ) : Type 0 where
   pub fits : (total_size (families_between store lo end) ≤ limit) ⊎ (length (families_between store lo end) ≡ 1)
   pub some : end < hi → 0 < length (families_between store lo end)
-  pub next : end < hi → (family : FamilyValue) × (get store end ≡ Some family) × (limit < total_size (families_between store lo end) + family_size family)
+  pub next : end < hi → (family : FamilyValue) × (get store end ≡ Some family)
+      × (limit < total_size (families_between store lo end) + family_size family)

@@ -1,4 +1,5 @@
 pub mod StoreValue
+pub mod Codes
 pub mod InOrder
 pub mod Listed
 pub mod Merging

@@ -14,6 +14,7 @@ IsFirstTaken [] taken after = (taken ≡ None) × (after ≡ [])
 IsFirstTaken (family ∷ families) taken after = (taken ≡ Some family) × (after ≡ families)
 
 -- the first family of one of the two lists is taken, and the other list stays
-abbrev pub TakesNext : Bool → List FamilyValue → List FamilyValue → Option FamilyValue → List FamilyValue → List FamilyValue → Type 0
+abbrev pub TakesNext : Bool → List FamilyValue → List FamilyValue → Option FamilyValue
+    → List FamilyValue → List FamilyValue → Type 0
 TakesNext true left right taken left_after right_after = IsFirstTaken left taken left_after × (right_after ≡ right)
 TakesNext false left right taken left_after right_after = IsFirstTaken right taken right_after × (left_after ≡ left)

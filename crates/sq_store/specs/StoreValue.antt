@@ -1,5 +1,5 @@
 -- What a store contains: a finite map from root keys to families, however it is kept.
-use Rattle.std.specs.Prelude.{ℕ, Bool, true, ◌==◌, ◌&&◌, not, nat_le, nat_lt, if◌then◌else◌, List, [], ◌∷◌, ◌++◌, length, map, fold, filter, Option, Some, None, is_none, unwrap_or, find}
+use Rattle.std.specs.Prelude.{ℕ, Bool, true, ◌==◌, ◌&&◌, not, nat_le, nat_lt, if◌then◌else◌, List, [], ◌∷◌, length, map, fold, filter, Option, Some, None, is_none, unwrap_or, find}
 use Rattle.std.specs.List.{list_any, list_all}
 use Rattle.std.specs.Ordering.{nat_cmp}
 use Rattle.std.specs.FinMap.{FinMap, get, insert, entries, from_entries, retain_keys}
@@ -8,6 +8,7 @@ use Rattle.sq_schema.specs.declared.txn.Reply.{Reply}
 use Rattle.sq_schema.specs.declared.txn.Reply.TheVariants.{Committed, Aborted}
 use Rattle.sq_schema.specs.Effect.{reply}
 use Rattle.sq_schema.specs.Family.{FamilyValue, rows_of, rows_size, folded}
+pub use Rattle.sq_schema.specs.Family.{logged as with_txn}
 use Rattle.sq_ranges.specs.CutEnd.{end_of}
 
 -- the families of a store by root key
@@ -29,10 +30,6 @@ log_length store root = length (family_at store root).log
 -- what a transaction is answered on the family of its root key
 abbrev pub store_reply : StoreValue → TxnValue → Reply
 store_reply store txn = reply (rows_of (family_at store txn.root)) txn
-
--- a family with a transaction at the end of its log
-abbrev pub with_txn : FamilyValue → TxnValue → FamilyValue
-with_txn family txn = record { root = family.root; base = family.base; log = family.log ++ txn ∷ [] }
 
 -- the store after a transaction with this reply: one that commits goes to the end of its family's log
 abbrev pub store_after : StoreValue → TxnValue → Reply → StoreValue

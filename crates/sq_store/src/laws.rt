@@ -15,13 +15,15 @@ pub fn takes_what_is_between()
 
 /// Without the families between two root keys a store is at each other root key as it was.
 pub fn keeps_what_is_not_between()
-    ensures { (lo hi : ℕ) (store : StoreValue) (root : ℕ) → get (without_between store lo hi) root ≡ (if nat_le lo root && nat_lt root hi then None else get store root) }
+    ensures { (lo hi : ℕ) (store : StoreValue) (root : ℕ)
+        → get (without_between store lo hi) root ≡ (if nat_le lo root && nat_lt root hi then None else get store root) }
 {}
 
 /// With families whose root keys differ a store has each of these, and is at each other root key as it was.
 pub fn gets_what_it_is_given()
     ensures { (families : List FamilyValue) (store : StoreValue) (root : ℕ) → IsTrue (roots_differ families)
-        → get (with_families store families) root ≡ (if is_some (family_in families root) then family_in families root else get store root) }
+        → get (with_families store families) root
+        ≡ (if is_some (family_in families root) then family_in families root else get store root) }
 {}
 
 /// With its logs folded a store has each family as it starts anew from its rows, and none of those without rows.
@@ -31,22 +33,26 @@ pub fn folds_each_family()
 
 /// What was taken of a store makes it again.
 pub fn is_the_same_with_what_was_taken()
-    ensures { (store : StoreValue) (lo hi : ℕ) → HoldsByRoot store → with_families (without_between store lo hi) (families_between store lo hi) ≡ store }
+    ensures { (store : StoreValue) (lo hi : ℕ) → HoldsByRoot store
+        → with_families (without_between store lo hi) (families_between store lo hi) ≡ store }
 {}
 
 /// Families may be given that were taken: root keys that rise differ, and none of them stands any more.
 pub fn has_none_of_what_was_taken()
     ensures differ { (families : List FamilyValue) (lo hi : ℕ) → IsTrue (are_within lo hi families) → IsTrue (roots_differ families) }
-    ensures absent { (store : StoreValue) (lo hi : ℕ) → HoldsByRoot store → IsTrue (has_none_of (without_between store lo hi) (families_between store lo hi)) }
+    ensures absent { (store : StoreValue) (lo hi : ℕ) → HoldsByRoot store
+        → IsTrue (has_none_of (without_between store lo hi) (families_between store lo hi)) }
 {}
 
 /// A store has none of families exactly if none stands at any of their root keys.
 pub fn has_none_of_absent_families()
-    ensures { (store : StoreValue) (families : List FamilyValue) → IsTrue (has_none_of store families) ↔ All (λ family. get store family.root ≡ None) families }
+    ensures { (store : StoreValue) (families : List FamilyValue)
+        → IsTrue (has_none_of store families) ↔ All (λ family. get store family.root ≡ None) families }
 {}
 
 /// A cut takes as many families as fit, but at least one where there is one, and ends within its extent.
 pub fn takes_as_many_as_fit()
     ensures { (store : StoreValue) (lo hi limit : ℕ) → HoldsByRoot store → lo ≤ hi
-        → (lo ≤ take_end store lo hi limit) × (take_end store lo hi limit ≤ hi) × IsFullest store lo hi limit (take_end store lo hi limit) }
+        → (lo ≤ take_end store lo hi limit) × (take_end store lo hi limit ≤ hi)
+        × IsFullest store lo hi limit (take_end store lo hi limit) }
 {}

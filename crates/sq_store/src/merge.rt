@@ -24,7 +24,8 @@ pub(crate) fn merge(into: &mut Vec<Family>, mut left: VecDeque<Family>, mut righ
 
 // Takes the family of the lesser root key off the front of one of the two.
 fn next(left: &mut VecDeque<Family>, right: &mut VecDeque<Family>) -> Option<Family>
-    ensures { TakesNext (is_first_next left.old.items right.old.items) left.old.items right.old.items result left.new.items right.new.items }
+    ensures { TakesNext (is_first_next left.old.items right.old.items)
+        left.old.items right.old.items result left.new.items right.new.items }
 {
     if comes_first(left, right) {
         left.pop_front()

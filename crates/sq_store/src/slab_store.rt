@@ -34,16 +34,13 @@ pub struct SlabStore {
 }
 
 impl Model for SlabStore {
-    ghost use Rattle.std.specs.Coded.{Coded, coded_ℕ, codes};
-    ghost use Rattle.std.specs.Ordering.{nat_cmp};
-    ghost use Rattle.std.specs.FinMap as fin;
-    ghost use Rattle.sq_schema.specs.Family.{FamilyValue};
     ghost use Rattle.sq_store.specs.StoreValue.{StoreValue};
+    ghost use Rattle.sq_store.specs.Codes.{store_coded};
     ghost use Rattle.sq_store.specs.Indexed.{indexed, IsIndex};
 
     ghost Value = { StoreValue };
 
-    ghost coded = { let family : Coded FamilyValue = Prim.hlevel codes in fin.code coded_ℕ family };
+    ghost coded = { store_coded };
 
     ghost view = { λ s. indexed s.families s.index };
 
@@ -159,7 +156,8 @@ impl SlabStore {
     // How many families from one root key on and below another fit into this many bytes, and where they end.
     fn fit(&self, lo: u64, hi: u64, room: u64) -> (usize, u64)
         requires { lo ≤ hi }
-        ensures end { result.1 ≡ end_within (stored_size self.now) hi room (map (λ family. family.root) (families_between self.now lo hi)) }
+        ensures end { result.1
+            ≡ end_within (stored_size self.now) hi room (map (λ family. family.root) (families_between self.now lo hi)) }
         ensures count { result.0 ≡ length (families_between self.now lo result.1) }
         ensures bound { result.0 ≤ ROOT_END }
         ensures from { lo ≤ result.1 }

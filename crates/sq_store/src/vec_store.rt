@@ -24,16 +24,13 @@ pub struct VecStore {
 
 impl Model for VecStore {
     ghost use Rattle.std.specs.Prelude.{IsTrue};
-    ghost use Rattle.std.specs.Coded.{Coded, coded_ℕ, codes};
-    ghost use Rattle.std.specs.Ordering.{nat_cmp};
-    ghost use Rattle.std.specs.FinMap as fin;
-    ghost use Rattle.sq_schema.specs.Family.{FamilyValue};
     ghost use Rattle.sq_store.specs.StoreValue.{StoreValue};
+    ghost use Rattle.sq_store.specs.Codes.{store_coded};
     ghost use Rattle.sq_store.specs.Listed.{roots_rise, store_of};
 
     ghost Value = { StoreValue };
 
-    ghost coded = { let family : Coded FamilyValue = Prim.hlevel codes in fin.code coded_ℕ family };
+    ghost coded = { store_coded };
 
     ghost view = { λ s. store_of s.families.items };
 
