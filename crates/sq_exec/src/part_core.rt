@@ -38,18 +38,18 @@ pub struct PartCore<S: FamilyStore> {
 }
 
 impl<S: FamilyStore> Model for PartCore<S> {
-    ghost use Rattle.std.specs.List.{list_all};
     ghost use Rattle.std.specs.Coded.{codes};
-    ghost use Rattle.sq_store.proofs.Codes.{store_coded};
-    ghost use Rattle.sq_waiting.specs.Waiting.{numbers_of};
+    ghost use Rattle.sq_store.specs.Codes.{store_coded};
     ghost use Rattle.sq_exec.specs.CoreValue.{PartCoreValue};
-    ghost use Rattle.sq_exec.specs.Kept.{IsCore};
 
     ghost Value = { PartCoreValue };
 
     ghost coded = { Prim.hlevel (codes, store_coded) };
 
+    ghost use Rattle.std.specs.List.{list_all};
+    ghost use Rattle.sq_waiting.specs.Waiting.{numbers_of};
     ghost use Rattle.sq_exec.specs.CoreInside.{core_inside};
+    ghost use Rattle.sq_exec.specs.Kept.{IsCore};
 
     ghost view = { λ p. record {
       core = core_inside S.contents p;
