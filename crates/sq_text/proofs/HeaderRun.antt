@@ -19,8 +19,8 @@ use Rattle.sq_ranges.specs.declared.fault.OpeningFault.TheVariants as opening
 use Rattle.sq_ranges.specs.OpeningValue.{OpeningValue}
 use Rattle.sq_ranges.specs.Between.{recon_of}
 use Rattle.sq_ranges.specs.Fault.{of_row}
-use Rattle.sq_ranges.specs.Given.{GivenValue, value_of, no_rows, with_one, IsOpeningOf}
-use Rattle.sq_ranges.specs.Refused.{config_fault, shape_fault, given_fault, MayRefuse}
+use Rattle.sq_ranges.specs.Given.{GivenValue, value_of, with_one, IsOpeningOf}
+use Rattle.sq_ranges.specs.Refused.{shape_fault, given_fault, MayRefuse}
 use Rattle.sq_lines.specs.Pieces.{PieceValue, Line, Rest, Failed, Endless, TooMany, bytes_of, next_begins}
 use Rattle.sq_lines.specs.Coming.{LinesValue, CanCome, ReadsOn, Leaves}
 use Rattle.sq_lines.proofs.Comings.{some_pieces}
@@ -33,7 +33,7 @@ use Rattle.sq_text.specs.declared.located.InputLine.TheVariants as line
 use Rattle.sq_text.specs.declared.located.LocatedFault.{LocatedFault}
 use Rattle.sq_text.specs.InputFaults.{◌>>=◌, IsRead, IsReadGivenMemory}
 use Rattle.sq_text.specs.Located.{at_line, located, line_number, of_opening}
-use Rattle.sq_text.specs.Header.{line_in, next_line, line_as, plan_behind, config_of, given_of, first_lines, IsReadBefore, unless_faulty, HeaderValue, plans_of, row_taken, rows_taken, header_of, header_in, Opens}
+use Rattle.sq_text.specs.Header.{line_in, next_line, line_as, plan_behind, config_of, given_of, first_lines, IsReadBefore, unless_faulty, HeaderValue, plans_fault, header_of_first, plans_of, row_taken, rows_taken, header_of, header_in, Opens}
 
 -- a line that isn't too long
 pub short_line : (number : ℕ) (line : List ℕ) (others : List PieceValue) → length line ≤ MAX_LINE → next_line (Line number line ∷ others) ≡ Ok (line, others)
@@ -53,54 +53,18 @@ long_piece piece others long = rw (long_in piece long) refl
 came : {X Y : Type 0} (view : X → Y) (read : List ℕ → Result Y InputFault) (r : Result X InputFault) (first : Result (List ℕ × List PieceValue) InputFault) (line : List ℕ) (left : List PieceValue) → first ≡ Ok (line, left) → IsReadGivenMemory view r (read line)
     → IsReadGivenMemory {Y = Y × List PieceValue} (λ x. (view x, left)) r (first >>= λ next. read next.0 >>= λ value. Ok (value, next.1))
 came view read (Ok x) first line left e is = rw (e, is) refl
-came view read (Err fault.Memory) first line left e is = tt
-came view read (Err (fault.Plan f)) first line left e is = rw (e, is) refl
-came view read (Err (fault.Opening f)) first line left e is = rw (e, is) refl
-came view read (Err fault.BadHeader) first line left e is = rw (e, is) refl
-came view read (Err fault.TooLong) first line left e is = rw (e, is) refl
-came view read (Err fault.ReadFailed) first line left e is = rw (e, is) refl
-came view read (Err fault.LineTooLong) first line left e is = rw (e, is) refl
-
--- a fault of what is read, unless it is want of memory
-told : {X Y : Type 0} (view : X → Y) (f : InputFault) (wanted : Result Y InputFault) → wanted ≡ Err f → IsReadGivenMemory view (Err f) wanted
-told view fault.Memory wanted e = tt
-told view (fault.Plan f) wanted e = e
-told view (fault.Opening f) wanted e = e
-told view fault.BadHeader wanted e = e
-told view fault.TooLong wanted e = e
-told view fault.ReadFailed wanted e = e
-told view fault.LineTooLong wanted e = e
-
--- a fault that isn't want of memory is told
-is_told : {X Y : Type 0} (f : InputFault) (view : X → Y) (wanted : Result Y InputFault) → f ≢ fault.Memory → IsReadGivenMemory view (Err f) wanted → wanted ≡ Err f
-is_told fault.Memory view wanted apart e = absurd (apart refl)
-is_told (fault.Plan f) view wanted apart e = e
-is_told (fault.Opening f) view wanted apart e = e
-is_told fault.BadHeader view wanted apart e = e
-is_told fault.TooLong view wanted apart e = e
-is_told fault.ReadFailed view wanted apart e = e
-is_told fault.LineTooLong view wanted apart e = e
+came view read (Err f) first line left e is = λ apart. rw (e, is apart) refl
 
 pub of_read : {X Y : Type 0} (view : X → Y) (r : Result X InputFault) (wanted : Result Y InputFault) → IsRead view r wanted → IsReadGivenMemory view r wanted
 of_read view (Ok x) wanted e = e
-of_read view (Err f) wanted e = told view f wanted e
-
--- the same, whatever it is seen by
-told_again : {X Y : Type 0} (f : InputFault) (view : X → Y) (wanted : Result Y InputFault) → IsReadGivenMemory view (Err f) wanted → IsReadGivenMemory {X = Y} {Y = Y} (λ y. y) (Err f) wanted
-told_again fault.Memory view wanted e = tt
-told_again (fault.Plan f) view wanted e = e
-told_again (fault.Opening f) view wanted e = e
-told_again fault.BadHeader view wanted e = e
-told_again fault.TooLong view wanted e = e
-told_again fault.ReadFailed view wanted e = e
-told_again fault.LineTooLong view wanted e = e
+of_read view (Err f) wanted e = λ apart. e
 
 pub line_read : {X Y : Type 0} (view : X → Y) (read : List ℕ → Result Y InputFault) (r : Result X InputFault) (line : List ℕ) (old new : LinesValue) → Leaves old new (λ all left. next_line all ≡ Ok (line, left)) → IsReadGivenMemory view r (read line)
     → Leaves old new (λ all left. IsReadGivenMemory (λ x. (view x, left)) r (line_as read all))
 line_read view read r line old new reads is = λ left can. let n = reads left can in (n.0, n.1, came view read r (next_line n.0) line left n.2 is)
 
 pub none_read : {X Y : Type 0} (view : X → Y) (read : List ℕ → Result Y InputFault) (f : InputFault) (old new : LinesValue) → Leaves old new (λ all left. next_line all ≡ Err f) → Leaves old new (λ all left. IsReadGivenMemory (λ x. (view x, left)) (Err f) (line_as read all))
-none_read view read f old new reads = λ left can. let n = reads left can in (n.0, n.1, told (λ x. (view x, left)) f (line_as read n.0) (rw n.2 refl))
+none_read view read f old new reads = λ left can. let n = reads left can in (n.0, n.1, λ apart. rw n.2 refl)
 
 -- ---- opening rows
 
@@ -173,7 +137,7 @@ module _ (tables : ℕ) (table : RowTable) (at : ℕ) (old new : LinesValue) whe
   pub row_malformed : (now : RowTable) (f : InputFault) → Leaves old new (λ all left. IsReadGivenMemory {X = GivenRow} {Y = GivenValue × List PieceValue} (λ row. (value_of row, left)) (Err f) (line_as given_of all)) → RowRead tables table at now (Err (located f (Some (line.Row at)))) old new
   row_malformed now f reads = λ left can.
       let m = reads left can in
-      (m.0, m.1, λ apart. rw (is_told {X = GivenRow} f (λ row. (value_of row, left)) (line_as given_of m.0) apart m.2) refl)
+      (m.0, m.1, λ apart. rw (m.2 apart) refl)
 
   pub row_unread : (now : RowTable) → RowRead tables table at now (Err (located fault.Memory None)) old new
   row_unread now = λ left can. let some = some_pieces old in (some.pieces, some.can_come, λ apart. absurd (apart refl))
@@ -216,6 +180,10 @@ other_table o mid now before after = after ∙ ap (λ (p : OpeningValue). record
 abbrev pub RowsSoFar : ℕ → RowTable → LinesValue → LinesValue → RowTable → ℕ → Type 0
 RowsSoFar tables table first now taken at = Leaves first now (λ all left. rows_taken tables taken at left ≡ rows_taken tables table 0 all)
 
+-- the row is taken for these tables and at this place, if what it is taken for and at are these
+pub row_read_at : (tables also_tables : ℕ) (table : RowTable) (at also_at : ℕ) (now : RowTable) (r : Result Unit LocatedFault) (old new : LinesValue) → also_tables ≡ tables → also_at ≡ at → RowRead also_tables table also_at now r old new → RowRead tables table at now r old new
+row_read_at tables also_tables table at also_at now r old new same_tables same_at read = subst (λ n. RowRead n table at now r old new) same_tables (subst (λ n. RowRead also_tables table n now r old new) same_at read)
+
 pub no_rows_yet : (tables : ℕ) (table : RowTable) (first : LinesValue) (at : ℕ) → at ≡ 0 → RowsSoFar tables table first first table at
 no_rows_yet tables table first at zero = λ left can. (left, can, ap (λ n. rows_taken tables table n left) zero)
 
@@ -240,9 +208,9 @@ module _ (tables : ℕ) (table taken : RowTable) (at : ℕ) (first now mid new :
 -- ---- whole headers
 
 -- a header whose fault this is, or of which nothing is told
-pub refused : {Y : Type 0} (f : InputFault) (line : InputLine) (left : List PieceValue) (wanted : Result (FirstLines × List PieceValue) LocatedFault) (view : Y → Y) (read : Result Y InputFault) → IsReadGivenMemory view (Err f) read → (at_line line read ≡ Err (located f (Some line)) → wanted ≡ Err (located f (Some line)))
+pub refused : {Y : Type 0} (f : InputFault) (line : InputLine) (left : List PieceValue) (wanted : Result (FirstLines × List PieceValue) LocatedFault) (read : Result Y InputFault) → (f ≢ fault.Memory → read ≡ Err f) → (at_line line read ≡ Err (located f (Some line)) → wanted ≡ Err (located f (Some line)))
     → IsReadBefore {X = FirstLines} {Y = FirstLines} (λ first. first) (Err (located f (Some line))) left wanted
-refused f line left wanted view read is follows = λ apart. follows (ap (at_line line) (is_told f view read apart is))
+refused f line left wanted read is follows = λ apart. follows (ap (at_line line) (is apart))
 
 -- the next line is read so
 abbrev pub Reads : {Y : Type 0} → (List ℕ → Result Y InputFault) → Y → LinesValue → LinesValue → Type 0
@@ -250,7 +218,7 @@ Reads read y old new = Leaves old new (λ all left. line_as read all ≡ Ok (y, 
 
 -- or not, for this fault
 abbrev pub Fails : {Y : Type 0} → (List ℕ → Result Y InputFault) → InputFault → LinesValue → LinesValue → Type 0
-Fails {Y} read f old new = Leaves old new (λ all left. IsReadGivenMemory {X = Y} {Y = Y × List PieceValue} (λ y. (y, left)) (Err f) (line_as read all))
+Fails read f old new = Leaves old new (λ all left. f ≢ fault.Memory → line_as read all ≡ Err f)
 
 -- the first three lines are read so
 abbrev pub FirstRead : Result FirstLines LocatedFault → LinesValue → LinesValue → Type 0
@@ -258,20 +226,20 @@ FirstRead r old new = Leaves old new (λ all left. IsReadBefore (λ first. first
 
 pub no_old : (f : InputFault) (v0 v1 : LinesValue) → Fails (plan_behind (codes "old ")) f v0 v1 → FirstRead (Err (located f (Some line.Old))) v0 v1
 no_old f v0 v1 fails = λ left can. let a = fails left can in
-    (a.0, a.1, refused f line.Old left (first_lines a.0) (λ y. y) (line_as (plan_behind (codes "old ")) a.0) (told_again {X = PlanValue} f (λ y. (y, left)) _ a.2) (λ e. rw e refl))
+    (a.0, a.1, refused f line.Old left (first_lines a.0) (line_as (plan_behind (codes "old ")) a.0) a.2 (λ e. rw e refl))
 
 pub no_new : (f : InputFault) (old : PlanValue) (v0 v1 v2 : LinesValue) → Reads (plan_behind (codes "old ")) old v0 v1 → Fails (plan_behind (codes "new ")) f v1 v2 → FirstRead (Err (located f (Some line.New))) v0 v2
 no_new f old v0 v1 v2 first fails = λ left can.
     let b = fails left can in
     let a = first b.0 b.1 in
-    (a.0, a.1, refused f line.New left (first_lines a.0) (λ y. y) (line_as (plan_behind (codes "new ")) b.0) (told_again {X = PlanValue} f (λ y. (y, left)) _ b.2) (λ e. rw (a.2, e) refl))
+    (a.0, a.1, refused f line.New left (first_lines a.0) (line_as (plan_behind (codes "new ")) b.0) b.2 (λ e. rw (a.2, e) refl))
 
 pub no_config : (f : InputFault) (old new : PlanValue) (v0 v1 v2 v3 : LinesValue) → Reads (plan_behind (codes "old ")) old v0 v1 → Reads (plan_behind (codes "new ")) new v1 v2 → Fails config_of f v2 v3 → FirstRead (Err (located f (Some line.Config))) v0 v3
 no_config f old new v0 v1 v2 v3 first second fails = λ left can.
     let d = fails left can in
     let b = second d.0 d.1 in
     let a = first b.0 b.1 in
-    (a.0, a.1, refused f line.Config left (first_lines a.0) (λ y. y) (line_as config_of d.0) (told_again {X = Config} f (λ y. (y, left)) _ d.2) (λ e. rw (a.2, b.2, e) refl))
+    (a.0, a.1, refused f line.Config left (first_lines a.0) (line_as config_of d.0) d.2 (λ e. rw (a.2, b.2, e) refl))
 
 pub all_three : (old new : PlanValue) (config : Config) (v0 v1 v2 v3 : LinesValue) → Reads (plan_behind (codes "old ")) old v0 v1 → Reads (plan_behind (codes "new ")) new v1 v2 → Reads config_of config v2 v3 → FirstRead (Ok (record { old = old; new = new; config = config })) v0 v3
 all_three old new config v0 v1 v2 v3 first second third = λ left can.
@@ -284,28 +252,23 @@ all_three old new config v0 v1 v2 v3 first second third = λ left can.
 abbrev pub PlansRead : ℕ → Result OpeningValue LocatedFault → LinesValue → LinesValue → Type 0
 PlansRead tables r old new = Leaves old new (λ all left. Opens tables r left (plans_of all))
 
--- the plans and the sizes that first lines spell have this fault
-abbrev pub fault_of : FirstLines → Option OpeningFault
-fault_of first = config_fault first.old first.new first.config
-
 pub no_first : (tables : ℕ) (told : LocatedFault) (v0 v1 : LinesValue) → FirstRead (Err told) v0 v1 → PlansRead tables (Err told) v0 v1
 no_first tables told v0 v1 first = λ left can. let a = first left can in (a.0, a.1, λ apart. rw (a.2 apart) refl)
 
 module _ (tables : ℕ) (first : FirstLines) (v0 v1 : LinesValue) (begins : FirstRead (Ok first) v0 v1) where
-  pub plans_fit : (o : OpeningValue) → fault_of first ≡ None → IsOpeningOf tables first.old first.new first.config [] o → PlansRead tables (Ok o) v0 v1
+  pub plans_fit : (o : OpeningValue) → plans_fault first ≡ None → IsOpeningOf tables first.old first.new first.config [] o → PlansRead tables (Ok o) v0 v1
   plans_fit o none of = λ left can.
       let a = begins left can in
       let old = sym of.old_plan in
       let new = sym of.new_plan in
       let config = sym of.sizes in
-      let header : HeaderValue = record { old = first.old; new = first.new; config = first.config; rows = no_rows } in
-      let same : header ≡ header_in o = λ i. record { old = old i; new = new i; config = config i; rows = λ root. sym (of.table root) i } in
+      let same : header_of_first first ≡ header_in o = λ i. record { old = old i; new = new i; config = config i; rows = λ root. sym (of.table root) i } in
       (a.0, a.1, record { spelled = rw (a.2, none) (ap (λ (h : HeaderValue). Ok (h, left)) same); tables_are = of.tables_are; moves = rw (of.old_plan, of.new_plan, of.sizes) of.moves })
 
-  pub plans_refused : (f : OpeningFault) → MayRefuse (fault_of first) (fault_of first) f → PlansRead tables (Err (of_opening f)) v0 v1
+  pub plans_refused : (f : OpeningFault) → MayRefuse (plans_fault first) (plans_fault first) f → PlansRead tables (Err (of_opening f)) v0 v1
   plans_refused f may = λ left can.
       let a = begins left can in
-      (a.0, a.1, λ apart. let is : fault_of first ≡ Some f = fault_told (fault_of first) f may apart in rw (a.2, is) refl)
+      (a.0, a.1, λ apart. let is : plans_fault first ≡ Some f = fault_told (plans_fault first) f may apart in rw (a.2, is) refl)
 
 -- the line of a fault of an opening is none of the first two
 pub no_early_line : (f : OpeningFault) → IfSome (of_opening f).line (λ line. 3 ≤ line_number line)

@@ -82,8 +82,10 @@ first_lines pieces = do
   config ← at_line line.Config (line_as config_of new.1)
   Ok (record { old = old.0; new = new.0; config = config.0 }, config.1)
 
--- the answer, seen by view, is this, with what comes after it left to be read; or it is the first fault, unless memory ran out
-abbrev pub IsReadBefore : {X Y : Type 0} → (X → Y) → Result X LocatedFault → List PieceValue → Result (Y × List PieceValue) LocatedFault → Type 0
+-- the answer, seen by view, is this, with what comes after it left to be read; or it is the first fault, unless memory ran
+-- out
+abbrev pub IsReadBefore : {X Y : Type 0} → (X → Y) → Result X LocatedFault → List PieceValue
+    → Result (Y × List PieceValue) LocatedFault → Type 0
 IsReadBefore view (Ok x) left wanted = wanted ≡ Ok (view x, left)
 IsReadBefore view (Err refused) left wanted = refused.fault ≢ Memory → wanted ≡ Err refused
 
@@ -99,11 +101,19 @@ pub record HeaderValue : Type 0 where
   pub config : Config
   pub rows : RowTable
 
+-- why the plans and the sizes of the first lines make no opening
+abbrev pub plans_fault : FirstLines → Option OpeningFault
+plans_fault first = config_fault first.old first.new first.config
+
+-- the header of these first lines, without rows
+abbrev pub header_of_first : FirstLines → HeaderValue
+header_of_first first = record { old = first.old; new = first.new; config = first.config; rows = no_rows }
+
 -- the header without rows that pieces begin with, and what comes after its three lines; plans and sizes with a fault end it
 abbrev pub plans_of : List PieceValue → Result (HeaderValue × List PieceValue) LocatedFault
 plans_of pieces = do
   first ← first_lines pieces
-  unless_faulty (config_fault first.0.old first.0.new first.0.config) (record { old = first.0.old; new = first.0.new; config = first.0.config; rows = no_rows }, first.1)
+  unless_faulty (plans_fault first.0) (header_of_first first.0, first.1)
 
 -- the table with the row of the next line, which has this number, and what comes after it
 abbrev pub row_taken : ℕ → RowTable → ℕ → List PieceValue → Result (RowTable × List PieceValue) LocatedFault
@@ -111,7 +121,8 @@ row_taken tables table at pieces = do
   row ← at_line (line.Row at) (line_as given_of pieces)
   unless_faulty (given_fault tables table at row.0) (with_one table row.0, row.1)
 
--- as long as lines begin as a row's line does, their rows are taken one after another, numbered from this on; the first that isn't taken ends it
+-- as long as lines begin as a row's line does, their rows are taken one after another, numbered from this on; the first that
+-- isn't taken ends it
 abbrev pub rows_taken : ℕ → RowTable → ℕ → List PieceValue → Result (RowTable × List PieceValue) LocatedFault
 rows_taken tables table at [] = Ok (table, [])
 rows_taken tables table at (piece ∷ pieces) =
@@ -131,13 +142,15 @@ abbrev pub header_in : OpeningValue → HeaderValue
 header_in o = record { old = o.old; new = o.new; config = o.config; rows = rows_in o.table }
 
 -- the opening of what is spelled, for this many tables, with what comes after that left to be read
-pub record IsSpelledOpening (tables : ℕ) (o : OpeningValue) (left : List PieceValue) (wanted : Result (HeaderValue × List PieceValue) LocatedFault) : Type 0 where
+pub record IsSpelledOpening (tables : ℕ) (o : OpeningValue) (left : List PieceValue)
+    (wanted : Result (HeaderValue × List PieceValue) LocatedFault) : Type 0 where
   pub spelled : wanted ≡ Ok (header_in o, left)
   pub tables_are : o.tables ≡ tables
   pub moves : o.recon ≡ recon_of o.old o.new o.config.width
 
 -- the answer is the opening of what is spelled, or else the first fault, unless memory ran out
-abbrev pub Opens : ℕ → Result OpeningValue LocatedFault → List PieceValue → Result (HeaderValue × List PieceValue) LocatedFault → Type 0
+abbrev pub Opens : ℕ → Result OpeningValue LocatedFault → List PieceValue
+    → Result (HeaderValue × List PieceValue) LocatedFault → Type 0
 Opens tables (Ok opening) left wanted = IsSpelledOpening tables opening left wanted
 Opens tables (Err refused) left wanted = refused.fault ≢ Memory → wanted ≡ Err refused
 

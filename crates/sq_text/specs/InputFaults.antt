@@ -1,5 +1,5 @@
 -- Why an input gives no run, and what a reader of its header answers.
-use Rattle.std.specs.Prelude.{◌≡◌, ℕ, Result, Ok, Err}
+use Rattle.std.specs.Prelude.{◌≡◌, ◌≢◌, ℕ, Result, Ok, Err}
 use Rattle.sq_plan.specs.declared.fault.PlanFault.{PlanFault}
 use Rattle.sq_plan.specs.declared.fault.PlanFault.TheVariants as plan
 use Rattle.sq_plan.specs.Fault.{plan_fault_number}
@@ -45,6 +45,5 @@ IsRead view (Err fault) wanted = wanted ≡ Err fault
 
 -- the answer, seen by view, is this, unless memory ran out
 abbrev pub IsReadGivenMemory : {X Y : Type 0} → (X → Y) → Result X InputFault → Result Y InputFault → Type 0
-IsReadGivenMemory view (Err Memory) wanted = Unit {0}
-IsReadGivenMemory view (Err fault) wanted = wanted ≡ Err fault
 IsReadGivenMemory view (Ok x) wanted = wanted ≡ Ok (view x)
+IsReadGivenMemory view (Err fault) wanted = fault ≢ Memory → wanted ≡ Err fault

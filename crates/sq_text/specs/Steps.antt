@@ -25,13 +25,13 @@ pair_field words = do
 -- a segment, a node and a pull
 unfoldable pub pull_field : List Word → Option ((ℕ × ℕ × ℕ) × List Word)
 pull_field words = do
-  seg ← number_field words
-  node ← number_field seg.1
-  pull ← number_below (2 ^ 32) node.1
-  Some ((seg.0, node.0, pull.0), pull.1)
+  at ← pair_field words
+  pull ← number_below (2 ^ 32) at.1
+  Some ((at.0.0, at.0.1, pull.0), pull.1)
 
 -- the step that is made of what words spell
-abbrev pub step_of_field : {A : Type 0} → (List Word → Option (A × List Word)) → (A → Step) → List Word → Option (Step × List Word)
+abbrev pub step_of_field : {A : Type 0} → (List Word → Option (A × List Word)) → (A → Step) → List Word
+    → Option (Step × List Word)
 step_of_field field made words = do
   found ← field words
   Some (made found.0, found.1)

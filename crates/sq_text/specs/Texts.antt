@@ -90,7 +90,8 @@ mark_text false = codes "more"
 -- what a note says behind its link, and how many families its chunk holds
 abbrev pub note_words : Note → ℕ → List Word
 note_words note families =
-    decimal note.number ∷ decimal note.seg ∷ decimal note.node ∷ decimal note.lo ∷ decimal note.hi ∷ mark_text note.last ∷ decimal families ∷ []
+    decimal note.number ∷ decimal note.seg ∷ decimal note.node ∷ decimal note.lo ∷ decimal note.hi
+    ∷ mark_text note.last ∷ decimal families ∷ []
 
 -- the status of a node, with the pull that has the node
 abbrev pub status_text : Status → List ℕ

@@ -29,7 +29,8 @@ verb_word Status = codes "status"
 unfoldable pub verb_in : Word → Option Verb
 verb_in word =
     find (λ verb. bytes_eq (verb_word verb) word)
-    (Prepare ∷ Start ∷ Resume ∷ Split ∷ Claim ∷ Begin ∷ Cut ∷ Push ∷ Pop ∷ Load ∷ Complete ∷ Report ∷ Next ∷ Finish ∷ Fold ∷ Status ∷ [])
+    (Prepare ∷ Start ∷ Resume ∷ Split ∷ Claim ∷ Begin ∷ Cut ∷ Push ∷ Pop ∷ Load ∷ Complete ∷ Report ∷ Next ∷ Finish ∷ Fold
+    ∷ Status ∷ [])
 
 -- the word that stands for an operation
 abbrev pub op_word : OpName → Word

@@ -100,7 +100,8 @@ fn sizes(line: &[u8]) -> Result<Config, InputFault>
 
 // The sizes of the next line.
 fn config_line<R: Read>(lines: &mut LineReader<R>) -> Result<Config, InputFault>
-    ensures config { Leaves lines.old lines.new (λ all left. IsReadGivenMemory (λ config. (config, left)) result (line_as config_of all)) }
+    ensures config { Leaves lines.old lines.new
+        (λ all left. IsReadGivenMemory (λ config. (config, left)) result (line_as config_of all)) }
     ensures one_line { lines.old.lines ≤ lines.new.lines + 1 }
 {
     next_line(lines)?;
@@ -139,7 +140,8 @@ fn row(alloc: Global, line: &[u8]) -> Result<GivenRow, InputFault>
 
 // The opening row of the next line.
 fn row_line<R: Read>(alloc: Global, lines: &mut LineReader<R>) -> Result<GivenRow, InputFault>
-    ensures row { Leaves lines.old lines.new (λ all left. IsReadGivenMemory (λ row. (value_of row, left)) result (line_as given_of all)) }
+    ensures row { Leaves lines.old lines.new
+        (λ all left. IsReadGivenMemory (λ row. (value_of row, left)) result (line_as given_of all)) }
     ensures one_line { lines.old.lines ≤ lines.new.lines + 1 }
     ensures fewer { OnOk result (lines.old.lines ≡ lines.new.lines + 1) }
 {

@@ -14,7 +14,6 @@ mod number;
 mod op;
 mod output_fault;
 mod row_text;
-mod split;
 mod step;
 mod text;
 mod verb;

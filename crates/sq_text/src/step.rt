@@ -29,7 +29,8 @@ fn pair(words: &mut Words<'_>) -> Result<(u64, u64), Malformed>
 fn pull(words: &mut Words<'_>) -> Result<(u64, u64, u32), Malformed>
     ensures { IsParsed (λ pull. (pull, words.new)) result (pull_field words.old) }
 {
-    Ok((words.number()?, words.number()?, words.small()?))
+    let (seg, node) = pair(words)?;
+    Ok((seg, node, words.small()?))
 }
 
 // The step of this verb.
@@ -41,46 +42,19 @@ fn step(verb: Verb, words: &mut Words<'_>) -> Result<Step, Malformed>
         Verb::Prepare => Ok(Step::Prepare(words.number()?)),
         Verb::Start => Ok(Step::Start),
         Verb::Resume => Ok(Step::Resume(words.number()?)),
-        Verb::Split => {
-            let (seg, node) = pair(words)?;
-            Ok(Step::Split { seg, node })
-        }
-        Verb::Claim => {
-            let (seg, node, pull) = pull(words)?;
-            Ok(Step::Claim { seg, node, pull })
-        }
-        Verb::Begin => {
-            let (seg, node, pull) = pull(words)?;
-            Ok(Step::Begin { seg, node, pull })
-        }
-        Verb::Cut => {
-            let (src, dst) = pair(words)?;
-            Ok(Step::Cut { src, dst })
-        }
-        Verb::Push => {
-            let (src, dst) = pair(words)?;
-            Ok(Step::Push { src, dst })
-        }
-        Verb::Pop => {
-            let (src, dst) = pair(words)?;
-            Ok(Step::Pop { src, dst })
-        }
-        Verb::Load => {
-            let (src, dst) = pair(words)?;
-            Ok(Step::Load { src, dst })
-        }
-        Verb::Complete => {
-            let (seg, node, pull) = pull(words)?;
-            Ok(Step::Complete { seg, node, pull })
-        }
+        Verb::Split => pair(words).map(|(seg, node)| Step::Split { seg, node }),
+        Verb::Claim => pull(words).map(|(seg, node, pull)| Step::Claim { seg, node, pull }),
+        Verb::Begin => pull(words).map(|(seg, node, pull)| Step::Begin { seg, node, pull }),
+        Verb::Cut => pair(words).map(|(src, dst)| Step::Cut { src, dst }),
+        Verb::Push => pair(words).map(|(src, dst)| Step::Push { src, dst }),
+        Verb::Pop => pair(words).map(|(src, dst)| Step::Pop { src, dst }),
+        Verb::Load => pair(words).map(|(src, dst)| Step::Load { src, dst }),
+        Verb::Complete => pull(words).map(|(seg, node, pull)| Step::Complete { seg, node, pull }),
         Verb::Report => Ok(Step::Report(words.number()?)),
         Verb::Next => Ok(Step::Next),
         Verb::Finish => Ok(Step::Finish),
         Verb::Fold => Ok(Step::Fold(words.number()?)),
-        Verb::Status => {
-            let (seg, node) = pair(words)?;
-            Ok(Step::Status { seg, node })
-        }
+        Verb::Status => pair(words).map(|(seg, node)| Step::Status { seg, node }),
     }
 }
 

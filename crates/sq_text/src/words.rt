@@ -1,7 +1,7 @@
 // The words of a line.
-ghost use Rattle.std.specs.Prelude.{◌≡◌, [], ◌∷◌, MatchOption};
+ghost use Rattle.std.specs.Prelude.{◌≡◌, ◌==◌, [], ◌∷◌, MatchOption, position};
 
-use crate::split::{split_once, split_once_far};
+use sq_lines::place_of;
 use std::marker::Model;
 
 /// The words of a line that are left to read: the parts between its spaces. Where two spaces follow one another, or one
@@ -35,7 +35,7 @@ impl<'a> Words<'a> {
         ensures { MatchOption result ((self.old ≡ []) × (self.new ≡ [])) (λ word. self.old ≡ word.now ∷ self.new) }
     {
         let rest = self.rest?;
-        Some(self.take(rest, split_once(b' ', rest)))
+        Some(self.take(rest, near_place_of(b' ', rest)))
     }
 
     /// The same, for a word that may be long.
@@ -43,18 +43,18 @@ impl<'a> Words<'a> {
         ensures { MatchOption result ((self.old ≡ []) × (self.new ≡ [])) (λ word. self.old ≡ word.now ∷ self.new) }
     {
         let rest = self.rest?;
-        Some(self.take(rest, split_once_far(b' ', rest)))
+        Some(self.take(rest, place_of(b' ', rest)))
     }
 
-    // The first of these bytes' words, which are split behind it where it isn't the last; the others are left.
-    fn take(&mut self, bytes: &'a [u8], split: Option<(&'a [u8], &'a [u8])>) -> &'a [u8]
-        requires { MatchOption split (words_of bytes.now ≡ bytes.now ∷ []) (λ x. words_of bytes.now ≡ x.0.now ∷ words_of x.1.now) }
+    // The first of these bytes' words, which the first space ends, if they have one; the others are left.
+    fn take(&mut self, bytes: &'a [u8], space: Option<usize>) -> &'a [u8]
+        requires { space ≡ position (λ b. b == 32) bytes.now }
         ensures { words_of bytes.now ≡ result.now ∷ self.new }
     {
-        match split {
-            Some((word, rest)) => {
-                self.rest = Some(rest);
-                word
+        match space {
+            Some(at) => {
+                self.rest = Some(&bytes[at + 1..]);
+                &bytes[..at]
             }
             None => {
                 self.rest = None;
@@ -62,4 +62,11 @@ impl<'a> Words<'a> {
             }
         }
     }
+}
+
+// The first place of a byte, which is looked for byte by byte.
+fn near_place_of(byte: u8, bytes: &[u8]) -> Option<usize>
+    ensures { result ≡ position (λ b. b == byte) bytes.now }
+{
+    bytes.iter().position(|b| *b == byte)
 }
