@@ -45,7 +45,7 @@ module _ (o : OpeningValue) (is : IsOpening o) (t : Trace) (legal : IsLegal o t)
   -- a key that no note covers is at its source
   pub uncut_home : (root : ℕ) → is_covered (notes t) root ≡ false → place o t root ≡ At (source o root)
   uncut_home root uncut =
-      ap₂ (λ cut loaded. loaded_place (cut_place o root cut) loaded)
+      ap₂ (λ cut loaded. loaded_place (cut_place (source o root) cut) loaded)
       (nothing_found (λ (note : Note). covers note root) (notes t) uncut)
       (nothing_found (λ (note : Note). covers note root) (loads t) (uncut_unloaded root uncut))
 
@@ -66,7 +66,7 @@ module _ (o : OpeningValue) (is : IsOpening o) (t : Trace) (legal : IsLegal o t)
   pub way_place : (src dst : ℕ) (way : List Note) → way ++ link src dst (loads t) ≡ link src dst (notes t) → (note : Note) → Contains way note → (root : ℕ) → covers note root ≡ true → place o t root ≡ Under_way note
   way_place src dst way e note has root covered =
       let cut = link_has src dst (notes t) note (subst (λ list. Contains list note) e (Contains-append_left way (link src dst (loads t)) note has)) in
-      ap₂ (λ cut loaded. loaded_place (cut_place o root cut) loaded)
+      ap₂ (λ cut loaded. loaded_place (cut_place (source o root) cut) loaded)
       (found_note o is t legal root note cut.0 covered)
       (nothing_found (λ (other : Note). covers other root) (loads t) (way_unloaded src dst way e note has root covered))
 
@@ -80,7 +80,7 @@ module _ (o : OpeningValue) (is : IsOpening o) (t : Trace) (legal : IsLegal o t)
           absurd (true≢false (sym at.2 ∙ not_found (λ (note : Note). covers note root) (loads t) none at.0 at.1))
       among (Some note) found =
           let at = found_in (λ (other : Note). covers other root) (loads t) note found in
-          ap (loaded_place (cut_place o root (find (λ (other : Note). covers other root) (notes t)))) found
+          ap (loaded_place (cut_place (source o root) (find (λ (other : Note). covers other root) (notes t)))) found
           ∙ ap At (note_ends o is t legal root note (loaded_in o t legal note at.0) at.1).to
 
   -- the partition that runs a key has its family

@@ -15,11 +15,11 @@ use Rattle.sq_model.specs.declared.step.Step.TheVariants.{Split as Split_step, C
 use Rattle.sq_model.specs.declared.answer.Answer.TheVariants.{Done, WasCut, WasLoaded}
 use Rattle.sq_model.specs.Trace.{Trace, stage, notes, loads, link, pushes, push_count, pops, pop_count}
 use Rattle.sq_model.specs.Nodes.{Item, sets_status, status_of, items}
-use Rattle.sq_model.specs.Place.{At, source, destination, moves, is_covered, is_begun_over, extent_of, is_within, loaded_place, cut_place, place, runner}
+use Rattle.sq_model.specs.Place.{At, source, destination, moves, is_covered, is_begun_over, extent_of, is_within, loaded_place, cut_place, place_from, place, runner}
 use Rattle.sq_model.specs.Links.{is_about, has_last, is_on_link, is_open, open_items}
 use Rattle.sq_model.specs.Answers.{is_running_link}
 use Rattle.sq_model.specs.Legal.{IsLegal}
-use Rattle.sq_model.specs.Staged.{since, has_moved, owner_in, cut_from, place_in, runner_in, TellsAlone}
+use Rattle.sq_model.specs.Staged.{since, has_moved, owner_in, place_in, runner_in, TellsAlone}
 use Rattle.sq_model.proofs.Lists.{Contains-nothing, Contains-cases, any_in, list_any-Contains, nothing_found, nothing_kept}
 use Rattle.sq_model.proofs.Steps.{IsRunning, of_stage_is, split_goes, claim_goes, begin_goes, complete_goes, cut_goes, load_goes, cut_is_of, load_is_of, push_runs, pop_runs}
 use Rattle.sq_model.proofs.Statuses.{set_if_at}
@@ -181,7 +181,7 @@ later_free o ((step, given) ∷ t) legal g n segment there later = later_free o 
 status_since : (o : OpeningValue) (t : Trace) → IsLegal o t → (g n : ℕ) (segment : Range) → slice_get o.recon.segments g ≡ Some segment → stage t ≤ stage_in o.recon segment → status_of t g n ≡ status_of (since t) g n
 status_since o [] legal g n segment there now = refl
 status_since o ((Next, Done) ∷ t) legal g n segment there now = later_free o t legal.1 g n segment there (omega (arith, now))
-status_since o ((step, given) ∷ t) legal g n segment there now = ap (sets_status step given g n) (status_since o t legal.1 g n segment there now)
+status_since o ((step, given) ∷ t) legal g n segment there now = ap (sets_status g n step given) (status_since o t legal.1 g n segment there now)
 
 -- nothing went onto a link of a later stage, or came off it
 later_unused : (o : OpeningValue) (t : Trace) → IsLegal o t → (src dst : ℕ) → stage t < stage_on o.recon src dst → (push_count t src dst ≡ 0) × (pop_count t src dst ≡ 0)
@@ -205,7 +205,7 @@ use_since o [] legal src dst now = (refl, refl)
 use_since o ((Next, Done) ∷ t) legal src dst now = later_unused o t legal.1 src dst (omega (arith, now))
 use_since o ((step, given) ∷ t) legal src dst now =
     let before = use_since o t legal.1 src dst now in
-    (ap (pushes step given src dst) before.0, ap (pops step given src dst) before.1)
+    (ap (pushes src dst step given) before.0, ap (pops src dst step given) before.1)
 
 module _ (o : OpeningValue) (is : IsOpening o) (t : Trace) (legal : IsLegal o t) where
   abbrev stage_for : ℕ → ℕ
@@ -287,7 +287,7 @@ module _ (o : OpeningValue) (is : IsOpening o) (t : Trace) (legal : IsLegal o t)
       moved_place : place o t root ≡ place_in o t root
       moved_place =
           loaded_away o is t legal root loaded_then ∙ ap At (sym owner_new)
-          ∙ sym (ap₂ (λ cut loaded. loaded_place (cut_from (owner_in o (stage t) root) cut) loaded)
+          ∙ sym (ap₂ (λ cut loaded. loaded_place (cut_place (owner_in o (stage t) root) cut) loaded)
           (nothing_found (λ (note : Note). covers note root) (notes (since t)) none_cut)
           (nothing_found (λ (note : Note). covers note root) (loads (since t)) none_loaded))
 
@@ -321,16 +321,12 @@ module _ (o : OpeningValue) (is : IsOpening o) (t : Trace) (legal : IsLegal o t)
           ap (find (λ (note : Note). covers note root)) h.made
           ∙ find-append_none (λ (note : Note). covers note root) now h.older (nothing_found (λ (note : Note). covers note root) h.older none)
 
-      owned : (found : Option Note) → cut_place o root found ≡ cut_from (owner_in o (stage t) root) found
-      owned None = ap At owner_old
-      owned (Some note) = refl
-
       left_place : place o t root ≡ place_in o t root
       left_place =
-          ap₂ (λ cut loaded. loaded_place (cut_place o root cut) loaded)
+          ap₂ (λ cut loaded. loaded_place (cut_place (source o root) cut) loaded)
           (same_found (notes (since t)) (notes t) (notes_since o t legal) no_older_cut)
           (same_found (loads (since t)) (loads t) (loads_since o t legal) no_older_load)
-          ∙ ap (λ before. loaded_place before (find (λ note. covers note root) (loads (since t)))) (owned (find (λ note. covers note root) (notes (since t))))
+          ∙ ap (λ owner. place_from (since t) owner root) owner_old
 
       same_covered : is_covered (loads t) root ≡ is_covered (loads (since t)) root
       same_covered =

@@ -142,7 +142,9 @@ begin_step o t seg node pull =
 
 abbrev pub complete_step : OpeningValue → Trace → ℕ → ℕ → ℕ → Answer
 complete_step o t seg node pull =
-    while_moving t (in_segment o t seg (at_node node (complete_answered (has_last seg node (loads t)) (complete_answer (status_of t seg) node pull))))
+    while_moving t (in_segment o t seg (at_node node (
+    complete_answered (has_last seg node (loads t)) (complete_answer (status_of t seg) node pull)
+    )))
 
 abbrev pub cut_for : OpeningValue → Trace → ℕ → ℕ → Option Item → Answer
 cut_for o t src dst None = Refused NothingToCut

@@ -6,7 +6,7 @@ use Rattle.sq_model.specs.declared.step.Phase.{Phase}
 use Rattle.sq_model.specs.declared.step.Phase.TheVariants.{Idle, Preparing, Moving, Ended}
 use Rattle.sq_model.specs.declared.answer.Answer.{Answer}
 use Rattle.sq_model.specs.declared.answer.Answer.TheVariants.{Done}
-use Rattle.sq_model.specs.Trace.{Trace}
+use Rattle.sq_model.specs.Trace.{Trace, by_steps}
 
 abbrev pub phase_after : Step → Answer → Phase → Phase
 phase_after (Prepare part) Done now = Preparing
@@ -16,8 +16,7 @@ phase_after _ _ now = now
 
 -- the phase: the first Prepare leads to preparing, Start to moving, Finish to ended
 abbrev pub phase : Trace → Phase
-phase [] = Idle
-phase ((step, answer) ∷ trace) = phase_after step answer (phase trace)
+phase = by_steps phase_after Idle
 
 abbrev pub is_moving_phase : Phase → Bool
 is_moving_phase Moving = true
@@ -44,21 +43,19 @@ is_started t = is_started_phase (phase t)
 abbrev pub is_ended : Trace → Bool
 is_ended t = is_ended_phase (phase t)
 
-abbrev pub prepares : Step → Answer → ℕ → Bool → Bool
-prepares (Prepare which) Done part before = (which == part) || before
-prepares _ _ part before = before
+abbrev pub prepares : ℕ → Step → Answer → Bool → Bool
+prepares part (Prepare which) Done before = (which == part) || before
+prepares part _ _ before = before
 
 -- the partition prepared
 abbrev pub is_prepared : Trace → ℕ → Bool
-is_prepared [] part = false
-is_prepared ((step, answer) ∷ trace) part = prepares step answer part (is_prepared trace part)
+is_prepared t part = by_steps (prepares part) false t
 
-abbrev pub reports : Step → Answer → ℕ → Bool → Bool
-reports (Report which) Done part before = (which == part) || before
-reports Next Done part before = false
-reports _ _ part before = before
+abbrev pub reports : ℕ → Step → Answer → Bool → Bool
+reports part (Report which) Done before = (which == part) || before
+reports part Next Done before = false
+reports part _ _ before = before
 
 -- the partition reported in the running stage
 abbrev pub is_reported : Trace → ℕ → Bool
-is_reported [] part = false
-is_reported ((step, answer) ∷ trace) part = reports step answer part (is_reported trace part)
+is_reported t part = by_steps (reports part) false t

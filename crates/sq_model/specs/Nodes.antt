@@ -7,23 +7,22 @@ use Rattle.sq_model.specs.declared.step.Step.{Step}
 use Rattle.sq_model.specs.declared.step.Step.TheVariants.{Split, Claim, Begin, Complete}
 use Rattle.sq_model.specs.declared.answer.Answer.{Answer}
 use Rattle.sq_model.specs.declared.answer.Answer.TheVariants.{Done}
-use Rattle.sq_model.specs.Trace.{Trace}
+use Rattle.sq_model.specs.Trace.{Trace, by_steps}
 
 -- the status of one node where another one's is set
 abbrev pub set_if : ℕ → ℕ → Status → ℕ → ℕ → Status → Status
 set_if seg node new g n before = if (seg == g) && (node == n) then new else before
 
-abbrev pub sets_status : Step → Answer → ℕ → ℕ → Status → Status
-sets_status (Split seg node) Done g n before = set_if seg node status.Split g n before
-sets_status (Claim seg node pull) Done g n before = set_if seg node (status.Claimed pull) g n before
-sets_status (Begin seg node pull) Done g n before = set_if seg node (status.Partial pull) g n before
-sets_status (Complete seg node pull) Done g n before = set_if seg node (status.Complete pull) g n before
-sets_status _ _ g n before = before
+abbrev pub sets_status : ℕ → ℕ → Step → Answer → Status → Status
+sets_status g n (Split seg node) Done before = set_if seg node status.Split g n before
+sets_status g n (Claim seg node pull) Done before = set_if seg node (status.Claimed pull) g n before
+sets_status g n (Begin seg node pull) Done before = set_if seg node (status.Partial pull) g n before
+sets_status g n (Complete seg node pull) Done before = set_if seg node (status.Complete pull) g n before
+sets_status g n _ _ before = before
 
 -- the status of a node of a segment: the last that was set, else free
 abbrev pub status_of : Trace → ℕ → ℕ → Status
-status_of [] g n = Free
-status_of ((step, answer) ∷ trace) g n = sets_status step answer g n (status_of trace g n)
+status_of t g n = by_steps (sets_status g n) Free t
 
 -- a node that its source gave up, and the pull that it was given up for
 pub record Item : Type 0 where
@@ -37,5 +36,4 @@ begins _ _ items = items
 
 -- the nodes that were begun, in order
 abbrev pub items : Trace → List Item
-items [] = []
-items ((step, answer) ∷ trace) = begins step answer (items trace)
+items = by_steps begins []

@@ -1,4 +1,5 @@
--- Each family of a reconfigured range is extracted at most once and loaded at most once, in the order that its link numbered it, and nothing of a complete node moves.
+-- Each family of a reconfigured range is extracted at most once and loaded at most once, in the order that its link numbered it,
+-- and nothing of a complete node moves.
 use Rattle.std.specs.Prelude.{◌≡◌, ℕ, ◌≤◌, ◌==◌, true, false, List, [], ◌∷◌, ◌++◌, length, slice_get, Some}
 use Rattle.sq_tree.specs.Status.{is_complete}
 use Rattle.sq_chunk.specs.declared.chunk.Note.{Note}
@@ -22,7 +23,8 @@ abbrev pub AreNumbered : List Note → Type 0
 AreNumbered [] = Unit {0}
 AreNumbered (note ∷ notes) = (note.number ≡ length notes) × AreNumbered notes
 
--- the note goes on where the notes of its node before it end, is last exactly if it ends where the node does, and no last one came before it
+-- the note goes on where the notes of its node before it end, is last exactly if it ends where the node does, and no last one
+-- came before it
 pub record GoesOn (o : OpeningValue) (note : Note) (notes : List Note) : Type 0 where
   pub begins : note.lo ≡ reached o note.seg note.node notes
   pub rises : note.lo ≤ note.hi

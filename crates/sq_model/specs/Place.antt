@@ -1,7 +1,6 @@
 -- Where the family of a root key is, and who runs transactions on it.
-use Rattle.std.specs.Prelude.{ℕ, Bool, ◌==◌, ◌&&◌, not, nat_le, nat_lt, if◌then◌else◌, List, find, Option, Some, None}
+use Rattle.std.specs.Prelude.{ℕ, Bool, ◌==◌, ◌&&◌, not, nat_le, nat_lt, if◌then◌else◌, List, find, Option, Some, None, slice_get}
 use Rattle.std.specs.List.{list_any}
-use Rattle.std.specs.Prelude.{slice_get}
 use Rattle.sq_plan.specs.PlanValue.{owner}
 use Rattle.sq_chunk.specs.declared.chunk.Note.{Note}
 use Rattle.sq_chunk.specs.ChunkValue.{covers}
@@ -53,24 +52,34 @@ pub data Place : Type 0 where
   Under_way : (note : Note) → Place
 
 -- a key that no note covers is where it was; one that a note covers is under way in that chunk until this is loaded
-abbrev pub cut_place : OpeningValue → ℕ → Option Note → Place
-cut_place o root None = At (source o root)
-cut_place o root (Some note) = Under_way note
+abbrev pub cut_place : ℕ → Option Note → Place
+cut_place owner None = At owner
+cut_place owner (Some note) = Under_way note
 
 abbrev pub loaded_place : Place → Option Note → Place
 loaded_place before None = before
 loaded_place before (Some note) = At note.dst
 
-abbrev pub place : OpeningValue → Trace → ℕ → Place
-place o t root =
-    loaded_place (cut_place o root (find (λ note. covers note root) (notes t))) (find (λ note. covers note root) (loads t))
+-- where a root key's family is after these steps, which this partition owned before them
+abbrev pub place_from : Trace → ℕ → ℕ → Place
+place_from t owner root =
+    loaded_place (cut_place owner (find (λ note. covers note root) (notes t))) (find (λ note. covers note root) (loads t))
 
--- the partition that runs transactions on a root key: the source until a node over it was begun, nobody from then until it is loaded, and then the destination
-abbrev pub runner : OpeningValue → Trace → ℕ → Option ℕ
-runner o t root =
+-- where the family of a root key is
+abbrev pub place : OpeningValue → Trace → ℕ → Place
+place o t root = place_from t (source o root) root
+
+-- the partition that runs transactions on a root key that this one owned before these steps: this one until a node over the key
+-- was begun, nobody from then until it is loaded, and then the destination
+abbrev pub runner_from : OpeningValue → Trace → ℕ → ℕ → Option ℕ
+runner_from o t owner root =
     if is_covered (loads t) root then Some (destination o root)
     else if is_begun_over o t root then None
-    else Some (source o root)
+    else Some owner
+
+-- the partition that runs transactions on a root key
+abbrev pub runner : OpeningValue → Trace → ℕ → Option ℕ
+runner o t root = runner_from o t (source o root) root
 
 -- the root key comes to this partition in the running stage, and isn't loaded
 abbrev pub is_coming : OpeningValue → Trace → ℕ → ℕ → Bool

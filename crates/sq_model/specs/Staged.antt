@@ -1,16 +1,14 @@
 -- What the running stage tells by itself: the steps since the last Next that went, and who owned a root key as the stage began.
-use Rattle.std.specs.Prelude.{◌≡◌, ℕ, Bool, true, false, ◌&&◌, nat_lt, is_none, if◌then◌else◌, [], ◌∷◌, find, Option, Some, None}
-use Rattle.sq_chunk.specs.declared.chunk.Note.{Note}
-use Rattle.sq_chunk.specs.ChunkValue.{covers}
+use Rattle.std.specs.Prelude.{◌≡◌, ℕ, Bool, true, false, ◌&&◌, nat_lt, is_none, if◌then◌else◌, [], ◌∷◌, Option}
 use Rattle.sq_ranges.specs.ReconValue.{stage_on}
 use Rattle.sq_ranges.specs.OpeningValue.{OpeningValue}
 use Rattle.sq_model.specs.declared.step.Step.{Step}
 use Rattle.sq_model.specs.declared.step.Step.TheVariants.{Next}
 use Rattle.sq_model.specs.declared.answer.Answer.{Answer}
 use Rattle.sq_model.specs.declared.answer.Answer.TheVariants.{Done}
-use Rattle.sq_model.specs.Trace.{Trace, stage, notes, loads, link, push_count, pop_count}
+use Rattle.sq_model.specs.Trace.{Trace, by_steps, stage, notes, loads, link, push_count, pop_count}
 use Rattle.sq_model.specs.Nodes.{status_of}
-use Rattle.sq_model.specs.Place.{Place, At, Under_way, source, destination, moves, is_covered, is_begun_over, loaded_place, place, runner}
+use Rattle.sq_model.specs.Place.{Place, source, destination, moves, place_from, place, runner_from, runner}
 use Rattle.sq_model.specs.Links.{open_items}
 use Rattle.sq_model.specs.Answers.{running, is_running_link}
 
@@ -20,8 +18,7 @@ anew step answer steps = (step, answer) ∷ steps
 
 -- the steps since the last Next that went
 abbrev pub since : Trace → Trace
-since [] = []
-since ((step, answer) ∷ trace) = anew step answer (since trace)
+since = by_steps anew []
 
 -- the root key moved in a stage before this one
 abbrev pub has_moved : OpeningValue → ℕ → ℕ → Bool
@@ -31,21 +28,13 @@ has_moved o i root = moves o root && nat_lt (stage_on o.recon (source o root) (d
 abbrev pub owner_in : OpeningValue → ℕ → ℕ → ℕ
 owner_in o i root = if has_moved o i root then destination o root else source o root
 
-abbrev pub cut_from : ℕ → Option Note → Place
-cut_from owner None = At owner
-cut_from owner (Some note) = Under_way note
-
 -- where the family of a root key is, by the running stage alone
 abbrev pub place_in : OpeningValue → Trace → ℕ → Place
-place_in o t root =
-    loaded_place (cut_from (owner_in o (stage t) root) (find (λ note. covers note root) (notes (since t)))) (find (λ note. covers note root) (loads (since t)))
+place_in o t root = place_from (since t) (owner_in o (stage t) root) root
 
 -- who runs transactions on it, by the running stage alone
 abbrev pub runner_in : OpeningValue → Trace → ℕ → Option ℕ
-runner_in o t root =
-    if is_covered (loads (since t)) root then Some (destination o root)
-    else if is_begun_over o (since t) root then None
-    else Some (owner_in o (stage t) root)
+runner_in o t root = runner_from o (since t) (owner_in o (stage t) root) root
 
 -- the running stage alone tells where each root key is and who runs it, and all that its own segments and links are answered by
 pub record TellsAlone (o : OpeningValue) (t : Trace) : Type 0 where

@@ -1,4 +1,5 @@
--- The unpartitioned table that the committed transactions were run on, and what each family keeps of it: the rows that its log starts from, and its log.
+-- The unpartitioned table that the committed transactions were run on, and what each family keeps of it: the rows that its log
+-- starts from, and its log.
 use Rattle.std.specs.Prelude.{◌≡◌, ℕ, Bool, ◌==◌, nat_le, if◌then◌else◌, List, [], ◌∷◌, ◌++◌, length}
 use Rattle.sq_schema.specs.Effect.{RowTable, replay, replay_rows, only}
 use Rattle.sq_schema.specs.TxnValue.{TxnValue}

@@ -11,14 +11,18 @@ use Rattle.sq_model.specs.declared.answer.Answer.TheVariants.{Done, Replied, Res
 abbrev pub Trace : Type 0
 Trace = List (Step × Answer)
 
+-- what a trace comes to, step by step: what each step with its answer makes of it, from this start
+abbrev pub by_steps : {A : Type 0} → (Step → Answer → A → A) → A → Trace → A
+by_steps each start [] = start
+by_steps each start ((step, answer) ∷ trace) = each step answer (by_steps each start trace)
+
 abbrev pub enters : Step → Answer → ℕ → ℕ
 enters Next Done i = i + 1
 enters _ _ i = i
 
 -- the running stage: how many Nexts went
 abbrev pub stage : Trace → ℕ
-stage [] = 0
-stage ((step, answer) ∷ trace) = enters step answer (stage trace)
+stage = by_steps enters 0
 
 abbrev pub commits : Step → Answer → List TxnValue → List TxnValue
 commits (Submit at txn) (Replied id (Committed answers)) txns = txns ++ txn ∷ []
@@ -27,17 +31,15 @@ commits _ _ txns = txns
 
 -- the transactions that committed, in order
 abbrev pub committed : Trace → List TxnValue
-committed [] = []
-committed ((step, answer) ∷ trace) = commits step answer (committed trace)
+committed = by_steps commits []
 
-abbrev pub clears : Step → Answer → ℕ → List TxnValue → List TxnValue
-clears (Fold which) Done part txns = if part == which then [] else txns
-clears _ _ part txns = txns
+abbrev pub clears : ℕ → Step → Answer → List TxnValue → List TxnValue
+clears part (Fold which) Done txns = if part == which then [] else txns
+clears part _ _ txns = txns
 
 -- the transactions that committed since the last fold of a partition, in order; all that did where it was never folded
 abbrev pub unfolded : Trace → ℕ → List TxnValue
-unfolded [] part = []
-unfolded ((step, answer) ∷ trace) part = clears step answer part (commits step answer (unfolded trace part))
+unfolded t part = by_steps (λ step answer txns. clears part step answer (commits step answer txns)) [] t
 
 abbrev pub cuts : Step → Answer → List Note → List Note
 cuts (Cut src dst) (WasCut note families) notes = note ∷ notes
@@ -45,8 +47,7 @@ cuts _ _ notes = notes
 
 -- the notes of the chunks that were cut, the newest first
 abbrev pub notes : Trace → List Note
-notes [] = []
-notes ((step, answer) ∷ trace) = cuts step answer (notes trace)
+notes = by_steps cuts []
 
 abbrev pub loads_note : Step → Answer → List Note → List Note
 loads_note (Load src dst) (WasLoaded note families) notes = note ∷ notes
@@ -54,8 +55,7 @@ loads_note _ _ notes = notes
 
 -- the notes of the chunks that were loaded, the newest first
 abbrev pub loads : Trace → List Note
-loads [] = []
-loads ((step, answer) ∷ trace) = loads_note step answer (loads trace)
+loads = by_steps loads_note []
 
 -- the notes of one link
 abbrev pub link : ℕ → ℕ → List Note → List Note
@@ -69,20 +69,22 @@ cut_count t src dst = length (link src dst (notes t))
 abbrev pub load_count : Trace → ℕ → ℕ → ℕ
 load_count t src dst = length (link src dst (loads t))
 
-abbrev pub pushes : Step → Answer → ℕ → ℕ → ℕ → ℕ
-pushes (Push from to) Done src dst n = if (from == src) && (to == dst) then n + 1 else n
-pushes _ _ src dst n = n
+-- one more, where a step of the one link is one of the other
+abbrev pub one_more_on : ℕ → ℕ → ℕ → ℕ → ℕ → ℕ
+one_more_on src dst from to n = if (from == src) && (to == dst) then n + 1 else n
+
+abbrev pub pushes : ℕ → ℕ → Step → Answer → ℕ → ℕ
+pushes src dst (Push from to) Done n = one_more_on src dst from to n
+pushes src dst _ _ n = n
 
 -- how many chunks went onto a link
 abbrev pub push_count : Trace → ℕ → ℕ → ℕ
-push_count [] src dst = 0
-push_count ((step, answer) ∷ trace) src dst = pushes step answer src dst (push_count trace src dst)
+push_count t src dst = by_steps (pushes src dst) 0 t
 
-abbrev pub pops : Step → Answer → ℕ → ℕ → ℕ → ℕ
-pops (Pop from to) Done src dst n = if (from == src) && (to == dst) then n + 1 else n
-pops _ _ src dst n = n
+abbrev pub pops : ℕ → ℕ → Step → Answer → ℕ → ℕ
+pops src dst (Pop from to) Done n = one_more_on src dst from to n
+pops src dst _ _ n = n
 
 -- how many chunks came off a link
 abbrev pub pop_count : Trace → ℕ → ℕ → ℕ
-pop_count [] src dst = 0
-pop_count ((step, answer) ∷ trace) src dst = pops step answer src dst (pop_count trace src dst)
+pop_count t src dst = by_steps (pops src dst) 0 t

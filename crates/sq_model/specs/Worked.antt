@@ -20,9 +20,13 @@ use Rattle.sq_model.specs.declared.answer.Answer.{Answer}
 use Rattle.sq_model.specs.declared.answer.Answer.TheVariants.{Done, Replied, Moved, Waits, Resumed, WasCut, WasLoaded, Reads, Refused}
 use Rattle.sq_model.specs.declared.answer.Refusal.TheVariants.{NotMoving, NoSuchSegment, NoSuchNode, NotFree, NotLive, IsLeaf, NotClaimed, WrongPull, NothingToCut, OutboxFull, OutboxEmpty, LinkFull, LinkEmpty, InboxEmpty, NotLoaded, AlreadyMoving, NotFinished, NoSuchPartition, NoneReady, NoSuchLink, NotPartial, NotPrepared}
 
+-- one root row with a note, which makes its family larger
+abbrev pub noted_row : ℤ → List ℕ → RowList
+noted_row number note = (root_key, record { number = number; note = note }) ∷ []
+
 -- a root row with this number and no note
 abbrev pub row : ℤ → RowList
-row number = (root_key, record { number = number; note = [] }) ∷ []
+row number = noted_row number []
 
 -- partition 0 owns all keys, and the keys 4 to 7 move to partition 1, in leaves of one key
 abbrev pub four_keys : ℕ → ℕ → TableValue → OpeningValue
@@ -34,7 +38,8 @@ four_keys limit capacity table =
       new = record {
         version = First;
         parts = 2;
-        ranges = record { lo = 0; hi = 4; owner = 0 } ∷ record { lo = 4; hi = 8; owner = 1 } ∷ record { lo = 8; hi = ROOT_END; owner = 0 } ∷ [];
+        ranges = record { lo = 0; hi = 4; owner = 0 } ∷ record { lo = 4; hi = 8; owner = 1 }
+            ∷ record { lo = 8; hi = ROOT_END; owner = 0 } ∷ [];
       };
       recon = record { width = 1; ranges = moving; segments = moving; auto = false };
       config = record { width = 1; limit = limit; capacity = capacity };
@@ -74,16 +79,16 @@ got_none id = Replied id (Committed (op_answer.Found None ∷ []))
 abbrev pub noted : ℕ → ℕ → ℕ → ℕ → Note
 noted number node lo hi = record { src = 0; dst = 1; number = number; seg = 0; node = node; lo = lo; hi = hi; last = hi == 8 }
 
--- the next chunk is cut, goes over the link, and is loaded
-abbrev pub carried : List Step
-carried = Cut 0 1 ∷ Push 0 1 ∷ Pop 0 1 ∷ Load 0 1 ∷ []
+-- the next chunk is cut, goes over the link to this partition, and is loaded
+abbrev pub carried_to : ℕ → List Step
+carried_to dst = Cut 0 dst ∷ Push 0 dst ∷ Pop 0 dst ∷ Load 0 dst ∷ []
 
 abbrev pub carried_answers : Note → ℕ → List Answer
 carried_answers note families = WasCut note families ∷ Done ∷ Done ∷ WasLoaded note families ∷ []
 
 -- the shortest whole path
 abbrev pub whole_path : List Step
-whole_path = begun ++ Claim 0 1 2 ∷ Begin 0 1 2 ∷ carried ++ Complete 0 1 2 ∷ Report 1 ∷ Finish ∷ Submit 1 (get_row 9 5) ∷ []
+whole_path = begun ++ Claim 0 1 2 ∷ Begin 0 1 2 ∷ carried_to 1 ++ Complete 0 1 2 ∷ Report 1 ∷ Finish ∷ Submit 1 (get_row 9 5) ∷ []
 
 abbrev pub whole_path_answers : List Answer
 whole_path_answers = begun_answers ++ Done ∷ Done ∷ carried_answers (noted 0 1 4 8) 1 ++ Done ∷ Done ∷ Done ∷ got 9 (pos 10) ∷ []
@@ -93,7 +98,9 @@ abbrev pub folded_twice : List Step
 folded_twice = whole_path ++ Fold 0 ∷ Fold 1 ∷ Submit 1 (add_one 10 5) ∷ Submit 1 (get_row 11 6) ∷ Fold 1 ∷ Fold 2 ∷ []
 
 abbrev pub folded_twice_answers : List Answer
-folded_twice_answers = whole_path_answers ++ Done ∷ Done ∷ Replied 10 (Committed (op_answer.Number (pos 11) ∷ [])) ∷ got_none 11 ∷ Done ∷ Refused NoSuchPartition ∷ []
+folded_twice_answers =
+    whole_path_answers ++ Done ∷ Done ∷ Replied 10 (Committed (op_answer.Number (pos 11) ∷ [])) ∷ got_none 11 ∷ Done
+    ∷ Refused NoSuchPartition ∷ []
 
 -- logs are folded only once the reconfiguration has ended
 abbrev pub folded_early : List Step
@@ -101,10 +108,6 @@ folded_early = Fold 0 ∷ Fold 2 ∷ begun ++ Fold 0 ∷ []
 
 abbrev pub folded_early_answers : List Answer
 folded_early_answers = Refused NotFinished ∷ Refused NoSuchPartition ∷ begun_answers ++ Refused NotFinished ∷ []
-
--- one root row with a note, which makes its family larger
-abbrev pub noted_row : ℤ → List ℕ → RowList
-noted_row number note = (root_key, record { number = number; note = note }) ∷ []
 
 -- the source runs transactions until it gives the node up, and not from then on
 abbrev pub given_up : List Step
@@ -127,11 +130,13 @@ two_families = four_keys 64 1 ((4, row (pos 1)) ∷ (7, row (pos 2)) ∷ [])
 
 abbrev pub two_chunks : List Step
 two_chunks =
-    begun ++ Claim 0 1 2 ∷ Begin 0 1 2 ∷ Cut 0 1 ∷ Cut 0 1 ∷ Push 0 1 ∷ Cut 0 1 ∷ Pop 0 1 ∷ Load 0 1 ∷ Submit 1 (get_row 3 6) ∷ Submit 1 (get_row 4 7) ∷ []
+    begun ++ Claim 0 1 2 ∷ Begin 0 1 2 ∷ Cut 0 1 ∷ Cut 0 1 ∷ Push 0 1 ∷ Cut 0 1 ∷ Pop 0 1 ∷ Load 0 1 ∷ Submit 1 (get_row 3 6)
+    ∷ Submit 1 (get_row 4 7) ∷ []
 
 abbrev pub two_chunks_answers : List Answer
 two_chunks_answers =
-    begun_answers ++ Done ∷ Done ∷ WasCut (noted 0 1 4 7) 1 ∷ Refused OutboxFull ∷ Done ∷ WasCut (noted 1 1 7 8) 1 ∷ Done ∷ WasLoaded (noted 0 1 4 7) 1 ∷ got_none 3 ∷ Waits 4 0 3 ∷ []
+    begun_answers ++ Done ∷ Done ∷ WasCut (noted 0 1 4 7) 1 ∷ Refused OutboxFull ∷ Done ∷ WasCut (noted 1 1 7 8) 1 ∷ Done
+    ∷ WasLoaded (noted 0 1 4 7) 1 ∷ got_none 3 ∷ Waits 4 0 3 ∷ []
 
 -- a family of 66 bytes and one of 56, where a chunk holds 64
 abbrev pub large_family : OpeningValue
@@ -162,12 +167,14 @@ full_link_answers =
 -- steps in the wrong order, and with wrong numbers
 abbrev pub out_of_order : List Step
 out_of_order =
-    Claim 0 1 2 ∷ Prepare 2 ∷ Start ∷ Prepare 0 ∷ Start ∷ Prepare 1 ∷ Start ∷ Start ∷ Prepare 0 ∷ Cut 1 0 ∷ Cut 0 1 ∷ Push 0 1 ∷ Pop 0 1 ∷ Load 0 1 ∷ Resume 1 ∷ Resume 2 ∷ []
+    Claim 0 1 2 ∷ Prepare 2 ∷ Start ∷ Prepare 0 ∷ Start ∷ Prepare 1 ∷ Start ∷ Start ∷ Prepare 0 ∷ Cut 1 0 ∷ Cut 0 1 ∷ Push 0 1
+    ∷ Pop 0 1 ∷ Load 0 1 ∷ Resume 1 ∷ Resume 2 ∷ []
 
 abbrev pub out_of_order_answers : List Answer
 out_of_order_answers =
-    Refused NotMoving ∷ Refused NoSuchPartition ∷ Refused NotPrepared ∷ Done ∷ Refused NotPrepared ∷ Done ∷ Done ∷ Refused AlreadyMoving ∷ Refused AlreadyMoving
-    ∷ Refused NoSuchLink ∷ Refused NothingToCut ∷ Refused OutboxEmpty ∷ Refused LinkEmpty ∷ Refused InboxEmpty ∷ Refused NoneReady ∷ Refused NoSuchPartition ∷ []
+    Refused NotMoving ∷ Refused NoSuchPartition ∷ Refused NotPrepared ∷ Done ∷ Refused NotPrepared ∷ Done ∷ Done
+    ∷ Refused AlreadyMoving ∷ Refused AlreadyMoving ∷ Refused NoSuchLink ∷ Refused NothingToCut ∷ Refused OutboxEmpty
+    ∷ Refused LinkEmpty ∷ Refused InboxEmpty ∷ Refused NoneReady ∷ Refused NoSuchPartition ∷ []
 
 -- a transaction waits at the destination until its rows are loaded; one on a key that doesn't move is sent on
 abbrev pub waits_for_rows : List Step
@@ -178,16 +185,21 @@ waits_for_rows_answers = begun_answers ++ Waits 7 0 1 ∷ Moved 8 0 ∷ got 6 (p
 
 -- nothing is complete, reported or finished before its rows are loaded
 abbrev pub too_soon : List Step
-too_soon = begun ++ Claim 0 1 2 ∷ Complete 0 1 2 ∷ Begin 0 1 2 ∷ Complete 0 1 2 ∷ Report 1 ∷ Report 0 ∷ Finish ∷ Claim 1 1 2 ∷ Claim 0 2 2 ∷ Claim 0 64 2 ∷ []
+too_soon =
+    begun ++ Claim 0 1 2 ∷ Complete 0 1 2 ∷ Begin 0 1 2 ∷ Complete 0 1 2 ∷ Report 1 ∷ Report 0 ∷ Finish ∷ Claim 1 1 2
+    ∷ Claim 0 2 2 ∷ Claim 0 64 2 ∷ []
 
 abbrev pub too_soon_answers : List Answer
 too_soon_answers =
-    begun_answers ++ Done ∷ Refused NotPartial ∷ Done ∷ Refused NotLoaded ∷ Refused NotFinished ∷ Done ∷ Refused NotFinished ∷ Refused NoSuchSegment ∷ Refused NotLive ∷ Refused NoSuchNode ∷ []
+    begun_answers ++ Done ∷ Refused NotPartial ∷ Done ∷ Refused NotLoaded ∷ Refused NotFinished ∷ Done ∷ Refused NotFinished
+    ∷ Refused NoSuchSegment ∷ Refused NotLive ∷ Refused NoSuchNode ∷ []
 
--- transactions that wait run in the order in which they came, and not before their rows are loaded; one that comes while another waits on its root key waits too
+-- transactions that wait run in the order in which they came, and not before their rows are loaded; one that comes while another
+-- waits on its root key waits too
 abbrev pub resumed_in_order : List Step
 resumed_in_order =
-    begun ++ Submit 1 (get_row 7 5) ∷ Resume 1 ∷ Claim 0 1 3 ∷ Begin 0 1 3 ∷ carried ++ Submit 1 (get_row 8 5) ∷ Resume 1 ∷ Resume 1 ∷ Resume 1 ∷ []
+    begun ++ Submit 1 (get_row 7 5) ∷ Resume 1 ∷ Claim 0 1 3 ∷ Begin 0 1 3 ∷ carried_to 1 ++ Submit 1 (get_row 8 5) ∷ Resume 1
+    ∷ Resume 1 ∷ Resume 1 ∷ []
 
 abbrev pub resumed_in_order_answers : List Answer
 resumed_in_order_answers =
@@ -219,7 +231,8 @@ split_too_low_answers =
 -- the last leaf of the segment has no keys: its node moves in one chunk that is empty
 abbrev pub empty_leaf : List Step
 empty_leaf =
-    begun ++ Split 0 1 ∷ Split 0 3 ∷ Split 0 7 ∷ Split 0 15 ∷ Split 0 31 ∷ Claim 0 63 2 ∷ Begin 0 63 2 ∷ carried ++ Complete 0 63 2 ∷ []
+    begun ++ Split 0 1 ∷ Split 0 3 ∷ Split 0 7 ∷ Split 0 15 ∷ Split 0 31 ∷ Claim 0 63 2 ∷ Begin 0 63 2
+    ∷ carried_to 1 ++ Complete 0 63 2 ∷ []
 
 abbrev pub empty_leaf_answers : List Answer
 empty_leaf_answers =
@@ -234,7 +247,8 @@ read_nodes =
 abbrev pub read_nodes_answers : List Answer
 read_nodes_answers =
     Reads status.Free reads.NotStarted ∷ Refused NoSuchSegment ∷ Refused NoSuchNode ∷ begun_answers
-    ++ Done ∷ Done ∷ Done ∷ Reads status.Split reads.Partial ∷ Reads status.Free reads.Partial ∷ Reads status.Free reads.NotStarted ∷ Reads (status.Partial 2) reads.Partial ∷ []
+    ++ Done ∷ Done ∷ Done ∷ Reads status.Split reads.Partial ∷ Reads status.Free reads.Partial
+    ∷ Reads status.Free reads.NotStarted ∷ Reads (status.Partial 2) reads.Partial ∷ []
 
 -- three families, and a link that holds four chunks
 abbrev pub wide_link : OpeningValue
@@ -243,8 +257,9 @@ wide_link = four_keys 64 4 three_rows
 -- a reactive pull comes while an asynchronous one is under way: its node is cut next, and then the rest of the other
 abbrev pub reactive_first : List Step
 reactive_first =
-    begun ++ Split 0 1 ∷ Split 0 2 ∷ Split 0 4 ∷ Split 0 8 ∷ Claim 0 16 2 ∷ Begin 0 16 2 ∷ Cut 0 1 ∷ Claim 0 17 3 ∷ Begin 0 17 3 ∷ Push 0 1 ∷ Cut 0 1 ∷ Push 0 1
-    ∷ Cut 0 1 ∷ Push 0 1 ∷ Pop 0 1 ∷ Load 0 1 ∷ Pop 0 1 ∷ Load 0 1 ∷ Pop 0 1 ∷ Load 0 1 ∷ Complete 0 17 3 ∷ Complete 0 16 2 ∷ Status 0 8 ∷ Status 0 1 ∷ Status 0 32 ∷ []
+    begun ++ Split 0 1 ∷ Split 0 2 ∷ Split 0 4 ∷ Split 0 8 ∷ Claim 0 16 2 ∷ Begin 0 16 2 ∷ Cut 0 1 ∷ Claim 0 17 3 ∷ Begin 0 17 3
+    ∷ Push 0 1 ∷ Cut 0 1 ∷ Push 0 1 ∷ Cut 0 1 ∷ Push 0 1 ∷ Pop 0 1 ∷ Load 0 1 ∷ Pop 0 1 ∷ Load 0 1 ∷ Pop 0 1 ∷ Load 0 1
+    ∷ Complete 0 17 3 ∷ Complete 0 16 2 ∷ Status 0 8 ∷ Status 0 1 ∷ Status 0 32 ∷ []
 
 abbrev pub reactive_first_answers : List Answer
 reactive_first_answers =

@@ -26,7 +26,7 @@ use Rattle.sq_model.specs.declared.answer.Refusal.TheVariants.{OutboxFull, Nothi
 use Rattle.sq_model.specs.Trace.{Trace, notes, loads, link, cut_count, push_count, load_count}
 use Rattle.sq_model.specs.Nodes.{Item, items}
 use Rattle.sq_model.specs.Tables.{stands, family_of, size_of}
-use Rattle.sq_model.specs.Place.{At, Under_way, place, extent_of, cut_place, loaded_place}
+use Rattle.sq_model.specs.Place.{At, Under_way, source, place, extent_of, cut_place, loaded_place}
 use Rattle.sq_model.specs.Links.{is_about, has_last, reached, end_of_note, is_on_link, goes, is_open, open_items, next_item, standing, cut_end, next_note}
 use Rattle.sq_model.specs.Answers.{answer, cut_for}
 use Rattle.sq_model.proofs.Lists.{kept_in, row_bounds, Contains-first, Contains-later, Contains-slice_get}
@@ -136,9 +136,9 @@ cut_more t src dst note count = (Cut src dst, WasCut note count) ∷ t
 place_cut : (o : OpeningValue) (t : Trace) (src dst : ℕ) (note : Note) (count root : ℕ) (b : Bool) → covers note root ≡ b → (b ≡ true → find (λ n. covers n root) (loads t) ≡ None)
     → place o (cut_more t src dst note count) root ≡ (if b then Under_way note else place o t root)
 place_cut o t src dst note count root true e unloaded =
-    ap (λ c. loaded_place (cut_place o root (if c then Some note else find (λ n. covers n root) (notes t))) (find (λ n. covers n root) (loads t))) e ∙ ap (loaded_place (Under_way note)) (unloaded refl)
+    ap (λ c. loaded_place (cut_place (source o root) (if c then Some note else find (λ n. covers n root) (notes t))) (find (λ n. covers n root) (loads t))) e ∙ ap (loaded_place (Under_way note)) (unloaded refl)
 place_cut o t src dst note count root false e unloaded =
-    ap (λ c. loaded_place (cut_place o root (if c then Some note else find (λ n. covers n root) (notes t))) (find (λ n. covers n root) (loads t))) e
+    ap (λ c. loaded_place (cut_place (source o root) (if c then Some note else find (λ n. covers n root) (notes t))) (find (λ n. covers n root) (loads t))) e
 
 -- what is at a partition after the cut
 share_cut : (o : OpeningValue) (t : Trace) (src dst : ℕ) (note : Note) (count p root : ℕ) (b : Bool) → covers note root ≡ b → (b ≡ true → find (λ n. covers n root) (loads t) ≡ None)

@@ -23,7 +23,7 @@ use Rattle.sq_model.specs.declared.answer.Answer.TheVariants.{WasLoaded, Refused
 use Rattle.sq_model.specs.declared.answer.Refusal.TheVariants.{InboxEmpty}
 use Rattle.sq_model.specs.Trace.{Trace, notes, loads, link, load_count, pop_count}
 use Rattle.sq_model.specs.Tables.{stands, family_of}
-use Rattle.sq_model.specs.Place.{At, Under_way, place, cut_place, loaded_place}
+use Rattle.sq_model.specs.Place.{At, Under_way, source, place, cut_place, loaded_place}
 use Rattle.sq_model.specs.Links.{has_last, family_count}
 use Rattle.sq_model.specs.Orderly.{IsPrefix}
 use Rattle.sq_model.specs.Answers.{answer, load_of}
@@ -55,8 +55,8 @@ loaded t src dst note families = (Load src dst, WasLoaded note families) ∷ t
 -- the place of a root key after the load
 place_now : (o : OpeningValue) (t : Trace) (src dst : ℕ) (note : Note) (families root : ℕ) (b : Bool) → covers note root ≡ b
     → place o (loaded t src dst note families) root ≡ (if b then At note.dst else place o t root)
-place_now o t src dst note families root true e = ap (λ c. loaded_place (cut_place o root (find (λ n. covers n root) (notes t))) (if c then Some note else find (λ n. covers n root) (loads t))) e
-place_now o t src dst note families root false e = ap (λ c. loaded_place (cut_place o root (find (λ n. covers n root) (notes t))) (if c then Some note else find (λ n. covers n root) (loads t))) e
+place_now o t src dst note families root true e = ap (λ c. loaded_place (cut_place (source o root) (find (λ n. covers n root) (notes t))) (if c then Some note else find (λ n. covers n root) (loads t))) e
+place_now o t src dst note families root false e = ap (λ c. loaded_place (cut_place (source o root) (find (λ n. covers n root) (notes t))) (if c then Some note else find (λ n. covers n root) (loads t))) e
 
 -- what is at a partition after the load, where the note covers the root key and where it doesn't
 share_covered : (o : OpeningValue) (t : Trace) (src dst : ℕ) (note : Note) (families p root : ℕ) → covers note root ≡ true → share_at o (loaded t src dst note families) p root ≡ share o t (λ _. note.dst == p) root
