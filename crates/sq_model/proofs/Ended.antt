@@ -5,10 +5,8 @@ use Rattle.std.proofs.lemmas.Bool.{and_parts, and_from, lt-ltb, ltb-true, eq-eqb
 use Rattle.std.proofs.lemmas.Option.{slice_get_within}
 use Rattle.sq_tree.specs.declared.status.Status.{Status}
 use Rattle.sq_tree.specs.declared.status.Status.TheVariants.{Complete}
-use Rattle.sq_tree.specs.declared.status.Reading.{Reading}
-use Rattle.sq_tree.specs.declared.status.Reading.TheVariants as reads
 use Rattle.sq_tree.specs.declared.node.TheConstants.{LEAVES}
-use Rattle.sq_tree.specs.Status.{is_free, is_split, is_begun, is_complete, is_past, reading, covering}
+use Rattle.sq_tree.specs.Status.{is_free, is_split, is_begun, is_complete, is_past, covering}
 use Rattle.sq_tree.proofs.Covering.{covering_is, covering_touched}
 use Rattle.sq_tree.proofs.Readings.{all_complete_is}
 use Rattle.sq_ranges.specs.declared.recon.Range.{Range}
@@ -32,7 +30,7 @@ use Rattle.sq_model.specs.Answers.{is_complete_segment, is_into, segment_numbers
 use Rattle.sq_model.specs.Legal.{IsLegal}
 use Rattle.sq_model.proofs.Lists.{list_any-Contains, list_all-Contains, row_has}
 use Rattle.sq_model.proofs.Steps.{next_goes, FinishGoes, finish_goes, report_goes, cut_goes, load_goes}
-use Rattle.sq_model.proofs.Statuses.{grown, later}
+use Rattle.sq_model.proofs.Statuses.{grown, later, all_complete}
 use Rattle.sq_model.proofs.Tiles.{last_reached}
 use Rattle.sq_model.proofs.Notes.{tiles_loads, complete_loaded}
 use Rattle.sq_model.proofs.Keys.{IsIn, found_in_segment, ends_below, linked, above_within, unfound_stays}
@@ -47,13 +45,9 @@ complete_touched : (st : Status) → is_complete st ≡ true → (is_free st ≡
 complete_touched (Complete p) complete = (refl, refl, refl)
 complete_touched st complete = absurd cc
 
-reads_complete : (now : Reading) → is_complete_reading now ≡ true → now ≡ reads.Complete
-reads_complete reads.Complete e = refl
-reads_complete now e = absurd cc
-
 -- each leaf's node is complete in a segment that is whole
 whole_leaf : (o : OpeningValue) (t : Trace) → IsLegal o t → (g : ℕ) → is_complete_segment t g ≡ true → (leaf : ℕ) → leaf < LEAVES → is_complete (status_of t g (covering (status_of t g) leaf)) ≡ true
-whole_leaf o t legal g whole = (all_complete_is (status_of t g) (grown o t legal g)).0 (reads_complete (reading (status_of t g) 1) whole)
+whole_leaf o t legal g = all_complete (status_of t g) (grown o t legal g)
 
 -- a segment that is whole stays so
 pub stays_whole : (o : OpeningValue) (t : Trace) (step : Step) (given : Answer) → IsLegal o ((step, given) ∷ t) → (g : ℕ) → is_complete_segment t g ≡ true → is_complete_segment ((step, given) ∷ t) g ≡ true

@@ -326,7 +326,7 @@ module _ (o : OpeningValue) (is : IsOpening o) (t : Trace) (legal : IsLegal o t)
           ap₂ (λ cut loaded. loaded_place (cut_place (source o root) cut) loaded)
           (same_found (notes (since t)) (notes t) (notes_since o t legal) no_older_cut)
           (same_found (loads (since t)) (loads t) (loads_since o t legal) no_older_load)
-          ∙ ap (λ owner. place_from (since t) owner root) owner_old
+          ∙ ap (λ owner. place_from owner (notes (since t)) (loads (since t)) root) owner_old
 
       same_covered : is_covered (loads t) root ≡ is_covered (loads (since t)) root
       same_covered =

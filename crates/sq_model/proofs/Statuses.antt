@@ -8,11 +8,16 @@ use Rattle.std.proofs.lemmas.List.Elements.{Contains-push, Contains-push_cases, 
 use Rattle.std.proofs.lemmas.Map.Keys.{IsDistinct-push}
 use Rattle.sq_tree.specs.declared.status.Status.{Status}
 use Rattle.sq_tree.specs.declared.status.Status.TheVariants.{Free, Split, Claimed, Partial, Complete}
+use Rattle.sq_tree.specs.declared.status.Reading.{Reading}
+use Rattle.sq_tree.specs.declared.status.Reading.TheVariants as reads
+use Rattle.sq_tree.specs.declared.node.TheConstants.{LEAVES}
 use Rattle.sq_tree.specs.Node.{is_node, is_leaf}
-use Rattle.sq_tree.specs.Status.{is_free, is_split, is_live, is_begun, is_past, pull_of}
+use Rattle.sq_tree.specs.Reading.{is_complete_reading}
+use Rattle.sq_tree.specs.Status.{is_free, is_split, is_live, is_begun, is_complete, is_past, pull_of, reading, covering}
 use Rattle.sq_tree.specs.Tree.{IsGrown}
 use Rattle.sq_tree.proofs.Changed.{set_at}
 use Rattle.sq_tree.proofs.Grown.{grown-free, grown-set_at}
+use Rattle.sq_tree.proofs.Readings.{all_complete_is}
 use Rattle.sq_ranges.specs.OpeningValue.{OpeningValue}
 use Rattle.sq_model.specs.declared.step.Step.{Step}
 use Rattle.sq_model.specs.declared.step.Step.TheVariants.{Split as Split_step, Claim, Begin, Complete as Complete_step}
@@ -23,6 +28,14 @@ use Rattle.sq_model.specs.Nodes.{Item, set_if, status_of, items}
 use Rattle.sq_model.specs.Legal.{IsLegal}
 use Rattle.sq_model.proofs.Lists.{Contains-nothing, any_in}
 use Rattle.sq_model.proofs.Steps.{split_goes, claim_goes, begin_goes, complete_goes}
+
+reads_complete : (now : Reading) → is_complete_reading now ≡ true → now ≡ reads.Complete
+reads_complete reads.Complete e = refl
+reads_complete now e = absurd cc
+
+-- each leaf's node is complete in a tree that reads complete
+pub all_complete : (status : ℕ → Status) → IsGrown status → is_complete_reading (reading status 1) ≡ true → (leaf : ℕ) → leaf < LEAVES → is_complete (status (covering status leaf)) ≡ true
+all_complete status grown whole = (all_complete_is status grown).0 (reads_complete (reading status 1) whole)
 
 -- what is set at one node, and at all nodes of a segment
 set_if-set_at : (sts : ℕ → ℕ → Status) (seg node g : ℕ) (st : Status) (n : ℕ) → set_if seg node st g n (sts g n) ≡ (if seg == g then set_at (sts seg) node st n else sts g n)

@@ -1,5 +1,5 @@
 -- How far the leader is, and what the partitions told it.
-use Rattle.std.specs.Prelude.{ℕ, Bool, true, false, ◌==◌, ◌||◌, [], ◌∷◌}
+use Rattle.std.specs.Prelude.{ℕ, Bool, true, false, ◌==◌, ◌||◌}
 use Rattle.sq_model.specs.declared.step.Step.{Step}
 use Rattle.sq_model.specs.declared.step.Step.TheVariants.{Prepare, Start, Report, Next, Finish}
 use Rattle.sq_model.specs.declared.step.Phase.{Phase}

@@ -60,14 +60,17 @@ abbrev pub loaded_place : Place → Option Note → Place
 loaded_place before None = before
 loaded_place before (Some note) = At note.dst
 
--- where a root key's family is after these steps, which this partition owned before them
-abbrev pub place_from : Trace → ℕ → ℕ → Place
-place_from t owner root =
-    loaded_place (cut_place owner (find (λ note. covers note root) (notes t))) (find (λ note. covers note root) (loads t))
+-- the first of the notes that covers the root key
+abbrev pub note_over : ℕ → List Note → Option Note
+note_over root notes = find (λ note. covers note root) notes
+
+-- where the family of a root key is that was at this partition before chunks with these notes were cut and loaded
+abbrev pub place_from : ℕ → List Note → List Note → ℕ → Place
+place_from owner cut loaded root = loaded_place (cut_place owner (note_over root cut)) (note_over root loaded)
 
 -- where the family of a root key is
 abbrev pub place : OpeningValue → Trace → ℕ → Place
-place o t root = place_from t (source o root) root
+place o t root = place_from (source o root) (notes t) (loads t) root
 
 -- the partition that runs transactions on a root key that this one owned before these steps: this one until a node over the key
 -- was begun, nobody from then until it is loaded, and then the destination

@@ -30,7 +30,7 @@ owner_in o i root = if has_moved o i root then destination o root else source o 
 
 -- where the family of a root key is, by the running stage alone
 abbrev pub place_in : OpeningValue → Trace → ℕ → Place
-place_in o t root = place_from (since t) (owner_in o (stage t) root) root
+place_in o t root = place_from (owner_in o (stage t) root) (notes (since t)) (loads (since t)) root
 
 -- who runs transactions on it, by the running stage alone
 abbrev pub runner_in : OpeningValue → Trace → ℕ → Option ℕ
