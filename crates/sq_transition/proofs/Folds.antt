@@ -120,17 +120,12 @@ fold_holds o t w part facts ended h there =
       plans = h.plans;
       leader = h.leader;
       partitions = core_set o t (folded_more t part) w part core h.partitions there
-          (record {
-            set = set_kept o t (folded_more t part) part core was.set refl refl;
-            store = store_folded o t part placed (core_at w part) was;
-            waiting = was.waiting;
-            moves = was.moves;
-          })
-          (λ p apart _ c. record { set = c.set; store = λ root. c.store root ∙ others_stay o t part placed p root apart; waiting = c.waiting; moves = c.moves });
+          (assumption (was, set_kept o t (folded_more t part) part core was.set refl refl, store_folded o t part placed (core_at w part) was))
+          (λ p apart _ c. assumption (c, λ (root : ℕ). c.store root ∙ others_stay o t part placed p root apart));
       segments = h.segments;
       links = links_same o t (folded_more t part) w (with_core w part core) h.links (same_ends w (with_core w part core) refl)
           (λ j _. link_stays w part core j within (λ _. refl) (λ _. refl))
-          (λ src dst. record { work = refl; notes = refl; loaded = refl; popped = refl; pushed = refl })
+          (λ src dst. assumption)
           (λ j below i chunk at. chunk_stays o t part placed chunk (λ root. facts.away root (destination o root) (placed root) (link_value w j) (h.links.each j below) i chunk at));
     }
 

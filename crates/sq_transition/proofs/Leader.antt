@@ -94,12 +94,8 @@ module _ (w : WorldValue) (leader : Leader) (told : CoreValue → CoreValue) whe
 
 -- a partition, once it was told of the start
 core_started : (o : OpeningValue) (t : Trace) (p : ℕ) (core : CoreValue) → CoreHolds o t p core → CoreHolds o ((Start, Done) ∷ t) p (started_core core)
-core_started o t p core was = record {
-  set = set_again o t ((Start, Done) ∷ t) p core true core.stage core.outs core.inboxes core.given_up core.loaded was.set refl was.set.stage refl refl refl refl;
-  store = was.store;
-  waiting = was.waiting;
-  moves = was.moves;
-}
+core_started o t p core was =
+    assumption (set_again o t ((Start, Done) ∷ t) p core true core.stage core.outs core.inboxes core.given_up core.loaded was.set refl was.set.stage refl refl refl refl, was)
 
 pub start_keeps : (o : OpeningValue) (t : Trace) (w : WorldValue) → PartsHold o t w → Keeps o t Start (step_result w Start) (answer o t Start)
 start_keeps o t w h =
@@ -178,12 +174,8 @@ moving_started Ended e = refl
 
 -- a partition, once it was told of the stage
 core_entered : (o : OpeningValue) (t : Trace) (n : ℕ) → is_started t ≡ is_started ((Next, Done) ∷ t) → n ≡ stage t → (p : ℕ) (core : CoreValue) → CoreHolds o t p core → CoreHolds o ((Next, Done) ∷ t) p (entered_core (n + 1) core)
-core_entered o t n started now p core was = record {
-  set = set_again o t ((Next, Done) ∷ t) p core core.started (n + 1) core.outs core.inboxes core.given_up core.loaded was.set (was.set.started ∙ started) (ap (λ i. i + 1) now) refl refl refl refl;
-  store = was.store;
-  waiting = was.waiting;
-  moves = was.moves;
-}
+core_entered o t n started now p core was =
+    assumption (set_again o t ((Next, Done) ∷ t) p core core.started (n + 1) core.outs core.inboxes core.given_up core.loaded was.set (was.set.started ∙ started) (ap (λ i. i + 1) now) refl refl refl refl, was)
 
 pub next_keeps : (o : OpeningValue) (t : Trace) (w : WorldValue) → PartsHold o t w → Keeps o t Next (step_result w Next) (answer o t Next)
 next_keeps o t w h =

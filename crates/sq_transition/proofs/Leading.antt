@@ -29,22 +29,13 @@ pub record IsPrepared (before : Leader) (part : ℕ) : Type 0 where
   pub reported : (other : ℕ) → has_reported (after_prepare before part) other ≡ has_reported before other
 
 pub prepared_leader : (before : Leader) (part : ℕ) → is_started_phase (phase_of before) ≡ false → part < parts_of before → IsPrepared before part
-prepared_leader (leader.Idle idle) part unstarted there = record {
-  parts = length-set (none_marked idle.parts) part true ∙ length-replicate idle.parts false;
-  moves = refl;
-  stage = refl;
-  phase = refl;
-  prepared = λ other. marked_too (none_marked idle.parts) part other (omega (arith, length-replicate idle.parts false)) ∙ ap (λ b. (part == other) || b) (is_marked-none_marked idle.parts other);
-  reported = λ other. refl;
-}
-prepared_leader (leader.Preparing preparing) part unstarted there = record {
-  parts = length-set preparing.prepared part true;
-  moves = refl;
-  stage = refl;
-  phase = refl;
-  prepared = λ other. marked_too preparing.prepared part other there;
-  reported = λ other. refl;
-}
+prepared_leader (leader.Idle idle) part unstarted there =
+    assumption (
+      length-set (none_marked idle.parts) part true ∙ length-replicate idle.parts false,
+      λ (other : ℕ). marked_too (none_marked idle.parts) part other (omega (arith, length-replicate idle.parts false)) ∙ ap (λ b. (part == other) || b) (is_marked-none_marked idle.parts other),
+    )
+prepared_leader (leader.Preparing preparing) part unstarted there =
+    assumption (length-set preparing.prepared part true, λ (other : ℕ). marked_too preparing.prepared part other there)
 prepared_leader (leader.Moving at) part started there = absurd (true≢false started)
 prepared_leader (leader.Ended at) part started there = absurd (true≢false started)
 
@@ -72,14 +63,8 @@ pub record IsReported (before : Leader) (part : ℕ) : Type 0 where
   pub reported : (other : ℕ) → has_reported (after_report before part) other ≡ ((part == other) || has_reported before other)
 
 pub reported_leader : (before : Leader) (part : ℕ) → is_moving_phase (phase_of before) ≡ true → part < parts_of before → IsReported before part
-reported_leader (leader.Moving at) part moving there = record {
-  parts = length-set at.reported part true;
-  moves = refl;
-  stage = refl;
-  phase = refl;
-  prepared = λ other. refl;
-  reported = λ other. marked_too at.reported part other there;
-}
+reported_leader (leader.Moving at) part moving there =
+    assumption (length-set at.reported part true, λ (other : ℕ). marked_too at.reported part other there)
 reported_leader (leader.Idle idle) part moving there = absurd (true≢false (sym moving))
 reported_leader (leader.Preparing preparing) part moving there = absurd (true≢false (sym moving))
 reported_leader (leader.Ended at) part moving there = absurd (true≢false (sym moving))
@@ -94,14 +79,8 @@ pub record IsEntered (before : Leader) : Type 0 where
   pub reported : (other : ℕ) → has_reported (after_next before) other ≡ false
 
 pub entered_leader : (before : Leader) → is_moving_phase (phase_of before) ≡ true → IsEntered before
-entered_leader (leader.Moving at) moving = record {
-  parts = length-replicate (length at.reported) false;
-  moves = refl;
-  stage = refl;
-  phase = refl;
-  prepared = λ other. refl;
-  reported = λ other. is_marked-none_marked (length at.reported) other;
-}
+entered_leader (leader.Moving at) moving =
+    assumption (length-replicate (length at.reported) false, is_marked-none_marked (length at.reported))
 entered_leader (leader.Idle idle) moving = absurd (true≢false (sym moving))
 entered_leader (leader.Preparing preparing) moving = absurd (true≢false (sym moving))
 entered_leader (leader.Ended at) moving = absurd (true≢false (sym moving))
@@ -116,7 +95,7 @@ pub record IsFinished (before : Leader) : Type 0 where
   pub reported : (other : ℕ) → has_reported (after_finish before) other ≡ has_reported before other
 
 pub finished_leader : (before : Leader) → is_moving_phase (phase_of before) ≡ true → IsFinished before
-finished_leader (leader.Moving at) moving = record { parts = refl; moves = refl; stage = refl; phase = refl; prepared = λ other. refl; reported = λ other. refl }
+finished_leader (leader.Moving at) moving = assumption
 finished_leader (leader.Idle idle) moving = absurd (true≢false (sym moving))
 finished_leader (leader.Preparing preparing) moving = absurd (true≢false (sym moving))
 finished_leader (leader.Ended at) moving = absurd (true≢false (sym moving))

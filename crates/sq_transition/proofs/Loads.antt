@@ -227,13 +227,7 @@ load_holds o t w src dst i count chunk h from full facts =
     (subst (LinkHolds o after) (sym here) (unloaded o t src dst count l chunk lh full from.starts from.ends facts))
     (λ j apart within. inbox_stays o t w i src dst h.links from now j apart within there refl (λ s other. get_or-set_other core.inboxes src s None None (λ e. other (sym e))))
     (λ _ c. c)
-    (λ s d apart. record {
-      work = refl;
-      notes = refl;
-      loaded = ap length (more_loads src dst s d chunk.note (loads t) facts.comes_from facts.goes_to ∙ ap (λ b. if b then chunk.note ∷ link s d (loads t) else link s d (loads t)) apart);
-      popped = refl;
-      pushed = refl;
-    }))
+    (λ s d apart. assumption (ap length (more_loads src dst s d chunk.note (loads t) facts.comes_from facts.goes_to ∙ ap (λ b. if b then chunk.note ∷ link s d (loads t) else link s d (loads t)) apart))))
 
 -- what loading rests on: what is known of the note right after the loaded ones of a link, and that these begin its notes
 pub record LoadFacts (o : OpeningValue) (t : Trace) : Type 0 where

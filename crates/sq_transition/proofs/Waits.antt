@@ -36,24 +36,12 @@ waiting_holds o t w part txn seg leaf h there =
       plans = h.plans;
       leader = h.leader;
       partitions = core_set o t after w part core h.partitions there
-          (record {
-            set = was.set;
-            store = was.store;
-            waiting = ap (λ ws. ws ++ txn ∷ []) was.waiting ∙ sym (ap (λ b. if b then waiting o t part ++ txn ∷ [] else waiting o t part) (eq-eqb part part refl));
-            moves = was.moves;
-          })
-          (λ p apart _ c.
-          core_kept o t after p (core_at w p) c (record {
-            started = refl;
-            stage = refl;
-            shares = λ root. refl;
-            waits = ap (λ b. if b then waiting o t p ++ txn ∷ [] else waiting o t p) (ne_eqb part p apart);
-            moves = record { begun = λ seg leaf from below. refl; loaded = λ seg root into. refl; whole = λ seg node into. refl };
-          }));
+          (assumption (was, ap (λ ws. ws ++ txn ∷ []) was.waiting ∙ sym (ap (λ b. if b then waiting o t part ++ txn ∷ [] else waiting o t part) (eq-eqb part part refl))))
+          (λ p apart _ c. core_kept o t after p (core_at w p) c (assumption (ap (λ b. if b then waiting o t p ++ txn ∷ [] else waiting o t p) (ne_eqb part p apart))));
       segments = h.segments;
       links = links_same o t after w (with_core w part core) h.links (same_ends w (with_core w part core) refl)
           (λ j _. link_stays w part core j within (λ _. refl) (λ _. refl))
-          (λ src dst. record { work = refl; notes = refl; loaded = refl; popped = refl; pushed = refl })
+          (λ src dst. assumption)
           (λ j _ i chunk _ c. c);
     }
 

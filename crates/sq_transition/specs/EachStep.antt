@@ -14,4 +14,5 @@ use Rattle.sq_transition.specs.Headline.{KeepsHeadline}
 -- where the steps so far were answered legally and the world is the one that they lead to, the headline is kept by the next step
 abbrev pub EachStepKeepsHeadline : Type 0
 EachStepKeepsHeadline =
-    (o : OpeningValue) (t : Trace) (old new : WorldValue) (step : Step) (given : Answer) → IsOpening o → IsLegal o t → Holds o t old → IsTransition old step given new → KeepsHeadline o ((step, given) ∷ t) new
+    (o : OpeningValue) (t : Trace) (old new : WorldValue) (step : Step) (given : Answer) → IsOpening o → IsLegal o t
+    → Holds o t old → IsTransition old step given new → KeepsHeadline o ((step, given) ∷ t) new

@@ -1,4 +1,5 @@
--- What a world is, by its history: each store and each chunk under way is exactly its share of the committed transactions replayed on one unpartitioned table.
+-- What a world is, by its history: each store and each chunk under way is exactly its share of the committed transactions replayed
+-- on one unpartitioned table.
 -- Each part of what holds is a type of its fields alone, so that it is the same type after a step that changes nothing that it names.
 use Rattle.std.specs.Prelude.{◌≡◌, ℕ, Bool, true, false, ◌+◌, ◌==◌, ◌&&◌, ◌<◌, ◌≤◌, if◌then◌else◌, List, map, drop, reverse, length, slice_get, Option, Some, None, is_some}
 use Rattle.std.specs.List.{list_any}
@@ -80,7 +81,8 @@ PlansHold o w =
       config : w.config ≡ o.config;
     }
 
--- the leader leads the partitions of the opening and moves what moves; its phase is the history's, and so are its stage and who prepared and who reported
+-- the leader leads the partitions of the opening and moves what moves; its phase is the history's, and so are its stage and who
+-- prepared and who reported
 abbrev pub LeaderHolds : OpeningValue → Trace → WorldValue → Type 0
 LeaderHolds o t w =
     record {
@@ -128,7 +130,8 @@ IsSetFor o t part core =
 abbrev pub MovesHold : OpeningValue → Trace → ℕ → CoreValue → Type 0
 MovesHold o t part core =
     record {
-      given_up : (seg leaf : ℕ) → leaves_from o part seg → leaf < LEAVES → is_given_up (given_up_at core seg) leaf ≡ is_leaf_begun t seg leaf;
+      given_up : (seg leaf : ℕ) → leaves_from o part seg → leaf < LEAVES
+          → is_given_up (given_up_at core seg) leaf ≡ is_leaf_begun t seg leaf;
       loaded : (seg root : ℕ) → comes_into o part seg → is_loaded (loaded_at core seg) root ≡ is_key_loaded t seg root;
       whole : (seg node : ℕ) → comes_into o part seg → is_whole (loaded_at core seg) node ≡ has_last seg node (loads t);
     }
@@ -165,7 +168,8 @@ LinksHold o t w =
     record {
       each : (i : ℕ) → i < length w.queues → LinkHolds o t (link_value w i);
       ends : (src dst : ℕ) → is_some (link_index w src dst) ≡ is_link o.recon.ranges src dst;
-      one_each : (i j : ℕ) → i < length w.queues → j < length w.queues → (queue_at w i).src ≡ (queue_at w j).src → (queue_at w i).dst ≡ (queue_at w j).dst → i ≡ j;
+      one_each : (i j : ℕ) → i < length w.queues → j < length w.queues
+          → (queue_at w i).src ≡ (queue_at w j).src → (queue_at w i).dst ≡ (queue_at w j).dst → i ≡ j;
     }
 
 -- the world is the one that the trace leads to

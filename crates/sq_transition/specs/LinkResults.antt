@@ -65,7 +65,9 @@ pop_chunk w src dst i (chunk ∷ chunks) = (Done, with_core (with_queue w i chun
 
 abbrev pub pop_result : WorldValue → ℕ → ℕ → StepResult
 pop_result w src dst =
-    if_link w src dst (λ i. if is_some (inbox_at (core_at w dst) src) then refuse w InboxFull else pop_chunk w src dst i (queue_at w i).chunks)
+    if_link w src dst (λ i.
+    if is_some (inbox_at (core_at w dst) src) then refuse w InboxFull else pop_chunk w src dst i (queue_at w i).chunks
+    )
 
 abbrev pub load_chunk : WorldValue → ℕ → ℕ → Option ChunkValue → StepResult
 load_chunk w src dst None = refuse w InboxEmpty

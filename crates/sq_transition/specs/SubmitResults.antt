@@ -27,7 +27,8 @@ use Rattle.sq_transition.specs.LeaderResults.{StepResult, refuse, if_partition}
 abbrev pub is_root_given_up : WorldValue → ℕ → Bool
 is_root_given_up w root = option_map_or (λ at. is_begun (status_in w at.0 (covering (status_in w at.0) at.1))) (leaf_at w.recon root) false
 
--- where a transaction is sent on to: once the source gave its root key up to the destination, which a third partition can't know, and else to where the partition says
+-- where a transaction is sent on to: once the source gave its root key up to the destination, which a third partition can't know,
+-- and else to where the partition says
 abbrev pub sent_to : WorldValue → ℕ → ℕ → ℕ
 sent_to w root who = if is_root_given_up w root then owner w.new root else who
 

@@ -62,7 +62,8 @@ is_loaded_whole w seg node = is_whole (loaded_at (core_at w (destination_of w se
 abbrev pub complete_result : WorldValue → ℕ → ℕ → ℕ → StepResult
 complete_result w seg node pull =
     if_moving w (if_segment w seg (if_node w node (
-    if_done (complete_answered (is_loaded_whole w seg node) (complete_answer (status_in w seg) node pull)) w (with_node w seg node (status.Complete pull))
+    if_done (complete_answered (is_loaded_whole w seg node) (complete_answer (status_in w seg) node pull))
+    w (with_node w seg node (status.Complete pull))
     )))
 
 abbrev pub status_result : WorldValue → ℕ → ℕ → StepResult

@@ -21,7 +21,8 @@ pub record QueueValue : Type 0 where
   pub dst : ℕ
   pub chunks : List ChunkValue
 
--- a world: the plans, what moves between them and the sizes; the leader; the partitions, each by itself; for each segment the statuses of its nodes from node 1 on; and the queues between the partitions
+-- a world: the plans, what moves between them and the sizes; the leader; the partitions, each by itself; for each segment the
+-- statuses of its nodes from node 1 on; and the queues between the partitions
 pub record WorldValue : Type 0 where
   pub tables : ℕ
   pub old : PlanValue
