@@ -22,20 +22,17 @@ module _ {began : BeganWith} (o : OpeningValue) (node : NodeValue) (h : NodeHold
     pub keeps_outs : BegunHolds o began.stage node.part begun given_up → ((k : ℕ) → OutHolds o began node.part begun k (outs k).notes (outs k).work (cut_to with_outs k)) → ((k : ℕ) → cut_to with_outs k ≡ cut_to node k) → NodeHolds o began with_outs
     keeps_outs begins ends same_cut =
         let same : cut_to node ≡ cut_to with_outs = λ i k. sym (same_cut k) i in
-        record {
-          below = h.below;
-          begun = begins;
-          outs = ends;
-          ins = h.ins;
-          loaded = h.loaded;
-          completed = h.completed;
-          store = subst (λ lists. StoreHolds o began node.part (IsInOne lists) (HasLoaded node) node.store) same h.store;
-          families = subst (λ lists. FamiliesHold o began node.part (IsInOne lists) (HasLoaded node) node.store) same h.families;
-          receipts = subst (λ lists. ReceiptsHold o began node.part (IsInOne lists) (HasLoaded node) node.store node.receipts) same h.receipts;
-        }
+        assumption (
+          begins,
+          ends,
+          subst (λ lists. StoreHolds o began node.part (IsInOne lists) (HasLoaded node) node.store) same h.store,
+          subst (λ lists. FamiliesHold o began node.part (IsInOne lists) (HasLoaded node) node.store) same h.families,
+          subst (λ lists. ReceiptsHold o began node.part (IsInOne lists) (HasLoaded node) node.store node.receipts) same h.receipts,
+          h,
+        )
 
   -- the families and the receipts are others
   pub keeps_families : (store : StoreValue) (receipts : List ReceiptValue) → StoreHolds o began node.part (HasCut node) (HasLoaded node) store → FamiliesHold o began node.part (HasCut node) (HasLoaded node) store
       → ReceiptsHold o began node.part (HasCut node) (HasLoaded node) store receipts → NodeHolds o began (record node { store = store; receipts = receipts })
   keeps_families store receipts kept families told =
-      record { below = h.below; begun = h.begun; outs = h.outs; ins = h.ins; loaded = h.loaded; completed = h.completed; store = kept; families = families; receipts = told }
+      assumption (kept, families, told, h)

@@ -78,17 +78,7 @@ module _ (old new : CoreValue) (views : ℕ → View) (sent received : ℕ → L
       ∙ (λ i. record (node_with old views sent received receipts) { store = c.store; outs = λ d. put_set old.outs dst c.out new_out_link below d i })
 
   next_note : IsNoteOf old.part dst (length ends.notes) work made
-  next_note = record {
-    comes_from = refl;
-    goes_to = refl;
-    counted = refl;
-    same_seg = refl;
-    same_node = refl;
-    from = refl;
-    rises = subst (λ (n : Note). n.lo ≤ n.hi) note_is c.cut.rises;
-    upto = subst (λ (n : Note). n.hi ≤ work.hi) note_is c.cut.within;
-    is_last = refl;
-  }
+  next_note = assumption (subst (λ (n : Note). n.lo ≤ n.hi) note_is c.cut.rises, subst (λ (n : Note). n.hi ≤ work.hi) note_is c.cut.within)
 
   pub core_cut : {began : BeganWith} (o : OpeningValue) → IsOpening o → NodeHolds o began (node_with old views sent received receipts) → NodeHolds o began (node_with new views sent received receipts)
   core_cut {began} o is h =

@@ -11,10 +11,10 @@ use Rattle.std.proofs.Math.Bool.{or_comm}
 use Rattle.sq_tree.specs.declared.status.Status.{Status}
 use Rattle.sq_tree.specs.declared.status.Status.TheVariants.{Partial, Complete}
 use Rattle.sq_tree.specs.Node.{is_node, first_leaf, span}
-use Rattle.sq_tree.specs.Status.{reading, is_free, is_split, is_begun, is_complete}
+use Rattle.sq_tree.specs.Status.{is_free, is_split, is_begun, is_complete}
 use Rattle.sq_tree.proofs.Nested.{above_within}
 use Rattle.sq_tree.proofs.Covering.{covering_touched}
-use Rattle.sq_tree.proofs.Readings.{all_complete_is}
+use Rattle.sq_model.proofs.Statuses.{all_complete}
 use Rattle.sq_chunk.specs.declared.chunk.Note.{Note}
 use Rattle.sq_chunk.specs.ChunkValue.{ChunkValue}
 use Rattle.sq_ranges.specs.ReconValue.{stage_on, stage_in}
@@ -31,7 +31,6 @@ use Rattle.sq_node_model.specs.Placed.{IsPlaced}
 use Rattle.sq_node_model.specs.Next.{IsStageDone}
 use Rattle.sq_node_model.proofs.Members.{Contains-reverse, Contains-map}
 use Rattle.sq_node_model.proofs.Staged.{on_link_goes, link_runs}
-use Rattle.sq_node_model.proofs.Next.{reads_complete}
 
 begun_touched : (st : Status) → is_begun st ≡ true → (is_free st ≡ false) × (is_split st ≡ false)
 begun_touched (Partial p) begun = (refl, refl)
@@ -63,7 +62,7 @@ module _ (o : OpeningValue) (g : GatheredValue) (p : IsPlaced o g) (done : IsSta
   begun_complete seg n src dst goes runs node begun =
       let status = word_in g seg in
       let running : stage_in o.recon goes.segment ≡ g.stage = (λ i. stage_on o.recon (goes.source i) (goes.destination i)) ∙ eqb-true (stage_on o.recon src dst) g.stage runs in
-      let whole = (all_complete_is status (p.fit.grown seg)).0 (reads_complete (reading status 1) (done seg goes.segment goes.there running)) in
+      let whole = all_complete status (p.fit.grown seg) (done seg goes.segment goes.there running) in
       let leaf = first_leaf n in
       let few = low_leaf n node in
       let some = some_span n in

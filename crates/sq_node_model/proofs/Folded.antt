@@ -1,5 +1,5 @@
 -- What was gathered of a stage whose segments are complete is placed again once its logs are folded, with the opening whose table is its rows.
-use Rattle.std.proofs.Common.{◌≡◌, inl, inr, ℕ, ◌+◌, Bool, true, false, ◌==◌, nat_lt, if◌then◌else◌, List, [], ◌∷◌, length, reverse, slice_get, find, Option, Some, None, refl, sym, ap, ◌∙◌, subst, true≢false}
+use Rattle.std.proofs.Common.{◌≡◌, inl, inr, ℕ, ◌+◌, Bool, true, false, ◌==◌, nat_lt, if◌then◌else◌, List, [], ◌∷◌, length, reverse, slice_get, Some, None, refl, sym, ap, ◌∙◌, subst, true≢false}
 use Rattle.std.specs.Prelude.{not, option_and_then}
 use Rattle.std.proofs.lemmas.Bool.{cases_Bool}
 use Rattle.std.proofs.lemmas.List.Elements.{All-nil}
@@ -9,20 +9,17 @@ use Rattle.sq_schema.specs.Table.{TableValue}
 use Rattle.sq_schema.specs.Family.{FamilyValue, rows_of}
 use Rattle.sq_store.specs.StoreValue.{StoreValue}
 use Rattle.sq_chunk.specs.declared.chunk.Note.{Note}
-use Rattle.sq_chunk.specs.ChunkValue.{covers}
 use Rattle.sq_ranges.specs.OpeningValue.{OpeningValue}
 use Rattle.sq_ranges.specs.Opening.{IsOpening}
 use Rattle.sq_model.specs.Tables.{opening_rows}
-use Rattle.sq_model.specs.Place.{loaded_place}
 use Rattle.sq_model.specs.Orderly.{Tiles}
 use Rattle.sq_model.proofs.Lists.{Contains-nothing}
 use Rattle.sq_status.specs.View.{one_if}
-use Rattle.sq_node_model.specs.Stages.{cut_place_in}
 use Rattle.sq_node_model.specs.BeganWith.{is_opened, IsOf}
 use Rattle.sq_node_model.specs.declared.spot.Spot.{Spot}
 use Rattle.sq_node_model.specs.declared.spot.Spot.TheVariants.{Store, Chunk}
 use Rattle.sq_node_model.specs.Gathered.{GatheredLink, GatheredValue}
-use Rattle.sq_node_model.specs.Spots.{cut_notes, loaded_notes, gathered_place, family_at_spot, StandsAt, IsSpotOf}
+use Rattle.sq_node_model.specs.Spots.{gathered_place, family_at_spot, StandsAt, IsSpotOf}
 use Rattle.sq_node_model.specs.Placed.{IsLinkPlaced, IsPlaced}
 use Rattle.sq_node_model.specs.Next.{IsStageDone}
 use Rattle.sq_node_model.specs.Folded.{folded_family, folded_opening, folded_gathered, IsFolded}
@@ -62,12 +59,8 @@ module _ (o : OpeningValue) (is : IsOpening o) (g : GatheredValue) (p : IsPlaced
       (λ was there e. (was, there, folded_is was family e))
   came_of (Chunk i j) root family stands = absurd (let e = stands_next o is g p done (Chunk i j) root family stands in cc)
 
-  same_cut : (root : ℕ) (found : Option Note) → cut_place_in now g.stage root found ≡ cut_place_in o g.stage root found
-  same_cut root None = refl
-  same_cut root (Some note) = refl
-
   same_place : (root : ℕ) → gathered_place now h root ≡ gathered_place o g root
-  same_place root = ap (λ at. loaded_place at (find (λ note. covers note root) (loaded_notes g))) (same_cut root (find (λ note. covers note root) (cut_notes g)))
+  same_place root = refl
 
   placed_too : (spot : Spot) (root : ℕ) (family : FamilyValue) → StandsAt h spot root family → IsSpotOf h spot (gathered_place now h root)
   placed_too (Store part) root family stands =
@@ -83,7 +76,7 @@ module _ (o : OpeningValue) (is : IsOpening o) (g : GatheredValue) (p : IsPlaced
         numbered = placed.numbered;
         about = λ note has.
             let about = placed.about note has in
-            record { comes_from = about.comes_from; goes_to = about.goes_to; segment = about.segment; node = about.node; begun = about.begun };
+            assumption (about);
         tiles = tiles_too o table (reverse link.notes) placed.tiles;
         within = placed.within;
       }
@@ -104,7 +97,7 @@ module _ (o : OpeningValue) (is : IsOpening o) (g : GatheredValue) (p : IsPlaced
     fit = record {
       parts = record {
         all_stores = f.count ∙ p.fit.parts.all_stores;
-        each_link = record { ends = p.fit.parts.each_link.ends; one_each = p.fit.parts.each_link.one_each };
+        each_link = assumption (p.fit.parts.each_link);
         all_words = p.fit.parts.all_words;
       };
       links = link_too;

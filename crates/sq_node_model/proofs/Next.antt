@@ -8,12 +8,9 @@ use Rattle.std.proofs.lemmas.List.{reverse-append, take-append-drop}
 use Rattle.std.proofs.lemmas.List.Elements.{Contains-append_left}
 use Rattle.std.proofs.lemmas.Option.{slice_get_within}
 use Rattle.sq_schema.specs.Family.{FamilyValue}
-use Rattle.sq_tree.specs.declared.status.Reading.{Reading}
-use Rattle.sq_tree.specs.declared.status.Reading.TheVariants as reads
-use Rattle.sq_tree.specs.Status.{reading, covering}
-use Rattle.sq_tree.specs.Reading.{is_complete_reading}
+use Rattle.sq_tree.specs.Status.{covering}
 use Rattle.sq_tree.proofs.Covering.{covering_is}
-use Rattle.sq_tree.proofs.Readings.{all_complete_is}
+use Rattle.sq_model.proofs.Statuses.{all_complete}
 use Rattle.sq_store.specs.StoreValue.{StoreValue}
 use Rattle.sq_chunk.specs.declared.chunk.Note.{Note}
 use Rattle.sq_chunk.specs.ChunkValue.{ChunkValue, covers}
@@ -55,10 +52,6 @@ tiles_behind : (o : OpeningValue) (newer older : List Note) → Tiles o (newer +
 tiles_behind o [] older tiles = tiles
 tiles_behind o (note ∷ newer) older tiles = tiles_behind o newer older tiles.1
 
-pub reads_complete : (now : Reading) → is_complete_reading now ≡ true → now ≡ reads.Complete
-reads_complete reads.Complete e = refl
-reads_complete now e = absurd cc
-
 below_next : (n m : ℕ) → n ≡ m → nat_lt n (m + 1) ≡ true
 below_next n m same = grind (arith, nat_tests)
 
@@ -72,6 +65,23 @@ record IsMovingNote (o : OpeningValue) (i root : ℕ) (note : Note) : Type 0 whe
   on : is_on_link_in o i src dst note.seg ≡ true
   within : is_within (extent_of o note.seg note.node) root ≡ true
   goes_to : note.dst ≡ dst
+
+-- a store opens with the families that the next stage begins with, where each of its families is its partition's in that stage
+pub opens_owned : (o : OpeningValue) (g : GatheredValue) (q : ℕ) (store : StoreValue) → slice_get g.stores q ≡ Some store
+    → ((root : ℕ) (family : FamilyValue) → get store root ≡ Some family → owner_in o (g.stage + 1) root ≡ q) → OpensWith o (next_began o g) q store
+opens_owned o g q store there owned root =
+    ⊎_elim
+    (λ here.
+    let same = eqb-true (owner_in o (g.stage + 1) root) q here in
+    sym (ap (λ b. if b then family_at_spot g (Store (owner_in o (g.stage + 1) root)) root else None) here
+    ∙ ap (λ k. family_at_spot g (Store k) root) same
+    ∙ ap (option_and_then (λ (store : StoreValue). get store root)) there))
+    (λ away. none (get store root) refl away ∙ sym (ap (λ b. if b then family_at_spot g (Store (owner_in o (g.stage + 1) root)) root else None) away))
+    (cases_Bool (owner_in o (g.stage + 1) root == q))
+  where
+    none : (found : Option FamilyValue) → get store root ≡ found → (owner_in o (g.stage + 1) root == q) ≡ false → get store root ≡ None
+    none None e away = e
+    none (Some family) e away = absurd (true≢false (sym (eq-eqb (owner_in o (g.stage + 1) root) q (owned root family e)) ∙ away))
 
 module _ (o : OpeningValue) (is : IsOpening o) (g : GatheredValue) (p : IsPlaced o g) where
   moving_note : (root : ℕ) (note : Note) → Contains (cut_notes g) note → covers note root ≡ true → IsMovingNote o g.stage root note
@@ -108,7 +118,7 @@ module _ (o : OpeningValue) (is : IsOpening o) (g : GatheredValue) (p : IsPlaced
         let status = word_in g seg in
         let leaf = leaf_of o.recon.width segment root in
         let n = covering status leaf in
-        let whole = (all_complete_is status (p.fit.grown seg)).0 (reads_complete (reading status 1) (done seg segment at.there (eqb-true (stage_on o.recon segment.src segment.dst) g.stage runs))) in
+        let whole = all_complete status (p.fit.grown seg) (done seg segment at.there (eqb-true (stage_on o.recon segment.src segment.dst) g.stage runs)) in
         let last = p.fit.complete seg n (whole leaf at.leaf) in
         let keys = extent_of o seg n in
         let within : is_within keys root ≡ true = above_within o is root seg n segment at (covering_is status (p.fit.grown seg) leaf at.leaf).above in
@@ -193,22 +203,11 @@ module _ (o : OpeningValue) (is : IsOpening o) (g : GatheredValue) (p : IsPlaced
     }
 
     pub opens_next : (q : ℕ) (store : StoreValue) → slice_get g.stores q ≡ Some store → OpensWith o (next_began o g) q store
-    opens_next q store there root =
-        ⊎_elim
-        (λ here.
-        let same = eqb-true (owner_in o (g.stage + 1) root) q here in
-        sym (ap (λ b. if b then family_at_spot g (Store (owner_in o (g.stage + 1) root)) root else None) here
-        ∙ ap (λ k. family_at_spot g (Store k) root) same
-        ∙ ap (option_and_then (λ (store : StoreValue). get store root)) there))
-        (λ away. none (get store root) refl away ∙ sym (ap (λ b. if b then family_at_spot g (Store (owner_in o (g.stage + 1) root)) root else None) away))
-        (cases_Bool (owner_in o (g.stage + 1) root == q))
-      where
-        none : (found : Option FamilyValue) → get store root ≡ found → (owner_in o (g.stage + 1) root == q) ≡ false → get store root ≡ None
-        none None e away = e
-        none (Some family) e away =
-            let at = stands_next (Store q) root family (ap (option_and_then (λ (store : StoreValue). get store root)) there ∙ e) in
-            let same : q ≡ owner_in o (g.stage + 1) root = let f = at in cc in
-            absurd (true≢false (sym (eq-eqb (owner_in o (g.stage + 1) root) q (sym same)) ∙ away))
+    opens_next q store there =
+        opens_owned o g q store there (λ root family stored.
+        let at = stands_next (Store q) root family (ap (option_and_then (λ (store : StoreValue). get store root)) there ∙ stored) in
+        let same : owner_in o (g.stage + 1) root ≡ q = let e = at in cc in
+        same)
 
     -- the nodes that the next stage opens with hold
     pub holds_next : (q : ℕ) (store : StoreValue) (views : ℕ → View) (sent received : ℕ → List ChunkValue) → slice_get g.stores q ≡ Some store → IsUnused views sent received

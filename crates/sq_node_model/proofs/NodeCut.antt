@@ -113,14 +113,11 @@ module _ {began : BeganWith} (o : OpeningValue) (is : IsOpening o) (node : NodeV
       (λ k apart. h.outs k)
 
   pub keeps_cut : NodeHolds o began after
-  keeps_cut = record {
-    below = h.below;
-    begun = h.begun;
-    outs = outs_after;
-    ins = h.ins;
-    loaded = h.loaded;
-    completed = h.completed;
-    store = store_cut o node.part (HasCut node) (HasCut after) (HasLoaded node) node.store chunk more taken home (loaded_away o is node h) (loaded_carried o is node h) h.store h.families;
-    families = families_cut o node.part (HasCut node) (HasCut after) (HasLoaded node) node.store chunk more taken home (loaded_away o is node h) (loaded_carried o is node h) h.store h.families;
-    receipts = receipts_cut o node.part (HasCut node) (HasCut after) (HasLoaded node) node.store chunk more taken home (loaded_away o is node h) (loaded_carried o is node h) h.store h.families node.receipts h.receipts;
-  }
+  keeps_cut =
+      assumption (
+        outs_after,
+        store_cut o node.part (HasCut node) (HasCut after) (HasLoaded node) node.store chunk more taken home (loaded_away o is node h) (loaded_carried o is node h) h.store h.families,
+        families_cut o node.part (HasCut node) (HasCut after) (HasLoaded node) node.store chunk more taken home (loaded_away o is node h) (loaded_carried o is node h) h.store h.families,
+        receipts_cut o node.part (HasCut node) (HasCut after) (HasLoaded node) node.store chunk more taken home (loaded_away o is node h) (loaded_carried o is node h) h.store h.families node.receipts h.receipts,
+        h,
+      )

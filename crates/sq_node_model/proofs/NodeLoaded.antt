@@ -63,17 +63,16 @@ module _ {began : BeganWith} (o : OpeningValue) (node : NodeValue) (h : NodeHold
       (λ k apart. h.ins k)
 
   pub keeps_received : NodeHolds o began received
-  keeps_received = record {
-    below = h.below;
-    begun = h.begun;
-    outs = h.outs;
-    ins = ins_received;
-    loaded = subst (λ lists. LoadedHolds node.loaded (IsInOne lists)) (sym same_lists) h.loaded;
-    completed = subst (λ (lists : ℕ → List ChunkValue). (seg n pull : ℕ) → Contains (node.completed seg) (n, pull) → HasLast (IsInOne lists) seg n) (sym same_lists) h.completed;
-    store = subst (λ lists. StoreHolds o began node.part (HasCut node) (IsInOne lists) node.store) (sym same_lists) h.store;
-    families = subst (λ lists. FamiliesHold o began node.part (HasCut node) (IsInOne lists) node.store) (sym same_lists) h.families;
-    receipts = subst (λ lists. ReceiptsHold o began node.part (HasCut node) (IsInOne lists) node.store node.receipts) (sym same_lists) h.receipts;
-  }
+  keeps_received =
+      assumption (
+        ins_received,
+        subst (λ lists. LoadedHolds node.loaded (IsInOne lists)) (sym same_lists) h.loaded,
+        subst (λ (lists : ℕ → List ChunkValue). (seg n pull : ℕ) → Contains (node.completed seg) (n, pull) → HasLast (IsInOne lists) seg n) (sym same_lists) h.completed,
+        subst (λ lists. StoreHolds o began node.part (HasCut node) (IsInOne lists) node.store) (sym same_lists) h.store,
+        subst (λ lists. FamiliesHold o began node.part (HasCut node) (IsInOne lists) node.store) (sym same_lists) h.families,
+        subst (λ lists. ReceiptsHold o began node.part (HasCut node) (IsInOne lists) node.store node.receipts) (sym same_lists) h.receipts,
+        h,
+      )
 
 module _ {began : BeganWith} (o : OpeningValue) (is : IsOpening o) (node : NodeValue) (h : NodeHolds o began node) (src : ℕ) (chunk : ChunkValue) (came : node.inboxes src ≡ Some chunk)
     (arrived : HasArrived o began.stage src node.part chunk.note) (rising : are_within chunk.note.lo chunk.note.hi chunk.families ≡ true) (own : (root : ℕ) (family : FamilyValue) → IsCarried chunk root family → IsOf root family)
@@ -126,14 +125,13 @@ module _ {began : BeganWith} (o : OpeningValue) (is : IsOpening o) (node : NodeV
   carried_owned other root family has carried = (cut_carried o is node h other root family has carried).0
 
   pub keeps_loaded : NodeHolds o began after
-  keeps_loaded = record {
-    below = h.below;
-    begun = h.begun;
-    outs = h.outs;
-    ins = ins_after;
-    loaded = runs_loaded (HasLoaded node) (HasLoaded after) chunk more node.loaded h.loaded;
-    completed = λ seg n pull has. last_more (HasLoaded node) (HasLoaded after) chunk more seg n (h.completed seg n pull has);
-    store = store_loaded o node.part (HasCut node) (HasLoaded node) (HasLoaded after) node.store chunk more rising own fresh away_after carried_owned h.store h.families;
-    families = families_loaded o node.part (HasCut node) (HasLoaded node) (HasLoaded after) node.store chunk more rising own fresh away_after carried_owned h.store h.families;
-    receipts = receipts_loaded o node.part (HasCut node) (HasLoaded node) (HasLoaded after) node.store chunk more rising own fresh away_after carried_owned h.store h.families node.receipts h.receipts;
-  }
+  keeps_loaded =
+      assumption (
+        ins_after,
+        runs_loaded (HasLoaded node) (HasLoaded after) chunk more node.loaded h.loaded,
+        λ (seg n pull : ℕ) (has : Contains (node.completed seg) (n, pull)). last_more (HasLoaded node) (HasLoaded after) chunk more seg n (h.completed seg n pull has),
+        store_loaded o node.part (HasCut node) (HasLoaded node) (HasLoaded after) node.store chunk more rising own fresh away_after carried_owned h.store h.families,
+        families_loaded o node.part (HasCut node) (HasLoaded node) (HasLoaded after) node.store chunk more rising own fresh away_after carried_owned h.store h.families,
+        receipts_loaded o node.part (HasCut node) (HasLoaded node) (HasLoaded after) node.store chunk more rising own fresh away_after carried_owned h.store h.families node.receipts h.receipts,
+        h,
+      )

@@ -49,25 +49,18 @@ module _ {began : BeganWith} (o : OpeningValue) (node : NodeValue) (h : NodeHold
 
 -- a tree node is completed whose last chunk was loaded
 pub keeps_completed : {began : BeganWith} (o : OpeningValue) (node : NodeValue) (seg n pull : ℕ) → HasLast (HasLoaded node) seg n → NodeHolds o began node → NodeHolds o began (node_completed node seg n pull)
-keeps_completed o node seg n pull last h = record {
-  below = h.below;
-  begun = h.begun;
-  outs = h.outs;
-  ins = h.ins;
-  loaded = h.loaded;
-  completed = λ g m q.
-      put_each (λ g entries. Contains entries (m, q) → HasLast (HasLoaded node) g m) seg ((n, pull) ∷ node.completed seg) node.completed
-      (λ has.
-      ⊎_elim
-      (λ new. subst (λ k. HasLast (HasLoaded node) seg k) (ap (λ (entry : ℕ × ℕ). entry.0) new) last)
-      (λ old. h.completed seg m q old)
-      (Contains-cases (n, pull) (node.completed seg) (m, q) has))
-      (λ g apart has. h.completed g m q has)
-      g;
-  store = h.store;
-  families = h.families;
-  receipts = h.receipts;
-}
+keeps_completed o node seg n pull last h = assumption (each_last, h)
+  where
+    each_last : (g m q : ℕ) → Contains ((node_completed node seg n pull).completed g) (m, q) → HasLast (HasLoaded node) g m
+    each_last g m q =
+        put_each (λ g entries. Contains entries (m, q) → HasLast (HasLoaded node) g m) seg ((n, pull) ∷ node.completed seg) node.completed
+        (λ has.
+        ⊎_elim
+        (λ new. subst (λ k. HasLast (HasLoaded node) seg k) (ap (λ (entry : ℕ × ℕ). entry.0) new) last)
+        (λ old. h.completed seg m q old)
+        (Contains-cases (n, pull) (node.completed seg) (m, q) has))
+        (λ g apart has. h.completed g m q has)
+        g
 
 -- a transaction is answered whose root key is at home or was loaded
 pub keeps_answered : {began : BeganWith} (o : OpeningValue) → IsOpening o → (node : NodeValue) (txn : TxnValue) (given : Reply) → IsHome o began.stage node.part (HasCut node) txn.root ⊎ IsCovered (HasLoaded node) txn.root → given ≡ store_reply node.store txn

@@ -51,13 +51,7 @@ module _ (began : BeganWith) (o : OpeningValue) (part : ℕ) (begun now : ℕ �
   }
 
   work_more : (d : ℕ) (notes : List Note) (work : WorkValue) → IsOpenWork o began.stage part begun notes d work → IsOpenWork o began.stage part now notes d work
-  work_more d notes work w = record {
-    segment = w.segment;
-    on = b.more work.seg (work.node, work.pull) w.on;
-    open_yet = w.open_yet;
-    rest = w.rest;
-    upto = w.upto;
-  }
+  work_more d notes work w = assumption (b.more work.seg (work.node, work.pull) w.on, w)
 
   -- the links to other partitions stay as they are
   pub out_other : (dst d : ℕ) (notes : List Note) (works : List WorkValue) (cut : List ChunkValue) → is_on_link_in o began.stage part dst seg ≡ true → d ≢ dst

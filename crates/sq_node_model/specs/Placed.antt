@@ -4,7 +4,6 @@ use Rattle.std.specs.Prelude.{◌≡◌, ℕ, true, nat_lt, length, map, drop, r
 use Rattle.sq_schema.specs.Family.{FamilyValue}
 use Rattle.sq_tree.specs.Node.{is_node}
 use Rattle.sq_tree.specs.Status.{is_begun, is_complete}
-use Rattle.sq_tree.specs.Tree.{IsGrown}
 use Rattle.sq_chunk.specs.declared.chunk.Note.{Note}
 use Rattle.sq_chunk.specs.ChunkValue.{ChunkValue, are_within}
 use Rattle.sq_ranges.specs.OpeningValue.{OpeningValue}
@@ -19,7 +18,7 @@ use Rattle.sq_node_model.specs.Receipts.{is_commit, times_named, IsToldBy}
 use Rattle.sq_node_model.specs.FamiliesHold.{IsOf, GrowsFrom}
 use Rattle.sq_node_model.specs.declared.spot.Spot.{Spot}
 use Rattle.sq_node_model.specs.Gathered.{GatheredLink, GatheredValue, HasEachLink}
-use Rattle.sq_node_model.specs.Spots.{loaded_count, cut_notes, loaded_notes, gathered_place, word_in, StandsAt, IsSpotOf}
+use Rattle.sq_node_model.specs.Spots.{AllGrown, loaded_count, cut_notes, loaded_notes, gathered_place, word_in, StandsAt, IsSpotOf}
 
 -- there is a store for each partition, a link wherever a range moves in the stage, and a tree for each segment
 pub record HasEachPart (o : OpeningValue) (g : GatheredValue) : Type 0 where
@@ -50,7 +49,7 @@ pub record FitTogether (o : OpeningValue) (g : GatheredValue) : Type 0 where
   pub parts : HasEachPart o g
   pub links : (i : ℕ) (link : GatheredLink) → slice_get g.links i ≡ Some link → IsLinkPlaced o g link
   pub apart : AreDisjoint (cut_notes g)
-  pub grown : (seg : ℕ) → IsGrown (word_in g seg)
+  pub grown : AllGrown g.words
   pub complete : (seg n : ℕ) → is_complete (word_in g seg n) ≡ true → has_last seg n (loaded_notes g) ≡ true
   pub placed : (spot : Spot) (root : ℕ) (family : FamilyValue) → StandsAt g spot root family
       → IsSpotOf g spot (gathered_place o g root)

@@ -1,16 +1,16 @@
 -- Where the families are of what was gathered, and where they should be.
-use Rattle.std.specs.Prelude.{◌≡◌, ℕ, ◌-◌, List, [], length, take, find, slice_get, slice_index_or, Option, Some, option_and_then}
+use Rattle.std.specs.Prelude.{◌≡◌, ℕ, ◌-◌, List, [], length, take, slice_get, slice_index_or, Option, Some, option_and_then}
 use Rattle.std.specs.List.{flat_map}
 use Rattle.std.specs.FinMap.{get}
 use Rattle.sq_schema.specs.Family.{FamilyValue}
 use Rattle.sq_tree.specs.declared.status.Status.{Status}
-use Rattle.sq_tree.specs.Tree.{status_at}
+use Rattle.sq_tree.specs.Tree.{status_at, IsGrown}
 use Rattle.sq_store.specs.StoreValue.{family_in}
 use Rattle.sq_chunk.specs.declared.chunk.Note.{Note}
-use Rattle.sq_chunk.specs.ChunkValue.{ChunkValue, covers}
+use Rattle.sq_chunk.specs.ChunkValue.{ChunkValue}
 use Rattle.sq_ranges.specs.OpeningValue.{OpeningValue}
-use Rattle.sq_model.specs.Place.{Place, At, Under_way, loaded_place}
-use Rattle.sq_node_model.specs.Stages.{cut_place_in}
+use Rattle.sq_model.specs.Place.{Place, At, Under_way, place_from}
+use Rattle.sq_model.specs.Staged.{owner_in}
 use Rattle.sq_node_model.specs.declared.spot.Spot.{Spot}
 use Rattle.sq_node_model.specs.declared.spot.Spot.TheVariants.{Store, Chunk}
 use Rattle.sq_node_model.specs.Gathered.{GatheredLink, GatheredValue}
@@ -29,18 +29,17 @@ cut_notes g = flat_map (λ link. link.notes) g.links
 abbrev pub loaded_notes : GatheredValue → List Note
 loaded_notes g = flat_map loads_of g.links
 
--- the first of the notes that covers the root key
-abbrev pub note_over : ℕ → List Note → Option Note
-note_over root notes = find (λ note. covers note root) notes
-
 -- where these notes place a root key
 abbrev pub gathered_place : OpeningValue → GatheredValue → ℕ → Place
-gathered_place o g root =
-    loaded_place (cut_place_in o g.stage root (note_over root (cut_notes g))) (note_over root (loaded_notes g))
+gathered_place o g root = place_from (owner_in o g.stage root) (cut_notes g) (loaded_notes g) root
 
 -- the status of a node of a segment's tree
 abbrev pub word_in : GatheredValue → ℕ → ℕ → Status
 word_in g seg n = status_at (slice_index_or g.words seg []) n
+
+-- the statuses of each segment are those of a tree that grew from a free one
+abbrev pub AllGrown : List (List Status) → Type 0
+AllGrown words = (seg : ℕ) → IsGrown (status_at (slice_index_or words seg []))
 
 -- the chunk at a place of the link at a place
 abbrev pub chunk_in : GatheredValue → ℕ → ℕ → Option ChunkValue

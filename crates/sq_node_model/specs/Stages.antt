@@ -3,9 +3,9 @@ use Rattle.std.specs.Prelude.{ℕ, Bool, ◌==◌, ◌&&◌, Option}
 use Rattle.sq_chunk.specs.declared.chunk.Note.{Note}
 use Rattle.sq_ranges.specs.ReconValue.{stage_on, is_link}
 use Rattle.sq_ranges.specs.OpeningValue.{OpeningValue}
-use Rattle.sq_model.specs.Place.{Place}
+use Rattle.sq_model.specs.Place.{Place, cut_place}
 use Rattle.sq_model.specs.Links.{is_on_link}
-use Rattle.sq_model.specs.Staged.{owner_in, cut_from}
+use Rattle.sq_model.specs.Staged.{owner_in}
 
 -- keys go from the one partition to the other in this stage
 abbrev pub runs_in : OpeningValue → ℕ → ℕ → ℕ → Bool
@@ -21,4 +21,4 @@ is_link_in o i src dst = is_link o.recon.ranges src dst && runs_in o i src dst
 
 -- a key that no note of the stage covers is where it was as the stage began
 abbrev pub cut_place_in : OpeningValue → ℕ → ℕ → Option Note → Place
-cut_place_in o i root note = cut_from (owner_in o i root) note
+cut_place_in o i root note = cut_place (owner_in o i root) note
