@@ -13,7 +13,7 @@ use Rattle.sq_transition.specs.TreeResults.{if_segment, if_node}
 use Rattle.sq_state.specs.Results.{unless, refuse_if}
 
 -- a check that gave a value found nothing wrong, and gave the one that it has
-nothing_wrong : {X : Type 0} (wrong : Bool) (refusal : Refusal) (x y : X) → Ok x ≡ unless wrong refusal y → wrong ≡ false
+pub nothing_wrong : {X : Type 0} (wrong : Bool) (refusal : Refusal) (x y : X) → Ok x ≡ unless wrong refusal y → wrong ≡ false
 nothing_wrong true refusal x y is = cc
 nothing_wrong false refusal x y is = refl
 

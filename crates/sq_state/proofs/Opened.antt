@@ -1,6 +1,6 @@
 -- The state that a world opens in.
 use Rattle.std.proofs.Common.{subst, ⊎_elim, ◌≡◌, ℕ, false, refl, sym, ap, ◌∙◌, arith, length, get_or, map, replicate}
-use Rattle.std.specs.Prelude.{◌∷◌, ◌<◌, ◌≤◌, ◌==◌, ◌&&◌, if◌then◌else◌, not, [], slice_get, Some, None}
+use Rattle.std.specs.Prelude.{◌∷◌, ◌<◌, ◌≤◌, ◌==◌, ◌&&◌, if◌then◌else◌, not, [], slice_get, Option, Some, None}
 use Rattle.std.specs.List.{range_with_len}
 use Rattle.std.proofs.Math.Bool.{or-false}
 use Rattle.std.proofs.lemmas.Bool.{cases_lt}
@@ -80,18 +80,13 @@ ends_again (link ∷ links) = ap (λ (others : List Link). link ∷ others) (end
 -- a partition of an opening holds what the empty history says of it
 module _ (o : OpeningValue) (part : ℕ) where
   new_set : IsSetFor o [] part (opened_part o part)
-  new_set = record {
-    part = refl;
-    plan = refl;
-    recon = refl;
-    limit = refl;
-    started = refl;
-    stage = refl;
-    outs = length-replicate o.old.parts new_out_link;
-    inboxes = length-replicate o.old.parts None;
-    given_up = length-replicate (length o.recon.segments) none_given_up;
-    loaded = length-replicate (length o.recon.segments) [];
-  }
+  new_set =
+      assumption (
+        length-replicate o.old.parts new_out_link,
+        length-replicate {A = Option ChunkValue} o.old.parts None,
+        length-replicate (length o.recon.segments) none_given_up,
+        length-replicate {A = List Run} (length o.recon.segments) [],
+      )
 
   new_moves : MovesHold o [] part (opened_part o part)
   new_moves = record {

@@ -16,9 +16,11 @@ use Rattle.sq_state.specs.declared.world.NotOpened.TheVariants.{Refused, Memory}
 abbrev pub history_of : List Step → List Answer → Trace
 history_of steps answers = reverse (zip steps answers)
 
--- a world doesn't open where its opening is refused, and then plans and rows come back; or else where there is no memory for it, and then the opening comes back
+-- a world doesn't open where its opening is refused, and then plans and rows come back; or else where there is no memory for it,
+-- and then the opening comes back
 abbrev pub IsNotOpened : ℕ → PlanValue → PlanValue → Config → List GivenRow → NotOpened → Type 0
 IsNotOpened tables old new config rows (Refused refused) =
-    MayRefuse (early_fault tables old new config rows) (opening_fault tables old new config rows) refused.fault × (refused.old ≡ old) × (refused.new ≡ new) × (refused.rows.items ≡ rows)
+    MayRefuse (early_fault tables old new config rows) (opening_fault tables old new config rows) refused.fault
+    × (refused.old ≡ old) × (refused.new ≡ new) × (refused.rows.items ≡ rows)
 IsNotOpened tables old new config rows (Memory opening) =
     (opening_fault tables old new config rows ≡ None) × IsOpeningOf tables old new config rows opening

@@ -1,5 +1,5 @@
 -- What a step came to.
-use Rattle.std.specs.Prelude.{ℕ, Bool, ◌==◌, not, if◌then◌else◌, length, Option, Some, None, Result, Ok, Err}
+use Rattle.std.specs.Prelude.{ℕ, Bool, ◌==◌, not, if◌then◌else◌, length, option_map, Option, Some, None, Result, Ok, Err}
 use Rattle.std.specs.Option.{ok_or}
 use Rattle.sq_ranges.specs.ReconValue.{stage_on}
 use Rattle.sq_chunk.specs.ChunkValue.{ChunkValue}
@@ -16,6 +16,7 @@ use Rattle.sq_exec.specs.declared.fault.CutFault.TheVariants as cut
 use Rattle.sq_exec.specs.declared.fault.LoadFault.{LoadFault}
 use Rattle.sq_exec.specs.declared.fault.LoadFault.TheVariants as load
 use Rattle.sq_transition.specs.WorldValue.{WorldValue, running_stage, link_index}
+use Rattle.sq_state.specs.declared.state.links.LinkPlace.{LinkPlace}
 
 -- what a step is answered that has an answer or is refused
 abbrev pub answer_of : Result Answer Refusal → Answer
@@ -35,9 +36,15 @@ abbrev pub done_or : Result (Unit {0}) Refusal → Answer
 done_or (Ok done) = Done
 done_or (Err refusal) = Refused refusal
 
--- the place of a link that the running stage has
-abbrev pub running_link : WorldValue → ℕ → ℕ → Result ℕ Refusal
-running_link w src dst = if not (stage_on w.recon src dst == running_stage w) then Err NoSuchLink else ok_or (link_index w src dst) NoSuchLink
+-- the link whose queue stands at this place, from the one partition to the other
+abbrev pub link_place : ℕ → ℕ → ℕ → LinkPlace
+link_place src dst at = record { at = at; src = src; dst = dst }
+
+-- the link from the one partition to the other, where the running stage has it
+abbrev pub running_link : WorldValue → ℕ → ℕ → Result LinkPlace Refusal
+running_link w src dst =
+    if not (stage_on w.recon src dst == running_stage w) then Err NoSuchLink
+    else ok_or (option_map (link_place src dst) (link_index w src dst)) NoSuchLink
 
 abbrev pub report_refused : ReportFault → Refusal
 report_refused report.NoSuchPartition = NoSuchPartition

@@ -12,6 +12,15 @@ use crate::state::State;
 use sq_chunk::Chunk;
 use sq_exec::{CutFault, LoadFault};
 use sq_model::{Answer, Refusal};
+use sq_plan::PartId;
+
+// Where the queue of a link stands, and the partitions at the link's ends.
+#[derive(Clone, Copy)]
+struct LinkPlace {
+    at: usize,
+    src: PartId,
+    dst: PartId,
+}
 
 impl State {
     /// The chunk that was cut goes onto its link.
@@ -20,19 +29,18 @@ impl State {
         ensures { (answer_of result, self.new) ≡ push_result self.old src dst }
     {
         self.check_moving()?;
-        let at = self.running_link(src, dst)?;
-        let queue = &self.queues[at];
-        let (source, dst) = (usize::from(queue.src().number()), queue.dst());
-        if self.cores[source].outbox(dst).is_none() {
+        let link = self.running_link(src, dst)?;
+        let source = usize::from(link.src.number());
+        if self.cores[source].outbox(link.dst).is_none() {
             return Err(Refusal::OutboxEmpty);
         }
-        if queue.len() as u64 >= self.config.capacity {
+        if self.queues[link.at].len() as u64 >= self.config.capacity {
             return Err(Refusal::LinkFull);
         }
-        let Some(chunk) = self.cores[source].take_outbox(dst) else {
+        let Some(chunk) = self.cores[source].take_outbox(link.dst) else {
             unreachable!()
         };
-        self.queues[at].push(chunk);
+        self.queues[link.at].push(chunk);
         Ok(Answer::Done)
     }
 
@@ -42,16 +50,15 @@ impl State {
         ensures { (answer_of result, self.new) ≡ pop_result self.old src dst }
     {
         self.check_moving()?;
-        let at = self.running_link(src, dst)?;
-        let queue = &self.queues[at];
-        let (src, destination) = (queue.src(), usize::from(queue.dst().number()));
-        if self.cores[destination].inbox(src).is_some() {
+        let link = self.running_link(src, dst)?;
+        let destination = usize::from(link.dst.number());
+        if self.cores[destination].inbox(link.src).is_some() {
             return Err(Refusal::InboxFull);
         }
-        let Some(chunk) = self.queues[at].pop() else {
+        let Some(chunk) = self.queues[link.at].pop() else {
             return Err(Refusal::LinkEmpty);
         };
-        let Ok(()) = self.cores[destination].put_inbox(src, chunk) else {
+        let Ok(()) = self.cores[destination].put_inbox(link.src, chunk) else {
             unreachable!()
         };
         Ok(Answer::Done)
@@ -63,14 +70,12 @@ impl State {
         ensures { IsResult (Step.Cut src dst) self.old (cut_result self.old src dst) (answer_of result) self.new }
     {
         self.check_moving()?;
-        let at = self.running_link(src, dst)?;
-        let queue = &self.queues[at];
-        let dst = queue.dst();
-        let source = &mut self.cores[usize::from(queue.src().number())];
-        match source.cut(dst) {
+        let link = self.running_link(src, dst)?;
+        let source = &mut self.cores[usize::from(link.src.number())];
+        match source.cut(link.dst) {
             Ok(note) => Ok(Answer::WasCut {
                 note,
-                families: count(source.outbox(dst)),
+                families: count(source.outbox(link.dst)),
             }),
             Err(fault) => Err(cut_refusal(fault)),
         }
@@ -82,27 +87,26 @@ impl State {
         ensures { IsResult (Step.Load src dst) self.old (load_result self.old src dst) (answer_of result) self.new }
     {
         self.check_moving()?;
-        let at = self.running_link(src, dst)?;
-        let queue = &self.queues[at];
-        let src = queue.src();
-        let destination = &mut self.cores[usize::from(queue.dst().number())];
-        let families = count(destination.inbox(src));
-        match destination.load(src) {
+        let link = self.running_link(src, dst)?;
+        let destination = &mut self.cores[usize::from(link.dst.number())];
+        let families = count(destination.inbox(link.src));
+        match destination.load(link.src) {
             Ok(note) => Ok(Answer::WasLoaded { note, families }),
             Err(fault) => Err(load_refusal(fault)),
         }
     }
 
-    // Where the link from one partition to another stands; a refusal where the running stage has no such link.
-    fn running_link(&self, src: u64, dst: u64) -> Result<usize, Refusal>
+    // The link from one partition to another; a refusal where the running stage has no such link.
+    fn running_link(&self, src: u64, dst: u64) -> Result<LinkPlace, Refusal>
         ensures { result ≡ running_link self.now src dst }
     {
         let Some(at) = self.link_at(src, dst) else {
             return Err(Refusal::NoSuchLink);
         };
         let queue = &self.queues[at];
-        if self.recon.stage_on(queue.src(), queue.dst()) == self.stage() {
-            Ok(at)
+        let (src, dst) = (queue.src(), queue.dst());
+        if self.recon.stage_on(src, dst) == self.stage() {
+            Ok(LinkPlace { at, src, dst })
         } else {
             Err(Refusal::NoSuchLink)
         }

@@ -1,20 +1,23 @@
-use Rattle.std.proofs.Common.{◌≡◌, map, get_or, set, sym, refl, ap, ◌∙◌, subst, inl}
+use Rattle.std.proofs.Common.{map, set, sym, refl, ap, ◌∙◌, subst, inl, ◌<◌, length, arith}
 use Rattle.sq_model.specs.declared.step.Step.TheVariants.{Cut}
 use Rattle.sq_model.specs.declared.answer.Answer.TheVariants.{WasCut, Refused}
-use Rattle.sq_exec.specs.CoreValue.{PartCoreValue}
 use Rattle.sq_transition.specs.WorldValue.{WorldValue}
 use Rattle.sq_transition.specs.LinkResults.{cut_result}
 use Rattle.sq_transition.specs.Transition.{IsResult}
 use Rattle.sq_state.specs.Results.{cut_refused, families_of}
 use Rattle.sq_state.proofs.Cores.{core_of}
-use Rattle.sq_state.proofs.LinkSteps.{AtEnd, at_end, cut_done, cut_fails}
+use Rattle.sq_state.proofs.LinkSteps.{AtEnd, at_end, cut_done, cut_fails, source_exists}
 use Rattle.sq_state.proofs.state.State.cut.Goals as goal
 use Rattle.sq_state.proofs.state.State.cut.Goals.{After-from, in-Ok, in-Err}
 
 -- the link, and the partition at its source
-at_source : (c : After-from) (part : PartCoreValue) → part ≡ get_or c.self.inside.cores.items c.from.result part
-    → let queue = c.index-queue.result.now in AtEnd c.args.self.now c.self.inside.cores.items c.args.src c.args.dst c.in_ok-at.at queue.src queue.dst c.from.result c.dst-dst.result queue part
-at_source c part is = at_end c.self.view_is refl c.requires c.in_ok-check_moving.ensures c.in_ok-at.ensures c.index-queue.ensures (c.from.ensures ∙ c.number.ensures ∙ c.src.ensures) c.dst-dst.ensures is
+at_source : (c : After-from) → AtEnd c.args.self.now c.self.inside.cores.items c.args.src c.args.dst c.in_ok-link.link c.in_ok-link.link.src c.from.result
+at_source c = at_end c.self.view_is refl c.requires c.in_ok-check_moving.ensures c.in_ok-link.ensures (c.from.ensures ∙ c.number.ensures)
+
+pub index_mut-source-requires : goal.index_mut-source-requires
+index_mut-source-requires c =
+    let within : c.from.result < length c.self.inside.cores.items = source_exists (at_source (goal.at.index_mut-source-requires c).After-from) in
+    omega (arith, c.self.inside.cores.ok.0)
 
 pub returns : goal.returns
 returns c =
@@ -25,8 +28,8 @@ returns c =
           let families = b.count.result in
           rw (b.result-is, b.self-inside-is) (inl
           (ap (λ (v : WorldValue). (WasCut b.in-Ok.note families, record v { cores = parts })) c.self.view_is
-          ∙ cut_done (at_source (goal.at.returns c).After-from c.index_mut-source.result.now c.index_mut-source.ensures.value) b.in-Ok.note families c.cut.new.self b.in-Ok.ensures.ok (b.count.ensures ∙ ap families_of b.outbox.ensures)))
+          ∙ cut_done (at_source (goal.at.returns c).After-from) c.index_mut-source.ensures.value b.in-Ok.note families c.cut.new.self b.in-Ok.ensures.ok (b.count.ensures ∙ ap families_of b.outbox.ensures)))
       | in-Err b ↦ rw (b.result-is, b.self-inside-is, b.cut_refusal.ensures)
           (subst (λ (v : WorldValue). IsResult (Cut c.args.src c.args.dst) w (cut_result w c.args.src c.args.dst) (Refused (cut_refused b.in-Err.fault)) (record v { cores = parts })) (sym c.self.view_is)
-          (cut_fails (at_source (goal.at.returns c).After-from c.index_mut-source.result.now c.index_mut-source.ensures.value) b.in-Err.fault c.cut.new.self b.in-Err.ensures.refusal b.in-Err.ensures.err))
+          (cut_fails (at_source (goal.at.returns c).After-from) c.index_mut-source.ensures.value b.in-Err.fault c.cut.new.self b.in-Err.ensures.refusal b.in-Err.ensures.err))
     ]

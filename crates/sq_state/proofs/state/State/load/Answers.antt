@@ -1,24 +1,27 @@
-use Rattle.std.proofs.Common.{◌≡◌, map, get_or, set, sym, refl, ap, ◌∙◌, subst, inl}
+use Rattle.std.proofs.Common.{map, set, sym, refl, ap, ◌∙◌, subst, inl, ◌<◌, length, arith}
 use Rattle.sq_model.specs.declared.step.Step.TheVariants.{Load}
 use Rattle.sq_model.specs.declared.answer.Answer.TheVariants.{WasLoaded, Refused}
-use Rattle.sq_exec.specs.CoreValue.{PartCoreValue}
 use Rattle.sq_transition.specs.WorldValue.{WorldValue}
 use Rattle.sq_transition.specs.LinkResults.{load_result}
 use Rattle.sq_transition.specs.Transition.{IsResult}
 use Rattle.sq_state.specs.Results.{load_refused, families_of}
 use Rattle.sq_state.proofs.Cores.{core_of}
-use Rattle.sq_state.proofs.LinkSteps.{AtEnd, at_end, may_be_loaded, load_done, load_fails}
+use Rattle.sq_state.proofs.LinkSteps.{AtEnd, at_end, may_be_loaded, load_done, load_fails, destination_exists}
 use Rattle.sq_state.proofs.state.State.load.Goals as goal
 use Rattle.sq_state.proofs.state.State.load.Goals.{After-from, in-Ok, in-Err}
 
 -- the link, and the partition that it leads to
-at_destination : (c : After-from) (part : PartCoreValue) → part ≡ get_or c.self.inside.cores.items c.from.result part
-    → let queue = c.index-queue.result.now in AtEnd c.args.self.now c.self.inside.cores.items c.args.src c.args.dst c.in_ok-at.at queue.dst queue.src c.from.result c.src-src.result queue part
-at_destination c part is = at_end c.self.view_is refl c.requires c.in_ok-check_moving.ensures c.in_ok-at.ensures c.index-queue.ensures (c.from.ensures ∙ c.number.ensures ∙ c.dst.ensures) c.src-src.ensures is
+at_destination : (c : After-from) → AtEnd c.args.self.now c.self.inside.cores.items c.args.src c.args.dst c.in_ok-link.link c.in_ok-link.link.dst c.from.result
+at_destination c = at_end c.self.view_is refl c.requires c.in_ok-check_moving.ensures c.in_ok-link.ensures (c.from.ensures ∙ c.number.ensures)
+
+pub index_mut-destination-requires : goal.index_mut-destination-requires
+index_mut-destination-requires c =
+    let within : c.from.result < length c.self.inside.cores.items = destination_exists (at_destination (goal.at.index_mut-destination-requires c).After-from) in
+    omega (arith, c.self.inside.cores.ok.0)
 
 pub load-requires : goal.load-requires
 load-requires c =
-    may_be_loaded (at_destination (goal.at.load-requires c).After-from c.index_mut-destination.result.now c.index_mut-destination.ensures.value)
+    may_be_loaded (at_destination (goal.at.load-requires c).After-from) c.index_mut-destination.ensures.value
 
 pub returns : goal.returns
 returns c =
@@ -28,8 +31,8 @@ returns c =
     elim c.match-load.branch [
       | in-Ok b ↦ rw b.result-is (inl
           (ap (λ (v : WorldValue). (WasLoaded b.in-Ok.note families, record v { cores = parts })) c.self.view_is
-          ∙ load_done (at_destination (goal.at.returns c).After-from c.index_mut-destination.result.now c.index_mut-destination.ensures.value) b.in-Ok.note families c.load.new.self b.in-Ok.ensures.ok (c.count-families.ensures ∙ ap families_of c.inbox.ensures.chunk)))
+          ∙ load_done (at_destination (goal.at.returns c).After-from) c.index_mut-destination.ensures.value b.in-Ok.note families c.load.new.self b.in-Ok.ensures.ok (c.count-families.ensures ∙ ap families_of c.inbox.ensures.chunk)))
       | in-Err b ↦ rw (b.result-is, b.load_refusal.ensures)
           (subst (λ (v : WorldValue). IsResult (Load c.args.src c.args.dst) w (load_result w c.args.src c.args.dst) (Refused (load_refused b.in-Err.fault)) (record v { cores = parts })) (sym c.self.view_is)
-          (load_fails (at_destination (goal.at.returns c).After-from c.index_mut-destination.result.now c.index_mut-destination.ensures.value) b.in-Err.fault c.load.new.self b.in-Err.ensures.refusal b.in-Err.ensures.err))
+          (load_fails (at_destination (goal.at.returns c).After-from) c.index_mut-destination.ensures.value b.in-Err.fault c.load.new.self b.in-Err.ensures.refusal b.in-Err.ensures.err))
     ]
