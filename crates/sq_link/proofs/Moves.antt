@@ -7,7 +7,7 @@ use Rattle.crossbeam_queue.specs.Fifo.{Pushes, Pops, Forks, Merges, Learns}
 use Rattle.crossbeam_queue.proofs.Lists.{at_set}
 use Rattle.sq_chunk.specs.ChunkValue.{ChunkValue}
 use Rattle.sq_link.specs.declared.order.EndView.{EndView}
-use Rattle.sq_link.specs.Order.{ends, IsInOrder, IsEndOf, ComesAfter}
+use Rattle.sq_link.specs.Order.{ends, IsInOrder, IsEndOf, KnowsRest}
 
 -- what the rule says of a pass that may send, and of one that may receive
 abbrev MaySend : ℕ → List ChunkValue → ℕ → EndView → Type 0
@@ -136,19 +136,20 @@ pub learns_end : (pass : ℕ) (v : EndView) → v.sends ≡ true → Learns IsIn
 learns_end pass v may items views rule at = (rule.received, (rule.sends pass v at may).1 ∙ rule.order)
 
 -- the receiver knows that what the queue holds was sent after what it received
-pub learns_next : (pass : ℕ) (v : EndView) → v.receives ≡ true → Learns IsInOrder pass v (ComesAfter v.received)
-learns_next pass v may items views rule at = (rule.sent, rule.order ∙ ap (λ l. l ++ items) (sym (rule.receives pass v at may).1))
+pub learns_rest : (pass : ℕ) (v : EndView) → v.receives ≡ true → Learns IsInOrder pass v (KnowsRest v)
+learns_rest pass v may items views rule at =
+    (rule.sent, rule.order ∙ ap (λ l. l ++ items) (sym (rule.receives pass v at may).1), λ may_send. (rule.sends pass v at may_send).1)
 
 -- who has both ends knows what the queue holds
-pub learns_whole : (pass : ℕ) (v : EndView) → v.sends ≡ true → v.receives ≡ true → Learns IsInOrder pass v (λ items. v.sent ≡ v.received ++ items)
-learns_whole pass v may_send may_receive items views rule at =
-    (rule.sends pass v at may_send).1 ∙ rule.order ∙ ap (λ l. l ++ items) (sym (rule.receives pass v at may_receive).1)
+pub holds_rest : (v : EndView) (sent received items : List ChunkValue) → v ≡ ends true true sent received → KnowsRest v items → sent ≡ received ++ items
+holds_rest v sent received items is rest =
+    ap (λ u. u.sent) (sym is) ∙ rest.2 (ap (λ u. u.sends) is) ∙ rest.1 ∙ ap (λ u. u.received ++ items) is
 
 -- after as many pops as the queue held, nothing is left
 pub empties : (before after : EndView) (sent received rest items more : List ChunkValue) → before ≡ ends true true sent received → after ≡ ends true true sent (received ++ rest)
-    → before.sent ≡ before.received ++ items → after.sent ≡ after.received ++ more → length items ≡ length rest → sent ≡ received ++ rest
+    → KnowsRest before items → KnowsRest after more → length items ≡ length rest → sent ≡ received ++ rest
 empties before after sent received rest items more was is held left long =
-    let first : sent ≡ received ++ items = ap (λ v. v.sent) (sym was) ∙ held ∙ ap (λ v. v.received ++ items) was in
-    let last : sent ≡ (received ++ rest) ++ more = ap (λ v. v.sent) (sym is) ∙ left ∙ ap (λ v. v.received ++ more) is in
+    let first = holds_rest before sent received items was held in
+    let last = holds_rest after sent (received ++ rest) more is left in
     let none : length more ≡ 0 = omega (arith, ap length first, ap length last, length-append received items, length-append (received ++ rest) more, length-append received rest) in
     last ∙ ap (λ l. (received ++ rest) ++ l) (nil_from_length more none) ∙ append-nil (received ++ rest)

@@ -26,3 +26,7 @@ IsEndOf sent items = (received : List ChunkValue) × (sent ≡ received ++ items
 -- what was sent is what was received and then the items
 abbrev pub ComesAfter : List ChunkValue → List ChunkValue → Type 0
 ComesAfter received items = (sent : List ChunkValue) × (sent ≡ received ++ items)
+
+-- what was sent is what was received and then the items; a pass that sends too knows what was sent
+abbrev pub KnowsRest : EndView → List ChunkValue → Type 0
+KnowsRest v items = (sent : List ChunkValue) × (sent ≡ v.received ++ items) × (v.sends ≡ true → v.sent ≡ sent)

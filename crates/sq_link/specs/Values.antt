@@ -10,12 +10,7 @@ pub record LinkValue : Type 0 where
   pub dst : ℕ
   pub capacity : ℕ
 
--- the sending end of a queue, with what it sent, in order
-pub record SendValue : Type 0 where
+-- an end of a queue, with the chunks that went by it, in order: what was sent by it, or what was received
+pub record PassValue : Type 0 where
   pub queue : TableId
-  pub sent : List ChunkValue
-
--- the receiving end of a queue, with what it received, in order
-pub record RecvValue : Type 0 where
-  pub queue : TableId
-  pub received : List ChunkValue
+  pub chunks : List ChunkValue

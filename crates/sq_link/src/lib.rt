@@ -6,4 +6,5 @@ mod order;
 mod pass;
 
 pub use link::SharedLink;
-pub use pass::{RecvPass, SendPass};
+pub use order::{Receives, Sends};
+pub use pass::{LinkPass, RecvPass, SendPass, Side};

@@ -3,8 +3,8 @@ ghost use Rattle.std.specs.Prelude.{◌≡◌, ◌<◌, ◌≤◌, [], ◌∷◌
 ghost use Rattle.crossbeam_queue.specs.Fifo.{Held};
 ghost use Rattle.sq_link.specs.Order.{IsEndOf, ComesAfter};
 
-use crate::order::{Ends, LinkQueue, Receives, Sends, Whole};
-use crate::pass::{RecvPass, SendPass};
+use crate::order::{Ends, LinkQueue, Receives, Sends};
+use crate::pass::{LinkPass, RecvPass, SendPass};
 use sq_chunk::Chunk;
 use sq_plan::PartId;
 use std::alloc::{AllocError, Global};
@@ -43,8 +43,8 @@ impl SharedLink {
     ) -> Result<(SharedLink, SendPass, RecvPass), AllocError>
         requires { 0 < capacity }
         ensures link { IfOk result (λ opened. (opened.0.src ≡ src) × (opened.0.dst ≡ dst) × (opened.0.capacity ≡ capacity)) }
-        ensures sender { IfOk result (λ opened. opened.1 ≡ record { queue = opened.0.queue; sent = [] }) }
-        ensures receiver { IfOk result (λ opened. opened.2 ≡ record { queue = opened.0.queue; received = [] }) }
+        ensures sender { IfOk result (λ opened. opened.1 ≡ record { queue = opened.0.queue; chunks = [] }) }
+        ensures receiver { IfOk result (λ opened. opened.2 ≡ record { queue = opened.0.queue; chunks = [] }) }
     {
         let capacity = capacity as usize;
         let room = Vec::with_capacity(alloc, capacity)?;
@@ -56,7 +56,7 @@ impl SharedLink {
             queue,
             room,
         };
-        Ok((link, SendPass { end: sender }, RecvPass { end: receiver }))
+        Ok((link, LinkPass::new(sender), LinkPass::new(receiver)))
     }
 
     /// The partition that it leads from.
@@ -83,9 +83,9 @@ impl SharedLink {
     /// Sends the chunk, or hands it back where the link was full at one moment of the call.
     pub fn send<R: Wait>(&self, rt: &R, pass: &mut SendPass, chunk: Chunk) -> Result<(), Chunk>
         requires { pass.old.queue ≡ self.now.queue }
-        ensures sent { OnOk result (pass.new ≡ record pass.old { sent = pass.old.sent ++ chunk ∷ [] }) }
+        ensures sent { OnOk result (pass.new ≡ record pass.old { chunks = pass.old.chunks ++ chunk ∷ [] }) }
         ensures refused { IfErr result (λ back. (back ≡ chunk) × (pass.new ≡ pass.old)) }
-        ensures full { OnErr result (Held self.now.capacity (IsEndOf pass.old.sent)) }
+        ensures full { OnErr result (Held self.now.capacity (IsEndOf pass.old.chunks)) }
     {
         self.queue.push_as::<Sends, R>(rt, &mut pass.end, chunk)
     }
@@ -93,9 +93,9 @@ impl SharedLink {
     /// The chunk that was sent first of those not received; `None` where the link was empty at one moment of the call.
     pub fn recv<R: Wait>(&self, rt: &R, pass: &mut RecvPass) -> Option<Chunk>
         requires { pass.old.queue ≡ self.now.queue }
-        ensures received { IfSome result (λ chunk. pass.new ≡ record pass.old { received = pass.old.received ++ chunk ∷ [] }) }
+        ensures received { IfSome result (λ chunk. pass.new ≡ record pass.old { chunks = pass.old.chunks ++ chunk ∷ [] }) }
         ensures none { IfNone result (pass.new ≡ pass.old) }
-        ensures empty { IfNone result (Held 0 (ComesAfter pass.old.received)) }
+        ensures empty { IfNone result (Held 0 (ComesAfter pass.old.chunks)) }
     {
         self.queue.pop_as::<Receives, R>(rt, &mut pass.end)
     }
@@ -104,7 +104,7 @@ impl SharedLink {
     pub fn close<R: Wait>(self, rt: &R, sender: SendPass, receiver: RecvPass) -> Vec<Chunk>
         requires sender { sender.queue ≡ self.queue }
         requires receiver { receiver.queue ≡ self.queue }
-        ensures rest { sender.sent ≡ receiver.received ++ result.items }
+        ensures rest { sender.chunks ≡ receiver.chunks ++ result.items }
         ensures few { length result.items ≤ self.capacity }
     {
         let SharedLink {
@@ -113,17 +113,16 @@ impl SharedLink {
             queue,
             room: mut rest,
         } = self;
-        let SendPass { end: mut both } = sender;
-        let RecvPass { end: other } = receiver;
-        queue.absorb::<Ends>(&mut both, other);
-        let count = queue.len_as::<Whole, R>(rt, &mut both);
+        let mut both = sender.end;
+        queue.absorb::<Ends>(&mut both, receiver.end);
+        let count = queue.len_as::<Receives, R>(rt, &mut both);
         for _ in 0..count {
-            match queue.pop_as::<Whole, R>(rt, &mut both) {
+            match queue.pop_as::<Receives, R>(rt, &mut both) {
                 Some(chunk) => rest.push_reserved(chunk),
                 None => return rest,
             }
         }
-        queue.learn_as::<Whole>(&mut both);
+        queue.learn_as::<Receives>(&mut both);
         rest
     }
 }

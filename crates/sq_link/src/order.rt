@@ -49,7 +49,8 @@ impl Join<EndView> for Ends {
     ghost spent = { ends false false [] [] };
 }
 
-// A push, and what a sender knows of a full queue.
+/// Sending: a push, and what a sender knows of a full queue.
+#[derive(Drop)]
 pub struct Sends;
 
 impl Outcome<Chunk, EndView> for Sends {
@@ -65,7 +66,8 @@ impl Lesson<Chunk, EndView> for Sends {
     ghost fact = { λ v. IsEndOf v.sent };
 }
 
-// A pop, and what a receiver knows of an empty queue.
+/// Receiving: a pop, and what a receiver knows of what the queue holds.
+#[derive(Drop)]
 pub struct Receives;
 
 impl Outcome<Chunk, EndView> for Receives {
@@ -76,23 +78,7 @@ impl Outcome<Chunk, EndView> for Receives {
 }
 
 impl Lesson<Chunk, EndView> for Receives {
-    ghost use Rattle.sq_link.specs.Order.{ComesAfter};
+    ghost use Rattle.sq_link.specs.Order.{KnowsRest};
 
-    ghost fact = { λ v. ComesAfter v.received };
-}
-
-// What a pass with both ends knows: what was sent and isn't received is what the queue holds.
-pub struct Whole;
-
-impl Outcome<Chunk, EndView> for Whole {
-    ghost use Rattle.std.specs.Prelude.{◌≡◌, [], ◌∷◌, ◌++◌};
-    ghost use Rattle.sq_link.specs.Order.{ends};
-
-    ghost then = { λ v chunk w. w ≡ ends v.sends v.receives v.sent (v.received ++ chunk ∷ []) };
-}
-
-impl Lesson<Chunk, EndView> for Whole {
-    ghost use Rattle.std.specs.Prelude.{◌≡◌, ◌++◌};
-
-    ghost fact = { λ v items. v.sent ≡ v.received ++ items };
+    ghost fact = { KnowsRest };
 }

@@ -1,43 +1,114 @@
 // The two ends of a link.
-use crate::order::End;
-use std::marker::Model;
+ghost use Rattle.std.specs.Prelude.{◌≡◌, []};
+ghost use Rattle.crossbeam_queue.specs.Passes.{view as knows};
 
-/// The right to send on a link, with what was sent by it, in order. It has no bytes. To a contract it is a `SendValue`.
-#[derive(Drop)]
-pub struct SendPass {
-    pub(crate) end: End,
+use crate::link::SharedLink;
+use crate::order::{End, Receives, Sends};
+use sq_plan::PartId;
+use std::marker::{Model, PhantomData};
+
+/// What is done at an end of a link: `Sends` at the partition that it leads from, `Receives` at the one that it leads to.
+pub trait Side: Drop {
+    ghost use Rattle.std.specs.Prelude.{◌≡◌, ℕ, List};
+    ghost use Rattle.sq_chunk.specs.ChunkValue.{ChunkValue};
+    ghost use Rattle.sq_link.specs.declared.order.EndView.{EndView};
+    ghost use Rattle.sq_link.specs.Values.{LinkValue};
+
+    // What a pass of this end knows by which these chunks went, and the chunks that went by a pass that knows this.
+    ghost knows: { List ChunkValue → EndView };
+
+    ghost chunks: { EndView → List ChunkValue };
+
+    ghost near: { LinkValue → ℕ };
+
+    ghost far: { LinkValue → ℕ };
+
+    /// The partition at this end of a link.
+    fn near(link: &SharedLink) -> PartId
+        ensures { result ≡ near link.now };
+
+    /// The partition at the other end of a link.
+    fn far(link: &SharedLink) -> PartId
+        ensures { result ≡ far link.now };
 }
 
-impl Model for SendPass {
-    ghost use Rattle.std.specs.Prelude.{◌≡◌, true, false, []};
-    ghost use Rattle.crossbeam_queue.specs.Passes.{view as knows};
-    ghost use Rattle.sq_link.specs.Values.{SendValue};
-
-    ghost Value = { SendValue };
-
+impl Side for Sends {
+    ghost use Rattle.std.specs.Prelude.{true, false, []};
     ghost use Rattle.sq_link.specs.Order.{ends};
 
-    ghost view = { λ s. record { queue = s.end.table_id; sent = (knows s.end).sent } };
+    ghost knows = { λ chunks. ends true false chunks [] };
 
-    ghost invariant = { λ s. (knows s.end ≡ ends true false (knows s.end).sent []) × (s.end.me.1 ≡ []) };
+    ghost chunks = { λ v. v.sent };
+
+    ghost near = { λ link. link.src };
+
+    ghost far = { λ link. link.dst };
+
+    fn near(link: &SharedLink) -> PartId {
+        link.src()
+    }
+
+    fn far(link: &SharedLink) -> PartId {
+        link.dst()
+    }
 }
 
-/// The right to receive from a link, with what was received by it, in order. It has no bytes. To a contract it is a `RecvValue`.
-#[derive(Drop)]
-pub struct RecvPass {
-    pub(crate) end: End,
-}
-
-impl Model for RecvPass {
-    ghost use Rattle.std.specs.Prelude.{◌≡◌, true, false, []};
-    ghost use Rattle.crossbeam_queue.specs.Passes.{view as knows};
-    ghost use Rattle.sq_link.specs.Values.{RecvValue};
-
-    ghost Value = { RecvValue };
-
+impl Side for Receives {
+    ghost use Rattle.std.specs.Prelude.{true, false, []};
     ghost use Rattle.sq_link.specs.Order.{ends};
 
-    ghost view = { λ r. record { queue = r.end.table_id; received = (knows r.end).received } };
+    ghost knows = { λ chunks. ends false true [] chunks };
 
-    ghost invariant = { λ r. (knows r.end ≡ ends false true [] (knows r.end).received) × (r.end.me.1 ≡ []) };
+    ghost chunks = { λ v. v.received };
+
+    ghost near = { λ link. link.dst };
+
+    ghost far = { λ link. link.src };
+
+    fn near(link: &SharedLink) -> PartId {
+        link.dst()
+    }
+
+    fn far(link: &SharedLink) -> PartId {
+        link.src()
+    }
+}
+
+/// The right to do this on a link, with the chunks that went by it, in order. It has no bytes. To a contract it is a `PassValue`.
+#[derive(Drop)]
+pub struct LinkPass<S: Side> {
+    pub(crate) end: End,
+    side: PhantomData<S>,
+}
+
+/// The right to send on a link.
+pub type SendPass = LinkPass<Sends>;
+
+/// The right to receive from a link.
+pub type RecvPass = LinkPass<Receives>;
+
+impl<S: Side> Model for LinkPass<S> {
+    ghost use Rattle.std.specs.Prelude.{◌≡◌, []};
+    ghost use Rattle.crossbeam_queue.specs.Passes.{view as knows};
+    ghost use Rattle.sq_link.specs.Values.{PassValue};
+
+    ghost Value = { PassValue };
+
+    ghost view = { λ p. record { queue = p.end.table_id; chunks = S.chunks (knows p.end) } };
+
+    ghost invariant = { λ p. (knows p.end ≡ S.knows (S.chunks (knows p.end))) × (p.end.me.1 ≡ []) };
+}
+
+impl<S: Side> LinkPass<S> {
+    // The pass of this end.
+    pub(crate) fn new(end: End) -> LinkPass<S>
+        requires end { knows end ≡ S.knows (S.chunks (knows end)) }
+        requires slots { end.me.1 ≡ [] }
+        ensures { result ≡ record { queue = end.table_id; chunks = S.chunks (knows end) } }
+    {
+        LinkPass {
+            end,
+            side: PhantomData,
+        }
+    }
 }

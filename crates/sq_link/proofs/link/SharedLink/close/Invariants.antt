@@ -8,7 +8,7 @@ use Rattle.sq_link.proofs.link.SharedLink.close.Given as goal
 abbrev pub invariant-loop : goal.invariant-loop
 invariant-loop g l = record {
   of_queue : IsPassOf l.queue l.both;
-  knows : view l.both ≡ ends true true l.fn.sender.sent (l.fn.receiver.received ++ l.rest.items);
+  knows : view l.both ≡ ends true true l.fn.sender.chunks (l.fn.receiver.chunks ++ l.rest.items);
   long : vec_len l.rest ≡ l.counter;
   roomy : l.count ≤ vec_capacity l.rest;
 }
