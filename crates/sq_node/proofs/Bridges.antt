@@ -15,10 +15,8 @@ use Rattle.sq_pull.specs.Seats.{StepsAt}
 use Rattle.sq_node_model.specs.NodeValue.{put}
 use Rattle.sq_node_model.proofs.Members.{set_new}
 use Rattle.sq_node_model.proofs.Puts.{put_each, put_set, put_field}
-use Rattle.sq_node.specs.declared.ends.SendEnd.{SendEnd}
-use Rattle.sq_node.specs.declared.ends.RecvEnd.{RecvEnd}
-use Rattle.sq_node.specs.Ends.{send_end, recv_end, sent_on, received_on}
-use Rattle.sq_node.specs.NodeState.{NodeState, views_of, sent_by, received_by}
+use Rattle.sq_node.specs.Ends.{EndValue, end_at, passed_on}
+use Rattle.sq_node.specs.NodeState.{NodeState, views_of, passed_by}
 use Rattle.sq_node.specs.Looks.{OnlyLooked, SeatsLooked}
 use Rattle.sq_node.specs.Steps.{ClaimsFor}
 
@@ -27,24 +25,15 @@ pub stands_below : {X : Type 0} (ends : List (Option X)) (at : ℕ) (end : X) �
 stands_below ends at end there =
     ⊎_elim (λ (low : at < length ends). low) (λ (past : length ends ≤ at). let none = sym (get_or_past ends at None past) ∙ there in cc) (cases_lt at (length ends))
 
--- what is read of each end, once one of them has one more chunk
-chunk_more : {X : Type 0} (chunks : X → List ChunkValue) (ends : List (Option X)) (at : ℕ) (end now : X) (chunk : ChunkValue) → slice_index_or ends at None ≡ Some end → chunks now ≡ chunks end ++ chunk ∷ []
-    → (k : ℕ) → option_map_or chunks (slice_index_or (slice_set ends at (Some now)) k None) [] ≡ put at (option_map_or chunks (slice_index_or ends at None) [] ++ chunk ∷ []) (λ j. option_map_or chunks (slice_index_or ends j None) []) k
-chunk_more {X} chunks ends at end now chunk there more k =
-    let read = λ (found : Option X). option_map_or chunks found [] in
+-- what went by each end, once one of them passed one more chunk on
+pub passed_one : (ends : List (Option EndValue)) (at : ℕ) (end : EndValue) (chunk : ChunkValue) → end_at ends at ≡ Some end
+    → (k : ℕ) → passed_by (slice_set ends at (Some (passed_on end chunk))) k ≡ put at (passed_by ends at ++ chunk ∷ []) (passed_by ends) k
+passed_one ends at end chunk there k =
+    let now = passed_on end chunk in
+    let read = λ (found : Option EndValue). option_map_or (λ (e : EndValue). e.pass.chunks) found [] in
     ap read (put_set ends at (Some now) None (stands_below ends at end there) k)
-    ∙ put_field read at (Some now) (λ j. slice_index_or ends j None) k
-    ∙ ap (λ (list : List ChunkValue). put at list (λ j. read (slice_index_or ends j None)) k) (more ∙ ap (λ (before : List ChunkValue). before ++ chunk ∷ []) (sym (ap read there)))
-
--- what was sent by each end, once one of them sent one more chunk
-pub sent_one : (sends : List (Option SendEnd)) (dst : ℕ) (end : SendEnd) (chunk : ChunkValue) → send_end sends dst ≡ Some end
-    → (k : ℕ) → sent_by (slice_set sends dst (Some (sent_on end chunk))) k ≡ put dst (sent_by sends dst ++ chunk ∷ []) (sent_by sends) k
-sent_one sends dst end chunk there = chunk_more (λ (e : SendEnd). e.pass.sent) sends dst end (sent_on end chunk) chunk there refl
-
--- what was received by each end, once one of them received one more chunk
-pub received_one : (recvs : List (Option RecvEnd)) (src : ℕ) (end : RecvEnd) (chunk : ChunkValue) → recv_end recvs src ≡ Some end
-    → (k : ℕ) → received_by (slice_set recvs src (Some (received_on end chunk))) k ≡ put src (received_by recvs src ++ chunk ∷ []) (received_by recvs) k
-received_one recvs src end chunk there = chunk_more (λ (e : RecvEnd). e.pass.received) recvs src end (received_on end chunk) chunk there refl
+    ∙ put_field read at (Some now) (λ j. end_at ends j) k
+    ∙ ap (λ (list : List ChunkValue). put at list (λ j. read (end_at ends j)) k) (ap (λ (before : List ChunkValue). before ++ chunk ∷ []) (sym (ap read there)))
 
 -- the view of the seat that stands there, or of one that did nothing
 abbrev view_of : Option SeatValue → View

@@ -39,11 +39,11 @@ use Rattle.sq_node_model.proofs.CoreServed.{core_submitted, core_resumed}
 use Rattle.sq_node.specs.declared.stepped.Stepped.{Stepped}
 use Rattle.sq_node.specs.declared.stepped.Stepped.TheVariants.{Did, Nothing, Memory}
 use Rattle.sq_node.specs.FabricValue.{FabricValue}
-use Rattle.sq_node.specs.NodeState.{NodeState, node_value, views_of, sent_by, received_by}
+use Rattle.sq_node.specs.NodeState.{NodeState, node_value, views_of, passed_by}
 use Rattle.sq_node.specs.Holds.{HoldsUnder, KeepsAll}
 use Rattle.sq_node.specs.Looks.{SeatsLooked, LooksAndCompletes}
 use Rattle.sq_node.specs.Steps.{JobStep, RequestStep, CutStep, SendStep, RecvStep, LoadStep, CompleteStep, ResumeStep, Looks, may_load_now}
-use Rattle.sq_node.proofs.Bridges.{SameDone, only_looked_same, sent_one, received_one, view_before, views_after, looked_same, claimed_same}
+use Rattle.sq_node.proofs.Bridges.{SameDone, only_looked_same, passed_one, view_before, views_after, looked_same, claimed_same}
 
 -- what is as it was keeps all
 pub same_keeps : (old new : NodeState) → new ≡ old → KeepsAll old new
@@ -59,7 +59,7 @@ cut_keeps old Did new step o began is h =
     subst (HoldsUnder o began) (sym cuts.after)
     (record {
       core = subst (IsCoreOf o began.stage) (sym cuts.cut.after) (with_core o old.core step.0 cuts.cut.out cuts.cut.store h.core);
-      holds = core_cut old.core new.core (views_of old.seats) (sent_by old.sends) (received_by old.recvs) old.receipts step.0 cuts.note cuts.cut o is h.holds;
+      holds = core_cut old.core new.core (views_of old.seats) (passed_by old.sends) (passed_by old.recvs) old.receipts step.0 cuts.note cuts.cut o is h.holds;
     })
 cut_keeps old Nothing new step o began is h = same_keeps old new step.0 o began is h
 cut_keeps old Memory new step o began is h = same_keeps old new step o began is h
@@ -70,7 +70,7 @@ send_keeps fabric old Did new step o began is h =
     subst (HoldsUnder o began) (sym sends.after)
     (record {
       core = with_core o old.core step.0 (record (out_at old.core step.0) { outbox = None }) old.core.store h.core;
-      holds = core_sent o old.core (views_of old.seats) (sent_by old.sends) _ (received_by old.recvs) old.receipts step.0 sends.chunk sends.cut (sent_one old.sends step.0 sends.end sends.chunk sends.there) h.holds;
+      holds = core_sent o old.core (views_of old.seats) (passed_by old.sends) _ (passed_by old.recvs) old.receipts step.0 sends.chunk sends.cut (passed_one old.sends step.0 sends.end sends.chunk sends.there) h.holds;
     })
 send_keeps fabric old Nothing new step o began is h = same_keeps old new step.0 o began is h
 send_keeps fabric old Memory new step o began is h = absurd step
@@ -82,7 +82,7 @@ recv_keeps old Did new step o began is h =
     subst (HoldsUnder o began) (sym receives.after)
     (record {
       core = record { plan = of.plan; recon = of.recon; stage = of.stage; outs = of.outs; given_up = of.given_up; loaded = of.loaded };
-      holds = core_received o old.core (views_of old.seats) (sent_by old.sends) (received_by old.recvs) _ old.receipts step.0 receives.chunk receives.exists receives.empty (received_one old.recvs step.0 receives.end receives.chunk receives.there) h.holds;
+      holds = core_received o old.core (views_of old.seats) (passed_by old.sends) (passed_by old.recvs) _ old.receipts step.0 receives.chunk receives.exists receives.empty (passed_one old.recvs step.0 receives.end receives.chunk receives.there) h.holds;
     })
 recv_keeps old Nothing new step o began is h = same_keeps old new step.0 o began is h
 recv_keeps old Memory new step o began is h = absurd step
@@ -106,7 +106,7 @@ load_keeps old Did new step o began is h =
     subst (HoldsUnder o began) (sym loads.after)
     (record {
       core = subst (IsCoreOf o began.stage) (sym load.after) (loaded_core_of o old.core src load.chunk h.core);
-      holds = core_loaded o began.stage old.core new.core (views_of old.seats) (sent_by old.sends) (received_by old.recvs) old.receipts src loads.note h.core load loadable runs is h.holds;
+      holds = core_loaded o began.stage old.core new.core (views_of old.seats) (passed_by old.sends) (passed_by old.recvs) old.receipts src loads.note h.core load loadable runs is h.holds;
     })
 load_keeps old Nothing new step o began is h = same_keeps old new step.0 o began is h
 load_keeps old Memory new step o began is h = same_keeps old new step o began is h
@@ -127,7 +127,7 @@ looks_keep old new looks o began is h =
     subst (HoldsUnder o began) (sym looks.after)
     (record {
       core = h.core;
-      holds = looked_keep o old.core old.seats new.seats (sent_by old.sends) (received_by old.recvs) old.receipts looks.seats h.holds;
+      holds = looked_keep o old.core old.seats new.seats (passed_by old.sends) (passed_by old.recvs) old.receipts looks.seats h.holds;
     })
 
 begun_core_of : {i : ℕ} (o : OpeningValue) (core : CoreValue) (seg n pull : ℕ) (found : Option Range) → IsCoreOf o i core → IsCoreOf o i (begun_in core seg n pull found)
@@ -153,7 +153,7 @@ request_keeps old Did new step o began is h =
     subst (HoldsUnder o began) (sym step.after)
     (record {
       core = begun_core_of {i = began.stage} o old.core at step.node step.pull (slice_get old.core.recon.segments at) h.core;
-      holds = core_begun o began.stage is old.core (views_of old.seats) (views_of new.seats) (sent_by old.sends) (received_by old.recvs) old.receipts at step.node step.pull won.after.view outward.segment h.core there
+      holds = core_begun o began.stage is old.core (views_of old.seats) (views_of new.seats) (passed_by old.sends) (passed_by old.recvs) old.receipts at step.node step.pull won.after.view outward.segment h.core there
           (subst (λ view. Won view step.node (Partial step.pull) won.after.view) (sym before) won.told)
           (views_after at _ old.seats new.seats won) outward.leaves runs outward.node h.holds;
     })
@@ -185,8 +185,8 @@ completes_keep o core old new sent received receipts seg n done whole h =
 
 pub complete_keeps : (old : NodeState) (answer : Stepped) (new : NodeState) → CompleteStep old answer new → KeepsAll old new
 complete_keeps old Did new step o began is h =
-    let sent = sent_by old.sends in
-    let received = received_by old.recvs in
+    let sent = passed_by old.sends in
+    let received = passed_by old.recvs in
     subst (HoldsUnder o began) (sym step.after)
     (record {
       core = h.core;
@@ -207,8 +207,8 @@ job_keeps old Did new step o began is h =
     subst (HoldsUnder o began) (sym step.after)
     (record {
       core = taken_core_of o (must_wait old.core step.txn.root) old.core new.core step.txn step.outcome step.taken h.core;
-      holds = seats_keep o new.core old.seats new.seats (sent_by old.sends) (received_by old.recvs) receipts (claimed_same step.outcome old new step.claims)
-          (core_submitted (views_of old.seats) (sent_by old.sends) (received_by old.recvs) old.receipts o is old.core new.core (must_wait old.core step.txn.root) step.txn step.outcome h.core step.taken h.holds);
+      holds = seats_keep o new.core old.seats new.seats (passed_by old.sends) (passed_by old.recvs) receipts (claimed_same step.outcome old new step.claims)
+          (core_submitted (views_of old.seats) (passed_by old.sends) (passed_by old.recvs) old.receipts o is old.core new.core (must_wait old.core step.txn.root) step.txn step.outcome h.core step.taken h.holds);
     })
 job_keeps old Nothing new step o began is h = same_keeps old new step o began is h
 job_keeps old Memory new step o began is h = same_keeps old new step o began is h
@@ -219,7 +219,7 @@ resume_keeps old Did new step o began is h =
     subst (HoldsUnder o began) (sym step.after)
     (record {
       core = subst (IsCoreOf o began.stage) (sym step.taken.after) (record { plan = of.plan; recon = of.recon; stage = of.stage; outs = of.outs; given_up = of.given_up; loaded = of.loaded });
-      holds = core_resumed (views_of old.seats) (sent_by old.sends) (received_by old.recvs) old.receipts o is old.core new.core step.resumed h.core step.taken h.holds;
+      holds = core_resumed (views_of old.seats) (passed_by old.sends) (passed_by old.recvs) old.receipts o is old.core new.core step.resumed h.core step.taken h.holds;
     })
 resume_keeps old Nothing new step o began is h = same_keeps old new step.0 o began is h
 resume_keeps old Memory new step o began is h = same_keeps old new step o began is h
@@ -228,6 +228,6 @@ resume_keeps old Memory new step o began is h = same_keeps old new step o began 
 pub none_to_load : (node : NodeState) → ((src : ℕ) → may_load_now node.core src ≡ false) → ((src : ℕ) → IfSome (inbox_at node.core src) IsChunk) → (o : OpeningValue) (began : BeganWith) → IsOpening o → HoldsUnder o began node
     → (src : ℕ) → HasNoneToLoad o began.stage (node_value node) src
 none_to_load node none chunks o began is h src chunk came arrived =
-    came_loaded o is node.core (views_of node.seats) (sent_by node.sends) (received_by node.recvs) node.receipts h.core h.holds src chunk
+    came_loaded o is node.core (views_of node.seats) (passed_by node.sends) (passed_by node.recvs) node.receipts h.core h.holds src chunk
     (subst (λ (found : Option ChunkValue). IfSome found IsChunk) came (chunks src)) arrived came
     (sym (ap (λ b. b && may_load node.core src) (runs_now o began.stage node.core src h.core ∙ link_runs o began.stage src node.core.part chunk.note.seg arrived.segment)) ∙ none src)

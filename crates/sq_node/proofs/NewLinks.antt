@@ -8,12 +8,10 @@ use Rattle.std.proofs.lemmas.List.Kept.{IsStrictlySortedBy-filter}
 use Rattle.sq_model.proofs.Lists.{Contains-nothing, Contains-first, Contains-later, Contains-cases, Contains-filter, filter-first, filter-other}
 use Rattle.sq_ranges.specs.ReconValue.{ReconValue, AreLinks, is_link, stage_on, link_cmp}
 use Rattle.sq_ranges.specs.declared.recon.Link.{Link}
-use Rattle.sq_link.specs.Values.{LinkValue, SendValue, RecvValue}
-use Rattle.sq_node.specs.declared.ends.SendEnd.{SendEnd}
-use Rattle.sq_node.specs.declared.ends.RecvEnd.{RecvEnd}
-use Rattle.sq_node.specs.Ends.{no_link, link_at}
+use Rattle.sq_link.specs.Values.{LinkValue, PassValue}
+use Rattle.sq_node.specs.Ends.{EndValue, no_link, link_at, end_at}
 use Rattle.sq_node.specs.FabricValue.{ends_of, AreStageLinks}
-use Rattle.sq_node.specs.Opened.{HasAllEnds}
+use Rattle.sq_node.specs.Opened.{HasAllEnds, new_end}
 
 -- an element of a list stands where it stood once one more is added
 pub before : {X : Type 0} (xs : List X) (x d : X) (k : ℕ) → k < length xs → get_or (xs ++ x ∷ []) k d ≡ get_or xs k d
@@ -35,33 +33,29 @@ links_more items links at end link are lt stands src dst =
 pub as_many : (items : List Link) (links : List LinkValue) (at : ℕ) → map ends_of links ≡ take at items → at ≤ length items → at ≡ length links
 as_many items links at are within = omega (arith, length-map links ends_of, ap length are, length-take at items)
 
--- the ends of all links, once one more link has its end
-each_more : {X : Type 0} (end_of : LinkValue → ℕ → X) (links : List LinkValue) (ends : List (Option X)) (link : LinkValue) (end : X) → length ends ≡ length links → end ≡ end_of link (length links)
-    → ((i : ℕ) → i < length links → get_or ends i None ≡ Some (end_of (link_at links i) i))
-    → (i : ℕ) → i < length (links ++ link ∷ []) → get_or (ends ++ Some end ∷ []) i None ≡ Some (end_of (link_at (links ++ link ∷ []) i) i)
-each_more end_of links ends link end count is each i lt =
-    ⊎_elim
-    (λ (earlier : i < length links).
-    before ends (Some end) None i (omega (arith, count)) ∙ each i earlier
-    ∙ ap (λ (l : LinkValue). Some (end_of l i)) (sym (before links link no_link i earlier)))
-    (λ (past : length links ≤ i).
-    let same : i ≡ length links = omega (arith, length-append links (link ∷ [])) in
-    let there : link_at (links ++ link ∷ []) i ≡ link = ap (λ (k : ℕ). get_or (links ++ link ∷ []) k no_link) same ∙ last links link no_link in
-    ap (λ (k : ℕ). get_or (ends ++ Some end ∷ []) k None) (same ∙ sym count) ∙ last ends (Some end) None ∙ ap Some is
-    ∙ sym (λ k. Some (end_of (there k) (same k))))
-    (cases_lt i (length links))
+-- the end of a link that stands here, along which nothing went
+abbrev end_of : LinkValue → ℕ → EndValue
+end_of link i = record { link = i; pass = record { queue = link.queue; chunks = [] } }
 
-pub ends_more : (links : List LinkValue) (sends : List (Option SendEnd)) (recvs : List (Option RecvEnd)) (at : ℕ) (link : LinkValue) (send : SendValue) (recv : RecvValue) → HasAllEnds links sends recvs → at ≡ length links
-    → send ≡ record { queue = link.queue; sent = [] } → recv ≡ record { queue = link.queue; received = [] }
-    → HasAllEnds (links ++ link ∷ []) (sends ++ Some (record { link = at; pass = send }) ∷ []) (recvs ++ Some (record { link = at; pass = recv }) ∷ [])
-ends_more links sends recvs at link send recv are here send_is recv_is =
-    let out : SendEnd = record { link = at; pass = send } in
-    let into : RecvEnd = record { link = at; pass = recv } in
+-- the ends of all links, once one more link has its end
+pub ends_more : (links : List LinkValue) (ends : List (Option EndValue)) (at : ℕ) (link : LinkValue) (pass : PassValue) → HasAllEnds links ends → at ≡ length links
+    → pass ≡ record { queue = link.queue; chunks = [] } → HasAllEnds (links ++ link ∷ []) (ends ++ Some (record { link = at; pass = pass }) ∷ [])
+ends_more links ends at link pass are here pass_is =
+    let all : List LinkValue = links ++ link ∷ [] in
+    let end : EndValue = record { link = at; pass = pass } in
+    let more : List (Option EndValue) = ends ++ Some end ∷ [] in
+    let new : end ≡ end_of link (length links) = λ k. record { link = here k; pass = pass_is k } in
     record {
-      count_sends = length-append sends (Some out ∷ []) ∙ ap (λ (n : ℕ). n + 1) are.count_sends ∙ sym (length-append links (link ∷ []));
-      count_recvs = length-append recvs (Some into ∷ []) ∙ ap (λ (n : ℕ). n + 1) are.count_recvs ∙ sym (length-append links (link ∷ []));
-      each_send = each_more {X = SendEnd} (λ l i. record { link = i; pass = record { queue = l.queue; sent = [] } }) links sends link out are.count_sends (λ k. record { link = here k; pass = send_is k }) are.each_send;
-      each_recv = each_more {X = RecvEnd} (λ l i. record { link = i; pass = record { queue = l.queue; received = [] } }) links recvs link into are.count_recvs (λ k. record { link = here k; pass = recv_is k }) are.each_recv;
+      count = length-append ends (Some end ∷ []) ∙ ap (λ (n : ℕ). n + 1) are.count ∙ sym (length-append links (link ∷ []));
+      each = λ i lt. ⊎_elim
+          (λ (earlier : i < length links).
+          before ends (Some end) None i (omega (arith, are.count)) ∙ are.each i earlier ∙ ap (λ (l : LinkValue). Some (end_of l i)) (sym (before links link no_link i earlier)))
+          (λ (past : length links ≤ i).
+          let same : i ≡ length links = omega (arith, length-append links (link ∷ [])) in
+          let there : link_at all i ≡ link = ap (link_at all) same ∙ last links link no_link in
+          let is : end ≡ new_end all i = new ∙ sym (λ k. end_of (there k) (same k)) in
+          ap (end_at more) (same ∙ sym are.count) ∙ last ends (Some end) None ∙ ap Some is)
+          (cases_lt i (length links));
     }
 
 -- what a filter keeps is of the list, and passes

@@ -27,15 +27,13 @@ use Rattle.sq_node_model.specs.BeganWith.{BeganWith, CanBegin, is_opened, openin
 use Rattle.sq_node_model.specs.Cores.{staged_core, OpensWith, IsUnused}
 use Rattle.sq_node_model.proofs.CoreNew.{core_new, get_or-same}
 use Rattle.sq_node_model.proofs.Members.{push_stood}
-use Rattle.sq_node.specs.declared.ends.SendEnd.{SendEnd}
-use Rattle.sq_node.specs.declared.ends.RecvEnd.{RecvEnd}
-use Rattle.sq_node.specs.Ends.{send_end, recv_end}
+use Rattle.sq_node.specs.Ends.{EndValue, src_of, dst_of, end_at}
 use Rattle.sq_node.specs.FabricValue.{FabricValue, HasBegun}
-use Rattle.sq_node.specs.NodeState.{NodeState, IsNodeOf, views_of, sent_by, received_by}
+use Rattle.sq_node.specs.NodeState.{NodeState, IsNodeOf, views_of, passed_by}
 use Rattle.sq_node.specs.Holds.{HoldsUnder}
 use Rattle.sq_node.specs.Settled.{IsNode}
 use Rattle.sq_pull.specs.Pump.{PumpValue}
-use Rattle.sq_node.specs.Opened.{IsNewPump, AreNewPumps, AreFirstSeats, AreNewSeats, GaveEach, HasEnds, LeavesEnds, HaveSentNothing, HaveReceivedNothing, AreNewSends, AreNewRecvs, IsFabricOf, IsNewNode, AreNewNodes, AllOpenWith, AllHoldUnder, IsReopened, opened_stores, running_core}
+use Rattle.sq_node.specs.Opened.{IsNewPump, AreNewPumps, AreFirstSeats, AreNewSeats, GaveEach, HasEnds, LeavesEnds, HavePassedNothing, AreNewEnds, IsFabricOf, IsNewNode, AreNewNodes, AllOpenWith, AllHoldUnder, IsReopened, opened_stores, running_core}
 use Rattle.sq_node.proofs.NewLinks.{before, last}
 
 -- nothing is loaded at a partition as a stage begins
@@ -65,14 +63,14 @@ new_is_node core seats pending complete none flags fresh =
     no_pending : (seg n : ℕ) → Contains pending (seg, n) → ⊥
     no_pending seg n there = let among : Contains [] (seg, n) = subst (λ (xs : List (ℕ × ℕ)). Contains xs (seg, n)) none there in omega (arith, among.1)
 
-unused : (trees : List TableId) (seats : List SeatValue) (sends : List (Option SendEnd)) (recvs : List (Option RecvEnd)) → AreNewSeats trees seats → HaveSentNothing sends → HaveReceivedNothing recvs
-    → IsUnused (views_of seats) (sent_by sends) (received_by recvs)
+unused : (trees : List TableId) (seats : List SeatValue) (sends recvs : List (Option EndValue)) → AreNewSeats trees seats → HavePassedNothing sends → HavePassedNothing recvs
+    → IsUnused (views_of seats) (passed_by sends) (passed_by recvs)
 unused trees seats sends recvs new unsent unreceived =
     record {
       begun = λ seg. begun_at seg (slice_get seats seg) refl;
       completed = λ seg. completed_at seg (slice_get seats seg) refl;
-      none_sent = λ dst. sent_at dst (send_end sends dst) refl;
-      none_received = λ src. received_at src (recv_end recvs src) refl;
+      none_sent = λ dst. none_by sends unsent dst (end_at sends dst) refl;
+      none_received = λ src. none_by recvs unreceived src (end_at recvs src) refl;
     }
   where
     begun_at : (seg : ℕ) (found : Option SeatValue) → slice_get seats seg ≡ found → (option_map_or (λ (seat : SeatValue). seat.view) found (fresh false false)).begun ≡ []
@@ -83,13 +81,9 @@ unused trees seats sends recvs new unsent unreceived =
     completed_at seg None is = refl
     completed_at seg (Some seat) is = ap (λ (v : View). v.completed) (new.each seg seat is)
 
-    sent_at : (dst : ℕ) (found : Option SendEnd) → send_end sends dst ≡ found → option_map_or (λ (end : SendEnd). end.pass.sent) found [] ≡ []
-    sent_at dst None is = refl
-    sent_at dst (Some end) is = unsent dst end is
-
-    received_at : (src : ℕ) (found : Option RecvEnd) → recv_end recvs src ≡ found → option_map_or (λ (end : RecvEnd). end.pass.received) found [] ≡ []
-    received_at src None is = refl
-    received_at src (Some end) is = unreceived src end is
+    none_by : (ends : List (Option EndValue)) → HavePassedNothing ends → (other : ℕ) (found : Option EndValue) → end_at ends other ≡ found → option_map_or (λ (end : EndValue). end.pass.chunks) found [] ≡ []
+    none_by ends none other None is = refl
+    none_by ends none other (Some end) is = none other end is
 
 swap_tests : {X : Type 0} (a b : Bool) (x : X) → (if a && b then Some x else None) ≡ (if b then (if a then Some x else None) else None)
 swap_tests true true x = refl
@@ -117,8 +111,8 @@ all_owned_open o owned part store there =
     subst (OpensWith o (first_began o) part) is (owned_opens o part (opened part) (owned part within))
 
 -- a node is new that is made of a partition as the stage begins, of new seats and of ends that nothing was sent and received by
-pub new_node : (o : OpeningValue) (fabric : FabricValue) (part : ℕ) (store : StoreValue) (core : CoreValue) (seats : List SeatValue) (sends : List (Option SendEnd)) (recvs : List (Option RecvEnd)) (node : NodeState)
-    → IsFabricOf o fabric → part < o.old.parts → core ≡ staged_core o fabric.stage part store → AreNewSeats fabric.trees seats → AreNewSends fabric.links fabric.parts part sends → AreNewRecvs fabric.links fabric.parts part recvs
+pub new_node : (o : OpeningValue) (fabric : FabricValue) (part : ℕ) (store : StoreValue) (core : CoreValue) (seats : List SeatValue) (sends recvs : List (Option EndValue)) (node : NodeState)
+    → IsFabricOf o fabric → part < o.old.parts → core ≡ staged_core o fabric.stage part store → AreNewSeats fabric.trees seats → AreNewEnds src_of dst_of fabric.links fabric.parts part sends → AreNewEnds dst_of src_of fabric.links fabric.parts part recvs
     → node ≡ record { core = record core { started = true }; seats = seats; sends = sends; recvs = recvs; receipts = []; claims = 0 } → IsNewNode fabric (running_core o fabric.stage part store) node
 new_node o fabric part store core seats sends recvs node shared below opened new out into is =
     subst (IsNewNode fabric (running_core o fabric.stage part store)) (sym (is ∙ ap (λ (c : CoreValue). record { core = record c { started = true }; seats = seats; sends = sends; recvs = recvs; receipts = []; claims = 0 }) opened))
@@ -208,9 +202,9 @@ gave_one_more given trees old new are gives =
     }
 
 -- the ends for another partition are left
-pub left_ends : {X : Type 0} (links : List LinkValue) (part_of : LinkValue → ℕ) (end_of : ℕ → X) (old new : List (Option X)) (part other : ℕ) → LeavesEnds links part_of old part new → part ≢ other → HasEnds links part_of end_of old other
-    → HasEnds links part_of end_of new other
-left_ends links part_of end_of old new part other leaves apart has =
+pub left_ends : (near : LinkValue → ℕ) (links : List LinkValue) (old new : List (Option EndValue)) (part other : ℕ) → LeavesEnds near links old part new → part ≢ other → HasEnds near links old other
+    → HasEnds near links new other
+left_ends near links old new part other leaves apart has =
     record {
       count = leaves.count ∙ has.count;
       each = λ i lt own. leaves.each i (λ same. apart (sym same ∙ own)) ∙ has.each i lt own;
@@ -225,7 +219,7 @@ new_holds o began fabric part store node below begun can opens new =
     (λ k. record { core = sym core k; seats = node.seats; sends = node.sends; recvs = node.recvs; receipts = sym new.receipts k; claims = node.claims })
     (record {
       core = record { plan = refl; recon = refl; stage = refl; outs = length-replicate o.old.parts new_out_link; given_up = length-replicate (length o.recon.segments) none_given_up; loaded = length-replicate (length o.recon.segments) [] };
-      holds = core_new o began can part store below opens (views_of node.seats) (sent_by node.sends) (received_by node.recvs) (unused fabric.trees node.seats node.sends node.recvs new.seats new.sends new.recvs);
+      holds = core_new o began can part store below opens (views_of node.seats) (passed_by node.sends) (passed_by node.recvs) (unused fabric.trees node.seats node.sends node.recvs new.seats new.sends new.recvs);
     })
 
 -- so it does of all nodes of a stage that begins

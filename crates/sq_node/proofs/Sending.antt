@@ -3,15 +3,12 @@ use Rattle.std.proofs.Common.{◌≡◌, ℕ, ◌<◌, ◌≤◌, List, length, 
 use Rattle.std.specs.Prelude.{◌⊎◌}
 use Rattle.std.proofs.lemmas.Bool.{cases_lt}
 use Rattle.std.proofs.lemmas.List.{set-set, set-get_or, get_or-set_same, get_or_past, get_or_default}
-use Rattle.crossbeam_queue.specs.Fifo.{Held}
 use Rattle.sq_chunk.specs.ChunkValue.{ChunkValue}
-use Rattle.sq_link.specs.Order.{IsEndOf}
 use Rattle.sq_exec.specs.OutLink.{OutLinkValue, new_out_link}
 use Rattle.sq_exec.specs.CoreValue.{CoreValue, out_at, with_out}
-use Rattle.sq_node.specs.declared.ends.SendEnd.{SendEnd}
 use Rattle.sq_node.specs.FabricValue.{FabricValue}
 use Rattle.sq_node.specs.NodeState.{NodeState}
-use Rattle.sq_node.specs.Ends.{link_at, send_end}
+use Rattle.sq_node.specs.Ends.{EndValue, end_at, WasFull}
 use Rattle.sq_node.specs.Steps.{HasNoneToSend}
 
 -- where there is a chunk there is an end of a link
@@ -42,15 +39,15 @@ put_back core taken put dst chunk back there same took puts =
 
 -- a link that was full at one moment has no room for the chunk
 pub none_to_send : (fabric : FabricValue) (node : NodeState) (dst : ℕ)
-    → ((end : SendEnd) → send_end node.sends dst ≡ Some end → Held (link_at fabric.links end.link).capacity (IsEndOf end.pass.sent)) → HasNoneToSend fabric node dst
-none_to_send fabric node dst held =
-    by_end (send_end node.sends dst) refl
+    → ((end : EndValue) → end_at node.sends dst ≡ Some end → WasFull fabric.links end) → HasNoneToSend fabric node dst
+none_to_send fabric node dst full =
+    by_end (end_at node.sends dst) refl
   where
-    by_end : (end : Option SendEnd) → send_end node.sends dst ≡ end → HasNoneToSend fabric node dst
+    by_end : (end : Option EndValue) → end_at node.sends dst ≡ end → HasNoneToSend fabric node dst
     by_end None none = inr (inl none)
-    by_end (Some end) there = inr (inr (end, there, held end there))
+    by_end (Some end) there = inr (inr (end, there, full end there))
 
 -- an end that was read where it stands
-pub read_end : {X : Type 0} (ends : List (Option X)) (i j : ℕ) (read : Option X) → i ≡ j → j < length ends → read ≡ get_or ends i read → get_or ends j None ≡ read
+pub read_end : (ends : List (Option EndValue)) (i j : ℕ) (read : Option EndValue) → i ≡ j → j < length ends → read ≡ get_or ends i read → end_at ends j ≡ read
 read_end ends i j read same within is =
     get_or_default ends j None read within ∙ ap (λ (n : ℕ). get_or ends n read) (sym same) ∙ sym is

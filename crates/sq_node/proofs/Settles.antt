@@ -16,7 +16,7 @@ use Rattle.sq_status.specs.Seat.{SeatValue}
 use Rattle.sq_exec.specs.declared.run.Run.{Run}
 use Rattle.sq_exec.specs.Runs.{is_whole, runs_with}
 use Rattle.sq_exec.specs.CoreValue.{CoreValue, with_inbox, loaded_at}
-use Rattle.sq_exec.specs.Moving.{can_load, can_load_in, may_load, begun_core, begun_in, CutsFor, LoadsFrom}
+use Rattle.sq_exec.specs.Moving.{can_load, can_load_in, may_load, begun_core, begun_in, LoadsFrom}
 use Rattle.sq_exec.proofs.Runs.{whole-runs_with}
 use Rattle.sq_node.specs.Settled.{IsNode, HasSettled, AreSeen}
 use Rattle.sq_node.proofs.Known.{AllKnowNoLess, settled_seats, seen_seats}
@@ -36,6 +36,14 @@ same_loads old new seats pending complete recon loads is =
     runs : ℕ → ℕ → List (List Run) → Bool
     runs seg n loaded = is_whole (loaded_at (record old { loaded = loaded }) seg) n
 
+-- a node stays one where its partition is the same one, and nothing more was loaded
+pub still_node : (part : ℕ) (old new now : CoreValue) (seats : List SeatValue) (pending : List (ℕ × ℕ)) (complete : List Bool) → new ≡ now → now.part ≡ old.part → now.recon ≡ old.recon → now.loaded ≡ old.loaded
+    → (part ≡ old.part) × IsNode old seats pending complete → (part ≡ new.part) × IsNode new seats pending complete
+still_node part old new now seats pending complete after same recon loaded is = (
+  is.0 ∙ sym (ap (λ (core : CoreValue). core.part) after ∙ same),
+  same_loads old new seats pending complete (ap (λ (core : CoreValue). core.recon) after ∙ recon) (ap (λ (core : CoreValue). core.loaded) after ∙ loaded) is.1,
+)
+
 -- and where the seats know no less, and set flags only of what they found complete
 pub other_flags : (core : CoreValue) (seats more : List SeatValue) (pending : List (ℕ × ℕ)) (complete noted : List Bool) → length noted ≡ length complete → AllKnowNoLess seats more
     → (AreSeen seats complete → AreSeen more noted) → IsNode core seats pending complete → IsNode core more pending noted
@@ -51,11 +59,6 @@ other_flags core seats more pending complete noted same known sees is =
 pub other_seats : (core : CoreValue) (seats more : List SeatValue) (pending : List (ℕ × ℕ)) (complete : List Bool) → AllKnowNoLess seats more
     → IsNode core seats pending complete → IsNode core more pending complete
 other_seats core seats more pending complete known is = other_flags core seats more pending complete complete refl known (seen_seats seats more complete known) is
-
-pub after_cut : (old new : CoreValue) (dst : ℕ) (note : Note) (seats : List SeatValue) (pending : List (ℕ × ℕ)) (complete : List Bool) → CutsFor old dst note new
-    → IsNode old seats pending complete → IsNode new seats pending complete
-after_cut old new dst note seats pending complete cuts =
-    same_loads old new seats pending complete (ap (λ (core : CoreValue). core.recon) cuts.after) (ap (λ (core : CoreValue). core.loaded) cuts.after)
 
 either : (a b : Bool) → (a || b) ≡ true → (a ≡ true) ⊎ (b ≡ true)
 either true b h = inl refl
@@ -152,16 +155,11 @@ module _ (old new : CoreValue) (src : ℕ) (note : Note) (loads : LoadsFrom old 
           let list : more ≡ pending ++ (seg, n) ∷ [] = more_is ∙ (λ k. if last k then pending ++ pair k ∷ [] else pending) in
           inl (subst (λ (xs : List (ℕ × ℕ)). Contains xs (seg, n)) (sym list) (Contains-push pending (seg, n)))
 
-pub after_put : (old new : CoreValue) (src : ℕ) (inbox : Option ChunkValue) (result : Result (Unit {0}) ChunkValue) (seats : List SeatValue) (pending : List (ℕ × ℕ)) (complete : List Bool)
-    → OnOk result (new ≡ with_inbox old src inbox) → OnErr result (new ≡ old) → IsNode old seats pending complete → IsNode new seats pending complete
-after_put old new src inbox (Ok done) seats pending complete ok err =
-    same_loads old new seats pending complete (ap (λ (core : CoreValue). core.recon) ok) (ap (λ (core : CoreValue). core.loaded) ok)
-after_put old new src inbox (Err back) seats pending complete ok err =
-    same_loads old new seats pending complete (ap (λ (core : CoreValue). core.recon) err) (ap (λ (core : CoreValue). core.loaded) err)
-
-pub put_part : (old new : CoreValue) (src : ℕ) (inbox : Option ChunkValue) (result : Result (Unit {0}) ChunkValue) → OnOk result (new ≡ with_inbox old src inbox) → OnErr result (new ≡ old) → new.part ≡ old.part
-put_part old new src inbox (Ok done) ok err = ap (λ (core : CoreValue). core.part) ok
-put_part old new src inbox (Err back) ok err = ap (λ (core : CoreValue). core.part) err
+-- so it does whether a chunk was put into an inbox or came back
+pub put_still : (part : ℕ) (old new : CoreValue) (src : ℕ) (inbox : Option ChunkValue) (result : Result (Unit {0}) ChunkValue) (seats : List SeatValue) (pending : List (ℕ × ℕ)) (complete : List Bool)
+    → OnOk result (new ≡ with_inbox old src inbox) → OnErr result (new ≡ old) → (part ≡ old.part) × IsNode old seats pending complete → (part ≡ new.part) × IsNode new seats pending complete
+put_still part old new src inbox (Ok done) seats pending complete ok err = still_node part old new (with_inbox old src inbox) seats pending complete ok refl refl refl
+put_still part old new src inbox (Err back) seats pending complete ok err = still_node part old new old seats pending complete err refl refl refl
 
 pub begun_part : (core : CoreValue) (seg n pull : ℕ) → (begun_core core seg n pull).part ≡ core.part
 begun_part core seg n pull = by_segment (slice_get core.recon.segments seg)

@@ -21,7 +21,7 @@ use Rattle.sq_node_model.proofs.Puts.{put_each, put_set, put_still}
 use Rattle.sq_node.specs.declared.stepped.Stepped.{Stepped}
 use Rattle.sq_node.specs.declared.stepped.Stepped.TheVariants.{Did, Nothing, Memory}
 use Rattle.sq_node.specs.FabricValue.{FabricValue}
-use Rattle.sq_node.specs.Ends.{link_at, IsPassOf, AreEnds, AreSendEnds, AreRecvEnds}
+use Rattle.sq_node.specs.Ends.{EndValue, link_at, end_at, IsEnd, AreEnds, AreSendEnds, AreRecvEnds}
 use Rattle.sq_node.specs.NodeState.{NodeState, IsNodeOf}
 use Rattle.sq_node.specs.Looks.{SeatsLooked}
 use Rattle.sq_node.specs.Steps.{ClaimsFor, JobStep, RequestStep, CutStep, SendStep, RecvStep, LoadStep, CompleteStep, ResumeStep}
@@ -76,31 +76,31 @@ load_stays fabric old Nothing new step of = same_node fabric old new step.0 of
 load_stays fabric old Memory new step of = same_node fabric old new step of
 
 -- ends of which another stands in the place of one
-module _ {X : Type 0} (ends : List (Option X)) (at : ℕ) (end now : X) (there : slice_index_or ends at None ≡ Some end) where
-  set_there : (k : ℕ) → slice_index_or (slice_set ends at (Some now)) k None ≡ put at (Some now) (λ j. slice_index_or ends j None) k
+module _ (ends : List (Option EndValue)) (at : ℕ) (end now : EndValue) (there : end_at ends at ≡ Some end) where
+  set_there : (k : ℕ) → end_at (slice_set ends at (Some now)) k ≡ put at (Some now) (end_at ends) k
   set_there = put_set ends at (Some now) None (stands_below ends at end there)
 
-  -- what is read alike of both is read of each as before
-  read_alike : {Y : Type 0} (read : X → Y) → read now ≡ read end → (k : ℕ) → option_map read (slice_index_or (slice_set ends at (Some now)) k None) ≡ option_map read (slice_index_or ends k None)
-  read_alike read same k =
-      ap (option_map read) (set_there k)
-      ∙ put_still (option_map read) at (Some now) (λ j. slice_index_or ends j None) k (ap (λ y. Some y) same ∙ sym (ap (option_map read) there))
+  -- the link is the same
+  same_link : now.link ≡ end.link → (k : ℕ) → option_map (λ (e : EndValue). e.link) (end_at (slice_set ends at (Some now)) k) ≡ option_map (λ (e : EndValue). e.link) (end_at ends k)
+  same_link same k =
+      let link_of = option_map (λ (e : EndValue). e.link) in
+      ap link_of (set_there k) ∙ put_still link_of at (Some now) (end_at ends) k (ap (λ i. Some i) same ∙ sym (ap link_of there))
 
   -- what is said of the other is said of each, where it was said of those before
-  said_of_each : (P : X → Type 0) → P now → ((k : ℕ) (e : X) → slice_index_or ends k None ≡ Some e → P e) → (k : ℕ) (e : X) → slice_index_or (slice_set ends at (Some now)) k None ≡ Some e → P e
+  said_of_each : (P : EndValue → Type 0) → P now → ((k : ℕ) (e : EndValue) → end_at ends k ≡ Some e → P e) → (k : ℕ) (e : EndValue) → end_at (slice_set ends at (Some now)) k ≡ Some e → P e
   said_of_each P mine before k e stands =
-      put_each (λ j found. found ≡ Some e → P e) at (Some now) (λ j. slice_index_or ends j None) (λ is. subst P (same_Some now e is) mine) (λ j apart is. before j e is) k
+      put_each (λ j found. found ≡ Some e → P e) at (Some now) (end_at ends) (λ is. subst P (same_Some now e is) mine) (λ j apart is. before j e is) k
       (sym (set_there k) ∙ stands)
 
   -- they are a partition's ends still, where the other is of the same link
-  ends_stay : {links : List LinkValue} {link_of : X → ℕ} {queue_of : X → TableId} {between : ℕ → Option ℕ} → AreEnds links link_of queue_of between ends → link_of now ≡ link_of end → queue_of now ≡ queue_of end
-      → AreEnds links link_of queue_of between (slice_set ends at (Some now))
-  ends_stay {links} {link_of} {queue_of} are link queue =
+  ends_stay : {near far : LinkValue → ℕ} {links : List LinkValue} {part : ℕ} → AreEnds near far links part ends → now.link ≡ end.link → now.pass.queue ≡ end.pass.queue
+      → AreEnds near far links part (slice_set ends at (Some now))
+  ends_stay {near} {far} {links} are link queue =
       let first = are.ends at end there in
-      let is : IsPassOf links (link_of now) (queue_of now) = record { exists = omega (arith, first.exists, link); queue = queue ∙ first.queue ∙ ap (λ (i : ℕ). (link_at links i).queue) (sym link) } in
+      let is : IsEnd links now = record { exists = omega (arith, first.exists, link); queue = queue ∙ first.queue ∙ ap (λ (i : ℕ). (link_at links i).queue) (sym link) } in
       record {
-        which = λ other lt. read_alike link_of link other ∙ are.which other (omega (arith, lt, length-set ends at (Some now)));
-        ends = said_of_each (λ (e : X). IsPassOf links (link_of e) (queue_of e)) is are.ends;
+        which = λ other lt. same_link link other ∙ are.which other (omega (arith, lt, length-set ends at (Some now)));
+        ends = said_of_each (IsEnd links) is are.ends;
       }
 
 pub send_stays : (fabric : FabricValue) (old : NodeState) (answer : Stepped) (new : NodeState) → SendStep fabric old answer new → IsNodeOf fabric old → IsNodeOf fabric new

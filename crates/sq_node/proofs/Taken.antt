@@ -4,7 +4,7 @@ use Rattle.std.specs.Prelude.{◌≢◌, ◌==◌, ◌&&◌, option_map, MatchOp
 use Rattle.std.proofs.lemmas.Bool.{cases_lt, and_parts, eqb-true}
 use Rattle.std.proofs.lemmas.List.Quantifiers.{position-Some}
 use Rattle.sq_link.specs.Values.{LinkValue}
-use Rattle.sq_node.specs.Ends.{no_link, link_at, link_from}
+use Rattle.sq_node.specs.Ends.{no_link, link_at, link_between}
 use Rattle.std.proofs.lemmas.List.{get_or-set_other, length-set}
 
 -- what was taken for the numbers so far, and what is left
@@ -73,8 +73,9 @@ module _ {X : Type 0} (fresh : ℕ → X) (count : ℕ) (mine : ℕ → Bool) (o
           (subst (λ (ts : List (Option X)). Takes fresh count mine other which old (number + 1) (set ends at None) ts) (sym pushed) (takes_some at e is there.0 there.1 there.2 told.0))
 
 -- where the link between two partitions stands
-pub found_link : (links : List LinkValue) (src dst at : ℕ) → link_from links src dst ≡ Some at → (at < length links) × ((link_at links at).src ≡ src) × ((link_at links at).dst ≡ dst)
-found_link links src dst at is =
-    let found = position-Some (λ (link : LinkValue). (link.src == src) && (link.dst == dst)) links at no_link is in
-    let both = and_parts ((link_at links at).src == src) ((link_at links at).dst == dst) found.1 in
-    (found.0, eqb-true (link_at links at).src src both.0, eqb-true (link_at links at).dst dst both.1)
+pub found_link : (near far : LinkValue → ℕ) (links : List LinkValue) (part other at : ℕ) → link_between near far links part other ≡ Some at
+    → (at < length links) × (near (link_at links at) ≡ part) × (far (link_at links at) ≡ other)
+found_link near far links part other at is =
+    let found = position-Some (λ (link : LinkValue). (near link == part) && (far link == other)) links at no_link is in
+    let both = and_parts (near (link_at links at) == part) (far (link_at links at) == other) found.1 in
+    (found.0, eqb-true (near (link_at links at)) part both.0, eqb-true (far (link_at links at)) other both.1)

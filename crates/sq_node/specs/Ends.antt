@@ -1,12 +1,14 @@
 -- The ends that a node has of links.
 use Rattle.std.specs.Prelude.{◌≡◌, ℕ, ◌<◌, ◌==◌, ◌&&◌, List, [], ◌∷◌, ◌++◌, length, position, slice_index_or, Option, Some, None, option_map}
-use Rattle.atomic_table.specs.Seated.{TableId}
 use Rattle.crossbeam_queue.specs.Fifo.{Held}
 use Rattle.sq_chunk.specs.ChunkValue.{ChunkValue}
-use Rattle.sq_link.specs.Values.{LinkValue}
+use Rattle.sq_link.specs.Values.{LinkValue, PassValue}
 use Rattle.sq_link.specs.Order.{IsEndOf, ComesAfter}
-use Rattle.sq_node.specs.declared.ends.SendEnd.{SendEnd}
-use Rattle.sq_node.specs.declared.ends.RecvEnd.{RecvEnd}
+use Rattle.sq_node.specs.declared.ends.LinkEnd.{LinkEnd}
+
+-- an end of a link: where the link stands, and the pass with the chunks that went by it
+abbrev pub EndValue : Type 0
+EndValue = LinkEnd PassValue
 
 abbrev pub no_link : LinkValue
 no_link = record {
@@ -19,55 +21,46 @@ no_link = record {
 abbrev pub link_at : List LinkValue → ℕ → LinkValue
 link_at links i = slice_index_or links i no_link
 
--- where the link from one partition to another stands; none where there is no such link
-abbrev pub link_from : List LinkValue → ℕ → ℕ → Option ℕ
-link_from links src dst = position (λ link. (link.src == src) && (link.dst == dst)) links
-
--- a pass for this queue is of the link that stands here
-pub record IsPassOf (links : List LinkValue) (link : ℕ) (passes : TableId) : Type 0 where
-  pub exists : link < length links
-  pub queue : passes ≡ (link_at links link).queue
+-- where the link stands that has a partition at its near end and another one at its far end; none where there is no such link
+abbrev pub link_between : (LinkValue → ℕ) → (LinkValue → ℕ) → List LinkValue → ℕ → ℕ → Option ℕ
+link_between near far links part other = position (λ link. (near link == part) && (far link == other)) links
 
 -- the end is of the link that it names
-abbrev pub IsSendEnd : List LinkValue → SendEnd → Type 0
-IsSendEnd links end = IsPassOf links end.link end.pass.queue
+pub record IsEnd (links : List LinkValue) (end : EndValue) : Type 0 where
+  pub exists : end.link < length links
+  pub queue : end.pass.queue ≡ (link_at links end.link).queue
 
-abbrev pub IsRecvEnd : List LinkValue → RecvEnd → Type 0
-IsRecvEnd links end = IsPassOf links end.link end.pass.queue
-
--- the end once it sent one more chunk
-abbrev pub sent_on : SendEnd → ChunkValue → SendEnd
-sent_on end chunk = record { link = end.link; pass = record { queue = end.pass.queue; sent = end.pass.sent ++ chunk ∷ [] } }
-
--- the end once it received one more chunk
-abbrev pub received_on : RecvEnd → ChunkValue → RecvEnd
-received_on end chunk = record { link = end.link; pass = record { queue = end.pass.queue; received = end.pass.received ++ chunk ∷ [] } }
+-- the end once it passed one more chunk on
+abbrev pub passed_on : EndValue → ChunkValue → EndValue
+passed_on end chunk = record { link = end.link; pass = record { queue = end.pass.queue; chunks = end.pass.chunks ++ chunk ∷ [] } }
 
 -- the end's link was full at one moment, as far as the end can tell
-abbrev pub WasFull : List LinkValue → SendEnd → Type 0
-WasFull links end = Held (link_at links end.link).capacity (IsEndOf end.pass.sent)
+abbrev pub WasFull : List LinkValue → EndValue → Type 0
+WasFull links end = Held (link_at links end.link).capacity (IsEndOf end.pass.chunks)
 
 -- the end's link was empty at one moment, as far as the end can tell
-abbrev pub WasEmpty : RecvEnd → Type 0
-WasEmpty end = Held 0 (ComesAfter end.pass.received)
+abbrev pub WasEmpty : EndValue → Type 0
+WasEmpty end = Held 0 (ComesAfter end.pass.chunks)
 
-abbrev pub send_end : List (Option SendEnd) → ℕ → Option SendEnd
-send_end sends dst = slice_index_or sends dst None
-
-abbrev pub recv_end : List (Option RecvEnd) → ℕ → Option RecvEnd
-recv_end recvs src = slice_index_or recvs src None
+abbrev pub end_at : List (Option EndValue) → ℕ → Option EndValue
+end_at ends other = slice_index_or ends other None
 
 -- a partition's ends by the other partition: one of each link that there is between them, this way
-pub record AreEnds {X : Type 0} (links : List LinkValue) (link_of : X → ℕ) (queue_of : X → TableId)
-    (between : ℕ → Option ℕ) (all : List (Option X)) : Type 0 where
-  pub which : (other : ℕ) → other < length all → option_map link_of (slice_index_or all other None) ≡ between other
-  pub ends : (other : ℕ) (end : X) → slice_index_or all other None ≡ Some end
-      → IsPassOf links (link_of end) (queue_of end)
+pub record AreEnds (near far : LinkValue → ℕ) (links : List LinkValue) (part : ℕ) (all : List (Option EndValue)) : Type 0 where
+  pub which : (other : ℕ) → other < length all → option_map (λ end. end.link) (end_at all other) ≡ link_between near far links part other
+  pub ends : (other : ℕ) (end : EndValue) → end_at all other ≡ Some end → IsEnd links end
+
+-- the partition that a link leads from, and the one that it leads to
+abbrev pub src_of : LinkValue → ℕ
+src_of link = link.src
+
+abbrev pub dst_of : LinkValue → ℕ
+dst_of link = link.dst
 
 -- its sending ends, by the partition that each sends to
-abbrev pub AreSendEnds : List LinkValue → ℕ → List (Option SendEnd) → Type 0
-AreSendEnds links part sends = AreEnds links (λ end. end.link) (λ end. end.pass.queue) (link_from links part) sends
+abbrev pub AreSendEnds : List LinkValue → ℕ → List (Option EndValue) → Type 0
+AreSendEnds = AreEnds src_of dst_of
 
 -- its receiving ends, by the partition that each receives from
-abbrev pub AreRecvEnds : List LinkValue → ℕ → List (Option RecvEnd) → Type 0
-AreRecvEnds links part recvs = AreEnds links (λ end. end.link) (λ end. end.pass.queue) (λ src. link_from links src part) recvs
+abbrev pub AreRecvEnds : List LinkValue → ℕ → List (Option EndValue) → Type 0
+AreRecvEnds = AreEnds dst_of src_of

@@ -1,5 +1,6 @@
 pub mod Ends
 pub mod FabricValue
+pub mod FabricView
 pub mod DeskValue
 pub mod Settled
 pub mod NodeState

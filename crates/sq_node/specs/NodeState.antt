@@ -9,19 +9,17 @@ use Rattle.sq_status.specs.declared.view.View.{View}
 use Rattle.sq_status.specs.View.{fresh}
 use Rattle.sq_status.specs.Seat.{SeatValue}
 use Rattle.sq_pull.specs.Seats.{AreSeatsOf}
-use Rattle.sq_node.specs.declared.ends.SendEnd.{SendEnd}
-use Rattle.sq_node.specs.declared.ends.RecvEnd.{RecvEnd}
 use Rattle.sq_node_model.specs.NodeValue.{ReceiptValue, NodeAtWork, NodeValue, node_of}
 use Rattle.sq_node.specs.FabricValue.{FabricValue}
-use Rattle.sq_node.specs.Ends.{send_end, recv_end, AreSendEnds, AreRecvEnds}
+use Rattle.sq_node.specs.Ends.{EndValue, end_at, AreSendEnds, AreRecvEnds}
 
 -- a partition, for each segment its seat at the segment's tree, for each partition its ends of the links to it and from it,
 -- its receipts, and how many claims it has won
 pub record NodeState : Type 0 where
   pub core : CoreValue
   pub seats : List SeatValue
-  pub sends : List (Option SendEnd)
-  pub recvs : List (Option RecvEnd)
+  pub sends : List (Option EndValue)
+  pub recvs : List (Option EndValue)
   pub receipts : List ReceiptValue
   pub claims : ℕ
 
@@ -41,21 +39,17 @@ pub record IsNodeOf (fabric : FabricValue) (node : NodeState) : Type 0 where
 abbrev pub views_of : List SeatValue → ℕ → View
 views_of seats seg = option_map_or (λ seat. seat.view) (slice_get seats seg) (fresh false false)
 
--- what was sent by each end, by the partition that it sends to
-abbrev pub sent_by : List (Option SendEnd) → ℕ → List ChunkValue
-sent_by sends dst = option_map_or (λ end. end.pass.sent) (send_end sends dst) []
-
--- what was received by each end, by the partition that it receives from
-abbrev pub received_by : List (Option RecvEnd) → ℕ → List ChunkValue
-received_by recvs src = option_map_or (λ end. end.pass.received) (recv_end recvs src) []
+-- what went by each end, by the other partition
+abbrev pub passed_by : List (Option EndValue) → ℕ → List ChunkValue
+passed_by ends other = option_map_or (λ end. end.pass.chunks) (end_at ends other) []
 
 -- the node, with the views of its seats and what its ends did by keys
 abbrev pub at_work : NodeState → NodeAtWork
 at_work node = record {
   core = node.core;
   views = views_of node.seats;
-  sent = sent_by node.sends;
-  received = received_by node.recvs;
+  sent = passed_by node.sends;
+  received = passed_by node.recvs;
   receipts = node.receipts;
 }
 

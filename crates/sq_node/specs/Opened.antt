@@ -1,5 +1,5 @@
 -- What a run opens with.
-use Rattle.std.specs.Prelude.{◌≡◌, ◌≢◌, ℕ, ◌+◌, ◌<◌, true, false, List, [], length, map, slice_get, slice_index_or, Option, Some, None}
+use Rattle.std.specs.Prelude.{◌≡◌, ◌≢◌, ℕ, ◌+◌, ◌<◌, true, false, List, [], length, map, slice_get, slice_index_or, Option, Some}
 use Rattle.std.specs.FinMap.{empty}
 use Rattle.std.specs.List.{range_with_len}
 use Rattle.atomic_table.specs.Seated.{TableId}
@@ -18,9 +18,7 @@ use Rattle.sq_pull.specs.Pump.{PumpValue, stage_round}
 use Rattle.sq_node_model.specs.NodeValue.{ReceiptValue}
 use Rattle.sq_node_model.specs.BeganWith.{BeganWith, CanBegin, first_began}
 use Rattle.sq_node_model.specs.Cores.{staged_core, OpensWith}
-use Rattle.sq_node.specs.declared.ends.SendEnd.{SendEnd}
-use Rattle.sq_node.specs.declared.ends.RecvEnd.{RecvEnd}
-use Rattle.sq_node.specs.Ends.{link_at, send_end, recv_end, AreSendEnds, AreRecvEnds}
+use Rattle.sq_node.specs.Ends.{EndValue, link_at, end_at, AreEnds}
 use Rattle.sq_node.specs.FabricValue.{FabricValue, HasBegun, ends_of, AreStageLinks}
 use Rattle.sq_node.specs.NodeState.{NodeState, IsNodeOf}
 use Rattle.sq_node.specs.Holds.{HoldsUnder}
@@ -47,12 +45,9 @@ pub record AreNewSeats (trees : List TableId) (seats : List SeatValue) : Type 0 
   pub of : AreSeatsOf trees seats
   pub each : (seg : ℕ) (seat : SeatValue) → slice_get seats seg ≡ Some seat → seat.view ≡ fresh false false
 
--- the ends of a link that nothing was sent on
-abbrev pub new_send_end : List LinkValue → ℕ → SendEnd
-new_send_end links i = record { link = i; pass = record { queue = (link_at links i).queue; sent = [] } }
-
-abbrev pub new_recv_end : List LinkValue → ℕ → RecvEnd
-new_recv_end links i = record { link = i; pass = record { queue = (link_at links i).queue; received = [] } }
+-- an end of a link along which nothing went
+abbrev pub new_end : List LinkValue → ℕ → EndValue
+new_end links i = record { link = i; pass = record { queue = (link_at links i).queue; chunks = [] } }
 
 -- each seat gave out one more
 pub record GaveEach (old new : List SeatValue) : Type 0 where
@@ -74,63 +69,37 @@ pub record AreNewLinks (recon : ReconValue) (stage capacity : ℕ) (links : List
   pub ends : AreStageLinks recon stage (map ends_of links)
   pub holds : HaveCapacity capacity links
 
--- the ends of all links, each where its link stands
-pub record HasAllEnds (links : List LinkValue) (sends : List (Option SendEnd)) (recvs : List (Option RecvEnd)) : Type 0 where
-  pub count_sends : length sends ≡ length links
-  pub count_recvs : length recvs ≡ length links
-  pub each_send : (i : ℕ) → i < length links → send_end sends i ≡ Some (new_send_end links i)
-  pub each_recv : (i : ℕ) → i < length links → recv_end recvs i ≡ Some (new_recv_end links i)
+-- one end of each link, where its link stands
+pub record HasAllEnds (links : List LinkValue) (ends : List (Option EndValue)) : Type 0 where
+  pub count : length ends ≡ length links
+  pub each : (i : ℕ) → i < length links → end_at ends i ≡ Some (new_end links i)
 
 -- the ends of a partition's links stand here, each where its link stands
-pub record HasEnds {X : Type 0} (links : List LinkValue) (part_of : LinkValue → ℕ) (end_of : ℕ → X)
-    (ends : List (Option X)) (part : ℕ) : Type 0 where
+pub record HasEnds (near : LinkValue → ℕ) (links : List LinkValue) (ends : List (Option EndValue)) (part : ℕ) : Type 0 where
   pub count : length ends ≡ length links
-  pub each : (i : ℕ) → i < length links → part_of (link_at links i) ≡ part
-      → slice_index_or ends i None ≡ Some (end_of i)
-
--- those that it is to send by, and those that it is to receive by
-abbrev pub HasSendEnds : List LinkValue → List (Option SendEnd) → ℕ → Type 0
-HasSendEnds links ends part = HasEnds links (λ link. link.src) (new_send_end links) ends part
-
-abbrev pub HasRecvEnds : List LinkValue → List (Option RecvEnd) → ℕ → Type 0
-HasRecvEnds links ends part = HasEnds links (λ link. link.dst) (new_recv_end links) ends part
+  pub each : (i : ℕ) → i < length links → near (link_at links i) ≡ part → end_at ends i ≡ Some (new_end links i)
 
 -- the ends of other partitions' links stay
-pub record LeavesEnds {X : Type 0} (links : List LinkValue) (part_of : LinkValue → ℕ) (old : List (Option X)) (part : ℕ)
-    (new : List (Option X)) : Type 0 where
+pub record LeavesEnds (near : LinkValue → ℕ) (links : List LinkValue) (old : List (Option EndValue)) (part : ℕ)
+    (new : List (Option EndValue)) : Type 0 where
   pub count : length new ≡ length old
-  pub each : (i : ℕ) → part_of (link_at links i) ≢ part → slice_index_or new i None ≡ slice_index_or old i None
+  pub each : (i : ℕ) → near (link_at links i) ≢ part → end_at new i ≡ end_at old i
 
--- those that others are to send by, and those that others are to receive by
-abbrev pub LeavesSendEnds : List LinkValue → List (Option SendEnd) → ℕ → List (Option SendEnd) → Type 0
-LeavesSendEnds links old part new = LeavesEnds links (λ link. link.src) old part new
+-- nothing went by these ends
+abbrev pub HavePassedNothing : List (Option EndValue) → Type 0
+HavePassedNothing ends = (other : ℕ) (end : EndValue) → end_at ends other ≡ Some end → end.pass.chunks ≡ []
 
-abbrev pub LeavesRecvEnds : List LinkValue → List (Option RecvEnd) → ℕ → List (Option RecvEnd) → Type 0
-LeavesRecvEnds links old part new = LeavesEnds links (λ link. link.dst) old part new
-
--- nothing was sent by these ends
-abbrev pub HaveSentNothing : List (Option SendEnd) → Type 0
-HaveSentNothing sends = (dst : ℕ) (end : SendEnd) → send_end sends dst ≡ Some end → end.pass.sent ≡ []
-
--- nothing was received by these ends
-abbrev pub HaveReceivedNothing : List (Option RecvEnd) → Type 0
-HaveReceivedNothing recvs = (src : ℕ) (end : RecvEnd) → recv_end recvs src ≡ Some end → end.pass.received ≡ []
-
--- a partition's ends that it sends by and that it receives by, one for each of so many partitions, of links along which
--- nothing went
-abbrev pub AreNewSends : List LinkValue → ℕ → ℕ → List (Option SendEnd) → Type 0
-AreNewSends links parts part sends = AreSendEnds links part sends × HaveSentNothing sends × (length sends ≡ parts)
-
-abbrev pub AreNewRecvs : List LinkValue → ℕ → ℕ → List (Option RecvEnd) → Type 0
-AreNewRecvs links parts part recvs = AreRecvEnds links part recvs × HaveReceivedNothing recvs × (length recvs ≡ parts)
+-- a partition's ends of links along which nothing went, one for each of so many partitions
+abbrev pub AreNewEnds : (LinkValue → ℕ) → (LinkValue → ℕ) → List LinkValue → ℕ → ℕ → List (Option EndValue) → Type 0
+AreNewEnds near far links parts part ends = AreEnds near far links part ends × HavePassedNothing ends × (length ends ≡ parts)
 
 -- a node with this partition, to which nothing has happened
 pub record IsNewNode (fabric : FabricValue) (started : CoreValue) (node : NodeState) : Type 0 where
   pub of : IsNodeOf fabric node
   pub core : node.core ≡ started
   pub seats : AreNewSeats fabric.trees node.seats
-  pub sends : HaveSentNothing node.sends
-  pub recvs : HaveReceivedNothing node.recvs
+  pub sends : HavePassedNothing node.sends
+  pub recvs : HavePassedNothing node.recvs
   pub receipts : node.receipts ≡ []
   pub claims : node.claims ≡ 0
 

@@ -22,12 +22,10 @@ use Rattle.sq_status.specs.declared.tree.walks.LeafClaim.TheVariants as leaf_cla
 use Rattle.sq_pull.specs.declared.numbers.TheConstants.{MAX_CLAIMS}
 use Rattle.sq_pull.specs.Numbers.{reactive_pull}
 use Rattle.sq_pull.specs.Seats.{StepsAt, ClaimsLeaf}
-use Rattle.sq_node.specs.declared.ends.SendEnd.{SendEnd}
-use Rattle.sq_node.specs.declared.ends.RecvEnd.{RecvEnd}
 use Rattle.sq_node.specs.declared.stepped.Stepped.{Stepped}
 use Rattle.sq_node.specs.declared.stepped.Stepped.TheVariants.{Did, Nothing, Memory}
 use Rattle.sq_node.specs.FabricValue.{FabricValue}
-use Rattle.sq_node.specs.Ends.{send_end, recv_end, sent_on, received_on, WasFull, WasEmpty}
+use Rattle.sq_node.specs.Ends.{EndValue, end_at, passed_on, WasFull, WasEmpty}
 use Rattle.sq_node.specs.Looks.{SeatsLooked, HasNoneToComplete, LooksAndCompletes}
 use Rattle.sq_node.specs.NodeState.{NodeState}
 use Rattle.sq_node_model.specs.Steps.{receipts_after}
@@ -51,20 +49,20 @@ CutStep old Memory new = new ≡ old
 -- the chunk for this partition was sent
 pub record SendsChunk (old : NodeState) (dst : ℕ) (new : NodeState) : Type 0 where
   pub chunk : ChunkValue
-  pub end : SendEnd
+  pub end : EndValue
   pub cut : (out_at old.core dst).outbox ≡ Some chunk
-  pub there : send_end old.sends dst ≡ Some end
+  pub there : end_at old.sends dst ≡ Some end
   pub after : new ≡ record old {
     core = with_out old.core dst (record (out_at old.core dst) { outbox = None });
-    sends = slice_set old.sends dst (Some (sent_on end chunk));
+    sends = slice_set old.sends dst (Some (passed_on end chunk));
   }
 
 -- there is no chunk for this partition; or no link to it; or the link was full at one moment
 abbrev pub HasNoneToSend : FabricValue → NodeState → ℕ → Type 0
 HasNoneToSend fabric node dst =
     ((out_at node.core dst).outbox ≡ None)
-    ⊎ ((send_end node.sends dst ≡ None)
-    ⊎ ((end : SendEnd) × (send_end node.sends dst ≡ Some end) × WasFull fabric.links end))
+    ⊎ ((end_at node.sends dst ≡ None)
+    ⊎ ((end : EndValue) × (end_at node.sends dst ≡ Some end) × WasFull fabric.links end))
 
 -- for the first partition to which one can go
 abbrev pub SendStep : FabricValue → NodeState → Stepped → NodeState → Type 0
@@ -75,21 +73,21 @@ SendStep fabric old Memory new = ⊥
 -- a chunk came from this partition
 pub record Receives (old : NodeState) (src : ℕ) (new : NodeState) : Type 0 where
   pub chunk : ChunkValue
-  pub end : RecvEnd
+  pub end : EndValue
   pub exists : src < length old.core.inboxes
   pub empty : inbox_at old.core src ≡ None
-  pub there : recv_end old.recvs src ≡ Some end
+  pub there : end_at old.recvs src ≡ Some end
   pub after : new ≡ record old {
     core = with_inbox old.core src (Some chunk);
-    recvs = slice_set old.recvs src (Some (received_on end chunk));
+    recvs = slice_set old.recvs src (Some (passed_on end chunk));
   }
 
 -- the chunk that came from this partition isn't loaded; or there is no link from it; or the link was empty at one moment
 abbrev pub HasNoneToReceive : NodeState → ℕ → Type 0
 HasNoneToReceive node src =
     (is_some (inbox_at node.core src) ≡ true)
-    ⊎ ((recv_end node.recvs src ≡ None)
-    ⊎ ((end : RecvEnd) × (recv_end node.recvs src ≡ Some end) × WasEmpty end))
+    ⊎ ((end_at node.recvs src ≡ None)
+    ⊎ ((end : EndValue) × (end_at node.recvs src ≡ Some end) × WasEmpty end))
 
 -- from the first partition from which one can come
 abbrev pub RecvStep : NodeState → Stepped → NodeState → Type 0

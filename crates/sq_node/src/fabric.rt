@@ -49,25 +49,11 @@ impl Model for Fabric {
 
     ghost Value = { FabricValue };
 
-    ghost view = { λ f. record {
-      recon = f.recon;
-      stage = f.stage;
-      parts = f.parts;
-      trees = f.trees.items;
-      seats = f.seats.items;
-      links = f.links.items;
-      receipts = f.receipts.items;
-    } };
+    ghost use Rattle.sq_node.specs.FabricView.{fabric_of};
 
-    ghost invariant = { λ f. IsFabric (record {
-      recon = f.recon;
-      stage = f.stage;
-      parts = f.parts;
-      trees = f.trees.items;
-      seats = f.seats.items;
-      links = f.links.items;
-      receipts = f.receipts.items;
-    }) };
+    ghost view = { fabric_of };
+
+    ghost invariant = { λ f. IsFabric (fabric_of f) };
 }
 
 /// What a run shared, once its threads are joined.

@@ -10,7 +10,7 @@ mod receipt;
 mod stepped;
 
 pub use desk::Post;
-pub use ends::{Receiver, RecvEnd, SendEnd, Sender};
+pub use ends::{LinkEnd, PartEnd, Receiver, RecvEnd, SendEnd, Sender};
 pub use fabric::{Fabric, FabricParts, JOB_PLACES, Unresumed};
 pub use node::{Node, NodeParts};
 pub use receipt::Receipt;

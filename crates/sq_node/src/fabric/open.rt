@@ -2,19 +2,18 @@
 ghost use Rattle.std.specs.Prelude.{◌≡◌, ◌≢◌, ℕ, ◌+◌, ◌<◌, ◌≤◌, ◌==◌, false, [], length, replicate, map, filter, slice_get, slice_set, Some, None, MatchOption, IfOk, IfErr, OnOk, OnErr, vec_capacity};
 ghost use Rattle.sq_exec.specs.Opened.{opened_part, HasOwned};
 ghost use Rattle.sq_ranges.specs.ReconValue.{stage_on};
-ghost use Rattle.sq_link.specs.Values.{LinkValue};
 ghost use Rattle.sq_pull.specs.Seats.{AreSeatsOf};
 ghost use Rattle.sq_pull.specs.declared.numbers.TheConstants.{MAX_PUMPS};
-ghost use Rattle.sq_node.specs.Ends.{link_from, send_end, recv_end, AreSendEnds, AreRecvEnds};
+ghost use Rattle.sq_node.specs.Ends.{src_of, dst_of, link_between, end_at};
 ghost use Rattle.sq_node.specs.FabricValue.{ends_of, AreFirst, IsFabric};
-ghost use Rattle.sq_node.specs.Opened.{AreFirstSeats, AreNewSeats, GaveEach, GivesOut, HaveCapacity, HasAllEnds, HasSendEnds, HasRecvEnds, LeavesSendEnds, LeavesRecvEnds, HaveSentNothing, HaveReceivedNothing, AreNewSends, AreNewRecvs, IsFabricOf, IsNewNode, AreNewNodes, IsNewPump, AreNewPumps, IsReopened, IsOpened, opened_stores, running_core};
+ghost use Rattle.sq_node.specs.Opened.{AreFirstSeats, AreNewSeats, GaveEach, GivesOut, HaveCapacity, HasAllEnds, HasEnds, LeavesEnds, AreNewEnds, IsFabricOf, IsNewNode, AreNewNodes, IsNewPump, AreNewPumps, IsReopened, IsOpened, opened_stores, running_core};
 
 use super::{Fabric, JOB_PLACES, REQUEST_PLACES};
-use crate::ends::{Receiver, RecvEnd, SendEnd, Sender};
+use crate::ends::{LinkEnd, PartEnd, Receiver, Sender};
 use crate::node::{Node, SeatsAndEnds};
 use crossbeam_queue::ArrayQueue;
 use sq_exec::{PartCore, open_partition};
-use sq_link::SharedLink;
+use sq_link::{SharedLink, Side};
 use sq_plan::PartId;
 use sq_pull::Pump;
 use sq_ranges::{Link, Opening, Recon};
@@ -107,7 +106,8 @@ fn open_fabric(alloc: Global, opening: &Opening, stage: u64) -> Result<(Fabric, 
     ensures stage { IfOk result (λ opened. opened.0.stage ≡ stage) }
     ensures receipts { IfOk result (λ opened. opened.0.receipts ≡ []) }
     ensures seats { IfOk result (λ opened. AreFirstSeats 0 opened.0.trees opened.0.seats) }
-    ensures ends { IfOk result (λ opened. HasAllEnds opened.0.links opened.1.sends.items opened.1.recvs.items) }
+    ensures sends { IfOk result (λ opened. HasAllEnds opened.0.links opened.1.sends.items) }
+    ensures recvs { IfOk result (λ opened. HasAllEnds opened.0.links opened.1.recvs.items) }
 {
     let parts = opening.old_plan().parts();
     let recon = opening.recon();
@@ -170,7 +170,8 @@ fn open_links(
     requires { 0 < capacity }
     ensures links { IfOk result (λ opened. map ends_of opened.0.items ≡ between.now) }
     ensures capacities { IfOk result (λ opened. HaveCapacity capacity opened.0.items) }
-    ensures ends { IfOk result (λ opened. HasAllEnds opened.0.items opened.1.sends.items opened.1.recvs.items) }
+    ensures sends { IfOk result (λ opened. HasAllEnds opened.0.items opened.1.sends.items) }
+    ensures recvs { IfOk result (λ opened. HasAllEnds opened.0.items opened.1.recvs.items) }
 {
     let mut links = Vec::new(alloc);
     let mut sends = Vec::new(alloc);
@@ -178,11 +179,11 @@ fn open_links(
     for (at, ends) in between.iter().enumerate() {
         let (link, send, recv) = SharedLink::open(alloc, ends.src, ends.dst, capacity)?;
         links.push(link)?;
-        sends.push(Sender::new(Some(SendEnd {
+        sends.push(PartEnd::new(Some(LinkEnd {
             link: at,
             pass: send,
         })))?;
-        recvs.push(Receiver::new(Some(RecvEnd {
+        recvs.push(PartEnd::new(Some(LinkEnd {
             link: at,
             pass: recv,
         })))?;
@@ -237,8 +238,8 @@ fn open_nodes(
 ) -> Result<Vec<Node>, AllocError>
     requires fabric { IsFabricOf opening.now fabric.old }
     requires stores { length stores.old.items ≤ opening.now.old.parts }
-    requires sends { (part : ℕ) → part < length stores.old.items → HasSendEnds fabric.old.links ends.old.sends.items part }
-    requires recvs { (part : ℕ) → part < length stores.old.items → HasRecvEnds fabric.old.links ends.old.recvs.items part }
+    requires sends { (part : ℕ) → part < length stores.old.items → HasEnds src_of fabric.old.links ends.old.sends.items part }
+    requires recvs { (part : ℕ) → part < length stores.old.items → HasEnds dst_of fabric.old.links ends.old.recvs.items part }
     ensures same { fabric.new ≡ record fabric.old { seats = fabric.new.seats } }
     ensures seats { OnOk result (GivesOut (length stores.old.items) fabric.old fabric.new) }
     ensures nodes { IfOk result (λ nodes. AreNewNodes opening.now fabric.new stores.old.items nodes.items) }
@@ -281,13 +282,13 @@ fn open_node(
 ) -> Result<Node, SlabStore>
     requires fabric { IsFabricOf opening.now fabric.old }
     requires part { part < opening.now.old.parts }
-    requires sends { HasSendEnds fabric.old.links ends.old.sends.items part }
-    requires recvs { HasRecvEnds fabric.old.links ends.old.recvs.items part }
+    requires sends { HasEnds src_of fabric.old.links ends.old.sends.items part }
+    requires recvs { HasEnds dst_of fabric.old.links ends.old.recvs.items part }
     ensures same { fabric.new ≡ record fabric.old { seats = fabric.new.seats } }
     ensures gave { OnOk result (GaveEach fabric.old.seats fabric.new.seats) }
     ensures node { IfOk result (IsNewNode fabric.old (running_core opening.now fabric.old.stage part store)) }
-    ensures sends { OnOk result (LeavesSendEnds fabric.old.links ends.old.sends.items part ends.new.sends.items) }
-    ensures recvs { OnOk result (LeavesRecvEnds fabric.old.links ends.old.recvs.items part ends.new.recvs.items) }
+    ensures sends { OnOk result (LeavesEnds src_of fabric.old.links ends.old.sends.items part ends.new.sends.items) }
+    ensures recvs { OnOk result (LeavesEnds dst_of fabric.old.links ends.old.recvs.items part ends.new.recvs.items) }
     ensures back { IfErr result (λ back. back ≡ store) }
 {
     let Ok(place) = open_place(alloc, fabric, ends, part) else {
@@ -304,21 +305,21 @@ fn open_place(
     ends: &mut Ends,
     part: PartId,
 ) -> Result<SeatsAndEnds, AllocError>
-    requires sends { HasSendEnds fabric.old.links ends.old.sends.items part }
-    requires recvs { HasRecvEnds fabric.old.links ends.old.recvs.items part }
+    requires sends { HasEnds src_of fabric.old.links ends.old.sends.items part }
+    requires recvs { HasEnds dst_of fabric.old.links ends.old.recvs.items part }
     ensures same { fabric.new ≡ record fabric.old { seats = fabric.new.seats } }
     ensures gave { OnOk result (GaveEach fabric.old.seats fabric.new.seats) }
     ensures seats { IfOk result (λ place. AreNewSeats fabric.old.trees place.seats.items) }
-    ensures sends { IfOk result (λ place. AreNewSends fabric.old.links fabric.old.parts part place.sends.items) }
-    ensures recvs { IfOk result (λ place. AreNewRecvs fabric.old.links fabric.old.parts part place.recvs.items) }
+    ensures sends { IfOk result (λ place. AreNewEnds src_of dst_of fabric.old.links fabric.old.parts part place.sends.items) }
+    ensures recvs { IfOk result (λ place. AreNewEnds dst_of src_of fabric.old.links fabric.old.parts part place.recvs.items) }
     ensures flags { IfOk result (λ place. place.complete.items ≡ replicate (length fabric.old.recon.segments) false) }
-    ensures left_sends { OnOk result (LeavesSendEnds fabric.old.links ends.old.sends.items part ends.new.sends.items) }
-    ensures left_recvs { OnOk result (LeavesRecvEnds fabric.old.links ends.old.recvs.items part ends.new.recvs.items) }
+    ensures left_sends { OnOk result (LeavesEnds src_of fabric.old.links ends.old.sends.items part ends.new.sends.items) }
+    ensures left_recvs { OnOk result (LeavesEnds dst_of fabric.old.links ends.old.recvs.items part ends.new.recvs.items) }
 {
     let seats = fabric.share_seats(alloc)?;
     let parts = fabric.parts();
-    let sends = take_sends(alloc, parts, fabric.links(), &mut ends.sends, part)?;
-    let recvs = take_recvs(alloc, parts, fabric.links(), &mut ends.recvs, part)?;
+    let sends = take_ends(alloc, parts, fabric.links(), &mut ends.sends, part)?;
+    let recvs = take_ends(alloc, parts, fabric.links(), &mut ends.recvs, part)?;
     let complete = vec![in alloc; false; fabric.recon().segments().len()]?;
     Ok(SeatsAndEnds {
         seats,
@@ -356,77 +357,49 @@ fn open_pump(alloc: Global, fabric: &mut Fabric, number: u32) -> Result<Pump, Al
     }
 }
 
-// The ends that a partition sends by, by the partition that each sends to.
-fn take_sends(
+// The ends that a partition has on this side of links, by the other partition of each.
+fn take_ends<S: Side>(
     alloc: Global,
     parts: u8,
     links: &[SharedLink],
-    ends: &mut [Sender],
+    ends: &mut [PartEnd<S>],
     part: PartId,
-) -> Result<Vec<Sender>, AllocError>
-    requires { HasSendEnds links.now ends.old part }
-    ensures sends { IfOk result (λ sends. AreNewSends links.now parts part sends.items) }
-    ensures left { OnOk result (LeavesSendEnds links.now ends.old part ends.new) }
+) -> Result<Vec<PartEnd<S>>, AllocError>
+    requires { HasEnds S.near links.now ends.old part }
+    ensures ends { IfOk result (λ taken. AreNewEnds S.near S.far links.now parts part taken.items) }
+    ensures left { OnOk result (LeavesEnds S.near links.now ends.old part ends.new) }
 {
-    let mut sends = Vec::new(alloc);
+    let mut taken = Vec::new(alloc);
     for number in 0..parts {
-        let end = take_send(links, ends, part, PartId::new(number));
-        sends.push(end)?;
+        let end = take_end(links, ends, part, PartId::new(number));
+        taken.push(end)?;
     }
-    Ok(sends)
+    Ok(taken)
 }
 
-// The ends that a partition receives by, by the partition that each receives from.
-fn take_recvs(
-    alloc: Global,
-    parts: u8,
+// The end that a partition has on this side of the link between it and another one, if there is such a link.
+fn take_end<S: Side>(
     links: &[SharedLink],
-    ends: &mut [Receiver],
+    ends: &mut [PartEnd<S>],
     part: PartId,
-) -> Result<Vec<Receiver>, AllocError>
-    requires { HasRecvEnds links.now ends.old part }
-    ensures recvs { IfOk result (λ recvs. AreNewRecvs links.now parts part recvs.items) }
-    ensures left { OnOk result (LeavesRecvEnds links.now ends.old part ends.new) }
-{
-    let mut recvs = Vec::new(alloc);
-    for number in 0..parts {
-        let end = take_recv(links, ends, PartId::new(number), part);
-        recvs.push(end)?;
-    }
-    Ok(recvs)
-}
-
-// The end of the link from one partition to another, if there is such a link.
-fn take_send(links: &[SharedLink], ends: &mut [Sender], src: PartId, dst: PartId) -> Sender
+    other: PartId,
+) -> PartEnd<S>
     requires { length ends.old ≡ length links.now }
-    ensures { MatchOption (link_from links.now src dst)
+    ensures { MatchOption (link_between S.near S.far links.now part other)
         ((result ≡ None) × (ends.new ≡ ends.old))
-        (λ at. (result ≡ send_end ends.old at) × (ends.new ≡ slice_set ends.old at None)) }
+        (λ at. (result ≡ end_at ends.old at) × (ends.new ≡ slice_set ends.old at None)) }
 {
-    match link_from(links, src, dst) {
+    match link_between::<S>(links, part, other) {
         Some(at) => ends[at].take(),
-        None => Sender::new(None),
+        None => PartEnd::new(None),
     }
 }
 
-// The end of the link from one partition to another, if there is such a link.
-fn take_recv(links: &[SharedLink], ends: &mut [Receiver], src: PartId, dst: PartId) -> Receiver
-    requires { length ends.old ≡ length links.now }
-    ensures { MatchOption (link_from links.now src dst)
-        ((result ≡ None) × (ends.new ≡ ends.old))
-        (λ at. (result ≡ recv_end ends.old at) × (ends.new ≡ slice_set ends.old at None)) }
-{
-    match link_from(links, src, dst) {
-        Some(at) => ends[at].take(),
-        None => Receiver::new(None),
-    }
-}
-
-// Where the link from one partition to another stands.
-fn link_from(links: &[SharedLink], src: PartId, dst: PartId) -> Option<usize>
-    ensures { result ≡ link_from links.now src dst }
+// Where the link stands that has a partition on this side and another one on the other.
+fn link_between<S: Side>(links: &[SharedLink], part: PartId, other: PartId) -> Option<usize>
+    ensures { result ≡ link_between S.near S.far links.now part other }
 {
     links
         .iter()
-        .position(|link| link.src() == src && link.dst() == dst)
+        .position(|link| S::near(link) == part && S::far(link) == other)
 }

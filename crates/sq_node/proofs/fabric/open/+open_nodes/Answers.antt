@@ -1,9 +1,10 @@
-use Rattle.std.proofs.Common.{rules, ◌≡◌, ℕ, ◌+◌, ◌<◌, [], ◌∷◌, ◌++◌, List, length, length-append, ap, sym, subst, ◌∙◌, arith}
+use Rattle.std.proofs.Common.{rules, ◌≡◌, ℕ, ◌+◌, ◌<◌, [], ◌∷◌, ◌++◌, List, Option, length, length-append, ap, sym, subst, ◌∙◌, arith}
 use Rattle.atomic_table.specs.Seated.{TableId}
 use Rattle.sq_link.specs.Values.{LinkValue}
 use Rattle.sq_store.specs.StoreValue.{StoreValue}
 use Rattle.sq_node.specs.FabricValue.{FabricValue}
-use Rattle.sq_node.specs.Opened.{AreFirstSeats, HasSendEnds, HasRecvEnds, IsNewNode, AreNewNodes, new_send_end, new_recv_end, running_core}
+use Rattle.sq_node.specs.Ends.{EndValue, src_of, dst_of}
+use Rattle.sq_node.specs.Opened.{AreFirstSeats, HasEnds, LeavesEnds, IsNewNode, AreNewNodes, running_core}
 use Rattle.sq_node.proofs.NewNodes.{alike, same_shared, same_new, more_nodes, left_ends, gave_one_more}
 use Rattle.sq_node.proofs.fabric.open.+open_nodes.Goals as goal
 
@@ -24,10 +25,13 @@ open_nodes-requires t c =
     let links : new.links ≡ old.links = ap (λ (f : FabricValue). f.links) c.in-Ok.ensures.same in
     let fewer : length c.pop.new.self.items < length c.args.stores.now.items = omega (arith, count) in
     let shared = same_shared c.args.opening.now old new (alike old new c.in-Ok.ensures.same) c.requires.fabric in
-    let sends = λ (one : ℕ) (lt : one < length c.pop.new.self.items). subst (λ (ls : List LinkValue). HasSendEnds ls c.open_node.new.ends.sends.items one) (sym links)
-    (left_ends old.links (λ (l : LinkValue). l.src) (new_send_end old.links) c.args.ends.now.sends.items c.open_node.new.ends.sends.items c.new-part.result one c.in-Ok.ensures.sends (λ same. absurd (omega (arith, part, same, lt))) (c.requires.sends one (omega (arith, count, lt)))) in
-    let recvs = λ (one : ℕ) (lt : one < length c.pop.new.self.items). subst (λ (ls : List LinkValue). HasRecvEnds ls c.open_node.new.ends.recvs.items one) (sym links)
-    (left_ends old.links (λ (l : LinkValue). l.dst) (new_recv_end old.links) c.args.ends.now.recvs.items c.open_node.new.ends.recvs.items c.new-part.result one c.in-Ok.ensures.recvs (λ same. absurd (omega (arith, part, same, lt))) (c.requires.recvs one (omega (arith, count, lt)))) in
+    let rest_have : (near : LinkValue → ℕ) (before after : List (Option EndValue)) → LeavesEnds near old.links before c.new-part.result after
+    → ((one : ℕ) → one < length c.args.stores.now.items → HasEnds near old.links before one)
+    → (one : ℕ) → one < length c.pop.new.self.items → HasEnds near new.links after one
+    = λ near before after leaves has one lt. subst (λ (ls : List LinkValue). HasEnds near ls after one) (sym links)
+    (left_ends near old.links before after c.new-part.result one leaves (λ same. absurd (omega (arith, part, same, lt))) (has one (omega (arith, count, lt)))) in
+    let sends = rest_have src_of c.args.ends.now.sends.items c.open_node.new.ends.sends.items c.in-Ok.ensures.sends c.requires.sends in
+    let recvs = rest_have dst_of c.args.ends.now.recvs.items c.open_node.new.ends.recvs.items c.in-Ok.ensures.recvs c.requires.recvs in
     (omega (arith, c.decreases, fewer), (shared, (omega (arith, c.requires.stores, count), (sends, recvs))))
 
 pub returns-in-Ok-open_nodes-clause-seats : goal.returns-in-Ok-open_nodes-clause-seats

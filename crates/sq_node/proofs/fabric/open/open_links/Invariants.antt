@@ -10,5 +10,6 @@ abbrev pub invariant-loop-at : goal.invariant-loop-at
 invariant-loop-at l = record {
   links : map ends_of l.links.items ≡ take l.at l.between;
   capacities : (i : ℕ) (link : LinkValue) → slice_get l.links.items i ≡ Some link → link.capacity ≡ l.capacity;
-  ends : HasAllEnds l.links.items l.sends.items l.recvs.items;
+  sends : HasAllEnds l.links.items l.sends.items;
+  recvs : HasAllEnds l.links.items l.recvs.items;
 }

@@ -1,6 +1,5 @@
-use Rattle.sq_node.proofs.Settles.{after_cut, same_loads}
-use Rattle.sq_exec.specs.CoreValue.{CoreValue}
-use Rattle.std.proofs.Common.{sym, ap, ◌∙◌, rules}
+use Rattle.sq_node.proofs.Settles.{still_node}
+use Rattle.std.proofs.Common.{refl, rules}
 use Rattle.sq_node.proofs.Stays.{cut_stays}
 use Rattle.sq_node.proofs.Keeps.{cut_keeps}
 use Rattle.sq_node.proofs.node.Node.step_cut.Goals as goal
@@ -10,12 +9,8 @@ pub invariant_of-self : goal.invariant_of-self
 invariant_of-self c =
     let inside = c.self.inside in
     elim c.match-cut.branch [
-      | in-Ok w ↦ (c.self.invariant.0 ∙ sym (ap (λ (core : CoreValue). core.part) w.in-Ok.ensures.ok.after), after_cut inside.core.core c.cut.new.self.core c.in-Some.dst _ inside.seats.items inside.to_complete.items inside.complete.items w.in-Ok.ensures.ok c.self.invariant.1)
-      | in-Err w ↦ (
-        c.self.invariant.0 ∙ sym (ap (λ (core : CoreValue). core.part) w.in-Err.ensures.err),
-        same_loads inside.core.core c.cut.new.self.core inside.seats.items inside.to_complete.items inside.complete.items
-            (ap (λ (core : CoreValue). core.recon) w.in-Err.ensures.err) (ap (λ (core : CoreValue). core.loaded) w.in-Err.ensures.err) c.self.invariant.1,
-      )
+      | in-Ok w ↦ still_node _ inside.core.core c.cut.new.self.core _ inside.seats.items inside.to_complete.items inside.complete.items w.in-Ok.ensures.ok.after refl refl refl c.self.invariant
+      | in-Err w ↦ still_node _ inside.core.core c.cut.new.self.core _ inside.seats.items inside.to_complete.items inside.complete.items w.in-Err.ensures.err refl refl refl c.self.invariant
     ]
 
 pub returns-clause-step : goal.returns-clause-step

@@ -1,5 +1,5 @@
 use Rattle.std.proofs.Common.{arith}
-use Rattle.sq_node.proofs.ends.Receiver.recv.Goals as goal
+use Rattle.sq_node.proofs.ends.PartEnd+Receives.recv.Goals as goal
 
 pub bounds-links-link : goal.bounds-links-link
 bounds-links-link g c = (c.requires c.in_ok-link.field-0 (cc)).exists

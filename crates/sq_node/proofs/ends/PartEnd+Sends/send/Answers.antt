@@ -1,5 +1,5 @@
 use Rattle.std.proofs.Common.{arith}
-use Rattle.sq_node.proofs.ends.Sender.send.Goals as goal
+use Rattle.sq_node.proofs.ends.PartEnd+Sends.send.Goals as goal
 
 pub bounds-links-link : goal.bounds-links-link
 bounds-links-link g c = (c.requires c.in-Some.field-0 (cc)).exists
