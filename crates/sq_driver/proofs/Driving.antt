@@ -1,5 +1,5 @@
 -- A node that is driven, step by step.
-use Rattle.std.proofs.Common.{◌≡◌, ◌∷◌, [], ◌++◌, sym, ap, ◌∙◌, subst, inl, inr}
+use Rattle.std.proofs.Common.{◌∷◌, sym, ◌∙◌, subst, inl, inr}
 use Rattle.sq_node.specs.declared.stepped.Stepped.{Stepped}
 use Rattle.sq_node.specs.declared.stepped.Stepped.TheVariants.{Nothing}
 use Rattle.sq_node.specs.FabricValue.{FabricValue}
@@ -11,7 +11,6 @@ use Rattle.sq_node.proofs.Keeps.{same_keeps, job_keeps, request_keeps, cut_keeps
 use Rattle.sq_driver.specs.declared.gate.NodeStep.{NodeStep}
 use Rattle.sq_driver.specs.declared.gate.NodeStep.TheVariants.{Job, Request, Cut, Send, Recv, Load, Complete, Resume, Pump, Answered, SegmentComplete}
 use Rattle.sq_driver.specs.Nodes.{MakesStep, StepsOrLooks, Driven}
-use Rattle.sq_driver.proofs.Ways.{goes_on}
 use Rattle.sq_driver.proofs.Parts.{step_part}
 
 step_stays : (fabric : FabricValue) (step : NodeStep) (old : NodeState) (answer : Stepped) (new : NodeState) → MakesStep fabric step old answer new → IsNodeOf fabric old → IsNodeOf fabric new
@@ -40,23 +39,11 @@ step_keeps fabric Pump old answer new made = same_keeps old new made.1
 step_keeps fabric Answered old answer new made = same_keeps old new made.1
 step_keeps fabric SegmentComplete old answer new made = same_keeps old new made.1
 
--- a node to which nothing happened yet
-pub not_yet : (fabric : FabricValue) (first node : NodeState) → node ≡ first → IsNodeOf fabric first → Driven fabric first node
-not_yet fabric first node same of =
-    record {
-      way = [];
-      steps = same;
-      part = ap (λ (n : NodeState). n.core.part) same;
-      stays = subst (IsNodeOf fabric) (sym same) of;
-      holds = same_keeps first node same;
-    }
-
 -- one step more
 pub then_step : (fabric : FabricValue) (first old : NodeState) (step : NodeStep) (answer : Stepped) (new : NodeState) → Driven fabric first old → MakesStep fabric step old answer new → Driven fabric first new
 then_step fabric first old step answer new driven made =
     record {
-      way = old ∷ driven.way;
-      steps = (driven.steps, inl (step, answer, made));
+      steps = (old ∷ driven.steps.0, (driven.steps.1, inl (step, answer, made)));
       part = step_part fabric step old answer new made ∙ driven.part;
       stays = step_stays fabric step old answer new made driven.stays;
       holds = λ o began is held. step_keeps fabric step old answer new made o began is (driven.holds o began is held);
@@ -66,20 +53,8 @@ then_step fabric first old step answer new driven made =
 pub then_looks : (fabric : FabricValue) (first old new : NodeState) → Driven fabric first old → Looks old new → Driven fabric first new
 then_looks fabric first old new driven looks =
     record {
-      way = old ∷ driven.way;
-      steps = (driven.steps, inr looks);
+      steps = (old ∷ driven.steps.0, (driven.steps.1, inr looks));
       part = step_part fabric Request old Nothing new looks ∙ driven.part;
       stays = request_stays fabric old Nothing new looks driven.stays;
       holds = λ o began is held. looks_keep old new looks o began is (driven.holds o began is held);
-    }
-
--- driven further
-pub then_driven : (fabric : FabricValue) (first old new : NodeState) → Driven fabric first old → Driven fabric old new → Driven fabric first new
-then_driven fabric first old new driven more =
-    record {
-      way = more.way ++ driven.way;
-      steps = goes_on (StepsOrLooks fabric) first old new driven.way more.way driven.steps more.steps;
-      part = more.part ∙ driven.part;
-      stays = more.stays;
-      holds = λ o began is held. more.holds o began is (driven.holds o began is held);
     }

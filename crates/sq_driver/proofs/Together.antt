@@ -9,20 +9,26 @@ use Rattle.sq_node.specs.FabricValue.{FabricValue}
 use Rattle.sq_node.specs.NodeState.{NodeState, IsNodeOf}
 use Rattle.sq_node.specs.Holds.{HoldsUnder}
 use Rattle.sq_pull.specs.Pump.{PumpValue}
-use Rattle.sq_driver.specs.Nodes.{AllDriven}
-use Rattle.sq_driver.specs.Pumps.{HasAllSeats, AllPumpsDriven}
+use Rattle.sq_driver.specs.Ways.{EachDriven}
+use Rattle.sq_driver.specs.Nodes.{Driven, AllDriven}
+use Rattle.sq_driver.specs.Pumps.{HasAllSeats, PumpDriven, AllPumpsDriven}
+
+-- what a worker that was driven brings along holds of all of them
+each_after : {X : Type 0} (driven : X → X → Type 0) (P : X → Type 0) (old new : List X) → EachDriven driven old new
+    → ((i : ℕ) (d : X) → i < length old → driven (get_or old i d) (get_or new i d) → P (get_or new i d)) → All P new
+each_after driven P old new all brings = λ i d lt. let within : i < length old = omega (arith, lt, all.count) in brings i d within (all.each i d within)
 
 -- what a node keeps holds of all of them still
 pub all_hold : (fabric : FabricValue) (o : OpeningValue) (began : BeganWith) (old new : List NodeState) → IsOpening o → AllDriven fabric old new → All (HoldsUnder o began) old → All (HoldsUnder o began) new
 all_hold fabric o began old new is driven held =
-    λ i d lt. let within : i < length old = omega (arith, lt, driven.count) in (driven.each i d within).holds o began is (held i d within)
+    each_after (Driven fabric) (HoldsUnder o began) old new driven (λ i d within one. one.holds o began is (held i d within))
 
 -- they are those of the fabric still
 pub all_stay : (fabric : FabricValue) (old new : List NodeState) → AllDriven fabric old new → All (IsNodeOf fabric) new
-all_stay fabric old new driven = λ i d lt. let within : i < length old = omega (arith, lt, driven.count) in (driven.each i d within).stays
+all_stay fabric old new driven = each_after (Driven fabric) (IsNodeOf fabric) old new driven (λ i d within one. one.stays)
 
 pub all_pumps_stay : (fabric : FabricValue) (old new : List PumpValue) → AllPumpsDriven fabric old new → All (HasAllSeats fabric) new
-all_pumps_stay fabric old new driven = λ i d lt. let within : i < length old = omega (arith, lt, driven.count) in (driven.each i d within).stays
+all_pumps_stay fabric old new driven = each_after (PumpDriven fabric) (HasAllSeats fabric) old new driven (λ i d within one. one.stays)
 
 -- each worker that there is now was one before, and was driven from there
 pub was_driven : {X : Type 0} (goes : X → X → Type 0) (old new : List X) → length new ≡ length old → ((i : ℕ) (d : X) → i < length old → goes (get_or old i d) (get_or new i d))

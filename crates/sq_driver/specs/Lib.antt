@@ -1,3 +1,4 @@
 pub mod Ways
 pub mod Nodes
 pub mod Pumps
+pub mod Laws

@@ -1,5 +1,5 @@
 -- What becomes of nodes that are driven.
-use Rattle.std.specs.Prelude.{◌≡◌, ◌⊎◌, ℕ, ◌<◌, List, length, slice_index_or}
+use Rattle.std.specs.Prelude.{◌≡◌, ◌⊎◌, List}
 use Rattle.sq_node.specs.declared.stepped.Stepped.{Stepped}
 use Rattle.sq_node.specs.declared.stepped.Stepped.TheVariants.{Nothing}
 use Rattle.sq_node.specs.FabricValue.{FabricValue}
@@ -8,7 +8,7 @@ use Rattle.sq_node.specs.Holds.{KeepsAll}
 use Rattle.sq_node.specs.Steps.{JobStep, RequestStep, CutStep, SendStep, RecvStep, LoadStep, CompleteStep, ResumeStep, Looks}
 use Rattle.sq_driver.specs.declared.gate.NodeStep.{NodeStep}
 use Rattle.sq_driver.specs.declared.gate.NodeStep.TheVariants.{Job, Request, Cut, Send, Recv, Load, Complete, Resume, Pump, Answered, SegmentComplete}
-use Rattle.sq_driver.specs.Ways.{ComesBySteps}
+use Rattle.sq_driver.specs.Ways.{ComesOf, EachDriven}
 
 -- a node made the step. What is no step of a node does nothing
 abbrev pub MakesStep : FabricValue → NodeStep → NodeState → Stepped → NodeState → Type 0
@@ -28,15 +28,14 @@ MakesStep fabric SegmentComplete old answer new = (answer ≡ Nothing) × (new �
 abbrev pub StepsOrLooks : FabricValue → NodeState → NodeState → Type 0
 StepsOrLooks fabric old new = ((step : NodeStep) × (answer : Stepped) × MakesStep fabric step old answer new) ⊎ Looks old new
 
--- a node was driven: what became of it came by its own steps, it is the same partition's and one of the fabric, and what a node keeps holds still, under each opening under which it did
+-- a node was driven: what became of it came by its own steps, it is the same partition's and one of the fabric, and what a
+-- node keeps holds still, under each opening under which it did
 pub record Driven (fabric : FabricValue) (old new : NodeState) : Type 0 where
-  pub way : List NodeState
-  pub steps : ComesBySteps (StepsOrLooks fabric) old way new
+  pub steps : ComesOf (StepsOrLooks fabric) old new
   pub part : new.core.part ≡ old.core.part
   pub stays : IsNodeOf fabric new
   pub holds : KeepsAll old new
 
 -- each of the nodes was driven
-pub record AllDriven (fabric : FabricValue) (old new : List NodeState) : Type 0 where
-  pub count : length new ≡ length old
-  pub each : (i : ℕ) (d : NodeState) → i < length old → Driven fabric (slice_index_or old i d) (slice_index_or new i d)
+abbrev pub AllDriven : FabricValue → List NodeState → List NodeState → Type 0
+AllDriven fabric old new = EachDriven (Driven fabric) old new

@@ -1,11 +1,11 @@
 -- What becomes of pumps that are driven.
-use Rattle.std.specs.Prelude.{◌≡◌, ℕ, ◌<◌, List, length, slice_index_or}
+use Rattle.std.specs.Prelude.{◌≡◌, List}
 use Rattle.sq_ranges.specs.ReconValue.{ReconValue}
 use Rattle.sq_pull.specs.declared.pump.PumpTurn.{PumpTurn}
 use Rattle.sq_pull.specs.Seats.{AreSeatsOf, OnlyClaimed}
 use Rattle.sq_pull.specs.Pump.{PumpValue, HasTurned}
 use Rattle.sq_node.specs.FabricValue.{FabricValue}
-use Rattle.sq_driver.specs.Ways.{ComesBySteps}
+use Rattle.sq_driver.specs.Ways.{ComesOf, EachDriven}
 
 -- a pump with a seat at each tree of a run
 abbrev pub HasAllSeats : FabricValue → PumpValue → Type 0
@@ -15,15 +15,14 @@ HasAllSeats fabric pump = AreSeatsOf fabric.trees pump.seats
 abbrev pub TakesTurn : ReconValue → PumpValue → PumpValue → Type 0
 TakesTurn recon old new = (turn : PumpTurn) × HasTurned recon old new turn
 
--- a pump was driven: what became of it came by its own turns, it has the same number and is of the fabric, and its seats began and completed nothing more
+-- a pump was driven: what became of it came by its own turns, it has the same number and is of the fabric, and its seats
+-- began and completed nothing more
 pub record PumpDriven (fabric : FabricValue) (old new : PumpValue) : Type 0 where
-  pub way : List PumpValue
-  pub turns : ComesBySteps (TakesTurn fabric.recon) old way new
+  pub turns : ComesOf (TakesTurn fabric.recon) old new
   pub number : new.number ≡ old.number
   pub stays : HasAllSeats fabric new
   pub claims : OnlyClaimed old.seats new.seats
 
 -- each of the pumps was driven
-pub record AllPumpsDriven (fabric : FabricValue) (old new : List PumpValue) : Type 0 where
-  pub count : length new ≡ length old
-  pub each : (i : ℕ) (d : PumpValue) → i < length old → PumpDriven fabric (slice_index_or old i d) (slice_index_or new i d)
+abbrev pub AllPumpsDriven : FabricValue → List PumpValue → List PumpValue → Type 0
+AllPumpsDriven fabric old new = EachDriven (PumpDriven fabric) old new

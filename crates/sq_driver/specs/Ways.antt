@@ -1,7 +1,16 @@
--- Steps one after another.
-use Rattle.std.specs.Prelude.{◌≡◌, List, [], ◌∷◌}
+-- Steps one after another, and what becomes of many by theirs.
+use Rattle.std.specs.Prelude.{◌≡◌, ℕ, ◌<◌, List, [], ◌∷◌, length, slice_index_or}
 
 -- the last state comes of the first by steps of a kind, by way of these states, the latest first
 abbrev pub ComesBySteps : {X : Type 0} → (X → X → Type 0) → X → List X → X → Type 0
 ComesBySteps step first [] last = last ≡ first
 ComesBySteps step first (before ∷ earlier) last = ComesBySteps step first earlier before × step before last
+
+-- the last state comes of the first by steps of a kind
+abbrev pub ComesOf : {X : Type 0} → (X → X → Type 0) → X → X → Type 0
+ComesOf {X} step first last = (way : List X) × ComesBySteps step first way last
+
+-- each of the workers was driven, and stands in its place
+pub record EachDriven {X : Type 0} (driven : X → X → Type 0) (old new : List X) : Type 0 where
+  pub count : length new ≡ length old
+  pub each : (i : ℕ) (d : X) → i < length old → driven (slice_index_or old i d) (slice_index_or new i d)

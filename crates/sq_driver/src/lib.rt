@@ -6,6 +6,7 @@ mod gate;
 pub mod laws;
 mod nodes;
 mod pumps;
+mod worker;
 mod workers;
 
 pub use gate::{Gate, NodeStep, OpenGate};

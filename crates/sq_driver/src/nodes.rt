@@ -3,6 +3,7 @@ ghost use Rattle.sq_node.specs.NodeState.{IsNodeOf};
 ghost use Rattle.sq_driver.specs.Nodes.{MakesStep, Driven};
 
 use crate::gate::{Gate, NodeStep};
+use crate::worker::{Worker, take_turns};
 use sq_node::{Fabric, Node, Stepped};
 use std::sync::Wait;
 use std::thread;
@@ -19,69 +20,68 @@ const TURN: [NodeStep; 8] = [
     NodeStep::Resume,
 ];
 
-// What a turn of a node comes to.
-#[derive(Clone, Copy, Debug)]
-enum Turned {
-    // Some step was made.
-    Worked,
-    // There was nothing to do.
-    Rested,
-    // The gate ended the worker.
-    Stopped,
+impl Worker for Node {
+    ghost use Rattle.sq_node.specs.NodeState.{IsNodeOf};
+    ghost use Rattle.sq_driver.specs.Nodes.{Driven};
+    ghost use Rattle.sq_driver.specs.Laws.{node_no_turn, node_stays, node_further};
+
+    ghost IsOf = { IsNodeOf };
+
+    ghost Driven = { Driven };
+
+    // Sends what is pending, and makes each step once, as long as the gate lets the node pass.
+    fn take_turn<R: Wait, G: Gate>(&mut self, rt: &R, fabric: &Fabric, gate: &G) -> bool {
+        let who = u64::from(self.part().number());
+        let mut rests = true;
+        self.send_pending(rt, fabric);
+        for step in TURN {
+            if !gate.pass(who, step) {
+                return false;
+            }
+            let receipts = self.receipts().len();
+            if make_step(rt, fabric, self, step) != Stepped::Did {
+                continue;
+            }
+            rests = false;
+            if let Some(told) = outcome(self, step, receipts) {
+                if !gate.pass(who, told) {
+                    return false;
+                }
+            }
+        }
+        if rests {
+            thread::yield_now();
+        }
+        !self.idle(fabric)
+    }
+
+    ghost no_turn = { node_no_turn };
+
+    ghost stays = { node_stays };
+
+    ghost further = { node_further };
 }
 
 /// Drives a node: it takes this many turns. It ends before where it is idle, and where the gate says so, which is asked
-/// before each step of a turn, and told of each receipt and of each segment that the node completes. After a turn in which there was nothing to do, other threads go first.
+/// before each step of a turn, and told of each receipt and of each segment that the node completes. After a turn in which
+/// there was nothing to do, other threads go first.
 pub fn drive<R: Wait, G: Gate>(rt: &R, fabric: &Fabric, node: &mut Node, turns: u64, gate: &G)
     requires { IsNodeOf fabric.now node.old }
     ensures { Driven fabric.now node.old node.new }
 {
-    for _turn in 0..turns {
-        match turn(rt, fabric, node, gate) {
-            Turned::Worked => {}
-            Turned::Rested => thread::yield_now(),
-            Turned::Stopped => return,
-        }
-        if node.idle(fabric) {
-            return;
-        }
-    }
+    take_turns(rt, fabric, node, turns, gate);
 }
 
-// Sends what is pending, and makes each step once, as long as the gate lets the node pass.
-fn turn<R: Wait, G: Gate>(rt: &R, fabric: &Fabric, node: &mut Node, gate: &G) -> Turned
-    requires { IsNodeOf fabric.now node.old }
-    ensures { Driven fabric.now node.old node.new }
-{
-    let who = u64::from(node.part().number());
-    let mut turned = Turned::Rested;
-    node.send_pending(rt, fabric);
-    for step in TURN {
-        if !gate.pass(who, step) {
-            return Turned::Stopped;
-        }
-        let receipts = node.receipts().len();
-        if make_step(rt, fabric, node, step) != Stepped::Did {
-            continue;
-        }
-        turned = Turned::Worked;
-        if !tell(gate, who, node, step, receipts) {
-            return Turned::Stopped;
-        }
-    }
-    turned
-}
-
-// Tells the gate what came of a step that a node made, which had this many receipts before: a receipt, or a segment that is
-// complete. Whether the node may go on.
-fn tell<G: Gate>(gate: &G, who: u64, node: &Node, step: NodeStep, receipts: usize) -> bool {
+// What the gate is told of a step that a node made, which had this many receipts before: a receipt, or a segment that is
+// complete.
+fn outcome(node: &Node, step: NodeStep, receipts: usize) -> Option<NodeStep> {
     if node.receipts().len() != receipts {
-        return gate.pass(who, NodeStep::Answered);
+        return Some(NodeStep::Answered);
     }
     if step == NodeStep::Complete && node.completes_segment() {
-        return gate.pass(who, NodeStep::SegmentComplete);
+        return Some(NodeStep::SegmentComplete);
     }
-    true
+    None
 }
 
 // Makes a step of a node. What is no step of a node does nothing.

@@ -3,31 +3,50 @@ ghost use Rattle.sq_pull.specs.Seats.{AreSeatsOf};
 ghost use Rattle.sq_driver.specs.Pumps.{PumpDriven};
 
 use crate::gate::{Gate, NodeStep};
+use crate::worker::{Worker, take_turns};
 use sq_node::Fabric;
 use sq_pull::{Pump, PumpTurn};
 use std::sync::Wait;
 use std::thread;
 
+impl Worker for Pump {
+    ghost use Rattle.sq_driver.specs.Pumps.{HasAllSeats, PumpDriven};
+    ghost use Rattle.sq_driver.specs.Laws.{pump_no_turn, pump_stays, pump_further};
+
+    ghost IsOf = { HasAllSeats };
+
+    ghost Driven = { PumpDriven };
+
+    fn take_turn<R: Wait, G: Gate>(&mut self, rt: &R, fabric: &Fabric, gate: &G) -> bool {
+        let who = u64::from(fabric.parts()) + u64::from(self.number());
+        if self.is_done() || !gate.pass(who, NodeStep::Pump) {
+            return false;
+        }
+        if !claims(rt, fabric, self) {
+            thread::yield_now();
+        }
+        true
+    }
+
+    ghost no_turn = { pump_no_turn };
+
+    ghost stays = { pump_stays };
+
+    ghost further = { pump_further };
+}
+
 /// Drives a pump: it takes this many turns. It ends before where it is done: there was nothing to claim in any segment of the
-/// running stage, and nothing is pending. And it ends where the gate says so, which is asked before each turn. After a turn in which nothing was
-/// claimed, other threads go first.
+/// running stage, and nothing is pending. And it ends where the gate says so, which is asked before each turn. After a turn
+/// in which nothing was claimed, other threads go first.
 pub fn drive_pump<R: Wait, G: Gate>(rt: &R, fabric: &Fabric, pump: &mut Pump, turns: u64, gate: &G)
     requires { AreSeatsOf fabric.now.trees pump.old.seats }
     ensures { PumpDriven fabric.now pump.old pump.new }
 {
-    let who = u64::from(fabric.parts()) + u64::from(pump.number());
-    for _turn in 0..turns {
-        if pump.is_done() || !gate.pass(who, NodeStep::Pump) {
-            return;
-        }
-        if !take_turn(rt, fabric, pump) {
-            thread::yield_now();
-        }
-    }
+    take_turns(rt, fabric, pump, turns, gate);
 }
 
 // A turn of a pump, and whether something was claimed.
-fn take_turn<R: Wait>(rt: &R, fabric: &Fabric, pump: &mut Pump) -> bool
+fn claims<R: Wait>(rt: &R, fabric: &Fabric, pump: &mut Pump) -> bool
     requires { AreSeatsOf fabric.now.trees pump.old.seats }
     ensures { PumpDriven fabric.now pump.old pump.new }
 {

@@ -1,0 +1,48 @@
+// Workers, and how they are driven.
+ghost use Rattle.sq_node.specs.FabricValue.{FabricValue};
+
+use crate::gate::Gate;
+use sq_node::Fabric;
+use std::sync::Wait;
+
+/// A node or a pump of a run, which takes its turns one after another.
+pub(crate) trait Worker {
+    /// The worker is of the fabric.
+    ghost IsOf: { FabricValue → Self → Type 0 };
+
+    /// What becomes of a worker in its turns.
+    ghost Driven: { FabricValue → Self → Self → Type 0 };
+
+    /// A turn, and whether the worker goes on after it. The gate is asked before each step.
+    fn take_turn<R: Wait, G: Gate>(&mut self, rt: &R, fabric: &Fabric, gate: &G) -> bool
+        requires { IsOf fabric.now self.old }
+        ensures { Driven fabric.now self.old self.new };
+
+    /// Without a turn a worker is as it was.
+    ghost no_turn: { (fabric : FabricValue) (worker : Self) → IsOf fabric worker → Driven fabric worker worker };
+
+    /// A worker stays one of the fabric.
+    ghost stays: { (fabric : FabricValue) (old new : Self) → Driven fabric old new → IsOf fabric new };
+
+    /// What is driven further was driven.
+    ghost further: { (fabric : FabricValue) (first old new : Self)
+        → Driven fabric first old → Driven fabric old new → Driven fabric first new };
+}
+
+/// Drives a worker: it takes this many turns, or fewer where it doesn't go on.
+pub(crate) fn take_turns<W: Worker, R: Wait, G: Gate>(
+    rt: &R,
+    fabric: &Fabric,
+    worker: &mut W,
+    turns: u64,
+    gate: &G,
+)
+    requires { W.IsOf fabric.now worker.old }
+    ensures { W.Driven fabric.now worker.old worker.new }
+{
+    for _turn in 0..turns {
+        if !worker.take_turn(rt, fabric, gate) {
+            return;
+        }
+    }
+}
