@@ -15,6 +15,16 @@ use Rattle.sq_audit.specs.Sound.{IsSoundRun}
 use Rattle.sq_audit.specs.Defects.{defect_number, Clears, IsFirstDefect, IsVerdict}
 use Rattle.sq_audit.proofs.Lists.{nothing_there}
 
+-- defects with one number are one
+pub number_one : (one other : Defect) → defect_number one ≡ defect_number other → one ≡ other
+number_one RootMissing RootMissing same = refl
+number_one RootDoubled RootDoubled same = refl
+number_one BaseChanged BaseChanged same = refl
+number_one WrongPlace WrongPlace same = refl
+number_one ReceiptUnknown ReceiptUnknown same = refl
+number_one Unanswered Unanswered same = refl
+number_one _ _ same = absurd (omega (arith, same))
+
 module _ (o : OpeningValue) (g : GatheredValue) (jobs : List Job) where
   -- known receipts of commits tell what the logs have
   pub told_known : AreKnown g jobs → AreTold g
@@ -48,15 +58,6 @@ module _ (o : OpeningValue) (g : GatheredValue) (jobs : List Job) where
         known = (clear ReceiptUnknown).0;
         answered = clear Unanswered;
       }
-
-  pub number_one : (one other : Defect) → defect_number one ≡ defect_number other → one ≡ other
-  number_one RootMissing RootMissing same = refl
-  number_one RootDoubled RootDoubled same = refl
-  number_one BaseChanged BaseChanged same = refl
-  number_one WrongPlace WrongPlace same = refl
-  number_one ReceiptUnknown ReceiptUnknown same = refl
-  number_one Unanswered Unanswered same = refl
-  number_one _ _ same = absurd (omega (arith, same))
 
   one_first : (one other : Defect) → IsFirstDefect o g jobs one → IsFirstDefect o g jobs other → one ≡ other
   one_first one other found again =

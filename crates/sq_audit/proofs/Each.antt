@@ -11,10 +11,12 @@ use Rattle.sq_model.proofs.Lists.{Contains-slice_get, slice_get-Contains}
 pub same_of : {X : Type 0} (xs : List X) (i j : ℕ) (x y : X) → slice_get xs i ≡ Some x → slice_get xs j ≡ Some y → j ≡ i → y ≡ x
 same_of xs i j x y at also same = let here = subst (λ k. slice_get xs k ≡ Some y) same also in cc
 
--- it holds of those before a place, and of the one there
-pub each_more : {X : Type 0} (P : X → Type 0) (xs : List X) (n : ℕ) (x : X)
-    → ((i : ℕ) (y : X) → i < n → slice_get xs i ≡ Some y → P y) → slice_get xs n ≡ Some x → P x
-    → (i : ℕ) (y : X) → i < n + 1 → slice_get xs i ≡ Some y → P y
+-- it holds of those before a place
+abbrev pub EachTo : {X : Type 0} → (X → Type 0) → List X → ℕ → Type 0
+EachTo {X} P xs n = (i : ℕ) (x : X) → i < n → slice_get xs i ≡ Some x → P x
+
+-- and of the one there
+pub each_more : {X : Type 0} (P : X → Type 0) (xs : List X) (n : ℕ) (x : X) → EachTo P xs n → slice_get xs n ≡ Some x → P x → EachTo P xs (n + 1)
 each_more P xs n x before at here i y below there =
     ⊎_elim
     (λ low. before i y low there)
@@ -22,8 +24,7 @@ each_more P xs n x before at here i y below there =
     (cases_lt i n)
 
 -- it holds of all once the loop is done
-pub each_done : {X : Type 0} (P : X → Type 0) (xs : List X) (n : ℕ)
-    → ((i : ℕ) (y : X) → i < n → slice_get xs i ≡ Some y → P y) → length xs ≤ n → Decides true ((x : X) → Contains xs x → P x)
+pub each_done : {X : Type 0} (P : X → Type 0) (xs : List X) (n : ℕ) → EachTo P xs n → length xs ≤ n → Decides true ((x : X) → Contains xs x → P x)
 each_done P xs n before whole = (
   (λ e x has.
       let within = slice_get_within xs has.0 x (slice_get-Contains xs x has) in
@@ -31,9 +32,13 @@ each_done P xs n before whole = (
   (λ all. refl),
 )
 
+-- a test that failed decides what doesn't hold
+pub decides_not : {P : Type 0} → (P → ⊥) → Decides false P
+decides_not fails = ((λ e. absurd (true≢false (sym e))), (λ holds. absurd (fails holds)))
+
 -- one of which it doesn't hold
 pub each_fails : {X : Type 0} (P : X → Type 0) (xs : List X) (n : ℕ) (x : X) → slice_get xs n ≡ Some x → (P x → ⊥) → Decides false ((x : X) → Contains xs x → P x)
-each_fails P xs n x at fails = ((λ e. absurd (true≢false (sym e))), (λ all. absurd (fails (all x (Contains-slice_get xs n x at)))))
+each_fails P xs n x at fails = decides_not (λ all. fails (all x (Contains-slice_get xs n x at)))
 
 -- what a test told where it failed, and where it didn't
 pub refuted : {P : Type 0} (b : Bool) → Decides b P → b ≡ false → P → ⊥

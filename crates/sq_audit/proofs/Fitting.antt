@@ -3,26 +3,38 @@ use Rattle.std.proofs.Common.{ℕ, Bool, Result, Ok, Err}
 use Rattle.std.specs.Prelude.{IfOk}
 use Rattle.std.specs.Bool.{Decides}
 use Rattle.std.proofs.lemmas.Bool.Decides.{Decides-like}
-use Rattle.sq_tree.specs.Tree.{IsGrown}
 use Rattle.sq_schema.specs.Family.{FamilyValue}
 use Rattle.sq_ranges.specs.OpeningValue.{OpeningValue}
+use Rattle.sq_ranges.specs.Opening.{IsOpening}
 use Rattle.sq_model.specs.Orderly.{AreDisjoint}
 use Rattle.sq_node_model.specs.FamiliesHold.{IsOf}
 use Rattle.sq_node_model.specs.declared.spot.Spot.{Spot}
 use Rattle.sq_node_model.specs.Gathered.{GatheredValue}
-use Rattle.sq_node_model.specs.Spots.{word_in, cut_notes, StandsAt}
+use Rattle.sq_node_model.specs.Spots.{cut_notes, StandsAt}
 use Rattle.sq_node_model.specs.Placed.{HasEachPart, FitTogether}
+use Rattle.sq_gather.specs.Grown.{AreGrown}
 use Rattle.sq_audit.specs.Notes.{LinksPlaced}
 use Rattle.sq_audit.specs.Words.{CompleteAreLoaded}
 use Rattle.sq_audit.specs.Fits.{ArePlaced}
+use Rattle.sq_audit.proofs.Apart.{apart}
 
-module _ (o : OpeningValue) (g : GatheredValue) (parts : HasEachPart o g) (links : LinksPlaced o g) (apart : AreDisjoint (cut_notes g)) (grown : (seg : ℕ) → IsGrown (word_in g seg))
-    (complete : CompleteAreLoaded g) (keyed : (spot : Spot) (root : ℕ) (family : FamilyValue) → StandsAt g spot root family → IsOf root family) where
+-- what is known before it is looked at where the families are
+pub record FitsSoFar (o : OpeningValue) (g : GatheredValue) : Type 0 where
+  pub parts : HasEachPart o g
+  pub grown : AreGrown g.words
+  pub links : LinksPlaced o g
+  pub complete : CompleteAreLoaded g
+
+module _ (o : OpeningValue) (is : IsOpening o) (g : GatheredValue) (so_far : FitsSoFar o g) where
+  pub notes_apart : AreDisjoint (cut_notes g)
+  notes_apart = apart o is g so_far.links so_far.grown
+
   -- all but where the families are is known
-  pub fit_if_placed : {E : Type 0} (r : Result Bool E) → IfOk r (λ placed. Decides placed (ArePlaced o g)) → IfOk r (λ fit. Decides fit (FitTogether o g))
-  fit_if_placed (Ok b) decides =
+  pub fit_if_placed : {E : Type 0} (r : Result Bool E) → ((spot : Spot) (root : ℕ) (family : FamilyValue) → StandsAt g spot root family → IsOf root family)
+      → IfOk r (λ placed. Decides placed (ArePlaced o g)) → IfOk r (λ fit. Decides fit (FitTogether o g))
+  fit_if_placed (Ok b) keyed decides =
       Decides-like b
-      (λ placed. record { parts = parts; links = links; apart = apart; grown = grown; complete = complete; placed = placed; keyed = keyed })
+      (λ placed. record { parts = so_far.parts; links = so_far.links; apart = notes_apart; grown = so_far.grown; complete = so_far.complete; placed = placed; keyed = keyed })
       (λ fit. fit.placed)
       decides
-  fit_if_placed (Err e) decides = decides
+  fit_if_placed (Err e) keyed decides = decides

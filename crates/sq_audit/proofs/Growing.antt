@@ -10,7 +10,8 @@ use Rattle.sq_tree.specs.Node.{is_leaf}
 use Rattle.sq_tree.specs.Status.{is_free, is_split, is_live}
 use Rattle.sq_tree.specs.Tree.{status_at, IsGrown}
 use Rattle.sq_tree.proofs.Grown.{grown-free}
-use Rattle.sq_audit.specs.Words.{HaveGrown, IsGrownAt}
+use Rattle.sq_gather.specs.Grown.{AreGrown}
+use Rattle.sq_audit.specs.Words.{IsGrownAt}
 
 -- what stands at a place of a list of all nodes
 pub numbered_at : (nodes : List ℕ) (k other : ℕ) → length nodes ≡ 63 → ((i : ℕ) → i < 63 → slice_index nodes i ≡ i + 1) → k < 63 → get_or nodes k other ≡ k + 1
@@ -40,7 +41,7 @@ pub nothing_at : (n : ℕ) → status_at [] n ≡ Free
 nothing_at zero = refl
 nothing_at (suc n) = get_or_past [] n Free (omega arith)
 
-pub all_grown : (words : List (List Status)) (upto : ℕ) → length words ≤ upto → ((i : ℕ) → i < upto → IsGrown (status_at (slice_index_or words i []))) → HaveGrown words
+pub all_grown : (words : List (List Status)) (upto : ℕ) → length words ≤ upto → ((i : ℕ) → i < upto → IsGrown (status_at (slice_index_or words i []))) → AreGrown words
 all_grown words upto whole each seg =
     ⊎_elim
     (λ low. each seg low)

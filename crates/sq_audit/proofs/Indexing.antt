@@ -1,10 +1,10 @@
 -- The index of jobs by id, as it grows, and the families that root keys have.
-use Rattle.std.proofs.Common.{◌≡◌, ◌⊎◌, inl, inr, ⊎_elim, ℕ, ◌+◌, ◌-◌, ◌<◌, ◌≤◌, nat_lt, Bool, true, false, List, [], ◌∷◌, length, slice_get, Some, None, sym, ap, ◌∙◌, subst, arith, true≢false, ltb-true, ltb-false}
+use Rattle.std.proofs.Common.{◌≡◌, ◌⊎◌, inl, inr, ⊎_elim, ℕ, ◌+◌, ◌-◌, ◌<◌, ◌≤◌, nat_lt, Bool, true, false, List, [], ◌∷◌, length, slice_get, Some, None, sym, ap, ◌∙◌, subst, arith, ltb-true, ltb-false}
 use Rattle.std.specs.Bool.{Decides}
 use Rattle.std.specs.Ordering.{nat_cmp}
 use Rattle.std.specs.Cmp.{unsigned_tied}
 use Rattle.std.specs.BTreeMap.{BTreeMap, get, Updates}
-use Rattle.std.specs.List.Sorted.{IsNonDecreasingBy, IsPartitionedBy, IsPartitionPoint}
+use Rattle.std.specs.List.Sorted.{IsNonDecreasingBy, IsPartitionPoint}
 use Rattle.std.proofs.lemmas.List.Sorted.{IsPartitionedBy-ltb}
 use Rattle.std.proofs.lemmas.Bool.{cases_lt, cases_eq, ne_eqb}
 use Rattle.std.proofs.lemmas.Bool.Decides.{Decides-and, Decides-like}
@@ -17,7 +17,8 @@ use Rattle.sq_audit.specs.declared.located.Site.TheVariants.{Store, Chunk}
 use Rattle.sq_audit.specs.contracts.located.SitePartialEq.TheImpl as site
 use Rattle.sq_audit.specs.Located.{Entry, spot_of, entry_of, entries_in, AreByRoot}
 use Rattle.sq_audit.specs.Index.{IsIndexTo, IsIndexOf, Agree, HasFamily, AgreeTo, AgreeOnSpots}
-use Rattle.sq_audit.proofs.Each.{same_of, no_some}
+use Rattle.sq_audit.proofs.Each.{decides_not, same_of, no_some}
+use Rattle.sq_audit.proofs.Lists.{PartsAt}
 use Rattle.std.specs.Cmp.{unsigned_Decides}
 
 -- sites are equal that are one spot
@@ -101,8 +102,7 @@ either_family (entry ∷ entries) root =
 
 -- where the families of root keys below one end, the first family of the root key stands
 module _ (all : List Located) (rise : AreByRoot (entries_in all)) (root count : ℕ)
-    (point : IsPartitionedBy (λ located. nat_lt located.family.now.root root) all
-    → IsPartitionPoint (λ located. nat_lt located.family.now.root root ≡ true) (λ located. nat_lt located.family.now.root root ≡ false) all count) where
+    (point : PartsAt (λ (located : Located). nat_lt located.family.now.root root) all count) where
   parted : IsPartitionPoint (λ located. nat_lt located.family.now.root root ≡ true) (λ located. nat_lt located.family.now.root root ≡ false) all count
   parted = point (IsPartitionedBy-ltb (λ located. located.family.now.root) all root (rise_located all rise))
 
@@ -148,15 +148,12 @@ module _ (all : List Located) (rise : AreByRoot (entries_in all)) (root count : 
       decides
 
   pub no_family : slice_get all count ≡ None → Decides false (HasFamily (entries_in all) root)
-  no_family none = (
-    (λ e. absurd (true≢false (sym e))),
-    (λ has.
-        let found = map_at entry_of all has.1.0 has.0 (slice_get-Contains (entries_in all) has.0 has.1) in
-        let within = slice_get_within all has.1.0 found.0 found.1 in
-        let from = behind has in
-        let last = stands_at all count (omega (arith, within, from)) in
-        absurd (no_some last.0 (sym none ∙ last.1))),
-  )
+  no_family none = decides_not (λ has.
+      let found = map_at entry_of all has.1.0 has.0 (slice_get-Contains (entries_in all) has.0 has.1) in
+      let within = slice_get_within all has.1.0 found.0 found.1 in
+      let from = behind has in
+      let last = stands_at all count (omega (arith, within, from)) in
+      no_some last.0 (sym none ∙ last.1))
 
 -- entries before the first but one agree
 pub agree_first : (entries : List Entry) → AgreeTo entries 1

@@ -4,7 +4,7 @@ use Rattle.std.proofs.lemmas.List.Sorted.{IsPermutation-sym, Contains-permutatio
 use Rattle.std.specs.Prelude.{option_and_then, All}
 use Rattle.std.specs.FinMap.{get}
 use Rattle.std.proofs.lemmas.Bool.{cases_lt, and_from, le-leb, lt-ltb, ne_eqb}
-use Rattle.std.proofs.lemmas.List.{map-append}
+use Rattle.std.proofs.lemmas.List.{map-append, length-map}
 use Rattle.std.proofs.lemmas.List.Elements.{All-contains, Contains-append_left, Contains-append_right, Contains-append_cases, Contains-push}
 use Rattle.std.proofs.lemmas.Option.{slice_get_within, slice_get-get_or}
 use Rattle.sq_schema.specs.Family.{FamilyValue}
@@ -19,11 +19,30 @@ use Rattle.sq_node_model.specs.declared.spot.Spot.TheVariants.{Store, Chunk}
 use Rattle.sq_node_model.specs.FamiliesHold.{IsOf}
 use Rattle.sq_node_model.specs.Gathered.{GatheredLink, GatheredValue}
 use Rattle.sq_node_model.specs.Spots.{StandsAt}
+use Rattle.sq_node_model.proofs.Lists.{at_map}
 use Rattle.sq_node_model.proofs.Members.{Contains-map}
 use Rattle.sq_node_model.proofs.Stands.{of_some}
 use Rattle.sq_audit.specs.declared.located.Located.{Located}
-use Rattle.sq_audit.specs.Located.{Entry, entry_of, entries_in, AreAllFamilies, AddsAll, AddsLink, ListsAll}
+use Rattle.sq_audit.specs.Located.{Entry, entry_of, entries_in, AreAllFamilies, AddsAll, AddsLink, ListsAll, ListsStored}
 use Rattle.sq_audit.proofs.Each.{same_of, no_some}
+
+-- what an iteration reads
+pub item_at : {X : Type 0} (xs : List X) (i : ℕ) (x : X) → x ≡ get_or xs i x → i < length xs → slice_get xs i ≡ Some x
+item_at xs i x is within = slice_get-get_or xs i x within ∙ ap Some (sym is)
+
+-- the same of what is made of each element
+pub mapped_at : {X Y : Type 0} (f : X → Y) (xs : List X) (i : ℕ) (x : X) → x ≡ get_or xs i x → i < length xs → slice_get (map f xs) i ≡ Some (f x)
+mapped_at f xs i x is within = at_map f xs i x (item_at xs i x is within)
+
+pub mapped_past : {X Y : Type 0} (f : X → Y) (xs : List X) (i : ℕ) → length xs ≤ i → length (map f xs) ≤ i
+mapped_past f xs i past = subst (λ n. n ≤ i) (sym (length-map xs f)) past
+
+-- the same where the list is read as another, whose length is the end
+pub item_of : {X : Type 0} (xs ys : List X) (i : ℕ) (x : X) → xs ≡ ys → x ≡ get_or xs i x → i < length xs → slice_get ys i ≡ Some x
+item_of {X} xs ys i x same is within = ap (λ (list : List X). slice_get list i) (sym same) ∙ item_at xs i x is within
+
+pub end_of : {X : Type 0} (xs ys : List X) (i : ℕ) → xs ≡ ys → i ≤ length xs → length xs ≤ i → i ≡ length ys
+end_of xs ys i same upto past = omega (arith, upto, past, ap length same)
 
 -- a family whose log is its own is that of its root key
 of_root : (root : ℕ) (family : FamilyValue) → family.root ≡ root → All (λ txn. txn.root ≡ family.root) family.log → IsOf root family
@@ -220,15 +239,19 @@ module _ (g : GatheredValue) where
             (cases_lt other part);
       })
 
-  pub linked_none : (entries : List Entry) → StoredTo g (length g.stores) entries → LinkedTo g 0 entries
-  linked_none entries stored =
+  -- all stores were walked, by a loop over them
+  pub stored_all : (entries : List Entry) (stores : List StoreValue) (i : ℕ) → stores ≡ g.stores → i ≤ length stores → length stores ≤ i → StoredTo g i entries → ListsStored g entries
+  stored_all entries stores i same upto past so_far =
+      let stored : StoredTo g (length g.stores) entries = subst (λ k. StoredTo g k entries) (end_of stores g.stores i same upto past) so_far in
       record {
         here = stored.here;
-        stores = λ part root family stands.
+        each = λ part root family stands.
             let at = of_some (λ (s : StoreValue). get s root) (slice_get g.stores part) family stands in
             stored.stores part root family (slice_get_within g.stores part at.0 at.1) stands;
-        links = λ link chunk root family below stands. absurd (omega (arith, below));
       }
+
+  pub linked_none : (entries : List Entry) → ListsStored g entries → LinkedTo g 0 entries
+  linked_none entries stored = record { here = stored.here; stores = stored.each; links = λ link chunk root family below stands. absurd (omega (arith, below)) }
 
   pub linked_next : (link : ℕ) (of : GatheredLink) (old new : List Entry) → slice_get g.links link ≡ Some of → LinkedTo g link old → AddsLink link of old new → LinkedTo g (link + 1) new
   linked_next link of old new there so_far adds =
@@ -256,26 +279,20 @@ module _ (g : GatheredValue) where
             (cases_lt other link);
       })
 
-  pub listed_all : (entries : List Entry) → LinkedTo g (length g.links) entries → ListsAll g entries
-  listed_all entries linked = record { here = linked.here; each = λ spot root family stands. (known spot root family stands).0; keyed = λ spot root family stands. (known spot root family stands).1 }
+  -- and all links
+  pub listed_all : (entries : List Entry) (links : List GatheredLink) (i : ℕ) → links ≡ g.links → i ≤ length links → length links ≤ i → LinkedTo g i entries → ListsAll g entries
+  listed_all entries links i same upto past so_far =
+      record { here = so_far.here; each = λ spot root family stands. (known spot root family stands).0; keyed = λ spot root family stands. (known spot root family stands).1 }
     where
+      linked : LinkedTo g (length g.links) entries
+      linked = subst (λ k. LinkedTo g k entries) (end_of links g.links i same upto past) so_far
+
       known : (spot : Spot) (root : ℕ) (family : FamilyValue) → StandsAt g spot root family → Contains entries (spot, family) × IsOf root family
       known (Store part) root family stands = linked.stores part root family stands
       known (Chunk link chunk) root family stands =
           let at = of_some (λ (c : ChunkValue). family_in c.families root) (option_and_then (λ (l : GatheredLink). slice_get l.under_way chunk) (slice_get g.links link)) family stands in
           let of = of_some (λ (l : GatheredLink). slice_get l.under_way chunk) (slice_get g.links link) at.0 at.1 in
           linked.links link chunk root family (slice_get_within g.links link of.0 of.1) stands
-
--- what an iteration reads
-pub item_at : {X : Type 0} (xs : List X) (i : ℕ) (x : X) → x ≡ get_or xs i x → i < length xs → slice_get xs i ≡ Some x
-item_at xs i x is within = slice_get-get_or xs i x within ∙ ap Some (sym is)
-
--- the same where the list is read as another, whose length is the end
-pub item_of : {X : Type 0} (xs ys : List X) (i : ℕ) (x : X) → xs ≡ ys → x ≡ get_or xs i x → i < length xs → slice_get ys i ≡ Some x
-item_of {X} xs ys i x same is within = ap (λ (list : List X). slice_get list i) (sym same) ∙ item_at xs i x is within
-
-pub end_of : {X : Type 0} (xs ys : List X) (i : ℕ) → xs ≡ ys → i ≤ length xs → length xs ≤ i → i ≡ length ys
-end_of xs ys i same upto past = omega (arith, upto, past, ap length same)
 
 -- entries in another order list the same
 pub lists_permuted : (g : GatheredValue) (xs ys : List Entry) → IsPermutation xs ys → ListsAll g xs → ListsAll g ys

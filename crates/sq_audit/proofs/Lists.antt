@@ -1,6 +1,7 @@
 -- What is counted in a part of a list.
-use Rattle.std.proofs.Common.{◌≡◌, inl, inr, ℕ, zero, suc, ◌+◌, ◌<◌, Bool, true, List, [], ◌∷◌, take, drop, slice_get, Some, refl, sym, ap, ◌∙◌, subst, arith}
+use Rattle.std.proofs.Common.{◌≡◌, inl, inr, ℕ, zero, suc, ◌+◌, ◌<◌, Bool, true, false, List, [], ◌∷◌, take, drop, slice_get, Some, refl, sym, ap, ◌∙◌, subst, arith}
 use Rattle.std.specs.Prelude.{cond, count_by}
+use Rattle.std.specs.List.Sorted.{IsPartitionedBy, IsPartitionPoint}
 use Rattle.std.proofs.lemmas.Bool.{cases_Bool}
 use Rattle.std.proofs.lemmas.List.{take-append-drop}
 use Rattle.std.proofs.lemmas.List.Sums.{sum_by-append}
@@ -52,3 +53,7 @@ pub at_dropped : {X : Type 0} (xs : List X) (i k : ℕ) (x : X) → slice_get xs
 at_dropped [] i k x at = absurd (nothing_there (i + k) x at)
 at_dropped (y ∷ xs) zero k x at = subst (λ n. slice_get (y ∷ xs) n ≡ Some x) (let e : zero + k ≡ k = omega arith in e) at
 at_dropped (y ∷ xs) (suc i) k x at = at_dropped xs i k x (subst (λ n. slice_get (y ∷ xs) n ≡ Some x) (let e : suc i + k ≡ suc (i + k) = omega arith in e) at)
+
+-- where the elements that pass a test stand before the others, they end at this place
+abbrev pub PartsAt : {X : Type 0} → (X → Bool) → List X → ℕ → Type 0
+PartsAt test xs count = IsPartitionedBy test xs → IsPartitionPoint (λ x. test x ≡ true) (λ x. test x ≡ false) xs count

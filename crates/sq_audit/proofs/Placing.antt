@@ -32,7 +32,7 @@ use Rattle.sq_node_model.proofs.Members.{Contains-map, Contains-unreversed}
 use Rattle.sq_node_model.proofs.Lists.{Contains-flat_map, at_map, at_reverse, same_from_end, some_found, none_found}
 use Rattle.sq_audit.specs.Located.{Entry, ListsAll}
 use Rattle.sq_audit.specs.Notes.{LinksPlaced}
-use Rattle.sq_audit.specs.Spans.{Marked, has_keys, marked, notes_of, first_key, is_over, AreByKey, part_by, IsAtPart}
+use Rattle.sq_audit.specs.Spans.{Marked, has_keys, marked, notes_of, first_key, is_over, AreByKey, part_by, IsPlacedBy}
 use Rattle.sq_audit.specs.Fits.{ArePlaced}
 use Rattle.sq_audit.proofs.Lists.{taken_at, dropped_at, at_dropped}
 use Rattle.sq_audit.proofs.Parts.{at_taken}
@@ -299,7 +299,7 @@ module _ (o : OpeningValue) (g : GatheredValue) (parts : HasEachPart o g) (links
 
     module _ (entries : List Entry) (lists : ListsAll g entries) where
       abbrev IsRight : Entry → Type 0
-      IsRight entry = IsAtPart entry.0 (part_by o g.stage entry.1.root (find (is_over entry.1.root) notes))
+      IsRight = IsPlacedBy o g.stage notes
 
       placed_from : ((entry : Entry) → Contains entries entry → IsRight entry) → ArePlaced o g
       placed_from right (Store part) root family stands =
@@ -314,5 +314,5 @@ module _ (o : OpeningValue) (g : GatheredValue) (parts : HasEachPart o g) (links
           place_to_part o g.stage root part (find (is_over root) notes) (sym (place_is root) ∙ placed (Store part) root family (lists.here (Store part, family) has))
       right_from placed (Chunk i j) family has = tt
 
-      pub placed_are : (b : Bool) → Decides b ((entry : Entry) → Contains entries entry → IsAtPart entry.0 (part_by o g.stage entry.1.root (find (is_over entry.1.root) notes))) → Decides b (ArePlaced o g)
+      pub placed_are : (b : Bool) → Decides b ((entry : Entry) → Contains entries entry → IsRight entry) → Decides b (ArePlaced o g)
       placed_are b decides = Decides-like b placed_from (λ placed entry has. right_from placed entry.0 entry.1 has) decides

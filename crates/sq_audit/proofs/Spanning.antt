@@ -1,6 +1,6 @@
 -- Notes in the order of their first keys: which of them covers a key.
 use Rattle.std.proofs.Common.{◌≡◌, ⊎_elim, ℕ, ◌-◌, ◌<◌, ◌≤◌, true, false, nat_le, nat_lt, List, length, get_or, take, slice_get, find, Contains, Some, None, sym, ap, ◌∙◌, subst, arith}
-use Rattle.std.specs.List.Sorted.{IsNonDecreasingBy, IsPartitionedBy, IsPartitionPoint}
+use Rattle.std.specs.List.Sorted.{IsNonDecreasingBy, IsPartitionPoint}
 use Rattle.std.proofs.lemmas.Bool.{cases_lt, and_from, le-leb, lt-ltb, ltb-true, leb-true, leb-false}
 use Rattle.std.proofs.lemmas.List.{length-map, get_or-map, length-take-le}
 use Rattle.std.proofs.lemmas.List.Sorted.{IsPartitionedBy-leb}
@@ -10,7 +10,7 @@ use Rattle.sq_model.proofs.Lists.{Contains-slice_get, slice_get-Contains}
 use Rattle.sq_node_model.proofs.Lists.{at_map, map_at, stands_at, some_found, none_found}
 use Rattle.sq_audit.specs.declared.spans.Span.{Span}
 use Rattle.sq_audit.specs.Spans.{Marked, marked_of, marked_in, first_key, is_over, AreByKey}
-use Rattle.sq_audit.proofs.Lists.{taken_at}
+use Rattle.sq_audit.proofs.Lists.{PartsAt, taken_at}
 
 -- that the first keys rise, of what is marked and of what marks it
 pub rise_marked : (spans : List Span) → IsNonDecreasingBy (λ span. span.note.now.lo) spans → IsNonDecreasingBy first_key (marked_in spans)
@@ -101,7 +101,7 @@ module _ (notes : List Marked) (by : AreByKey notes) (key count : ℕ)
 
 -- the last of those that begin at a key or before it
 module _ (spans : List Span) (by : AreByKey (marked_in spans)) (key count : ℕ) (few : count ≤ length spans)
-    (point : IsPartitionedBy (λ span. nat_le span.note.now.lo key) spans → IsPartitionPoint (λ span. nat_le span.note.now.lo key ≡ true) (λ span. nat_le span.note.now.lo key ≡ false) spans count) where
+    (point : PartsAt (λ (span : Span). nat_le span.note.now.lo key) spans count) where
   parted : IsPartitionPoint (λ span. nat_le span.note.now.lo key ≡ true) (λ span. nat_le span.note.now.lo key ≡ false) spans count
   parted = point (IsPartitionedBy-leb (λ span. span.note.now.lo) spans key (rise_spans spans by.sorted))
 

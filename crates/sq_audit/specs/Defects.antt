@@ -29,10 +29,14 @@ Clears o g jobs WrongPlace = FitTogether o g
 Clears o g jobs ReceiptUnknown = AreKnown g jobs × NameEach g
 Clears o g jobs Unanswered = AreAnswered g jobs
 
+-- it has no defect with a number below this one
+abbrev pub ClearBelow : OpeningValue → GatheredValue → List Job → ℕ → Type 0
+ClearBelow o g jobs number = (other : Defect) → defect_number other < number → Clears o g jobs other
+
 -- it has this defect, and none with a lower number
 pub record IsFirstDefect (o : OpeningValue) (g : GatheredValue) (jobs : List Job) (defect : Defect) : Type 0 where
   pub found : Clears o g jobs defect → ⊥
-  pub first : (other : Defect) → defect_number other < defect_number defect → Clears o g jobs other
+  pub first : ClearBelow o g jobs (defect_number defect)
 
 abbrev pub IsVerdict : OpeningValue → GatheredValue → List Job → Verdict → Type 0
 IsVerdict o g jobs Sound = IsSoundRun o g jobs

@@ -38,7 +38,9 @@ pub record IsReadyToFold (o : OpeningValue) (g : GatheredValue) (jobs : List Job
   pub rows : (root : ℕ) → rows_in ready.table root ≡ rows_among [] g.stores root
   pub bound : (root : ℕ) → ROOT_END ≤ root → rows_in ready.table root ≡ []
 
--- the jobs that have a receipt are sound; folded are the opening, which has the rows of the families that stand, and what was gathered, which is placed there with the segments of its stage complete; and the jobs without a receipt are left, whose ids differ
+-- the jobs that have a receipt are sound; folded are the opening, which has the rows of the families that stand, and what was
+-- gathered, which is placed there with the segments of its stage complete; and the jobs without a receipt are left, whose ids
+-- differ
 pub record IsFold (o : OpeningValue) (g : GatheredValue) (jobs : List Job) (folded : Folded) : Type 0 where
   pub sound : IsSoundRun o g (answered_jobs g.receipts jobs)
   pub is_folded : IsFolded o g folded.opening.table folded.gathered.stores

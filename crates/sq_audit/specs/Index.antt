@@ -31,11 +31,12 @@ Agree one other = one.1.root ≡ other.1.root → one.0 ≡ other.0
 -- entries before a place of one root key have one spot
 abbrev pub AgreeTo : List Entry → ℕ → Type 0
 AgreeTo entries upto =
-    (i j : ℕ) (one other : Entry) → i < upto → j < upto → slice_get entries i ≡ Some one → slice_get entries j ≡ Some other → one.1.root ≡ other.1.root → one.0 ≡ other.0
+    (i j : ℕ) (one other : Entry) → i < upto → j < upto → slice_get entries i ≡ Some one → slice_get entries j ≡ Some other
+    → Agree one other
 
 -- entries of one root key have one spot
 abbrev pub AgreeOnSpots : List Entry → Type 0
-AgreeOnSpots entries = (one other : Entry) → Contains entries one → Contains entries other → one.1.root ≡ other.1.root → one.0 ≡ other.0
+AgreeOnSpots entries = (one other : Entry) → Contains entries one → Contains entries other → Agree one other
 
 -- the root key has a family
 abbrev pub HasFamily : List Entry → ℕ → Type 0

@@ -1,7 +1,9 @@
 -- The families of what was gathered, each with where it is.
-use Rattle.std.specs.Prelude.{◌≡◌, ℕ, ◌≤◌, List, ◌++◌, map, slice_get, Option, Some, Contains}
+use Rattle.std.specs.Prelude.{◌≡◌, ℕ, ◌+◌, ◌<◌, ◌≤◌, All, List, ◌++◌, map, slice_get, Option, Some, Contains}
 use Rattle.sq_schema.specs.Family.{FamilyValue}
-use Rattle.sq_store.specs.StoreValue.{family_in}
+use Rattle.sq_schema.specs.declared.root.TheConstants.{ROOT_END}
+use Rattle.sq_store.specs.StoreValue.{StoreValue, family_in}
+use Rattle.sq_store.specs.InOrder.{family_from}
 use Rattle.sq_chunk.specs.ChunkValue.{ChunkValue}
 use Rattle.sq_node_model.specs.FamiliesHold.{IsOf}
 use Rattle.sq_node_model.specs.declared.spot.Spot.{Spot}
@@ -28,7 +30,17 @@ entries_in all = map entry_of all
 
 -- their root keys don't fall
 abbrev pub AreByRoot : List Entry → Type 0
-AreByRoot entries = (i j : ℕ) (one other : Entry) → i ≤ j → slice_get entries i ≡ Some one → slice_get entries j ≡ Some other → one.1.root ≤ other.1.root
+AreByRoot entries =
+    (i j : ℕ) (one other : Entry) → i ≤ j → slice_get entries i ≡ Some one → slice_get entries j ≡ Some other
+    → one.1.root ≤ other.1.root
+
+-- the family is the store's of the least root key from a number on, its log is of that root key, and the next number is behind it
+pub record IsNextFamily (store : StoreValue) (at : ℕ) (family : FamilyValue) (next : ℕ) : Type 0 where
+  pub found : family_from store at ≡ Some family
+  pub behind : next ≡ family.root + 1
+  pub rises : at < next
+  pub bound : next ≤ ROOT_END
+  pub own : All (λ txn. txn.root ≡ family.root) family.log
 
 -- these families are just those of their root keys, and their logs are of these
 pub record AreAllFamilies (family_of : ℕ → Option FamilyValue) (families : List FamilyValue) : Type 0 where
@@ -45,8 +57,11 @@ pub record AddsAll (spot : Spot) (family_of : ℕ → Option FamilyValue) (old n
 -- all families of the chunks of a link were added
 pub record AddsLink (link : ℕ) (of : GatheredLink) (old new : List Entry) : Type 0 where
   pub entries : List Entry
-  pub here : (entry : Entry) → Contains entries entry → (chunk : ℕ) × (found : ChunkValue) × (entry.0 ≡ spots.Chunk link chunk) × (slice_get of.under_way chunk ≡ Some found) × (family_in found.families entry.1.root ≡ Some entry.1)
-  pub each : (chunk root : ℕ) (found : ChunkValue) (family : FamilyValue) → slice_get of.under_way chunk ≡ Some found → family_in found.families root ≡ Some family
+  pub here : (entry : Entry) → Contains entries entry
+      → (chunk : ℕ) × (found : ChunkValue) × (entry.0 ≡ spots.Chunk link chunk) × (slice_get of.under_way chunk ≡ Some found)
+      × (family_in found.families entry.1.root ≡ Some entry.1)
+  pub each : (chunk root : ℕ) (found : ChunkValue) (family : FamilyValue)
+      → slice_get of.under_way chunk ≡ Some found → family_in found.families root ≡ Some family
       → Contains entries (spots.Chunk link chunk, family) × IsOf root family
   pub added : new ≡ old ++ entries
 
@@ -55,3 +70,9 @@ pub record ListsAll (g : GatheredValue) (entries : List Entry) : Type 0 where
   pub here : (entry : Entry) → Contains entries entry → StandsAt g entry.0 entry.1.root entry.1
   pub each : (spot : Spot) (root : ℕ) (family : FamilyValue) → StandsAt g spot root family → Contains entries (spot, family)
   pub keyed : (spot : Spot) (root : ℕ) (family : FamilyValue) → StandsAt g spot root family → IsOf root family
+
+-- these families stand, and all those in stores are among them, each of its root key
+pub record ListsStored (g : GatheredValue) (entries : List Entry) : Type 0 where
+  pub here : (entry : Entry) → Contains entries entry → StandsAt g entry.0 entry.1.root entry.1
+  pub each : (part root : ℕ) (family : FamilyValue) → StandsAt g (spots.Store part) root family
+      → Contains entries (spots.Store part, family) × IsOf root family

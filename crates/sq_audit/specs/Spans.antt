@@ -1,5 +1,5 @@
 -- The keys that notes cover, and where the notes place them.
-use Rattle.std.specs.Prelude.{◌≡◌, ℕ, Bool, true, false, nat_lt, if◌then◌else◌, List, ◌++◌, map, filter, drop, Option, Some, None, Contains}
+use Rattle.std.specs.Prelude.{◌≡◌, ℕ, Bool, true, false, nat_lt, if◌then◌else◌, List, ◌++◌, map, filter, find, drop, Option, Some, None, Contains}
 use Rattle.std.specs.List.Sorted.{IsNonDecreasingBy}
 use Rattle.sq_chunk.specs.declared.chunk.Note.{Note}
 use Rattle.sq_chunk.specs.ChunkValue.{covers}
@@ -10,6 +10,7 @@ use Rattle.sq_node_model.specs.declared.spot.Spot.TheVariants.{Store, Chunk}
 use Rattle.sq_node_model.specs.Gathered.{GatheredLink}
 use Rattle.sq_node_model.specs.Spots.{loaded_count, loads_of}
 use Rattle.sq_audit.specs.declared.spans.Span.{Span}
+use Rattle.sq_audit.specs.Located.{Entry}
 
 -- a note, and whether its chunk was loaded
 abbrev pub Marked : Type 0
@@ -42,7 +43,8 @@ is_over key one = covers one.0 key
 pub record AreByKey (notes : List Marked) : Type 0 where
   pub sorted : IsNonDecreasingBy first_key notes
   pub some : (one : Marked) → Contains notes one → has_keys one.0 ≡ true
-  pub apart : (one other : Marked) (key : ℕ) → Contains notes one → Contains notes other → is_over key one ≡ true → is_over key other ≡ true → one ≡ other
+  pub apart : (one other : Marked) (key : ℕ) → Contains notes one → Contains notes other
+      → is_over key one ≡ true → is_over key other ≡ true → one ≡ other
 
 -- the partition of a root key that this note of a stage covers; where there is none, that which owned it as the stage began
 abbrev pub part_by : OpeningValue → ℕ → ℕ → Option Marked → Option ℕ
@@ -53,3 +55,7 @@ part_by o i root (Some one) = if one.1 then Some one.0.dst else None
 abbrev pub IsAtPart : Spot → Option ℕ → Type 0
 IsAtPart (Store part) at = at ≡ Some part
 IsAtPart (Chunk link chunk) at = Unit {0}
+
+-- the entry is where these notes of a stage place its root key
+abbrev pub IsPlacedBy : OpeningValue → ℕ → List Marked → Entry → Type 0
+IsPlacedBy o i notes entry = IsAtPart entry.0 (part_by o i entry.1.root (find (is_over entry.1.root) notes))

@@ -33,7 +33,8 @@ pub record IsOneJob (jobs : List Job) (receipt : ReceiptValue) (txn : TxnValue) 
 -- on these rows, where a log goes on with this transaction, the receipt is what a job is answered: a commit is that transaction
 abbrev pub IsAnswerOn : List Job → RowList → Option TxnValue → ReceiptValue → Type 0
 IsAnswerOn jobs rows next receipt =
-    (job : Job) × Contains jobs job × (is_of job.txn receipt ≡ true) × (receipt.reply ≡ reply rows job.txn) × (is_commit receipt.reply ≡ true → next ≡ Some job.txn)
+    (job : Job) × Contains jobs job × (is_of job.txn receipt ≡ true) × (receipt.reply ≡ reply rows job.txn)
+    × (is_commit receipt.reply ≡ true → next ≡ Some job.txn)
 
 -- the rows after the receipt's job
 abbrev pub rows_then : RowList → Option TxnValue → ReceiptValue → RowList
@@ -62,9 +63,13 @@ pub record TellsLog (jobs : List Job) (family : FamilyValue) (receipts : List Re
 abbrev pub receipts_of : ℕ → List ReceiptValue → List ReceiptValue
 receipts_of root receipts = filter (λ receipt. receipt.root == root) receipts
 
+-- the receipts tell the log of an entry's family
+abbrev pub TellsEntry : List Job → List ReceiptValue → Entry → Type 0
+TellsEntry jobs receipts entry = TellsLog jobs entry.1 (receipts_of entry.1.root receipts)
+
 -- each family's log is told
 abbrev pub TellLogs : List Entry → List Job → List ReceiptValue → Type 0
-TellLogs entries jobs receipts = (entry : Entry) → Contains entries entry → TellsLog jobs entry.1 (receipts_of entry.1.root receipts)
+TellLogs entries jobs receipts = (entry : Entry) → Contains entries entry → TellsEntry jobs receipts entry
 
 -- a receipt of a root key without a family is of an abort on no rows
 abbrev pub TellsNoLog : List Entry → List Job → ReceiptValue → Type 0

@@ -1,18 +1,13 @@
 -- What is told of the statuses of trees.
-use Rattle.std.specs.Prelude.{◌≡◌, ℕ, true, false, List, [], slice_index_or}
+use Rattle.std.specs.Prelude.{◌≡◌, ℕ, true, false}
 use Rattle.std.specs.BTreeSet.{BTreeSet, contains}
 use Rattle.sq_tree.specs.declared.status.Status.{Status}
 use Rattle.sq_tree.specs.Node.{is_leaf}
 use Rattle.sq_tree.specs.Status.{is_free, is_split, is_live, is_complete}
-use Rattle.sq_tree.specs.Tree.{status_at, IsGrown}
 use Rattle.sq_model.specs.Links.{has_last}
 use Rattle.sq_node_model.specs.Gathered.{GatheredValue}
 use Rattle.sq_node_model.specs.Spots.{word_in, loaded_notes}
 use Rattle.sq_audit.specs.Counts.{key_order}
-
--- each of these trees grew from a free one
-abbrev pub HaveGrown : List (List Status) → Type 0
-HaveGrown words = (seg : ℕ) → IsGrown (status_at (slice_index_or words seg []))
 
 -- what a tree that grew has at a node: if it isn't free it is live, and a leaf isn't split
 pub record IsGrownAt (status : ℕ → Status) (n : ℕ) : Type 0 where

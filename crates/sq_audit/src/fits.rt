@@ -51,14 +51,14 @@ fn has_parts(opening: &Opening, g: &Gathered) -> bool
     if g.words.len() != recon.segments().len() {
         return false;
     }
-    if !are_known(recon, g.stage, recon.links(), &g.links) {
+    if !are_known_links(recon, g.stage, recon.links(), &g.links) {
         return false;
     }
     have_one_each(recon, g.stage, recon.links(), &g.links)
 }
 
 // Whether each link that was gathered is one of these, and of the stage.
-fn are_known(recon: &Recon, stage: u64, links: &[Link], gathered: &[ClosedLink]) -> bool
+fn are_known_links(recon: &Recon, stage: u64, links: &[Link], gathered: &[ClosedLink]) -> bool
     ensures { Decides result (AreKnownLinks recon.now stage links.now gathered.now) }
 {
     for link in gathered {

@@ -3,12 +3,13 @@ ghost use Rattle.std.specs.Prelude.{◌≡◌, ◌++◌, ◌∷◌, [], List, ma
 ghost use Rattle.std.specs.FinMap.{get};
 ghost use Rattle.sq_schema.specs.Family.{FamilyValue};
 ghost use Rattle.sq_store.specs.StoreValue.{family_in};
-ghost use Rattle.sq_audit.specs.Located.{spot_of, entries_in, ListsAll, AreByRoot, AddsAll, AddsLink};
+ghost use Rattle.sq_audit.specs.Located.{spot_of, entries_in, ListsAll, ListsStored, AreByRoot, AddsAll, AddsLink};
 
+use crate::stored::next_family;
 use sq_chunk::Chunk;
 use sq_gather::{ClosedLink, Gathered};
 use sq_schema::Family;
-use sq_store::{FamilyStore, SlabStore};
+use sq_store::SlabStore;
 use std::alloc::{AllocError, Global};
 
 /// Where a family is: in a store or in a chunk, by their places from 0.
@@ -39,12 +40,20 @@ pub(crate) fn locate(alloc: Global, g: &Gathered) -> Result<Vec<Located<'_>>, Al
 fn list(alloc: Global, g: &Gathered) -> Result<Vec<Located<'_>>, AllocError>
     ensures { IfOk result (λ all. ListsAll g.now (entries_in all.items)) }
 {
+    let mut all = list_stored(alloc, g)?;
+    for (at, link) in g.links.iter().enumerate() {
+        add_under_way(&mut all, at, link)?;
+    }
+    Ok(all)
+}
+
+// Those in stores.
+fn list_stored(alloc: Global, g: &Gathered) -> Result<Vec<Located<'_>>, AllocError>
+    ensures { IfOk result (λ all. ListsStored g.now (entries_in all.items)) }
+{
     let mut all = Vec::new(alloc);
     for (part, store) in g.stores.iter().enumerate() {
         add_stored(&mut all, Site::Store(part), store)?;
-    }
-    for (at, link) in g.links.iter().enumerate() {
-        add_under_way(&mut all, at, link)?;
     }
     Ok(all)
 }
@@ -58,11 +67,9 @@ fn add_stored<'a>(
     ensures { OnOk result (AddsAll (spot_of site) (get store.now) (entries_in all.old.items) (entries_in all.new.items)) }
 {
     let mut at = 0;
-    while let Some(family) = store.walk(at) {
-        // For the proof alone: it tells that the log is of the family's own root key, as that of each family is.
-        family.log();
+    while let Some((family, next)) = next_family(store, at) {
         all.push(Located { site, family })?;
-        at = family.root().number() + 1;
+        at = next;
     }
     Ok(())
 }

@@ -5,8 +5,8 @@ ghost use Rattle.sq_model.specs.Orderly.{AreDisjoint};
 ghost use Rattle.sq_node_model.specs.Spots.{cut_notes};
 ghost use Rattle.sq_node_model.specs.Placed.{HasEachPart};
 ghost use Rattle.sq_audit.specs.Notes.{LinksPlaced};
-ghost use Rattle.sq_audit.specs.Located.{spot_of, entries_in, ListsAll};
-ghost use Rattle.sq_audit.specs.Spans.{marked_in, is_over, AreByKey, part_by, IsAtPart};
+ghost use Rattle.sq_audit.specs.Located.{entry_of, entries_in, ListsAll};
+ghost use Rattle.sq_audit.specs.Spans.{marked_in, AreByKey, IsPlacedBy};
 ghost use Rattle.sq_audit.specs.Fits.{ArePlaced};
 
 use crate::located::{Located, Site};
@@ -40,9 +40,7 @@ pub(crate) fn are_placed(
 // Whether a family that is in a store is where the notes of a stage place its root key. One that is in a chunk always is.
 fn is_placed(opening: &Opening, stage: u64, spans: &[Span], located: &Located) -> bool
     requires { AreByKey (marked_in spans.now) }
-    ensures { let root = located.now.family.now.root in
-        Decides result (IsAtPart (spot_of located.now.site)
-        (part_by opening.now stage root (find (is_over root) (marked_in spans.now)))) }
+    ensures { Decides result (IsPlacedBy opening.now stage (marked_in spans.now) (entry_of located.now)) }
 {
     let Site::Store(part) = located.site else {
         return true;

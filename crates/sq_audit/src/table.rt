@@ -5,8 +5,9 @@ ghost use Rattle.sq_schema.specs.declared.root.TheConstants.{ROOT_END};
 ghost use Rattle.sq_schema.specs.Table.{rows_in};
 ghost use Rattle.sq_audit.specs.Rows.{rows_with, rows_beside, rows_among};
 
+use crate::stored::next_family;
 use sq_schema::{Family, Table};
-use sq_store::{FamilyStore, SlabStore};
+use sq_store::SlabStore;
 use std::alloc::{AllocError, Global};
 
 /// The table of the rows that the families of these stores have.
@@ -27,9 +28,9 @@ fn add_store(table: &mut Table, store: &SlabStore) -> Result<(), AllocError>
     ensures bound { OnOk result ((root : ℕ) → ROOT_END ≤ root → rows_in table.new root ≡ rows_in table.old root) }
 {
     let mut at = 0;
-    while let Some(family) = store.walk(at) {
+    while let Some((family, next)) = next_family(store, at) {
         add_family(table, family)?;
-        at = family.root().number() + 1;
+        at = next;
     }
     Ok(())
 }

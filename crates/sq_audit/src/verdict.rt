@@ -22,6 +22,16 @@ pub enum Defect {
     Unanswered = 306,
 }
 
+/// The defects, in the order in which they are looked for, which is that of their numbers.
+pub const ALL_DEFECTS: [Defect; 6] = [
+    Defect::RootMissing,
+    Defect::RootDoubled,
+    Defect::BaseChanged,
+    Defect::WrongPlace,
+    Defect::ReceiptUnknown,
+    Defect::Unanswered,
+];
+
 impl Defect {
     /// The number that a user sees.
     pub fn number(self) -> u16

@@ -8,8 +8,9 @@ ghost use Rattle.sq_tree.specs.Status.{is_live};
 ghost use Rattle.sq_tree.specs.Tree.{status_at, IsGrown};
 ghost use Rattle.sq_model.specs.Links.{has_last};
 ghost use Rattle.sq_node_model.specs.Spots.{loads_of};
+ghost use Rattle.sq_gather.specs.Grown.{AreGrown};
 ghost use Rattle.sq_audit.specs.Counts.{key_order};
-ghost use Rattle.sq_audit.specs.Words.{HaveGrown, IsGrownAt, CompleteAreLoaded, AreEnded, IsEnded};
+ghost use Rattle.sq_audit.specs.Words.{IsGrownAt, CompleteAreLoaded, AreEnded, IsEnded};
 
 use crate::spans::loads;
 use sq_chunk::Note;
@@ -20,7 +21,7 @@ use std::collections::BTreeSet;
 
 /// Whether each of these trees grew from a free one.
 pub(crate) fn have_grown(words: &[[Status; NODES]]) -> bool
-    ensures { Decides result (HaveGrown words.now) }
+    ensures { Decides result (AreGrown words.now) }
 {
     for tree in words {
         if !has_grown(tree) {

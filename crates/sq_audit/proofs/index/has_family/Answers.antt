@@ -1,14 +1,14 @@
-use Rattle.std.proofs.Common.{rules, ◌≡◌, nat_lt, true, false, Some, None, sym, ◌∙◌, eqb-true, eq-eqb}
-use Rattle.std.specs.List.Sorted.{IsPartitionedBy, IsPartitionPoint}
+use Rattle.std.proofs.Common.{rules, nat_lt, Some, None, sym, ◌∙◌, eqb-true, eq-eqb}
 use Rattle.std.proofs.lemmas.Fn.{always_returns_same}
+use Rattle.sq_audit.specs.declared.located.Located.{Located}
+use Rattle.sq_audit.proofs.Lists.{PartsAt}
 use Rattle.sq_audit.proofs.Each.{looked_up}
 use Rattle.sq_audit.proofs.Indexing.{first_family, no_family}
 use Rattle.sq_audit.proofs.index.has_family.Goals as goal
 use Rattle.sq_audit.proofs.index.has_family.Goals.{After-partition_point-count}
 
-parted : (c : After-partition_point-count) → let all = c.args.all.now in
-    IsPartitionedBy (λ located. nat_lt located.family.now.root c.args.root) all
-    → IsPartitionPoint (λ located. nat_lt located.family.now.root c.args.root ≡ true) (λ located. nat_lt located.family.now.root c.args.root ≡ false) all c.partition_point-count.result
+-- the families of lower root keys stand before the others
+parted : (c : After-partition_point-count) → PartsAt (λ (located : Located). nat_lt located.family.now.root c.args.root) c.args.all.now c.partition_point-count.result
 parted c = c.partition_point-count.ensures.partitioned (λ located. nat_lt located.family.now.root c.args.root) (always_returns_same _ _ _ (λ a r f k. search rules))
 
 pub returns-in-Some : goal.returns-in-Some

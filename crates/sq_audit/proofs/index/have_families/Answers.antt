@@ -1,20 +1,18 @@
-use Rattle.std.proofs.Common.{⊎_elim, ℕ, List, sym, subst, true≢false}
+use Rattle.std.proofs.Common.{⊎_elim, ℕ, List, sym, subst}
 use Rattle.sq_schema.specs.Effect.{RowList}
 use Rattle.sq_model.proofs.Lists.{Contains-first, Contains-later, Contains-cases}
 use Rattle.sq_audit.specs.Located.{entries_in}
 use Rattle.sq_audit.specs.Index.{HasFamily, HaveFamilies}
-use Rattle.sq_audit.proofs.Each.{refuted, shown}
+use Rattle.sq_audit.proofs.Each.{decides_not, refuted, shown}
 use Rattle.sq_audit.proofs.index.have_families.Goals as goal
 
 pub returns-then-not-has_family : goal.returns-then-not-has_family
 returns-then-not-has_family c =
     let rest = c.next.new.self in
-    let row : ℕ × RowList = (c.in-Some.root.now, c.in-Some.field-0-1.now) in (
-      (λ e. absurd (true≢false (sym e))),
-      (λ all.
-          let rest_all = subst (λ (t : List (ℕ × RowList)). HaveFamilies t (entries_in c.args.all.now)) c.in-Some.ensures.steps (c.loop-root.invariant.rest all) in
-          absurd (refuted c.has_family.result c.has_family.ensures c.if-not-has_family.true (rest_all row (Contains-first row rest)))),
-    )
+    let row : ℕ × RowList = (c.in-Some.root.now, c.in-Some.field-0-1.now) in
+    decides_not (λ all.
+    let rest_all = subst (λ (t : List (ℕ × RowList)). HaveFamilies t (entries_in c.args.all.now)) c.in-Some.ensures.steps (c.loop-root.invariant.rest all) in
+    refuted c.has_family.result c.has_family.ensures c.if-not-has_family.true (rest_all row (Contains-first row rest)))
 
 pub loop-root-preserved : goal.loop-root-preserved
 loop-root-preserved c =

@@ -1,10 +1,8 @@
-use Rattle.std.proofs.Common.{◌≡◌, ◌-◌, ◌≤◌, true, length, slice_get, Some, refl, sym, subst, arith, true≢false}
-use Rattle.std.proofs.lemmas.List.{length-map}
+use Rattle.std.proofs.Common.{◌≡◌, ◌-◌, true, slice_get, Some, refl, arith}
 use Rattle.sq_model.proofs.Lists.{Contains-slice_get}
-use Rattle.sq_node_model.proofs.Lists.{at_map}
 use Rattle.sq_audit.specs.Located.{entry_of, entries_in}
-use Rattle.sq_audit.proofs.Listing.{item_at}
-use Rattle.sq_audit.proofs.Each.{refuted, shown}
+use Rattle.sq_audit.proofs.Listing.{mapped_at, mapped_past}
+use Rattle.sq_audit.proofs.Each.{decides_not, refuted, shown}
 use Rattle.sq_audit.proofs.Indexing.{agree_first, agree_more, agree_whole}
 use Rattle.sq_audit.proofs.index.stand_once.Goals as goal
 use Rattle.sq_audit.proofs.index.stand_once.Goals.{After-agree}
@@ -18,24 +16,22 @@ before c =
     let all = c.args.all.now in
     let at = c.loop-at.at in
     let test = c.loop-at-test.true in
-    at_map entry_of all (at - 1) c.index-all-at.result (item_at all (at - 1) c.index-all-at.result c.index-all-at.is (omega (arith, test)))
+    mapped_at entry_of all (at - 1) c.index-all-at.result c.index-all-at.is (omega (arith, test))
 
 here : (c : After-agree) → slice_get (entries_in c.args.all.now) c.loop-at.at ≡ Some (entry_of c.index-all-at-in-loop-at.result)
 here c =
     let all = c.args.all.now in
     let one = c.index-all-at-in-loop-at in
-    at_map entry_of all c.loop-at.at one.result (item_at all c.loop-at.at one.result one.is c.loop-at-test.true)
+    mapped_at entry_of all c.loop-at.at one.result one.is c.loop-at-test.true
 
 pub returns-then-not-agree : goal.returns-then-not-agree
 returns-then-not-agree c =
     let at = (goal.at.returns-then-not-agree c).After-agree in
     let entries = entries_in c.args.all.now in
     let one = entry_of c.index-all-at.result in
-    let other = entry_of c.index-all-at-in-loop-at.result in (
-      (λ e. absurd (true≢false (sym e))),
-      (λ agree.
-          absurd (refuted c.agree.result c.agree.ensures c.if-not-agree.true (agree one other (Contains-slice_get entries (c.loop-at.at - 1) one (before at)) (Contains-slice_get entries c.loop-at.at other (here at))))),
-    )
+    let other = entry_of c.index-all-at-in-loop-at.result in
+    decides_not (λ agree.
+    refuted c.agree.result c.agree.ensures c.if-not-agree.true (agree one other (Contains-slice_get entries (c.loop-at.at - 1) one (before at)) (Contains-slice_get entries c.loop-at.at other (here at))))
 
 pub loop-at-preserved : goal.loop-at-preserved
 loop-at-preserved c =
@@ -50,5 +46,4 @@ loop-at-preserved c =
 
 pub returns : goal.returns
 returns c =
-    let whole : length (entries_in c.args.all.now) ≤ c.loop-at.at = subst (λ n. n ≤ c.loop-at.at) (sym (length-map c.args.all.now entry_of)) c.loop-at-test.false in
-    agree_whole (entries_in c.args.all.now) c.loop-at.at true whole ((λ e. c.loop-at.invariant.so_far), (λ agree. refl))
+    agree_whole (entries_in c.args.all.now) c.loop-at.at true (mapped_past entry_of c.args.all.now c.loop-at.at c.loop-at-test.false) ((λ e. c.loop-at.invariant.so_far), (λ agree. refl))

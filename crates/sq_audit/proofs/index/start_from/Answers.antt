@@ -1,10 +1,7 @@
-use Rattle.std.proofs.Common.{◌≤◌, length, sym, subst}
-use Rattle.std.proofs.lemmas.List.{length-map}
 use Rattle.sq_schema.specs.Table.{rows_in}
-use Rattle.sq_node_model.proofs.Lists.{at_map}
 use Rattle.sq_audit.specs.Located.{Entry, entry_of, entries_in}
 use Rattle.sq_audit.specs.Index.{StartsFrom}
-use Rattle.sq_audit.proofs.Listing.{item_at}
+use Rattle.sq_audit.proofs.Listing.{mapped_at, mapped_past}
 use Rattle.sq_audit.proofs.Each.{each_more, each_done, each_fails, refuted, shown}
 use Rattle.sq_audit.proofs.index.start_from.Goals as goal
 
@@ -14,7 +11,7 @@ returns-then-not-starts_from c =
     let at = c.loop-located.located-index in
     let located = c.located-item.result in
     each_fails (λ (e : Entry). StartsFrom (rows_in c.args.table.now) e.1) (entries_in all) at (entry_of located)
-    (at_map entry_of all at located (item_at all at located c.located-item.is c.loop-located-test.true))
+    (mapped_at entry_of all at located c.located-item.is c.loop-located-test.true)
     (refuted c.starts_from.result c.starts_from.ensures c.if-not-starts_from.true)
 
 pub loop-located-preserved : goal.loop-located-preserved
@@ -23,10 +20,10 @@ loop-located-preserved c =
     let at = c.loop-located.located-index in
     let located = c.located-item.result in
     each_more (λ (e : Entry). StartsFrom (rows_in c.args.table.now) e.1) (entries_in all) at (entry_of located) c.loop-located.invariant
-    (at_map entry_of all at located (item_at all at located c.located-item.is c.loop-located-test.true))
+    (mapped_at entry_of all at located c.located-item.is c.loop-located-test.true)
     (shown c.starts_from.result c.starts_from.ensures c.if-not-starts_from.false)
 
 pub returns : goal.returns
 returns c =
-    let whole : length (entries_in c.args.all.now) ≤ c.loop-located.located-index = subst (λ n. n ≤ c.loop-located.located-index) (sym (length-map c.args.all.now entry_of)) c.loop-located-test.false in
-    each_done (λ (e : Entry). StartsFrom (rows_in c.args.table.now) e.1) (entries_in c.args.all.now) c.loop-located.located-index c.loop-located.invariant whole
+    each_done (λ (e : Entry). StartsFrom (rows_in c.args.table.now) e.1) (entries_in c.args.all.now) c.loop-located.located-index c.loop-located.invariant
+    (mapped_past entry_of c.args.all.now c.loop-located.located-index c.loop-located-test.false)

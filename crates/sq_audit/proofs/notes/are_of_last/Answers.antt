@@ -1,7 +1,7 @@
-use Rattle.std.proofs.Common.{rules, ◌≡◌, ◌+◌, true, slice_get, Some, refl, sym, ◌∙◌, true≢false}
+use Rattle.std.proofs.Common.{rules, ◌≡◌, ◌+◌, true, slice_get, Some, refl, sym, ◌∙◌}
 use Rattle.sq_chunk.specs.ChunkValue.{ChunkValue, are_within}
 use Rattle.sq_audit.proofs.Listing.{item_at}
-use Rattle.sq_audit.proofs.Each.{each_more, each_done}
+use Rattle.sq_audit.proofs.Each.{decides_not, each_more, each_done}
 use Rattle.sq_audit.proofs.Ways.{of_last, last_more, not_of_last}
 use Rattle.sq_audit.proofs.notes.are_of_last.Goals as goal
 use Rattle.sq_audit.proofs.notes.are_of_last.Goals.{After-ne}
@@ -16,12 +16,10 @@ note_there c = item_at c.args.notes.now (c.in-Some.loaded + c.loop-at.at) c.inde
 pub returns-then-ne-clause-last : goal.returns-then-ne-clause-last
 returns-then-ne-clause-last c =
     let differ : c.note.result ≡ c.index-notes-loaded.result → ⊥ = search rules in
-    let at = (goal.at.returns-then-ne-clause-last c).After-ne in (
-      (λ e. absurd (true≢false (sym e))),
-      (λ last.
-          absurd (not_of_last c.args.chunks.now c.args.notes.now c.in-Some.loaded c.loop-at.at c.index-chunks-at.result c.index-notes-loaded.result c.in-Some.ensures.1 (chunk_there at) (note_there at)
-          (λ same. differ (c.note.ensures ∙ same)) last)),
-    )
+    let at = (goal.at.returns-then-ne-clause-last c).After-ne in
+    decides_not (λ last.
+    not_of_last c.args.chunks.now c.args.notes.now c.in-Some.loaded c.loop-at.at c.index-chunks-at.result c.index-notes-loaded.result c.in-Some.ensures.1 (chunk_there at) (note_there at)
+    (λ same. differ (c.note.ensures ∙ same)) last)
 
 pub loop-at-preserved : goal.loop-at-preserved
 loop-at-preserved c =

@@ -5,13 +5,16 @@ use Rattle.std.proofs.lemmas.Bool.{and_parts, and_from}
 use Rattle.sq_tree.specs.declared.status.Status.{Status}
 use Rattle.sq_tree.specs.Status.{is_begun}
 use Rattle.sq_tree.specs.Tree.{status_at}
+use Rattle.sq_chunk.specs.declared.chunk.Note.{Note}
 use Rattle.sq_ranges.specs.declared.recon.Range.{Range}
+use Rattle.sq_ranges.specs.OpeningValue.{OpeningValue}
 use Rattle.sq_ranges.specs.ReconValue.{ReconValue, stage_on}
 use Rattle.sq_model.specs.Links.{goes, is_on_link}
 use Rattle.sq_node_model.specs.Gathered.{GatheredLink, GatheredValue}
 use Rattle.sq_node_model.specs.Stages.{runs_in}
 use Rattle.sq_node_model.specs.Spots.{word_in}
-use Rattle.sq_audit.proofs.Each.{looked_up}
+use Rattle.sq_node_model.specs.Placed.{IsLinkNote}
+use Rattle.sq_audit.proofs.Each.{decides_not, looked_up}
 use Rattle.sq_audit.proofs.notes.is_link_note.Goals as goal
 use Rattle.sq_audit.proofs.notes.is_link_note.Goals.{After-goes, After-stage_on}
 
@@ -34,27 +37,22 @@ stage_is c =
     let dst = ap (λ (l : GatheredLink). l.dst) c.link.view_is in
     c.stage_on.ensures.stage ∙ (λ k. stage_on (c.recon-2.ensures.recon k) (src k) (dst k))
 
+-- the segment of a note of the link goes along it, in the stage
+segment_is : (o : OpeningValue) (g : GatheredValue) (link : GatheredLink) (note : Note) → IsLinkNote o g link note
+    → (is_on_link o link.src link.dst note.seg ≡ true) × (stage_on o.recon link.src link.dst ≡ g.stage)
+segment_is o g link note is =
+    let parts = and_parts (is_on_link o link.src link.dst note.seg) (runs_in o g.stage link.src link.dst) is.segment in
+    (parts.0, eqb-true (stage_on o.recon link.src link.dst) g.stage parts.1)
+
 pub returns-then-not-goes : goal.returns-then-not-goes
 returns-then-not-goes c =
-    let o = c.args.opening.now in
-    let g = c.args.g.now in
-    let link = c.args.link.now in
-    let along = goes_along (goal.at.returns-then-not-goes c).After-goes in (
-      (λ e. absurd (true≢false (sym e))),
-      (λ is. absurd (true≢false (sym (and_parts (is_on_link o link.src link.dst c.args.note.now.seg) (runs_in o g.stage link.src link.dst) is.segment).0 ∙ sym along ∙ c.if-not-goes.true))),
-    )
+    let along = goes_along (goal.at.returns-then-not-goes c).After-goes in
+    decides_not (λ is. true≢false (sym (segment_is c.args.opening.now c.args.g.now c.args.link.now c.args.note.now is).0 ∙ sym along ∙ c.if-not-goes.true))
 
 pub returns-then-stage_on-g : goal.returns-then-stage_on-g
 returns-then-stage_on-g c =
-    let o = c.args.opening.now in
-    let g = c.args.g.now in
-    let link = c.args.link.now in
-    let stage = stage_is (goal.at.returns-then-stage_on-g c).After-stage_on in (
-      (λ e. absurd (true≢false (sym e))),
-      (λ is.
-          let runs = (and_parts (is_on_link o link.src link.dst c.args.note.now.seg) (runs_in o g.stage link.src link.dst) is.segment).1 in
-          absurd (c.if-stage_on-g.true (stage ∙ eqb-true (stage_on o.recon link.src link.dst) g.stage runs ∙ sym (ap (λ (v : GatheredValue). v.stage) c.g.view_is)))),
-    )
+    let stage = stage_is (goal.at.returns-then-stage_on-g c).After-stage_on in
+    decides_not (λ is. c.if-stage_on-g.true (stage ∙ (segment_is c.args.opening.now c.args.g.now c.args.link.now c.args.note.now is).1 ∙ sym (ap (λ (v : GatheredValue). v.stage) c.g.view_is)))
 
 pub returns : goal.returns
 returns c =

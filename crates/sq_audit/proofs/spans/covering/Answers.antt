@@ -1,16 +1,15 @@
-use Rattle.std.proofs.Common.{rules, ◌≡◌, nat_le, true, false, sym, ap, ◌∙◌}
-use Rattle.std.specs.List.Sorted.{IsPartitionedBy, IsPartitionPoint}
+use Rattle.std.proofs.Common.{rules, nat_le, sym, ap, ◌∙◌}
 use Rattle.std.specs.Prelude.{option_map}
 use Rattle.std.proofs.lemmas.Fn.{always_returns_same}
+use Rattle.sq_audit.specs.declared.spans.Span.{Span}
 use Rattle.sq_audit.specs.Spans.{marked_of}
+use Rattle.sq_audit.proofs.Lists.{PartsAt}
 use Rattle.sq_audit.proofs.Spanning.{nothing_covers, last_covers, last_ends}
 use Rattle.sq_audit.proofs.spans.covering.Goals as goal
 use Rattle.sq_audit.proofs.spans.covering.Goals.{After-partition_point-count}
 
 -- the spans that begin at the key or before it stand before the others, where they stand by key
-parted : (c : After-partition_point-count) → let spans = c.args.spans.now in
-    IsPartitionedBy (λ span. nat_le span.note.now.lo c.args.key) spans
-    → IsPartitionPoint (λ span. nat_le span.note.now.lo c.args.key ≡ true) (λ span. nat_le span.note.now.lo c.args.key ≡ false) spans c.partition_point-count.result
+parted : (c : After-partition_point-count) → PartsAt (λ (span : Span). nat_le span.note.now.lo c.args.key) c.args.spans.now c.partition_point-count.result
 parted c = c.partition_point-count.ensures.partitioned (λ span. nat_le span.note.now.lo c.args.key) (always_returns_same _ _ _ (λ a r f k. search rules))
 
 pub returns-in_err-last : goal.returns-in_err-last

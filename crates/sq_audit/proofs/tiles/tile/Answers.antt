@@ -1,4 +1,4 @@
-use Rattle.std.proofs.Common.{◌≡◌, ℕ, slice_get, Option, Some, sym, ap, ◌∙◌, subst, subst₂, true≢false}
+use Rattle.std.proofs.Common.{◌≡◌, ℕ, slice_get, Option, Some, ap, ◌∙◌, subst, subst₂}
 use Rattle.std.specs.Bool.{Decides}
 use Rattle.std.specs.BTreeMap.{get, Updates}
 use Rattle.sq_chunk.specs.declared.chunk.Note.{Note}
@@ -9,7 +9,7 @@ use Rattle.sq_audit.specs.Counts.{key_order}
 use Rattle.sq_audit.specs.Notes.{FollowsNewest}
 use Rattle.sq_audit.proofs.Counting.{pair_is}
 use Rattle.sq_audit.proofs.Listing.{item_at}
-use Rattle.sq_audit.proofs.Each.{refuted, shown}
+use Rattle.sq_audit.proofs.Each.{decides_not, refuted, shown}
 use Rattle.sq_audit.proofs.Tiling.{walked_next, walked_follows}
 use Rattle.sq_audit.proofs.tiles.tile.Goals as goal
 use Rattle.sq_audit.proofs.tiles.tile.Goals.{After-continues}
@@ -29,12 +29,10 @@ goes_on c =
 
 pub returns-then-not-continues : goal.returns-then-not-continues
 returns-then-not-continues c =
-    let at = (goal.at.returns-then-not-continues c).After-continues in (
-      (λ e. absurd (true≢false (sym e))),
-      (λ tiles.
-          absurd (refuted c.continues.result (goes_on at) c.if-not-continues.true
-          (walked_follows c.args.opening.now c.args.notes.now c.loop-note.note-index c.note-item.result (note_there at) c.loop-note.newest c.loop-note.invariant tiles))),
-    )
+    let at = (goal.at.returns-then-not-continues c).After-continues in
+    decides_not (λ tiles.
+    refuted c.continues.result (goes_on at) c.if-not-continues.true
+    (walked_follows c.args.opening.now c.args.notes.now c.loop-note.note-index c.note-item.result (note_there at) c.loop-note.newest c.loop-note.invariant tiles))
 
 pub loop-note-preserved : goal.loop-note-preserved
 loop-note-preserved c =

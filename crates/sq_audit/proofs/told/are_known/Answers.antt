@@ -1,22 +1,20 @@
-use Rattle.std.proofs.Common.{Bool, Bor, List, subst, sym, true≢false}
+use Rattle.std.proofs.Common.{Bool, Bor, List, subst, sym}
 use Rattle.std.specs.Bool.{Decides}
 use Rattle.std.proofs.lemmas.List.Sorted.{IsPermutation-sym}
 use Rattle.sq_node_model.specs.NodeValue.{ReceiptValue}
 use Rattle.sq_audit.specs.Located.{entries_in}
 use Rattle.sq_audit.specs.Told.{values_of, KnowsAll, TellLogs, TellNoLog}
-use Rattle.sq_audit.proofs.Each.{refuted, shown}
+use Rattle.sq_audit.proofs.Each.{decides_not, refuted, shown}
 use Rattle.sq_audit.proofs.Knowing.{logs_permuted, knows_all, ok_like}
 use Rattle.sq_audit.proofs.told.are_known.Goals as goal
 
 pub returns-then-not-branch : goal.returns-then-not-branch
 returns-then-not-branch c =
     let entries = entries_in c.args.all.now in
-    let jobs = c.args.jobs.now in (
-      (λ e. absurd (true≢false (sym e))),
-      (λ all. absurd (refuted c.in_ok-tell_logs.field-0 c.in_ok-tell_logs.ensures c.if-not-branch.true
-          (subst (λ (rs : List (Bor ReceiptValue)). TellLogs entries jobs (values_of rs)) (sym c.deref.ensures.value)
-          (logs_permuted entries jobs c.args.receipts.now (values_of c.in_ok-sorted.sorted.items) c.in_ok-sorted.ensures.all all.logs)))),
-    )
+    let jobs = c.args.jobs.now in
+    decides_not (λ all. refuted c.in_ok-tell_logs.field-0 c.in_ok-tell_logs.ensures c.if-not-branch.true
+    (subst (λ (rs : List (Bor ReceiptValue)). TellLogs entries jobs (values_of rs)) (sym c.deref.ensures.value)
+    (logs_permuted entries jobs c.args.receipts.now (values_of c.in_ok-sorted.sorted.items) c.in_ok-sorted.ensures.all all.logs)))
 
 pub returns : goal.returns
 returns c =

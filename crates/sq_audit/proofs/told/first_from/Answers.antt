@@ -1,11 +1,9 @@
 use Rattle.std.proofs.Common.{Bor, ⊎_elim, ap, ◌∙◌, arith}
 use Rattle.std.proofs.lemmas.Bool.{cases_lt}
-use Rattle.std.proofs.lemmas.List.{length-map}
 use Rattle.std.proofs.lemmas.Option.{slice_get_within}
 use Rattle.sq_node_model.specs.NodeValue.{ReceiptValue}
-use Rattle.sq_node_model.proofs.Lists.{at_map}
 use Rattle.sq_audit.specs.Told.{values_of}
-use Rattle.sq_audit.proofs.Listing.{item_at}
+use Rattle.sq_audit.proofs.Listing.{mapped_at, mapped_past}
 use Rattle.sq_audit.proofs.Each.{same_of}
 use Rattle.sq_audit.proofs.told.first_from.Goals as goal
 
@@ -17,7 +15,7 @@ loop-at-preserved c =
     let test = c.loop-at-test.true in
     let so_far = c.loop-at.invariant in
     let from = so_far.from in
-    let there = at_map (λ (x : Bor ReceiptValue). x.now) sorted at one (item_at sorted at one c.index-sorted-at.is test) in
+    let there = mapped_at (λ (x : Bor ReceiptValue). x.now) sorted at one c.index-sorted-at.is test in
     let root = c.number.ensures.number ∙ ap (λ (r : ReceiptValue). r.root) c.receipt.view_is in
     let less = c.if-number-root.false in
     record {
@@ -35,6 +33,5 @@ loop-at-preserved c =
 pub returns-clause-first : goal.returns-clause-first
 returns-clause-first c = λ receipt at.
     let within = slice_get_within (values_of c.args.sorted.now) c.loop-at.at receipt at in
-    let count = length-map c.args.sorted.now (λ (x : Bor ReceiptValue). x.now) in
-    let test = c.loop-at-test.false in
-    absurd (omega (arith, within, count, test))
+    let past = mapped_past (λ (x : Bor ReceiptValue). x.now) c.args.sorted.now c.loop-at.at c.loop-at-test.false in
+    absurd (omega (arith, within, past))

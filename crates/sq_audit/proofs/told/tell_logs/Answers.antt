@@ -1,12 +1,10 @@
-use Rattle.std.proofs.Common.{◌≡◌, ℕ, ◌-◌, ◌<◌, ◌≤◌, ⊎_elim, List, take, drop, slice_get, Some, length, sym, ap, ◌∙◌, subst, arith}
+use Rattle.std.proofs.Common.{◌≡◌, ℕ, ◌-◌, ◌<◌, ⊎_elim, List, take, drop, slice_get, Some, sym, ap, ◌∙◌, subst, arith}
 use Rattle.std.specs.Bool.{Decides}
 use Rattle.std.proofs.lemmas.Bool.{cases_lt}
-use Rattle.std.proofs.lemmas.List.{length-map}
 use Rattle.sq_node_model.specs.NodeValue.{ReceiptValue}
-use Rattle.sq_node_model.proofs.Lists.{at_map}
-use Rattle.sq_audit.specs.Located.{Entry, entry_of, entries_in}
-use Rattle.sq_audit.specs.Told.{values_of, receipts_of, AreInOrder, TellsLog}
-use Rattle.sq_audit.proofs.Listing.{item_at}
+use Rattle.sq_audit.specs.Located.{entry_of, entries_in}
+use Rattle.sq_audit.specs.Told.{values_of, receipts_of, AreInOrder, TellsLog, TellsEntry}
+use Rattle.sq_audit.proofs.Listing.{mapped_at, mapped_past}
 use Rattle.sq_audit.proofs.Each.{each_more, each_done, each_fails, refuted, shown}
 use Rattle.sq_audit.proofs.Orders.{group_is, group_in_order}
 use Rattle.sq_audit.proofs.told.tell_logs.Goals as goal
@@ -14,9 +12,7 @@ use Rattle.sq_audit.proofs.told.tell_logs.Goals.{After-first_from-end}
 
 -- the family that is looked at
 entry_there : (c : After-first_from-end) → slice_get (entries_in c.args.all.now) c.loop-located.located-index ≡ Some (entry_of c.located-item.result)
-entry_there c =
-    let at = c.loop-located.located-index in
-    at_map entry_of c.args.all.now at c.located-item.result (item_at c.args.all.now at c.located-item.result c.located-item.is c.loop-located-test.true)
+entry_there c = mapped_at entry_of c.args.all.now c.loop-located.located-index c.located-item.result c.located-item.is c.loop-located-test.true
 
 root_is : (c : After-first_from-end) → c.number-root.result ≡ c.located-item.result.family.now.root
 root_is c = c.number-root.ensures.number ∙ c.root.ensures
@@ -55,7 +51,7 @@ returns-then-not-branch c =
     let jobs = c.args.jobs.now in
     let located = c.located-item.result in
     let told = c.in_ok-tells_log.field-0 in
-    each_fails (λ (e : Entry). TellsLog jobs e.1 (receipts_of e.1.root (values_of c.args.sorted.now))) (entries_in c.args.all.now) c.loop-located.located-index (entry_of located) (entry_there at)
+    each_fails (TellsEntry jobs (values_of c.args.sorted.now)) (entries_in c.args.all.now) c.loop-located.located-index (entry_of located) (entry_there at)
     (refuted told (subst (λ (rs : List ReceiptValue). Decides told (TellsLog jobs located.family.now rs)) (of_family at) c.in_ok-tells_log.ensures) c.if-not-branch.true)
 
 pub loop-located-preserved : goal.loop-located-preserved
@@ -66,7 +62,7 @@ loop-located-preserved c =
     let told = c.in_ok-tells_log.field-0 in
     record {
       told =
-          each_more (λ (e : Entry). TellsLog jobs e.1 (receipts_of e.1.root (values_of c.args.sorted.now))) (entries_in c.args.all.now) c.loop-located.located-index (entry_of located) c.loop-located.invariant.told (entry_there at)
+          each_more (TellsEntry jobs (values_of c.args.sorted.now)) (entries_in c.args.all.now) c.loop-located.located-index (entry_of located) c.loop-located.invariant.told (entry_there at)
           (shown told (subst (λ (rs : List ReceiptValue). Decides told (TellsLog jobs located.family.now rs)) (of_family at) c.in_ok-tells_log.ensures) c.if-not-branch.false);
       within = c.first_from-from.ensures.within;
       below = λ k i r entry low stands upto there.
@@ -78,5 +74,5 @@ loop-located-preserved c =
 
 pub returns : goal.returns
 returns c =
-    let whole : length (entries_in c.args.all.now) ≤ c.loop-located.located-index = subst (λ n. n ≤ c.loop-located.located-index) (sym (length-map c.args.all.now entry_of)) c.loop-located-test.false in
-    each_done (λ (e : Entry). TellsLog c.args.jobs.now e.1 (receipts_of e.1.root (values_of c.args.sorted.now))) (entries_in c.args.all.now) c.loop-located.located-index c.loop-located.invariant.told whole
+    each_done (TellsEntry c.args.jobs.now (values_of c.args.sorted.now)) (entries_in c.args.all.now) c.loop-located.located-index c.loop-located.invariant.told
+    (mapped_past entry_of c.args.all.now c.loop-located.located-index c.loop-located-test.false)

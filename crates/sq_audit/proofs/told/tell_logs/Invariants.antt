@@ -1,13 +1,14 @@
 use Rattle.std.proofs.Common.{◌≡◌, ℕ, ◌<◌, ◌≤◌, length, slice_get, Some}
 use Rattle.sq_node_model.specs.NodeValue.{ReceiptValue}
 use Rattle.sq_audit.specs.Located.{Entry, entries_in}
-use Rattle.sq_audit.specs.Told.{values_of, receipts_of, TellsLog}
+use Rattle.sq_audit.specs.Told.{values_of, TellsEntry}
+use Rattle.sq_audit.proofs.Each.{EachTo}
 use Rattle.sq_audit.proofs.told.tell_logs.Given as goal
 
 -- the logs so far are told, and the receipts before a place are of root keys below those of the families that are left
 abbrev pub invariant-loop-located : goal.invariant-loop-located
 invariant-loop-located l = record {
-  told : (i : ℕ) (entry : Entry) → i < l.located-index → slice_get (entries_in l.all) i ≡ Some entry → TellsLog l.jobs entry.1 (receipts_of entry.1.root (values_of l.sorted));
+  told : EachTo (TellsEntry l.jobs (values_of l.sorted)) (entries_in l.all) l.located-index;
   within : l.from ≤ length l.sorted;
   below : (k i : ℕ) (receipt : ReceiptValue) (entry : Entry) → k < l.from → slice_get (values_of l.sorted) k ≡ Some receipt → l.located-index ≤ i → slice_get (entries_in l.all) i ≡ Some entry → receipt.root < entry.1.root;
 }

@@ -1,12 +1,10 @@
-use Rattle.std.proofs.Common.{◌≡◌, ◌+◌, ℕ, Bor, List, ◌≤◌, length, slice_get, Option, Some, sym, ap, ◌∙◌, subst, arith, true≢false, eqb-true}
+use Rattle.std.proofs.Common.{◌≡◌, ◌+◌, ℕ, Bor, List, ◌≤◌, length, slice_get, Option, Some, sym, ap, ◌∙◌, subst, arith, eqb-true}
 use Rattle.std.specs.Option.{option_copied}
-use Rattle.std.proofs.lemmas.List.{length-map}
 use Rattle.sq_schema.specs.TxnValue.{TxnValue}
 use Rattle.sq_node_model.specs.NodeValue.{ReceiptValue}
-use Rattle.sq_node_model.proofs.Lists.{at_map}
 use Rattle.sq_audit.specs.Told.{values_of, IsAnswerOn, rows_then}
-use Rattle.sq_audit.proofs.Listing.{item_at}
-use Rattle.sq_audit.proofs.Each.{looked_up, refuted, shown, by_cases}
+use Rattle.sq_audit.proofs.Listing.{mapped_at, mapped_past}
+use Rattle.sq_audit.proofs.Each.{decides_not, looked_up, refuted, shown, by_cases}
 use Rattle.sq_audit.proofs.Walks.{WalkedTo, none_walked, step_commit, step_abort, fails_position, fails_answer, walk_ends, fails_end}
 use Rattle.sq_audit.proofs.told.tells_log.Goals as goal
 use Rattle.sq_audit.proofs.told.tells_log.Goals.{In_ok-is_answered, then-commits, else-commits}
@@ -15,7 +13,7 @@ use Rattle.sq_audit.proofs.told.tells_log.Goals.{In_ok-is_answered, then-commits
 receipt_there : (c : In_ok-is_answered) → slice_get (values_of c.args.receipts.now) c.loop-receipt.receipt-index ≡ Some c.receipt-item.result.now
 receipt_there c =
     let i = c.loop-receipt.receipt-index in
-    at_map (λ (x : Bor ReceiptValue). x.now) c.args.receipts.now i c.receipt-item.result (item_at c.args.receipts.now i c.receipt-item.result c.receipt-item.is c.loop-receipt-test.true)
+    mapped_at (λ (x : Bor ReceiptValue). x.now) c.args.receipts.now i c.receipt-item.result c.receipt-item.is c.loop-receipt-test.true
 
 in_place : (c : In_ok-is_answered) → c.receipt-item.result.now.position ≡ c.loop-receipt.position
 in_place c = sym (ap (λ (x : Bor ReceiptValue). x.now.position) c.receipt.view_is) ∙ c.if-receipt-position.false
@@ -32,8 +30,7 @@ returns-then-is_empty c =
     let family = c.args.family.now in
     let group = values_of c.args.receipts.now in
     let none = eqb-true (length c.args.receipts.now) 0 (sym c.is_empty.ensures ∙ c.if-is_empty.true) in
-    let count = length-map c.args.receipts.now (λ (x : Bor ReceiptValue). x.now) in
-    let whole : length group ≤ 0 = omega (arith, none, count) in
+    let whole : length group ≤ 0 = mapped_past (λ (x : Bor ReceiptValue). x.now) c.args.receipts.now 0 (omega (arith, none)) in
     let log = ap length c.log.ensures.log in
     let walked = none_walked jobs family group in (
       (λ e. walk_ends jobs family group 0 0 family.base walked whole (sym (eqb-true (length c.log.result.now) 0 (sym c.is_empty-then-is_empty.ensures ∙ e)) ∙ log)),
@@ -45,12 +42,10 @@ returns-then-receipt-position c =
     let group = values_of c.args.receipts.now in
     let i = c.loop-receipt.receipt-index in
     let r = c.receipt-item.result.now in
-    let at : slice_get group i ≡ Some r = at_map (λ (x : Bor ReceiptValue). x.now) c.args.receipts.now i c.receipt-item.result (item_at c.args.receipts.now i c.receipt-item.result c.receipt-item.is c.loop-receipt-test.true) in
-    let view = ap (λ (x : Bor ReceiptValue). x.now.position) c.receipt.view_is in (
-      (λ e. absurd (true≢false (sym e))),
-      (λ tells.
-          absurd (fails_position c.args.jobs.now c.args.family.now group i c.loop-receipt.position c.loop-receipt.rows c.loop-receipt.invariant r at c.requires.order (λ here. c.if-receipt-position.true (view ∙ here)) tells)),
-    )
+    let at : slice_get group i ≡ Some r = mapped_at (λ (x : Bor ReceiptValue). x.now) c.args.receipts.now i c.receipt-item.result c.receipt-item.is c.loop-receipt-test.true in
+    let view = ap (λ (x : Bor ReceiptValue). x.now.position) c.receipt.view_is in
+    decides_not (λ tells.
+    fails_position c.args.jobs.now c.args.family.now group i c.loop-receipt.position c.loop-receipt.rows c.loop-receipt.invariant r at c.requires.order (λ here. c.if-receipt-position.true (view ∙ here)) tells)
 
 pub returns-then-not-branch : goal.returns-then-not-branch
 returns-then-not-branch c =
@@ -61,12 +56,10 @@ returns-then-not-branch c =
     let point = (goal.at.returns-then-not-branch c).In_ok-is_answered in
     let at = receipt_there point in
     let here = in_place point in
-    let next = next_there point in (
-      (λ e. absurd (true≢false (sym e))),
-      (λ tells.
-          absurd (fails_answer c.args.jobs.now c.args.family.now group i position c.loop-receipt.rows c.loop-receipt.invariant r at here
-          (λ told. refuted c.in_ok-is_answered.field-0 c.in_ok-is_answered.ensures.answered c.if-not-branch.true (subst (λ (o : Option TxnValue). IsAnswerOn c.args.jobs.now c.loop-receipt.rows o r) (sym next) told)) tells)),
-    )
+    let next = next_there point in
+    decides_not (λ tells.
+    fails_answer c.args.jobs.now c.args.family.now group i position c.loop-receipt.rows c.loop-receipt.invariant r at here
+    (λ told. refuted c.in_ok-is_answered.field-0 c.in_ok-is_answered.ensures.answered c.if-not-branch.true (subst (λ (o : Option TxnValue). IsAnswerOn c.args.jobs.now c.loop-receipt.rows o r) (sym next) told)) tells)
 
 pub loop-receipt-preserved : goal.loop-receipt-preserved
 loop-receipt-preserved c =
@@ -96,7 +89,7 @@ returns c =
     let group = values_of c.args.receipts.now in
     let i = c.loop-receipt.receipt-index in
     let log = ap length c.log-2.ensures.log in
-    let whole = subst (λ n. n ≤ i) (sym (length-map c.args.receipts.now (λ (x : Bor ReceiptValue). x.now))) c.loop-receipt-test.false in (
+    let whole = mapped_past (λ (x : Bor ReceiptValue). x.now) c.args.receipts.now i c.loop-receipt-test.false in (
       (λ e. walk_ends c.args.jobs.now c.args.family.now group i c.loop-receipt.position c.loop-receipt.rows c.loop-receipt.invariant whole (eqb-true c.loop-receipt.position _ e ∙ log)),
       (λ tells. by_cases c.loop-receipt.position (length c.log-2.result.now)
           (λ apart. fails_end c.args.jobs.now c.args.family.now group i c.loop-receipt.position c.loop-receipt.rows c.loop-receipt.invariant whole (λ same. apart (same ∙ sym log)) tells)),

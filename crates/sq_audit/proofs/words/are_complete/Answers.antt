@@ -1,4 +1,4 @@
-use Rattle.std.proofs.Common.{◌≡◌, ◌≤◌, ℕ, List, [], length, sym, ap, ◌∙◌, subst, refl, below_more, true≢false}
+use Rattle.std.proofs.Common.{◌≡◌, ◌≤◌, ℕ, List, [], length, ap, ◌∙◌, subst, refl, below_more}
 use Rattle.std.specs.Prelude.{slice_index_or}
 use Rattle.std.specs.List.{flat_map}
 use Rattle.std.specs.Bool.{Decides}
@@ -10,7 +10,7 @@ use Rattle.sq_node_model.specs.Gathered.{GatheredLink, GatheredValue}
 use Rattle.sq_node_model.specs.Spots.{loads_of}
 use Rattle.sq_audit.specs.Counts.{key_order}
 use Rattle.sq_audit.specs.Words.{AreEnded}
-use Rattle.sq_audit.proofs.Each.{refuted, shown}
+use Rattle.sq_audit.proofs.Each.{decides_not, refuted, shown}
 use Rattle.sq_audit.proofs.Ending.{all_complete, ended_from}
 use Rattle.sq_audit.proofs.words.are_complete.Goals as goal
 
@@ -20,10 +20,8 @@ returns-then-not-are_ended c =
     let links = c.deref.ensures.value ∙ ap (λ (g : GatheredValue). g.links) c.g.view_is in
     let words = c.deref-tree-items.ensures.value ∙ ap (λ (g : GatheredValue). g.words) c.g.view_is in
     let is = subst (λ (ls : List GatheredLink). (seg node : ℕ) → contains key_order ended (seg, node) ≡ has_last seg node (flat_map loads_of ls)) links c.in_ok-ended.ensures in
-    let decides = subst (λ (ws : List (List Status)). Decides c.are_ended.result (AreEnded ended c.loop-seg.seg (status_at (slice_index_or ws c.loop-seg.seg [])))) words c.are_ended.ensures in (
-      (λ e. absurd (true≢false (sym e))),
-      (λ complete. absurd (refuted c.are_ended.result decides c.if-not-are_ended.true (ended_from c.args.g.now ended is complete c.loop-seg.seg))),
-    )
+    let decides = subst (λ (ws : List (List Status)). Decides c.are_ended.result (AreEnded ended c.loop-seg.seg (status_at (slice_index_or ws c.loop-seg.seg [])))) words c.are_ended.ensures in
+    decides_not (λ complete. refuted c.are_ended.result decides c.if-not-are_ended.true (ended_from c.args.g.now ended is complete c.loop-seg.seg))
 
 pub loop-seg-preserved : goal.loop-seg-preserved
 loop-seg-preserved c =

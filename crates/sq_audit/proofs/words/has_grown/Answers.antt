@@ -1,15 +1,12 @@
-use Rattle.std.proofs.Common.{◌+◌, sym, subst, arith, below_more, refl, true≢false}
+use Rattle.std.proofs.Common.{◌+◌, subst, arith, below_more, refl}
 use Rattle.sq_tree.specs.Tree.{status_at}
 use Rattle.sq_audit.specs.Words.{IsGrownAt}
-use Rattle.sq_audit.proofs.Each.{refuted, shown}
+use Rattle.sq_audit.proofs.Each.{decides_not, refuted, shown}
 use Rattle.sq_audit.proofs.Growing.{numbered_at, grown_from, grown_at}
 use Rattle.sq_audit.proofs.words.has_grown.Goals as goal
 
 pub returns-then-not-has_grown_at : goal.returns-then-not-has_grown_at
-returns-then-not-has_grown_at c = (
-  (λ e. absurd (true≢false (sym e))),
-  (λ grown. absurd (refuted c.has_grown_at.result c.has_grown_at.ensures c.if-not-has_grown_at.true (grown_at (status_at c.args.tree.now) _ grown))),
-)
+returns-then-not-has_grown_at c = decides_not (λ grown. refuted c.has_grown_at.result c.has_grown_at.ensures c.if-not-has_grown_at.true (grown_at (status_at c.args.tree.now) _ grown))
 
 pub loop-node-preserved : goal.loop-node-preserved
 loop-node-preserved c =

@@ -8,7 +8,7 @@ use Rattle.sq_audit.specs.Fits.{IsKnownLink}
 use Rattle.sq_audit.proofs.Listing.{item_at}
 use Rattle.sq_audit.proofs.Each.{each_more, each_done, each_fails}
 use Rattle.sq_audit.proofs.Parts.{same_link}
-use Rattle.sq_audit.proofs.fits.are_known.Goals as goal
+use Rattle.sq_audit.proofs.fits.are_known_links.Goals as goal
 
 pub returns-then-not-contains : goal.returns-then-not-contains
 returns-then-not-contains c =

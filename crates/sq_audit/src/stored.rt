@@ -1,0 +1,21 @@
+// The families of a store, one after another.
+ghost use Rattle.std.specs.Prelude.{◌≡◌, None, IfSome, IfNone};
+ghost use Rattle.sq_store.specs.InOrder.{HoldsByRoot, family_from};
+ghost use Rattle.sq_audit.specs.Located.{IsNextFamily};
+
+use sq_schema::Family;
+use sq_store::{FamilyStore, SlabStore};
+
+/// The family of a store with the least root key from this number on, and the number behind its root key.
+pub(crate) fn next_family(store: &SlabStore, at: u64) -> Option<(&Family, u64)>
+    ensures some { IfSome result (λ found. IsNextFamily store.now at found.0.now found.1) }
+    ensures none { IfNone result (family_from store.now at ≡ None) }
+    ensures rooted { HoldsByRoot store.now }
+{
+    let Some(family) = store.walk(at) else {
+        return None;
+    };
+    // For the proof alone: it tells that the log is of the family's own root key, as that of each family is.
+    family.log();
+    Some((family, family.root().number() + 1))
+}
