@@ -76,7 +76,7 @@ abbrev pub meaning_of : ℕ → Option (List ℕ)
 meaning_of number = option_map (λ row. row.1) (find (λ row. row.0 == number) meanings)
 
 -- three lines: the number and what it means, what it is given to, and what to do
-abbrev pub entry_lines : Entry → List ℕ
+unfoldable pub entry_lines : Entry → List ℕ
 entry_lines entry =
     decimal entry.number ++ 32 ∷ entry.meaning.now ++ codes "\n    " ++ entry.given.now ++ codes "\n    " ++ entry.advice.now ++ 10 ∷ []
 

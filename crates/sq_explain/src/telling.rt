@@ -25,6 +25,7 @@ pub fn entry(number: u16) -> Option<Entry>
 }
 
 /// Writes an entry. An error is the writer's.
+#[tactic(auto, unfolding(crate::specs::Meanings::entry_lines))]
 pub fn write_entry<W: Write>(writer: &mut W, entry: &Entry) -> io::Result<()>
     ensures { OnOk result (Appends (W.contents writer.old) (W.contents writer.new) (entry_lines entry.now)) }
 {
