@@ -109,30 +109,34 @@ read_behind main old new after result buf consumed end read =
 
 -- ---- the same at the places of the reader
 
--- a read of one byte at most that ends the first line
+-- a read of one byte at most that gave some gave that byte
+of_one_byte : (P : List ℕ → ℕ → Type 0) → ((x : ℕ) → P (x ∷ []) 1) → (b : List ℕ) (count : ℕ) → 0 < count → count ≤ length b → length b ≤ 1 → P b count
+of_one_byte P one [] count some within few = absurd (omega (arith, some, within))
+of_one_byte P one (x ∷ y ∷ ys) count some within few = absurd (omega (arith, few))
+of_one_byte P one (x ∷ []) zero some within few = absurd (omega (arith, some))
+of_one_byte P one (x ∷ []) (suc (suc k)) some within few = absurd (omega (arith, within))
+of_one_byte P one (x ∷ []) (suc zero) some within few = one x
+
+-- one that ends the first line
 pub first_ends : (place : Place) (others old new : Option (List ℕ)) (count : ℕ) (b rest : List ℕ) → place ≡ FirstLine → 0 < count → count ≤ length b → length b ≤ 1
     → slice_index_or (b ++ rest) 0 0 ≡ 10 → Consumes old new (take count b)
     → Consumes (left_at place old others) (ended_text true new others) (take count (b ++ rest)) × (count ≡ 0 → 0 < length (b ++ rest) → IsAtEnd (ended_text true new others))
-first_ends place others old new count [] rest is some within one ends took = absurd (omega (arith, some, within))
-first_ends place others old new count (x ∷ y ∷ ys) rest is some within one ends took = absurd (omega (arith, one))
-first_ends place others old new zero (x ∷ []) rest is some within one ends took = absurd (omega (arith, some))
-first_ends place others old new (suc (suc k)) (x ∷ []) rest is some within one ends took = absurd (omega (arith, within))
-first_ends place others old new (suc zero) (x ∷ []) rest is some within one ends took = (
-  subst (λ (p : Place). Consumes (left_at p old others) (ended_text true new others) (x ∷ [])) (sym is) (first_line_ends others x old new (ap (λ n. n == 10) ends) took),
-  λ none room. absurd (omega (arith, none)),
+first_ends place others old new count b rest is some within few ends took = (
+  of_one_byte (λ b count. slice_index_or (b ++ rest) 0 0 ≡ 10 → Consumes old new (take count b) → Consumes (left_at place old others) (ended_text true new others) (take count (b ++ rest)))
+      (λ x ends took. subst (λ (p : Place). Consumes (left_at p old others) (ended_text true new others) (x ∷ [])) (sym is) (first_line_ends others x old new (ap (λ n. n == 10) ends) took))
+      b count some within few ends took,
+  λ none room. absurd (omega (arith, some, none)),
 )
 
 -- one that goes on in it
 pub first_goes_on : (place : Place) (others old new : Option (List ℕ)) (count : ℕ) (b rest : List ℕ) → place ≡ FirstLine → 0 < count → count ≤ length b → length b ≤ 1
     → (slice_index_or (b ++ rest) 0 0 ≡ 10 → ⊥) → Consumes old new (take count b)
     → Consumes (left_at place old others) (left_at place new others) (take count (b ++ rest)) × (count ≡ 0 → 0 < length (b ++ rest) → IsAtEnd (left_at place new others))
-first_goes_on place others old new count [] rest is some within one ends took = absurd (omega (arith, some, within))
-first_goes_on place others old new count (x ∷ y ∷ ys) rest is some within one ends took = absurd (omega (arith, one))
-first_goes_on place others old new zero (x ∷ []) rest is some within one ends took = absurd (omega (arith, some))
-first_goes_on place others old new (suc (suc k)) (x ∷ []) rest is some within one ends took = absurd (omega (arith, within))
-first_goes_on place others old new (suc zero) (x ∷ []) rest is some within one ends took = (
-  subst (λ (p : Place). Consumes (left_at p old others) (left_at p new others) (x ∷ [])) (sym is) (first_line_goes_on others x old new (ne_eqb x 10 ends) took),
-  λ none room. absurd (omega (arith, none)),
+first_goes_on place others old new count b rest is some within few ends took = (
+  of_one_byte (λ b count. (slice_index_or (b ++ rest) 0 0 ≡ 10 → ⊥) → Consumes old new (take count b) → Consumes (left_at place old others) (left_at place new others) (take count (b ++ rest)))
+      (λ x ends took. subst (λ (p : Place). Consumes (left_at p old others) (left_at p new others) (x ∷ [])) (sym is) (first_line_goes_on others x old new (ne_eqb x 10 ends) took))
+      b count some within few ends took,
+  λ none room. absurd (omega (arith, some, none)),
 )
 
 -- and one that finds the end

@@ -54,7 +54,8 @@ impl<'a, M: Read, W: Read> Inserting<'a, M, W> {
         requires some { 0 < length buf.old }
         requires place { self.old.place ≡ Place.FirstLine }
         ensures bound { ReadsAtMost result buf.new }
-        ensures bytes { ReadConsumes (inserting_remaining M.remaining W.remaining self.old) (inserting_remaining M.remaining W.remaining self.new) result buf.new }
+        ensures bytes { ReadConsumes (inserting_remaining M.remaining W.remaining self.old)
+            (inserting_remaining M.remaining W.remaining self.new) result buf.new }
     {
         let count = self.main.read(&mut buf[..1])?;
         if count > 0 && buf[0] == LINE_END {
@@ -68,7 +69,8 @@ impl<'a, M: Read, W: Read> Inserting<'a, M, W> {
         requires some { 0 < length buf.old }
         requires place { self.old.place ≡ Place.Inserted at_start }
         ensures bound { ReadsAtMost result buf.new }
-        ensures bytes { ReadConsumes (inserting_remaining M.remaining W.remaining self.old) (inserting_remaining M.remaining W.remaining self.new) result buf.new }
+        ensures bytes { ReadConsumes (inserting_remaining M.remaining W.remaining self.old)
+            (inserting_remaining M.remaining W.remaining self.new) result buf.new }
     {
         let count = self.inserted.read(buf)?;
         if count > 0 {
