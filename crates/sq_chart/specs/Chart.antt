@@ -13,8 +13,10 @@ ground_text micros = HEAD.now ++ (ticks_text micros ++ AXIS.now)
 
 -- a piece of a curve and what it is, this far from the left, and the curve
 abbrev pub drawn_text : Curve → Moment → ℕ → List Moment → List ℕ
-drawn_text curve all at moments = sample_text (curve_class curve) at ++ (legend_text (curve_name curve) (count_of curve all) at ++ curve_text curve all moments)
+drawn_text curve all at moments =
+    sample_text (curve_class curve) at ++ (legend_text (curve_name curve) (count_of curve all) at ++ curve_text curve all moments)
 
 -- the chart of these moments of a run that has so much in all
 abbrev pub chart_svg : List Moment → Moment → List ℕ
-chart_svg moments all = ground_text all.micros ++ (drawn_text Jobs all 130 moments ++ (drawn_text Segments all 700 moments ++ codes "</svg>\n"))
+chart_svg moments all =
+    ground_text all.micros ++ (drawn_text Jobs all 130 moments ++ (drawn_text Segments all 700 moments ++ codes "</svg>\n"))

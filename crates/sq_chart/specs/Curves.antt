@@ -33,7 +33,8 @@ height count all = BOTTOM - share_of count all HEIGHT
 
 -- the curve goes on to the moment, and there up to its count
 abbrev pub step_text : Curve → Moment → Moment → List ℕ
-step_text curve all moment = codes "H" ++ (decimal (across all moment.micros) ++ (codes "V" ++ decimal (height (count_of curve moment) (count_of curve all))))
+step_text curve all moment =
+    codes "H" ++ (decimal (across all moment.micros) ++ (codes "V" ++ decimal (height (count_of curve moment) (count_of curve all))))
 
 -- the start of a curve of this class, at nothing
 abbrev pub curve_start : List ℕ → List ℕ
@@ -45,8 +46,11 @@ curve_text curve all moments = curve_start (curve_class curve) ++ (flat_map (ste
 
 -- a piece of a curve of this class, this far from the left
 abbrev pub sample_text : List ℕ → ℕ → List ℕ
-sample_text class at = concat (codes "<path class=\"" ∷ class ∷ codes "\" d=\"M" ∷ decimal at ∷ codes " 81H" ∷ decimal (at + 64) ∷ codes "\"/>" ∷ [])
+sample_text class at =
+    concat (codes "<path class=\"" ∷ class ∷ codes "\" d=\"M" ∷ decimal at ∷ codes " 81H" ∷ decimal (at + 64) ∷ codes "\"/>" ∷ [])
 
 -- what a curve is of, this far from the left, and how much of that there is in all
 abbrev pub legend_text : List ℕ → ℕ → ℕ → List ℕ
-legend_text name count at = concat (codes "<text class=\"ink\" x=\"" ∷ decimal (at + 80) ∷ codes "\" y=\"90\">" ∷ name ∷ codes ", of " ∷ decimal count ∷ codes "</text>\n" ∷ [])
+legend_text name count at =
+    concat (codes "<text class=\"ink\" x=\"" ∷ decimal (at + 80) ∷ codes "\" y=\"90\">" ∷ name ∷ codes ", of " ∷ decimal count
+    ∷ codes "</text>\n" ∷ [])

@@ -13,7 +13,8 @@ abbrev pub completes_segment : Happened → Bool
 completes_segment JobAnswered = false
 completes_segment SegmentComplete = true
 
--- the moment after these events, of which this is the last: when it was, how many jobs were answered by then, and how many segments were complete
+-- the moment after these events, of which this is the last:
+-- when it was, how many jobs were answered by then, and how many segments were complete
 abbrev pub moment_of : List Event → Event → Moment
 moment_of events last = record {
   micros = last.micros;

@@ -15,14 +15,16 @@ label_text micros = if micros % 1000 == 0 then decimal (micros / 1000) else mill
 
 -- the line of a tick, this far from the left, up to its label
 abbrev pub tick_rule : ℕ → List ℕ
-tick_rule x = concat (codes "<path class=\"grid\" d=\"M" ∷ decimal x ∷ codes " 160V772\"/><text class=\"soft\" x=\"" ∷ decimal x ∷ codes "\" y=\"806\" text-anchor=\"middle\">" ∷ [])
+tick_rule x =
+    concat (codes "<path class=\"grid\" d=\"M" ∷ decimal x ∷ codes " 160V772\"/><text class=\"soft\" x=\"" ∷ decimal x
+    ∷ codes "\" y=\"806\" text-anchor=\"middle\">" ∷ [])
 
 -- the tick at a moment
 abbrev pub tick_mark : ℕ → ℕ → List ℕ
 tick_mark micros at = tick_rule (LEFT + share_of at micros WIDTH) ++ (label_text at ++ codes "</text>\n")
 
 -- the tick of this number, if it lies within the axis
-abbrev pub tick_text : ℕ → ℕ → ℕ → List ℕ
+unfoldable pub tick_text : ℕ → ℕ → ℕ → List ℕ
 tick_text micros step tick = if nat_le (step * tick) micros then tick_mark micros (step * tick) else []
 
 -- all ticks

@@ -1,6 +1,5 @@
 // The moments of a run as comma-separated values.
 ghost use Rattle.std.specs.Prelude.{OnOk};
-ghost use Rattle.std.specs.List.{flat_map};
 ghost use Rattle.std.specs.Io.KnownBytes.{Appends};
 ghost use Rattle.sq_chart.specs.Csv.{csv_line, csv_text};
 
@@ -22,21 +21,14 @@ fn write_moment<W: Write>(writer: &mut W, moment: Moment) -> io::Result<()>
     writeln!(writer, "{millis}.{rest:03},{jobs},{segments}")
 }
 
-// Writes the lines of moments.
-fn write_moments<W: Write>(writer: &mut W, moments: &[Moment]) -> io::Result<()>
-    ensures { OnOk result (Appends (W.contents writer.old) (W.contents writer.new) (flat_map csv_line moments.now)) }
-{
-    for moment in moments {
-        write_moment(writer, *moment)?;
-    }
-    Ok(())
-}
-
 /// Writes a heading, and a line for each moment: the milliseconds, with three decimals, and how many jobs and segments were
 /// done by then. An error is the writer's.
 pub fn write_csv<W: Write>(writer: &mut W, moments: &[Moment]) -> io::Result<()>
     ensures { OnOk result (Appends (W.contents writer.old) (W.contents writer.new) (csv_text moments.now)) }
 {
     writeln!(writer, "milliseconds,jobs,segments")?;
-    write_moments(writer, moments)
+    for moment in moments {
+        write_moment(writer, *moment)?;
+    }
+    Ok(())
 }

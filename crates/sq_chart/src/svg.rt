@@ -185,6 +185,7 @@ fn write_ticks<W: Write>(writer: &mut W, micros: u64, step: u64, ticks: &[u64]) 
 }
 
 // Writes a tick of an axis of this many microseconds, if it lies within these.
+#[tactic(auto, unfolding(crate::specs::Ticks::tick_text))]
 fn write_tick<W: Write>(writer: &mut W, micros: u64, step: u64, tick: u64) -> io::Result<()>
     ensures { OnOk result (Appends (W.contents writer.old) (W.contents writer.new) (tick_text micros step tick)) }
 {
@@ -259,7 +260,9 @@ fn write_curve<W: Write>(
     ensures { OnOk result (Appends (W.contents writer.old) (W.contents writer.new) (curve_text curve all moments.now)) }
 {
     write_start(writer, curve.class())?;
-    write_steps(writer, curve, all, moments)?;
+    for moment in moments {
+        write_step(writer, curve, all, *moment)?;
+    }
     writer.write_all(b"H1530\"/>\n")
 }
 
@@ -268,21 +271,6 @@ fn write_start<W: Write>(writer: &mut W, class: &str) -> io::Result<()>
     ensures { OnOk result (Appends (W.contents writer.old) (W.contents writer.new) (curve_start class.now)) }
 {
     write!(writer, "<path class=\"{class}\" d=\"M130 760")
-}
-
-// Writes the steps of a curve.
-fn write_steps<W: Write>(
-    writer: &mut W,
-    curve: Curve,
-    all: Moment,
-    moments: &[Moment],
-) -> io::Result<()>
-    ensures { OnOk result (Appends (W.contents writer.old) (W.contents writer.new) (flat_map (step_text curve all) moments.now)) }
-{
-    for moment in moments {
-        write_step(writer, curve, all, *moment)?;
-    }
-    Ok(())
 }
 
 // Writes a step of a curve.

@@ -1,13 +1,10 @@
-use Rattle.std.proofs.Common.{◌+◌, subst}
 use Rattle.std.specs.Prelude.{codes}
-use Rattle.std.specs.Io.KnownBytes.{Appends}
-use Rattle.sq_chart.specs.declared.svg.TheConstants.{LEFT}
-use Rattle.sq_chart.specs.Ticks.{label_text, tick_rule}
-use Rattle.sq_chart.proofs.Appending.{and_then}
+use Rattle.std.proofs.KnownBytes.{Appends-trans}
+use Rattle.std.proofs.lemmas.Result.{on_ok_weaker}
+use Rattle.sq_chart.specs.Ticks.{label_text}
 use Rattle.sq_chart.proofs.svg.write_mark.Goals as goal
 
 pub returns : goal.returns
 returns g c =
-    let labelled = and_then c.write_all.result _ _ _ (label_text c.args.at) (codes "</text>\n") c.in_ok-write_label.ensures c.write_all.ensures.bytes in
-    let ruled = subst (λ share. Appends (g.W.Write.contents c.args.writer.now) (g.W.Write.contents c.write_rule.new.writer) (tick_rule (LEFT + share))) c.share_of.ensures c.in_ok-write_rule.ensures in
-    and_then c.write_all.result _ _ _ _ _ ruled labelled
+    let ruled = rw c.share_of.ensures at c.in_ok-write_rule.ensures in
+    on_ok_weaker c.write_all.result (λ end. Appends-trans _ _ _ _ _ ruled (Appends-trans _ _ _ (label_text c.args.at) (codes "</text>\n") c.in_ok-write_label.ensures end)) c.write_all.ensures.bytes

@@ -2,10 +2,11 @@ use Rattle.std.proofs.Common.{ℕ, Bool, true, nat_le, ◌≡◌, ◌≤◌, ◌
 use Rattle.std.specs.Prelude.{OnOk}
 use Rattle.std.specs.Io.KnownBytes.{Appends}
 use Rattle.std.proofs.lemmas.Bool.{le-leb}
-use Rattle.sq_chart.specs.Ticks.{tick_mark}
+use Rattle.sq_chart.specs.Ticks.{tick_mark, tick_text}
 use Rattle.sq_chart.proofs.svg.write_tick.Goals as goal
 
 pub returns-then-at-from : goal.returns-then-at-from
+unfolding tick_text
 returns-then-at-from g c =
     let at = c.args.step * c.args.tick in
     let same : c.from.result * c.from-2.result ≡ at = ap₂ (λ a b. a * b) c.from.ensures c.from-2.ensures in
