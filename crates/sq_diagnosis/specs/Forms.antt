@@ -39,7 +39,8 @@ unless_named flaw goes_on (Some name) = goes_on name
 abbrev pub misfit : Behind → ℕ → List Wanted → List Word → Option LineFlaw
 misfit behind at [] [] = None
 misfit behind at (wanted ∷ form) [] = Some (Missing at wanted)
-misfit behind at (wanted ∷ form) (word ∷ words) = if fits wanted word then misfit behind (next at) form words else Some (flaw_at at word (Wrong at wanted))
+misfit behind at (wanted ∷ form) (word ∷ words) =
+    if fits wanted word then misfit behind (next at) form words else Some (flaw_at at word (Wrong at wanted))
 misfit Nothing at [] (word ∷ words) = Some (flaw_at at word (Extra at))
 misfit Operations at [] (word ∷ words) =
     unless_named (flaw_at at word (Wrong at wanted.OpName)) (λ name. misfit Operations (next at) (op_form name) words) (op_name_in word)

@@ -14,7 +14,8 @@ row_word BadTable = Some 3
 row_word BadSub = Some 4
 row_word BadNote = Some 6
 
--- the word that a fault of an opening is about, in the line of the sizes or in that of the row; of a row that isn't in its place the root key
+-- the word that a fault of an opening is about, in the line of the sizes or in that of the row;
+-- of a row that isn't in its place the root key
 abbrev pub opening_word : OpeningFault → Option ℕ
 opening_word (opening.Recon Width) = Some 2
 opening_word opening.Limit = Some 3

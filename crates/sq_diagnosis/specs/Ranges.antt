@@ -9,7 +9,8 @@ use Rattle.sq_diagnosis.specs.declared.plans.PlanFlaw.TheVariants.{NoRange, Begi
 abbrev pub end_flaw : ℕ → ℕ → Option PlanFlaw
 end_flaw at end = if at == 0 then Some NoRange else if end == ROOT_END then None else Some (EndsAt at end)
 
--- the first range that doesn't begin where the one before it ends, or is empty, of those behind this many that end here; else what is wrong with the last one
+-- the first range that doesn't begin where the one before it ends, or is empty, of those behind this many that end here;
+-- else what is wrong with the last one
 abbrev pub gap : ℕ → ℕ → List Entry → Option PlanFlaw
 gap before end [] = end_flaw before end
 gap before end (range ∷ ranges) =

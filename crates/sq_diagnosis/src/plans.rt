@@ -132,57 +132,60 @@ fn shape_flaw(plan: &Value) -> Option<PlanFlaw> {
     if !plan.is_object() {
         return Some(PlanFlaw::NotAnObject);
     }
-    number_flaw(plan, "version")
-        .or_else(|| number_flaw(plan, "partitions"))
-        .or_else(|| list_flaw(plan))
-        .or_else(|| text_flaw(plan))
+    field_flaw(plan, "version", FieldKind::Number)
+        .or_else(|| field_flaw(plan, "partitions", FieldKind::Number))
+        .or_else(|| field_flaw(plan, "ranges", FieldKind::List))
+        .or_else(|| item_flaw(plan))
+        .or_else(|| field_flaw(plan, "stages", FieldKind::Text))
 }
 
-// What is wrong with a field that is to be a whole number.
-fn number_flaw(plan: &Value, field: &'static str) -> Option<PlanFlaw> {
-    let Some(value) = plan.get(field) else {
-        return Some(PlanFlaw::Missing(field));
-    };
-    match value.as_u64() {
-        Some(_) => None,
-        None => Some(PlanFlaw::NotOfKind {
+/// What the value of a field is to be.
+#[derive(Clone, Copy, Debug, PartialEq, Eq)]
+enum FieldKind {
+    Number,
+    List,
+    Text,
+}
+
+impl FieldKind {
+    // In words.
+    fn name(self) -> &'static str {
+        match self {
+            FieldKind::Number => "a whole number below 2^64",
+            FieldKind::List => "a list",
+            FieldKind::Text => "a text",
+        }
+    }
+
+    // Whether a value is of this kind.
+    fn admits(self, value: &Value) -> bool {
+        match self {
+            FieldKind::Number => value.is_u64(),
+            FieldKind::List => value.is_array(),
+            FieldKind::Text => value.is_string(),
+        }
+    }
+}
+
+// What is wrong with a field whose value is to be of this kind.
+fn field_flaw(plan: &Value, field: &'static str, kind: FieldKind) -> Option<PlanFlaw> {
+    match plan.get(field) {
+        None => Some(PlanFlaw::Missing(field)),
+        Some(value) if kind.admits(value) => None,
+        Some(_) => Some(PlanFlaw::NotOfKind {
             field,
-            kind: "a whole number below 2^64",
+            kind: kind.name(),
         }),
     }
 }
 
-// What is wrong with the field of the ranges.
-fn list_flaw(plan: &Value) -> Option<PlanFlaw> {
-    let field = "ranges";
-    let Some(value) = plan.get(field) else {
-        return Some(PlanFlaw::Missing(field));
-    };
-    let Some(items) = value.as_array() else {
-        return Some(PlanFlaw::NotOfKind {
-            field,
-            kind: "a list",
-        });
-    };
+// The first range that isn't three whole numbers.
+fn item_flaw(plan: &Value) -> Option<PlanFlaw> {
+    let items = plan.get("ranges")?.as_array()?;
     let at = items.iter().position(|item| Entry::of(item).is_none())?;
     Some(PlanFlaw::NotThreeNumbers {
         at: at.saturating_add(1),
     })
-}
-
-// What is wrong with the field of the stages.
-fn text_flaw(plan: &Value) -> Option<PlanFlaw> {
-    let field = "stages";
-    let Some(value) = plan.get(field) else {
-        return Some(PlanFlaw::Missing(field));
-    };
-    match value.as_str() {
-        Some(_) => None,
-        None => Some(PlanFlaw::NotOfKind {
-            field,
-            kind: "a text",
-        }),
-    }
 }
 
 /// A range as the JSON has it, whose owner may be no partition.
