@@ -14,7 +14,8 @@ program = record (new_shape (codes "squall")) { has_version = true; subcommand_r
 
 -- an option with a value that this parser takes, and the one that stands where it isn't given
 abbrev pub option_rule : Text → ValueParser → Text → Rule
-option_rule name parser default = record (new_rule name) { long = Some name; value_names = 1; parser = Some parser; defaults = default ∷ [] }
+option_rule name parser default =
+    record (new_rule name) { long = Some name; value_names = 1; parser = Some parser; defaults = default ∷ [] }
 
 -- an option that takes no value
 abbrev pub flag_rule : Text → Rule
@@ -38,7 +39,8 @@ larger shape rule = record shape { rules = shape.rules ++ rule ∷ [] }
 
 -- the subcommand with what says where its input comes from: the file, and those of the plans and of the rows
 abbrev pub with_input : Shape → Shape
-with_input shape = larger (larger (larger (larger shape file_rule) (path_rule (codes "old"))) (path_rule (codes "new"))) (path_rule (codes "rows"))
+with_input shape =
+    larger (larger (larger (larger shape file_rule) (path_rule (codes "old"))) (path_rule (codes "new"))) (path_rule (codes "rows"))
 
 -- the subcommand that makes the steps of a script
 abbrev pub run_shape : Shape
@@ -51,11 +53,14 @@ ranges_shape = with_input (larger (larger (new_shape (codes "ranges")) (flag_rul
 -- the subcommand that runs jobs in threads, with its options for numbers
 abbrev pub numbered_shape : Shape
 numbered_shape =
-    larger (larger (new_shape (codes "live")) (option_rule (codes "turns") (Unsigned 1 MAX_TURNS) (codes "1000000"))) (option_rule (codes "pumps") (Unsigned 1 MAX_PUMPS) (codes "1"))
+    larger (larger (new_shape (codes "live")) (option_rule (codes "turns") (Unsigned 1 MAX_TURNS) (codes "1000000")))
+    (option_rule (codes "pumps") (Unsigned 1 MAX_PUMPS) (codes "1"))
 
 -- and with all its options
 abbrev pub live_shape : Shape
-live_shape = with_input (larger (larger (larger numbered_shape (flag_rule (codes "fold"))) (flag_rule (codes "summary"))) (path_rule (codes "timeline")))
+live_shape =
+    with_input (larger (larger (larger numbered_shape (flag_rule (codes "fold"))) (flag_rule (codes "summary")))
+    (path_rule (codes "timeline")))
 
 -- the subcommand that tells what numbers mean
 abbrev pub explain_shape : Shape
@@ -63,4 +68,6 @@ explain_shape = larger (new_shape (codes "explain")) number_rule
 
 -- the command with its subcommands
 abbrev pub squall : App
-squall = with_subcommand (with_subcommand (with_subcommand (with_subcommand (record { top = program; subs = [] }) run_shape) ranges_shape) live_shape) explain_shape
+squall =
+    with_subcommand (with_subcommand (with_subcommand (with_subcommand (record { top = program; subs = [] }) run_shape) ranges_shape)
+    live_shape) explain_shape

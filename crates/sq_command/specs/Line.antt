@@ -21,7 +21,8 @@ use Rattle.sq_command.specs.declared.line.Task.TheVariants.{Run, Ranges, Live}
 use Rattle.sq_command.specs.declared.line.Line.{Line}
 use Rattle.sq_command.specs.declared.line.Line.TheVariants.{Work, Explain}
 
--- the number of an option with this text: the one that the text spells, from 1 up to the most that it may be, or else the one that stands for it
+-- the number of an option with this text:
+-- the one that the text spells, from 1 up to the most that it may be, or else the one that stands for it
 abbrev pub NumberOf : ℕ → ℕ → Option Text → ℕ → Type 0
 NumberOf most default None number = number ≡ default
 NumberOf most default (Some text) number =
@@ -51,7 +52,8 @@ IsNameOf id rows name = option_map (λ text. text.now) name ≡ first_of id rows
 -- the plans are those of the two files that are named, with the rows of a third if it is named; or none of the three is
 abbrev pub ArePlansOf : List Row → Option Plans → Type 0
 ArePlansOf rows None = IsNameOf (codes "old") rows None × IsNameOf (codes "new") rows None × IsNameOf (codes "rows") rows None
-ArePlansOf rows (Some plans) = IsNameOf (codes "old") rows (Some plans.old) × IsNameOf (codes "new") rows (Some plans.new) × IsNameOf (codes "rows") rows plans.rows
+ArePlansOf rows (Some plans) =
+    IsNameOf (codes "old") rows (Some plans.old) × IsNameOf (codes "new") rows (Some plans.new) × IsNameOf (codes "rows") rows plans.rows
 
 -- the input comes from the files that are named
 abbrev pub IsInputOf : List Row → Input → Type 0
@@ -136,7 +138,8 @@ Settles (Err clash) (Err error) = (kind_of error ≡ OutOfMemory) ⊎ (kind_of e
 abbrev pub ClashesAt : List Text → ErrorKind → Type 0
 ClashesAt words kind = (fault_of squall words ≡ []) × IsSomeAnd (subcommand_of squall words) (λ sub. Clashes sub.1 kind)
 
--- what comes of words: a line, where they have no fault; else memory ran out, `clap` finds a fault of this kind, or options don't go together
+-- what comes of words: a line, where they have no fault;
+-- else memory ran out, `clap` finds a fault of this kind, or options don't go together
 abbrev pub ComesOf : List Text → Result Line Error → Type 0
 ComesOf words (Ok line) = (fault_of squall words ≡ []) × IsLineOf (subcommand_of squall words) line
 ComesOf words (Err error) = HasKind (fault_of squall words) error ⊎ ClashesAt words (kind_of error)

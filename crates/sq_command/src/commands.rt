@@ -7,6 +7,7 @@ ghost use Rattle.clap.specs.declared.builder.command.Command.TheViews.{out-Comma
 ghost use Rattle.sq_command.specs.Commands.{program, squall, option_rule, flag_rule, file_rule, path_rule, larger, with_input, run_shape, ranges_shape, numbered_shape, live_shape, explain_shape};
 
 use crate::help;
+use crate::line::{MAX_PUMPS, MAX_TURNS, PUMPS, TURNS};
 use clap::builder::ValueParser;
 use clap::{Arg, ArgAction, Command, value_parser};
 use std::alloc::{AllocError, Global};
@@ -126,13 +127,16 @@ fn ranges<'a>(alloc: Global) -> Result<Command<'a>, AllocError>
     with_input(alloc, with_svg)
 }
 
+// As the words say that stand in place of these options.
+const _: () = prove!(TURNS == 1_000_000 && PUMPS == 1);
+
 // The subcommand that runs jobs in threads, with its options for numbers.
 fn numbered<'a>(alloc: Global) -> Result<Command<'a>, AllocError>
     ensures shape { IfOk result (λ command. shape_of command ≡ numbered_shape) }
     ensures local { IfOk result (λ command. (out-Command command).has_globals ≡ false) }
 {
-    let any_turns = value_parser!(u64).range(1..=1_000_000_000);
-    let any_pumps = value_parser!(u64).range(1..=16);
+    let any_turns = value_parser!(u64).range(1..=MAX_TURNS as i64);
+    let any_pumps = value_parser!(u64).range(1..=MAX_PUMPS as i64);
     let turns = option(alloc, "turns", help::TURNS, any_turns, "1000000");
     let pumps = option(alloc, "pumps", help::PUMPS, any_pumps, "1");
     subcommand(alloc, "live", help::LIVE_ABOUT, help::LIVE)

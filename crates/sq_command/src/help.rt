@@ -1,4 +1,20 @@
 // What the help texts say: in a line of each subcommand and of each argument, and at length behind these.
+use crate::line::MAX_PUMPS;
+
+// A text with the header of an example in it, whose only row moves from partition 0 to partition 1.
+macro_rules! with_header {
+    ($before:literal, $behind:literal) => {
+        concat!(
+            $before,
+            r#"old {"version":1,"partitions":2,"ranges":[[0,4294967296,0]]}
+new {"version":1,"partitions":2,"ranges":[[0,4,0],[4,8,1],[8,4294967296,0]]}
+config 1 64 1
+row 5 0 0 10 -
+"#,
+            $behind
+        )
+    };
+}
 
 /// Behind the options of the whole program.
 pub const PROGRAM: &str = "\
@@ -31,7 +47,8 @@ pub const RUN_ABOUT: &str = "Makes the steps of a script, and answers each";
 
 pub const ECHO: &str = "Write each step before its answer, and what the number of a refusal means";
 
-pub const RUN: &str = r#"The input holds a header and then a script. The header is the plan before
+pub const RUN: &str = with_header!(
+    r#"The input holds a header and then a script. The header is the plan before
 the move, the plan after it, the sizes (root keys in a leaf, bytes in a chunk,
 chunks on a link), and the rows that there are. A line of the script is a step:
 of a client, a partition, a pull or the leader of the move.
@@ -50,11 +67,8 @@ A step that is refused changes nothing. Its line is 'refused' and a number, whic
 Example:
 
 squall run <<'END'
-old {"version":1,"partitions":2,"ranges":[[0,4294967296,0]]}
-new {"version":1,"partitions":2,"ranges":[[0,4,0],[4,8,1],[8,4294967296,0]]}
-config 1 64 1
-row 5 0 0 10 -
-txn 0 1 5 add 0 0 1
+"#,
+    r#"txn 0 1 5 add 0 0 1
 prepare 0
 prepare 1
 start
@@ -77,7 +91,8 @@ at 0 5 1 0.0=11/-
 
 Exit status:
   0  done
-  2  a fault, or a command line that is refused"#;
+  2  a fault, or a command line that is refused"#
+);
 
 /// Of `ranges`, of its options, and behind these.
 pub const RANGES_ABOUT: &str = "Tells what moves between two plans";
@@ -127,13 +142,16 @@ pub const TURNS: &str =
 
 pub const PUMPS: &str = "How many threads claim rows in the background, up to 16";
 
+const _: () = prove!(MAX_PUMPS == 16);
+
 pub const FOLD: &str = "Audit what is answered between two stages, and fold the logs";
 
 pub const SUMMARY: &str = "Tell behind the line of the run what it did";
 
 pub const TIMELINE: &str = "Write into this file when each thing was done";
 
-pub const LIVE: &str = r#"The input holds a header, as for 'squall run', and then jobs: lines
+pub const LIVE: &str = with_header!(
+    r#"The input holds a header, as for 'squall run', and then jobs: lines
 'txn P ID ROOT OP..', at most 4096 of them, no two with one id. A job is a
 transaction that is posted to partition P. Each partition runs in a thread of
 its own. The partitions answer the jobs, and meanwhile their rows move to the
@@ -172,11 +190,8 @@ else as a chart in SVG.
 Example:
 
 squall live <<'END'
-old {"version":1,"partitions":2,"ranges":[[0,4294967296,0]]}
-new {"version":1,"partitions":2,"ranges":[[0,4,0],[4,8,1],[8,4294967296,0]]}
-config 1 64 1
-row 5 0 0 10 -
-txn 0 1 5 add 0 0 1
+"#,
+    r#"txn 0 1 5 add 0 0 1
 txn 1 2 5 add 0 0 1
 txn 0 3 6 put 0 0 1 -
 END
@@ -189,7 +204,8 @@ Exit status:
   0  sound
   2  a fault, or a command line that is refused
   3  stopped
-  4  unsound"#;
+  4  unsound"#
+);
 
 /// Of `explain`, of its number, and behind these.
 pub const EXPLAIN_ABOUT: &str =
