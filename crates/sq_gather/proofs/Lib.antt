@@ -15,3 +15,4 @@ pub mod Placing
 pub mod Putting
 pub mod Waits
 pub mod Whole
+pub mod Workers
