@@ -5,7 +5,8 @@ use Rattle.sq_audit.specs.declared.job.Job.{Job}
 use Rattle.sq_audit.specs.Answers.{IdsDiffer}
 use Rattle.sq_live.specs.declared.job_list.TheConstants.{MAX_JOBS}
 
--- the opening and the jobs that the next audit goes by, and of the logs that were folded: how many jobs were answered, and how many receipts were of commits
+-- the opening and the jobs that the next audit goes by, and of the logs that were folded:
+-- how many jobs were answered, and how many receipts were of commits
 pub record AccountValue : Type 0 where
   pub opening : OpeningValue
   pub jobs : List Job

@@ -24,7 +24,8 @@ use Rattle.sq_live.specs.Jobs.{has_id}
 -- the transaction is a job behind these of as many partitions, unless it has the id of one of them, or goes to no partition
 abbrev pub fresh_job : ℕ → List Job → ℕ → TxnValue → Result Job JobFault
 fresh_job parts jobs part txn =
-    if nat_lt part parts then (if has_id txn.id jobs then Err RepeatedId else Ok (record { part = part; txn = txn })) else Err NoSuchPartition
+    if nat_lt part parts then (if has_id txn.id jobs then Err RepeatedId else Ok (record { part = part; txn = txn }))
+    else Err NoSuchPartition
 
 -- what is told of a transaction, unless there are as many jobs as there may be
 abbrev pub if_room : List Job → Result Job JobFault → Result Job JobFault
@@ -51,7 +52,8 @@ jobs_then number jobs (Err fault) others = Err (fault_at number fault)
 -- the jobs that pieces spell, behind these, or the first fault
 abbrev pub jobs_in : ℕ → ℕ → List Job → List PieceValue → Result (List Job) LiveFault
 jobs_in tables parts jobs [] = Ok jobs
-jobs_in tables parts jobs (Line number bytes ∷ pieces) = jobs_then number jobs (job_of tables parts jobs bytes) (λ more. jobs_in tables parts more pieces)
+jobs_in tables parts jobs (Line number bytes ∷ pieces) =
+    jobs_then number jobs (job_of tables parts jobs bytes) (λ more. jobs_in tables parts more pieces)
 jobs_in tables parts jobs (Rest number bytes ∷ pieces) = Err (fault_at number NotAJob)
 jobs_in tables parts jobs (Failed number bytes ∷ pieces) = Err (Input (located input.ReadFailed (Some (Later number))))
 jobs_in tables parts jobs (Endless number bytes ∷ pieces) = Err (Input (located input.TooLong (Some (Later number))))
@@ -59,7 +61,9 @@ jobs_in tables parts jobs (TooManyLines ∷ pieces) = Err (Input (located input.
 
 -- the transaction gave one job more, or the fault that it has, unless memory ran out, and then the jobs stay as they were
 abbrev pub AddsFresh : ℕ → List Job → ℕ → TxnValue → Result Unit JobFault → List Job → Type 0
-AddsFresh parts old part txn (Ok done) new = (if_room old (fresh_job parts old part txn) ≡ Ok (record { part = part; txn = txn })) × (new ≡ old ++ record { part = part; txn = txn } ∷ [])
+AddsFresh parts old part txn (Ok done) new =
+    (if_room old (fresh_job parts old part txn) ≡ Ok (record { part = part; txn = txn }))
+    × (new ≡ old ++ record { part = part; txn = txn } ∷ [])
 AddsFresh parts old part txn (Err Memory) new = new ≡ old
 AddsFresh parts old part txn (Err fault) new = (if_room old (fresh_job parts old part txn) ≡ Err fault) × (new ≡ old)
 

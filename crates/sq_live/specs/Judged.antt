@@ -26,4 +26,5 @@ MarksMoved words moved = (seg : ℕ) → seg < SEGMENT_LIMIT → is_told_whole m
 
 -- how many segments moved in an earlier stage than this, or are marked
 abbrev pub marked_count : ReconValue → ℕ → List Bool → ℕ
-marked_count recon stage moved = count_by (λ seg. nat_lt (stage_at recon seg) stage || is_told_whole moved seg) (range_with_len 0 (length recon.segments))
+marked_count recon stage moved =
+    count_by (λ seg. nat_lt (stage_at recon seg) stage || is_told_whole moved seg) (range_with_len 0 (length recon.segments))

@@ -46,7 +46,8 @@ pub record HasJobFault (tables : ℕ) (given : List PieceValue) (fault : LiveFau
 abbrev pub HaveFault : ℕ → List PieceValue → LiveFault → Type 0
 HaveFault tables given fault = HasHeaderFault tables given fault ⊎ HasJobFault tables given fault
 
--- jobs were run from an opening, stage by stage, with or without folds between them. Whatever the threads did, what each stage left is placed and goes on from what it began with, and this is what the last one came to
+-- jobs were run from an opening, stage by stage, with or without folds between them.
+-- Whatever the threads did, what each stage left is placed and goes on from what it began with, and this is what the last one came to
 pub record WereRun (folds : Bool) (o : OpeningValue) (jobs : List Job) (outcome : LiveOutcome) : Type 0 where
   -- what the stages before the last one left, the latest first
   pub earlier : List GatheredValue
@@ -59,7 +60,8 @@ pub record WereRun (folds : Bool) (o : OpeningValue) (jobs : List Job) (outcome 
 
 -- the jobs that the pieces spell were run and came to this, or the pieces have this fault
 abbrev pub EndsLive : Bool → ℕ → List PieceValue → LiveEnding → Type 0
-EndsLive folds tables given (Done outcome) = (o : OpeningValue) × (jobs : List Job) × SpellJobs tables given o jobs × WereRun folds o jobs outcome
+EndsLive folds tables given (Done outcome) =
+    (o : OpeningValue) × (jobs : List Job) × SpellJobs tables given o jobs × WereRun folds o jobs outcome
 EndsLive folds tables given (Fault fault) = HaveFault tables given fault
 
 -- the line that is written

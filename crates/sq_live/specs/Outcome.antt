@@ -22,9 +22,11 @@ use Rattle.sq_live.specs.Leading.{HasGoneOn, HasEnded}
 
 -- the line of an outcome
 abbrev pub outcome_line : LiveOutcome → List ℕ
-outcome_line (Sound families committed) = line (codes "sound" ∷ decimal families ∷ codes "families" ∷ decimal committed ∷ codes "committed" ∷ [])
+outcome_line (Sound families committed) =
+    line (codes "sound" ∷ decimal families ∷ codes "families" ∷ decimal committed ∷ codes "committed" ∷ [])
 outcome_line (Stopped answered jobs complete segments) =
-    line (codes "stopped" ∷ decimal answered ∷ codes "of" ∷ decimal jobs ∷ codes "jobs," ∷ decimal complete ∷ codes "of" ∷ decimal segments ∷ codes "segments" ∷ [])
+    line (codes "stopped" ∷ decimal answered ∷ codes "of" ∷ decimal jobs ∷ codes "jobs," ∷ decimal complete ∷ codes "of"
+    ∷ decimal segments ∷ codes "segments" ∷ [])
 outcome_line (Unsound defect) = line (codes "unsound" ∷ decimal (defect_number defect) ∷ [])
 
 abbrev pub outcome_status : LiveOutcome → ℕ
@@ -40,7 +42,8 @@ is_answered receipts job = list_any (λ receipt. receipt.id == job.txn.id) recei
 abbrev pub answered_count : List ReceiptValue → List Job → ℕ
 answered_count receipts jobs = count_by (is_answered receipts) jobs
 
--- the segment of this number is complete: it moved in an earlier stage than the one that was gathered, or its node 1 reads complete; one of which no statuses were gathered doesn't
+-- the segment of this number is complete:
+-- it moved in an earlier stage than the one that was gathered, or its node 1 reads complete; one of which no statuses were gathered doesn't
 abbrev pub segment_has_moved : OpeningValue → GatheredValue → ℕ → Bool
 segment_has_moved o g seg = nat_lt (stage_at o.recon seg) g.stage || is_whole_in g seg
 
@@ -70,7 +73,8 @@ WhyStopped account g =
     (IsStageDone account.opening g → ⊥)
     ⊎ ((g.stage + 1 ≡ stages account.opening.recon) × (answered_count g.receipts account.jobs < length account.jobs))
 
--- the run stopped: of all jobs so many are answered, in logs that were folded or with a receipt now, and of all segments so many are complete
+-- the run stopped: of all jobs so many are answered, in logs that were folded or with a receipt now,
+-- and of all segments so many are complete
 pub record HasStopped (account : AccountValue) (g : GatheredValue) (answered posted complete segments : ℕ) : Type 0 where
   pub answered_is : answered ≡ account.answered + answered_count g.receipts account.jobs
   pub posted_is : posted ≡ account.answered + length account.jobs

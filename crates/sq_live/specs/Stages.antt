@@ -21,7 +21,8 @@ use Rattle.sq_live.specs.Account.{AccountValue, first_account}
 use Rattle.sq_live.specs.Leading.{leading, HasGoneOn}
 use Rattle.sq_live.specs.Outcome.{commit_count, CameTo}
 
--- a stage that began so ran, and left this: it is placed, each family goes on from the one that its root key was given, and the receipts so far stand before those of the stage
+-- a stage that began so ran, and left this:
+-- it is placed, each family goes on from the one that its root key was given, and the receipts so far stand before those of the stage
 pub record RanFrom (o : OpeningValue) (began : BeganWith) (g : GatheredValue) : Type 0 where
   pub stage : g.stage ≡ began.stage
   pub placed : IsPlaced o g
@@ -50,8 +51,10 @@ abbrev pub Continues : Bool → AccountValue → GatheredValue → Continued →
 Continues folds old g (continued.With account gathered) = ContinuesWith folds old g account gathered
 Continues folds old g (continued.Unsound defect) = (folds ≡ true) × IsFirstDefect old.opening g (answered_jobs g.receipts old.jobs) defect
 
--- a stage that began so left this, with all of its segments complete, the leader went on, and the next stage began with what the run goes on with
-pub record HasPassed (folds : Bool) (old : AccountValue) (began : BeganWith) (g : GatheredValue) (new : AccountValue) (later : BeganWith) : Type 0 where
+-- a stage that began so left this, with all of its segments complete, the leader went on,
+-- and the next stage began with what the run goes on with
+pub record HasPassed (folds : Bool) (old : AccountValue) (began : BeganWith) (g : GatheredValue) (new : AccountValue)
+    (later : BeganWith) : Type 0 where
   pub ran : RanFrom old.opening began g
   pub done : IsStageDone old.opening g
   pub leader : StageValue
@@ -73,6 +76,7 @@ pub record IsReady (began : BeganWith) (ready : Ready) : Type 0 where
 
 -- what comes after a stage that began so: the run ends, or the next stage is ready
 abbrev pub ComesAfterStage : Bool → AccountValue → BeganWith → AfterStage → Type 0
-ComesAfterStage folds account began (after.Ended outcome) = (g : GatheredValue) × RanFrom account.opening began g × CameTo folds account g outcome
+ComesAfterStage folds account began (after.Ended outcome) =
+    (g : GatheredValue) × RanFrom account.opening began g × CameTo folds account g outcome
 ComesAfterStage folds account began (after.Next ready) =
     (g : GatheredValue) × (later : BeganWith) × HasPassed folds account began g ready.account later × IsReady later ready

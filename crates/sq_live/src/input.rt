@@ -79,7 +79,6 @@ fn end_input<T: Threads + Wait + Sync, R: Read, G: Watch>(
     manner: RunManner,
     watch: &G,
 ) -> LiveEnding
-    requires { manner.pumps ≤ MAX_PUMPS }
     ensures { (given : List PieceValue) × IsGiven (R.remaining reader.old) given × EndsLive manner.folds MAX_TABLES given result }
 {
     match LineReader::new(alloc, reader) {
@@ -96,7 +95,6 @@ fn end_lines<T: Threads + Wait + Sync, R: Read, G: Watch>(
     manner: RunManner,
     watch: &G,
 ) -> LiveEnding
-    requires { manner.pumps ≤ MAX_PUMPS }
     ensures { (given : List PieceValue) × CanCome lines.old given × EndsLive manner.folds MAX_TABLES given result }
 {
     match read_input(alloc, lines) {
@@ -134,7 +132,6 @@ fn run_input<T: Threads + Wait + Sync, G: Watch>(
     manner: RunManner,
     watch: &G,
 ) -> Result<LiveOutcome, AllocError>
-    requires pumps { manner.pumps ≤ MAX_PUMPS }
     requires partitions { HavePartitions opening.old.parts jobs }
     ensures { IfOk result (WereRun manner.folds opening jobs) }
 {

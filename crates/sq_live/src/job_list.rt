@@ -8,6 +8,7 @@ use crate::fault::{JobFault, LiveFault};
 use sq_audit::Job;
 use sq_lines::{LineReader, MAX_LINES, MAX_UNENDED, Next};
 use sq_model::Step;
+use sq_node::JOB_PLACES;
 use sq_plan::PartId;
 use sq_schema::{Schema, Txn};
 use sq_text::{InputFault, InputLine, LineFault, read_step};
@@ -19,8 +20,8 @@ use std::marker::Model;
 // The line after the last one that an input may have.
 const AFTER_THE_LAST: InputLine = InputLine::Later(MAX_LINES + 1);
 
-/// The most jobs that a live run has.
-pub const MAX_JOBS: usize = 4096;
+/// The most jobs that a live run has: as many as the queue of a partition takes.
+pub const MAX_JOBS: usize = JOB_PLACES;
 
 /// Jobs whose ids differ, at most [`MAX_JOBS`] of them. To a contract they are a list.
 #[derive(Drop)]

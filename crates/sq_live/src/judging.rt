@@ -160,7 +160,7 @@ fn count_families(stores: &[SlabStore]) -> u64
 }
 
 /// How many receipts are of commits.
-pub(crate) fn count_commits(receipts: &[Receipt]) -> u64
+pub fn count_commits(receipts: &[Receipt]) -> u64
     ensures commits { result ≡ commit_count receipts.now }
     ensures most { result ≤ length receipts.now }
 {

@@ -19,6 +19,7 @@ pub use ending::LiveEnding;
 pub use fault::{JobFault, JobLineFault, LiveFault};
 pub use input::live;
 pub use job_list::{JobList, MAX_JOBS, read_jobs};
+pub use judging::count_commits;
 pub use outcome::{LiveOutcome, write_outcome};
 pub use sq_audit::Job;
 pub use watch::Watch;

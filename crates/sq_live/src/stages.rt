@@ -39,6 +39,7 @@ pub(crate) struct RunManner {
     pub(crate) pumps: u32,
     /// Whether the logs are folded between stages.
     pub(crate) folds: bool,
+    ghost few_pumps: { pumps ≤ MAX_PUMPS },
 }
 
 /// A stage that is ready to run.
@@ -71,7 +72,6 @@ pub(crate) fn run_stages<R: Threads + Wait + Sync, G: Watch>(
     manner: RunManner,
     watch: &G,
 ) -> Result<LiveOutcome, AllocError>
-    requires pumps { manner.pumps ≤ MAX_PUMPS }
     requires first { account ≡ first_account account.opening account.jobs }
     requires led { moving ≡ leading account.opening 0 }
     requires partitions { HavePartitions account.opening.old.parts account.jobs }
@@ -136,7 +136,6 @@ fn run_stage<R: Threads + Wait + Sync, G: Watch>(
     manner: RunManner,
     watch: &G,
 ) -> Result<AfterStage, AllocError>
-    requires pumps { manner.pumps ≤ MAX_PUMPS }
     requires ready { (began : BeganWith) × IsReady began ready }
     ensures { IfOk result (λ after. (began : BeganWith) → IsReady began ready → ComesAfterStage manner.folds ready.account began after) }
 {

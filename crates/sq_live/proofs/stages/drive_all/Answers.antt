@@ -1,23 +1,21 @@
-use Rattle.std.proofs.Common.{List, sym, subst, arith, get_or}
+use Rattle.std.proofs.Common.{List, sym, subst, arith}
 use Rattle.std.specs.Prelude.{All}
-use Rattle.std.proofs.lemmas.Option.{slice_get-get_or}
 use Rattle.sq_pull.specs.Pump.{PumpValue}
 use Rattle.sq_node.specs.NodeState.{NodeState, IsNodeOf}
 use Rattle.sq_driver.specs.Nodes.{AllDriven}
 use Rattle.sq_driver.specs.Pumps.{HasAllSeats, AllPumpsDriven}
 use Rattle.sq_gather.specs.Gathered.{AreAllOf}
-use Rattle.sq_live.proofs.Driven.{written, run_gathered, whole_driven}
+use Rattle.sq_gather.proofs.Workers.{nodes_of, pumps_of, written}
+use Rattle.sq_live.proofs.Driven.{run_gathered, whole_driven}
 use Rattle.sq_live.proofs.stages.drive_all.Goals as goal
 
 pub run_workers-requires-clause-nodes : goal.run_workers-requires-clause-nodes
 run_workers-requires-clause-nodes g c = λ κs within.
-    subst (All (IsNodeOf c.args.fabric)) (sym c.deref_mut.ensures.value)
-    (λ i d lt. (c.requires.each_node i (get_or c.args.nodes.items i d) (slice_get-get_or c.args.nodes.items i d lt)).0)
+    subst (All (IsNodeOf c.args.fabric)) (sym c.deref_mut.ensures.value) (nodes_of c.args.fabric c.args.nodes.items c.args.pumps.items c.requires)
 
 pub run_workers-requires-clause-pumps : goal.run_workers-requires-clause-pumps
 run_workers-requires-clause-pumps g c = λ κs within.
-    subst (All (HasAllSeats c.args.fabric)) (sym c.deref_mut-2.ensures.value)
-    (λ i d lt. (c.requires.each_pump i (get_or c.args.pumps.items i d) (slice_get-get_or c.args.pumps.items i d lt)).seats)
+    subst (All (HasAllSeats c.args.fabric)) (sym c.deref_mut-2.ensures.value) (pumps_of c.args.fabric c.args.nodes.items c.args.pumps.items c.requires)
 
 pub gather-requires : goal.gather-requires
 gather-requires g c =

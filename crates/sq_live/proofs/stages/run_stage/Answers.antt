@@ -1,4 +1,4 @@
-use Rattle.std.proofs.Common.{◌≡◌, List, Bool, sym, ap, ◌∙◌, subst}
+use Rattle.std.proofs.Common.{◌≡◌, List, Bool, sym, ap, ◌∙◌, subst, rules}
 use Rattle.sq_tree.specs.declared.status.Status.{Status}
 use Rattle.sq_ranges.specs.Opening.{IsOpening}
 use Rattle.sq_leader.specs.LeaderValue.{StageValue}
@@ -69,59 +69,43 @@ continue_with-requires g c =
     let told = told g (goal.at.continue_with-requires g c).After-deref c.moved_segments-moved.result c.moved_segments-moved.ensures c.requires.ready.0 c.requires.ready.1 in
     done_before c.args.ready.account c.args.ready.moving c.requires.ready.0 c.in_ok-gathered.gathered c.moved_segments-moved.result told c.in-Next.moving (led_next g c)
 
-pub next_ready-requires-clause-placed : goal.next_ready-requires-clause-placed
-next_ready-requires-clause-placed g c =
-    let d = (goal.at.next_ready-requires-clause-placed g c).After-deref in
-    let n = (goal.at.next_ready-requires-clause-placed g c).In-Next in
-    (goes g d n c (told g d c.moved_segments-moved.result c.moved_segments-moved.ensures c.requires.ready.0 c.requires.ready.1) (led_next g n)).placed
-
-pub next_ready-requires-clause-done : goal.next_ready-requires-clause-done
-next_ready-requires-clause-done g c =
-    let d = (goal.at.next_ready-requires-clause-done g c).After-deref in
-    let n = (goal.at.next_ready-requires-clause-done g c).In-Next in
-    (goes g d n c (told g d c.moved_segments-moved.result c.moved_segments-moved.ensures c.requires.ready.0 c.requires.ready.1) (led_next g n)).done
-
-pub next_ready-requires-clause-left : goal.next_ready-requires-clause-left
-next_ready-requires-clause-left g c =
-    let d = (goal.at.next_ready-requires-clause-left g c).After-deref in
-    let n = (goal.at.next_ready-requires-clause-left g c).In-Next in
-    (goes g d n c (told g d c.moved_segments-moved.result c.moved_segments-moved.ensures c.requires.ready.0 c.requires.ready.1) (led_next g n)).all_left
-
-pub next_ready-requires-clause-led : goal.next_ready-requires-clause-led
-next_ready-requires-clause-led g c =
-    let d = (goal.at.next_ready-requires-clause-led g c).After-deref in
-    let n = (goal.at.next_ready-requires-clause-led g c).In-Next in
+pub next_ready-requires : goal.next_ready-requires
+next_ready-requires g c =
+    let d = (goal.at.next_ready-requires g c).After-deref in
+    let n = (goal.at.next_ready-requires g c).In-Next in
     let told = told g d c.moved_segments-moved.result c.moved_segments-moved.ensures c.requires.ready.0 c.requires.ready.1 in
-    (goes g d n c told (led_next g n)).led c.in-Next.moving
-    (leads_next c.args.ready.account c.args.ready.moving c.requires.ready.0 c.in_ok-gathered.gathered c.moved_segments-moved.result told c.in-Next.moving (led_next g n))
+    let goes = goes g d n c told (led_next g n) in
+    record {
+      pumps = search rules;
+      placed = goes.placed;
+      done = goes.done;
+      left = goes.all_left;
+      led = goes.led c.in-Next.moving
+          (leads_next c.args.ready.account c.args.ready.moving c.requires.ready.0 c.in_ok-gathered.gathered c.moved_segments-moved.result told c.in-Next.moving (led_next g n));
+    }
 
-pub judge_end-requires-clause-moved : goal.judge_end-requires-clause-moved
-judge_end-requires-clause-moved g c =
-    (told g (goal.at.judge_end-requires-clause-moved g c).After-deref c.moved_segments-moved.result c.moved_segments-moved.ensures c.requires.ready.0 c.requires.ready.1).marks
+pub judge_end-requires : goal.judge_end-requires
+judge_end-requires g c =
+    let account = c.args.ready.account in
+    let moving = c.args.ready.moving in
+    let gathered = c.in_ok-gathered.gathered in
+    let marks = c.moved_segments-moved.result in
+    let told = told g (goal.at.judge_end-requires g c).After-deref marks c.moved_segments-moved.ensures c.requires.ready.0 c.requires.ready.1 in
+    let led = led_end g (goal.at.judge_end-requires g c).In-Ended in
+    record {
+      moved = told.marks;
+      last = last_stage account moving c.requires.ready.0 gathered marks told led;
+      done = done_at_last account moving c.requires.ready.0 gathered marks told led;
+      ended = has_ended account moving c.requires.ready.0 gathered marks told led;
+    }
 
-pub judge_end-requires-clause-last : goal.judge_end-requires-clause-last
-judge_end-requires-clause-last g c =
-    let told = told g (goal.at.judge_end-requires-clause-last g c).After-deref c.moved_segments-moved.result c.moved_segments-moved.ensures c.requires.ready.0 c.requires.ready.1 in
-    last_stage c.args.ready.account c.args.ready.moving c.requires.ready.0 c.in_ok-gathered.gathered c.moved_segments-moved.result told (led_end g (goal.at.judge_end-requires-clause-last g c).In-Ended)
-
-pub judge_end-requires-clause-done : goal.judge_end-requires-clause-done
-judge_end-requires-clause-done g c =
-    let told = told g (goal.at.judge_end-requires-clause-done g c).After-deref c.moved_segments-moved.result c.moved_segments-moved.ensures c.requires.ready.0 c.requires.ready.1 in
-    done_at_last c.args.ready.account c.args.ready.moving c.requires.ready.0 c.in_ok-gathered.gathered c.moved_segments-moved.result told (led_end g (goal.at.judge_end-requires-clause-done g c).In-Ended)
-
-pub judge_end-requires-clause-ended : goal.judge_end-requires-clause-ended
-judge_end-requires-clause-ended g c =
-    let told = told g (goal.at.judge_end-requires-clause-ended g c).After-deref c.moved_segments-moved.result c.moved_segments-moved.ensures c.requires.ready.0 c.requires.ready.1 in
-    has_ended c.args.ready.account c.args.ready.moving c.requires.ready.0 c.in_ok-gathered.gathered c.moved_segments-moved.result told (led_end g (goal.at.judge_end-requires-clause-ended g c).In-Ended)
-
-pub judge_stopped-requires-clause-moved : goal.judge_stopped-requires-clause-moved
-judge_stopped-requires-clause-moved g c =
-    (told g (goal.at.judge_stopped-requires-clause-moved g c).After-deref c.moved_segments-moved.result c.moved_segments-moved.ensures c.requires.ready.0 c.requires.ready.1).marks
-
-pub judge_stopped-requires-clause-missing : goal.judge_stopped-requires-clause-missing
-judge_stopped-requires-clause-missing g c =
-    let told = told g (goal.at.judge_stopped-requires-clause-missing g c).After-deref c.moved_segments-moved.result c.moved_segments-moved.ensures c.requires.ready.0 c.requires.ready.1 in
-    not_done c.args.ready.account c.args.ready.moving c.requires.ready.0 c.in_ok-gathered.gathered c.moved_segments-moved.result told (led_missing g (goal.at.judge_stopped-requires-clause-missing g c).In-Missing)
+pub judge_stopped-requires : goal.judge_stopped-requires
+judge_stopped-requires g c =
+    let told = told g (goal.at.judge_stopped-requires g c).After-deref c.moved_segments-moved.result c.moved_segments-moved.ensures c.requires.ready.0 c.requires.ready.1 in
+    record {
+      moved = told.marks;
+      missing = not_done c.args.ready.account c.args.ready.moving c.requires.ready.0 c.in_ok-gathered.gathered c.moved_segments-moved.result told (led_missing g (goal.at.judge_stopped-requires g c).In-Missing);
+    }
 
 pub returns-in_ok-next_ready-in-With : goal.returns-in_ok-next_ready-in-With
 returns-in_ok-next_ready-in-With g c = λ began ready.
