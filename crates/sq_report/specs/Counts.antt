@@ -1,10 +1,10 @@
 -- What is counted of what a stage left.
-use Rattle.std.specs.Prelude.{ℕ, ◌+◌, ◌-◌, List, length, sum_by, count_by, slice_get}
+use Rattle.std.specs.Prelude.{ℕ, ◌+◌, ◌-◌, List, length, sum_by, slice_get}
 use Rattle.std.specs.Option.{option_map_or}
 use Rattle.sq_store.specs.StoreValue.{StoreValue}
 use Rattle.sq_node_model.specs.NodeValue.{ReceiptValue}
-use Rattle.sq_node_model.specs.Receipts.{is_commit}
 use Rattle.sq_node_model.specs.Gathered.{GatheredLink}
+use Rattle.sq_live.specs.Outcome.{commit_count}
 use Rattle.sq_report.specs.Notes.{told, covered_keys, stored_in}
 use Rattle.sq_report.specs.declared.counts.LinkCount.{LinkCount}
 use Rattle.sq_report.specs.declared.counts.PartCount.{PartCount}
@@ -17,7 +17,8 @@ families_covered stores link = option_map_or (λ store. sum_by (stored_in store)
 abbrev pub under_way_of : GatheredLink → ℕ
 under_way_of link = sum_by (λ chunk. length chunk.families) link.under_way
 
--- what moved along a link: its chunks are its notes, their root keys those that the notes cover, and their families those that these root keys have, at the destination or under way
+-- what moved along a link: its chunks are its notes, their root keys those that the notes cover,
+-- and their families those that these root keys have, at the destination or under way
 abbrev pub link_count : List StoreValue → GatheredLink → LinkCount
 link_count stores link = record {
   src = link.src;
@@ -27,16 +28,13 @@ link_count stores link = record {
   chunks = length link.notes;
 }
 
--- how many receipts are of commits, and how many are not
-abbrev pub commits_in : List ReceiptValue → ℕ
-commits_in receipts = count_by (λ receipt. is_commit receipt.reply) receipts
-
+-- how many receipts are of aborts
 abbrev pub aborts_in : List ReceiptValue → ℕ
-aborts_in receipts = length receipts - commits_in receipts
+aborts_in receipts = length receipts - commit_count receipts
 
 -- a partition's counts with these receipts
 abbrev pub counted : PartCount → List ReceiptValue → PartCount
 counted count receipts = record {
-  committed = told (count.committed + commits_in receipts);
+  committed = told (count.committed + commit_count receipts);
   aborted = told (count.aborted + aborts_in receipts);
 }

@@ -17,7 +17,8 @@ none_yet = record { committed = 0; aborted = 0 }
 
 -- the count of a partition, with the receipts of its node
 abbrev pub count_after : List PartCount → List NodeState → ℕ → PartCount
-count_after parts nodes part = counted (slice_index_or parts part none_yet) (option_map_or (λ node. node.receipts) (slice_get nodes part) [])
+count_after parts nodes part =
+    counted (slice_index_or parts part none_yet) (option_map_or (λ node. node.receipts) (slice_get nodes part) [])
 
 -- the counts of all partitions, with the receipts of their nodes
 abbrev pub counts_after : List PartCount → List NodeState → List PartCount

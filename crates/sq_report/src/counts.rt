@@ -1,13 +1,13 @@
 // What is counted of a link, and of a partition.
-ghost use Rattle.std.specs.Prelude.{◌≡◌, ◌≤◌, length};
+ghost use Rattle.std.specs.Prelude.{◌≡◌};
 ghost use Rattle.sq_report.specs.Notes.{told};
-ghost use Rattle.sq_report.specs.Counts.{families_covered, link_count, commits_in, counted};
+ghost use Rattle.sq_report.specs.Counts.{families_covered, link_count, counted};
 
 use crate::notes::{count_keys, count_stored, count_under_way};
 use sq_gather::ClosedLink;
+use sq_live::count_commits;
 use sq_node::Receipt;
 use sq_plan::PartId;
-use sq_schema::Reply;
 use sq_store::SlabStore;
 
 /// What moved along a link.
@@ -52,20 +52,6 @@ impl PartCount {
             aborted: self.aborted.saturating_add(aborts),
         }
     }
-}
-
-// How many receipts are of commits.
-fn count_commits(receipts: &[Receipt]) -> u64
-    ensures commits { result ≡ commits_in receipts.now }
-    ensures most { result ≤ length receipts.now }
-{
-    let mut count = 0;
-    for receipt in receipts {
-        if matches!(receipt.reply, Reply::Committed(_)) {
-            count += 1;
-        }
-    }
-    count
 }
 
 /// What moved along a link, where the partitions have these stores. A count that no number holds stays at the greatest.
