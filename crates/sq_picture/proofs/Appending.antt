@@ -1,18 +1,12 @@
 -- What a writer got in pieces.
-use Rattle.std.proofs.Common.{◌≡◌, ℕ, ◌+◌, ◌-◌, ◌<◌, ◌≤◌, List, [], ◌∷◌, ◌++◌, map, length, get_or, take, Option, refl, sym, ap, ◌∙◌, subst, zero-add, arith}
-use Rattle.std.specs.Prelude.{Result, Ok, Err, OnOk}
+use Rattle.std.proofs.Common.{◌≡◌, ℕ, ◌+◌, ◌-◌, ◌<◌, ◌≤◌, List, [], ◌∷◌, ◌++◌, map, length, get_or, take, Option, sym, ap, ◌∙◌, subst, zero-add, arith}
 use Rattle.std.specs.List.{flat_map, range_with_len, enumerate_from}
 use Rattle.std.proofs.lemmas.List.{append-nil, take_more, take_all}
 use Rattle.std.proofs.lemmas.Grind.{flat_map-append}
 use Rattle.std.proofs.lemmas.List.Folds.{flat_map-map}
 use Rattle.std.proofs.lemmas.List.FromFn.{length-enumerate_from, get_or-enumerate_from, map-range_with_len_more}
 use Rattle.std.specs.Io.KnownBytes.{Appends}
-use Rattle.sq_text.proofs.Appending.{both}
-
--- bytes, and then more, which may fail
-pub two : {T E : Type 0} (r : Result T E) (a b c : Option (List ℕ)) (xs ys : List ℕ) → Appends a b xs → OnOk r (Appends b c ys) → OnOk r (Appends a c (xs ++ ys))
-two (Err e) a b c xs ys h k = tt
-two (Ok x) a b c xs ys h k = both a b c xs ys (xs ++ ys) h k refl
+use Rattle.std.proofs.KnownBytes.{Appends-trans}
 
 -- the text of one more thing with its number, after the texts of those before it
 pub numbered_next : {X : Type 0} (text : ℕ × X → List ℕ) (xs : List X) (i : ℕ) (x : X) (a b c : Option (List ℕ)) → i < length xs → x ≡ get_or xs i x
@@ -26,7 +20,7 @@ numbered_next {X} text xs i x a b c within is before here =
     ap (flat_map text) (take_more all i (i, x) there ∙ ap (λ (y : ℕ × X). front ++ y ∷ []) own)
     ∙ flat_map-append text front ((i, x) ∷ [])
     ∙ ap (λ (t : List ℕ). flat_map text front ++ t) (append-nil (text (i, x))) in
-    subst (Appends a c) (sym same) (both a b c (flat_map text front) (text (i, x)) (flat_map text front ++ text (i, x)) before here refl)
+    subst (Appends a c) (sym same) (Appends-trans a b c (flat_map text front) (text (i, x)) before here)
 
 -- the texts of all things
 pub numbered_all : {X : Type 0} (text : ℕ × X → List ℕ) (xs : List X) (i : ℕ) (a b : Option (List ℕ)) → length xs ≤ i → Appends a b (flat_map text (take i (enumerate_from 0 xs))) → Appends a b (flat_map text (enumerate_from 0 xs))
@@ -50,4 +44,4 @@ counted_next text first i a b c from before here =
     ∙ flat_map-append text (map (λ (k : ℕ). k) front) (i ∷ [])
     ∙ ap (λ (t : List ℕ). t ++ flat_map text (i ∷ [])) (flat_map-map text (λ (k : ℕ). k) front)
     ∙ ap (λ (t : List ℕ). flat_map text front ++ t) (append-nil (text i)) in
-    subst (Appends a c) (sym same) (both a b c (flat_map text front) (text i) (flat_map text front ++ text i) before here refl)
+    subst (Appends a c) (sym same) (Appends-trans a b c (flat_map text front) (text i) before here)

@@ -6,7 +6,8 @@ use Rattle.sq_ranges.specs.declared.recon.Range.{Range}
 use Rattle.sq_ranges.specs.ReconValue.{ReconValue, stage_in}
 use Rattle.sq_picture.specs.Svg.{start_text}
 use Rattle.sq_picture.specs.MovesSvg.{width_of, height_of, frame_text, begun_below, segments_text, numbers_text, marks_text}
-use Rattle.sq_picture.proofs.Appending.{two}
+use Rattle.std.proofs.KnownBytes.{Appends-trans}
+use Rattle.std.proofs.lemmas.Result.{on_ok_weaker}
 
 -- the segments of a range, from the numbers that were counted
 pub marked : {T E : Type 0} (r : Result T E) (recon : ReconValue) (range : Range) (first end stage : ℕ) (a b c : Option (List ℕ)) → first ≡ begun_below recon.segments range.lo → end ≡ begun_below recon.segments range.hi → stage ≡ stage_in recon range
@@ -15,7 +16,7 @@ marked r recon range first end stage a b c begins ends staged before here =
     subst (λ (n : ℕ). OnOk r (Appends a c (segments_text (begun_below recon.segments range.lo) (begun_below recon.segments range.hi) ++ numbers_text (begun_below recon.segments range.lo) (begun_below recon.segments range.hi) n))) staged
     (subst (λ (n : ℕ). OnOk r (Appends a c (segments_text (begun_below recon.segments range.lo) n ++ numbers_text (begun_below recon.segments range.lo) n stage))) ends
     (subst (λ (n : ℕ). OnOk r (Appends a c (segments_text n end ++ numbers_text n end stage))) begins
-    (two r a b c (segments_text first end) (numbers_text first end stage) before here)))
+    (on_ok_weaker r (Appends-trans a b c (segments_text first end) (numbers_text first end stage) before) here)))
 
 -- the start of a picture, from the width and the height that were computed
 pub framed : {T E : Type 0} (r : Result T E) (count width height : ℕ) (a b : Option (List ℕ)) → width ≡ width_of count → height ≡ height_of count → OnOk r (Appends a b (start_text width height (codes "What moves"))) → OnOk r (Appends a b (frame_text count))

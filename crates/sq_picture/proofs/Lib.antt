@@ -3,3 +3,4 @@ mod Tellings
 pub mod Appending
 pub mod Columns
 pub mod Nodes
+pub mod Values

@@ -6,7 +6,8 @@ use Rattle.sq_tree.specs.declared.status.Status.{Status}
 use Rattle.sq_tree.specs.Node.{span}
 use Rattle.sq_tree.specs.Status.{is_live}
 use Rattle.sq_picture.specs.TreeSvg.{left_of, top_of, class_of, placed_text, box_text, words_at, said_text, node_text}
-use Rattle.sq_picture.proofs.Appending.{two}
+use Rattle.std.proofs.KnownBytes.{Appends-trans}
+use Rattle.std.proofs.lemmas.Result.{on_ok_weaker}
 
 -- a box, at the place that was computed
 pub boxed : {T E : Type 0} (r : Result T E) (class : List ℕ) (n left top height : ℕ) (a b : Option (List ℕ)) → left ≡ left_of n → top ≡ top_of n → height ≡ span n * 20 - 3 → OnOk r (Appends a b (placed_text class left top height)) → OnOk r (Appends a b (box_text class n))
@@ -29,4 +30,4 @@ drawn r status n own live class a b c d owns lives classes box words end =
     subst (λ (s : Status). OnOk r (Appends a d (box_text (class_of (is_live status n) s) n ++ (said_text n s ++ codes "</g>\n")))) owns
     (subst (λ (l : Bool). OnOk r (Appends a d (box_text (class_of l own) n ++ (said_text n own ++ codes "</g>\n")))) lives
     (subst (λ (k : List ℕ). OnOk r (Appends a d (box_text k n ++ (said_text n own ++ codes "</g>\n")))) classes
-    (two r a b d (box_text class n) (said_text n own ++ codes "</g>\n") box (two r b c d (said_text n own) (codes "</g>\n") words end))))
+    (on_ok_weaker r (λ close. Appends-trans a b d (box_text class n) (said_text n own ++ codes "</g>\n") box (Appends-trans b c d (said_text n own) (codes "</g>\n") words close)) end)))

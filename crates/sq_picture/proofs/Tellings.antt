@@ -1,11 +1,11 @@
 -- What tells of a reconfiguration.
 use Rattle.std.proofs.Common.{◌≡◌, ℕ, List, [], ◌∷◌, ◌++◌, Option, refl}
 use Rattle.std.specs.Prelude.{Some}
+use Rattle.std.proofs.KnownBytes.{Appends-nil}
 use Rattle.std.specs.Io.KnownBytes.{Appends}
 use Rattle.serde_json.specs.Read.{read}
 use Rattle.serde_json.specs.Written.{compact_text}
 use Rattle.sq_ranges.specs.ReconValue.{ReconValue}
-use Rattle.sq_text.proofs.Appending.{appends_none}
 use Rattle.sq_world.specs.declared.telling.Told.TheVariants.{Written, NoMemory}
 use Rattle.sq_world.specs.Listing.{IsTold}
 use Rattle.sq_picture.specs.Json.{moves_data, TellsAsJson}
@@ -13,7 +13,7 @@ use Rattle.sq_picture.specs.MovesSvg.{moves_svg, TellsAsSvg}
 
 -- nothing was written
 pub not_told : (tells : ReconValue → List ℕ → Type 0) (recon : ReconValue) (a : Option (List ℕ)) → IsTold tells recon a a NoMemory
-not_told tells recon a = appends_none a
+not_told tells recon a = Appends-nil a
 
 -- a line of JSON was written
 pub told_as_json : (recon : ReconValue) (text : List ℕ) (a b : Option (List ℕ)) → text ≡ compact_text (moves_data recon) → read text ≡ Some (moves_data recon) → Appends a b (text ++ 10 ∷ []) → IsTold TellsAsJson recon a b Written

@@ -36,7 +36,9 @@ names_of i =
 
 -- where a column begins, from which on its places are counted
 abbrev pub origin_text : ℕ → List ℕ
-origin_text i = concat (codes "<g transform=\"translate(" ∷ decimal (96 + i % ACROSS * 160) ∷ codes "," ∷ decimal (40 + i / ACROSS * 196) ∷ codes ")\">\n" ∷ [])
+origin_text i =
+    concat (codes "<g transform=\"translate(" ∷ decimal (96 + i % ACROSS * 160) ∷ codes "," ∷ decimal (40 + i / ACROSS * 196)
+    ∷ codes ")\">\n" ∷ [])
 
 -- that, and what stands left of it
 abbrev pub place_text : ℕ → List ℕ
@@ -45,11 +47,14 @@ place_text i = origin_text i ++ names_of i
 -- the root keys of a range, on their axis
 abbrev pub keys_text : Range → List ℕ
 keys_text range =
-    concat (codes "<text y=\"14\">" ∷ decimal range.lo ∷ codes "</text><text class=\"end\" x=\"144\" y=\"14\">" ∷ decimal range.hi ∷ codes "</text><path class=\"line\" d=\"M.5 18v8m0-4h143m0-4v8\"/>\n" ∷ [])
+    concat (codes "<text y=\"14\">" ∷ decimal range.lo ∷ codes "</text><text class=\"end\" x=\"144\" y=\"14\">" ∷ decimal range.hi
+    ∷ codes "</text><path class=\"line\" d=\"M.5 18v8m0-4h143m0-4v8\"/>\n" ∷ [])
 
 -- a box in the colour of a partition, at this height
 abbrev pub box_text : ℕ → ℕ → List ℕ
-box_text part top = concat (codes "<rect y=\"" ∷ decimal top ∷ codes "\" width=\"144\" height=\"32\" rx=\"4\" fill=\"hsl(" ∷ decimal (hue_of part) ∷ codes ",45%," ∷ decimal (light_of part) ∷ codes "%)\"/>\n" ∷ [])
+box_text part top =
+    concat (codes "<rect y=\"" ∷ decimal top ∷ codes "\" width=\"144\" height=\"32\" rx=\"4\" fill=\"hsl(" ∷ decimal (hue_of part)
+    ∷ codes ",45%," ∷ decimal (light_of part) ∷ codes "%)\"/>\n" ∷ [])
 
 -- its number, in that box
 abbrev pub name_text : ℕ → ℕ → List ℕ
@@ -70,11 +75,14 @@ begun_below segments key = count_by (λ segment. nat_lt segment.lo key) segments
 -- a segment on the axis of segments, those next to one another in two shades
 abbrev pub segment_text : ℕ → List ℕ
 segment_text seg =
-    concat (codes "<rect class=\"" ∷ (if seg % 2 == 0 then codes "even" else codes "odd") ∷ codes "\" x=\"" ∷ decimal seg ∷ codes "\" width=\"1\" height=\"10\"><title>segment " ∷ decimal seg ∷ codes "</title></rect>\n" ∷ [])
+    concat (codes "<rect class=\"" ∷ (if seg % 2 == 0 then codes "even" else codes "odd") ∷ codes "\" x=\"" ∷ decimal seg
+    ∷ codes "\" width=\"1\" height=\"10\"><title>segment " ∷ decimal seg ∷ codes "</title></rect>\n" ∷ [])
 
 -- the start of the axis of segments, of so many from the first number on
 abbrev pub axis_text : ℕ → ℕ → List ℕ
-axis_text first count = concat (codes "<svg y=\"144\" width=\"144\" height=\"10\" viewBox=\"" ∷ decimal first ∷ codes " 0 " ∷ decimal count ∷ codes " 10\" preserveAspectRatio=\"none\">\n" ∷ [])
+axis_text first count =
+    concat (codes "<svg y=\"144\" width=\"144\" height=\"10\" viewBox=\"" ∷ decimal first ∷ codes " 0 " ∷ decimal count
+    ∷ codes " 10\" preserveAspectRatio=\"none\">\n" ∷ [])
 
 -- the segments from the first number up to the other one, on their axis
 abbrev pub segments_text : ℕ → ℕ → List ℕ
@@ -86,7 +94,9 @@ last_text first end = if nat_lt (first + 1) end then number_text (codes "end") 1
 
 -- the numbers of the segments, the first and the last one, and their stage
 abbrev pub numbers_text : ℕ → ℕ → ℕ → List ℕ
-numbers_text first end stage = number_text (codes "start") 0 168 (codes "") first ++ (number_text (codes "middle") 72 168 (codes "stage ") stage ++ last_text first end)
+numbers_text first end stage =
+    number_text (codes "start") 0 168 (codes "") first ++ (number_text (codes "middle") 72 168 (codes "stage ") stage
+    ++ last_text first end)
 
 -- the segments of a range, which are numbered in key order
 abbrev pub marks_text : ReconValue → Range → List ℕ

@@ -10,7 +10,8 @@ use Rattle.sq_picture.specs.Svg.{start_text, words_text, number_text, end_text}
 
 -- how many levels a node is below the whole segment
 abbrev pub level_of : ℕ → ℕ
-level_of n = if nat_lt n 2 then 0 else if nat_lt n 4 then 1 else if nat_lt n 8 then 2 else if nat_lt n 16 then 3 else if nat_lt n 32 then 4 else 5
+level_of n =
+    if nat_lt n 2 then 0 else if nat_lt n 4 then 1 else if nat_lt n 8 then 2 else if nat_lt n 16 then 3 else if nat_lt n 32 then 4 else 5
 
 -- where a node's box begins, from the left and from the top
 abbrev pub left_of : ℕ → ℕ
@@ -31,7 +32,8 @@ class_of true (Complete p) = codes "complete"
 -- the start of a node, with a box of this height at a place
 abbrev pub placed_text : List ℕ → ℕ → ℕ → ℕ → List ℕ
 placed_text class left top height =
-    concat (codes "<g class=\"" ∷ class ∷ codes "\">\n<rect x=\"" ∷ decimal left ∷ codes "\" y=\"" ∷ decimal top ∷ codes "\" width=\"144\" height=\"" ∷ decimal height ∷ codes "\" rx=\"3\"/>\n" ∷ [])
+    concat (codes "<g class=\"" ∷ class ∷ codes "\">\n<rect x=\"" ∷ decimal left ∷ codes "\" y=\"" ∷ decimal top
+    ∷ codes "\" width=\"144\" height=\"" ∷ decimal height ∷ codes "\" rx=\"3\"/>\n" ∷ [])
 
 -- the start of a node, with its box, which is as high as its leaves
 abbrev pub box_text : List ℕ → ℕ → List ℕ
@@ -59,7 +61,9 @@ node_text status n = box_text (class_of (is_live status n) (status n)) n ++ (sai
 
 -- what stands above the nodes
 abbrev pub tree_heading_text : List ℕ
-tree_heading_text = words_text (codes "start") 8 24 (codes "The tree nodes of a segment: the whole, its halves, and so on to its 32 leaves. Pale ones aren't live.")
+tree_heading_text =
+    words_text (codes "start") 8 24
+    (codes "The tree nodes of a segment: the whole, its halves, and so on to its 32 leaves. Pale ones aren't live.")
 
 -- the picture up to its first node
 abbrev pub tree_top_text : List ℕ

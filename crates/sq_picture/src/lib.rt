@@ -8,6 +8,6 @@ mod svg;
 mod tree_svg;
 
 pub use json_text::moves_json;
-pub use listing::{listing_json, listing_svg};
+pub use listing::{AsJson, AsSvg};
 pub use moves_svg::write_moves_svg;
 pub use tree_svg::write_tree_svg;
