@@ -3,22 +3,4 @@
 #![tactic(auto)]
 
 #[cfg(test)]
-mod audit;
-#[cfg(test)]
-mod driver;
-#[cfg(test)]
-mod gates;
-#[cfg(test)]
-mod gather;
-#[cfg(test)]
-mod live;
-#[cfg(test)]
-mod node;
-#[cfg(test)]
-mod round;
-#[cfg(test)]
-mod run;
-#[cfg(test)]
-mod stages;
-#[cfg(test)]
-mod text;
+mod tests;

@@ -1,0 +1,184 @@
+// Links in one thread and between two.
+ghost use Rattle.std.specs.Prelude.{◌≡◌, [], IfOk};
+
+use super::fixtures::note;
+use sq_chunk::{Chunk, Note};
+use sq_link::{RecvPass, SendPass, SharedLink};
+use sq_plan::PartId;
+use sq_schema::{Family, Root, Row, RowKey, Rows};
+use std::alloc::Global;
+use std::process::Abort;
+use std::sync::Wait;
+use std::test::Fail;
+use std::thread;
+
+const CHUNKS: u32 = 1000;
+
+const TRIES: u64 = 50_000_000;
+
+// The family of this root key, whose root row has seven times the key.
+fn family(alloc: Global, key: u32) -> Result<Family, Fail>
+    ensures root { IfOk result (λ family. family.root ≡ key) }
+    ensures log { IfOk result (λ family. family.log ≡ []) }
+{
+    let root = Root::new(u64::from(key)).ok_or("not a root key")?;
+    let mut rows = Rows::new(alloc);
+    rows.insert(RowKey::ROOT, Row::new(7 * i64::from(key), Vec::new(alloc)))?;
+    Ok(Family::opened(alloc, root, rows)?)
+}
+
+// The chunk of this number, from partition 3 to partition 5, with the family of that root key.
+fn chunk(alloc: Global, number: u32) -> Result<Chunk, Fail> {
+    let mut families = Vec::new(alloc);
+    families.push(family(alloc, number)?)?;
+    let lo = u64::from(number);
+    let note = Note {
+        src: PartId::new(3),
+        dst: PartId::new(5),
+        lo,
+        hi: lo + 1,
+        ..note(lo)?
+    };
+    Ok(Chunk::new(note, families))
+}
+
+// Whether it is the chunk of this number, with its family.
+fn is_chunk(chunk: &Chunk, number: u32) -> bool {
+    let note = chunk.note();
+    let [family] = chunk.families() else {
+        return false;
+    };
+    let seven = family.rows().get(RowKey::ROOT).map(Row::number);
+    note.number == u64::from(number)
+        && note.src.number() == 3
+        && note.dst.number() == 5
+        && family.root().number() == u64::from(number)
+        && seven == Some(7 * i64::from(number))
+}
+
+// Whether these are the chunks of the numbers from this one on.
+fn are_chunks(chunks: &[Chunk], first: u32) -> bool {
+    (first..u32::MAX)
+        .zip(chunks)
+        .all(|(number, chunk)| is_chunk(chunk, number))
+}
+
+// The chunks of the numbers below this one.
+fn chunks(alloc: Global, count: u32) -> Result<Vec<Chunk>, Fail> {
+    let mut chunks = Vec::new(alloc);
+    for number in 0..count {
+        chunks.push(chunk(alloc, number)?)?;
+    }
+    Ok(chunks)
+}
+
+// Sends the chunks in order, with at most this many tries, and gives back those that didn't go.
+fn send_all<R: Wait>(
+    rt: &R,
+    link: &SharedLink,
+    mut pass: SendPass,
+    chunks: Vec<Chunk>,
+    tries: u64,
+) -> (SendPass, Option<Chunk>)
+    requires { pass.queue ≡ link.now.queue }
+    ensures { result.0.queue ≡ link.now.queue }
+{
+    let mut chunks = chunks.into_iter();
+    let mut next = chunks.next();
+    for _ in 0..tries {
+        let Some(chunk) = next else {
+            return (pass, None);
+        };
+        match link.send(rt, &mut pass, chunk) {
+            Ok(()) => next = chunks.next(),
+            Err(back) => {
+                next = Some(back);
+                thread::yield_now();
+            }
+        }
+    }
+    (pass, next)
+}
+
+// Receives as many chunks as the list has room for, if they come.
+fn receive_all<R: Wait>(
+    rt: &R,
+    link: &SharedLink,
+    mut pass: RecvPass,
+    mut into: Vec<Chunk>,
+    tries: u64,
+) -> (RecvPass, Vec<Chunk>)
+    requires { pass.queue ≡ link.now.queue }
+    ensures { result.0.queue ≡ link.now.queue }
+{
+    for _ in 0..tries {
+        if into.len() >= into.capacity() {
+            return (pass, into);
+        }
+        match link.recv(rt, &mut pass) {
+            Some(chunk) => into.push_reserved(chunk),
+            None => thread::yield_now(),
+        }
+    }
+    (pass, into)
+}
+
+// Fills a link, receives the first chunk, and then as many as there is room for: the one that came back is sent
+// between, all come in order, and what was left comes when the link is closed.
+fn pass_on<R: Abort + Wait>(rt: &R, alloc: Global, capacity: u32, room: u32) -> Result<(), Fail> {
+    assert!(rt; 0 < capacity && capacity < CHUNKS);
+    let count = u64::from(capacity);
+    let to_send = chunks(alloc, capacity + 1)?;
+    let into = Vec::with_capacity(alloc, room as usize)?;
+    let (link, sender, mut receiver) = SharedLink::open(
+        alloc,
+        PartId::new(3),
+        PartId::new(5),
+        count,
+    )?;
+    assert!(rt; link.src().number() == 3 && link.dst().number() == 5 && link.capacity() == count);
+    let (mut sender, held) = send_all(rt, &link, sender, to_send, count + 1);
+    let first = link.recv(rt, &mut receiver).expect(rt, "a chunk comes");
+    let held = held.expect(rt, "a chunk comes back");
+    assert!(rt; is_chunk(&first, 0) && is_chunk(&held, capacity));
+    assert!(rt; link.send(rt, &mut sender, held).is_ok());
+    let (receiver, received) = receive_all(rt, &link, receiver, into, count + 1);
+    let left = link.close(rt, sender, receiver);
+    let came = room.min(capacity);
+    assert!(rt; received.len() == came as usize && are_chunks(&received, 1));
+    assert!(rt; left.len() == (capacity - came) as usize && are_chunks(&left, came + 1));
+    Ok(())
+}
+
+#[test]
+fn as_many_as_the_link_holds(rt: HostRuntime) -> Result<(), Fail> {
+    for (capacity, room) in [(1, 2), (2, 3), (3, 4), (7, 8), (64, 65), (2, 1), (64, 0)] {
+        pass_on(&rt, rt.alloc(), capacity, room)?;
+    }
+    Ok(())
+}
+
+#[test]
+fn a_thousand_chunks_between_two_threads(rt: HostRuntime) -> Result<(), Fail> {
+    let to_send = chunks(rt.alloc(), CHUNKS)?;
+    let into = Vec::with_capacity(rt.alloc(), CHUNKS as usize)?;
+    let (link, sender, receiver) = SharedLink::open(rt.alloc(), PartId::new(3), PartId::new(5), 4)?;
+    let shared = &link;
+    let runtime = &rt;
+    let (sent, came) = thread::join(
+        runtime,
+        move ||
+            requires { sender.queue ≡ shared.now.queue }
+            ensures { result.0.queue ≡ shared.entry.now.queue }
+        { send_all(runtime, shared, sender, to_send, TRIES) },
+        move ||
+            requires { receiver.queue ≡ shared.now.queue }
+            ensures { result.0.queue ≡ shared.entry.now.queue }
+        { receive_all(runtime, shared, receiver, into, TRIES) },
+    );
+    let (sender, left) = sent;
+    let (receiver, received) = came;
+    assert!(rt; left.is_none() && received.len() == CHUNKS as usize && are_chunks(&received, 0));
+    assert!(rt; link.close(&rt, sender, receiver).is_empty());
+    Ok(())
+}

@@ -1,0 +1,416 @@
+// Worlds, and whole runs through readers and writers that give or take little at a time, or fail. The other whole runs
+// are stored in `tests/runs`.
+use super::fixtures::{note, opening, step};
+use super::lines::{Drip, SIZES};
+use sq_chunk::Note;
+use sq_model::{Answer, Phase, Refusal, Step};
+use sq_ranges::GivenRow;
+use sq_store::SlabStore;
+use sq_text::{InputFault, InputLine, WriteFault};
+use sq_tree::Status;
+use sq_world::{Ending, World, run, run_world};
+use std::alloc::Global;
+use std::io;
+use std::io::{ErrorKind, Read, Write};
+use std::test::Fail;
+
+// The sizes and the row of an opening.
+const LINES: &str = "config 1 64 1\nrow 5 0 0 10 -\n";
+
+fn steps(alloc: Global, lines: &[&str]) -> Result<Vec<Step>, Fail> {
+    let mut steps = Vec::new(alloc);
+    for line in lines {
+        steps.push(step(alloc, line)?)?;
+    }
+    Ok(steps)
+}
+
+#[test]
+fn a_list_of_steps(rt: HostRuntime) -> Result<(), Fail> {
+    let steps = steps(rt.alloc(), &["start", "prepare 0"])?;
+    let (world, answers) = run_world(rt.alloc(), opening(rt.alloc(), LINES)?, &steps)?;
+    assert!(rt;
+        matches!(
+            answers.as_slice(),
+            [Answer::Refused(Refusal::NotPrepared), Answer::Done]
+        )
+    );
+    assert!(rt; world.phase() == Phase::Preparing);
+    Ok(())
+}
+
+// The root row of root key 5, with number 10.
+fn rows(alloc: Global) -> Result<Vec<GivenRow>, Fail> {
+    let mut rows = Vec::new(alloc);
+    rows.push(GivenRow {
+        root: 5,
+        table: 0,
+        sub: 0,
+        number: 10,
+        note: Vec::new(alloc),
+    })?;
+    Ok(rows)
+}
+
+#[test]
+fn a_world_before_any_step(rt: HostRuntime) -> Result<(), Fail> {
+    let parts = opening(rt.alloc(), "config 1 64 1\n")?.into_parts();
+    let rows = rows(rt.alloc())?;
+    let world = World::open(
+        rt.alloc(),
+        parts.schema,
+        parts.old,
+        parts.new,
+        parts.config,
+        rows,
+    )?;
+    assert!(rt; world.phase() == Phase::Idle && world.status(0, 63) == Some(Status::Free));
+    for (part, families) in [(0, Some(1)), (1, Some(0)), (2, None)] {
+        assert!(rt;
+            world.store(part).map(SlabStore::len) == families,
+            "at {part}"
+        );
+    }
+    assert!(rt; world.under_way(0, 1, 0).is_none());
+    Ok(())
+}
+
+// The world of an opening after the steps of these lines.
+fn world_after(alloc: Global, lines: &[&str]) -> Result<World, Fail> {
+    let mut world = World::from_opening(alloc, opening(alloc, LINES)?)?;
+    for line in lines {
+        drop(world.step(&step(alloc, line)?));
+    }
+    Ok(world)
+}
+
+#[test]
+fn a_chunk_under_way(rt: HostRuntime) -> Result<(), Fail> {
+    let world = world_after(
+        rt.alloc(),
+        &[
+            "prepare 0",
+            "prepare 1",
+            "start",
+            "claim 0 1 2",
+            "begin 0 1 2",
+            "cut 0 1",
+        ],
+    )?;
+    let note = Note {
+        last: true,
+        ..note(0)?
+    };
+    let chunk = world.under_way(0, 1, 0).ok_or("no chunk")?;
+    assert!(rt; chunk.note() == note && chunk.len() == 1);
+    assert!(rt; world.phase() == Phase::Moving && world.status(0, 1) == Some(Status::Partial(2)));
+    assert!(rt; world.under_way(0, 1, 1).is_none());
+    Ok(())
+}
+
+// A move of the root keys 4 to 7 from partition 0 to partition 1, with answers of each form. Its last line is cut off,
+// and a chunk stays under way.
+const INPUT: &[u8] = b"old {\"version\":1,\"partitions\":2,\"ranges\":[[0,4294967296,0]]}
+new {\"version\":1,\"partitions\":2,\"ranges\":[[0,4,0],[4,8,1],[8,4294967296,0]]}
+config 1 64 1
+row 4 0 0 1 -
+row 5 0 0 10 -
+row 9 0 0 10 -
+prepare 0
+prepare 1
+start
+claim 0 1 2
+txn 0 7 5 add 0 0 1
+txn 0 6 9 put 1 7 3 6869 get 1 7 get 1 8 add 0 0 -3
+txn 0 5 9 check 0 0 11
+begin 0 1 2
+txn 0 8 5 add 0 0 1
+txn 1 9 5 add 0 0 1
+cut 0 1
+push 0 1
+pop 0 1
+load 0 1
+cut 0 1
+push 0";
+
+// All that is written for it.
+const OUTPUT: &[u8] = b"ok
+ok
+ok
+ok
+commit 7 11
+commit 6 ok 3/6869 none 7
+abort 5 0 small
+ok
+moved 8 1
+waits 9 0 1
+cut 0 0 1 4 5 more 1
+ok
+ok
+load 0 0 1 4 5 more 1
+cut 1 0 1 5 8 last 1
+refused 230
+end moving
+at 0 9 1 0.0=7/- 1.7=3/6869
+at 1 4 0 0.0=1/-
+way 0 1 1 0 1 5 8 last 1
+in 5 1 0.0=11/-
+";
+
+// A writer that takes three bytes a call, and fails after this many calls.
+#[derive(Drop)]
+struct Narrow {
+    got: Vec<u8>,
+    calls: usize,
+}
+
+impl Narrow {
+    // Counts a call.
+    fn call(&mut self) -> io::Result<()> {
+        if self.calls == 0 {
+            return Err(io::Error::from(ErrorKind::BrokenPipe));
+        }
+        self.calls -= 1;
+        Ok(())
+    }
+}
+
+impl Write for Narrow {
+    fn write(&mut self, buf: &[u8]) -> io::Result<usize> {
+        self.call()?;
+        let taken = buf.len().min(3);
+        self.got.extend_from_slice(&buf[..taken])?;
+        Ok(taken)
+    }
+
+    fn flush(&mut self) -> io::Result<()> {
+        self.call()
+    }
+}
+
+#[test]
+fn short_reads_and_writes(rt: HostRuntime) -> Result<(), Fail> {
+    for most in SIZES {
+        let mut reader = Drip {
+            rest: INPUT,
+            most,
+            fails: false,
+        };
+        let mut writer = Narrow {
+            got: Vec::new(rt.alloc()),
+            calls: OUTPUT.len() * 2,
+        };
+        let ending = run(rt.alloc(), &mut reader, &mut writer)?;
+        assert!(rt; ending == Ending::Done && ending.status() == 0);
+        assert!(rt; writer.got.as_slice() == OUTPUT, "by {most}");
+    }
+    Ok(())
+}
+
+// A reader that is interrupted twice before each read that another one makes.
+#[derive(Drop)]
+struct Interrupted<'a> {
+    reader: Drip<'a>,
+    times: u32,
+}
+
+impl Read for Interrupted<'_> {
+    fn read(&mut self, buf: &mut [u8]) -> io::Result<usize> {
+        if self.times < 2 {
+            self.times += 1;
+            return Err(io::Error::from(ErrorKind::Interrupted));
+        }
+        self.times = 0;
+        self.reader.read(buf)
+    }
+}
+
+// A read that is interrupted is made again, and what is written is the same.
+#[test]
+fn interrupted_reads(rt: HostRuntime) -> Result<(), Fail> {
+    for most in SIZES {
+        let mut reader = Interrupted {
+            reader: Drip {
+                rest: INPUT,
+                most,
+                fails: false,
+            },
+            times: 0,
+        };
+        let mut output = Vec::new(rt.alloc());
+        let ending = run(rt.alloc(), &mut reader, &mut output)?;
+        assert!(rt;
+            ending == Ending::Done && output.as_slice() == OUTPUT,
+            "by {most}"
+        );
+    }
+    Ok(())
+}
+
+// A header, and a script that takes a node, with all that is written for them.
+const HEADER: &[u8] = b"old {\"version\":1,\"partitions\":2,\"ranges\":[[0,4294967296,0]]}
+new {\"version\":1,\"partitions\":2,\"ranges\":[[0,4,0],[4,8,1],[8,4294967296,0]]}
+config 1 64 1
+row 5 0 0 10 -
+";
+
+const SCRIPT: &[u8] = b"prepare 0
+prepare 1
+start
+claim 0 1 2
+";
+
+const ANSWERS: &[u8] = b"ok
+ok
+ok
+ok
+end moving
+at 0 5 0 0.0=10/-
+";
+
+// The answers to the first lines of the script, and then the fault of a failed read.
+fn answers_and_fault(alloc: Global, count: usize) -> Result<Vec<u8>, Fail> {
+    let mut wanted = Vec::new(alloc);
+    let mut left = count;
+    for byte in ANSWERS {
+        if left == 0 {
+            break;
+        }
+        wanted.push(*byte)?;
+        if *byte == b'\n' {
+            left -= 1;
+        }
+    }
+    wanted.extend_from_slice(b"fault 123\n")?;
+    Ok(wanted)
+}
+
+// What is written where a read fails behind these bytes, and how the run ends.
+fn run_failing(alloc: Global, given: &[u8], most: usize) -> Result<(Vec<u8>, Ending), Fail> {
+    let mut reader = Drip {
+        rest: given,
+        most,
+        fails: true,
+    };
+    let mut output = Vec::new(alloc);
+    let ending = run(alloc, &mut reader, &mut output)?;
+    Ok((output, ending))
+}
+
+// The ending by a failed read in this line of the script, which stands behind the four lines of the header.
+fn failed_at(line: u32) -> Ending {
+    Ending::Fault(InputFault::ReadFailed.at(InputLine::Later(line.saturating_add(5))))
+}
+
+// Behind each front of a script the lines that ended are answered, and the fault belongs to the line behind them.
+#[test]
+fn readers_that_fail_in_a_script(rt: HostRuntime) -> Result<(), Fail> {
+    for length in 0..=SCRIPT.len() {
+        let script = &SCRIPT[..length];
+        let ended = script.iter().filter(|byte| **byte == b'\n').count();
+        let wanted = answers_and_fault(rt.alloc(), ended)?;
+        let mut given = Vec::new(rt.alloc());
+        given.extend_from_slice(HEADER)?;
+        given.extend_from_slice(script)?;
+        let (output, ending) = run_failing(rt.alloc(), &given, 4096)?;
+        assert!(rt; output == wanted, "after {length}");
+        assert!(rt; ending == failed_at(ended as u32), "after {length}");
+    }
+    Ok(())
+}
+
+// A header that isn't complete has the fault alone.
+#[test]
+fn readers_that_fail_in_a_header(rt: HostRuntime) -> Result<(), Fail> {
+    for length in 0..HEADER.len() {
+        let (output, ending) = run_failing(rt.alloc(), &HEADER[..length], 7)?;
+        assert!(rt;
+            ending.status() == 2 && output.as_slice() == b"fault 123\n".as_slice(),
+            "after {length}"
+        );
+    }
+    Ok(())
+}
+
+// A reader that never ends.
+#[derive(Drop)]
+struct Endless;
+
+impl Read for Endless {
+    fn read(&mut self, buf: &mut [u8]) -> io::Result<usize> {
+        buf.fill(b'a');
+        Ok(buf.len())
+    }
+}
+
+#[test]
+fn readers_without_end(rt: HostRuntime) -> Result<(), Fail> {
+    let header =
+        "old {\"version\":1,\"partitions\":1,\"ranges\":[[0,4294967296,0]]}\nnew {\"version\":1,\"partitions\":1,\"ranges\":[[0,4294967296,0]]}\nconfig 1 64 1\nprepare 0\n";
+    let mut output = Vec::new(rt.alloc());
+    let ending = run(rt.alloc(), &mut Endless, &mut output)?;
+    assert!(rt; ending.status() == 2 && output.as_slice() == b"fault 231\n".as_slice());
+    let mut output = Vec::new(rt.alloc());
+    let mut reader = header.as_bytes().chain(Endless);
+    let ending = run(rt.alloc(), &mut reader, &mut output)?;
+    assert!(rt; ending == Ending::Fault(InputFault::TooLong.at(InputLine::Later(5))));
+    assert!(rt; output.as_slice() == b"ok\nfault 122\n".as_slice());
+    Ok(())
+}
+
+// How a run through a writer ends that fails after this many calls, and what the writer got.
+fn run_narrowly(
+    alloc: Global,
+    mut input: &[u8],
+    calls: usize,
+) -> (Result<Ending, WriteFault>, Vec<u8>) {
+    let mut writer = Narrow {
+        got: Vec::new(alloc),
+        calls,
+    };
+    let ending = run(alloc, &mut input, &mut writer);
+    (ending, writer.got)
+}
+
+// Each call that fails ends the run, after the first of what it writes otherwise.
+#[test]
+fn writers_that_fail(rt: HostRuntime) {
+    let fault = b"fault 101\n".as_slice();
+    for calls in 0..5 {
+        let (ending, got) = run_narrowly(rt.alloc(), b"old {\n", calls);
+        assert!(rt;
+            ending == Err(WriteFault) && fault.starts_with(&got),
+            "after {calls}"
+        );
+    }
+    let (ending, got) = run_narrowly(rt.alloc(), b"old {\n", 5);
+    assert!(rt; ending.is_ok() && got.as_slice() == fault);
+    for calls in 0..100 {
+        let (ending, got) = run_narrowly(rt.alloc(), INPUT, calls);
+        assert!(rt;
+            ending == Err(WriteFault) && OUTPUT.starts_with(&got),
+            "after {calls}"
+        );
+    }
+    assert!(rt; WriteFault.number() == 124);
+}
+
+// The same of each call of a run, until one needs no more calls.
+#[test]
+fn writers_that_fail_at_each_call(rt: HostRuntime) -> Result<(), Fail> {
+    let mut input = Vec::new(rt.alloc());
+    input.extend_from_slice(HEADER)?;
+    input.extend_from_slice(SCRIPT)?;
+    for calls in 0..100 {
+        let (ending, got) = run_narrowly(rt.alloc(), &input, calls);
+        if ending == Ok(Ending::Done) {
+            assert!(rt; got.as_slice() == ANSWERS);
+            return Ok(());
+        }
+        assert!(rt;
+            ending == Err(WriteFault) && ANSWERS.starts_with(&got),
+            "after {calls}"
+        );
+    }
+    Err("no run went through")?
+}

@@ -1,0 +1,11 @@
+// Runs that are made by hand or by their workers, and what comes of them.
+mod audit;
+mod driver;
+mod gates;
+mod gather;
+mod live;
+mod node;
+mod round;
+mod run;
+mod stages;
+mod text;

@@ -1,0 +1,82 @@
+// Workers one by one: how many turns they take, and what they ask before each step.
+use super::gates::Recorder;
+use super::node::PAIR;
+use super::run::TestRun;
+use sq_driver::{NodeStep, OpenGate};
+use std::alloc::Global;
+use std::sync::Wait;
+use std::test::Fail;
+
+/// One partition, from which nothing moves.
+pub const ALONE: &str = r#"old {"version":1,"partitions":1,"ranges":[[0,4294967296,0]]}
+new {"version":1,"partitions":1,"ranges":[[0,4294967296,0]]}
+config 1 64 1
+"#;
+
+// Two transactions on one root key, which the only partition has.
+fn two_jobs<R: Wait>(rt: &R, alloc: Global) -> Result<TestRun, Fail> {
+    let run = TestRun::opened(alloc, ALONE, 0)?;
+    run.post(rt, alloc, "txn 0 1 5 put 0 0 1 -")?;
+    run.post(rt, alloc, "txn 0 2 5 get 0 0")?;
+    Ok(run)
+}
+
+#[test]
+fn a_node_takes_its_turns(rt: HostRuntime) -> Result<(), Fail> {
+    let alloc = rt.alloc();
+    let mut run = two_jobs(&rt, alloc)?;
+    run.work(&rt, 0, &OpenGate);
+    assert!(rt; run.receipts() == 0);
+    run.work(&rt, 1, &OpenGate);
+    assert!(rt; run.receipts() == 1);
+    run.work(&rt, 1, &OpenGate);
+    assert!(rt; run.receipts() == 2 && run.all_commit());
+    Ok(())
+}
+
+#[test]
+fn a_gate_is_asked_before_each_step(rt: HostRuntime) -> Result<(), Fail> {
+    let alloc = rt.alloc();
+    let mut run = two_jobs(&rt, alloc)?;
+    let first = Recorder::new(None);
+    run.work(&rt, 1, &first);
+    assert!(rt; first.told() == (0, 0x1a2345678));
+    // It is idle once the second job is answered.
+    let second = Recorder::new(None);
+    run.work(&rt, 1_000_000, &second);
+    assert!(rt; second.told() == (0, 0x1a2345678));
+    Ok(())
+}
+
+#[test]
+fn a_gate_ends_a_node(rt: HostRuntime) -> Result<(), Fail> {
+    let alloc = rt.alloc();
+    for (end, asked, receipts) in [
+        (NodeStep::Job, 0x1, 0),
+        (NodeStep::Answered, 0x1a, 1),
+        (NodeStep::Load, 0x1a23456, 1),
+    ] {
+        let mut run = two_jobs(&rt, alloc)?;
+        let gate = Recorder::new(Some(end));
+        run.work(&rt, 1_000_000, &gate);
+        assert!(rt; gate.told() == (0, asked));
+        assert!(rt; run.receipts() == receipts);
+    }
+    Ok(())
+}
+
+// A pump claims the whole of the one segment, then finds nothing to claim there, and is done.
+#[test]
+fn a_pump_takes_its_turns(rt: HostRuntime) -> Result<(), Fail> {
+    let alloc = rt.alloc();
+    let mut run = TestRun::opened(alloc, PAIR, 1)?;
+    let closed = Recorder::new(Some(NodeStep::Pump));
+    run.drive_pump(&rt, 0, 1_000_000, &closed)?;
+    assert!(rt; closed.told() == (2, 0x9));
+    let gate = Recorder::new(None);
+    run.drive_pump(&rt, 0, 1, &gate)?;
+    assert!(rt; gate.told() == (2, 0x9) && !run.is_pump_done(0));
+    run.drive_pump(&rt, 0, 1_000_000, &gate)?;
+    assert!(rt; gate.told() == (2, 0x99) && run.is_pump_done(0));
+    Ok(())
+}

@@ -1,0 +1,273 @@
+// Nodes in one thread: a pull of one leaf, and requests that no claim made.
+use super::run::TestRun;
+use super::text::{receipts_text, text_of};
+use sq_node::Stepped;
+use sq_pull::{PumpTurn, Request};
+use sq_ranges::SegId;
+use sq_tree::NodeId;
+use std::alloc::Global;
+use std::sync::Wait;
+use std::test::Fail;
+
+/// Two partitions, between which root keys 4 to 7 move in one segment, and a row of root key 5.
+pub const PAIR: &str = r#"old {"version":1,"partitions":2,"ranges":[[0,4294967296,0]]}
+new {"version":1,"partitions":2,"ranges":[[0,4,0],[4,8,1],[8,4294967296,0]]}
+config 1 64 1
+row 5 0 0 10 -
+"#;
+
+// Once leaf 1 was pulled for a transaction at partition 1, one at partition 0 ran, and the pump claimed leaf 0.
+const PULLED: &str = "at 0 9 1
+at 1 5 1 0.0=10/-
+note 0 1 0 0 33 5 6 true
+node 1 Split
+node 2 Split
+node 4 Split
+node 8 Split
+node 16 Split
+node 32 Claimed(0)
+node 33 Complete(3)
+receipt 9 0 commit 10 none
+receipt 5 0 commit 9 10/-
+";
+
+// A transaction that waits pulls its leaf, and is answered once its rows came; one of another partition is posted on.
+#[test]
+fn a_pull_of_one_leaf(rt: HostRuntime) -> Result<(), Fail> {
+    let alloc = rt.alloc();
+    let mut run = TestRun::opened(alloc, PAIR, 1)?;
+    run.post(&rt, alloc, "txn 1 9 5 get 0 0")?;
+    for part in [0, 1, 0, 1] {
+        run.turn(&rt, part)?;
+    }
+    assert_eq!(rt;
+        run.text_of_receipts(alloc, 1)?.as_str(),
+        "receipt 5 0 commit 9 10/-\n"
+    );
+    for part in [0, 1] {
+        assert!(rt; run.steps(&rt, part)? == [Stepped::Nothing; 8], "{part}");
+    }
+    run.post(&rt, alloc, "txn 1 10 9 get 0 0")?;
+    for part in [1, 0] {
+        run.turn(&rt, part)?;
+    }
+    assert_eq!(rt;
+        run.text_of_receipts(alloc, 0)?.as_str(),
+        "receipt 9 0 commit 10 none\n"
+    );
+    assert!(rt; run.turn_pump(&rt, 0)? == won(32)?);
+    let gathered = run.gathered(&rt, alloc)?;
+    assert_eq!(rt; text_of(alloc, &gathered)?.as_str(), PULLED);
+    Ok(())
+}
+
+// That a pump won a node of the first segment.
+fn won(node: u64) -> Result<PumpTurn, Fail> {
+    let seg = SegId::new(0).ok_or("no segment")?;
+    Ok(PumpTurn::Won(seg, NodeId::new(node).ok_or("no node")?))
+}
+
+// A job that finds no row at the root key 9 of partition 0, whose log doesn't grow by it.
+const CHECK: &str = "txn 0 1 9 check 0 0 1";
+
+// A run whose queue of jobs to partition 0 is full: it has 4,096 places, and one more job comes back.
+fn full_of_jobs<R: Wait>(rt: &R, alloc: Global) -> Result<TestRun, Fail> {
+    let run = TestRun::opened(alloc, PAIR, 0)?;
+    for _job in 0..4096 {
+        run.post(rt, alloc, CHECK)?;
+    }
+    if run.has_posted(rt, alloc, CHECK)? {
+        return Err("there are more places")?;
+    }
+    Ok(run)
+}
+
+// A job that comes back doesn't count as posted: once those in the queue are answered, all are.
+#[test]
+fn a_job_that_comes_back_is_not_counted(rt: HostRuntime) -> Result<(), Fail> {
+    let mut run = full_of_jobs(&rt, rt.alloc())?;
+    for _turn in 0..4096 {
+        assert!(rt; !run.is_answered());
+        run.turn(&rt, 0)?;
+    }
+    assert!(rt; run.receipts() == 4096 && run.is_answered());
+    Ok(())
+}
+
+// The jobs 2 to 4, as partition 0 answers them behind those that were in its queue.
+const IN_ORDER: &str = "receipt 9 0 commit 2 none
+receipt 9 1 commit 3 none
+receipt 9 2 commit 4 none
+";
+
+// Jobs of another partition that find its queue full stay in their order, however often they are tried, and go once there
+// is room.
+#[test]
+fn jobs_that_find_a_full_queue_are_kept(rt: HostRuntime) -> Result<(), Fail> {
+    let alloc = rt.alloc();
+    let mut run = full_of_jobs(&rt, alloc)?;
+    for id in 2..5 {
+        run.post(&rt, alloc, &format!(in alloc; "txn 1 {id} 9 get 0 0")?)?;
+    }
+    for _turn in 0..5 {
+        run.turn(&rt, 1)?;
+    }
+    for _turn in 0..4099 {
+        run.turn(&rt, 0)?;
+        run.turn(&rt, 1)?;
+    }
+    assert!(rt; run.receipts() == 4099 && run.is_answered());
+    assert!(rt; run.text_of_receipts(alloc, 0)?.as_str().ends_with(IN_ORDER));
+    Ok(())
+}
+
+// A request that names no segment.
+const NO_SEGMENT: Request = Request {
+    seg: 9,
+    node: 1,
+    pull: 2,
+};
+
+// How many places the queue of requests to a partition has left. It is full then.
+fn places_left<R: Wait>(rt: &R, run: &TestRun, part: u8) -> Result<u64, Fail> {
+    for taken in 0..1000 {
+        if !run.has_requested(rt, part, NO_SEGMENT)? {
+            return Ok(taken);
+        }
+    }
+    Err("the queue isn't full")?
+}
+
+// A queue of requests holds 256. The pull of a node that finds it full is tried again until there is room.
+#[test]
+fn a_request_that_finds_a_full_queue_is_kept(rt: HostRuntime) -> Result<(), Fail> {
+    let alloc = rt.alloc();
+    let mut run = TestRun::opened(alloc, PAIR, 0)?;
+    assert!(rt; places_left(&rt, &run, 0)? == 256);
+    run.post(&rt, alloc, "txn 1 9 5 get 0 0")?;
+    for _turn in 0..3 {
+        run.turn(&rt, 1)?;
+    }
+    for _turn in 0..260 {
+        run.turn(&rt, 1)?;
+        run.turn(&rt, 0)?;
+    }
+    assert_eq!(rt;
+        run.text_of_receipts(alloc, 1)?.as_str(),
+        "receipt 5 0 commit 9 10/-\n"
+    );
+    Ok(())
+}
+
+// Three partitions, each of which gives four root keys to another one.
+const ROUND: &str = r#"old {"version":1,"partitions":3,"ranges":[[0,4,0],[4,8,1],[8,4294967296,2]]}
+new {"version":1,"partitions":3,"ranges":[[0,4,1],[4,8,2],[8,12,0],[12,4294967296,2]]}
+config 1 64 1
+"#;
+
+// A partition, a job there that waits, and the places that the pull leaves in the queue of each partition.
+const PULLS: [(u8, &str, [u64; 3]); 3] = [
+    (1, "txn 1 1 0 get 0 0", [255, 256, 256]),
+    (2, "txn 2 1 4 get 0 0", [256, 255, 256]),
+    (0, "txn 0 1 8 get 0 0", [256, 256, 255]),
+];
+
+// The request of a pull goes to the partition that its segment leaves, and to no other.
+#[test]
+fn a_request_goes_to_the_source_alone(rt: HostRuntime) -> Result<(), Fail> {
+    let alloc = rt.alloc();
+    for (part, line, left) in PULLS {
+        let mut run = TestRun::opened(alloc, ROUND, 0)?;
+        run.post(&rt, alloc, line)?;
+        // The turn of the partition takes this one, and leaves there what comes behind it.
+        run.request(&rt, part, NO_SEGMENT)?;
+        run.turn(&rt, usize::from(part))?;
+        for (to, places) in (0u8..3).zip(&left) {
+            assert!(rt; places_left(&rt, &run, to)? == *places, "{line} to {to}");
+        }
+    }
+    Ok(())
+}
+
+// As many transactions wait as may: the next one goes back into its queue, and waits once another was resumed.
+#[test]
+fn a_job_that_is_refused_is_taken_again(rt: HostRuntime) -> Result<(), Fail> {
+    let alloc = rt.alloc();
+    let mut run = TestRun::opened(alloc, PAIR, 0)?;
+    for id in 0..1025 {
+        let line = format!(in alloc; "txn 1 {id} 5 get 0 0")?;
+        run.post(&rt, alloc, &line)?;
+    }
+    for _turn in 0..1025 {
+        run.turn(&rt, 1)?;
+    }
+    assert!(rt; run.receipts() == 0);
+    for _turn in 0..1030 {
+        run.turn(&rt, 0)?;
+        run.turn(&rt, 1)?;
+    }
+    assert!(rt; run.receipts() == 1025 && run.all_commit());
+    Ok(())
+}
+
+// Requests that no claim made, or that name no node of a segment that leaves there: whom they go to, and the segment, the
+// node and the pull.
+const WRONG: [(u8, u64, u64, u32); 5] = [
+    (0, 0, 1, 4),
+    (0, 0, 0, 2),
+    (0, 0, 64, 2),
+    (0, 9, 1, 2),
+    (1, 0, 1, 2),
+];
+
+// The run after these requests and five turns of each node.
+fn after_wrong_requests<R: Wait>(rt: &R, alloc: Global) -> Result<TestRun, Fail> {
+    let mut run = TestRun::opened(alloc, PAIR, 1)?;
+    for (part, seg, node, pull) in WRONG {
+        run.request(rt, part, Request { seg, node, pull })?;
+    }
+    for _turn in 0..5 {
+        run.turn(rt, 0)?;
+        run.turn(rt, 1)?;
+    }
+    Ok(run)
+}
+
+#[test]
+fn wrong_requests_change_nothing(rt: HostRuntime) -> Result<(), Fail> {
+    let alloc = rt.alloc();
+    let gathered = after_wrong_requests(&rt, alloc)?.gathered(&rt, alloc)?;
+    assert_eq!(rt; text_of(alloc, &gathered)?.as_str(), "at 0 5 0 0.0=10/-\n");
+    Ok(())
+}
+
+// Once the pump claimed the whole segment, and node 0 began it.
+const BEGUN: &str = "note 0 1 0 0 1 4 8 true
+way 0 1 0 0 1 4 8 last 1
+in 5 0 0.0=10/-
+node 1 Partial(0)
+";
+
+#[test]
+fn a_repeated_request_begins_its_node_once(rt: HostRuntime) -> Result<(), Fail> {
+    let alloc = rt.alloc();
+    let mut run = after_wrong_requests(&rt, alloc)?;
+    assert!(rt; run.turn_pump(&rt, 0)? == won(1)?);
+    for _time in 0..2 {
+        run.request(
+            &rt,
+            0,
+            Request {
+                seg: 0,
+                node: 1,
+                pull: 0,
+            },
+        )?;
+    }
+    for _turn in 0..3 {
+        run.turn(&rt, 0)?;
+    }
+    let gathered = run.gathered(&rt, alloc)?;
+    assert_eq!(rt; text_of(alloc, &gathered)?.as_str(), BEGUN);
+    Ok(())
+}

@@ -1,0 +1,253 @@
+// Runs, made by hand or by their workers.
+ghost use Rattle.std.specs.Prelude.{◌≡◌, ◌≤◌};
+ghost use Rattle.sq_pull.specs.declared.numbers.TheConstants.{MAX_PUMPS};
+ghost use Rattle.sq_node.specs.NodeState.{IsNodeOf};
+ghost use Rattle.sq_gather.specs.Gathered.{AreAllOf};
+
+use super::text::receipts_text;
+use sq_audit::Job;
+use sq_driver::{Gate, drive_pump, run_workers};
+use sq_gather::{Gathered, Ungathered, gather};
+use sq_lines::LineReader;
+use sq_model::Step;
+use sq_node::{Fabric, Node, Stepped};
+use sq_plan::PartId;
+use sq_pull::{Pump, PumpTurn, Request};
+use sq_ranges::Opening;
+use sq_schema::{Reply, Schema};
+use sq_text::{read_header, read_step};
+use std::alloc::{AllocError, Global};
+use std::sync::Wait;
+use std::test::Fail;
+use std::thread::Threads;
+
+/// The opening of a header.
+pub fn read_opening(alloc: Global, header: &str) -> Result<Opening, Fail> {
+    let schema = Schema::new(8).ok_or("8 tables are a schema")?;
+    let mut lines = LineReader::new(alloc, header.as_bytes())?;
+    Ok(read_header(alloc, schema, &mut lines)?)
+}
+
+/// The job of a line, which names its partition.
+pub fn job(alloc: Global, line: &str) -> Result<Job, Fail> {
+    let schema = Schema::new(8).ok_or("8 tables are a schema")?;
+    match read_step(alloc, &schema, line.as_bytes())? {
+        Step::Submit(part, txn) if part < 256 => Ok(Job {
+            part: PartId::new(part as u8),
+            txn,
+        }),
+        _ => Err("no transaction")?,
+    }
+}
+
+/// A run: what its nodes share, all nodes and all pumps.
+#[derive(Drop)]
+pub struct TestRun {
+    fabric: Fabric,
+    nodes: Vec<Node>,
+    pumps: Vec<Pump>,
+    ghost whole: { AreAllOf fabric nodes.items pumps.items },
+}
+
+impl TestRun {
+    /// The run of a header, with this many pumps.
+    pub fn opened(alloc: Global, header: &str, pumps: u32) -> Result<TestRun, Fail>
+        requires { pumps ≤ MAX_PUMPS }
+    {
+        let opening = read_opening(alloc, header)?;
+        Ok(TestRun::of(alloc, &opening, pumps)?)
+    }
+
+    /// The run of an opening, with this many pumps.
+    pub fn of(alloc: Global, opening: &Opening, pumps: u32) -> Result<TestRun, AllocError>
+        requires { pumps ≤ MAX_PUMPS }
+    {
+        let (fabric, nodes, pumps) = Fabric::open(alloc, opening, pumps)?;
+        // For the proof: what holds of each opening and each fabric, which these say.
+        let _recon = opening.recon();
+        let _links = fabric.links();
+        Ok(TestRun::new(fabric, nodes, pumps))
+    }
+
+    /// The run of these, which are all.
+    pub fn new(fabric: Fabric, nodes: Vec<Node>, pumps: Vec<Pump>) -> TestRun
+        requires { AreAllOf fabric nodes.items pumps.items }
+    {
+        TestRun {
+            fabric,
+            nodes,
+            pumps,
+        }
+    }
+
+    /// Posts the transaction of a line to the partition that the line names.
+    pub fn post<R: Wait>(&self, rt: &R, alloc: Global, line: &str) -> Result<(), Fail> {
+        if self.has_posted(rt, alloc, line)? {
+            Ok(())
+        } else {
+            Err("the queue is full")?
+        }
+    }
+
+    /// The same, and whether the queue had room for it.
+    pub fn has_posted<R: Wait>(&self, rt: &R, alloc: Global, line: &str) -> Result<bool, Fail> {
+        let Job { part, txn } = job(alloc, line)?;
+        if part.number() >= self.fabric.parts() {
+            return Err("no such partition")?;
+        }
+        Ok(self.fabric.post(rt, part, txn).is_ok())
+    }
+
+    /// Asks a partition to begin a node of a segment for a pull.
+    pub fn request<R: Wait>(&self, rt: &R, part: u8, request: Request) -> Result<(), Fail> {
+        if self.has_requested(rt, part, request)? {
+            Ok(())
+        } else {
+            Err("the queue is full")?
+        }
+    }
+
+    /// The same, and whether the queue had room for it.
+    pub fn has_requested<R: Wait>(&self, rt: &R, part: u8, request: Request) -> Result<bool, Fail> {
+        if part >= self.fabric.parts() {
+            return Err("no such partition")?;
+        }
+        Ok(self.fabric.request(rt, PartId::new(part), request).is_ok())
+    }
+
+    /// Whether as many jobs were answered as were posted.
+    pub fn is_answered(&self) -> bool {
+        self.fabric.is_answered()
+    }
+
+    /// A turn of the node of a partition.
+    pub fn turn<R: Wait>(&mut self, rt: &R, part: usize) -> Result<(), Fail> {
+        if part >= self.nodes.len() {
+            return Err("no such partition")?;
+        }
+        self.nodes[part].turn(rt, &self.fabric);
+        Ok(())
+    }
+
+    /// What each step of the node of a partition comes to, in their order.
+    pub fn steps<R: Wait>(&mut self, rt: &R, part: usize) -> Result<[Stepped; 8], Fail> {
+        if part >= self.nodes.len() {
+            return Err("no such partition")?;
+        }
+        Ok(make_steps(rt, &self.fabric, &mut self.nodes[part]))
+    }
+
+    /// A turn of the pump of a number.
+    pub fn turn_pump<R: Wait>(&mut self, rt: &R, number: usize) -> Result<PumpTurn, Fail> {
+        if number >= self.pumps.len() {
+            return Err("no such pump")?;
+        }
+        let shared = self.fabric.shared();
+        Ok(self.pumps[number].turn(rt, &shared)?)
+    }
+
+    /// Drives the pump of a number.
+    pub fn drive_pump<R: Wait, G: Gate>(
+        &mut self,
+        rt: &R,
+        number: usize,
+        turns: u64,
+        gate: &G,
+    ) -> Result<(), Fail> {
+        if number >= self.pumps.len() {
+            return Err("no such pump")?;
+        }
+        drive_pump(rt, &self.fabric, &mut self.pumps[number], turns, gate);
+        Ok(())
+    }
+
+    /// Whether the pump of a number is done.
+    pub fn is_pump_done(&self, number: usize) -> bool {
+        self.pumps.get(number).is_some_and(|pump| pump.is_done())
+    }
+
+    /// Runs all workers.
+    pub fn work<R: Threads + Wait + Sync, G: Gate>(&mut self, rt: &R, turns: u64, gate: &G) {
+        run_workers(
+            rt,
+            &self.fabric,
+            &mut self.nodes,
+            &mut self.pumps,
+            turns,
+            gate,
+        );
+    }
+
+    /// The receipts of the node of a partition, in lines.
+    pub fn text_of_receipts(&self, alloc: Global, part: usize) -> Result<String, Fail> {
+        let node = self.nodes.get(part).ok_or("no such partition")?;
+        receipts_text(alloc, node.receipts())
+    }
+
+    /// How many receipts all nodes have.
+    pub fn receipts(&self) -> usize {
+        let mut count: usize = 0;
+        for node in &self.nodes {
+            count = count.saturating_add(node.receipts().len());
+        }
+        count
+    }
+
+    /// Whether all receipts are of commits.
+    pub fn all_commit(&self) -> bool {
+        self.nodes.iter().all(|node| {
+            node.receipts()
+                .iter()
+                .all(|receipt| matches!(receipt.reply, Reply::Committed(_)))
+        })
+    }
+
+    /// What is gathered of it. Where there is no memory for it, it comes back.
+    pub fn gather<R: Wait>(self, rt: &R, alloc: Global) -> Result<Gathered, TestRun> {
+        let TestRun {
+            fabric,
+            nodes,
+            pumps,
+        } = self;
+        match gather(rt, alloc, fabric, nodes, pumps) {
+            Ok(gathered) => Ok(gathered),
+            Err(
+                Ungathered {
+                    fabric,
+                    nodes,
+                    pumps,
+                },
+            ) => Err(TestRun {
+                fabric,
+                nodes,
+                pumps,
+            }),
+        }
+    }
+
+    /// What is gathered of it.
+    pub fn gathered<R: Wait>(self, rt: &R, alloc: Global) -> Result<Gathered, Fail> {
+        match self.gather(rt, alloc) {
+            Ok(gathered) => Ok(gathered),
+            Err(_) => Err("no memory")?,
+        }
+    }
+}
+
+// Makes each step of a node once.
+fn make_steps<R: Wait>(rt: &R, fabric: &Fabric, node: &mut Node) -> [Stepped; 8]
+    requires { IsNodeOf fabric.now node.old }
+    ensures of { IsNodeOf fabric.now node.new }
+    ensures part { node.new.core.part ≡ node.old.core.part }
+{
+    [
+        node.step_job(rt, fabric),
+        node.step_request(rt, fabric),
+        node.step_cut(),
+        node.step_send(rt, fabric),
+        node.step_recv(rt, fabric),
+        node.step_load(fabric),
+        node.step_complete(fabric),
+        node.step_resume(rt, fabric),
+    ]
+}

@@ -1,0 +1,102 @@
+// Stages that go on with what the one before left.
+use super::node::PAIR;
+use super::run::{job, read_opening};
+use sq_driver::laws::resumed_workers_can_be_driven;
+use sq_driver::{OpenGate, run_workers};
+use sq_node::Fabric;
+use sq_plan::PartId;
+use sq_schema::Txn;
+use sq_store::SlabStore;
+use std::alloc::Global;
+use std::test::Fail;
+
+// For each of two partitions the jobs that were left at it: at the first more than its queue has places for.
+fn many_left(alloc: Global) -> Result<Vec<Vec<Txn>>, Fail> {
+    let mut jobs = Vec::new(alloc);
+    for _job in 0..5000 {
+        jobs.push(job(alloc, "txn 0 1 9 check 0 0 1")?.txn)?;
+    }
+    Ok(vec![in alloc; jobs, Vec::new(alloc)]?)
+}
+
+// The families of each of two partitions, which have none.
+fn no_families(alloc: Global) -> Result<Vec<SlabStore>, Fail> {
+    Ok(vec![in alloc; SlabStore::new(alloc), SlabStore::new(alloc)]?)
+}
+
+// A stage that goes on has the jobs that were left: 4,096 in the queue of their partition, and the others at its node.
+#[test]
+fn jobs_that_were_left_are_posted(rt: HostRuntime) -> Result<(), Fail> {
+    let alloc = rt.alloc();
+    let opening = read_opening(alloc, PAIR)?;
+    let Ok((fabric, nodes, _)) = Fabric::resumed(
+        alloc,
+        &opening,
+        0,
+        no_families(alloc)?,
+        many_left(alloc)?,
+        Vec::new(alloc),
+        0,
+    ) else {
+        return Err("the stage doesn't begin")?;
+    };
+    let more = job(alloc, "txn 0 2 9 check 0 0 1")?.txn;
+    assert!(rt; fabric.post(&rt, PartId::new(0), more).is_err());
+    let mut pending = Vec::new(alloc);
+    for node in nodes {
+        pending.push(node.into_parts().posts.len())?;
+    }
+    assert_eq!(rt; pending.as_slice(), [904, 0].as_slice());
+    Ok(())
+}
+
+// Each of them is answered, once, and the workers end then.
+#[test]
+fn jobs_that_were_left_are_answered(rt: HostRuntime) -> Result<(), Fail> {
+    let alloc = rt.alloc();
+    let opening = read_opening(alloc, PAIR)?;
+    let Ok((fabric, mut nodes, mut pumps)) = Fabric::resumed(
+        alloc,
+        &opening,
+        0,
+        no_families(alloc)?,
+        many_left(alloc)?,
+        Vec::new(alloc),
+        1,
+    ) else {
+        return Err("the stage doesn't begin")?;
+    };
+    // For the proof: the workers of a stage can be driven.
+    resumed_workers_can_be_driven();
+    run_workers(
+        &rt,
+        &fabric,
+        &mut nodes,
+        &mut pumps,
+        1_000_000_000_000,
+        &OpenGate,
+    );
+    let mut receipts: usize = 0;
+    for node in &nodes {
+        receipts = receipts.saturating_add(node.receipts().len());
+    }
+    assert_eq!(rt; receipts, 5000);
+    Ok(())
+}
+
+// The families of another number of partitions come back, with what else was handed in.
+#[test]
+fn families_of_too_few_partitions_come_back(rt: HostRuntime) -> Result<(), Fail> {
+    let alloc = rt.alloc();
+    let opening = read_opening(alloc, PAIR)?;
+    let left = vec![in alloc; Vec::new(alloc), Vec::new(alloc)]?;
+    let stores = vec![in alloc; SlabStore::new(alloc)]?;
+    let Err(back) = Fabric::resumed(alloc, &opening, 0, stores, left, Vec::new(alloc), 0) else {
+        return Err("a stage begins with the families of one partition")?;
+    };
+    assert_eq!(rt;
+        (back.stores.len(), back.left.len(), back.receipts.len()),
+        (1, 2, 0)
+    );
+    Ok(())
+}
