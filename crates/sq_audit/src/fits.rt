@@ -1,7 +1,7 @@
 // Whether all parts of what was gathered are there and fit together.
 ghost use Rattle.std.specs.Prelude.{◌≡◌, count_by, IfOk};
 ghost use Rattle.std.specs.Bool.{Decides};
-ghost use Rattle.sq_node_model.specs.Placed.{HasEachPart, FitTogether};
+ghost use Rattle.sq_node_model.specs.Prelude.{HasEachPart, FitTogether};
 ghost use Rattle.sq_audit.specs.Located.{entries_in, ListsAll};
 ghost use Rattle.sq_audit.specs.Fits.{is_of_link, AreKnownLinks, HasOne, HaveOneEach};
 

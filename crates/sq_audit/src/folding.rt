@@ -1,10 +1,9 @@
 // Folding the logs of what was gathered into the bases of its families.
 ghost use Rattle.std.specs.Prelude.{◌≡◌, ℕ, ◌≤◌, [], map, filter, not, IfOk, IfErr};
 ghost use Rattle.sq_schema.specs.declared.root.TheConstants.{ROOT_END};
-ghost use Rattle.sq_schema.specs.Table.{rows_in};
-ghost use Rattle.sq_store.specs.StoreValue.{folded_store};
-ghost use Rattle.sq_node_model.specs.Next.{IsStageDone};
-ghost use Rattle.sq_node_model.specs.Folded.{folded_opening, folded_gathered};
+ghost use Rattle.sq_schema.specs.Prelude.{rows_in};
+ghost use Rattle.sq_store.specs.Prelude.{folded_store};
+ghost use Rattle.sq_node_model.specs.Prelude.{IsStageDone, folded_opening, folded_gathered};
 ghost use Rattle.sq_audit.specs.Answers.{IdsDiffer};
 ghost use Rattle.sq_audit.specs.Counts.{Counts, is_counted};
 ghost use Rattle.sq_audit.specs.Rows.{rows_among};

@@ -2,7 +2,7 @@
 // alone, and that its family starts from its opening rows.
 ghost use Rattle.std.specs.Prelude.{◌≡◌, nat_lt};
 ghost use Rattle.std.specs.Bool.{Decides};
-ghost use Rattle.sq_schema.specs.Table.{rows_in};
+ghost use Rattle.sq_schema.specs.Prelude.{rows_in};
 ghost use Rattle.sq_audit.specs.Located.{entry_of, entries_in, AreByRoot};
 ghost use Rattle.sq_audit.specs.Index.{HasFamily, HaveFamilies, Agree, AgreeOnSpots, StartsFrom, StartFrom};
 

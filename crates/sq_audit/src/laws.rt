@@ -1,8 +1,7 @@
 //! What the definitions come to. The functions do nothing: each states a law, which the checker proves.
 ghost use Rattle.std.specs.Prelude.{◌≡◌, ◌↔◌, List};
-ghost use Rattle.sq_ranges.specs.OpeningValue.{OpeningValue};
-ghost use Rattle.sq_node_model.specs.Gathered.{GatheredValue};
-ghost use Rattle.sq_node_model.specs.Placed.{IsPlaced};
+ghost use Rattle.sq_ranges.specs.Prelude.{OpeningValue};
+ghost use Rattle.sq_node_model.specs.Prelude.{GatheredValue, IsPlaced};
 ghost use Rattle.sq_audit.specs.declared.job.Job.{Job};
 ghost use Rattle.sq_audit.specs.declared.verdict.Defect.{Defect};
 ghost use Rattle.sq_audit.specs.declared.verdict.Verdict.{Verdict};

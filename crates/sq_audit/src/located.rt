@@ -1,8 +1,8 @@
 // The families of what was gathered, each with where it is.
 ghost use Rattle.std.specs.Prelude.{◌≡◌, ◌++◌, ◌∷◌, [], List, map, IfOk, OnOk};
 ghost use Rattle.std.specs.FinMap.{get};
-ghost use Rattle.sq_schema.specs.Family.{FamilyValue};
-ghost use Rattle.sq_store.specs.StoreValue.{family_in};
+ghost use Rattle.sq_schema.specs.Prelude.{FamilyValue};
+ghost use Rattle.sq_store.specs.Prelude.{family_in};
 ghost use Rattle.sq_audit.specs.Located.{spot_of, entries_in, ListsAll, ListsStored, AreByRoot, AddsAll, AddsLink};
 
 use crate::stored::next_family;

@@ -2,12 +2,9 @@
 ghost use Rattle.std.specs.Prelude.{◌≡◌, [], true, reverse, slice_index_or, IsTrue, IfOk};
 ghost use Rattle.std.specs.Option.{option_copied};
 ghost use Rattle.std.specs.Bool.{Decides};
-ghost use Rattle.sq_tree.specs.Node.{is_node};
-ghost use Rattle.sq_tree.specs.Status.{is_begun};
-ghost use Rattle.sq_tree.specs.Tree.{status_at};
-ghost use Rattle.sq_model.specs.Links.{goes};
-ghost use Rattle.sq_model.specs.Orderly.{AreNumbered};
-ghost use Rattle.sq_node_model.specs.Placed.{IsLinkNote, IsLinkPlaced};
+ghost use Rattle.sq_tree.specs.Prelude.{is_node, is_begun, status_at};
+ghost use Rattle.sq_model.specs.Prelude.{goes, AreNumbered};
+ghost use Rattle.sq_node_model.specs.Prelude.{IsLinkNote, IsLinkPlaced};
 ghost use Rattle.sq_audit.specs.Notes.{LinksPlaced, AreOfLast, HoldTheirKeys, AreLinkNotes};
 
 use crate::tiles::tile;

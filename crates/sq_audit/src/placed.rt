@@ -1,9 +1,8 @@
 // Whether each family is where the notes place its root key.
 ghost use Rattle.std.specs.Prelude.{◌≡◌, ℕ, find, IfOk, Some, slice_get};
 ghost use Rattle.std.specs.Bool.{Decides};
-ghost use Rattle.sq_model.specs.Orderly.{AreDisjoint};
-ghost use Rattle.sq_node_model.specs.Spots.{cut_notes};
-ghost use Rattle.sq_node_model.specs.Placed.{HasEachPart};
+ghost use Rattle.sq_model.specs.Prelude.{AreDisjoint};
+ghost use Rattle.sq_node_model.specs.Prelude.{cut_notes, HasEachPart};
 ghost use Rattle.sq_audit.specs.Notes.{LinksPlaced};
 ghost use Rattle.sq_audit.specs.Located.{entry_of, entries_in, ListsAll};
 ghost use Rattle.sq_audit.specs.Spans.{marked_in, AreByKey, IsPlacedBy};

@@ -3,8 +3,8 @@ ghost use Rattle.std.specs.Prelude.{◌≡◌, ◌≤◌, ◌++◌, nat_le, leng
 ghost use Rattle.std.specs.Option.{option_map};
 ghost use Rattle.std.specs.List.{flat_map};
 ghost use Rattle.std.specs.List.Sorted.{IsPermutation, IsNonDecreasingBy};
-ghost use Rattle.sq_model.specs.Staged.{owner_in};
-ghost use Rattle.sq_node_model.specs.Spots.{loads_of, loaded_count};
+ghost use Rattle.sq_model.specs.Prelude.{owner_in};
+ghost use Rattle.sq_node_model.specs.Prelude.{loads_of, loaded_count};
 ghost use Rattle.sq_audit.specs.Spans.{marked_of, marked_in, marked, notes_of, first_key, is_over, AreByKey, part_by};
 
 use sq_chunk::Note;

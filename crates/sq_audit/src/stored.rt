@@ -1,6 +1,6 @@
 // The families of a store, one after another.
 ghost use Rattle.std.specs.Prelude.{◌≡◌, None, IfSome, IfNone};
-ghost use Rattle.sq_store.specs.InOrder.{HoldsByRoot, family_from};
+ghost use Rattle.sq_store.specs.Prelude.{HoldsByRoot, family_from};
 ghost use Rattle.sq_audit.specs.Located.{IsNextFamily};
 
 use sq_schema::Family;

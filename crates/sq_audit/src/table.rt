@@ -2,7 +2,7 @@
 ghost use Rattle.std.specs.Prelude.{◌≡◌, ℕ, ◌≤◌, [], IfOk, OnOk};
 ghost use Rattle.std.specs.FinMap.{get};
 ghost use Rattle.sq_schema.specs.declared.root.TheConstants.{ROOT_END};
-ghost use Rattle.sq_schema.specs.Table.{rows_in};
+ghost use Rattle.sq_schema.specs.Prelude.{rows_in};
 ghost use Rattle.sq_audit.specs.Rows.{rows_with, rows_beside, rows_among};
 
 use crate::stored::next_family;

@@ -1,8 +1,7 @@
 // Whether notes tile the nodes that they are about.
 ghost use Rattle.std.specs.Prelude.{◌≡◌, reverse, slice_get, IfOk};
 ghost use Rattle.std.specs.Bool.{Decides};
-ghost use Rattle.sq_model.specs.Place.{extent_in};
-ghost use Rattle.sq_model.specs.Orderly.{Tiles};
+ghost use Rattle.sq_model.specs.Prelude.{extent_in, Tiles};
 ghost use Rattle.sq_audit.specs.Notes.{FollowsNewest, IsPart};
 
 use sq_chunk::Note;

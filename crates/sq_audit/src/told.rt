@@ -2,8 +2,7 @@
 ghost use Rattle.std.specs.Prelude.{◌≡◌, ℕ, ◌<◌, ◌≤◌, [], true, length, slice_get, Some, option_copied, IfOk};
 ghost use Rattle.std.specs.Bool.{Decides};
 ghost use Rattle.std.specs.List.Sorted.{IsPermutation, IsSortedByKey};
-ghost use Rattle.sq_node_model.specs.NodeValue.{ReceiptValue};
-ghost use Rattle.sq_node_model.specs.Receipts.{is_commit};
+ghost use Rattle.sq_node_model.specs.Prelude.{ReceiptValue, is_commit};
 ghost use Rattle.sq_audit.specs.Answers.{IdsDiffer};
 ghost use Rattle.sq_audit.specs.Located.{entries_in, AreByRoot};
 ghost use Rattle.sq_audit.specs.Index.{IsIndexOf};

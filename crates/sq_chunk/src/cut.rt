@@ -1,6 +1,6 @@
 // Chunks that are cut out of a store.
 ghost use Rattle.std.specs.Prelude.{◌≡◌, ◌≤◌, IfOk, OnErr};
-ghost use Rattle.sq_store.specs.StoreValue.{without_between};
+ghost use Rattle.sq_store.specs.Prelude.{without_between};
 ghost use Rattle.sq_chunk.specs.NextChunk.{next_chunk};
 
 use crate::chunk::{Chunk, Note};

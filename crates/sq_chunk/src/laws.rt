@@ -2,8 +2,7 @@
 ghost use Rattle.std.specs.Prelude.{◌≡◌, ℕ, None, if◌then◌else◌};
 ghost use Rattle.std.specs.FinMap.{get};
 ghost use Rattle.sq_ranges.specs.declared.recon.Extent.{Extent};
-ghost use Rattle.sq_store.specs.StoreValue.{StoreValue, family_in, without_between};
-ghost use Rattle.sq_store.specs.InOrder.{HoldsByRoot};
+ghost use Rattle.sq_store.specs.Prelude.{StoreValue, family_in, without_between, HoldsByRoot};
 ghost use Rattle.sq_chunk.specs.declared.chunk.Note.{Note};
 ghost use Rattle.sq_chunk.specs.ChunkValue.{covers};
 ghost use Rattle.sq_chunk.specs.NextChunk.{next_chunk};

@@ -4,7 +4,7 @@ use Rattle.std.proofs.Common.{List, [], ◌∷◌, ◌++◌, refl, sym, ◌∙�
 use Rattle.sq_node.specs.FabricValue.{FabricValue}
 use Rattle.sq_node.specs.NodeState.{NodeState, IsNodeOf}
 use Rattle.sq_pull.specs.Pump.{PumpValue}
-use Rattle.sq_driver.specs.Ways.{ComesBySteps, ComesOf}
+use Rattle.sq_driver.specs.Ways.{ComesBySteps, IsReachedBy}
 use Rattle.sq_driver.specs.Nodes.{StepsOrLooks, Driven}
 use Rattle.sq_driver.specs.Pumps.{HasAllSeats, TakesTurn, PumpDriven}
 
@@ -14,7 +14,7 @@ goes_on step first mid last way [] came same = subst (ComesBySteps step first wa
 goes_on step first mid last way (before ∷ earlier) came goes = (goes_on step first mid before way earlier came goes.0, goes.1)
 
 -- what comes of a state that comes of the first comes of the first
-comes_further : {X : Type 0} (step : X → X → Type 0) (first mid last : X) → ComesOf step first mid → ComesOf step mid last → ComesOf step first last
+comes_further : {X : Type 0} (step : X → X → Type 0) (first mid last : X) → IsReachedBy step first mid → IsReachedBy step mid last → IsReachedBy step first last
 comes_further step first mid last came more = (more.0 ++ came.0, goes_on step first mid last came.0 more.0 came.1 more.1)
 
 pub node_no_turn : (fabric : FabricValue) (node : NodeState) → IsNodeOf fabric node → Driven fabric node node

@@ -1,11 +1,9 @@
 //! What holds of the workers of a run. The functions do nothing: each states a law, which the checker proves.
 ghost use Rattle.std.specs.Prelude.{ℕ, List, All};
-ghost use Rattle.sq_ranges.specs.OpeningValue.{OpeningValue};
-ghost use Rattle.sq_ranges.specs.Opening.{IsOpening};
+ghost use Rattle.sq_ranges.specs.Prelude.{OpeningValue, IsOpening};
 ghost use Rattle.sq_pull.specs.Pump.{PumpValue};
-ghost use Rattle.sq_store.specs.StoreValue.{StoreValue};
-ghost use Rattle.sq_node_model.specs.NodeValue.{ReceiptValue};
-ghost use Rattle.sq_node_model.specs.BeganWith.{BeganWith, first_began};
+ghost use Rattle.sq_store.specs.Prelude.{StoreValue};
+ghost use Rattle.sq_node_model.specs.Prelude.{ReceiptValue, BeganWith, first_began};
 ghost use Rattle.sq_node.specs.FabricValue.{FabricValue};
 ghost use Rattle.sq_node.specs.NodeState.{NodeState, IsNodeOf};
 ghost use Rattle.sq_node.specs.Holds.{HoldsUnder};

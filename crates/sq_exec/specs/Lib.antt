@@ -11,3 +11,4 @@ pub mod Numbering
 pub mod Serving
 pub mod Moving
 pub mod Opened
+pub mod Prelude

@@ -1,7 +1,7 @@
 // Laws of what a partition gave up and loaded.
 ghost use Rattle.std.specs.Prelude.{◌≡◌, ℕ, ◌<◌, ◌==◌, ◌&&◌, ◌||◌, Bool, List};
 ghost use Rattle.sq_tree.specs.declared.node.TheConstants.{LEAVES};
-ghost use Rattle.sq_tree.specs.Node.{is_above};
+ghost use Rattle.sq_tree.specs.Prelude.{is_above};
 ghost use Rattle.sq_chunk.specs.declared.chunk.Note.{Note};
 ghost use Rattle.sq_chunk.specs.ChunkValue.{covers};
 ghost use Rattle.sq_exec.specs.declared.run.Run.{Run};

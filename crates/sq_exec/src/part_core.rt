@@ -39,7 +39,7 @@ pub struct PartCore<S: FamilyStore> {
 
 impl<S: FamilyStore> Model for PartCore<S> {
     ghost use Rattle.std.specs.Coded.{codes};
-    ghost use Rattle.sq_store.specs.Codes.{store_coded};
+    ghost use Rattle.sq_store.specs.Prelude.{store_coded};
     ghost use Rattle.sq_exec.specs.CoreValue.{PartCoreValue};
 
     ghost Value = { PartCoreValue };

@@ -1,7 +1,7 @@
 // Laws of what the partitions tell the leader.
 ghost use Rattle.std.specs.Prelude.{◌≡◌, ℕ, ◌==◌, ◌&&◌, ◌||◌, not, nat_lt, true, List, length};
 ghost use Rattle.std.specs.List.{list_any, list_all, range_with_len};
-ghost use Rattle.sq_ranges.specs.ReconValue.{ReconValue, IsRecon, stage_in};
+ghost use Rattle.sq_ranges.specs.Prelude.{ReconValue, IsRecon, stage_in};
 ghost use Rattle.sq_leader.specs.LeaderValue.{StageValue};
 ghost use Rattle.sq_leader.specs.Marks.{is_marked, all_marked, marks_after};
 ghost use Rattle.sq_leader.specs.Segments.{have_reported, owes_no_report};

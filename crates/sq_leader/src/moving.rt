@@ -2,7 +2,7 @@
 ghost use Rattle.std.specs.Prelude.{◌≡◌, ◌<◌, ◌≤◌, OnOk};
 ghost use Rattle.std.specs.List.{AllPass};
 ghost use Rattle.sq_plan.specs.declared.plan.TheConstants.{MAX_PARTS};
-ghost use Rattle.sq_ranges.specs.ReconValue.{stages};
+ghost use Rattle.sq_ranges.specs.Prelude.{stages};
 ghost use Rattle.sq_leader.specs.Marks.{is_marked};
 ghost use Rattle.sq_leader.specs.Segments.{is_heard, have_reported};
 ghost use Rattle.sq_leader.specs.Leader.{first_stage, answer_to_report, following, answer_to_next, answer_to_finish};
@@ -30,7 +30,7 @@ pub struct Ended {
 
 impl Model for Moving {
     ghost use Rattle.std.specs.Prelude.{◌<◌};
-    ghost use Rattle.sq_ranges.specs.ReconValue.{stages};
+    ghost use Rattle.sq_ranges.specs.Prelude.{stages};
     ghost use Rattle.sq_leader.specs.LeaderValue.{StageValue};
 
     ghost Value = { StageValue };

@@ -34,7 +34,7 @@ pub record SomePieces (v : LinesValue) : Type 0 where
 
 pub some_pieces : (v : LinesValue) → SomePieces v
 some_pieces v = let some = some_more v.reading v.known in
-    record { pieces = pieces_in some.end v.lines (v.held ++ some.more); can_come = record { more = some.more; end = some.end; comes = some.comes; are = refl } }
+    record { pieces = pieces_in some.end v.lines_left (v.held ++ some.more); can_come = record { more = some.more; end = some.end; comes = some.comes; are = refl } }
 
 -- nothing can come after the end
 ended_comes : (now : ReadState) (known : Option (List ℕ)) → now ≡ Ended → Comes now known Whole []
@@ -56,7 +56,7 @@ none_left end (x ∷ xs) some = by_test (eqb x 10) refl (has_first xs)
     by_test true e after = rw (e, after.are) refl
     by_test false e after = nothing_after end (cut_at_ends (x ∷ xs)) x after.first after.others (rw (e, after.are) refl)
 
-pub too_many : (v : LinesValue) → v.lines ≡ 0 → 0 < length v.held → CanCome v (TooMany ∷ [])
+pub too_many : (v : LinesValue) → v.lines_left ≡ 0 → 0 < length v.held → CanCome v (TooMany ∷ [])
 too_many v none some =
     let other = some_more v.reading v.known in
     record { more = other.more; end = other.end; comes = other.comes; are = rw none (sym (none_left other.end (v.held ++ other.more) (omega (arith, length-append v.held other.more)))) }
@@ -73,12 +73,12 @@ whole_line end lines line after e short =
     line_first end (lines + 1) line after e ∙ some_line (lines + 1) line (pieces_in end (lines + 1 - 1) after) false (grind (arith, nat_tests)) (le-ltb _ _ short)
     ∙ ap (λ n. Line (next_line_number (lines + 1)) line ∷ pieces_in end n after) (omega arith)
 
-pub line_came : (old new : LinesValue) → new.reading ≡ old.reading → new.known ≡ old.known → old.lines ≡ new.lines + 1 → old.held ≡ new.piece ++ (10 ∷ new.held) → cut_at_ends new.piece ≡ new.piece ∷ [] → length new.piece ≤ MAX_UNENDED → CameBefore old (Line (next_line_number old.lines) new.piece) new
+pub line_came : (old new : LinesValue) → new.reading ≡ old.reading → new.known ≡ old.known → old.lines_left ≡ new.lines_left + 1 → old.held ≡ new.piece ++ (10 ∷ new.held) → cut_at_ends new.piece ≡ new.piece ∷ [] → length new.piece ≤ MAX_UNENDED → CameBefore old (Line (next_line_number old.lines_left) new.piece) new
 line_came old new ended known lines held unended short = λ ps can. record {
   more = can.more;
   end = can.end;
   comes = subst (λ b. Comes b old.known can.end can.more) ended (subst (λ k. Comes new.reading k can.end can.more) known can.comes);
-  are = rw (can.are, lines, held, append_assoc new.piece (10 ∷ new.held) can.more) (sym (whole_line can.end new.lines new.piece (new.held ++ can.more) unended short));
+  are = rw (can.are, lines, held, append_assoc new.piece (10 ∷ new.held) can.more) (sym (whole_line can.end new.lines_left new.piece (new.held ++ can.more) unended short));
 }
 
 -- what is held is all, and no line ends in it
@@ -92,9 +92,9 @@ rest_piece lines (x ∷ xs) some nonempty short =
     let is : nat_lt MAX_UNENDED (length (x ∷ xs)) ≡ false = le-ltb _ _ short in
     rw (positive, is) refl
 
-pub rest_comes : (v : LinesValue) → v.reading ≡ Ended → cut_at_ends v.held ≡ v.held ∷ [] → 0 < v.lines → 0 < length v.held → length v.held ≤ MAX_UNENDED → CanCome v (Rest (next_line_number v.lines) v.held ∷ [])
+pub rest_comes : (v : LinesValue) → v.reading ≡ Ended → cut_at_ends v.held ≡ v.held ∷ [] → 0 < v.lines_left → 0 < length v.held → length v.held ≤ MAX_UNENDED → CanCome v (Rest (next_line_number v.lines_left) v.held ∷ [])
 rest_comes v ended unended some nonempty short =
-    record { more = []; end = Whole; comes = ended_comes v.reading v.known ended; are = rw append-nil (sym (last_part Whole v.lines v.held unended ∙ rest_piece v.lines v.held some nonempty short)) }
+    record { more = []; end = Whole; comes = ended_comes v.reading v.known ended; are = rw append-nil (sym (last_part Whole v.lines_left v.held unended ∙ rest_piece v.lines_left v.held some nonempty short)) }
 
 failed_piece : (lines : ℕ) (bytes : List ℕ) → (bytes ≡ []) ⊎ (0 < lines) → length bytes ≤ MAX_UNENDED → last_piece Cut lines bytes ≡ Failed (next_line_number lines) bytes ∷ []
 failed_piece lines [] some short = refl
@@ -105,24 +105,24 @@ failed_piece lines (x ∷ xs) (inr some) short =
     rw (positive, is) refl
 
 -- what came before a read failed
-pub failed_comes : (v : LinesValue) → v.reading ≡ reading.Failed → cut_at_ends v.held ≡ v.held ∷ [] → (v.held ≡ []) ⊎ (0 < v.lines) → length v.held ≤ MAX_UNENDED → CanCome v (Failed (next_line_number v.lines) v.held ∷ [])
+pub failed_comes : (v : LinesValue) → v.reading ≡ reading.Failed → cut_at_ends v.held ≡ v.held ∷ [] → (v.held ≡ []) ⊎ (0 < v.lines_left) → length v.held ≤ MAX_UNENDED → CanCome v (Failed (next_line_number v.lines_left) v.held ∷ [])
 failed_comes v failed unended some short =
-    record { more = []; end = Cut; comes = subst (λ r. Comes r v.known Cut []) (sym failed) (refl, refl); are = rw append-nil (sym (last_part Cut v.lines v.held unended ∙ failed_piece v.lines v.held some short)) }
+    record { more = []; end = Cut; comes = subst (λ r. Comes r v.known Cut []) (sym failed) (refl, refl); are = rw append-nil (sym (last_part Cut v.lines_left v.held unended ∙ failed_piece v.lines_left v.held some short)) }
 
 -- a piece that is too long
-pub long_line : (v : LinesValue) (most : ℕ) (line rest : List ℕ) → most ≤ MAX_UNENDED → 0 < v.lines → v.held ≡ line ++ (10 ∷ rest) → cut_at_ends line ≡ line ∷ [] → MAX_UNENDED < length line → IsLong most v
+pub long_line : (v : LinesValue) (most : ℕ) (line rest : List ℕ) → most ≤ MAX_UNENDED → 0 < v.lines_left → v.held ≡ line ++ (10 ∷ rest) → cut_at_ends line ≡ line ∷ [] → MAX_UNENDED < length line → IsLong most v
 long_line v most line rest within some held unended long =
     let other = some_more v.reading v.known in
-    let positive : eqb v.lines 0 ≡ false = grind (arith, nat_tests) in
+    let positive : eqb v.lines_left 0 ≡ false = grind (arith, nat_tests) in
     let over : nat_lt MAX_UNENDED (length line) ≡ true = grind (arith, nat_tests) in
     record {
-      piece = Endless (next_line_number v.lines) line;
+      piece = Endless (next_line_number v.lines_left) line;
       others = [];
       can_come = record {
         more = other.more;
         end = other.end;
         comes = other.comes;
-        are = rw (held, append_assoc line (10 ∷ rest) other.more) (sym (line_first other.end v.lines line (rest ++ other.more) unended ∙ some_line v.lines line (pieces_in other.end (v.lines - 1) (rest ++ other.more)) true positive over));
+        are = rw (held, append_assoc line (10 ∷ rest) other.more) (sym (line_first other.end v.lines_left line (rest ++ other.more) unended ∙ some_line v.lines_left line (pieces_in other.end (v.lines_left - 1) (rest ++ other.more)) true positive over));
       };
       long = omega (arith, within, long);
     }
@@ -157,11 +157,11 @@ first_held : (end : InputEnd) (lines : ℕ) (held more : List ℕ) → 0 < lines
 first_held end lines [] more some nonempty unended h = absurd (omega arith)
 first_held end lines (x ∷ xs) more some nonempty unended h = first_piece end lines (cut_at_ends ((x ∷ xs) ++ more)) x (xs ++ h.first) h.others some (unended_then (x ∷ xs) more h.first h.others unended h.are)
 
-pub long_unended : (v : LinesValue) (most : ℕ) → 0 < v.lines → cut_at_ends v.held ≡ v.held ∷ [] → most < length v.held → IsLong most v
+pub long_unended : (v : LinesValue) (most : ℕ) → 0 < v.lines_left → cut_at_ends v.held ≡ v.held ∷ [] → most < length v.held → IsLong most v
 long_unended v most some unended long =
     let other = some_more v.reading v.known in
     let h = has_first other.more in
-    let first = first_held other.end v.lines v.held other.more some (omega (arith, long)) unended h in
+    let first = first_held other.end v.lines_left v.held other.more some (omega (arith, long)) unended h in
     record {
       piece = first.piece;
       others = first.others;
@@ -180,12 +180,12 @@ comes_before now old new bytes end more still took comes = subst (λ r. Comes r 
     before (Some xs) (Some ys) Whole took comes = took ∙ ap (λ (l : List ℕ). bytes ++ l) comes
     before (Some xs) (Some ys) Cut took comes = (comes.0, took ∙ ap (λ (l : List ℕ). bytes ++ l) comes.1 ∙ sym (append_assoc bytes more comes.0))
 
-pub read_before : (old new : LinesValue) (bytes : List ℕ) (ps : List PieceValue) → old.reading ≡ Open → new.reading ≡ Open → new.lines ≡ old.lines → new.held ≡ old.held ++ bytes → Consumes old.known new.known bytes → CanCome new ps → CanCome old ps
+pub read_before : (old new : LinesValue) (bytes : List ℕ) (ps : List PieceValue) → old.reading ≡ Open → new.reading ≡ Open → new.lines_left ≡ old.lines_left → new.held ≡ old.held ++ bytes → Consumes old.known new.known bytes → CanCome new ps → CanCome old ps
 read_before old new bytes ps was_open still lines held took can = record {
   more = bytes ++ can.more;
   end = can.end;
   comes = comes_before old.reading old.known new.known bytes can.end can.more was_open took (subst (λ b. Comes b new.known can.end can.more) still can.comes);
-  are = can.are ∙ (rw (lines, held) (ap (λ l. pieces_in can.end old.lines l) (append_assoc old.held bytes can.more)));
+  are = can.are ∙ (rw (lines, held) (ap (λ l. pieces_in can.end old.lines_left l) (append_assoc old.held bytes can.more)));
 }
 
 open_cut : (known : Option (List ℕ)) → Comes Open known Cut []
@@ -198,7 +198,7 @@ nothing_comes Open known end more closed comes = absurd (closed refl)
 nothing_comes Ended known end more closed comes = comes.1
 nothing_comes reading.Failed known end more closed comes = comes.1
 
-pub fail_before : (old new : LinesValue) (ps : List PieceValue) → old.reading ≡ Open → new.reading ≡ reading.Failed → new.lines ≡ old.lines → new.held ≡ old.held → CanCome new ps → CanCome old ps
+pub fail_before : (old new : LinesValue) (ps : List PieceValue) → old.reading ≡ Open → new.reading ≡ reading.Failed → new.lines_left ≡ old.lines_left → new.held ≡ old.held → CanCome new ps → CanCome old ps
 fail_before old new ps was_open failed lines held can =
     let is = subst (λ r. Comes r new.known can.end can.more) failed can.comes in
     record {
@@ -212,7 +212,7 @@ fail_before old new ps was_open failed lines held can =
 
 pub found : (most : ℕ) (first old new : LinesValue) (told_next : NextPiece) → ReadsOn first old → Gives most old told_next new → (told_next ≡ next.Unread → ⊥) → Finds most first told_next new
 found most first old new next.Line on gives told =
-    ((λ ps can. subst (λ n. CanCome first (Line (next_line_number n) new.piece ∷ ps)) on.1 (on.0 (Line (next_line_number old.lines) new.piece ∷ ps) (gives.0 ps can))), sym on.1 ∙ gives.1, gives.2)
+    ((λ ps can. subst (λ n. CanCome first (Line (next_line_number n) new.piece ∷ ps)) on.1 (on.0 (Line (next_line_number old.lines_left) new.piece ∷ ps) (gives.0 ps can))), sym on.1 ∙ gives.1, gives.2)
 found most first old new next.Rest on gives told = (subst (λ n. CanCome first (Rest (next_line_number n) new.piece ∷ [])) on.1 (on.0 _ gives.0), gives.2)
 found most first old new next.Failed on gives told =
     (old.held, subst (λ n. CanCome first (Failed (next_line_number n) old.held ∷ [])) on.1 (on.0 _ gives.0), gives.1)

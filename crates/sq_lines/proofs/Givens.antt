@@ -7,7 +7,7 @@ use Rattle.sq_lines.specs.Coming.{LinesValue, Comes, CanCome}
 use Rattle.sq_lines.specs.Given.{IsGiven}
 
 -- what can come of a reader of lines at its start is given by its reader
-pub given_first : (v : LinesValue) (known : Option (List ℕ)) (given : List PieceValue) → v.held ≡ [] → v.reading ≡ Open → v.lines ≡ MAX_LINES → v.known ≡ known → CanCome v given → IsGiven known given
+pub given_first : (v : LinesValue) (known : Option (List ℕ)) (given : List PieceValue) → v.held ≡ [] → v.reading ≡ Open → v.lines_left ≡ MAX_LINES → v.known ≡ known → CanCome v given → IsGiven known given
 given_first v known given none still most same can = record {
   input = can.more;
   end = can.end;

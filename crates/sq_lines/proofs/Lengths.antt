@@ -55,9 +55,9 @@ pieces_long end lines (line ∷ next ∷ others) =
 pub record IsEndless (v : LinesValue) : Type 0 where
   pub bytes : List ℕ
   pub others : List PieceValue
-  pub can_come : CanCome v (Endless (next_line_number v.lines) bytes ∷ others)
+  pub can_come : CanCome v (Endless (next_line_number v.lines_left) bytes ∷ others)
 
 pub is_endless : (v : LinesValue) → IsLong MAX_UNENDED v → IsEndless v
 is_endless v long =
-    let endless = pieces_long long.can_come.end v.lines (cut_at_ends (v.held ++ long.can_come.more)) long.piece long.others (sym long.can_come.are) long.long in
+    let endless = pieces_long long.can_come.end v.lines_left (cut_at_ends (v.held ++ long.can_come.more)) long.piece long.others (sym long.can_come.are) long.long in
     record { bytes = endless.0; others = long.others; can_come = subst (λ p. CanCome v (p ∷ long.others)) endless.1 long.can_come }

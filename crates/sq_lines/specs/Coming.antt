@@ -13,7 +13,7 @@ pub record LinesValue : Type 0 where
   pub piece : List ℕ
   pub held : List ℕ
   pub reading : ReadState
-  pub lines : ℕ
+  pub lines_left : ℕ
   pub known : Option (List ℕ)
 
 -- these bytes can come of a reader that has this left, where that is known, and then the reading ends so
@@ -29,7 +29,7 @@ pub record CanCome (v : LinesValue) (ps : List PieceValue) : Type 0 where
   pub more : List ℕ
   pub end : InputEnd
   pub comes : Comes v.reading v.known end more
-  pub are : ps ≡ pieces_in end v.lines (v.held ++ more)
+  pub are : ps ≡ pieces_in end v.lines_left (v.held ++ more)
 
 -- what can come after can come here with this before it
 abbrev pub CameBefore : LinesValue → PieceValue → LinesValue → Type 0
@@ -40,7 +40,7 @@ pub record IsUndecided (most : ℕ) (v : LinesValue) : Type 0 where
   pub unended : cut_at_ends v.held ≡ v.held ∷ []
   pub short : length v.held ≤ most
   pub goes_on : v.reading ≡ reading.Open
-  pub some_line : (v.held ≡ []) ⊎ (0 < v.lines)
+  pub some_line : (v.held ≡ []) ⊎ (0 < v.lines_left)
 
 -- a piece with over this many bytes can come
 pub record IsLong (most : ℕ) (v : LinesValue) : Type 0 where
@@ -52,16 +52,16 @@ pub record IsLong (most : ℕ) (v : LinesValue) : Type 0 where
 -- the next line is given
 abbrev pub GivesLine : LinesValue → LinesValue → Type 0
 GivesLine old new =
-    CameBefore old (Line (next_line_number old.lines) new.piece) new × (old.lines ≡ new.lines + 1) × (length new.piece ≤ MAX_UNENDED)
+    CameBefore old (Line (next_line_number old.lines_left) new.piece) new × (old.lines_left ≡ new.lines_left + 1) × (length new.piece ≤ MAX_UNENDED)
 
 -- a piece of this kind with these bytes can come, and then nothing else
 abbrev pub CanEndIn : LinesValue → (ℕ → List ℕ → PieceValue) → List ℕ → Type 0
-CanEndIn v piece bytes = CanCome v (piece (next_line_number v.lines) bytes ∷ [])
+CanEndIn v piece bytes = CanCome v (piece (next_line_number v.lines_left) bytes ∷ [])
 
 -- what a reader of lines gives next, where it looks for the end of a line in this many bytes
 abbrev pub Gives : ℕ → LinesValue → NextPiece → LinesValue → Type 0
 Gives most old next.Line new = GivesLine old new
-Gives most old next.Rest new = CanEndIn old Rest new.piece × (new.lines ≡ old.lines) × (length new.piece ≤ most)
+Gives most old next.Rest new = CanEndIn old Rest new.piece × (new.lines_left ≡ old.lines_left) × (length new.piece ≤ most)
 Gives most old next.Failed new = CanEndIn old Failed old.held × (length old.held ≤ most) × (new ≡ old)
 Gives most old next.Long new = IsLong most old × (new ≡ old)
 Gives most old next.TooMany new = CanCome old (TooMany ∷ []) × (new ≡ old)
@@ -80,7 +80,7 @@ reads_left v = reads_for v.reading (length v.held)
 
 -- what can come now could come before
 abbrev pub ReadsOn : LinesValue → LinesValue → Type 0
-ReadsOn old new = ((ps : List PieceValue) → CanCome new ps → CanCome old ps) × (new.lines ≡ old.lines)
+ReadsOn old new = ((ps : List PieceValue) → CanCome new ps → CanCome old ps) × (new.lines_left ≡ old.lines_left)
 
 -- what a reader of lines gives next, where it reads as much as it needs to tell
 abbrev pub Finds : ℕ → LinesValue → NextPiece → LinesValue → Type 0

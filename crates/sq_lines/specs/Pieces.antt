@@ -10,7 +10,7 @@ cut_at_ends bytes = slice_split (λ byte. byte == 10) bytes
 
 -- the number of the next line, where this many may still come; that of the first is 1
 abbrev pub next_line_number : ℕ → ℕ
-next_line_number lines = MAX_LINES - lines + 1
+next_line_number left = MAX_LINES - left + 1
 
 -- what comes next of an input, with the number of the line that it is, or in which the reading ends
 pub data PieceValue : Type 0 where
@@ -32,34 +32,34 @@ pub data InputEnd : Type 0 where
 
 -- what stands after the last line end, where it isn't too long: a rest, unless it is empty, or what came before a read failed
 abbrev pub ending_piece : InputEnd → ℕ → List ℕ → List PieceValue
-ending_piece Cut lines bytes = Failed (next_line_number lines) bytes ∷ []
-ending_piece Whole lines [] = []
-ending_piece Whole lines (byte ∷ bytes) = Rest (next_line_number lines) (byte ∷ bytes) ∷ []
+ending_piece Cut left bytes = Failed (next_line_number left) bytes ∷ []
+ending_piece Whole left [] = []
+ending_piece Whole left (byte ∷ bytes) = Rest (next_line_number left) (byte ∷ bytes) ∷ []
 
 -- what stands after the last line end, where at most this many lines may come
 abbrev pub last_piece : InputEnd → ℕ → List ℕ → List PieceValue
-last_piece end lines [] = ending_piece end lines []
-last_piece end lines (byte ∷ bytes) =
-    if lines == 0 then TooMany ∷ []
-    else if nat_lt MAX_UNENDED (length (byte ∷ bytes)) then Endless (next_line_number lines) (byte ∷ bytes) ∷ []
-    else ending_piece end lines (byte ∷ bytes)
+last_piece end left [] = ending_piece end left []
+last_piece end left (byte ∷ bytes) =
+    if left == 0 then TooMany ∷ []
+    else if nat_lt MAX_UNENDED (length (byte ∷ bytes)) then Endless (next_line_number left) (byte ∷ bytes) ∷ []
+    else ending_piece end left (byte ∷ bytes)
 
 -- a line with its end, and what comes after it
 abbrev pub line_then : ℕ → List ℕ → List PieceValue → List PieceValue
-line_then lines line others =
-    if lines == 0 then TooMany ∷ []
-    else if nat_lt MAX_UNENDED (length line) then Endless (next_line_number lines) line ∷ []
-    else Line (next_line_number lines) line ∷ others
+line_then left line others =
+    if left == 0 then TooMany ∷ []
+    else if nat_lt MAX_UNENDED (length line) then Endless (next_line_number left) line ∷ []
+    else Line (next_line_number left) line ∷ others
 
 -- the pieces of an input, given what stands between its line ends, where at most this many lines may come
 abbrev pub pieces_of : InputEnd → ℕ → List (List ℕ) → List PieceValue
-pieces_of end lines [] = []
-pieces_of end lines (rest ∷ []) = last_piece end lines rest
-pieces_of end lines (line ∷ next ∷ others) = line_then lines line (pieces_of end (lines - 1) (next ∷ others))
+pieces_of end left [] = []
+pieces_of end left (rest ∷ []) = last_piece end left rest
+pieces_of end left (line ∷ next ∷ others) = line_then left line (pieces_of end (left - 1) (next ∷ others))
 
 -- the pieces of bytes, where at most this many lines may come
 abbrev pub pieces_in : InputEnd → ℕ → List ℕ → List PieceValue
-pieces_in end lines bytes = pieces_of end lines (cut_at_ends bytes)
+pieces_in end left bytes = pieces_of end left (cut_at_ends bytes)
 
 -- the pieces of an input
 abbrev pub pieces : InputEnd → List ℕ → List PieceValue

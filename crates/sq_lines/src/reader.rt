@@ -55,7 +55,7 @@ pub struct LineReader<R: Read> {
     searched: usize,
     end: usize,
     reading: ReadState,
-    lines: u32,
+    lines_left: u32,
 }
 
 impl<R: Read> Model for LineReader<R> {
@@ -70,7 +70,7 @@ impl<R: Read> Model for LineReader<R> {
       piece = slice_range r.buffer.items r.piece_start r.piece_end;
       held = slice_range r.buffer.items r.start r.end;
       reading = r.reading;
-      lines = r.lines;
+      lines_left = r.lines_left;
       known = R.remaining r.reader;
     } };
 
@@ -83,7 +83,7 @@ impl<R: Read> LineReader<R> {
     pub fn new(alloc: Global, reader: R) -> Result<LineReader<R>, AllocFailed<R>>
         ensures held { IfOk result (λ lines. lines.held ≡ []) }
         ensures open { IfOk result (λ lines. lines.reading ≡ ReadState.Open) }
-        ensures lines { IfOk result (λ lines. lines.lines ≡ MAX_LINES) }
+        ensures lines { IfOk result (λ lines. lines.lines_left ≡ MAX_LINES) }
         ensures known { IfOk result (λ lines. lines.known ≡ R.remaining reader) }
         ensures returned { IfErr result (λ refused. refused.value ≡ reader) }
     {
@@ -97,7 +97,7 @@ impl<R: Read> LineReader<R> {
                 searched: 0,
                 end: 0,
                 reading: ReadState::Open,
-                lines: MAX_LINES,
+                lines_left: MAX_LINES,
             }),
             Err(_) => Err(AllocFailed { value: reader }),
         }
@@ -105,16 +105,16 @@ impl<R: Read> LineReader<R> {
 
     /// The number of the line that comes next, or in which the input ends; that of the first is 1.
     pub fn next_line_number(&self) -> u32
-        ensures { result ≡ next_line_number self.now.lines }
+        ensures { result ≡ next_line_number self.now.lines_left }
     {
-        MAX_LINES.saturating_sub(self.lines) + 1
+        MAX_LINES.saturating_sub(self.lines_left) + 1
     }
 
     /// How many lines may still come.
     pub fn lines_left(&self) -> u32
-        ensures { result ≡ self.now.lines }
+        ensures { result ≡ self.now.lines_left }
     {
-        self.lines
+        self.lines_left
     }
 
     /// The bytes of the piece that was given last.
@@ -139,7 +139,7 @@ impl<R: Read> LineReader<R> {
         ensures begins { IfSome result (λ begins. (ps : List PieceValue) → CanCome self.now ps → next_begins front.now ps ≡ begins) }
         ensures undecided { IfNone result (IsUndecided (length front.now) self.now) }
     {
-        if self.lines == 0 {
+        if self.lines_left == 0 {
             return Some(false);
         }
         let held = self.held();
@@ -165,7 +165,7 @@ impl<R: Read> LineReader<R> {
                 ReadState::Failed => return Next::Failed,
             }
         }
-        if self.lines == 0 {
+        if self.lines_left == 0 {
             return Next::TooMany;
         }
         let Some(at) = place_of(b'\n', &self.buffer[self.searched..self.end]) else {
@@ -192,7 +192,7 @@ impl<R: Read> LineReader<R> {
         self.piece_end = line_end;
         self.start = line_end + 1;
         self.searched = line_end + 1;
-        self.lines -= 1;
+        self.lines_left -= 1;
         Next::Line
     }
 
@@ -200,7 +200,7 @@ impl<R: Read> LineReader<R> {
     pub fn read_more(&mut self)
         requires { IsUndecided MAX_UNENDED self.old }
         ensures comes { (ps : List PieceValue) → CanCome self.new ps → CanCome self.old ps }
-        ensures lines { self.new.lines ≡ self.old.lines }
+        ensures lines { self.new.lines_left ≡ self.old.lines_left }
         ensures fewer { reads_left self.new < reads_left self.old }
     {
         move_to_front(&mut self.buffer, self.start, self.end);
@@ -220,7 +220,7 @@ impl<R: Read> LineReader<R> {
     pub fn next_read(&mut self, most: usize) -> Next
         requires { most ≤ MAX_UNENDED }
         ensures finds { Finds most self.old result self.new }
-        ensures one_line { self.old.lines ≤ self.new.lines + 1 }
+        ensures one_line { self.old.lines_left ≤ self.new.lines_left + 1 }
     {
         loop {
             match self.next(most) {

@@ -89,10 +89,10 @@ module _ (tables parts : ℕ) where
     pub at_failed : (told : LiveFault) (number : ℕ) (bytes : List ℕ) → CanCome now (Failed number bytes ∷ []) → told ≡ Input (located input.ReadFailed (Some (Later number))) → IsFirstFault tables parts first told
     at_failed told number bytes can says = ends_by told (Failed number bytes ∷ []) can (λ apart. ap Err (sym says))
 
-    pub at_long : (told : LiveFault) → IsLong MAX_UNENDED now → told ≡ Input (located input.TooLong (Some (Later (next_line_number now.lines)))) → IsFirstFault tables parts first told
+    pub at_long : (told : LiveFault) → IsLong MAX_UNENDED now → told ≡ Input (located input.TooLong (Some (Later (next_line_number now.lines_left)))) → IsFirstFault tables parts first told
     at_long told long says =
         let endless = is_endless now long in
-        ends_by told (Endless (next_line_number now.lines) endless.bytes ∷ endless.others) endless.can_come (λ apart. ap Err (sym says))
+        ends_by told (Endless (next_line_number now.lines_left) endless.bytes ∷ endless.others) endless.can_come (λ apart. ap Err (sym says))
 
     pub at_too_many : (told : LiveFault) → CanCome now (TooManyLines ∷ []) → told ≡ Input (located input.TooLong (Some (Later (MAX_LINES + 1)))) → IsFirstFault tables parts first told
     at_too_many told can says = ends_by told (TooManyLines ∷ []) can (λ apart. ap Err (sym says))

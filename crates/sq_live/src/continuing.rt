@@ -1,6 +1,6 @@
 // What a run goes on with after a stage.
 ghost use Rattle.std.specs.Prelude.{IfOk, true};
-ghost use Rattle.sq_node_model.specs.Next.{IsStageDone};
+ghost use Rattle.sq_node_model.specs.Prelude.{IsStageDone};
 ghost use Rattle.sq_live.specs.Stages.{Continues};
 
 use crate::account::Account;

@@ -2,10 +2,10 @@
 ghost use Rattle.std.specs.Prelude.{◌≡◌, ◌≤◌, ◌<◌, ◌+◌, ◌^◌, ◌||◌, nat_lt, Bool, length, sum_by, IfOk};
 ghost use Rattle.std.specs.FinMap.{len};
 ghost use Rattle.sq_ranges.specs.declared.segment.TheConstants.{SEGMENT_LIMIT};
-ghost use Rattle.sq_ranges.specs.ReconValue.{stages, stage_at};
+ghost use Rattle.sq_ranges.specs.Prelude.{stages, stage_at};
 ghost use Rattle.sq_leader.specs.LeaderValue.{StageValue};
 ghost use Rattle.sq_leader.specs.Segments.{is_told_whole};
-ghost use Rattle.sq_node_model.specs.Next.{is_whole_in, IsStageDone};
+ghost use Rattle.sq_node_model.specs.Prelude.{is_whole_in, IsStageDone};
 ghost use Rattle.sq_gather.specs.Grown.{AreGrown};
 ghost use Rattle.sq_live.specs.Leading.{HasEnded};
 ghost use Rattle.sq_live.specs.Outcome.{answered_count, commit_count, CameTo, WhyStopped};

@@ -1,11 +1,8 @@
 // The stages of a live run.
 ghost use Rattle.std.specs.Prelude.{◌≡◌, ◌≤◌, ◌+◌, length, IfOk};
 ghost use Rattle.sq_pull.specs.declared.numbers.TheConstants.{MAX_PUMPS};
-ghost use Rattle.sq_ranges.specs.OpeningValue.{OpeningValue};
-ghost use Rattle.sq_ranges.specs.Opening.{IsOpening};
-ghost use Rattle.sq_node_model.specs.BeganWith.{BeganWith, first_began};
-ghost use Rattle.sq_node_model.specs.Placed.{IsPlaced};
-ghost use Rattle.sq_node_model.specs.Next.{IsStageDone, next_began};
+ghost use Rattle.sq_ranges.specs.Prelude.{OpeningValue, IsOpening};
+ghost use Rattle.sq_node_model.specs.Prelude.{BeganWith, first_began, IsPlaced, IsStageDone, next_began};
 ghost use Rattle.sq_gather.specs.Gathered.{AreAllOf};
 ghost use Rattle.sq_gather.specs.Reopened.{IsRunInStage};
 ghost use Rattle.sq_live.specs.Account.{first_account};

@@ -12,3 +12,4 @@ pub mod Orderly
 pub mod Worked
 pub mod Staged
 pub mod WorkedStages
+pub mod Prelude

@@ -1,16 +1,14 @@
 // Laws of the definitions: worked examples, which the checker computes, two limits, and what every legal history keeps.
 ghost use Rattle.std.specs.Prelude.{◌≡◌, ◌≤◌, ◌<◌, ℕ, [], length, false, true, Some, pos};
-ghost use Rattle.sq_schema.specs.TxnValue.{TxnValue};
-ghost use Rattle.sq_ranges.specs.OpeningValue.{OpeningValue};
+ghost use Rattle.sq_schema.specs.Prelude.{TxnValue, rows_of};
+ghost use Rattle.sq_ranges.specs.Prelude.{OpeningValue, IsOpening};
 ghost use Rattle.sq_ranges.specs.declared.opening.TheConstants.{MAX_WAITING};
 ghost use Rattle.sq_model.specs.Trace.{Trace, notes, loads};
-ghost use Rattle.sq_schema.specs.Family.{rows_of};
 ghost use Rattle.sq_model.specs.Tables.{IsFoldedRoot, now, stands, family_of, is_full};
 ghost use Rattle.sq_model.specs.Leader.{phase};
 ghost use Rattle.sq_model.specs.Place.{At, place, destination, runner};
 ghost use Rattle.sq_model.specs.Waiting.{waiting, has_to_wait};
 ghost use Rattle.sq_model.specs.Answers.{answer};
-ghost use Rattle.sq_ranges.specs.Opening.{IsOpening};
 ghost use Rattle.sq_model.specs.Legal.{IsLegal, answers, after};
 ghost use Rattle.sq_model.specs.Orderly.{IsOrderly, CoverOnce};
 ghost use Rattle.sq_model.specs.Staged.{TellsAlone};

@@ -1,6 +1,6 @@
 // What the nodes of a run share.
 ghost use Rattle.std.specs.Prelude.{◌≡◌, ◌↔◌, ◌+◌, ◌<◌, ◌≤◌, IsTrue, IfErr};
-ghost use Rattle.sq_ranges.specs.ReconValue.{stages};
+ghost use Rattle.sq_ranges.specs.Prelude.{stages};
 ghost use Rattle.sq_node.specs.FabricValue.{IsFabric};
 
 use crate::receipt::Receipt;

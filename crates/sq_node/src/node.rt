@@ -1,7 +1,6 @@
 // Nodes.
 ghost use Rattle.std.specs.Prelude.{◌≡◌, ◌<◌, ℕ, true, false, [], length, replicate};
-ghost use Rattle.sq_exec.specs.CoreValue.{loaded_at};
-ghost use Rattle.sq_exec.specs.Runs.{is_whole};
+ghost use Rattle.sq_exec.specs.Prelude.{loaded_at, is_whole};
 ghost use Rattle.sq_pull.specs.declared.numbers.TheConstants.{MAX_OWNERS};
 
 use crate::desk::{Desk, Post};

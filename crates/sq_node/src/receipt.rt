@@ -16,7 +16,7 @@ pub struct Receipt {
 }
 
 impl Model for Receipt {
-    ghost use Rattle.sq_node_model.specs.NodeValue.{ReceiptValue};
+    ghost use Rattle.sq_node_model.specs.Prelude.{ReceiptValue};
 
     ghost Value = { ReceiptValue };
 

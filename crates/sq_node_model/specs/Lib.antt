@@ -17,3 +17,4 @@ pub mod Spots
 pub mod Placed
 pub mod Next
 pub mod Folded
+pub mod Prelude

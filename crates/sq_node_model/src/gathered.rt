@@ -1,13 +1,12 @@
 // What holds of all that is gathered, whatever the threads did.
 ghost use Rattle.std.specs.Prelude.{◌≡◌, ℕ, ◌+◌, List, slice_get, Some, Contains};
-ghost use Rattle.sq_store.specs.StoreValue.{StoreValue};
+ghost use Rattle.sq_store.specs.Prelude.{StoreValue};
 ghost use Rattle.sq_chunk.specs.ChunkValue.{ChunkValue};
-ghost use Rattle.sq_ranges.specs.OpeningValue.{OpeningValue};
-ghost use Rattle.sq_ranges.specs.Opening.{IsOpening};
+ghost use Rattle.sq_ranges.specs.Prelude.{OpeningValue, IsOpening};
 ghost use Rattle.sq_node_model.specs.NodeValue.{NodeAtWork, NodeValue};
 ghost use Rattle.sq_node_model.specs.Cores.{staged_core};
 ghost use Rattle.sq_node_model.specs.AtWork.{AllHolds, IsFreshWith};
-ghost use Rattle.sq_schema.specs.Table.{TableValue};
+ghost use Rattle.sq_schema.specs.Prelude.{TableValue};
 ghost use Rattle.sq_node_model.specs.Folded.{folded_opening, folded_gathered, IsFolded};
 ghost use Rattle.sq_node_model.specs.Next.{IsStageDone, next_began};
 ghost use Rattle.sq_node_model.specs.BeganWith.{BeganWith, CanBegin};

@@ -2,9 +2,7 @@
 ghost use Rattle.std.specs.Prelude.{◌≡◌, ◌-◌, ◌*◌, ◌<◌, OnOk, codes};
 ghost use Rattle.std.specs.List.{flat_map, range_with_len};
 ghost use Rattle.std.specs.Io.KnownBytes.{Appends};
-ghost use Rattle.sq_tree.specs.Node.{span};
-ghost use Rattle.sq_tree.specs.Status.{is_live};
-ghost use Rattle.sq_tree.specs.Tree.{status_at};
+ghost use Rattle.sq_tree.specs.Prelude.{span, is_live, status_at};
 ghost use Rattle.sq_picture.specs.Svg.{number_text};
 ghost use Rattle.sq_picture.specs.TreeSvg.{level_of, left_of, top_of, class_of, placed_text, box_text, status_label, words_at, said_text, node_text, tree_heading_text, tree_top_text, tree_svg};
 

@@ -10,3 +10,4 @@ pub mod Opening
 pub mod SetUp
 pub mod Given
 pub mod Refused
+pub mod Prelude

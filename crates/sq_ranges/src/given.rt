@@ -5,7 +5,7 @@ ghost use Rattle.std.specs.Ordering.{nat_cmp};
 ghost use Rattle.std.specs.Result.{result_err};
 ghost use Rattle.std.specs.FinMap.Entries.{is_sorted};
 ghost use Rattle.sq_schema.specs.declared.schema.TheConstants.{MAX_TABLES};
-ghost use Rattle.sq_schema.specs.Table.{rows_in, is_opening};
+ghost use Rattle.sq_schema.specs.Prelude.{rows_in, is_opening};
 ghost use Rattle.sq_plan.specs.PlanValue.{IsPlan};
 ghost use Rattle.sq_ranges.specs.Between.{recon_of, IsReconOf};
 ghost use Rattle.sq_ranges.specs.Given.{value_of, no_rows, with_one, given_rows, IsTableOf};

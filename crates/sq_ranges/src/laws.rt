@@ -11,7 +11,7 @@ ghost use Rattle.sq_ranges.specs.declared.segment.TheConstants.{SEGMENT_LIMIT};
 ghost use Rattle.sq_ranges.specs.declared.opening.TheConstants.{MIN_LIMIT, MAX_LIMIT, MAX_CAPACITY, MAX_WAITING};
 ghost use Rattle.sq_ranges.specs.Between.{segment_limit};
 ghost use Rattle.sq_tree.specs.declared.node.TheConstants.{LEAVES};
-ghost use Rattle.sq_tree.specs.Node.{is_node, is_leaf, is_above, is_under};
+ghost use Rattle.sq_tree.specs.Prelude.{is_node, is_leaf, is_above, is_under};
 ghost use Rattle.sq_ranges.specs.declared.recon.Range.{Range};
 ghost use Rattle.sq_ranges.specs.ReconValue.{ReconValue, IsRecon, segment_of, leaf_of, extent};
 ghost use Rattle.sq_ranges.specs.Moves.{AreTheMoves, moves_of};

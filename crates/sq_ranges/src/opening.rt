@@ -1,7 +1,7 @@
 // What a world opens with.
 ghost use Rattle.std.specs.Prelude.{◌≡◌, ◌≤◌, ℕ, [], false, None, MatchResult, IfOk, IfErr, OnOk, OnErr};
 ghost use Rattle.sq_schema.specs.declared.root.TheConstants.{ROOT_END};
-ghost use Rattle.sq_schema.specs.Table.{rows_in};
+ghost use Rattle.sq_schema.specs.Prelude.{rows_in};
 
 use crate::fault::OpeningFault;
 use crate::given::{moves, moves_and_table, take_over};

@@ -1,7 +1,6 @@
 // What the notes and the chunks of a link come to.
 ghost use Rattle.std.specs.Prelude.{◌≡◌, length, sum_by, option_copied};
-ghost use Rattle.sq_store.specs.StoreValue.{families_between};
-ghost use Rattle.sq_store.specs.First.{FirstIs};
+ghost use Rattle.sq_store.specs.Prelude.{families_between, FirstIs};
 ghost use Rattle.sq_report.specs.Notes.{told, covered_keys, stored_in};
 
 use sq_chunk::{Chunk, Note};

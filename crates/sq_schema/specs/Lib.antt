@@ -18,3 +18,4 @@ pub mod Table
 pub mod RootList
 pub mod Examples
 pub mod Equal
+pub mod Prelude

@@ -23,7 +23,7 @@ impl Model for Queue {
     ghost use Rattle.std.specs.Prelude.{◌≤◌};
     ghost use Rattle.std.specs.VecDeque.{deque_capacity};
     ghost use Rattle.sq_ranges.specs.declared.opening.TheConstants.{MAX_CAPACITY};
-    ghost use Rattle.sq_transition.specs.WorldValue.{QueueValue};
+    ghost use Rattle.sq_transition.specs.Prelude.{QueueValue};
 
     ghost Value = { QueueValue };
 

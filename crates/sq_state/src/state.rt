@@ -1,10 +1,9 @@
 // The state of a world.
 ghost use Rattle.std.specs.Prelude.{◌≡◌, ◌<◌, nat_le, not, is_none, length, IfOk};
 ghost use Rattle.sq_model.specs.declared.answer.Refusal.{Refusal};
-ghost use Rattle.sq_model.specs.Leader.{is_moving_phase};
-ghost use Rattle.sq_tree.specs.Node.{is_node};
-ghost use Rattle.sq_transition.specs.WorldValue.{running_range};
-ghost use Rattle.sq_transition.specs.Leading.{phase_of};
+ghost use Rattle.sq_model.specs.Prelude.{is_moving_phase};
+ghost use Rattle.sq_tree.specs.Prelude.{is_node};
+ghost use Rattle.sq_transition.specs.Prelude.{running_range, phase_of};
 ghost use Rattle.sq_state.specs.Results.{refuse_if, unless};
 
 use crate::queue::Queue;
@@ -47,7 +46,7 @@ impl Model for State {
     ghost use Rattle.std.specs.Prelude.{map};
     ghost use Rattle.std.specs.Coded.{codes};
     ghost use Rattle.sq_store.proofs.Codes.{store_coded};
-    ghost use Rattle.sq_transition.specs.WorldValue.{WorldValue};
+    ghost use Rattle.sq_transition.specs.Prelude.{WorldValue};
 
     ghost Value = { WorldValue };
 

@@ -1,8 +1,7 @@
 // Whole runs of a world.
 ghost use Rattle.std.specs.Prelude.{◌≡◌, length, IfOk, IfErr};
 ghost use Rattle.sq_model.specs.declared.step.Phase.{Phase};
-ghost use Rattle.sq_transition.specs.Leading.{phase_of};
-ghost use Rattle.sq_transition.specs.Headline.{KeepsHeadline, IsAsPlanned};
+ghost use Rattle.sq_transition.specs.Prelude.{phase_of, KeepsHeadline, IsAsPlanned};
 ghost use Rattle.sq_state.specs.History.{history_of};
 
 use crate::world::World;

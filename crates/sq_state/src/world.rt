@@ -1,14 +1,8 @@
 // Worlds.
 ghost use Rattle.std.specs.Prelude.{◌≡◌, [], ◌∷◌, None, IfOk, IfErr};
-ghost use Rattle.sq_ranges.specs.OpeningValue.{OpeningValue};
-ghost use Rattle.sq_ranges.specs.Given.{IsOpeningOf};
-ghost use Rattle.sq_ranges.specs.Refused.{opening_fault};
-ghost use Rattle.sq_ranges.specs.Opening.{IsOpening};
-ghost use Rattle.sq_model.specs.Trace.{Trace};
-ghost use Rattle.sq_model.specs.Legal.{IsLegal};
-ghost use Rattle.sq_transition.specs.Transition.{IsTransition};
-ghost use Rattle.sq_transition.specs.Holds.{Holds};
-ghost use Rattle.sq_transition.specs.Headline.{KeepsHeadline, IsAsPlanned};
+ghost use Rattle.sq_ranges.specs.Prelude.{OpeningValue, IsOpeningOf, opening_fault, IsOpening};
+ghost use Rattle.sq_model.specs.Prelude.{Trace, IsLegal};
+ghost use Rattle.sq_transition.specs.Prelude.{IsTransition, Holds, KeepsHeadline, IsAsPlanned};
 ghost use Rattle.sq_state.specs.History.{IsNotOpened};
 
 use crate::state::State;
@@ -34,7 +28,7 @@ pub struct World {
 impl Model for World {
     ghost use Rattle.std.specs.Coded.{codes};
     ghost use Rattle.sq_store.proofs.Codes.{store_coded};
-    ghost use Rattle.sq_transition.specs.WorldValue.{WorldValue};
+    ghost use Rattle.sq_transition.specs.Prelude.{WorldValue};
     ghost use Rattle.sq_state.specs.Reached.{IsReached};
 
     ghost Value = { WorldValue };
@@ -109,10 +103,8 @@ impl World {
     ghost use Rattle.std.specs.Prelude.{OnOk};
     ghost use Rattle.std.specs.Option.{option_copied};
     ghost use Rattle.std.specs.Io.KnownBytes.{Appends};
-    ghost use Rattle.sq_model.specs.Leader.{phase as phase_after};
-    ghost use Rattle.sq_model.specs.Trace.{stage as stage_after};
-    ghost use Rattle.sq_transition.specs.WorldValue.{running_stage};
-    ghost use Rattle.sq_transition.specs.Leading.{phase_of};
+    ghost use Rattle.sq_model.specs.Prelude.{phase as phase_after, stage as stage_after};
+    ghost use Rattle.sq_transition.specs.Prelude.{running_stage, phase_of};
     ghost use Rattle.sq_state.specs.Readers.{store_at, chunk_at, status_there, IsStoreAfter, IsChunkAfter, status_after};
     ghost use Rattle.sq_state.specs.Dump.{dump};
 

@@ -4,7 +4,7 @@ ghost use Rattle.sq_tree.specs.declared.node.TheConstants.{NODES};
 ghost use Rattle.std.specs.Slots.{slots_items, slots_len, IsFull};
 ghost use mathlib.Core.Option.{some};
 ghost use lib.ListN.{get_elem?};
-ghost use Rattle.sq_tree.specs.Status.{word_of};
+ghost use Rattle.sq_tree.specs.Prelude.{word_of};
 ghost use Rattle.sq_status.specs.declared.view.View.{View};
 ghost use Rattle.sq_status.specs.View.{fresh, gave, took};
 ghost use Rattle.sq_status.specs.Rule.{IsTreeOf, Kept};

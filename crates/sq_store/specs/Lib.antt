@@ -11,3 +11,4 @@ pub mod Indexed
 pub mod First
 pub mod PutIn
 pub mod Opened
+pub mod Prelude

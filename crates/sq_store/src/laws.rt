@@ -1,7 +1,7 @@
 // Laws of what a store contains.
 ghost use Rattle.std.specs.Prelude.{◌≡◌, ◌↔◌, ◌≤◌, ◌&&◌, ℕ, List, None, IsTrue, All, is_some, nat_le, nat_lt, if◌then◌else◌};
 ghost use Rattle.std.specs.FinMap.{get};
-ghost use Rattle.sq_schema.specs.Family.{FamilyValue};
+ghost use Rattle.sq_schema.specs.Prelude.{FamilyValue};
 ghost use Rattle.sq_store.specs.StoreValue.{StoreValue, family_in, families_between, without_between, take_end, with_families, fold_of, folded_store, roots_differ, has_none_of};
 ghost use Rattle.sq_store.specs.InOrder.{HoldsByRoot, are_within};
 ghost use Rattle.sq_store.specs.Laws.{IsFullest};

@@ -3,9 +3,9 @@ ghost use Rattle.std.specs.Prelude.{◌≡◌, ◌==◌, ◌+◌, ◌++◌, ◌<
 ghost use Rattle.std.specs.FinMap.{get, insert, remove, len, empty};
 ghost use Rattle.std.specs.Ordering.{nat_cmp};
 ghost use Rattle.std.specs.BTreeMap.{IsFromIterResult};
-ghost use Rattle.sq_schema.specs.Family.{FamilyValue, folded};
+ghost use Rattle.sq_schema.specs.Prelude.{FamilyValue, folded};
 ghost use Rattle.sq_schema.specs.declared.root.TheConstants.{ROOT_END};
-ghost use Rattle.sq_ranges.specs.CutEnd.{end_within};
+ghost use Rattle.sq_ranges.specs.Prelude.{end_within};
 ghost use Rattle.sq_store.specs.StoreValue.{StoreValue, store_reply, store_after, stored_size, take_end, families_between, without_between, with_families, folded_store, roots_differ, has_none_of};
 ghost use Rattle.sq_store.specs.InOrder.{AreKeyed, HoldsByRoot};
 ghost use Rattle.sq_store.specs.Merging.{IsFirstTaken};

@@ -1,8 +1,7 @@
 // Families in a vector.
 ghost use Rattle.std.specs.Prelude.{◌≡◌, ◌≤◌, ◌==◌, not, length, map, filter, vec_len, IfOk, IfErr, OnErr};
 ghost use Rattle.std.specs.FinMap.{len, empty};
-ghost use Rattle.sq_schema.specs.Effect.{reply};
-ghost use Rattle.sq_schema.specs.Family.{rows_of, folded};
+ghost use Rattle.sq_schema.specs.Prelude.{reply, rows_of, folded};
 ghost use Rattle.sq_store.specs.StoreValue.{absent};
 ghost use Rattle.sq_store.specs.InOrder.{families_in, HoldsByRoot};
 ghost use Rattle.sq_store.specs.Listed.{opened, folded_families};

@@ -156,4 +156,4 @@ Opens tables (Err refused) left wanted = refused.fault ≢ Memory → wanted ≡
 
 -- no line behind the one that a fault belongs to was taken
 abbrev pub StopsAt : LocatedFault → LinesValue → LinesValue → Type 0
-StopsAt refused old new = IfSome refused.line (λ at. old.lines ≤ new.lines + line_number at)
+StopsAt refused old new = IfSome refused.line (λ at. old.lines_left ≤ new.lines_left + line_number at)

@@ -2,7 +2,7 @@
 ghost use Rattle.std.specs.Prelude.{◌≡◌, ◌≤◌, [], ◌∷◌, ◌++◌, length, decimal, OnOk};
 ghost use Rattle.std.specs.List.{flat_map};
 ghost use Rattle.std.specs.Io.KnownBytes.{Appends};
-ghost use Rattle.sq_schema.specs.Family.{rows_of};
+ghost use Rattle.sq_schema.specs.Prelude.{rows_of};
 ghost use Rattle.sq_text.specs.Texts.{entry_text, phase_text, end_line, at_line, in_line, way_lines};
 
 use crate::answer_text::put_note;

@@ -1,7 +1,7 @@
 // The header of an input.
 ghost use Rattle.std.specs.Prelude.{◌≡◌, ◌≤◌, ◌+◌, codes, IfOk, IfErr, IfSome, OnOk};
-ghost use Rattle.sq_schema.specs.Table.{rows_in};
-ghost use Rattle.sq_ranges.specs.Given.{value_of};
+ghost use Rattle.sq_schema.specs.Prelude.{rows_in};
+ghost use Rattle.sq_ranges.specs.Prelude.{value_of};
 ghost use Rattle.sq_text.specs.Words.{words_of};
 ghost use Rattle.sq_lines.specs.Coming.{Leaves};
 ghost use Rattle.sq_text.specs.Faults.{IsParsed, IsParsedGivenMemory};
@@ -26,8 +26,8 @@ use std::io::Read;
 // Reads the next line, whose bytes the reader then has.
 fn next_line<R: Read>(lines: &mut LineReader<R>) -> Result<(), InputFault>
     ensures line { Leaves lines.old lines.new (λ all left. IsRead (λ _. (lines.new.piece, left)) result (next_line all)) }
-    ensures one_line { lines.old.lines ≤ lines.new.lines + 1 }
-    ensures fewer { OnOk result (lines.old.lines ≡ lines.new.lines + 1) }
+    ensures one_line { lines.old.lines_left ≤ lines.new.lines_left + 1 }
+    ensures fewer { OnOk result (lines.old.lines_left ≡ lines.new.lines_left + 1) }
 {
     match lines.next_read(MAX_LINE) {
         Next::Line if lines.piece().len() <= MAX_LINE => Ok(()),
@@ -66,7 +66,7 @@ fn plan_line<R: Read>(
 ) -> Result<Plan, InputFault>
     ensures plan { Leaves lines.old lines.new
         (λ all left. IsReadGivenMemory (λ plan. (plan, left)) result (line_as (plan_behind front.now) all)) }
-    ensures one_line { lines.old.lines ≤ lines.new.lines + 1 }
+    ensures one_line { lines.old.lines_left ≤ lines.new.lines_left + 1 }
 {
     next_line(lines)?;
     plan(alloc, front, lines.piece())
@@ -102,7 +102,7 @@ fn sizes(line: &[u8]) -> Result<Config, InputFault>
 fn config_line<R: Read>(lines: &mut LineReader<R>) -> Result<Config, InputFault>
     ensures config { Leaves lines.old lines.new
         (λ all left. IsReadGivenMemory (λ config. (config, left)) result (line_as config_of all)) }
-    ensures one_line { lines.old.lines ≤ lines.new.lines + 1 }
+    ensures one_line { lines.old.lines_left ≤ lines.new.lines_left + 1 }
 {
     next_line(lines)?;
     sizes(lines.piece())
@@ -142,8 +142,8 @@ fn row(alloc: Global, line: &[u8]) -> Result<GivenRow, InputFault>
 fn row_line<R: Read>(alloc: Global, lines: &mut LineReader<R>) -> Result<GivenRow, InputFault>
     ensures row { Leaves lines.old lines.new
         (λ all left. IsReadGivenMemory (λ row. (value_of row, left)) result (line_as given_of all)) }
-    ensures one_line { lines.old.lines ≤ lines.new.lines + 1 }
-    ensures fewer { OnOk result (lines.old.lines ≡ lines.new.lines + 1) }
+    ensures one_line { lines.old.lines_left ≤ lines.new.lines_left + 1 }
+    ensures fewer { OnOk result (lines.old.lines_left ≡ lines.new.lines_left + 1) }
 {
     next_line(lines)?;
     row(alloc, lines.piece())
@@ -164,7 +164,7 @@ fn first_lines<R: Read>(
 ) -> Result<FirstLines, LocatedFault>
     ensures first { Leaves lines.old lines.new (λ all left. IsReadBefore (λ first. first) result left (first_lines all)) }
     ensures stops { IfErr result (λ refused. StopsAt refused lines.old lines.new) }
-    ensures three_lines { lines.old.lines ≤ lines.new.lines + 3 }
+    ensures three_lines { lines.old.lines_left ≤ lines.new.lines_left + 3 }
 {
     let old = match plan_line(alloc, b"old ", lines) {
         Ok(old) => old,
@@ -191,8 +191,8 @@ fn take_row<R: Read>(
         (λ all left. IsReadBefore (λ _. rows_in opening.new.table) result left
         (row_taken opening.old.tables (rows_in opening.old.table) at all)) }
     ensures kept { opening.new ≡ record opening.old { table = opening.new.table } }
-    ensures one_line { lines.old.lines ≤ lines.new.lines + 1 }
-    ensures fewer { OnOk result (lines.old.lines ≡ lines.new.lines + 1) }
+    ensures one_line { lines.old.lines_left ≤ lines.new.lines_left + 1 }
+    ensures fewer { OnOk result (lines.old.lines_left ≡ lines.new.lines_left + 1) }
     ensures line { IfErr result (λ refused. IfSome refused.line (λ line. line_number line ≡ at + 4)) }
 {
     let given = match row_line(alloc, lines) {
@@ -216,7 +216,7 @@ fn take_rows<R: Read>(
         (λ all left. IsReadBefore (λ _. rows_in opening.new.table) result left
         (rows_taken opening.old.tables (rows_in opening.old.table) 0 all)) }
     ensures kept { opening.new ≡ record opening.old { table = opening.new.table } }
-    ensures stops { IfErr result (λ refused. IfSome refused.line (λ line. lines.old.lines + 3 ≤ lines.new.lines + line_number line)) }
+    ensures stops { IfErr result (λ refused. IfSome refused.line (λ line. lines.old.lines_left + 3 ≤ lines.new.lines_left + line_number line)) }
 {
     let most = lines.lines_left();
     while lines.begins_read(b"row ") {
@@ -258,7 +258,7 @@ pub fn read_plans<R: Read>(
 ) -> Result<Opening, LocatedFault>
     ensures plans { Leaves lines.old lines.new (λ all left. Opens schema result left (plans_of all)) }
     ensures stops { IfErr result (λ refused. StopsAt refused lines.old lines.new) }
-    ensures three_lines { lines.old.lines ≤ lines.new.lines + 3 }
+    ensures three_lines { lines.old.lines_left ≤ lines.new.lines_left + 3 }
 {
     let first = first_lines(alloc, lines)?;
     match Opening::without_rows(alloc, schema, first.old, first.new, first.config) {

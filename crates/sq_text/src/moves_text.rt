@@ -3,7 +3,7 @@ ghost use Rattle.std.specs.Prelude.{◌≡◌, nat_lt, OnOk};
 ghost use Rattle.std.specs.List.{flat_map};
 ghost use Rattle.std.specs.Io.KnownBytes.{Appends};
 ghost use Rattle.sq_text.specs.Texts.{range_line, told_stage, segment_line, segment_lines, moves_text};
-ghost use Rattle.sq_ranges.specs.ReconValue.{stages};
+ghost use Rattle.sq_ranges.specs.Prelude.{stages};
 
 use sq_ranges::{Range, Recon};
 use std::io;

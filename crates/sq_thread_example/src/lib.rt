@@ -3,7 +3,7 @@
 #![tactic(auto)]
 
 ghost use Rattle.std.specs.Prelude.{◌<◌, All, IfOk};
-ghost use Rattle.sq_node_model.specs.Placed.{IsPlaced};
+ghost use Rattle.sq_node_model.specs.Prelude.{IsPlaced};
 ghost use Rattle.sq_audit.specs.Answers.{IdsDiffer};
 ghost use Rattle.sq_audit.specs.Defects.{IsVerdict};
 

@@ -8,3 +8,4 @@ pub mod Transition
 pub mod Holds
 pub mod Headline
 pub mod EachStep
+pub mod Prelude

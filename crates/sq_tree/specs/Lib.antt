@@ -3,3 +3,4 @@ pub mod Node
 pub mod Reading
 pub mod Status
 pub mod Tree
+pub mod Prelude

@@ -2,7 +2,7 @@
 ghost use Rattle.std.specs.Prelude.{◌≡◌, ◌==◌, ◌<◌, ℕ, true, [], Some, length, drop, find, slice_get, option_map, IsSome, IfSome, OnOk, OnErr, IfOk};
 ghost use Rattle.std.specs.List.{list_any};
 ghost use Rattle.std.specs.List.Sorted.{IsStrictlyIncreasing};
-ghost use Rattle.sq_schema.specs.TxnValue.{TxnValue};
+ghost use Rattle.sq_schema.specs.Prelude.{TxnValue};
 ghost use Rattle.sq_waiting.specs.Index.{is_between};
 ghost use Rattle.sq_waiting.specs.Waiting.{WaitingValue, numbers_of, is_on, is_numbered, is_due_from, txn_at, without, numbered_anew, no_number, with_a_number_left, with_last, with_due, IsMoreDue};
 

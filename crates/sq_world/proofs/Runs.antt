@@ -42,7 +42,7 @@ run_refused echoes (Ok ending) tables fault begin lines before now eight opens w
     let all = opens some.pieces some.can_come in
     (all.0, all.1, wrote.0, wrote.1, inr (record { fault = fault; left = some.pieces; header = subst (λ n. Opens n (Err fault) some.pieces (header_of n all.0)) eight all.2; wrote = wrote.2 }))
 
-pub run_given : {E : Type 0} (says : List PieceValue → List ℕ → Ending → Type 0) (r : Result Ending E) (v : LinesValue) (known before now : Option (List ℕ)) → v.held ≡ [] → v.reading ≡ Open → v.lines ≡ MAX_LINES → v.known ≡ known → IfOk r (OfLines says v before now) → IfOk r (OfReader says known before now)
+pub run_given : {E : Type 0} (says : List PieceValue → List ℕ → Ending → Type 0) (r : Result Ending E) (v : LinesValue) (known before now : Option (List ℕ)) → v.held ≡ [] → v.reading ≡ Open → v.lines_left ≡ MAX_LINES → v.known ≡ known → IfOk r (OfLines says v before now) → IfOk r (OfReader says known before now)
 run_given says (Err e) v known before now none still most same ran = tt
 run_given says (Ok ending) v known before now none still most same ran = (ran.0, given_first v known ran.0 none still most same ran.1, ran.2, ran.3, ran.4)
 

@@ -59,7 +59,7 @@ module _ (echoes : Bool) where
   begun o t begin first w leads = record { so_far = []; here = t; leads = leads; written = nothing first; goes_on = λ left later ending can writes. (left, can, writes) }
 
   -- a line more
-  pub on_line : (o : OpeningValue) (t : Trace) (begin was lines : LinesValue) (first mid now : Option (List ℕ)) (w new : WorldValue) (b : Before o t begin was first mid w) → CameBefore was (Line (next_line_number was.lines) lines.piece) lines
+  pub on_line : (o : OpeningValue) (t : Trace) (begin was lines : LinesValue) (first mid now : Option (List ℕ)) (w new : WorldValue) (b : Before o t begin was first mid w) → CameBefore was (Line (next_line_number was.lines_left) lines.piece) lines
       → IsAnswered echoes o b.here lines.piece mid now new → Before o t begin lines first now new
   on_line o t begin was lines first mid now w new b came answered =
       record {
@@ -68,7 +68,7 @@ module _ (echoes : Bool) where
         leads = answered.leads;
         written = both first mid now b.so_far answered.text _ b.written answered.written refl;
         goes_on = λ left later ending can writes.
-            let all = b.goes_on (Line (next_line_number was.lines) lines.piece ∷ left) (answered.text ++ later) ending (came left can) (answered.after, answered.text, later, answered.answers_line, refl, writes) in
+            let all = b.goes_on (Line (next_line_number was.lines_left) lines.piece ∷ left) (answered.text ++ later) ending (came left can) (answered.after, answered.text, later, answered.answers_line, refl, writes) in
             (all.0, all.1, subst (λ out. Writes echoes o t all.0 out ending) (sym (append_assoc b.so_far answered.text later)) all.2);
       }
 
@@ -122,10 +122,10 @@ module _ (echoes : Bool) where
   at_too_many r tables begin was fault first mid now start w before can is over = at_fault r tables begin was (TooMany ∷ []) fault first mid now start w before can (λ o t out ending wrote. subst (λ f. IsFault f out ending) is wrote) over
 
   pub at_long : {E : Type 0} (r : Result Ending E) (tables : ℕ) (begin was : LinesValue) (fault : LocatedFault) (first mid now : Option (List ℕ)) (start w : WorldValue) → AllBefore tables begin was first mid start w → IsLong MAX_UNENDED was
-      → fault ≡ located TooLong (Some (Later (next_line_number was.lines))) → IfOk r (EndsAtFault fault mid now) → IfOk r (RunsScript echoes tables start begin first now)
+      → fault ≡ located TooLong (Some (Later (next_line_number was.lines_left))) → IfOk r (EndsAtFault fault mid now) → IfOk r (RunsScript echoes tables start begin first now)
   at_long r tables begin was fault first mid now start w before long is over =
       let endless = is_endless was long in
-      at_fault r tables begin was (Endless (next_line_number was.lines) endless.bytes ∷ endless.others) fault first mid now start w before endless.can_come (λ o t out ending wrote. subst (λ f. IsFault f out ending) is wrote) over
+      at_fault r tables begin was (Endless (next_line_number was.lines_left) endless.bytes ∷ endless.others) fault first mid now start w before endless.can_come (λ o t out ending wrote. subst (λ f. IsFault f out ending) is wrote) over
 
   -- the answer to a line that spells no step
   no_step : (o : OpeningValue) (t : Trace) (tables : ℕ) (line : List ℕ) (fault : LineFault) (number : ℕ) → o.tables ≡ tables → Err fault ≡ step_of tables line → number ≡ line_fault_number fault → AnswersLine echoes o t line t (refused_text echoes line number)

@@ -54,7 +54,7 @@ pub(crate) fn run_script<R: Read, W: Write>(
 
 // The line in which an input ends.
 fn line_of<R: Read>(lines: &LineReader<R>) -> InputLine
-    ensures { result ≡ InputLine.Later (next_line_number lines.now.lines) }
+    ensures { result ≡ InputLine.Later (next_line_number lines.now.lines_left) }
 {
     InputLine::Later(lines.next_line_number())
 }

@@ -1,6 +1,6 @@
 // Ways to tell what moves.
 ghost use Rattle.std.specs.Prelude.{ℕ, List, IfOk};
-ghost use Rattle.sq_ranges.specs.ReconValue.{ReconValue};
+ghost use Rattle.sq_ranges.specs.Prelude.{ReconValue};
 ghost use Rattle.sq_world.specs.Listing.{IsTold};
 
 use sq_ranges::Recon;

@@ -1,8 +1,8 @@
 // The steps of a move at a partition.
 ghost use Rattle.std.specs.Prelude.{◌≡◌, ◌<◌, true, List, if◌then◌else◌, length, map, Some, None, is_some, IfSome, IfOk, IfErr, IsErr, ◌↔◌, OnOk, OnErr, IsTrue};
 ghost use Rattle.std.specs.List.{list_all};
-ghost use Rattle.sq_schema.specs.Family.{FamilyValue};
-ghost use Rattle.sq_store.specs.StoreValue.{has_none_of, with_families};
+ghost use Rattle.sq_schema.specs.Prelude.{FamilyValue};
+ghost use Rattle.sq_store.specs.Prelude.{has_none_of, with_families};
 ghost use Rattle.sq_chunk.specs.ChunkValue.{ChunkValue, IsChunk};
 ghost use Rattle.sq_exec.specs.Runs.{is_whole};
 ghost use Rattle.sq_exec.specs.OutLink.{cut_fault, may_cut};

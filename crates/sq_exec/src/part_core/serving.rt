@@ -1,7 +1,7 @@
 // Transactions at a partition.
 ghost use Rattle.std.specs.Prelude.{◌≡◌, true, false, length, Some, option_map, unwrap_or, IfOk, IfErr, OnOk, OnErr, IsErrOf, ◌↔◌, MatchResult, IsTrue};
 ghost use Rattle.std.specs.List.Sorted.{IsStrictlyIncreasing};
-ghost use Rattle.sq_store.specs.StoreValue.{log_length};
+ghost use Rattle.sq_store.specs.Prelude.{log_length};
 ghost use Rattle.sq_exec.specs.Location.{location, is_coming_here, is_coming_from, route, route_from, waits_for};
 ghost use Rattle.sq_exec.specs.Serving.{is_stuck, served, must_wait, submit_refusal, submit_takes_memory, is_ready_here, stays_by, graver, first_ready_here, resume_refusal, resume_takes_memory, IsMadeToWait, IsTaken, IsResumed};
 ghost use Rattle.sq_exec.specs.Numbering.{numbered, arrival_number, IsFirstReady, TakesNumber};

@@ -1,7 +1,7 @@
 // Opening a run, and a stage of it.
 ghost use Rattle.std.specs.Prelude.{◌≡◌, ◌≢◌, ℕ, ◌+◌, ◌<◌, ◌≤◌, ◌==◌, false, [], length, replicate, map, filter, slice_get, slice_set, Some, None, MatchOption, IfOk, IfErr, OnOk, OnErr, vec_capacity};
-ghost use Rattle.sq_exec.specs.Opened.{opened_part, HasOwned};
-ghost use Rattle.sq_ranges.specs.ReconValue.{stage_on};
+ghost use Rattle.sq_exec.specs.Prelude.{opened_part, HasOwned};
+ghost use Rattle.sq_ranges.specs.Prelude.{stage_on};
 ghost use Rattle.sq_pull.specs.Seats.{AreSeatsOf};
 ghost use Rattle.sq_pull.specs.declared.numbers.TheConstants.{MAX_PUMPS};
 ghost use Rattle.sq_node.specs.Ends.{src_of, dst_of, link_between, end_at};

@@ -1,6 +1,6 @@
 // The steps of a node on jobs.
 ghost use Rattle.std.specs.Prelude.{◌≡◌, ◌⊎◌};
-ghost use Rattle.sq_store.specs.StoreValue.{log_length};
+ghost use Rattle.sq_store.specs.Prelude.{log_length};
 ghost use Rattle.sq_node.specs.NodeState.{IsNodeOf, position_before};
 ghost use Rattle.sq_node.specs.Holds.{KeepsAll};
 ghost use Rattle.sq_node.specs.Steps.{JobStep, ResumeStep};

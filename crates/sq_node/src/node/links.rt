@@ -1,8 +1,7 @@
 // The steps of a node on its links.
 ghost use Rattle.std.specs.Prelude.{◌≡◌, ℕ, ◌<◌, true, false, length, MatchBool, IfSome, IfNone};
 ghost use Rattle.sq_chunk.specs.ChunkValue.{IsChunk};
-ghost use Rattle.sq_exec.specs.CoreValue.{out_at, inbox_at};
-ghost use Rattle.sq_exec.specs.OutLink.{may_cut};
+ghost use Rattle.sq_exec.specs.Prelude.{out_at, inbox_at, may_cut};
 ghost use Rattle.sq_node.specs.FabricValue.{FabricValue};
 ghost use Rattle.sq_node.specs.NodeState.{IsNodeOf};
 ghost use Rattle.sq_node.specs.Holds.{KeepsAll, HasNoneLoadable};

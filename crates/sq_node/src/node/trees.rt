@@ -3,7 +3,7 @@ ghost use Rattle.std.specs.Prelude.{◌≡◌, ℕ, ◌<◌, true, length, Conta
 ghost use Rattle.sq_tree.specs.declared.status.Status.TheVariants.{Partial};
 ghost use Rattle.sq_status.specs.Plays.{Won};
 ghost use Rattle.sq_status.specs.Seat.{IsSameSeat};
-ghost use Rattle.sq_exec.specs.Moving.{begun_core};
+ghost use Rattle.sq_exec.specs.Prelude.{begun_core};
 ghost use Rattle.sq_pull.specs.Seats.{AreSeatsOf, StepsAt};
 ghost use Rattle.sq_node.specs.NodeState.{IsNodeOf};
 ghost use Rattle.sq_node.specs.Holds.{KeepsAll};

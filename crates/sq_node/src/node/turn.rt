@@ -1,12 +1,10 @@
 // Turns of a node.
 ghost use Rattle.std.specs.Prelude.{◌≡◌, ℕ, ◌+◌, ◌<◌, ◌≤◌, true, List, [], length, map, slice_get, Some, IsTrue};
 ghost use Rattle.sq_ranges.specs.declared.recon.Range.{Range};
-ghost use Rattle.sq_ranges.specs.ReconValue.{stages};
+ghost use Rattle.sq_ranges.specs.Prelude.{stages};
 ghost use Rattle.sq_status.specs.Seat.{IsSameSeat};
 ghost use Rattle.sq_waiting.specs.Waiting.{Arrival, txns_of};
-ghost use Rattle.sq_exec.specs.CoreValue.{loaded_at};
-ghost use Rattle.sq_exec.specs.Kept.{IsCore};
-ghost use Rattle.sq_exec.specs.Runs.{is_whole};
+ghost use Rattle.sq_exec.specs.Prelude.{loaded_at, IsCore, is_whole};
 ghost use Rattle.sq_pull.specs.Seats.{AreSeatsOf, StepsAt};
 ghost use Rattle.sq_node.specs.NodeState.{IsNodeOf};
 ghost use Rattle.sq_node.specs.Holds.{KeepsAll};

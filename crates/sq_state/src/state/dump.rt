@@ -3,9 +3,9 @@ ghost use Rattle.std.specs.Prelude.{OnOk};
 ghost use Rattle.std.specs.List.{flat_map, range_with_len};
 ghost use Rattle.std.specs.Option.{option_copied};
 ghost use Rattle.std.specs.Io.KnownBytes.{Appends};
-ghost use Rattle.sq_store.specs.InOrder.{families_in};
+ghost use Rattle.sq_store.specs.Prelude.{families_in};
 ghost use Rattle.sq_text.specs.Texts.{at_line, way_lines};
-ghost use Rattle.sq_transition.specs.WorldValue.{link_index, link_of, option_list, under_way};
+ghost use Rattle.sq_transition.specs.Prelude.{link_index, link_of, option_list, under_way};
 ghost use Rattle.sq_state.specs.Sound.{IsSound};
 ghost use Rattle.sq_state.specs.Dump.{part_lines, link_lines, source_lines, dump};
 

@@ -3,12 +3,10 @@ ghost use Rattle.std.specs.Prelude.{◌≡◌, ℕ, ◌<◌, ◌≤◌, [], leng
 ghost use Rattle.sq_leader.specs.Segments.{is_told_whole};
 ghost use Rattle.sq_leader.specs.declared.leader.Leader.{Leader};
 ghost use Rattle.sq_ranges.specs.declared.segment.TheConstants.{SEGMENT_LIMIT};
-ghost use Rattle.sq_ranges.specs.ReconValue.{no_moves};
-ghost use Rattle.sq_exec.specs.CoreValue.{entered_core};
-ghost use Rattle.sq_tree.specs.Status.{reading};
-ghost use Rattle.sq_tree.specs.Tree.{status_at};
-ghost use Rattle.sq_tree.specs.Reading.{is_complete_reading};
-ghost use Rattle.sq_transition.specs.LeaderResults.{prepare_result, start_result, report_result, next_result, finish_result, fold_result, started_core};
+ghost use Rattle.sq_ranges.specs.Prelude.{no_moves};
+ghost use Rattle.sq_exec.specs.Prelude.{entered_core};
+ghost use Rattle.sq_tree.specs.Prelude.{reading, status_at, is_complete_reading};
+ghost use Rattle.sq_transition.specs.Prelude.{prepare_result, start_result, report_result, next_result, finish_result, fold_result, started_core};
 ghost use Rattle.sq_state.specs.Results.{answer_of, report_refused, next_refused};
 ghost use Rattle.sq_state.specs.Sound.{IsSound};
 

@@ -1,11 +1,9 @@
 // The steps of the links.
 ghost use Rattle.std.specs.Prelude.{◌≡◌};
 ghost use Rattle.std.specs.Option.{option_copied};
-ghost use Rattle.sq_transition.specs.WorldValue.{link_index};
+ghost use Rattle.sq_transition.specs.Prelude.{link_index, push_result, pop_result, cut_result, load_result, IsResult};
 ghost use Rattle.sq_model.specs.declared.step.Step.{Step};
-ghost use Rattle.sq_transition.specs.LinkResults.{push_result, pop_result, cut_result, load_result};
 ghost use Rattle.sq_state.specs.Results.{answer_of, running_link, cut_refused, load_refused, families_of};
-ghost use Rattle.sq_transition.specs.Transition.{IsResult};
 ghost use Rattle.sq_state.specs.Sound.{IsSound};
 
 use crate::state::State;

@@ -1,9 +1,9 @@
 // The state that a world opens in.
 ghost use Rattle.std.specs.Prelude.{◌≡◌, ℕ, [], map, IfOk, IfErr};
 ghost use Rattle.std.specs.List.{range_with_len};
-ghost use Rattle.sq_ranges.specs.SetUp.{IsSetUp};
-ghost use Rattle.sq_transition.specs.Holds.{Holds};
-ghost use Rattle.sq_exec.specs.Opened.{opened_part};
+ghost use Rattle.sq_ranges.specs.Prelude.{IsSetUp};
+ghost use Rattle.sq_transition.specs.Prelude.{Holds};
+ghost use Rattle.sq_exec.specs.Prelude.{opened_part};
 ghost use Rattle.sq_state.specs.Openings.{AreNewTrees, AreNewQueues};
 
 use crate::queue::Queue;

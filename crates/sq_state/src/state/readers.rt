@@ -1,8 +1,7 @@
 // What is read of a world.
 ghost use Rattle.std.specs.Prelude.{◌≡◌, slice_get};
 ghost use Rattle.std.specs.Option.{option_copied};
-ghost use Rattle.sq_transition.specs.WorldValue.{running_stage, link_of, under_way};
-ghost use Rattle.sq_transition.specs.Leading.{phase_of};
+ghost use Rattle.sq_transition.specs.Prelude.{running_stage, link_of, under_way, phase_of};
 ghost use Rattle.sq_state.specs.Readers.{store_at, chunk_at, status_there};
 
 use crate::queue::Queue;

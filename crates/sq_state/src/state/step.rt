@@ -1,5 +1,5 @@
 // One step of any kind.
-ghost use Rattle.sq_transition.specs.Transition.{IsTransition};
+ghost use Rattle.sq_transition.specs.Prelude.{IsTransition};
 ghost use Rattle.sq_state.specs.Sound.{IsSound};
 
 use crate::state::State;

@@ -1,8 +1,7 @@
 // Transactions that are submitted, and those that waited.
 ghost use Rattle.std.specs.Prelude.{◌≡◌, length};
 ghost use Rattle.sq_model.specs.declared.step.Step.{Step};
-ghost use Rattle.sq_transition.specs.SubmitResults.{is_root_given_up, sent_to, submitted, submit_refused, resume_refused, submit_result, resume_result};
-ghost use Rattle.sq_transition.specs.Transition.{IsResult};
+ghost use Rattle.sq_transition.specs.Prelude.{is_root_given_up, sent_to, submitted, submit_refused, resume_refused, submit_result, resume_result, IsResult};
 ghost use Rattle.sq_state.specs.Results.{answer_of};
 ghost use Rattle.sq_state.specs.Sound.{IsSound};
 

@@ -1,14 +1,11 @@
 // The steps of the split trees.
 ghost use Rattle.std.specs.Prelude.{◌≡◌, ◌<◌, length, true, Ok, Err, is_ok, if◌then◌else◌};
 ghost use Rattle.sq_tree.specs.declared.status.Status.{Status};
-ghost use Rattle.sq_tree.specs.Tree.{status_at, with_status};
-ghost use Rattle.sq_tree.specs.Answer.{split_answer, claim_answer, begin_answer, complete_answer};
+ghost use Rattle.sq_tree.specs.Prelude.{status_at, with_status, split_answer, claim_answer, begin_answer, complete_answer};
 ghost use Rattle.sq_model.specs.declared.answer.Answer.{Answer};
 ghost use Rattle.sq_model.specs.declared.step.Step.{Step};
-ghost use Rattle.sq_model.specs.Answers.{split_answered, claim_answered, begin_answered, complete_answered};
-ghost use Rattle.sq_transition.specs.WorldValue.{source_of, destination_of};
-ghost use Rattle.sq_transition.specs.TreeResults.{split_result, claim_result, begin_result, complete_result, status_result, is_loaded_whole};
-ghost use Rattle.sq_transition.specs.Transition.{IsResult};
+ghost use Rattle.sq_model.specs.Prelude.{split_answered, claim_answered, begin_answered, complete_answered};
+ghost use Rattle.sq_transition.specs.Prelude.{source_of, destination_of, split_result, claim_result, begin_result, complete_result, status_result, is_loaded_whole, IsResult};
 ghost use Rattle.sq_state.specs.Results.{answer_of, done_or};
 ghost use Rattle.sq_state.specs.Sound.{IsSound};
 

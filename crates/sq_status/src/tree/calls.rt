@@ -1,7 +1,6 @@
 // Steps on one node.
 ghost use Rattle.std.specs.Prelude.{◌≡◌, ◌≢◌, ◌+◌, ◌≤◌, true, false, IsTrue, MatchBool, MatchResult};
-ghost use Rattle.sq_tree.specs.Node.{is_leaf};
-ghost use Rattle.sq_tree.specs.Status.{before};
+ghost use Rattle.sq_tree.specs.Prelude.{is_leaf, before};
 ghost use Rattle.sq_tree.specs.declared.status.Status.TheVariants.{Free, Split, Claimed, Partial, Complete};
 ghost use Rattle.sq_status.specs.View.{entries};
 ghost use Rattle.sq_status.specs.Plays.{MayBring, Found, Won};

@@ -2,7 +2,7 @@
 ghost use Rattle.std.specs.Prelude.{◌≡◌, ◌≢◌, ℕ, ◌+◌, ◌<◌, ◌≤◌, ◌⊎◌, IsTrue, MatchResult};
 ghost use Rattle.sq_tree.specs.declared.status.Status.TheVariants.{Split};
 ghost use Rattle.sq_tree.specs.declared.node.TheConstants.{LEAVES};
-ghost use Rattle.sq_tree.specs.Node.{parent};
+ghost use Rattle.sq_tree.specs.Prelude.{parent};
 ghost use Rattle.sq_status.specs.View.{entries};
 ghost use Rattle.sq_status.specs.Plays.{KnowsSplit, Found, Won};
 ghost use Rattle.sq_status.specs.Seat.{IsSameSeat};

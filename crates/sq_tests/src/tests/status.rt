@@ -1,6 +1,6 @@
 // Trees that threads share: two seats in turn, and threads at once.
 ghost use Rattle.std.specs.Prelude.{◌≡◌, ◌<◌, true, IsTrue, IfOk};
-ghost use Rattle.sq_tree.specs.Node.{is_node};
+ghost use Rattle.sq_tree.specs.Prelude.{is_node};
 
 use sq_status::{LeafClaim, StatusTree, TreeSeat};
 use sq_tree::{BeginFault, ClaimFault, CompleteFault, Leaf, NODES, NodeId, SplitFault, Status};

@@ -16,7 +16,7 @@ returns-in-Err-clause-fault g c =
     let jobs = c.loop-jobs.jobs in
     let some = some_pieces c.next_read.new.self in
     let adds = subst (λ bytes. AddsJob c.args.schema.now c.args.parts jobs bytes (Err c.in-Err.fault) c.add_line.new.self) c.piece.ensures c.in-Err.ensures in
-    at_line _ _ _ _ jobs c.loop-jobs.invariant.0 c.in-Err.fault c.at.result (next_line_number c.loop-jobs.lines.lines) c.next_read.new.self.piece _ some.pieces (c.in-Line.ensures.finds.0 some.pieces some.can_come) adds
+    at_line _ _ _ _ jobs c.loop-jobs.invariant.0 c.in-Err.fault c.at.result (next_line_number c.loop-jobs.lines.lines_left) c.next_read.new.self.piece _ some.pieces (c.in-Line.ensures.finds.0 some.pieces some.can_come) adds
     (c.at.ensures ∙ ap (λ n. fault_at n c.in-Err.fault) c.next_line_number-line.ensures)
 
 pub loop-jobs-preserved : goal.loop-jobs-preserved
@@ -25,7 +25,7 @@ loop-jobs-preserved g c =
     let more = c.add_line.new.self in
     let adds : (job : Job) × (job_of c.args.schema.now c.args.parts jobs c.next_read.new.self.piece ≡ Ok job) × (more ≡ jobs ++ job ∷ []) =
     subst (λ bytes. (job : Job) × (job_of c.args.schema.now c.args.parts jobs bytes ≡ Ok job) × (more ≡ jobs ++ job ∷ [])) c.piece.ensures c.in_default.ensures in (
-      job_more _ _ _ _ jobs c.loop-jobs.invariant.0 c.next_read.new.self (next_line_number c.loop-jobs.lines.lines) c.next_read.new.self.piece more c.in-Line.ensures.finds.0 adds,
+      job_more _ _ _ _ jobs c.loop-jobs.invariant.0 c.next_read.new.self (next_line_number c.loop-jobs.lines.lines_left) c.next_read.new.self.piece more c.in-Line.ensures.finds.0 adds,
       parts_more _ _ c.args.lines.now c.loop-jobs.lines jobs c.loop-jobs.invariant.0 c.next_read.new.self.piece more c.loop-jobs.invariant.1 adds,
     )
 

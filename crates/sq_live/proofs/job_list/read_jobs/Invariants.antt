@@ -7,4 +7,4 @@ abbrev pub invariant-loop-jobs : goal.invariant-loop-jobs
 invariant-loop-jobs g l = JobsSoFar l.schema l.parts l.initial.lines l.lines l.jobs × HavePartitions l.parts l.jobs
 
 abbrev pub decreases-loop-jobs : goal.decreases-loop-jobs
-decreases-loop-jobs g l = l.lines.lines
+decreases-loop-jobs g l = l.lines.lines_left

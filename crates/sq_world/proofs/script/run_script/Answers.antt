@@ -27,7 +27,7 @@ loop-world-preserved g c = λ o t leads same.
 
 pub returns-in-Rest : goal.returns-in-Rest
 returns-in-Rest g c =
-    at_rest c.args.echoes c.end.result c.args.schema.now c.args.lines.now c.loop-world.lines (next_line_number c.loop-world.lines.lines) c.next.new.self.piece c.number-number.result (g.W.Write.contents c.args.writer.now) (g.W.Write.contents c.loop-world.writer) (g.W.Write.contents c.write_refusal.new.writer) (g.W.Write.contents c.end.new.writer) c.args.world.now c.loop-world.world
+    at_rest c.args.echoes c.end.result c.args.schema.now c.args.lines.now c.loop-world.lines (next_line_number c.loop-world.lines.lines_left) c.next.new.self.piece c.number-number.result (g.W.Write.contents c.args.writer.now) (g.W.Write.contents c.loop-world.writer) (g.W.Write.contents c.write_refusal.new.writer) (g.W.Write.contents c.end.new.writer) c.args.world.now c.loop-world.world
     c.loop-world.invariant c.in-Rest.ensures.0 c.number-number.ensures
     (subst (λ line. Appends (g.W.Write.contents c.loop-world.writer) (g.W.Write.contents c.write_refusal.new.writer) (refused_text c.args.echoes line c.number-number.result)) c.piece-in-Rest.ensures c.in_ok-write_refusal-in-Rest.ensures) c.end.ensures.done c.end.ensures.dumped
 
@@ -38,13 +38,13 @@ returns-in-End g c =
 
 pub returns-in-Failed : goal.returns-in-Failed
 returns-in-Failed g c =
-    at_failed c.args.echoes c.end_by.result c.args.schema.now c.args.lines.now c.loop-world.lines (next_line_number c.loop-world.lines.lines) c.loop-world.lines.held c.at.result (g.W.Write.contents c.args.writer.now) (g.W.Write.contents c.loop-world.writer) (g.W.Write.contents c.end_by.new.writer) c.args.world.now c.loop-world.world
-    c.loop-world.invariant c.in-Failed.ensures.0 (c.at.ensures ∙ ap (λ line. located ReadFailed (Some line)) (c.line_of.ensures ∙ ap (λ (v : LinesValue). Later (next_line_number v.lines)) c.in-Failed.ensures.2)) c.end_by.ensures
+    at_failed c.args.echoes c.end_by.result c.args.schema.now c.args.lines.now c.loop-world.lines (next_line_number c.loop-world.lines.lines_left) c.loop-world.lines.held c.at.result (g.W.Write.contents c.args.writer.now) (g.W.Write.contents c.loop-world.writer) (g.W.Write.contents c.end_by.new.writer) c.args.world.now c.loop-world.world
+    c.loop-world.invariant c.in-Failed.ensures.0 (c.at.ensures ∙ ap (λ line. located ReadFailed (Some line)) (c.line_of.ensures ∙ ap (λ (v : LinesValue). Later (next_line_number v.lines_left)) c.in-Failed.ensures.2)) c.end_by.ensures
 
 pub returns-in-Long : goal.returns-in-Long
 returns-in-Long g c =
     at_long c.args.echoes c.end_by-in-Long.result c.args.schema.now c.args.lines.now c.loop-world.lines c.at-in-Long.result (g.W.Write.contents c.args.writer.now) (g.W.Write.contents c.loop-world.writer) (g.W.Write.contents c.end_by-in-Long.new.writer) c.args.world.now c.loop-world.world
-    c.loop-world.invariant c.in-Long.ensures.0 (c.at-in-Long.ensures ∙ ap (λ line. located TooLong (Some line)) (c.line_of-in-Long.ensures ∙ ap (λ (v : LinesValue). Later (next_line_number v.lines)) c.in-Long.ensures.1)) c.end_by-in-Long.ensures
+    c.loop-world.invariant c.in-Long.ensures.0 (c.at-in-Long.ensures ∙ ap (λ line. located TooLong (Some line)) (c.line_of-in-Long.ensures ∙ ap (λ (v : LinesValue). Later (next_line_number v.lines_left)) c.in-Long.ensures.1)) c.end_by-in-Long.ensures
 
 pub returns-in-TooMany : goal.returns-in-TooMany
 returns-in-TooMany g c =

@@ -14,4 +14,4 @@ invariant-loop-world g l =
 
 -- a line goes, or a read
 abbrev pub decreases-loop-world : goal.decreases-loop-world
-decreases-loop-world g l = l.lines.lines * (MAX_UNENDED + 2) + reads_left l.lines
+decreases-loop-world g l = l.lines.lines_left * (MAX_UNENDED + 2) + reads_left l.lines

@@ -16,7 +16,7 @@ pub returns-in-Failed : goal.returns-in-Failed
 returns-in-Failed g c =
     let s = c.self.inside in
     let none = empty_range s.buffer.items s.start s.end (omega (arith, c.if-self.true)) in
-    (subst (λ (v : LinesValue). CanCome v (Failed (next_line_number v.lines) v.held ∷ [])) c.self.view_is (failed_comes _ c.in-Failed.is (rw none refl) (inl none) (omega (arith, ap length none))), omega (arith, ap length none, ap (λ (v : LinesValue). length v.held) c.self.view_is), refl)
+    (subst (λ (v : LinesValue). CanCome v (Failed (next_line_number v.lines_left) v.held ∷ [])) c.self.view_is (failed_comes _ c.in-Failed.is (rw none refl) (inl none) (omega (arith, ap length none))), omega (arith, ap length none, ap (λ (v : LinesValue). length v.held) c.self.view_is), refl)
 
 pub returns-then-self-eq0 : goal.returns-then-self-eq0
 returns-then-self-eq0 g c =
@@ -46,15 +46,15 @@ invariant_of-self-in-Failed-reading g c = all_searched _ _ _ _ c.self.inside.sea
 pub returns-in-Failed-reading : goal.returns-in-Failed-reading
 returns-in-Failed-reading g c =
     let held = none_held c.self.invariant (rw (← c.deref.ensures.value) (sym c.place_of.ensures ∙ c.in_default.is)) in
-    (subst (λ (v : LinesValue). CanCome v (Failed (next_line_number v.lines) v.held ∷ [])) c.self.view_is (failed_comes _ c.in-Failed-reading.is held.unended (inr (omega (arith, c.if-self-eq0.false))) (omega (arith, held.count, c.if-self-most.false, c.requires))), omega (arith, held.count, c.if-self-most.false, ap (λ (v : LinesValue). length v.held) c.self.view_is), c.self.view_is)
+    (subst (λ (v : LinesValue). CanCome v (Failed (next_line_number v.lines_left) v.held ∷ [])) c.self.view_is (failed_comes _ c.in-Failed-reading.is held.unended (inr (omega (arith, c.if-self-eq0.false))) (omega (arith, held.count, c.if-self-most.false, c.requires))), omega (arith, held.count, c.if-self-most.false, ap (λ (v : LinesValue). length v.held) c.self.view_is), c.self.view_is)
 
 pub returns-in-Ended-reading : goal.returns-in-Ended-reading
 returns-in-Ended-reading g c =
     let s = c.self.inside in
     let held = none_held c.self.invariant (rw (← c.deref.ensures.value) (sym c.place_of.ensures ∙ c.in_default.is)) in
     let short : length (slice_range s.buffer.items s.start s.end) ≤ c.args.most = omega (arith, held.count, c.if-self-most.false) in (
-      subst (λ (v : LinesValue). CanCome v (Rest (next_line_number v.lines) (slice_range s.buffer.items s.start s.end) ∷ [])) c.self.view_is (rest_comes _ c.in-Ended-reading.is held.unended (omega (arith, c.if-self-eq0.false)) (omega (arith, held.count, c.if-self.false, c.self.invariant.searched_after, c.self.invariant.searched_before)) (omega (arith, short, c.requires))),
-      ap (λ (v : LinesValue). v.lines) c.self.view_is,
+      subst (λ (v : LinesValue). CanCome v (Rest (next_line_number v.lines_left) (slice_range s.buffer.items s.start s.end) ∷ [])) c.self.view_is (rest_comes _ c.in-Ended-reading.is held.unended (omega (arith, c.if-self-eq0.false)) (omega (arith, held.count, c.if-self.false, c.self.invariant.searched_after, c.self.invariant.searched_before)) (omega (arith, short, c.requires))),
+      ap (λ (v : LinesValue). v.lines_left) c.self.view_is,
       short,
     )
 
@@ -70,7 +70,7 @@ returns g c =
     let s = c.self.inside in
     let at = c.in-Some.at in
     let found = line_held c.self.invariant at (rw (← c.deref.ensures.value) (sym c.place_of.ensures ∙ c.in-Some.is)) in
-    let lines : c.args.self.now.lines ≡ s.lines - 1 + 1 = sym (ap (λ (v : LinesValue). v.lines) c.self.view_is) ∙ omega (arith, c.if-self-eq0.false) in
+    let lines : c.args.self.now.lines_left ≡ s.lines_left - 1 + 1 = sym (ap (λ (v : LinesValue). v.lines_left) c.self.view_is) ∙ omega (arith, c.if-self-eq0.false) in
     let short : length (slice_range s.buffer.items s.start (s.searched + at)) ≤ 1048576 = omega (arith, found.count, c.if-line_end-self-gt-MAX_UNENDED.false) in (
       line_came c.args.self.now _ (ap (λ (v : LinesValue). v.reading) c.self.view_is) (ap (λ (v : LinesValue). v.known) c.self.view_is) lines (sym (ap (λ (v : LinesValue). v.held) c.self.view_is) ∙ found.held) found.unended short,
       lines,

@@ -43,7 +43,7 @@ pub returns-in-Ok-clause-comes : goal.returns-in-Ok-clause-comes
 returns-in-Ok-clause-comes g c =
     let s = c.self.inside in
     let read = read_behind s.buffer.items c.move_to_front.new.buffer.items c.read_behind.new.buffer.items s.start s.end (s.end - s.start + c.in-Ok.count) (omega (arith, c.self.invariant.searched_after, c.self.invariant.searched_before)) (omega arith) c.move_to_front.ensures.moved c.read_behind.ensures.before in
-    λ ps can. read_before c.args.self.now _ (slice_range c.read_behind.new.buffer.items (s.end - s.start) (s.end - s.start + c.in-Ok.count)) ps c.requires.goes_on (ap (λ (v : LinesValue). v.reading) c.self.view_is ∙ c.requires.goes_on) (ap (λ (v : LinesValue). v.lines) c.self.view_is)
+    λ ps can. read_before c.args.self.now _ (slice_range c.read_behind.new.buffer.items (s.end - s.start) (s.end - s.start + c.in-Ok.count)) ps c.requires.goes_on (ap (λ (v : LinesValue). v.reading) c.self.view_is ∙ c.requires.goes_on) (ap (λ (v : LinesValue). v.lines_left) c.self.view_is)
     (read.held ∙ ap (λ (v : LinesValue). v.held ++ slice_range c.read_behind.new.buffer.items (s.end - s.start) (s.end - s.start + c.in-Ok.count)) c.self.view_is)
     (subst (λ (v : LinesValue). Consumes v.known (g.R.Read.remaining c.read_behind.new.reader) (slice_range c.read_behind.new.buffer.items (s.end - s.start) (s.end - s.start + c.in-Ok.count))) c.self.view_is c.in-Ok.ensures.took) can
 
@@ -52,4 +52,4 @@ returns-in-Err-clause-comes g c =
     let s = c.self.inside in
     let read = read_behind s.buffer.items c.move_to_front.new.buffer.items c.read_behind.new.buffer.items s.start s.end (s.end - s.start) (omega (arith, c.self.invariant.searched_after, c.self.invariant.searched_before)) (omega arith) c.move_to_front.ensures.moved c.read_behind.ensures.before in
     let same : slice_range c.read_behind.new.buffer.items 0 (s.end - s.start) ≡ slice_range s.buffer.items s.start s.end = read.front s.end (omega (arith, c.self.invariant.searched_after, c.self.invariant.searched_before)) (omega arith) in
-    λ ps can. fail_before c.args.self.now _ ps c.requires.goes_on refl (ap (λ (v : LinesValue). v.lines) c.self.view_is) (same ∙ ap (λ (v : LinesValue). v.held) c.self.view_is) can
+    λ ps can. fail_before c.args.self.now _ ps c.requires.goes_on refl (ap (λ (v : LinesValue). v.lines_left) c.self.view_is) (same ∙ ap (λ (v : LinesValue). v.held) c.self.view_is) can
