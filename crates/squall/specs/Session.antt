@@ -70,7 +70,8 @@ IsBehindPlans (Some file) main behind = (rows : Option (List ℕ)) × (behind �
 abbrev pub IsPutTogether : Option Plans → Option (List ℕ) → Option (List ℕ) → Type 0
 IsPutTogether None main held = held ≡ main
 IsPutTogether (Some plans) main held =
-    (old : List ℕ) × (new : List ℕ) × (behind : Option (List ℕ)) × IsBehindPlans plans.rows main behind × (held ≡ option_append (Some (plan_lines old new)) behind)
+    (old : List ℕ) × (new : List ℕ) × (behind : Option (List ℕ)) × IsBehindPlans plans.rows main behind
+    × (held ≡ option_append (Some (plan_lines old new)) behind)
 
 -- a task was done with an input that has this main part and these plans, or else one of their files can't be read
 abbrev pub EndsParts : Task → Option Plans → Option (List ℕ) → Option (List ℕ) → Option (List ℕ) → ℕ → Type 0
@@ -81,7 +82,8 @@ EndsParts task plans main before now status =
 -- the same, where the main part is what a reader gives, or what a file of this name holds, unless that can't be read
 abbrev pub EndsMain : Task → Option Plans → Option (Bor Text) → Option (List ℕ) → Option (List ℕ) → Option (List ℕ) → ℕ → Type 0
 EndsMain task plans None known before now status = EndsParts task plans known before now status
-EndsMain task plans (Some file) known before now status = ((main : Option (List ℕ)) × EndsParts task plans main before now status) ⊎ (status ≡ 2)
+EndsMain task plans (Some file) known before now status =
+    ((main : Option (List ℕ)) × EndsParts task plans main before now status) ⊎ (status ≡ 2)
 
 -- the same with this input
 abbrev pub EndsInput : Task → Input → Option (List ℕ) → Option (List ℕ) → Option (List ℕ) → ℕ → Type 0
@@ -102,7 +104,8 @@ pub record IsCarriedOut (words : List Text) (known before now : Option (List ℕ
 abbrev pub IsUsageStatus : ErrorKind → ℕ → Type 0
 IsUsageStatus kind status = (status ≡ 2) ⊎ ((status ≡ 0) × ((kind ≡ DisplayHelp) ⊎ (kind ≡ DisplayVersion)))
 
--- something was said of the words: they have a fault, ask for a help text or the version, or have options that don't go together, or memory ran out at them
+-- something was said of the words: they have a fault, ask for a help text or the version,
+-- or have options that don't go together, or memory ran out at them
 pub record IsUsage (words : List Text) (status : ℕ) : Type 0 where
   pub error : Error
   pub comes : ComesOf words (Err error)

@@ -20,6 +20,9 @@ use std::sync::Wait;
 use std::thread::Threads;
 use std::time::Clock;
 
+// The command line asks for no more pumps than there may be.
+const _: () = prove!(sq_command::MAX_PUMPS == sq_pull::MAX_PUMPS as u64);
+
 /// How a live run is done.
 #[derive(Clone, Copy, Debug, PartialEq, Eq)]
 pub struct Manner {
@@ -40,10 +43,10 @@ pub struct Report<'a> {
     pub timeline: Option<&'a str>,
 }
 
-/// Runs the jobs in `reader` as [`live_run`] does, and tells of the run what was asked for: a summary on standard error, and a
-/// timeline in a file. Of a run that ends in a fault nothing is told; where there is no memory to keep count, the run goes on
-/// without.
-pub fn told_run<
+/// Runs the jobs in `reader` in threads, writes what that comes to, and says on standard error what it means, unless the run
+/// is sound. Its workers ask `watch` before each step. Tells of the run besides what was asked for: a summary on standard
+/// error, and a timeline in a file. Of a run that ends in a fault nothing is told. Gives the exit status.
+pub fn live_run<
     T: Threads + Wait + Sync + Clock + Eprint + Files + AllocGlobal,
     R: Read,
     W: Write,
@@ -61,19 +64,42 @@ pub fn told_run<
     ensures { EndsAs (RunsLive manner.folds MAX_TABLES (recalling_remaining R.remaining reader.old)
         (W.contents writer.old) (W.contents writer.new)) live_status result }
 {
-    if !report.summary && report.timeline.is_none() {
-        return live_run(rt, reader, writer, manner, watch, source);
-    }
-    // The time of reading goes from here on.
-    let Ok(told) = RecordingWatch::new(rt, rt.alloc(), watch, report.timeline.is_some()) else {
-        let _ = eprintln!(rt; "squall: there is no memory to tell what the run does");
-        return live_run(rt, reader, writer, manner, watch, source);
+    let Manner {
+        turns,
+        pumps,
+        folds,
+    } = manner;
+    let told = recording(rt, report, watch);
+    let ran = match &told {
+        Some(told) => live(rt, rt.alloc(), reader, writer, turns, pumps, folds, told),
+        None => live(rt, rt.alloc(), reader, writer, turns, pumps, folds, watch),
     };
-    let status = live_run(rt, reader, writer, manner, &told, source);
-    if status != REFUSED {
-        tell(rt, report, &told);
+    explain_live(rt, source, reader, ran);
+    let status = live_status(ran);
+    if let Some(told) = &told {
+        if status != REFUSED {
+            tell(rt, report, told);
+        }
     }
     status
+}
+
+// A watch before another one that keeps count for what is to be told of a run. `None` where nothing is, or where there is no
+// memory for it, which standard error says: then the run goes on without. The time of reading goes from here on.
+fn recording<'a, T: Wait + Clock + Sync + Eprint + AllocGlobal, G: Watch>(
+    rt: &'a T,
+    report: Report<'_>,
+    watch: &'a G,
+) -> Option<RecordingWatch<'a, T, G>> {
+    let draws = report.timeline.is_some();
+    if !report.summary && !draws {
+        return None;
+    }
+    let told = RecordingWatch::new(rt, rt.alloc(), watch, draws);
+    if told.is_err() {
+        let _ = eprintln!(rt; "squall: there is no memory to tell what the run does");
+    }
+    told.ok()
 }
 
 // Tells of a run what was asked for.
@@ -117,35 +143,6 @@ fn draw_timeline<T: Wait + Clock + Sync + Eprint + Files + AllocGlobal, G: Watch
     if let Err(error) = drawn {
         let _ = eprintln!(rt; "squall: the file '{name}' can't be written: {error}");
     }
-}
-
-/// Runs the jobs in `reader` in threads, writes what that comes to, and says on standard error what it means, unless the run
-/// is sound. Its workers ask `watch` before each step. Gives the exit status.
-pub fn live_run<
-    T: Threads + Wait + Sync + Eprint + Files + AllocGlobal,
-    R: Read,
-    W: Write,
-    G: Watch,
->(
-    rt: &T,
-    reader: &mut Recalling<R>,
-    writer: &mut W,
-    manner: Manner,
-    watch: &G,
-    source: &Source<'_>,
-) -> u8
-    requires { manner.pumps ≤ MAX_PUMPS }
-    ensures { EndsAs (RunsLive manner.folds MAX_TABLES (recalling_remaining R.remaining reader.old)
-        (W.contents writer.old) (W.contents writer.new)) live_status result }
-{
-    let Manner {
-        turns,
-        pumps,
-        folds,
-    } = manner;
-    let ran = live(rt, rt.alloc(), reader, writer, turns, pumps, folds, watch);
-    explain_live(rt, source, reader, ran);
-    live_status(ran)
 }
 
 /// The exit status after a live run: 0 where it is sound, 3 where it stopped, 4 where it isn't sound, and 2 after a fault.

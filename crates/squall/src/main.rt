@@ -14,7 +14,7 @@ mod session;
 mod source;
 
 use explaining::explanation;
-use live_runs::{Manner, Report, told_run};
+use live_runs::{Manner, Report, live_run};
 use plans::lines_of_plans;
 use progress::Progress;
 use session::{
@@ -44,103 +44,93 @@ fn words_of(rt: &(impl Env + AllocGlobal)) -> io::Result<Vec<String>> {
     Ok(words)
 }
 
-// Does a task with what a reader gives, which comes from there, and gives the exit status. Workers of a live run ask
-// `watch` before each step.
-fn work<
-    T: Threads + Wait + Sync + Clock + Eprint + Files + AllocGlobal,
-    R: Read + Drop,
-    W: Write,
+/// A task with its input, what it is done by, and who watches it.
+#[derive(Drop)]
+struct Assignment<'a, T, G> {
+    rt: &'a T,
+    task: Task<'a>,
+    input: Input<'a>,
+    /// Workers of a live run ask it before each step.
+    watch: &'a G,
+}
+
+impl<T, G> Assignment<'_, T, G>
+where
+    T: Threads + Wait + Sync + Clock + Print + Eprint + Files + AllocGlobal,
     G: Watch,
->(rt: &T, task: Task<'_>, source: &Source<'_>, reader: R, writer: &mut W, watch: &G) -> u8
-    requires { IsWithin task }
-    ensures { EndsTask task.entry (R.remaining reader) (W.contents writer.old) (W.contents writer.new) result }
 {
-    // A faulty line is looked at once more.
-    let mut reader = Recalling::new(rt.alloc(), reader);
-    match task {
-        Task::Run { echoes } => script(rt, &mut reader, writer, echoes, source),
-        Task::Ranges { form } => listing(rt, &mut reader, writer, form, source),
-        Task::Live {
-            turns,
-            pumps,
-            folds,
-            summary,
-            timeline,
-        } => {
-            let manner = Manner {
+    // Does the task with its input, of which standard input gives the main part or a file, and gives the exit status: 2 where
+    // a file can't be read.
+    fn carry_out<R: Read, W: Write>(&self, reader: &mut R, writer: &mut W) -> u8
+        requires { IsWithin self.now.task }
+        ensures { EndsInput self.now.task self.now.input (R.remaining reader.old) (W.contents writer.old) (W.contents writer.new) result }
+    {
+        let Some(name) = self.input.file else {
+            return self.work_on_parts(reader, writer);
+        };
+        match open_input(self.rt, name) {
+            Ok(file) => self.work_on_parts(file, writer),
+            Err(error) => refuse_file(self.rt, name, &error),
+        }
+    }
+
+    // Does the task with the input of which a reader gives the main part, and gives the exit status: 2 where a file of the
+    // plans or of the rows can't be read.
+    fn work_on_parts<R: Read + Drop, W: Write>(&self, main: R, writer: &mut W) -> u8
+        requires { IsWithin self.now.task }
+        ensures { EndsParts self.now.task self.now.input.plans (R.remaining main) (W.contents writer.old) (W.contents writer.new) result }
+    {
+        let rows = Cell::new(None);
+        let source = Source {
+            input: self.input,
+            rows: &rows,
+        };
+        let Some(plans) = self.input.plans else {
+            return self.work(&source, main, writer);
+        };
+        let lines = match lines_of_plans(self.rt, plans) {
+            Ok(lines) => lines,
+            Err(status) => return status,
+        };
+        let Some(name) = plans.rows else {
+            return self.work(&source, lines.as_slice().chain(main), writer);
+        };
+        match open_input(self.rt, name) {
+            Ok(file) => {
+                let behind = Inserting::new(main, file, &rows);
+                self.work(&source, lines.as_slice().chain(behind), writer)
+            }
+            Err(error) => refuse_file(self.rt, name, &error),
+        }
+    }
+
+    // Does the task with what a reader gives, which comes from there, and gives the exit status.
+    fn work<R: Read + Drop, W: Write>(&self, source: &Source<'_>, reader: R, writer: &mut W) -> u8
+        requires { IsWithin self.now.task }
+        ensures { EndsTask self.now.task (R.remaining reader) (W.contents writer.old) (W.contents writer.new) result }
+    {
+        let rt = self.rt;
+        // A faulty line is looked at once more.
+        let mut reader = Recalling::new(rt.alloc(), reader);
+        match self.task {
+            Task::Run { echoes } => script(rt, &mut reader, writer, echoes, source),
+            Task::Ranges { form } => listing(rt, &mut reader, writer, form, source),
+            Task::Live {
                 turns,
                 pumps,
                 folds,
-            };
-            let report = Report { summary, timeline };
-            told_run(rt, &mut reader, writer, manner, report, watch, source)
+                summary,
+                timeline,
+            } => {
+                let manner = Manner {
+                    turns,
+                    pumps,
+                    folds,
+                };
+                let report = Report { summary, timeline };
+                live_run(rt, &mut reader, writer, manner, report, self.watch, source)
+            }
         }
-    }
-}
-
-// Does a task with the input of which a reader gives the main part, and gives the exit status: 2 where a file of the plans
-// or of the rows can't be read.
-fn work_on_parts<
-    T: Threads + Wait + Sync + Clock + Print + Eprint + Files + AllocGlobal,
-    R: Read + Drop,
-    W: Write,
-    G: Watch,
->(rt: &T, task: Task<'_>, input: Input<'_>, main: R, writer: &mut W, watch: &G) -> u8
-    requires { IsWithin task }
-    ensures { EndsParts task.entry input.entry.plans (R.remaining main) (W.contents writer.old) (W.contents writer.new) result }
-{
-    let rows = Cell::new(None);
-    let source = Source { input, rows: &rows };
-    let Some(plans) = input.plans else {
-        return work(rt, task, &source, main, writer, watch);
-    };
-    let lines = match lines_of_plans(rt, plans) {
-        Ok(lines) => lines,
-        Err(status) => return status,
-    };
-    let Some(name) = plans.rows else {
-        return work(
-            rt,
-            task,
-            &source,
-            lines.as_slice().chain(main),
-            writer,
-            watch,
-        );
-    };
-    match open_input(rt, name) {
-        Ok(file) => {
-            let behind = Inserting::new(main, file, &rows);
-            work(
-                rt,
-                task,
-                &source,
-                lines.as_slice().chain(behind),
-                writer,
-                watch,
-            )
-        }
-        Err(error) => refuse_file(rt, name, &error),
-    }
-}
-
-// Does a task with an input, of which standard input gives the main part or a file, and gives the exit status: 2 where a
-// file can't be read.
-fn work_on<
-    T: Threads + Wait + Sync + Clock + Print + Eprint + Files + AllocGlobal,
-    R: Read,
-    W: Write,
-    G: Watch,
->(rt: &T, task: Task<'_>, input: Input<'_>, reader: &mut R, writer: &mut W, watch: &G) -> u8
-    requires { IsWithin task }
-    ensures { EndsInput task.entry input.entry (R.remaining reader.old) (W.contents writer.old) (W.contents writer.new) result }
-{
-    let Some(name) = input.file else {
-        return work_on_parts(rt, task, input, reader, writer, watch);
-    };
-    match open_input(rt, name) {
-        Ok(file) => work_on_parts(rt, task, input, file, writer, watch),
-        Err(error) => refuse_file(rt, name, &error),
     }
 }
 
@@ -155,7 +145,15 @@ fn obey<
     ensures { EndsWith (map S.text words.now) (R.remaining reader.old) (W.contents writer.old) (W.contents writer.new) result }
 {
     match line_of(rt.alloc(), words) {
-        Ok(Line::Work { task, input }) => work_on(rt, task, input, reader, writer, watch),
+        Ok(Line::Work { task, input }) => {
+            let assignment = Assignment {
+                rt,
+                task,
+                input,
+                watch,
+            };
+            assignment.carry_out(reader, writer)
+        }
         Ok(Line::Explain { number }) => explanation(rt, writer, number),
         Err(error) => print_usage(rt, &error),
     }

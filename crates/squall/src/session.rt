@@ -11,9 +11,9 @@ use crate::source::{Meaning, Source};
 use clap::Error;
 use sq_command::Form;
 use sq_inputs::Recalling;
-use sq_picture::{listing_json, listing_svg};
+use sq_picture::{AsJson, AsSvg};
 use sq_text::{InputFault, InputLine, LocatedFault, WriteFault};
-use sq_world::{Ending, ranges, run_and_echo};
+use sq_world::{Ending, list, ranges, run_and_echo};
 use std::fs::OpenFile;
 use std::io::{ErrorKind, Read, Write};
 use std::mem::forget;
@@ -59,8 +59,8 @@ pub fn listing<T: Eprint + Files + AllocGlobal, R: Read, W: Write>(
 {
     let listed = match form {
         Form::Lines => ranges(rt.alloc(), reader, writer),
-        Form::Json => listing_json(rt.alloc(), reader, writer),
-        Form::Svg => listing_svg(rt.alloc(), reader, writer),
+        Form::Json => list(rt.alloc(), reader, writer, &AsJson),
+        Form::Svg => list(rt.alloc(), reader, writer, &AsSvg),
     };
     explain_end(rt, source, reader, listed);
     exit_status(listed)

@@ -90,6 +90,11 @@ fn a_live_run_has_the_turns_and_pumps_of_its_options(rt: HostRuntime) -> Result<
     Ok(())
 }
 
+// Whether this is what the table says of a number.
+fn table_says(number: u16, text: &str) -> bool {
+    entry(number).map(|entry| entry.meaning) == Some(text)
+}
+
 #[test]
 fn a_refusal_means_what_the_table_says(rt: HostRuntime) -> Result<(), Fail> {
     for refusal in [
@@ -122,8 +127,7 @@ fn a_refusal_means_what_the_table_says(rt: HostRuntime) -> Result<(), Fail> {
         Refusal::NotPrepared,
     ] {
         let text = format!(in rt.alloc(); "{refusal}")?;
-        let meaning = entry(refusal.number()).map(|entry| entry.meaning);
-        assert!(rt; meaning == Some(text.as_str()));
+        assert!(rt; table_says(refusal.number(), text.as_str()));
     }
     Ok(())
 }
@@ -139,8 +143,7 @@ fn a_defect_means_what_the_table_says(rt: HostRuntime) -> Result<(), Fail> {
         Defect::Unanswered,
     ] {
         let text = format!(in rt.alloc(); "{defect}")?;
-        let meaning = entry(defect.number()).map(|entry| entry.meaning);
-        assert!(rt; meaning == Some(text.as_str()));
+        assert!(rt; table_says(defect.number(), text.as_str()));
     }
     Ok(())
 }

@@ -1,6 +1,6 @@
 use Rattle.sq_command.specs.declared.line.Task.TheVariants.{Run, Ranges, Live}
 use Rattle.squall.proofs.Parts.{with_recalled}
-use Rattle.squall.proofs.work.Goals as goal
+use Rattle.squall.proofs.Assignment.work.Goals as goal
 
 pub returns-in-Run : goal.returns-in-Run
 returns-in-Run g c = with_recalled (Run c.in-Run.echoes) _ (g.R.Read.remaining c.new-reader.result.inner) _ _ _ _ c.in-Run.is c.new-reader.ensures c.script.ensures
@@ -10,4 +10,4 @@ returns-in-Ranges g c = with_recalled (Ranges c.in-Ranges.form) _ (g.R.Read.rema
 
 pub returns : goal.returns
 returns g c =
-    with_recalled (Live c.in-Live.turns c.in-Live.pumps c.in-Live.folds c.in-Live.summary c.in-Live.timeline) _ (g.R.Read.remaining c.new-reader.result.inner) _ _ _ _ c.in-Live.is c.new-reader.ensures c.told_run.ensures
+    with_recalled (Live c.in-Live.turns c.in-Live.pumps c.in-Live.folds c.in-Live.summary c.in-Live.timeline) _ (g.R.Read.remaining c.new-reader.result.inner) _ _ _ _ c.in-Live.is c.new-reader.ensures c.live_run.ensures
