@@ -168,43 +168,54 @@ load_refused_by : (w : WorldValue) (src dst : ℕ) (box : Option ChunkValue) (fa
 load_refused_by w src dst None fault is = inl (ap (λ (f : LoadFault). (Refused (load_refused f), w)) is)
 load_refused_by w src dst (Some chunk) fault is = inr (ap (λ (f : LoadFault). Refused (load_refused f)) is, refl, refl)
 
--- a link that a step found: the link, the number of its near end, and the place of the partition there
-pub record AtEnd (w : WorldValue) (parts : List PartCoreValue) (src dst : ℕ) (link : LinkPlace) (near from : ℕ) : Type 0 where
+-- a link that a step found, and one of its ends: the number of the partition there, and where that stands
+pub record AtEnd (w : WorldValue) (parts : List PartCoreValue) (src dst : ℕ) (link : LinkPlace) (number from : ℕ) : Type 0 where
   pub are : map core_of parts ≡ w.cores
   pub sound : IsSound w
   pub running : IsRunning w src dst link
-  pub from_is : from ≡ near
+  pub from_is : from ≡ number
+  pub below : number < w.old.parts
 
 -- the same, of the world as it was seen
-pub at_end : {seen w : WorldValue} {parts : List PartCoreValue} {src dst near from : ℕ} {link : LinkPlace} {done : Unit {0}} → seen ≡ w → map core_of parts ≡ seen.cores → IsSound w
-    → Ok done ≡ refuse_if (not (is_moving_phase (phase_of w.leader))) NotMoving → Ok link ≡ running_link w src dst → from ≡ near → AtEnd w parts src dst link near from
-at_end {w = w} {src = src} {dst = dst} {link = link} {done = done} same are sound moving found from_is =
-    assumption (are ∙ ap (λ (v : WorldValue). v.cores) same, sound, link_runs w src dst link done moving found, from_is)
+end_at : {seen w : WorldValue} {parts : List PartCoreValue} {src dst number from : ℕ} {link : LinkPlace} → seen ≡ w → map core_of parts ≡ seen.cores → IsSound w → IsRunning w src dst link
+    → from ≡ number → number < w.old.parts → AtEnd w parts src dst link number from
+end_at same are sound running from_is below = assumption (are ∙ ap (λ (v : WorldValue). v.cores) same, sound, running, from_is, below)
 
--- a link, and the partition at its source
-module _ {w : WorldValue} {parts : List PartCoreValue} {src dst from : ℕ} {link : LinkPlace} (end : AtEnd w parts src dst link link.src from) where
-  source_there : IsLinkHere w src dst link.at
-  source_there = link_here w src dst link end.sound end.running
+pub source_end : {seen w : WorldValue} {parts : List PartCoreValue} {src dst from : ℕ} {link : LinkPlace} {done : Unit {0}} → seen ≡ w → map core_of parts ≡ seen.cores → IsSound w
+    → Ok done ≡ refuse_if (not (is_moving_phase (phase_of w.leader))) NotMoving → Ok link ≡ running_link w src dst → from ≡ link.src → AtEnd w parts src dst link src from
+source_end {w = w} {src = src} {dst = dst} {link = link} {done = done} same are sound moving found from_is =
+    let running = link_runs w src dst link done moving found in
+    end_at same are sound running (from_is ∙ running.starts) (link_here w src dst link sound running).source
 
-  source_number : from ≡ src
-  source_number = end.from_is ∙ end.running.starts
+pub destination_end : {seen w : WorldValue} {parts : List PartCoreValue} {src dst from : ℕ} {link : LinkPlace} {done : Unit {0}} → seen ≡ w → map core_of parts ≡ seen.cores → IsSound w
+    → Ok done ≡ refuse_if (not (is_moving_phase (phase_of w.leader))) NotMoving → Ok link ≡ running_link w src dst → from ≡ link.dst → AtEnd w parts src dst link dst from
+destination_end {w = w} {src = src} {dst = dst} {link = link} {done = done} same are sound moving found from_is =
+    let running = link_runs w src dst link done moving found in
+    end_at same are sound running (from_is ∙ running.leads) (link_here w src dst link sound running).destination
 
-  source_read : (one : PartCoreValue) → one ≡ get_or parts from one → one.core ≡ core_at w src
-  source_read one one_is = end_read w parts src from one end.are end.sound source_there.source source_number one_is
-
-  pub source_exists : from < length parts
-  source_exists = partition_exists w parts src from end.are end.sound source_there.source source_number
+-- the queue of the link, and the partition at the end
+module _ {w : WorldValue} {parts : List PartCoreValue} {src dst number from : ℕ} {link : LinkPlace} (end : AtEnd w parts src dst link number from) where
+  there : IsLinkHere w src dst link.at
+  there = link_here w src dst link end.sound end.running
 
   queue_of : (queue : QueueValue) → queue ≡ get_or w.queues link.at queue → queue ≡ queue_at w link.at
-  queue_of queue is = is ∙ get_or_default w.queues link.at queue no_queue source_there.within
+  queue_of queue is = is ∙ get_or_default w.queues link.at queue no_queue there.within
 
+  pub end_exists : from < length parts
+  end_exists = partition_exists w parts number from end.are end.sound end.below end.from_is
+
+  end_core : (one : PartCoreValue) → one ≡ get_or parts from one → one.core ≡ core_at w number
+  end_core one is = end_read w parts number from one end.are end.sound end.below end.from_is is
+
+-- a link, and the partition at its source
+module _ {w : WorldValue} {parts : List PartCoreValue} {src dst from : ℕ} {link : LinkPlace} (end : AtEnd w parts src dst link src from) where
   out_there : (core : CoreValue) → out_at core link.dst ≡ out_at core dst
   out_there core = ap (out_at core) end.running.leads
 
   -- the partition, as it was read
   module _ {part : PartCoreValue} (part_is : part ≡ get_or parts from part) where
     source_core : part.core ≡ core_at w src
-    source_core = source_read part part_is
+    source_core = end_core end part part_is
 
     outbox_there : (out_at part.core link.dst).outbox ≡ (out_at (core_at w src) dst).outbox
     outbox_there = ap (λ (core : CoreValue). (out_at core link.dst).outbox) source_core ∙ ap (λ (out : OutLinkValue). out.outbox) (out_there (core_at w src))
@@ -219,7 +230,7 @@ module _ {w : WorldValue} {parts : List PartCoreValue} {src dst from : ℕ} {lin
         → w.config.capacity ≤ length queue.chunks → (Refused LinkFull, w) ≡ push_result w src dst
     push_full read queue is some queue_is full =
         let chunk = some_of (out_at part.core link.dst).outbox (copied_some read (out_at part.core link.dst).outbox true is some) in
-        let is_full : nat_le w.config.capacity (length (queue_at w link.at).chunks) ≡ true = sym (ap (λ (q : QueueValue). nat_le w.config.capacity (length q.chunks)) (queue_of queue queue_is)) ∙ le-leb w.config.capacity (length queue.chunks) full in
+        let is_full : nat_le w.config.capacity (length (queue_at w link.at).chunks) ≡ true = sym (ap (λ (q : QueueValue). nat_le w.config.capacity (length q.chunks)) (queue_of end queue queue_is)) ∙ le-leb w.config.capacity (length queue.chunks) full in
         sym (ap (λ (b : Bool). if b then refuse w LinkFull else (Done, with_queue (with_core w src (sent_core (core_at w src) dst)) link.at ((queue_at w link.at).chunks ++ chunk.0 ∷ []))) is_full)
         ∙ ap (push_chunk w src dst link.at) (sym chunk.1) ∙ pushes
 
@@ -227,7 +238,7 @@ module _ {w : WorldValue} {parts : List PartCoreValue} {src dst from : ℕ} {lin
     pub push_has : (before : PartCoreValue) (read : Option (Bor ChunkValue)) → before ≡ get_or parts from before → option_copied read ≡ (out_at before.core link.dst).outbox → is_some read ≡ true
         → None ≡ (out_at part.core link.dst).outbox → ⊥
     push_has before read before_is is some none =
-        let same : before.core ≡ part.core = source_read before before_is ∙ sym source_core in
+        let same : before.core ≡ part.core = end_core end before before_is ∙ sym source_core in
         let has : is_some (out_at part.core link.dst).outbox ≡ true = ap (λ (core : CoreValue). is_some (out_at core link.dst).outbox) (sym same) ∙ copied_some read (out_at before.core link.dst).outbox true is some in
         true≢false (sym has ∙ ap is_some (sym none))
 
@@ -239,10 +250,10 @@ module _ {w : WorldValue} {parts : List PartCoreValue} {src dst from : ℕ} {lin
         let sent : after.core ≡ sent_core core dst =
         after_is ∙ ap (λ (c : CoreValue). sent_core c link.dst) source_core ∙ ap (sent_core core) end.running.leads in
         let cores : map core_of (set parts from after) ≡ slice_set w.cores src (sent_core core dst) =
-        core_written w parts end.are from after (sent_core core dst) sent ∙ ap (λ (n : ℕ). slice_set w.cores n (sent_core core dst)) source_number in
+        core_written w parts end.are from after (sent_core core dst) sent ∙ ap (λ (n : ℕ). slice_set w.cores n (sent_core core dst)) end.from_is in
         let queues : set w.queues link.at queue_after ≡ slice_set w.queues link.at (record (queue_at w link.at) { chunks = (queue_at w link.at).chunks ++ chunk ∷ [] }) =
-        ap (set w.queues link.at) (queue_after_is ∙ ap (λ (q : QueueValue). record q { chunks = q.chunks ++ chunk ∷ [] }) (queue_of other other_is)) in
-        let has_room : nat_le w.config.capacity (length (queue_at w link.at).chunks) ≡ false = sym (ap (λ (q : QueueValue). nat_le w.config.capacity (length q.chunks)) (queue_of queue queue_is)) ∙ lt-leb w.config.capacity (length queue.chunks) room in
+        ap (set w.queues link.at) (queue_after_is ∙ ap (λ (q : QueueValue). record q { chunks = q.chunks ++ chunk ∷ [] }) (queue_of end other other_is)) in
+        let has_room : nat_le w.config.capacity (length (queue_at w link.at).chunks) ≡ false = sym (ap (λ (q : QueueValue). nat_le w.config.capacity (length q.chunks)) (queue_of end queue queue_is)) ∙ lt-leb w.config.capacity (length queue.chunks) room in
         let after_all : StepResult = (Done, with_queue (with_core w src (sent_core core dst)) link.at ((queue_at w link.at).chunks ++ chunk ∷ [])) in
         ap (λ (v : WorldValue). (Done, v)) (λ k. record w { cores = cores k; queues = queues k })
         ∙ goes_on (nat_le w.config.capacity (length (queue_at w link.at).chunks)) LinkFull w after_all has_room
@@ -257,7 +268,7 @@ module _ {w : WorldValue} {parts : List PartCoreValue} {src dst from : ℕ} {lin
         let core = core_at w src in
         let here : CutsFor core dst note after.core = subst (λ (both : CoreValue × ℕ). CutsFor both.0 both.1 note after.core) (λ k. (source_core k, end.running.leads k)) was_cut in
         let cores : map core_of (set parts from after) ≡ slice_set w.cores src after.core =
-        core_written w parts end.are from after after.core refl ∙ ap (λ (n : ℕ). slice_set w.cores n after.core) source_number in
+        core_written w parts end.are from after after.core refl ∙ ap (λ (n : ℕ). slice_set w.cores n after.core) end.from_is in
         let held : families ≡ length (families_between core.store note.lo note.hi) = count ∙ ap (λ (d : ℕ). families_of (out_at after.core d).outbox) end.running.leads ∙ families_cut core dst note after.core here in
         ap (λ (n : ℕ). (WasCut note n, record w { cores = map core_of (set parts from after) })) held
         ∙ ap (λ (v : WorldValue). (WasCut note (length (families_between core.store note.lo note.hi)), v)) (λ k. record w { cores = cores k })
@@ -273,19 +284,7 @@ module _ {w : WorldValue} {parts : List PartCoreValue} {src dst from : ℕ} {lin
         (subst (λ (r : StepResult). IsResult (Cut src dst) w r (Refused (cut_refused fault)) w) cuts (cut_refused_by w src dst (is_some out.outbox) (next_work out.work) fault fault_is))
 
 -- a link, and the partition at its destination
-module _ {w : WorldValue} {parts : List PartCoreValue} {src dst from : ℕ} {link : LinkPlace} (end : AtEnd w parts src dst link link.dst from) where
-  link_there : IsLinkHere w src dst link.at
-  link_there = link_here w src dst link end.sound end.running
-
-  destination_number : from ≡ dst
-  destination_number = end.from_is ∙ end.running.leads
-
-  destination_read : (one : PartCoreValue) → one ≡ get_or parts from one → one.core ≡ core_at w dst
-  destination_read one one_is = end_read w parts dst from one end.are end.sound link_there.destination destination_number one_is
-
-  pub destination_exists : from < length parts
-  destination_exists = partition_exists w parts dst from end.are end.sound link_there.destination destination_number
-
+module _ {w : WorldValue} {parts : List PartCoreValue} {src dst from : ℕ} {link : LinkPlace} (end : AtEnd w parts src dst link dst from) where
   inbox_there : (core : CoreValue) → core ≡ core_at w dst → inbox_at core link.src ≡ inbox_at (core_at w dst) src
   inbox_there core is = ap (λ (c : CoreValue). inbox_at c link.src) is ∙ ap (inbox_at (core_at w dst)) end.running.starts
 
@@ -295,12 +294,12 @@ module _ {w : WorldValue} {parts : List PartCoreValue} {src dst from : ℕ} {lin
   -- whether a chunk lies in the inbox, as it was read
   inbox_has : (before : PartCoreValue) (read : Option (Bor ChunkValue)) (b : Bool) → before ≡ get_or parts from before → option_copied read ≡ inbox_at before.core link.src → is_some read ≡ b
       → is_some (inbox_at (core_at w dst) src) ≡ b
-  inbox_has before read b before_is is tells = ap is_some (sym (inbox_there before.core (destination_read before before_is))) ∙ copied_some read (inbox_at before.core link.src) b is tells
+  inbox_has before read b before_is is tells = ap is_some (sym (inbox_there before.core (end_core end before before_is))) ∙ copied_some read (inbox_at before.core link.src) b is tells
 
   -- the partition, as it was read
   module _ {part : PartCoreValue} (part_is : part ≡ get_or parts from part) where
     destination_core : part.core ≡ core_at w dst
-    destination_core = destination_read part part_is
+    destination_core = end_core end part part_is
 
     pub pop_full : (read : Option (Bor ChunkValue)) → option_copied read ≡ inbox_at part.core link.src → is_some read ≡ true → (Refused InboxFull, w) ≡ pop_result w src dst
     pop_full read is full =
@@ -312,24 +311,21 @@ module _ {w : WorldValue} {parts : List PartCoreValue} {src dst from : ℕ} {lin
         ap (pop_chunk w src dst link.at) (sym chunks_are)
         ∙ sym (ap (λ (b : Bool). if b then refuse w InboxFull else pop_chunk w src dst link.at (queue_at w link.at).chunks) (inbox_has before read false before_is is empty)) ∙ pops
 
-    queue_read : (other : QueueValue) → other ≡ get_or w.queues link.at other → other ≡ queue_at w link.at
-    queue_read other other_is = other_is ∙ get_or_default w.queues link.at other no_queue link_there.within
-
     pub pop_empty : (read : Option (Bor ChunkValue)) (other after : QueueValue) → option_copied read ≡ inbox_at part.core link.src → is_some read ≡ false → other ≡ get_or w.queues link.at other → IsPopped other None after
         → (Refused LinkEmpty, record w { queues = set w.queues link.at after }) ≡ pop_result w src dst
     pop_empty read other after is empty other_is popped =
-        let none : (queue_at w link.at).chunks ≡ [] = ap (λ (q : QueueValue). q.chunks) (sym (queue_read other other_is)) ∙ popped.0 in
-        let queues : set w.queues link.at after ≡ w.queues = ap (set w.queues link.at) (popped.1 ∙ queue_read other other_is) ∙ set-get_or w.queues link.at no_queue in
+        let none : (queue_at w link.at).chunks ≡ [] = ap (λ (q : QueueValue). q.chunks) (sym (queue_of end other other_is)) ∙ popped.0 in
+        let queues : set w.queues link.at after ≡ w.queues = ap (set w.queues link.at) (popped.1 ∙ queue_of end other other_is) ∙ set-get_or w.queues link.at no_queue in
         ap (λ (v : WorldValue). (Refused LinkEmpty, v)) (λ k. record w { queues = queues k }) ∙ pops_chunk [] read part part_is is empty none
 
     -- there is a place for a chunk from the source
     pub inbox_exists : (before : PartCoreValue) → before ≡ get_or parts from before → length before.core.inboxes ≡ before.core.plan.parts → link.src < length part.core.inboxes
     inbox_exists before before_is places =
-        let same : before.core ≡ part.core = destination_read before before_is ∙ sym destination_core in
+        let same : before.core ≡ part.core = end_core end before before_is ∙ sym destination_core in
         let places_here : length part.core.inboxes ≡ part.core.plan.parts = subst (λ (core : CoreValue). length core.inboxes ≡ core.plan.parts) same places in
-        let plan : part.core.plan ≡ w.old = ap (λ (core : CoreValue). core.plan) destination_core ∙ (end.sound.parts dst link_there.destination).plan in
+        let plan : part.core.plan ≡ w.old = ap (λ (core : CoreValue). core.plan) destination_core ∙ (end.sound.parts dst (there end).destination).plan in
         let parts_are : part.core.plan.parts ≡ w.old.parts = ap (λ (p : PlanValue). p.parts) plan in
-        omega (arith, places_here, parts_are, link_there.source, end.running.starts)
+        omega (arith, places_here, parts_are, (there end).source, end.running.starts)
 
     -- the inbox isn't full that was read empty before
     pub inbox_empty : (before : PartCoreValue) (read : Option (Bor ChunkValue)) → before ≡ get_or parts from before → option_copied read ≡ inbox_at before.core link.src → is_some read ≡ false
@@ -345,10 +341,10 @@ module _ {w : WorldValue} {parts : List PartCoreValue} {src dst from : ℕ} {lin
         let filled : after.core ≡ with_inbox core src (Some chunk) =
         after_is ∙ ap (λ (c : CoreValue). with_inbox c link.src (Some chunk)) destination_core ∙ ap (λ (n : ℕ). with_inbox core n (Some chunk)) end.running.starts in
         let cores : map core_of (set parts from after) ≡ slice_set w.cores dst (with_inbox core src (Some chunk)) =
-        core_written w parts end.are from after (with_inbox core src (Some chunk)) filled ∙ ap (λ (n : ℕ). slice_set w.cores n (with_inbox core src (Some chunk))) destination_number in
+        core_written w parts end.are from after (with_inbox core src (Some chunk)) filled ∙ ap (λ (n : ℕ). slice_set w.cores n (with_inbox core src (Some chunk))) end.from_is in
         let queues : set w.queues link.at queue_after ≡ slice_set w.queues link.at (record (queue_at w link.at) { chunks = queue_after.chunks }) =
-        ap (set w.queues link.at) (popped.1 ∙ ap (λ (q : QueueValue). record q { chunks = queue_after.chunks }) (queue_read other other_is)) in
-        let chunks : (queue_at w link.at).chunks ≡ chunk ∷ queue_after.chunks = ap (λ (q : QueueValue). q.chunks) (sym (queue_read other other_is)) ∙ popped.0 in
+        ap (set w.queues link.at) (popped.1 ∙ ap (λ (q : QueueValue). record q { chunks = queue_after.chunks }) (queue_of end other other_is)) in
+        let chunks : (queue_at w link.at).chunks ≡ chunk ∷ queue_after.chunks = ap (λ (q : QueueValue). q.chunks) (sym (queue_of end other other_is)) ∙ popped.0 in
         ap (λ (v : WorldValue). (Done, v)) (λ k. record w { cores = cores k; queues = queues k })
         ∙ pops_chunk (chunk ∷ queue_after.chunks) read before before_is is empty chunks
 
@@ -359,10 +355,10 @@ module _ {w : WorldValue} {parts : List PartCoreValue} {src dst from : ℕ} {lin
     pub may_be_loaded : (chunk : ChunkValue) → inbox_at part.core link.src ≡ Some chunk → IsTrue (can_load part.core link.src chunk)
     may_be_loaded chunk came =
         let queue = queue_at w link.at in
-        let core : part.core ≡ core_at w queue.dst = destination_core ∙ ap (core_at w) (sym link_there.leads) in
-        let starts : link.src ≡ queue.src = end.running.starts ∙ sym link_there.starts in
+        let core : part.core ≡ core_at w queue.dst = destination_core ∙ ap (core_at w) (sym (there end).leads) in
+        let starts : link.src ≡ queue.src = end.running.starts ∙ sym (there end).starts in
         let came_there : inbox_at (core_at w queue.dst) queue.src ≡ Some chunk = sym (ap (λ (c : CoreValue). inbox_at c link.src) core ∙ ap (inbox_at (core_at w queue.dst)) starts) ∙ came in
-        subst (λ (both : CoreValue × ℕ). IsTrue (can_load both.0 both.1 chunk)) (λ k. (sym core k, sym starts k)) (link_there.sound.loads chunk came_there)
+        subst (λ (both : CoreValue × ℕ). IsTrue (can_load both.0 both.1 chunk)) (λ k. (sym core k, sym starts k)) ((there end).sound.loads chunk came_there)
 
     pub load_done : (note : Note) (families : ℕ) (after : PartCoreValue) → LoadsFrom part.core link.src note after.core → families ≡ families_of (inbox_at part.core link.src)
         → (WasLoaded note families, record w { cores = map core_of (set parts from after) }) ≡ load_result w src dst
@@ -372,7 +368,7 @@ module _ {w : WorldValue} {parts : List PartCoreValue} {src dst from : ℕ} {lin
         let filled : after.core ≡ loaded_core core src chunk =
         loaded.after ∙ ap (λ (c : CoreValue). loaded_core c link.src chunk) destination_core ∙ ap (λ (n : ℕ). loaded_core core n chunk) end.running.starts in
         let cores : map core_of (set parts from after) ≡ slice_set w.cores dst (loaded_core core src chunk) =
-        core_written w parts end.are from after (loaded_core core src chunk) filled ∙ ap (λ (n : ℕ). slice_set w.cores n (loaded_core core src chunk)) destination_number in
+        core_written w parts end.are from after (loaded_core core src chunk) filled ∙ ap (λ (n : ℕ). slice_set w.cores n (loaded_core core src chunk)) end.from_is in
         let held : families ≡ length chunk.families = count ∙ ap families_of loaded.came in
         ap (λ (n : Note). (WasLoaded n families, record w { cores = map core_of (set parts from after) })) loaded.noted
         ∙ ap (λ (n : ℕ). (WasLoaded chunk.note n, record w { cores = map core_of (set parts from after) })) held

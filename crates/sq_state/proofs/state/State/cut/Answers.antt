@@ -1,4 +1,4 @@
-use Rattle.std.proofs.Common.{map, set, sym, refl, ap, ◌∙◌, subst, inl, ◌<◌, length, arith}
+use Rattle.std.proofs.Common.{map, set, sym, refl, ap, ◌∙◌, subst, inl, arith}
 use Rattle.sq_model.specs.declared.step.Step.TheVariants.{Cut}
 use Rattle.sq_model.specs.declared.answer.Answer.TheVariants.{WasCut, Refused}
 use Rattle.sq_transition.specs.WorldValue.{WorldValue}
@@ -6,18 +6,17 @@ use Rattle.sq_transition.specs.LinkResults.{cut_result}
 use Rattle.sq_transition.specs.Transition.{IsResult}
 use Rattle.sq_state.specs.Results.{cut_refused, families_of}
 use Rattle.sq_state.proofs.Cores.{core_of}
-use Rattle.sq_state.proofs.LinkSteps.{AtEnd, at_end, cut_done, cut_fails, source_exists}
+use Rattle.sq_state.proofs.LinkSteps.{AtEnd, source_end, cut_done, cut_fails, end_exists}
 use Rattle.sq_state.proofs.state.State.cut.Goals as goal
 use Rattle.sq_state.proofs.state.State.cut.Goals.{After-from, in-Ok, in-Err}
 
 -- the link, and the partition at its source
-at_source : (c : After-from) → AtEnd c.args.self.now c.self.inside.cores.items c.args.src c.args.dst c.in_ok-link.link c.in_ok-link.link.src c.from.result
-at_source c = at_end c.self.view_is refl c.requires c.in_ok-check_moving.ensures c.in_ok-link.ensures (c.from.ensures ∙ c.number.ensures)
+at_source : (c : After-from) → AtEnd c.args.self.now c.self.inside.cores.items c.args.src c.args.dst c.in_ok-link.link c.args.src c.from.result
+at_source c = source_end c.self.view_is refl c.requires c.in_ok-check_moving.ensures c.in_ok-link.ensures (c.from.ensures ∙ c.number.ensures)
 
 pub index_mut-source-requires : goal.index_mut-source-requires
 index_mut-source-requires c =
-    let within : c.from.result < length c.self.inside.cores.items = source_exists (at_source (goal.at.index_mut-source-requires c).After-from) in
-    omega (arith, c.self.inside.cores.ok.0)
+    omega (arith, end_exists (at_source (goal.at.index_mut-source-requires c).After-from), c.self.inside.cores.ok.0)
 
 pub returns : goal.returns
 returns c =

@@ -1,4 +1,4 @@
-use Rattle.std.proofs.Common.{map, set, sym, refl, ap, ◌∙◌, subst, inl, ◌<◌, length, arith}
+use Rattle.std.proofs.Common.{map, set, sym, refl, ap, ◌∙◌, subst, inl, arith}
 use Rattle.sq_model.specs.declared.step.Step.TheVariants.{Load}
 use Rattle.sq_model.specs.declared.answer.Answer.TheVariants.{WasLoaded, Refused}
 use Rattle.sq_transition.specs.WorldValue.{WorldValue}
@@ -6,18 +6,17 @@ use Rattle.sq_transition.specs.LinkResults.{load_result}
 use Rattle.sq_transition.specs.Transition.{IsResult}
 use Rattle.sq_state.specs.Results.{load_refused, families_of}
 use Rattle.sq_state.proofs.Cores.{core_of}
-use Rattle.sq_state.proofs.LinkSteps.{AtEnd, at_end, may_be_loaded, load_done, load_fails, destination_exists}
+use Rattle.sq_state.proofs.LinkSteps.{AtEnd, destination_end, may_be_loaded, load_done, load_fails, end_exists}
 use Rattle.sq_state.proofs.state.State.load.Goals as goal
 use Rattle.sq_state.proofs.state.State.load.Goals.{After-from, in-Ok, in-Err}
 
 -- the link, and the partition that it leads to
-at_destination : (c : After-from) → AtEnd c.args.self.now c.self.inside.cores.items c.args.src c.args.dst c.in_ok-link.link c.in_ok-link.link.dst c.from.result
-at_destination c = at_end c.self.view_is refl c.requires c.in_ok-check_moving.ensures c.in_ok-link.ensures (c.from.ensures ∙ c.number.ensures)
+at_destination : (c : After-from) → AtEnd c.args.self.now c.self.inside.cores.items c.args.src c.args.dst c.in_ok-link.link c.args.dst c.from.result
+at_destination c = destination_end c.self.view_is refl c.requires c.in_ok-check_moving.ensures c.in_ok-link.ensures (c.from.ensures ∙ c.number.ensures)
 
 pub index_mut-destination-requires : goal.index_mut-destination-requires
 index_mut-destination-requires c =
-    let within : c.from.result < length c.self.inside.cores.items = destination_exists (at_destination (goal.at.index_mut-destination-requires c).After-from) in
-    omega (arith, c.self.inside.cores.ok.0)
+    omega (arith, end_exists (at_destination (goal.at.index_mut-destination-requires c).After-from), c.self.inside.cores.ok.0)
 
 pub load-requires : goal.load-requires
 load-requires c =

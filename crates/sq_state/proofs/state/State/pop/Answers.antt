@@ -1,20 +1,19 @@
-use Rattle.std.proofs.Common.{◌<◌, map, length, get_or, set, refl, sym, ap, ◌∙◌, arith}
+use Rattle.std.proofs.Common.{map, get_or, set, refl, sym, ap, ◌∙◌, arith}
 use Rattle.sq_model.specs.declared.answer.Answer.TheVariants.{Done, Refused}
 use Rattle.sq_model.specs.declared.answer.Refusal.TheVariants.{LinkEmpty}
 use Rattle.sq_transition.specs.WorldValue.{WorldValue}
 use Rattle.sq_state.proofs.Cores.{core_of}
-use Rattle.sq_state.proofs.LinkSteps.{AtEnd, at_end, pop_full, pop_empty, pop_done, destination_exists, inbox_exists, inbox_empty}
+use Rattle.sq_state.proofs.LinkSteps.{AtEnd, destination_end, pop_full, pop_empty, pop_done, end_exists, inbox_exists, inbox_empty}
 use Rattle.sq_state.proofs.state.State.pop.Goals as goal
 use Rattle.sq_state.proofs.state.State.pop.Goals.{After-from-destination}
 
 -- the link, and the partition that it leads to
-at_destination : (c : After-from-destination) → AtEnd c.args.self.now c.self.inside.cores.items c.args.src c.args.dst c.in_ok-link.link c.in_ok-link.link.dst c.from-destination.result
-at_destination c = at_end c.self.view_is refl c.requires c.in_ok-check_moving.ensures c.in_ok-link.ensures (c.from-destination.ensures ∙ c.number.ensures)
+at_destination : (c : After-from-destination) → AtEnd c.args.self.now c.self.inside.cores.items c.args.src c.args.dst c.in_ok-link.link c.args.dst c.from-destination.result
+at_destination c = destination_end c.self.view_is refl c.requires c.in_ok-check_moving.ensures c.in_ok-link.ensures (c.from-destination.ensures ∙ c.number.ensures)
 
 pub index-requires : goal.index-requires
 index-requires c =
-    let within : c.from-destination.result < length c.self.inside.cores.items = destination_exists (at_destination (goal.at.index-requires c).After-from-destination) in
-    omega (arith, c.self.inside.cores.ok.0)
+    omega (arith, end_exists (at_destination (goal.at.index-requires c).After-from-destination), c.self.inside.cores.ok.0)
 
 pub returns-then-is_some : goal.returns-then-is_some
 returns-then-is_some c =
@@ -28,9 +27,7 @@ returns-in_default c =
 
 pub index_mut-requires-2 : goal.index_mut-requires-2
 index_mut-requires-2 c =
-    let within : c.from-destination.result < length c.self.inside.cores.items =
-    destination_exists (at_destination (goal.at.index_mut-requires-2 c).After-from-destination) in
-    omega (arith, c.self.inside.cores.ok.0)
+    omega (arith, end_exists (at_destination (goal.at.index_mut-requires-2 c).After-from-destination), c.self.inside.cores.ok.0)
 
 pub put_inbox-requires : goal.put_inbox-requires
 put_inbox-requires c =

@@ -2,18 +2,17 @@ use Rattle.std.proofs.Common.{◌<◌, ◌≤◌, map, length, get_or, set, refl
 use Rattle.sq_model.specs.declared.answer.Answer.TheVariants.{Done}
 use Rattle.sq_transition.specs.WorldValue.{WorldValue}
 use Rattle.sq_state.proofs.Cores.{core_of}
-use Rattle.sq_state.proofs.LinkSteps.{AtEnd, at_end, push_empty, push_full, push_has, push_done, source_exists}
+use Rattle.sq_state.proofs.LinkSteps.{AtEnd, source_end, push_empty, push_full, push_has, push_done, end_exists}
 use Rattle.sq_state.proofs.state.State.push.Goals as goal
 use Rattle.sq_state.proofs.state.State.push.Goals.{After-from-source}
 
 -- the link, and the partition at its source
-at_source : (c : After-from-source) → AtEnd c.args.self.now c.self.inside.cores.items c.args.src c.args.dst c.in_ok-link.link c.in_ok-link.link.src c.from-source.result
-at_source c = at_end c.self.view_is refl c.requires c.in_ok-check_moving.ensures c.in_ok-link.ensures (c.from-source.ensures ∙ c.number.ensures)
+at_source : (c : After-from-source) → AtEnd c.args.self.now c.self.inside.cores.items c.args.src c.args.dst c.in_ok-link.link c.args.src c.from-source.result
+at_source c = source_end c.self.view_is refl c.requires c.in_ok-check_moving.ensures c.in_ok-link.ensures (c.from-source.ensures ∙ c.number.ensures)
 
 pub index-requires : goal.index-requires
 index-requires c =
-    let within : c.from-source.result < length c.self.inside.cores.items = source_exists (at_source (goal.at.index-requires c).After-from-source) in
-    omega (arith, c.self.inside.cores.ok.0)
+    omega (arith, end_exists (at_source (goal.at.index-requires c).After-from-source), c.self.inside.cores.ok.0)
 
 pub returns-then-is_none : goal.returns-then-is_none
 returns-then-is_none c =
@@ -29,9 +28,7 @@ returns-then-len-self c =
 
 pub index_mut-requires : goal.index_mut-requires
 index_mut-requires c =
-    let within : c.from-source.result < length c.self.inside.cores.items =
-    source_exists (at_source (goal.at.index_mut-requires c).After-from-source) in
-    omega (arith, c.self.inside.cores.ok.0)
+    omega (arith, end_exists (at_source (goal.at.index_mut-requires c).After-from-source), c.self.inside.cores.ok.0)
 
 pub unreachable-requires : goal.unreachable-requires
 unreachable-requires c =
