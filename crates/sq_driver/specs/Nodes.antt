@@ -8,7 +8,7 @@ use Rattle.sq_node.specs.Holds.{KeepsAll}
 use Rattle.sq_node.specs.Steps.{JobStep, RequestStep, CutStep, SendStep, RecvStep, LoadStep, CompleteStep, ResumeStep, Looks}
 use Rattle.sq_driver.specs.declared.gate.NodeStep.{NodeStep}
 use Rattle.sq_driver.specs.declared.gate.NodeStep.TheVariants.{Job, Request, Cut, Send, Recv, Load, Complete, Resume, Pump, Answered, SegmentComplete}
-use Rattle.sq_driver.specs.Ways.{IsReachedBy, EachDriven}
+use Rattle.sq_driver.specs.Ways.{ComesStepByStep, EachDriven}
 
 -- a node made the step. What is no step of a node does nothing
 abbrev pub MakesStep : FabricValue → NodeStep → NodeState → Stepped → NodeState → Type 0
@@ -31,7 +31,7 @@ StepsOrLooks fabric old new = ((step : NodeStep) × (answer : Stepped) × MakesS
 -- a node was driven: what became of it came by its own steps, it is the same partition's and one of the fabric, and what a
 -- node keeps holds still, under each opening under which it did
 pub record Driven (fabric : FabricValue) (old new : NodeState) : Type 0 where
-  pub steps : IsReachedBy (StepsOrLooks fabric) old new
+  pub steps : ComesStepByStep (StepsOrLooks fabric) old new
   pub part : new.core.part ≡ old.core.part
   pub stays : IsNodeOf fabric new
   pub holds : KeepsAll old new

@@ -5,7 +5,7 @@ use Rattle.sq_pull.specs.declared.pump.PumpTurn.{PumpTurn}
 use Rattle.sq_pull.specs.Seats.{AreSeatsOf, OnlyClaimed}
 use Rattle.sq_pull.specs.Pump.{PumpValue, HasTurned}
 use Rattle.sq_node.specs.FabricValue.{FabricValue}
-use Rattle.sq_driver.specs.Ways.{IsReachedBy, EachDriven}
+use Rattle.sq_driver.specs.Ways.{ComesStepByStep, EachDriven}
 
 -- a pump with a seat at each tree of a run
 abbrev pub HasAllSeats : FabricValue → PumpValue → Type 0
@@ -18,7 +18,7 @@ TakesTurn recon old new = (turn : PumpTurn) × HasTurned recon old new turn
 -- a pump was driven: what became of it came by its own turns, it has the same number and is of the fabric, and its seats
 -- began and completed nothing more
 pub record PumpDriven (fabric : FabricValue) (old new : PumpValue) : Type 0 where
-  pub turns : IsReachedBy (TakesTurn fabric.recon) old new
+  pub turns : ComesStepByStep (TakesTurn fabric.recon) old new
   pub number : new.number ≡ old.number
   pub stays : HasAllSeats fabric new
   pub claims : OnlyClaimed old.seats new.seats

@@ -7,8 +7,8 @@ ComesBySteps step first [] last = last ≡ first
 ComesBySteps step first (before ∷ earlier) last = ComesBySteps step first earlier before × step before last
 
 -- the last state comes of the first by steps of a kind
-abbrev pub IsReachedBy : {X : Type 0} → (X → X → Type 0) → X → X → Type 0
-IsReachedBy {X} step first last = (way : List X) × ComesBySteps step first way last
+abbrev pub ComesStepByStep : {X : Type 0} → (X → X → Type 0) → X → X → Type 0
+ComesStepByStep {X} step first last = (way : List X) × ComesBySteps step first way last
 
 -- each of the workers was driven, and stands in its place
 pub record EachDriven {X : Type 0} (driven : X → X → Type 0) (old new : List X) : Type 0 where
