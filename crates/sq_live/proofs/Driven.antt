@@ -16,6 +16,7 @@ use Rattle.sq_driver.specs.Pumps.{AllPumpsDriven}
 use Rattle.sq_gather.specs.Gathered.{AreAllOf, AllHold, IsGathered}
 use Rattle.sq_gather.specs.Reopened.{IsRunInStage, AllStay, AllPumpsStay}
 use Rattle.sq_gather.proofs.Running.{run_goes_on, all_hold}
+pub use Rattle.sq_gather.proofs.Workers.{written}
 use Rattle.sq_gather.proofs.Workers.{each_stays, each_pump_stays, still_all}
 use Rattle.sq_live.specs.Stages.{RanFrom}
 
