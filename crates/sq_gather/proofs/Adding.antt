@@ -7,10 +7,11 @@ use Rattle.sq_link.specs.Values.{LinkValue}
 use Rattle.sq_status.specs.Seat.{SeatValue}
 use Rattle.sq_node_model.specs.NodeValue.{ReceiptValue}
 use Rattle.sq_store.specs.StoreValue.{StoreValue}
+use Rattle.sq_node.specs.Ends.{src_of, dst_of}
 use Rattle.sq_node.specs.FabricValue.{FabricValue, IsFabric}
 use Rattle.sq_node.specs.NodeState.{NodeState, IsNodeOf}
 use Rattle.sq_gather.specs.GatheringValue.{GatheringValue, KeepsRoom, IsAddable, HasRoomFor, AddsNode, AddsNodes}
-use Rattle.sq_gather.proofs.Filling.{AreFilled, sends_apart, recvs_apart, filled_more}
+use Rattle.sq_gather.proofs.Filling.{AreFilled, ends_apart, filled_more}
 
 pub adds_more : (old mid new : GatheringValue) (nodes : List NodeState) (node : NodeState) → AddsNodes old nodes mid → AddsNode mid node new → AddsNodes old (nodes ++ node ∷ []) new
 adds_more old mid new [] node before more = (new, subst (λ (g : GatheringValue). AddsNode g node new) before more, refl)
@@ -76,9 +77,9 @@ addable fabric is node of links count =
       all_sends = of.all_sends ∙ sym of.parts;
       all_recvs = of.all_recvs ∙ sym of.parts;
       sends = λ other end there. let ends = (of.sends.ends other end there).exists in omega arith;
-      sends_apart = sends_apart fabric is node of;
+      sends_apart = ends_apart src_of dst_of fabric.links node.core.part node.sends of.sends;
       recvs = λ other end there. let ends = (of.recvs.ends other end there).exists in omega arith;
-      recvs_apart = recvs_apart fabric is node of;
+      recvs_apart = ends_apart dst_of src_of fabric.links node.core.part node.recvs of.recvs;
     }
 
 -- the ends of all nodes are there once all are added

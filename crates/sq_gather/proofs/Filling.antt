@@ -1,207 +1,180 @@
 -- What the nodes left of the links, node by node.
 use Rattle.std.proofs.Common.{◌≡◌, ℕ, ◌+◌, ◌<◌, ◌≤◌, List, [], ◌∷◌, ◌++◌, length, Option, Some, None, refl, sym, ap, ◌∙◌, subst, ⊎_elim, inl, inr, arith}
-use Rattle.std.specs.Prelude.{map, ◌⊎◌, slice_get, slice_index_or, option_map}
-use Rattle.std.proofs.lemmas.Option.{same_Some, slice_get_within}
+use Rattle.std.specs.Prelude.{map, ◌⊎◌, ◌==◌, slice_get, slice_index_or, option_map, position}
+use Rattle.std.proofs.Math.Bool.{and_comm}
+use Rattle.std.proofs.lemmas.Option.{same_Some, slice_get_within, slice_get-get_or}
 use Rattle.sq_exec.specs.OutLink.{new_out_link}
-use Rattle.sq_exec.specs.CoreValue.{out_at, inbox_at}
 use Rattle.sq_link.specs.Values.{LinkValue}
 use Rattle.sq_node_model.proofs.Lists.{stands_at}
 use Rattle.sq_node_model.proofs.Members.{push_stood}
-use Rattle.sq_node.specs.declared.ends.SendEnd.{SendEnd}
-use Rattle.sq_node.specs.declared.ends.RecvEnd.{RecvEnd}
-use Rattle.sq_node.specs.Ends.{no_link, link_from, send_end, recv_end}
+use Rattle.sq_node.specs.Ends.{EndValue, no_link, link_at, link_between, src_of, dst_of, end_at, AreEnds}
 use Rattle.sq_node.specs.FabricValue.{FabricValue, IsFabric, ends_of}
 use Rattle.sq_node.specs.NodeState.{NodeState, IsNodeOf}
 use Rattle.sq_node.proofs.Bridges.{stands_below}
+use Rattle.sq_node.proofs.Taken.{found_link}
 use Rattle.sq_gather.specs.LinkEnds.{LinkEndsValue}
-use Rattle.sq_gather.specs.Ends.{WasPut, AreApart, SourcesPut, DestinationsPut, send_link, recv_link, with_source, with_destination}
-use Rattle.sq_ranges.proofs.LinksFrom.{stands_from, found_from}
+use Rattle.sq_gather.specs.Ends.{WasPut, HavePut, AreApart, SourcesPut, DestinationsPut, with_source, with_destination}
+use Rattle.sq_ranges.proofs.LinksFrom.{stands_from}
 use Rattle.sq_gather.proofs.Staged.{ranges_in, as_links}
 
 -- a node's end for the other partition stands among its ends, and it is of this link
-pub record StandsFor {X : Type 0} (link_of : X → ℕ) (ends : List (Option X)) (other i : ℕ) : Type 0 where
-  pub end : X
-  pub there : slice_index_or ends other None ≡ Some end
-  pub here : link_of end ≡ i
+pub record StandsFor (ends : List (Option EndValue)) (other i : ℕ) : Type 0 where
+  pub end : EndValue
+  pub there : end_at ends other ≡ Some end
+  pub here : end.link ≡ i
 
--- the node's end of the link to this partition is there
-pub record HasSource (node : NodeState) (dst i : ℕ) (left : LinkEndsValue) : Type 0 where
-  pub own : StandsFor send_link node.sends dst i
-  pub sender : left.sender ≡ Some own.end.pass
-  pub notes : left.notes ≡ (out_at node.core dst).notes
-  pub outbox : left.outbox ≡ (out_at node.core dst).outbox
+-- a node's end of a link is there, with what stands beside it: to put it once more changes nothing
+pub record HasEnd {Y : Type 0} (put : LinkEndsValue → EndValue → Y → LinkEndsValue) (ends : List (Option EndValue)) (beside : List Y) (none : Y) (other i : ℕ) (left : LinkEndsValue) : Type 0 where
+  pub own : StandsFor ends other i
+  pub is : put left own.end (slice_index_or beside other none) ≡ left
 
--- the node's end of the link from this partition is there
-pub record HasDestination (node : NodeState) (src i : ℕ) (left : LinkEndsValue) : Type 0 where
-  pub own : StandsFor recv_link node.recvs src i
-  pub receiver : left.receiver ≡ Some own.end.pass
-  pub inbox : left.inbox ≡ inbox_at node.core src
+-- the node's end of the link to this partition is there, and its end of the link from it
+abbrev pub HasSource : NodeState → ℕ → ℕ → LinkEndsValue → Type 0
+HasSource node dst i left = HasEnd with_source node.sends node.core.outs new_out_link dst i left
 
--- the ends of these nodes are there
+abbrev pub HasDestination : NodeState → ℕ → ℕ → LinkEndsValue → Type 0
+HasDestination node src i left = HasEnd with_destination node.recvs node.core.inboxes None src i left
+
+-- the ends of these nodes are there, each where its link stands
+abbrev pub HaveEnds : (LinkValue → ℕ) → (LinkValue → ℕ) → (NodeState → ℕ → ℕ → LinkEndsValue → Type 0) → List LinkValue → List NodeState → List LinkEndsValue → Type 0
+HaveEnds near far Has links nodes ends =
+    (i : ℕ) (link : LinkValue) (left : LinkEndsValue) (node : NodeState) → slice_get links i ≡ Some link → slice_get ends i ≡ Some left → slice_get nodes (near link) ≡ Some node → Has node (far link) i left
+
+-- those on both sides, and the room of each link
 pub record AreFilled (links : List LinkValue) (nodes : List NodeState) (ends : List LinkEndsValue) : Type 0 where
   pub count : length ends ≡ length links
   pub room : (i : ℕ) (link : LinkValue) (left : LinkEndsValue) → slice_get links i ≡ Some link → slice_get ends i ≡ Some left → link.capacity + 2 ≤ left.room
-  pub source : (i : ℕ) (link : LinkValue) (left : LinkEndsValue) (node : NodeState) → slice_get links i ≡ Some link → slice_get ends i ≡ Some left → slice_get nodes link.src ≡ Some node → HasSource node link.dst i left
-  pub destination : (i : ℕ) (link : LinkValue) (left : LinkEndsValue) (node : NodeState) → slice_get links i ≡ Some link → slice_get ends i ≡ Some left → slice_get nodes link.dst ≡ Some node → HasDestination node link.src i left
+  pub source : HaveEnds src_of dst_of HasSource links nodes ends
+  pub destination : HaveEnds dst_of src_of HasDestination links nodes ends
 
-end_of : {X : Type 0} (link_of : X → ℕ) (ends : List (Option X)) (other i : ℕ) → option_map link_of (slice_index_or ends other None) ≡ Some i → StandsFor link_of ends other i
-end_of {X} link_of ends other i is = by (slice_index_or ends other None) refl is
+end_of : (ends : List (Option EndValue)) (other i : ℕ) → option_map (λ (e : EndValue). e.link) (end_at ends other) ≡ Some i → StandsFor ends other i
+end_of ends other i is = by (end_at ends other) refl is
   where
-    by : (found : Option X) → slice_index_or ends other None ≡ found → option_map link_of found ≡ Some i → StandsFor link_of ends other i
+    by : (found : Option EndValue) → end_at ends other ≡ found → option_map (λ (e : EndValue). e.link) found ≡ Some i → StandsFor ends other i
     by None there is = absurd cc
-    by (Some end) there is = record { end = end; there = there; here = same_Some (link_of end) i is }
+    by (Some end) there is = record { end = end; there = there; here = same_Some end.link i is }
 
--- ends are apart whose links each tell the place of their end
-apart_by : {X : Type 0} (link_of : X → ℕ) (ends : List (Option X)) (links : List LinkValue) (place_of : LinkValue → ℕ)
-    → ((at : ℕ) (end : X) → slice_index_or ends at None ≡ Some end → (link : LinkValue) × (slice_get links (link_of end) ≡ Some link) × (place_of link ≡ at)) → AreApart link_of ends
-apart_by link_of ends links place_of found a b one other one_there other_there same =
-    let first = found a one one_there in
-    let second = found b other other_there in
-    sym first.2 ∙ ap place_of (same_Some first.0 second.0 (sym first.1 ∙ ap (slice_get links) same ∙ second.1)) ∙ second.2
+-- what became of the ends of a link where a node's ends are put
+came_of : {Y : Type 0} {put : LinkEndsValue → EndValue → Y → LinkEndsValue} {ends : List (Option EndValue)} {beside : List Y} {none : Y} {old new : List LinkEndsValue} (i : ℕ) (now : LinkEndsValue) → HavePut put ends beside none 0 old new → slice_get new i ≡ Some now
+    → (was : LinkEndsValue) × (slice_get old i ≡ Some was) × (WasPut put ends beside none 0 i was now ⊎ (now ≡ was))
+came_of {put = put} {ends = ends} {beside = beside} {none = none} {old = old} {new = new} i now puts there =
+    let low = slice_get_within new i now there in
+    let was : (e : LinkEndsValue) × (slice_get old i ≡ Some e) = stands_at old i (omega (arith, puts.count)) in
+    let found = puts.each i was.0 was.1 in
+    let is : found.0 ≡ now = same_Some found.0 now (sym found.1 ∙ there) in
+    (was.0, was.1, subst (λ (e : LinkEndsValue). WasPut put ends beside none 0 i was.0 e ⊎ (e ≡ was.0)) is found.2)
 
--- what reads alike of ends of a link where a node's end is put reads as before
-still : {X Y Z : Type 0} {link_of : X → ℕ} {put : LinkEndsValue → X → Y → LinkEndsValue} {ends : List (Option X)} {beside : List Y} {none : Y} {i : ℕ} {was now : LinkEndsValue} (read : LinkEndsValue → Z)
-    → ((e : LinkEndsValue) (end : X) (y : Y) → read (put e end y) ≡ read e) → WasPut link_of put ends beside none 0 i was now ⊎ (now ≡ was) → read now ≡ read was
-still {ends = ends} {beside = beside} {none = none} {was = was} read alike (inl put) = ap read put.is ∙ alike was put.end (slice_index_or beside put.other none)
-still read alike (inr same) = ap read same
+-- a link's room stays where a node's ends are put
+room_stays : {Y : Type 0} {put : LinkEndsValue → EndValue → Y → LinkEndsValue} {ends : List (Option EndValue)} {beside : List Y} {none : Y} {i : ℕ} {was now : LinkEndsValue} → ((e : LinkEndsValue) (end : EndValue) (y : Y) → (put e end y).room ≡ e.room)
+    → WasPut put ends beside none 0 i was now ⊎ (now ≡ was) → now.room ≡ was.room
+room_stays {beside = beside} {none = none} {was = was} alike (inl put) = ap (λ (e : LinkEndsValue). e.room) put.is ∙ alike was put.end (slice_index_or beside put.other none)
+room_stays alike (inr same) = ap (λ (e : LinkEndsValue). e.room) same
+
+-- a node's ends on one side of its links
+module _ (near far : LinkValue → ℕ) (links : List LinkValue) (part : ℕ) (ends : List (Option EndValue)) (are : AreEnds near far links part ends) where
+  -- each is of a link between the node's partition and the end's
+  end_over : (other : ℕ) (end : EndValue) → end_at ends other ≡ Some end → (link : LinkValue) × (slice_get links end.link ≡ Some link) × (near link ≡ part) × (far link ≡ other)
+  end_over other end there =
+      let between : link_between near far links part other ≡ Some end.link = sym (are.which other (stands_below ends other end there)) ∙ ap (option_map (λ (e : EndValue). e.link)) there in
+      let found = found_link near far links part other end.link between in
+      (link_at links end.link, slice_get-get_or links end.link no_link found.0, found.1, found.2)
+
+  -- no two are of one link, since a link tells the place of its end
+  pub ends_apart : AreApart ends
+  ends_apart a b one other one_there other_there same =
+      let first = end_over a one one_there in
+      let second = end_over b other other_there in
+      sym first.3 ∙ ap far (same_Some first.0 second.0 (sym first.1 ∙ ap (slice_get links) same ∙ second.1)) ∙ second.3
+
+  -- what was put of them is of a link of the node's partition
+  put_near : {Y : Type 0} {put : LinkEndsValue → EndValue → Y → LinkEndsValue} {beside : List Y} {none : Y} {i : ℕ} {was now : LinkEndsValue} (link : LinkValue) → slice_get links i ≡ Some link → WasPut put ends beside none 0 i was now → near link ≡ part
+  put_near link there put =
+      let found = end_over put.other put.end put.there in
+      ap near (same_Some link found.0 (sym there ∙ ap (slice_get links) (sym put.here) ∙ found.1)) ∙ found.2
+
+  -- the end of a link of the node's partition is there
+  end_there : (i : ℕ) (link : LinkValue) → near link ≡ part → far link < length ends → link_between near far links (near link) (far link) ≡ Some i → StandsFor ends (far link) i
+  end_there i link own below stands =
+      end_of ends (far link) i (are.which (far link) below ∙ ap (λ (p : ℕ). link_between near far links p (far link)) (sym own) ∙ stands)
+
+-- the ends of nodes on one side
+module _ {Y : Type 0} (put : LinkEndsValue → EndValue → Y → LinkEndsValue) (none : Y) (own_of : NodeState → List (Option EndValue)) (beside_of : NodeState → List Y) (near far : LinkValue → ℕ) where
+  abbrev Has : NodeState → ℕ → ℕ → LinkEndsValue → Type 0
+  Has node other i left = HasEnd put (own_of node) (beside_of node) none other i left
+
+  -- what is put on the other side leaves them there
+  module _ {Z : Type 0} (turned : LinkEndsValue → EndValue → Z → LinkEndsValue) (commutes : (e : LinkEndsValue) (end : EndValue) (y : Y) (back : EndValue) (z : Z) → put (turned e back z) end y ≡ turned (put e end y) back z)
+      {ends : List (Option EndValue)} {beside : List Z} {no_z : Z} where
+    stays : (node : NodeState) (other i : ℕ) (was now : LinkEndsValue) → Has node other i was → WasPut turned ends beside no_z 0 i was now ⊎ (now ≡ was) → Has node other i now
+    stays node other i was now has (inl by) =
+        let end = has.own.end in
+        let y = slice_index_or (beside_of node) other none in
+        let z = slice_index_or beside by.other no_z in
+        record { own = has.own; is = ap (λ (e : LinkEndsValue). put e end y) by.is ∙ commutes was end y by.end z ∙ ap (λ (e : LinkEndsValue). turned e by.end z) has.is ∙ sym by.is }
+    stays node other i was now has (inr same) = subst (Has node other i) (sym same) has
+
+    have_still : (links : List LinkValue) (nodes : List NodeState) (old new : List LinkEndsValue) → HavePut turned ends beside no_z 0 old new → HaveEnds near far Has links nodes old → HaveEnds near far Has links nodes new
+    have_still links nodes old new puts have i link left node there left_there at =
+        let came = came_of i left puts left_there in
+        stays node (far link) i came.0 left (have i link came.0 node there came.1 at) came.2
+
+  -- one more node's ends are there once they are put
+  have_more : ((e : LinkEndsValue) (end : EndValue) (y : Y) → put (put e end y) end y ≡ put e end y) → (links : List LinkValue) (nodes : List NodeState) (node : NodeState) → node.core.part ≡ length nodes → AreEnds near far links node.core.part (own_of node)
+      → ((i : ℕ) (link : LinkValue) → slice_get links i ≡ Some link → near link ≡ node.core.part → StandsFor (own_of node) (far link) i)
+      → (old new : List LinkEndsValue) → HavePut put (own_of node) (beside_of node) none 0 old new → HaveEnds near far Has links nodes old → HaveEnds near far Has links (nodes ++ node ∷ []) new
+  have_more again links nodes node next are stands old new puts have i link left other there left_there at =
+      let came = came_of i left puts left_there in
+      ⊎_elim
+      (λ (before : slice_get nodes (near link) ≡ Some other).
+      let low = slice_get_within nodes (near link) other before in
+      ⊎_elim
+      (λ (by : WasPut put (own_of node) (beside_of node) none 0 i came.0 left). absurd (let here = put_near near far links node.core.part (own_of node) are link there by in omega arith))
+      (λ (same : left ≡ came.0). subst (Has other (far link) i) (sym same) (have i link came.0 other there came.1 before))
+      came.2)
+      (λ (last : (near link ≡ length nodes) × (node ≡ other)).
+      let own = stands i link there (last.0 ∙ sym next) in
+      let y = slice_index_or (beside_of node) (far link) none in
+      let put_there = puts.all (far link) own.end came.0 (omega arith) own.there (ap (slice_get old) own.here ∙ came.1) in
+      let is : left ≡ put came.0 own.end y = same_Some left (put came.0 own.end y) (sym left_there ∙ ap (slice_get new) (sym own.here) ∙ put_there) in
+      let mine : Has node (far link) i left = record { own = own; is = ap (λ (e : LinkEndsValue). put e own.end y) is ∙ again came.0 own.end y ∙ sym is } in
+      subst (λ (n : NodeState). Has n (far link) i left) last.1 mine)
+      (push_stood nodes node (near link) other at)
 
 module _ (fabric : FabricValue) (is : IsFabric fabric) (node : NodeState) (of : IsNodeOf fabric node) where
-  -- a node's end is of the link that leads from there to the end's partition
-  pub sends_from : (dst : ℕ) (end : SendEnd) → send_end node.sends dst ≡ Some end → link_from fabric.links node.core.part dst ≡ Some end.link
-  sends_from dst end there = sym (of.sends.which dst (stands_below node.sends dst end there)) ∙ ap (option_map send_link) there
+  -- a link is found by its partitions, from where it leads and from where it comes
+  leads : (i : ℕ) (link : LinkValue) → slice_get fabric.links i ≡ Some link → link_between src_of dst_of fabric.links link.src link.dst ≡ Some i
+  leads i link there = stands_from ends_of (ranges_in fabric.recon fabric.stage) fabric.links no_link (as_links fabric.recon fabric.stage (map ends_of fabric.links) is.links) i link there
 
-  pub recvs_from : (src : ℕ) (end : RecvEnd) → recv_end node.recvs src ≡ Some end → link_from fabric.links src node.core.part ≡ Some end.link
-  recvs_from src end there = sym (of.recvs.which src (stands_below node.recvs src end there)) ∙ ap (option_map recv_link) there
-
-  -- it leads between these partitions
-  sent_over : (dst : ℕ) (end : SendEnd) → send_end node.sends dst ≡ Some end → (link : LinkValue) × (slice_get fabric.links end.link ≡ Some link) × (link.src ≡ node.core.part) × (link.dst ≡ dst)
-  sent_over dst end there = found_from ends_of (ranges_in fabric.recon fabric.stage) fabric.links no_link (as_links fabric.recon fabric.stage (map ends_of fabric.links) is.links) node.core.part dst end.link (sends_from dst end there)
-
-  received_over : (src : ℕ) (end : RecvEnd) → recv_end node.recvs src ≡ Some end → (link : LinkValue) × (slice_get fabric.links end.link ≡ Some link) × (link.src ≡ src) × (link.dst ≡ node.core.part)
-  received_over src end there = found_from ends_of (ranges_in fabric.recon fabric.stage) fabric.links no_link (as_links fabric.recon fabric.stage (map ends_of fabric.links) is.links) src node.core.part end.link (recvs_from src end there)
-
-  pub sends_apart : AreApart send_link node.sends
-  sends_apart = apart_by send_link node.sends fabric.links (λ (l : LinkValue). l.dst) (λ dst end there. let over = sent_over dst end there in (over.0, over.1, over.3))
-
-  pub recvs_apart : AreApart recv_link node.recvs
-  recvs_apart = apart_by recv_link node.recvs fabric.links (λ (l : LinkValue). l.src) (λ src end there. let over = received_over src end there in (over.0, over.1, over.2))
-
-  -- the end of a link that leads from there is there
-  pub send_there : (i : ℕ) (link : LinkValue) → slice_get fabric.links i ≡ Some link → link.src ≡ node.core.part → link.dst < fabric.parts → StandsFor send_link node.sends link.dst i
-  send_there i link there src below =
-      end_of send_link node.sends link.dst i
-      (of.sends.which link.dst (let count = of.all_sends in omega arith) ∙ ap (λ (src : ℕ). link_from fabric.links src link.dst) (sym src)
-      ∙ stands_from ends_of (ranges_in fabric.recon fabric.stage) fabric.links no_link (as_links fabric.recon fabric.stage (map ends_of fabric.links) is.links) i link there)
-
-  pub recv_there : (i : ℕ) (link : LinkValue) → slice_get fabric.links i ≡ Some link → link.dst ≡ node.core.part → link.src < fabric.parts → StandsFor recv_link node.recvs link.src i
-  recv_there i link there dst below =
-      end_of recv_link node.recvs link.src i
-      (of.recvs.which link.src (let count = of.all_recvs in omega arith) ∙ ap (λ (dst : ℕ). link_from fabric.links link.src dst) (sym dst)
-      ∙ stands_from ends_of (ranges_in fabric.recon fabric.stage) fabric.links no_link (as_links fabric.recon fabric.stage (map ends_of fabric.links) is.links) i link there)
-
-  -- an end of the node is of a link that leads from its partition
-  put_from : (i : ℕ) (was now : LinkEndsValue) (link : LinkValue) → slice_get fabric.links i ≡ Some link → WasPut send_link with_source node.sends node.core.outs new_out_link 0 i was now → link.src ≡ node.core.part
-  put_from i was now link there put =
-      let found = sent_over put.other put.end put.there in
-      ap (λ (l : LinkValue). l.src) (same_Some link found.0 (sym there ∙ ap (slice_get fabric.links) (sym put.here) ∙ found.1)) ∙ found.2
-
-  put_to : (i : ℕ) (was now : LinkEndsValue) (link : LinkValue) → slice_get fabric.links i ≡ Some link → WasPut recv_link with_destination node.recvs node.core.inboxes None 0 i was now → link.dst ≡ node.core.part
-  put_to i was now link there put =
-      let found = received_over put.other put.end put.there in
-      ap (λ (l : LinkValue). l.dst) (same_Some link found.0 (sym there ∙ ap (slice_get fabric.links) (sym put.here) ∙ found.1)) ∙ found.3
-
-  -- a destination's end leaves the source's as it is, and the other way round
-  keep_source : (other : NodeState) (dst i : ℕ) (was now : LinkEndsValue) → HasSource other dst i was → WasPut recv_link with_destination node.recvs node.core.inboxes None 0 i was now ⊎ (now ≡ was) → HasSource other dst i now
-  keep_source other dst i was now has by = record {
-    own = has.own;
-    sender = still (λ (e : LinkEndsValue). e.sender) (λ e end inbox. refl) by ∙ has.sender;
-    notes = still (λ (e : LinkEndsValue). e.notes) (λ e end inbox. refl) by ∙ has.notes;
-    outbox = still (λ (e : LinkEndsValue). e.outbox) (λ e end inbox. refl) by ∙ has.outbox;
-  }
-
-  keep_destination : (other : NodeState) (src i : ℕ) (was now : LinkEndsValue) → HasDestination other src i was → WasPut send_link with_source node.sends node.core.outs new_out_link 0 i was now ⊎ (now ≡ was) → HasDestination other src i now
-  keep_destination other src i was now has by = record {
-    own = has.own;
-    receiver = still (λ (e : LinkEndsValue). e.receiver) (λ e end out. refl) by ∙ has.receiver;
-    inbox = still (λ (e : LinkEndsValue). e.inbox) (λ e end out. refl) by ∙ has.inbox;
-  }
+  comes : (i : ℕ) (link : LinkValue) → slice_get fabric.links i ≡ Some link → link_between dst_of src_of fabric.links link.dst link.src ≡ Some i
+  comes i link there = (λ k. position (λ (l : LinkValue). and_comm (l.dst == link.dst) (l.src == link.src) k) fabric.links) ∙ leads i link there
 
   -- one more node's ends are there
   module _ (nodes : List NodeState) (next : node.core.part ≡ length nodes) (below : (i : ℕ) (link : LinkValue) → slice_get fabric.links i ≡ Some link → (link.src < fabric.parts) × (link.dst < fabric.parts)) (old between new : List LinkEndsValue)
       (so_far : AreFilled fabric.links nodes old) (sources : SourcesPut node.sends node.core.outs 0 old between) (destinations : DestinationsPut node.recvs node.core.inboxes 0 between new) where
-    -- what became of the ends of a link
-    record Became (i : ℕ) (left : LinkEndsValue) : Type 0 where
-      was : LinkEndsValue
-      was_there : slice_get old i ≡ Some was
-      mid : LinkEndsValue
-      mid_there : slice_get between i ≡ Some mid
-      from : WasPut send_link with_source node.sends node.core.outs new_out_link 0 i was mid ⊎ (mid ≡ was)
-      to : WasPut recv_link with_destination node.recvs node.core.inboxes None 0 i mid left ⊎ (left ≡ mid)
+    send_stands : (i : ℕ) (link : LinkValue) → slice_get fabric.links i ≡ Some link → link.src ≡ node.core.part → StandsFor node.sends link.dst i
+    send_stands i link there own =
+        let low = (below i link there).1 in
+        end_there src_of dst_of fabric.links node.core.part node.sends of.sends i link own (let count = of.all_sends in omega arith) (leads i link there)
 
-    became : (i : ℕ) (left : LinkEndsValue) → slice_get new i ≡ Some left → Became i left
-    became i left there =
-        let low = slice_get_within new i left there in
-        let was : (e : LinkEndsValue) × (slice_get old i ≡ Some e) = stands_at old i (omega (arith, destinations.count, sources.count)) in
-        let mid = sources.each i was.0 was.1 in
-        let now = destinations.each i mid.0 mid.1 in
-        let is : now.0 ≡ left = same_Some now.0 left (sym now.1 ∙ there) in
-        record {
-          was = was.0;
-          was_there = was.1;
-          mid = mid.0;
-          mid_there = mid.1;
-          from = mid.2;
-          to = subst (λ (e : LinkEndsValue). WasPut recv_link with_destination node.recvs node.core.inboxes None 0 i mid.0 e ⊎ (e ≡ mid.0)) is now.2;
-        }
-
-    source_new : (i : ℕ) (link : LinkValue) (left : LinkEndsValue) → slice_get fabric.links i ≡ Some link → Became i left → link.src ≡ length nodes → HasSource node link.dst i left
-    source_new i link left there b src =
-        let own = send_there i link there (src ∙ sym next) (below i link there).1 in
-        let all = sources.all link.dst own.end b.was (omega arith) own.there (ap (slice_get old) own.here ∙ b.was_there) in
-        let is : b.mid ≡ with_source b.was own.end (out_at node.core link.dst) = same_Some b.mid (with_source b.was own.end (out_at node.core link.dst)) (sym b.mid_there ∙ ap (slice_get between) (sym own.here) ∙ all) in
-        keep_source node link.dst i b.mid left
-        (record { own = own; sender = ap (λ (e : LinkEndsValue). e.sender) is; notes = ap (λ (e : LinkEndsValue). e.notes) is; outbox = ap (λ (e : LinkEndsValue). e.outbox) is })
-        b.to
-
-    source_old : (i : ℕ) (link : LinkValue) (left : LinkEndsValue) (other : NodeState) → slice_get fabric.links i ≡ Some link → Became i left → slice_get nodes link.src ≡ Some other → HasSource other link.dst i left
-    source_old i link left other there b at =
-        let has = so_far.source i link b.was other there b.was_there at in
-        let low = slice_get_within nodes link.src other at in
-        ⊎_elim
-        (λ (put : WasPut send_link with_source node.sends node.core.outs new_out_link 0 i b.was b.mid). absurd (omega (arith, put_from i b.was b.mid link there put)))
-        (λ (same : b.mid ≡ b.was). keep_source other link.dst i b.mid left (subst (HasSource other link.dst i) (sym same) has) b.to)
-        b.from
-
-    destination_new : (i : ℕ) (link : LinkValue) (left : LinkEndsValue) → slice_get fabric.links i ≡ Some link → slice_get new i ≡ Some left → Became i left → link.dst ≡ length nodes → HasDestination node link.src i left
-    destination_new i link left there left_there b dst =
-        let own = recv_there i link there (dst ∙ sym next) (below i link there).0 in
-        let all = destinations.all link.src own.end b.mid (omega arith) own.there (ap (slice_get between) own.here ∙ b.mid_there) in
-        let is : left ≡ with_destination b.mid own.end (inbox_at node.core link.src) = same_Some left (with_destination b.mid own.end (inbox_at node.core link.src)) (sym left_there ∙ ap (slice_get new) (sym own.here) ∙ all) in
-        record { own = own; receiver = ap (λ (e : LinkEndsValue). e.receiver) is; inbox = ap (λ (e : LinkEndsValue). e.inbox) is }
-
-    destination_old : (i : ℕ) (link : LinkValue) (left : LinkEndsValue) (other : NodeState) → slice_get fabric.links i ≡ Some link → Became i left → slice_get nodes link.dst ≡ Some other → HasDestination other link.src i left
-    destination_old i link left other there b at =
-        let has = keep_destination other link.src i b.was b.mid (so_far.destination i link b.was other there b.was_there at) b.from in
-        let low = slice_get_within nodes link.dst other at in
-        ⊎_elim
-        (λ (put : WasPut recv_link with_destination node.recvs node.core.inboxes None 0 i b.mid left). absurd (omega (arith, put_to i b.mid left link there put)))
-        (λ (same : left ≡ b.mid). subst (HasDestination other link.src i) (sym same) has)
-        b.to
+    recv_stands : (i : ℕ) (link : LinkValue) → slice_get fabric.links i ≡ Some link → link.dst ≡ node.core.part → StandsFor node.recvs link.src i
+    recv_stands i link there own =
+        let low = (below i link there).0 in
+        end_there dst_of src_of fabric.links node.core.part node.recvs of.recvs i link own (let count = of.all_recvs in omega arith) (comes i link there)
 
     pub filled_more : AreFilled fabric.links (nodes ++ node ∷ []) new
-    filled_more = record {
-      count = destinations.count ∙ sources.count ∙ so_far.count;
-      room = λ i link left there left_there.
-          let b = became i left left_there in
-          omega (arith, so_far.room i link b.was there b.was_there, still (λ (e : LinkEndsValue). e.room) (λ e end out. refl) b.from, still (λ (e : LinkEndsValue). e.room) (λ e end inbox. refl) b.to);
-      source = λ i link left other there left_there at.
-          let b = became i left left_there in
-          ⊎_elim (λ (before : slice_get nodes link.src ≡ Some other). source_old i link left other there b before)
-          (λ (last : (link.src ≡ length nodes) × (node ≡ other)). subst (λ (n : NodeState). HasSource n link.dst i left) last.1 (source_new i link left there b last.0))
-          (push_stood nodes node link.src other at);
-      destination = λ i link left other there left_there at.
-          let b = became i left left_there in
-          ⊎_elim (λ (before : slice_get nodes link.dst ≡ Some other). destination_old i link left other there b before)
-          (λ (last : (link.dst ≡ length nodes) × (node ≡ other)). subst (λ (n : NodeState). HasDestination n link.src i left) last.1 (destination_new i link left there left_there b last.0))
-          (push_stood nodes node link.dst other at);
-    }
+    filled_more =
+        let sends = λ (n : NodeState). n.sends in
+        let outs = λ (n : NodeState). n.core.outs in
+        let recvs = λ (n : NodeState). n.recvs in
+        let inboxes = λ (n : NodeState). n.core.inboxes in
+        record {
+          count = destinations.count ∙ sources.count ∙ so_far.count;
+          room = λ i link left there left_there.
+              let to = came_of i left destinations left_there in
+              let from = came_of i to.0 sources to.1 in
+              omega (arith, so_far.room i link from.0 there from.1, room_stays (λ e end out. refl) from.2, room_stays (λ e end inbox. refl) to.2);
+          source = have_still with_source new_out_link sends outs src_of dst_of with_destination (λ e end y back z. refl) fabric.links (nodes ++ node ∷ []) between new destinations
+              (have_more with_source new_out_link sends outs src_of dst_of (λ e end y. refl) fabric.links nodes node next of.sends send_stands old between sources so_far.source);
+          destination = have_more with_destination None recvs inboxes dst_of src_of (λ e end y. refl) fabric.links nodes node next of.recvs recv_stands between new destinations
+              (have_still with_destination None recvs inboxes dst_of src_of with_source (λ e end y back z. refl) fabric.links nodes old between sources so_far.destination);
+        }

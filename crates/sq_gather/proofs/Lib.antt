@@ -1,7 +1,6 @@
 pub mod Adding
 pub mod AllOf
 pub mod Closing
-pub mod Opens
 pub mod Running
 pub mod StageDone
 pub mod Staged

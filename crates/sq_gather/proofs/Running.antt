@@ -1,22 +1,19 @@
 -- Runs: how they begin, how they go on, and how the next stage begins.
-use Rattle.std.proofs.Common.{◌≡◌, ℕ, ◌+◌, List, Some, sym, ap₂, ◌∙◌, subst}
-use Rattle.std.specs.Prelude.{slice_get}
+use Rattle.std.proofs.Common.{ℕ, ◌+◌, List, sym, ap₂, ◌∙◌, subst}
 use Rattle.sq_ranges.specs.OpeningValue.{OpeningValue}
 use Rattle.sq_ranges.specs.Opening.{IsOpening}
-use Rattle.sq_store.specs.StoreValue.{StoreValue}
 use Rattle.sq_pull.specs.Pump.{PumpValue}
 use Rattle.sq_node_model.specs.BeganWith.{BeganWith, first_began, CanBegin}
 use Rattle.sq_node_model.specs.Gathered.{GatheredValue}
 use Rattle.sq_node_model.specs.Placed.{IsPlaced}
-use Rattle.sq_node_model.specs.NodeHolds.{NodeHolds}
-use Rattle.sq_node_model.specs.Next.{next_began}
+use Rattle.sq_node_model.specs.Next.{IsStageDone, next_began}
 use Rattle.sq_node_model.proofs.Began.{first_can}
+use Rattle.sq_node_model.proofs.Next.{can_next, opens_next}
 use Rattle.sq_node.specs.FabricValue.{FabricValue, HasBegun, IsFabric}
 use Rattle.sq_node.specs.NodeState.{NodeState}
 use Rattle.sq_node.specs.Opened.{AreFirstSeats, AllHoldUnder, AllOpenWith, IsReopened, IsOpened}
 use Rattle.sq_gather.specs.Gathered.{AllHold}
 use Rattle.sq_gather.specs.Reopened.{IsRunInStage, AllStay, AllPumpsStay}
-use Rattle.sq_gather.proofs.Opens.{next_node, opens_where_held}
 use Rattle.sq_gather.proofs.AllOf.{all_of_new, all_of_opened, pump_claimed}
 
 -- what a run opens with is a run in its first stage
@@ -57,18 +54,18 @@ run_goes_on o began fabric old new before after opening run nodes pumps =
 pub all_hold : (o : OpeningValue) (began : BeganWith) (nodes : List NodeState) → AllHoldUnder o began nodes → AllHold o began nodes
 all_hold o began nodes hold part node there = (hold part node there).holds
 
--- the stage after the one that was gathered is a run of what was gathered, where it can begin and new nodes with the families that were gathered hold
-pub run_resumes : (o : OpeningValue) (g : GatheredValue) (count : ℕ) (fabric : FabricValue) (nodes : List NodeState) (pumps : List PumpValue) → IsOpening o → IsPlaced o g → IsFabric fabric
-    → CanBegin o (next_began o g) → ((q : ℕ) (store : StoreValue) → slice_get g.stores q ≡ Some store → NodeHolds o (next_began o g) (next_node o g q store))
+-- the stage after the one that was gathered is a run of what was gathered, where that is placed and the segments are complete
+pub run_resumes : (o : OpeningValue) (g : GatheredValue) (count : ℕ) (fabric : FabricValue) (nodes : List NodeState) (pumps : List PumpValue) → IsOpening o → IsPlaced o g → IsStageDone o g → IsFabric fabric
     → IsReopened o (g.stage + 1) g.stores g.receipts count fabric nodes pumps
     → ((began : BeganWith) → HasBegun began fabric → CanBegin o began → AllOpenWith o began g.stores → AllHoldUnder o began nodes)
     → IsRunInStage o (next_began o g) fabric nodes pumps
-run_resumes o g count fabric nodes pumps opening placed is can new_hold resumed hold =
+run_resumes o g count fabric nodes pumps opening placed done is resumed hold =
     let begun : HasBegun (next_began o g) fabric = record { stage = sym resumed.stage; receipts = sym resumed.receipts } in
+    let can : CanBegin o (next_began o g) = can_next o opening g placed done in
     record {
       shared = resumed.shared;
       begun = begun;
       can = can;
       all = all_of_new o count g.stores fabric nodes pumps opening is resumed.shared placed.fit.parts.all_stores resumed.seats resumed.each_node resumed.each_pump;
-      hold = hold (next_began o g) begun can (λ part store there. opens_where_held o g part store there (new_hold part store there));
+      hold = hold (next_began o g) begun can (opens_next o opening g placed done);
     }

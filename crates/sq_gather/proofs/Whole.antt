@@ -9,7 +9,7 @@ use Rattle.atomic_table.specs.Seated.{TableId}
 use Rattle.sq_chunk.specs.ChunkValue.{ChunkValue}
 use Rattle.sq_store.specs.StoreValue.{StoreValue}
 use Rattle.sq_exec.specs.CoreValue.{out_at, inbox_at}
-use Rattle.sq_link.specs.Values.{LinkValue, SendValue, RecvValue}
+use Rattle.sq_link.specs.Values.{LinkValue, PassValue}
 use Rattle.sq_status.specs.declared.view.View.{View}
 use Rattle.sq_status.specs.Seat.{SeatValue}
 use Rattle.sq_pull.specs.Seats.{AreSeatsOf}
@@ -17,9 +17,7 @@ use Rattle.sq_pull.specs.Pump.{PumpValue}
 use Rattle.sq_node_model.specs.NodeValue.{ReceiptValue}
 use Rattle.sq_node_model.specs.Gathered.{GatheredLink, GatheredValue, IsClosedLink}
 use Rattle.sq_node_model.proofs.Lists.{stands_at, map_at, at_map, append_at}
-use Rattle.sq_node.specs.declared.ends.SendEnd.{SendEnd}
-use Rattle.sq_node.specs.declared.ends.RecvEnd.{RecvEnd}
-use Rattle.sq_node.specs.Ends.{no_link, link_at}
+use Rattle.sq_node.specs.Ends.{EndValue, no_link, link_at}
 use Rattle.sq_node.specs.FabricValue.{FabricValue, IsFabric, ends_of}
 use Rattle.sq_node.specs.NodeState.{NodeState, node_value}
 use Rattle.sq_gather.specs.LinkEnds.{LinkEndsValue}
@@ -157,10 +155,10 @@ module _ (fabric : FabricValue) (nodes : List NodeState) (pumps : List PumpValue
             let into = ((all.each_node link.dst has.to has.to_there).0.recvs.ends link.src has.destination.own.end has.destination.own.there).queue in
             record {
               sender = has.source.own.end.pass;
-              sends = has.source.sender;
+              sends = ap (λ (e : LinkEndsValue). e.sender) (sym has.source.is);
               sends_on = out ∙ ap (λ (k : ℕ). (link_at fabric.links k).queue) has.source.own.here ∙ ap (λ (l : LinkValue). l.queue) here;
               receiver = has.destination.own.end.pass;
-              receives = has.destination.receiver;
+              receives = ap (λ (e : LinkEndsValue). e.receiver) (sym has.destination.is);
               receives_on = into ∙ ap (λ (k : ℕ). (link_at fabric.links k).queue) has.destination.own.here ∙ ap (λ (l : LinkValue). l.queue) here;
               room = filled.room i link left there left_there;
             };
@@ -187,12 +185,11 @@ module _ (fabric : FabricValue) (nodes : List NodeState) (pumps : List PumpValue
       -- a link is closed with what its nodes left of it
       closed_link : (i : ℕ) (link : LinkValue) (left : LinkEndsValue) (closed : GatheredLink) → HasNodes i link left → IsClosed link left closed → IsClosedLink (map node_value nodes) closed
       closed_link i link left closed has closes =
-          let sender : closes.sender ≡ has.source.own.end.pass = same_Some closes.sender has.source.own.end.pass (sym closes.sends ∙ has.source.sender) in
-          let receiver : closes.receiver ≡ has.destination.own.end.pass = same_Some closes.receiver has.destination.own.end.pass (sym closes.receives ∙ has.destination.receiver) in
-          let sent : (node_value has.from).sent link.dst ≡ closes.sender.sent
-          = ap (λ (end : Option SendEnd). option_map_or (λ (e : SendEnd). e.pass.sent) end []) has.source.own.there ∙ ap (λ (pass : SendValue). pass.sent) (sym sender) in
-          let received : (node_value has.to).received link.src ≡ closes.receiver.received
-          = ap (λ (end : Option RecvEnd). option_map_or (λ (e : RecvEnd). e.pass.received) end []) has.destination.own.there ∙ ap (λ (pass : RecvValue). pass.received) (sym receiver) in
+          let sender : closes.sender ≡ has.source.own.end.pass = same_Some closes.sender has.source.own.end.pass (sym closes.sends ∙ ap (λ (e : LinkEndsValue). e.sender) (sym has.source.is)) in
+          let receiver : closes.receiver ≡ has.destination.own.end.pass = same_Some closes.receiver has.destination.own.end.pass (sym closes.receives ∙ ap (λ (e : LinkEndsValue). e.receiver) (sym has.destination.is)) in
+          let chunks_of : Option EndValue → List ChunkValue = λ end. option_map_or (λ (e : EndValue). e.pass.chunks) end [] in
+          let sent : (node_value has.from).sent link.dst ≡ closes.sender.chunks = ap chunks_of has.source.own.there ∙ ap (λ (pass : PassValue). pass.chunks) (sym sender) in
+          let received : (node_value has.to).received link.src ≡ closes.receiver.chunks = ap chunks_of has.destination.own.there ∙ ap (λ (pass : PassValue). pass.chunks) (sym receiver) in
           record {
             from = node_value has.from;
             from_there = ap (slice_get (map node_value nodes)) closes.src ∙ at_map node_value nodes link.src has.from has.from_there;
@@ -200,9 +197,9 @@ module _ (fabric : FabricValue) (nodes : List NodeState) (pumps : List PumpValue
             to_there = ap (slice_get (map node_value nodes)) closes.dst ∙ at_map node_value nodes link.dst has.to has.to_there;
             queue = closes.queue;
             order = ap ((node_value has.from).sent) closes.dst ∙ sent ∙ closes.order ∙ ap (λ (list : List ChunkValue). list ++ closes.queue) (sym received ∙ ap ((node_value has.to).received) (sym closes.src));
-            notes = closes.notes ∙ has.source.notes ∙ ap (λ (dst : ℕ). (out_at has.from.core dst).notes) (sym closes.dst);
+            notes = closes.notes ∙ ap (λ (e : LinkEndsValue). e.notes) (sym has.source.is) ∙ ap (λ (dst : ℕ). (out_at has.from.core dst).notes) (sym closes.dst);
             way = closes.way
-                ∙ (λ k. option_to_list ((has.destination.inbox ∙ ap (inbox_at has.to.core) (sym closes.src)) k) ++ (closes.queue ++ option_to_list ((has.source.outbox ∙ ap (λ (dst : ℕ). (out_at has.from.core dst).outbox) (sym closes.dst)) k)));
+                ∙ (λ k. option_to_list ((ap (λ (e : LinkEndsValue). e.inbox) (sym has.destination.is) ∙ ap (inbox_at has.to.core) (sym closes.src)) k) ++ (closes.queue ++ option_to_list ((ap (λ (e : LinkEndsValue). e.outbox) (sym has.source.is) ∙ ap (λ (dst : ℕ). (out_at has.from.core dst).outbox) (sym closes.dst)) k)));
           }
 
       module _ (g : GatheredValue) (stores : g.stores ≡ whole.stores) (receipts : g.receipts ≡ whole.receipts) (left : length g.left ≡ whole.left) (stage : g.stage ≡ fabric.stage) (links : AreClosedLinks fabric.links whole.ends g.links) (words : AreClosedTrees fabric.seats whole.owners g.words) where

@@ -1,50 +1,49 @@
 -- The ends that a node had of links, each put where its link stands.
-use Rattle.std.specs.Prelude.{◌≡◌, ◌⊎◌, ℕ, ◌<◌, ◌≤◌, List, length, slice_get, slice_index_or, Option, Some, None}
+use Rattle.std.specs.Prelude.{◌≡◌, ◌⊎◌, ℕ, ◌<◌, ◌≤◌, false, List, length, slice_get, slice_index_or, Option, Some, None}
 use Rattle.sq_chunk.specs.ChunkValue.{ChunkValue}
-use Rattle.sq_exec.specs.OutLink.{OutLinkValue, new_out_link}
-use Rattle.sq_node.specs.declared.ends.SendEnd.{SendEnd}
-use Rattle.sq_node.specs.declared.ends.RecvEnd.{RecvEnd}
+use Rattle.sq_exec.specs.OutLink.{OutLinkValue, RoomyOutLink, new_out_link}
+use Rattle.sq_node.specs.Ends.{EndValue, end_at}
 use Rattle.sq_gather.specs.LinkEnds.{LinkEndsValue}
 
 -- the end of this place of a node was put here, with what stands beside it
-pub record WasPut {X Y : Type 0} (link_of : X → ℕ) (put : LinkEndsValue → X → Y → LinkEndsValue) (ends : List (Option X)) (beside : List Y) (none : Y) (from i : ℕ) (was now : LinkEndsValue) : Type 0 where
+pub record WasPut {Y : Type 0} (put : LinkEndsValue → EndValue → Y → LinkEndsValue) (ends : List (Option EndValue)) (beside : List Y) (none : Y) (from i : ℕ) (was now : LinkEndsValue) : Type 0 where
   pub other : ℕ
   pub past : from ≤ other
-  pub end : X
-  pub there : slice_index_or ends other None ≡ Some end
-  pub here : link_of end ≡ i
+  pub end : EndValue
+  pub there : end_at ends other ≡ Some end
+  pub here : end.link ≡ i
   pub is : now ≡ put was end (slice_index_or beside other none)
 
 -- each end that a node had, from this place on, was put where its link stands, with what stands beside it, and nothing else was put
-pub record HavePut {X Y : Type 0} (link_of : X → ℕ) (put : LinkEndsValue → X → Y → LinkEndsValue) (ends : List (Option X)) (beside : List Y) (none : Y) (from : ℕ) (old new : List LinkEndsValue) : Type 0 where
+pub record HavePut {Y : Type 0} (put : LinkEndsValue → EndValue → Y → LinkEndsValue) (ends : List (Option EndValue)) (beside : List Y) (none : Y) (from : ℕ) (old new : List LinkEndsValue) : Type 0 where
   pub count : length new ≡ length old
-  pub all : (other : ℕ) (end : X) (was : LinkEndsValue) → from ≤ other → slice_index_or ends other None ≡ Some end → slice_get old (link_of end) ≡ Some was → slice_get new (link_of end) ≡ Some (put was end (slice_index_or beside other none))
-  pub each : (i : ℕ) (was : LinkEndsValue) → slice_get old i ≡ Some was → (now : LinkEndsValue) × (slice_get new i ≡ Some now) × (WasPut link_of put ends beside none from i was now ⊎ (now ≡ was))
+  pub all : (other : ℕ) (end : EndValue) (was : LinkEndsValue) → from ≤ other → end_at ends other ≡ Some end → slice_get old end.link ≡ Some was → slice_get new end.link ≡ Some (put was end (slice_index_or beside other none))
+  pub each : (i : ℕ) (was : LinkEndsValue) → slice_get old i ≡ Some was → (now : LinkEndsValue) × (slice_get new i ≡ Some now) × (WasPut put ends beside none from i was now ⊎ (now ≡ was))
 
 -- no two of a node's ends are of one link
-abbrev pub AreApart : {X : Type 0} → (X → ℕ) → List (Option X) → Type 0
-AreApart {X} link_of ends = (a b : ℕ) (one other : X) → slice_index_or ends a None ≡ Some one → slice_index_or ends b None ≡ Some other → link_of one ≡ link_of other → a ≡ b
+abbrev pub AreApart : List (Option EndValue) → Type 0
+AreApart ends = (a b : ℕ) (one other : EndValue) → end_at ends a ≡ Some one → end_at ends b ≡ Some other → one.link ≡ other.link → a ≡ b
 
 -- each of a node's ends is of one of this many links
-abbrev pub AreAmong : {X : Type 0} → (X → ℕ) → ℕ → List (Option X) → Type 0
-AreAmong {X} link_of count ends = (other : ℕ) (end : X) → slice_index_or ends other None ≡ Some end → link_of end < count
-
-abbrev pub send_link : SendEnd → ℕ
-send_link end = end.link
-
-abbrev pub recv_link : RecvEnd → ℕ
-recv_link end = end.link
+abbrev pub AreAmong : ℕ → List (Option EndValue) → Type 0
+AreAmong count ends = (other : ℕ) (end : EndValue) → end_at ends other ≡ Some end → end.link < count
 
 -- with the source's end
-abbrev pub with_source : LinkEndsValue → SendEnd → OutLinkValue → LinkEndsValue
+abbrev pub with_source : LinkEndsValue → EndValue → OutLinkValue → LinkEndsValue
 with_source ends end out = record ends { sender = Some end.pass; notes = out.notes; outbox = out.outbox }
 
+abbrev pub with_out_link : LinkEndsValue → EndValue → RoomyOutLink → LinkEndsValue
+with_out_link ends end out = with_source ends end out.link
+
+abbrev pub no_out_link : RoomyOutLink
+no_out_link = record { link = new_out_link; has_room = false }
+
 -- with the destination's end
-abbrev pub with_destination : LinkEndsValue → RecvEnd → Option ChunkValue → LinkEndsValue
+abbrev pub with_destination : LinkEndsValue → EndValue → Option ChunkValue → LinkEndsValue
 with_destination ends end inbox = record ends { receiver = Some end.pass; inbox = inbox }
 
-abbrev pub SourcesPut : List (Option SendEnd) → List OutLinkValue → ℕ → List LinkEndsValue → List LinkEndsValue → Type 0
-SourcesPut sends outs from old new = HavePut send_link with_source sends outs new_out_link from old new
+abbrev pub SourcesPut : List (Option EndValue) → List OutLinkValue → ℕ → List LinkEndsValue → List LinkEndsValue → Type 0
+SourcesPut sends outs from old new = HavePut with_source sends outs new_out_link from old new
 
-abbrev pub DestinationsPut : List (Option RecvEnd) → List (Option ChunkValue) → ℕ → List LinkEndsValue → List LinkEndsValue → Type 0
-DestinationsPut recvs inboxes from old new = HavePut recv_link with_destination recvs inboxes None from old new
+abbrev pub DestinationsPut : List (Option EndValue) → List (Option ChunkValue) → ℕ → List LinkEndsValue → List LinkEndsValue → Type 0
+DestinationsPut recvs inboxes from old new = HavePut with_destination recvs inboxes None from old new

@@ -11,7 +11,7 @@ use Rattle.sq_node.specs.NodeState.{NodeState}
 use Rattle.sq_gather.specs.LinkEnds.{LinkEndsValue}
 use Rattle.sq_gather.specs.Links.{no_ends, HaveBothEnds}
 use Rattle.sq_gather.specs.Trees.{AllAreSeatsOf, AwaitOwners}
-use Rattle.sq_gather.specs.Ends.{AreApart, AreAmong, send_link, recv_link, SourcesPut, DestinationsPut}
+use Rattle.sq_gather.specs.Ends.{AreApart, AreAmong, SourcesPut, DestinationsPut}
 
 -- for how many stores, receipts, owners of seats and links there is room, and for how many trees
 pub record RoomValue : Type 0 where
@@ -69,10 +69,10 @@ pub record AddsReceipts (old : GatheringValue) (receipts : List ReceiptValue) (n
 pub record IsAddable (links : ℕ) (node : NodeState) : Type 0 where
   pub all_sends : length node.sends ≡ node.core.plan.parts
   pub all_recvs : length node.recvs ≡ node.core.plan.parts
-  pub sends : AreAmong send_link links node.sends
-  pub sends_apart : AreApart send_link node.sends
-  pub recvs : AreAmong recv_link links node.recvs
-  pub recvs_apart : AreApart recv_link node.recvs
+  pub sends : AreAmong links node.sends
+  pub sends_apart : AreApart node.sends
+  pub recvs : AreAmong links node.recvs
+  pub recvs_apart : AreApart node.recvs
 
 -- there is room for what these nodes left
 pub record HasRoomFor (gathering : GatheringValue) (nodes : List NodeState) : Type 0 where

@@ -2,13 +2,13 @@
 use Rattle.std.specs.Prelude.{ℕ, List, Option}
 use Rattle.sq_chunk.specs.declared.chunk.Note.{Note}
 use Rattle.sq_chunk.specs.ChunkValue.{ChunkValue}
-use Rattle.sq_link.specs.Values.{SendValue, RecvValue}
+use Rattle.sq_link.specs.Values.{PassValue}
 
 -- at the source, the sending end, the notes of all chunks that were cut and the one that isn't sent; at the destination, the receiving end and the chunk that isn't loaded; and for how many chunks there is room
 pub record LinkEndsValue : Type 0 where
-  pub sender : Option SendValue
+  pub sender : Option PassValue
   pub notes : List Note
   pub outbox : Option ChunkValue
-  pub receiver : Option RecvValue
+  pub receiver : Option PassValue
   pub inbox : Option ChunkValue
   pub room : ℕ

@@ -1,7 +1,7 @@
 -- Links that are closed.
 use Rattle.std.specs.Prelude.{◌≡◌, ℕ, ◌+◌, ◌≤◌, List, [], ◌++◌, length, slice_get, Some, None, option_to_list}
 use Rattle.sq_chunk.specs.ChunkValue.{ChunkValue}
-use Rattle.sq_link.specs.Values.{LinkValue, SendValue, RecvValue}
+use Rattle.sq_link.specs.Values.{LinkValue, PassValue}
 use Rattle.sq_node_model.specs.Gathered.{GatheredLink}
 use Rattle.sq_gather.specs.LinkEnds.{LinkEndsValue}
 
@@ -11,10 +11,10 @@ no_ends room = record { sender = None; notes = []; outbox = None; receiver = Non
 
 -- both ends are there and are those of the link, and there is room for all that can be under way on it
 pub record HasBothEnds (link : LinkValue) (ends : LinkEndsValue) : Type 0 where
-  pub sender : SendValue
+  pub sender : PassValue
   pub sends : ends.sender ≡ Some sender
   pub sends_on : sender.queue ≡ link.queue
-  pub receiver : RecvValue
+  pub receiver : PassValue
   pub receives : ends.receiver ≡ Some receiver
   pub receives_on : receiver.queue ≡ link.queue
   pub room : link.capacity + 2 ≤ ends.room
@@ -23,12 +23,12 @@ pub record HasBothEnds (link : LinkValue) (ends : LinkEndsValue) : Type 0 where
 pub record IsClosed (link : LinkValue) (ends : LinkEndsValue) (closed : GatheredLink) : Type 0 where
   pub src : closed.src ≡ link.src
   pub dst : closed.dst ≡ link.dst
-  pub sender : SendValue
+  pub sender : PassValue
   pub sends : ends.sender ≡ Some sender
-  pub receiver : RecvValue
+  pub receiver : PassValue
   pub receives : ends.receiver ≡ Some receiver
   pub queue : List ChunkValue
-  pub order : sender.sent ≡ receiver.received ++ queue
+  pub order : sender.chunks ≡ receiver.chunks ++ queue
   pub notes : closed.notes ≡ ends.notes
   pub way : closed.under_way ≡ option_to_list ends.inbox ++ (queue ++ option_to_list ends.outbox)
 

@@ -8,7 +8,6 @@ ghost use Rattle.sq_gather.specs.Reopened.{IsRunInStage};
 
 use crate::gathered::Gathered;
 use sq_node::{Fabric, Node, Unresumed};
-use sq_node_model::gathered::the_next_stage_begins;
 use sq_pull::Pump;
 use sq_ranges::Opening;
 use std::alloc::Global;
@@ -32,10 +31,8 @@ pub fn reopen(
     ensures pumps { IfOk result (λ run. length run.2.items ≡ pumps) }
     ensures returned { IfErr result (λ back. back ≡ g) }
 {
-    // For the proof alone: there are no more stages than a number counts, what was handed in is an opening, and the next stage
-    // can begin.
+    // For the proof alone: there are no more stages than a number counts, and what was handed in is an opening.
     let _stages = opening.recon().stages();
-    the_next_stage_begins();
     let Gathered {
         stage,
         stores,

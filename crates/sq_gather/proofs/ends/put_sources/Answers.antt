@@ -1,20 +1,13 @@
-use Rattle.std.proofs.Common.{[], ◌∷◌, ◌++◌, map, sym, ap, ◌∙◌, subst, rules}
+use Rattle.std.proofs.Common.{[], ◌∷◌, ◌++◌, sym, ap, ◌∙◌, subst, rules}
 use Rattle.std.specs.Prelude.{slice_set}
-use Rattle.std.proofs.lemmas.Option.{get_or_from_slice_get}
-use Rattle.sq_exec.specs.declared.out_link.OutLink.{OutLink}
-use Rattle.sq_exec.specs.OutLink.{OutLinkValue, new_out_link}
-use Rattle.sq_node_model.proofs.Lists.{at_map}
-use Rattle.sq_gather.specs.Ends.{send_link, with_source}
+use Rattle.sq_gather.specs.Ends.{with_out_link, no_out_link}
 use Rattle.sq_gather.proofs.Putting.{AreLeft, IsTaken, none_put, link_below, end_put}
 use Rattle.sq_gather.proofs.ends.put_sources.Goals as goal
 use Rattle.sq_gather.proofs.ends.put_sources.Goals.{After-into_end}
 
-abbrev link_of : OutLink → OutLinkValue
-link_of out = out.link
-
 -- the last end is taken, with the partition's end of the link beside it
 taken : (c : After-into_end) →
-    IsTaken send_link with_source new_out_link c.args.sends.items c.args.outs.items (map link_of c.args.outs.items) c.args.ends.now.items c.pop.new.self.items c.pop-in-Some.new.self.items c.loop-sender.ends.items c.into_end.result c.in-Some-pop.out
+    IsTaken with_out_link no_out_link c.args.sends.items c.args.outs.items c.args.ends.now.items c.pop.new.self.items c.pop-in-Some.new.self.items c.loop-sender.ends.items c.into_end.result c.in-Some-pop.out
 taken c = record {
   left = c.loop-sender.sends.items;
   left_beside = c.loop-sender.outs.items;
@@ -31,8 +24,5 @@ index_mut-requires c = let low = link_below (taken (goal.at.index_mut-requires c
 
 pub loop-sender-preserved : goal.loop-sender-preserved
 loop-sender-preserved c =
-    let links = map link_of c.args.outs.items in
-    let out = c.in-Some-pop.out in
-    subst (AreLeft send_link with_source new_out_link c.args.sends.items c.args.outs.items links c.args.ends.now.items c.pop.new.self.items c.pop-in-Some.new.self.items) (ap (slice_set c.loop-sender.ends.items c.in-Some-into_end.field-0.link) (cc))
-    (end_put (taken (goal.at.loop-sender-preserved c).After-into_end) c.requires.among _ c.in-Some-into_end.is c.requires.apart out.link
-    (λ k at. get_or_from_slice_get links k out.link new_out_link (at_map link_of c.args.outs.items k out at)) _ c.index_mut.ensures.value)
+    subst (AreLeft with_out_link no_out_link c.args.sends.items c.args.outs.items c.args.ends.now.items c.pop.new.self.items c.pop-in-Some.new.self.items) (ap (slice_set c.loop-sender.ends.items c.in-Some-into_end.field-0.link) (cc))
+    (end_put (taken (goal.at.loop-sender-preserved c).After-into_end) c.requires.among _ c.in-Some-into_end.is c.requires.apart _ c.index_mut.ensures.value)

@@ -3,7 +3,6 @@ use Rattle.sq_node_model.specs.BeganWith.{BeganWith, CanBegin}
 use Rattle.sq_node_model.specs.Gathered.{GatheredValue}
 use Rattle.sq_node.specs.FabricValue.{HasBegun}
 use Rattle.sq_node.specs.Opened.{IsReopened, AllOpenWith, AllHoldUnder}
-use Rattle.sq_gather.proofs.Opens.{next_at_work, next_fresh}
 use Rattle.sq_gather.proofs.Running.{run_resumes}
 use Rattle.sq_gather.proofs.reopened.reopen.Goals as goal
 
@@ -14,11 +13,9 @@ returns-in-Ok-clause-run c =
     let fabric = c.in-Ok.fabric in
     let nodes = c.in-Ok.nodes.items in
     let pumps = c.in-Ok.pumps.items in
-    let opening = c.recon.ensures.set_up.opening in
-    run_resumes o g c.args.pumps fabric nodes pumps opening c.requires.placed c.trees-trees.ensures.fabric
-    (c.the_next_stage_begins.ensures.can o g opening c.requires.placed c.requires.done)
-    (λ q store there. c.the_next_stage_begins.ensures.holds o g q store (next_at_work o g q store) opening c.requires.placed c.requires.done there (next_fresh o g q store))
-    (subst (λ (g : GatheredValue). IsReopened o (g.stage + 1) g.stores g.receipts c.args.pumps fabric nodes pumps) c.g.view_is c.in-Ok.ensures.run)
+    let run : IsReopened o (g.stage + 1) g.stores g.receipts c.args.pumps fabric nodes pumps
+    = subst (λ (g : GatheredValue). IsReopened o (g.stage + 1) g.stores g.receipts c.args.pumps fabric nodes pumps) c.g.view_is c.in-Ok.ensures.run in
+    run_resumes o g c.args.pumps fabric nodes pumps c.recon.ensures.set_up.opening c.requires.placed c.requires.done c.trees-trees.ensures.fabric run
     (subst (λ (g : GatheredValue). (began : BeganWith) → HasBegun began fabric → CanBegin o began → AllOpenWith o began g.stores → AllHoldUnder o began nodes) c.g.view_is c.in-Ok.ensures.holds)
 
 pub returns-in-Ok-clause-pumps : goal.returns-in-Ok-clause-pumps

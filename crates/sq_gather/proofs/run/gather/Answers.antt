@@ -36,36 +36,47 @@ added nodes none before after adds same = subst (AddsNodes none nodes) (sym same
 
 pub add_nodes-requires-clause-ends : goal.add_nodes-requires-clause-ends
 add_nodes-requires-clause-ends g c =
-    each_addable c.args.fabric c.args.nodes.items c.args.pumps.items c.into_parts-stage.ensures.fabric c.requires c.add_receipts.new.self
-    (begins g (goal.at.add_nodes-requires-clause-ends g c).After-add_receipts (reserved g (goal.at.add_nodes-requires-clause-ends g c).In-Ok))
+    let path = goal.at.add_nodes-requires-clause-ends g c in
+    let begun = begins g path.After-add_receipts (reserved g path.In-Ok) in
+    each_addable c.args.fabric c.args.nodes.items c.args.pumps.items c.into_parts-stage.ensures.fabric c.requires c.add_receipts.new.self begun
 
 pub add_nodes-requires-clause-room : goal.add_nodes-requires-clause-room
 add_nodes-requires-clause-room g c =
-    room_for_nodes c.args.fabric c.args.nodes.items c.args.pumps.items c.into_parts-stage.ensures.fabric c.requires c.add_receipts.new.self
-    (begins g (goal.at.add_nodes-requires-clause-room g c).After-add_receipts (reserved g (goal.at.add_nodes-requires-clause-room g c).In-Ok))
+    let path = goal.at.add_nodes-requires-clause-room g c in
+    let begun = begins g path.After-add_receipts (reserved g path.In-Ok) in
+    room_for_nodes c.args.fabric c.args.nodes.items c.args.pumps.items c.into_parts-stage.ensures.fabric c.requires c.add_receipts.new.self begun
 
 pub add_pumps-requires : goal.add_pumps-requires
 add_pumps-requires g c =
-    room_for_pumps c.args.fabric c.args.nodes.items c.args.pumps.items c.into_parts-stage.ensures.fabric c.requires c.add_receipts.new.self
-    (begins g (goal.at.add_pumps-requires g c).After-add_receipts (reserved g (goal.at.add_pumps-requires g c).In-Ok)) c.add_jobs.new.self
-    (added c.args.nodes.items c.add_receipts.new.self c.add_nodes.new.self c.add_jobs.new.self c.add_nodes.ensures c.add_jobs.ensures)
+    let nodes = c.args.nodes.items in
+    let path = goal.at.add_pumps-requires g c in
+    let begun = begins g path.After-add_receipts (reserved g path.In-Ok) in
+    let adds : AddsNodes c.add_receipts.new.self nodes c.add_jobs.new.self = added nodes c.add_receipts.new.self c.add_nodes.new.self c.add_jobs.new.self c.add_nodes.ensures c.add_jobs.ensures in
+    room_for_pumps c.args.fabric nodes c.args.pumps.items c.into_parts-stage.ensures.fabric c.requires c.add_receipts.new.self begun c.add_jobs.new.self adds
 
 pub close-requires : goal.close-requires
 close-requires g c =
-    closable_with c.args.fabric c.args.nodes.items c.args.pumps.items c.into_parts-stage.ensures.fabric c.requires c.add_receipts.new.self
-    (begins g (goal.at.close-requires g c).After-add_receipts (reserved g (goal.at.close-requires g c).In-Ok)) c.add_jobs.new.self
-    (added c.args.nodes.items c.add_receipts.new.self c.add_nodes.new.self c.add_jobs.new.self c.add_nodes.ensures c.add_jobs.ensures) c.add_pumps.new.self c.add_pumps.ensures
-    _ _ _ c.into_parts-stage.ensures.trees c.into_parts-stage.ensures.seats c.into_parts-stage.ensures.links
+    let nodes = c.args.nodes.items in
+    let path = goal.at.close-requires g c in
+    let begun = begins g path.After-add_receipts (reserved g path.In-Ok) in
+    let adds : AddsNodes c.add_receipts.new.self nodes c.add_jobs.new.self = added nodes c.add_receipts.new.self c.add_nodes.new.self c.add_jobs.new.self c.add_nodes.ensures c.add_jobs.ensures in
+    let parts = c.into_parts-stage.ensures in
+    closable_with c.args.fabric nodes c.args.pumps.items parts.fabric c.requires c.add_receipts.new.self begun c.add_jobs.new.self adds c.add_pumps.new.self c.add_pumps.ensures
+    _ _ _ parts.trees parts.seats parts.links
 
 pub returns-clause-gathered : goal.returns-clause-gathered
 returns-clause-gathered g c =
-    is_gathered c.args.fabric c.args.nodes.items c.args.pumps.items c.into_parts-stage.ensures.fabric c.requires c.add_receipts.new.self
-    (begins g (goal.at.returns-clause-gathered g c).After-add_receipts (reserved g (goal.at.returns-clause-gathered g c).In-Ok)) c.add_jobs.new.self
-    (added c.args.nodes.items c.add_receipts.new.self c.add_nodes.new.self c.add_jobs.new.self c.add_nodes.ensures c.add_jobs.ensures)
-    c.add_pumps.new.self c.add_pumps.ensures c.close.result c.close.ensures.stores c.close.ensures.receipts c.close.ensures.left
-    (c.close.ensures.stage ∙ c.into_parts-stage.ensures.stage)
-    (subst (λ (links : List LinkValue). AreClosedLinks links c.add_pumps.new.self.ends c.close.result.links) c.into_parts-stage.ensures.links c.close.ensures.links)
-    (subst (λ (seats : List SeatValue). AreClosedTrees seats c.add_pumps.new.self.owners c.close.result.words) c.into_parts-stage.ensures.seats c.close.ensures.words)
+    let nodes = c.args.nodes.items in
+    let path = goal.at.returns-clause-gathered g c in
+    let begun = begins g path.After-add_receipts (reserved g path.In-Ok) in
+    let adds : AddsNodes c.add_receipts.new.self nodes c.add_jobs.new.self = added nodes c.add_receipts.new.self c.add_nodes.new.self c.add_jobs.new.self c.add_nodes.ensures c.add_jobs.ensures in
+    let parts = c.into_parts-stage.ensures in
+    let whole = c.add_pumps.new.self in
+    let closed = c.close.ensures in
+    let links : AreClosedLinks c.args.fabric.links whole.ends c.close.result.links = subst (λ (links : List LinkValue). AreClosedLinks links whole.ends c.close.result.links) parts.links closed.links in
+    let words : AreClosedTrees c.args.fabric.seats whole.owners c.close.result.words = subst (λ (seats : List SeatValue). AreClosedTrees seats whole.owners c.close.result.words) parts.seats closed.words in
+    is_gathered c.args.fabric nodes c.args.pumps.items parts.fabric c.requires c.add_receipts.new.self begun c.add_jobs.new.self adds whole c.add_pumps.ensures c.close.result
+    closed.stores closed.receipts closed.left (closed.stage ∙ parts.stage) links words
 
 pub returns-clause-placed : goal.returns-clause-placed
 returns-clause-placed g c =
