@@ -12,7 +12,7 @@ use Rattle.sq_model.proofs.Lists.{Contains-slice_get, slice_get-Contains, flat_m
 use Rattle.sq_model.proofs.Tiles.{tile}
 use Rattle.sq_model.proofs.Apart.{covers_extent}
 use Rattle.sq_node_model.specs.Gathered.{GatheredLink, GatheredValue}
-use Rattle.sq_node_model.specs.Spots.{word_in, cut_notes}
+use Rattle.sq_node_model.specs.Spots.{gathered_status, cut_notes}
 use Rattle.sq_node_model.specs.Placed.{IsLinkNote}
 use Rattle.sq_node_model.proofs.Keys.{one_segment}
 use Rattle.sq_node_model.proofs.Members.{Contains-reverse}
@@ -42,7 +42,7 @@ module _ (o : OpeningValue) (is : IsOpening o) (g : GatheredValue) (links : Link
       pub within : is_within (extent_of o note.seg note.node) root ≡ true
       within = covers_extent o (reverse n.link.notes) note root (tile o (reverse n.link.notes) (links n.place n.link n.there).tiles note (Contains-reverse n.link.notes note n.among)) covered
 
-  module _ (grown : (seg : ℕ) → IsGrown (word_in g seg)) where
+  module _ (grown : (seg : ℕ) → IsGrown (gathered_status g seg)) where
     -- two notes that cover a root key are about one node
     same_nodes : (one other : Note) (root : ℕ) → IsNoteOf g one → IsNoteOf g other → covers one root ≡ true → covers other root ≡ true → (one.seg ≡ other.seg) × (one.node ≡ other.node)
     same_nodes one other root n m covered covered' =
@@ -50,10 +50,10 @@ module _ (o : OpeningValue) (is : IsOpening o) (g : GatheredValue) (links : Link
         let there = within other m root covered' in
         let seg = one_segment o is root one.seg one.node other.seg other.node here there in (
           seg,
-          begun_apart o is (word_in g one.seg) (grown one.seg) root one.seg one.node other.node (about one n).node (about other m).node here
+          begun_apart o is (gathered_status g one.seg) (grown one.seg) root one.seg one.node other.node (about one n).node (about other m).node here
               (subst (λ k. is_within (extent_of o k other.node) root ≡ true) (sym seg) there)
               (about one n).begun
-              (subst (λ k. is_begun (word_in g k other.node) ≡ true) (sym seg) (about other m).begun),
+              (subst (λ k. is_begun (gathered_status g k other.node) ≡ true) (sym seg) (about other m).begun),
         )
 
     -- notes of two nodes share no key

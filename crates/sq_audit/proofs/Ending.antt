@@ -18,7 +18,7 @@ use Rattle.sq_model.specs.Links.{is_about, has_last}
 use Rattle.sq_node_model.specs.Gathered.{GatheredValue}
 use Rattle.sq_node_model.specs.Spots.{loads_of}
 use Rattle.sq_audit.specs.Counts.{key_order}
-use Rattle.sq_audit.specs.Words.{CompleteAreLoaded, AreEnded}
+use Rattle.sq_audit.specs.Statuses.{CompleteAreLoaded, AreEnded}
 use Rattle.sq_audit.proofs.Growing.{nothing_at}
 
 skipped : (was before about last : Bool) → last ≡ false → (was || before) ≡ (was || (before || ((about && last) || false)))
@@ -59,12 +59,12 @@ module _ (notes : List Note) (i : ℕ) (note : Note) (at : slice_get notes i ≡
         ∙ ap (λ b. was || b) (sym last_more)
 
 module _ (g : GatheredValue) (ended : BTreeSet (ℕ × ℕ)) (is : (seg node : ℕ) → contains key_order ended (seg, node) ≡ has_last seg node (flat_map loads_of g.links)) where
-  pub all_complete : (upto : ℕ) → length g.words ≤ upto → ((i : ℕ) → i < upto → AreEnded ended i (status_at (slice_index_or g.words i []))) → CompleteAreLoaded g
+  pub all_complete : (upto : ℕ) → length g.statuses ≤ upto → ((i : ℕ) → i < upto → AreEnded ended i (status_at (slice_index_or g.statuses i []))) → CompleteAreLoaded g
   all_complete upto whole each seg n complete =
       ⊎_elim
       (λ low. sym (is seg n) ∙ each seg low n complete)
-      (λ past. absurd (true≢false (sym complete ∙ ap (λ (sts : List Status). is_complete (status_at sts n)) (get_or_past g.words seg [] (omega (arith, whole, past))) ∙ ap is_complete (nothing_at n))))
+      (λ past. absurd (true≢false (sym complete ∙ ap (λ (sts : List Status). is_complete (status_at sts n)) (get_or_past g.statuses seg [] (omega (arith, whole, past))) ∙ ap is_complete (nothing_at n))))
       (cases_lt seg upto)
 
-  pub ended_from : CompleteAreLoaded g → (seg : ℕ) → AreEnded ended seg (status_at (slice_index_or g.words seg []))
+  pub ended_from : CompleteAreLoaded g → (seg : ℕ) → AreEnded ended seg (status_at (slice_index_or g.statuses seg []))
   ended_from complete seg n here = is seg n ∙ complete seg n here

@@ -10,18 +10,17 @@ use Rattle.sq_model.specs.Orderly.{AreDisjoint}
 use Rattle.sq_node_model.specs.FamiliesHold.{IsOf}
 use Rattle.sq_node_model.specs.declared.spot.Spot.{Spot}
 use Rattle.sq_node_model.specs.Gathered.{GatheredValue}
-use Rattle.sq_node_model.specs.Spots.{cut_notes, StandsAt}
+use Rattle.sq_node_model.specs.Spots.{AllGrown, cut_notes, StandsAt}
 use Rattle.sq_node_model.specs.Placed.{HasEachPart, FitTogether}
-use Rattle.sq_gather.specs.Grown.{AreGrown}
 use Rattle.sq_audit.specs.Notes.{LinksPlaced}
-use Rattle.sq_audit.specs.Words.{CompleteAreLoaded}
+use Rattle.sq_audit.specs.Statuses.{CompleteAreLoaded}
 use Rattle.sq_audit.specs.Fits.{ArePlaced}
 use Rattle.sq_audit.proofs.Apart.{apart}
 
 -- what is known before it is looked at where the families are
 pub record FitsSoFar (o : OpeningValue) (g : GatheredValue) : Type 0 where
   pub parts : HasEachPart o g
-  pub grown : AreGrown g.words
+  pub grown : AllGrown g.statuses
   pub links : LinksPlaced o g
   pub complete : CompleteAreLoaded g
 

@@ -10,8 +10,8 @@ use Rattle.sq_tree.specs.Node.{is_leaf}
 use Rattle.sq_tree.specs.Status.{is_free, is_split, is_live}
 use Rattle.sq_tree.specs.Tree.{status_at, IsGrown}
 use Rattle.sq_tree.proofs.Grown.{grown-free}
-use Rattle.sq_gather.specs.Grown.{AreGrown}
-use Rattle.sq_audit.specs.Words.{IsGrownAt}
+use Rattle.sq_node_model.specs.Spots.{AllGrown}
+use Rattle.sq_audit.specs.Statuses.{IsGrownAt}
 
 -- what stands at a place of a list of all nodes
 pub numbered_at : (nodes : List ℕ) (k other : ℕ) → length nodes ≡ 63 → ((i : ℕ) → i < 63 → slice_index nodes i ≡ i + 1) → k < 63 → get_or nodes k other ≡ k + 1
@@ -41,9 +41,9 @@ pub nothing_at : (n : ℕ) → status_at [] n ≡ Free
 nothing_at zero = refl
 nothing_at (suc n) = get_or_past [] n Free (omega arith)
 
-pub all_grown : (words : List (List Status)) (upto : ℕ) → length words ≤ upto → ((i : ℕ) → i < upto → IsGrown (status_at (slice_index_or words i []))) → AreGrown words
-all_grown words upto whole each seg =
+pub all_grown : (statuses : List (List Status)) (upto : ℕ) → length statuses ≤ upto → ((i : ℕ) → i < upto → IsGrown (status_at (slice_index_or statuses i []))) → AllGrown statuses
+all_grown statuses upto whole each seg =
     ⊎_elim
     (λ low. each seg low)
-    (λ past. subst (λ (sts : List Status). IsGrown (status_at sts)) (sym (get_or_past words seg [] (omega (arith, whole, past)))) (grown-free (status_at []) nothing_at))
+    (λ past. subst (λ (sts : List Status). IsGrown (status_at sts)) (sym (get_or_past statuses seg [] (omega (arith, whole, past)))) (grown-free (status_at []) nothing_at))
     (cases_lt seg upto)

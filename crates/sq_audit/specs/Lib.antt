@@ -7,7 +7,7 @@ pub mod Index
 pub mod Told
 pub mod Fits
 pub mod Notes
-pub mod Words
+pub mod Statuses
 pub mod Spans
 pub mod Rows
 pub mod Folding

@@ -8,7 +8,7 @@ ghost use Rattle.sq_audit.specs.Fits.{is_of_link, AreKnownLinks, HasOne, HaveOne
 use crate::located::Located;
 use crate::notes::links_fit;
 use crate::placed::are_placed;
-use crate::words::{are_complete, have_grown};
+use crate::statuses::{are_complete, have_grown};
 use sq_gather::{ClosedLink, Gathered};
 use sq_ranges::{Link, Opening, Recon};
 use std::alloc::{AllocError, Global};
@@ -28,7 +28,7 @@ pub(crate) fn fit(
     if !has_parts(opening, g) {
         return Ok(false);
     }
-    if !have_grown(&g.words) {
+    if !have_grown(&g.statuses) {
         return Ok(false);
     }
     if !links_fit(alloc, opening, g)? {
@@ -48,7 +48,7 @@ fn has_parts(opening: &Opening, g: &Gathered) -> bool
     if g.stores.len() != usize::from(opening.old_plan().parts()) {
         return false;
     }
-    if g.words.len() != recon.segments().len() {
+    if g.statuses.len() != recon.segments().len() {
         return false;
     }
     if !are_known_links(recon, g.stage, recon.links(), &g.links) {

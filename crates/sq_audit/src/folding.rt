@@ -108,7 +108,7 @@ fn with_logs_folded(alloc: Global, gathered: Gathered) -> Gathered
         stage,
         mut stores,
         links,
-        words,
+        statuses,
         left,
         ..
     } = gathered;
@@ -117,7 +117,7 @@ fn with_logs_folded(alloc: Global, gathered: Gathered) -> Gathered
         stage,
         stores,
         links,
-        words,
+        statuses,
         receipts: Vec::new(alloc),
         left,
     }

@@ -15,12 +15,12 @@ mod notes;
 mod passes;
 mod placed;
 mod spans;
+mod statuses;
 mod stored;
 mod table;
 mod tiles;
 mod told;
 mod verdict;
-mod words;
 
 pub use folded::{Folded, Unchanged, Unfolded};
 pub use folding::fold;

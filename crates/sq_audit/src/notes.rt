@@ -108,7 +108,7 @@ fn is_link_note(opening: &Opening, g: &Gathered, link: &ClosedLink, note: &Note)
     if opening.recon().stage_on(link.src, link.dst) != g.stage {
         return false;
     }
-    is_begun(status_of(&g.words, note.seg, note.node))
+    is_begun(status_of(&g.statuses, note.seg, note.node))
 }
 
 // Whether there is a segment, and it goes from the one partition to the other.
@@ -122,12 +122,12 @@ fn goes(segment: Option<&Range>, src: PartId, dst: PartId) -> bool
 }
 
 // The status of a node of a segment's tree; that of a free one where there is no such segment.
-fn status_of(words: &[[Status; NODES]], seg: SegId, node: NodeId) -> Status
-    ensures status { result ≡ status_at (slice_index_or words.now seg []) node }
+fn status_of(statuses: &[[Status; NODES]], seg: SegId, node: NodeId) -> Status
+    ensures status { result ≡ status_at (slice_index_or statuses.now seg []) node }
     ensures node { IsTrue (is_node node) }
 {
     let place = node.index();
-    match words.get(seg.index()) {
+    match statuses.get(seg.index()) {
         Some(statuses) => statuses[place],
         None => Status::Free,
     }

@@ -4,10 +4,7 @@ ghost use Rattle.sq_ranges.specs.Prelude.{OpeningValue, IsOpening};
 ghost use Rattle.sq_pull.specs.Pump.{PumpValue};
 ghost use Rattle.sq_store.specs.Prelude.{StoreValue};
 ghost use Rattle.sq_node_model.specs.Prelude.{ReceiptValue, BeganWith, first_began};
-ghost use Rattle.sq_node.specs.FabricValue.{FabricValue};
-ghost use Rattle.sq_node.specs.NodeState.{NodeState, IsNodeOf};
-ghost use Rattle.sq_node.specs.Holds.{HoldsUnder};
-ghost use Rattle.sq_node.specs.Opened.{IsOpened, IsReopened};
+ghost use Rattle.sq_node.specs.Prelude.{FabricValue, NodeState, IsNodeOf, HoldsUnder, IsOpened, IsReopened};
 ghost use Rattle.sq_driver.specs.Nodes.{AllDriven};
 ghost use Rattle.sq_driver.specs.Pumps.{HasAllSeats, AllPumpsDriven};
 

@@ -1,5 +1,5 @@
 // Nodes that are driven.
-ghost use Rattle.sq_node.specs.NodeState.{IsNodeOf};
+ghost use Rattle.sq_node.specs.Prelude.{IsNodeOf};
 ghost use Rattle.sq_driver.specs.Nodes.{MakesStep, Driven};
 
 use crate::gate::{Gate, NodeStep};
@@ -21,7 +21,7 @@ const TURN: [NodeStep; 8] = [
 ];
 
 impl Worker for Node {
-    ghost use Rattle.sq_node.specs.NodeState.{IsNodeOf};
+    ghost use Rattle.sq_node.specs.Prelude.{IsNodeOf};
     ghost use Rattle.sq_driver.specs.Nodes.{Driven};
     ghost use Rattle.sq_driver.specs.Laws.{node_no_turn, node_stays, node_further};
 

@@ -1,5 +1,5 @@
 // Workers, and how they are driven.
-ghost use Rattle.sq_node.specs.FabricValue.{FabricValue};
+ghost use Rattle.sq_node.specs.Prelude.{FabricValue};
 
 use crate::gate::Gate;
 use sq_node::Fabric;

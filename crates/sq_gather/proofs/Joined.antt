@@ -50,8 +50,8 @@ joined_whole first owners joined is await seg seat there =
       await seg was.0 was.1,
     )
 
-pub all_closed : (first : List SeatValue) (owners : List (List SeatValue)) (joined : List SeatValue) (words : List (List Status)) → AreJoined first owners joined → AreTreesOf joined words → AreClosed first owners words
-all_closed first owners joined words is trees =
+pub all_closed : (first : List SeatValue) (owners : List (List SeatValue)) (joined : List SeatValue) (statuses : List (List Status)) → AreJoined first owners joined → AreTreesOf joined statuses → AreClosed first owners statuses
+all_closed first owners joined statuses is trees =
     record {
       count = trees.count ∙ is.count;
       each = λ seg seat there. trees.each seg (record { tree = seat.tree; view = view_with seat.view owners seg }) (is.each seg seat there);

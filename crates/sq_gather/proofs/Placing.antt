@@ -44,14 +44,14 @@ from_nodes part nodes pumps seg none =
     ∙ append-nil (flat_map (λ (node : NodeState). part (views_of node.seats seg)) nodes)
 
 module _ (fabric : FabricValue) (nodes : List NodeState) (pumps : List PumpValue) (is : IsFabric fabric) (all : AreAllOf fabric nodes pumps) (g : GatheredValue) (gathered : IsGathered fabric nodes pumps g) where
-  closed_tree : (seg : ℕ) → seg < length fabric.seats → IsClosedTree (map node_value nodes) g.words seg
+  closed_tree : (seg : ℕ) → seg < length fabric.seats → IsClosedTree (map node_value nodes) g.statuses seg
   closed_tree seg low =
       let seat : (s : SeatValue) × (slice_get fabric.seats seg ≡ Some s) = stands_at fabric.seats seg low in
       let views = map (λ (seats : List SeatValue). views_of seats seg) (owners_of nodes pumps) in
       let first = all.seats.each seg seat.0 seat.1 in
       record {
         view = view_with seat.0.view (owners_of nodes pumps) seg;
-        tree = gathered.words.each seg seat.0 seat.1;
+        tree = gathered.statuses.each seg seat.0 seat.1;
         begun = begun_grows seat.0.view views ∙ ap (λ (view : View). view.begun ++ flat_map (λ (v : View). v.begun) views) first
             ∙ from_nodes (λ (v : View). v.begun) nodes pumps seg (λ i pump there. (all.each_pump i pump there).begun seg)
             ∙ sym (flat_map-map (λ (node : NodeValue). node.begun seg) node_value nodes);
@@ -88,7 +88,7 @@ module _ (fabric : FabricValue) (nodes : List NodeState) (pumps : List PumpValue
           ∙ ap (λ (past : List ReceiptValue). past ++ flat_map (λ (node : NodeValue). node.receipts) (map node_value nodes)) (sym begun.receipts);
       each_link = each_of_links;
       links = gathered.links;
-      all_words = gathered.words.count ∙ as_many_seats ∙ ap (λ (recon : ReconValue). length recon.segments) of.recon;
+      all_statuses = gathered.statuses.count ∙ as_many_seats ∙ ap (λ (recon : ReconValue). length recon.segments) of.recon;
       trees = λ seg low. closed_tree seg (omega (arith, low, as_many_seats, ap (λ (recon : ReconValue). length recon.segments) of.recon));
     }
 

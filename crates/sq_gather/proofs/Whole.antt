@@ -202,7 +202,7 @@ module _ (fabric : FabricValue) (nodes : List NodeState) (pumps : List PumpValue
                 ∙ (λ k. option_to_list ((ap (λ (e : LinkEndsValue). e.inbox) (sym has.destination.is) ∙ ap (inbox_at has.to.core) (sym closes.src)) k) ++ (closes.queue ++ option_to_list ((ap (λ (e : LinkEndsValue). e.outbox) (sym has.source.is) ∙ ap (λ (dst : ℕ). (out_at has.from.core dst).outbox) (sym closes.dst)) k)));
           }
 
-      module _ (g : GatheredValue) (stores : g.stores ≡ whole.stores) (receipts : g.receipts ≡ whole.receipts) (left : length g.left ≡ whole.left) (stage : g.stage ≡ fabric.stage) (links : AreClosedLinks fabric.links whole.ends g.links) (words : AreClosedTrees fabric.seats whole.owners g.words) where
+      module _ (g : GatheredValue) (stores : g.stores ≡ whole.stores) (receipts : g.receipts ≡ whole.receipts) (left : length g.left ≡ whole.left) (stage : g.stage ≡ fabric.stage) (links : AreClosedLinks fabric.links whole.ends g.links) (statuses : AreClosedTrees fabric.seats whole.owners g.statuses) where
         pub is_gathered : IsGathered fabric nodes pumps g
         is_gathered = record {
           stage = stage;
@@ -218,6 +218,6 @@ module _ (fabric : FabricValue) (nodes : List NodeState) (pumps : List PumpValue
               let link : (l : LinkValue) × (slice_get fabric.links i ≡ Some l) = stands_at fabric.links i (omega (arith, links.count)) in
               let left : (e : LinkEndsValue) × (slice_get whole.ends i ≡ Some e) = stands_at whole.ends i (omega (arith, links.count, filled.count)) in
               closed_link i link.0 left.0 closed (has_nodes i link.0 left.0 link.1 left.1) (links.each i link.0 left.0 closed link.1 left.1 closed_there);
-          words = subst (λ (owners : List (List SeatValue)). AreClosedTrees fabric.seats owners g.words) owners_are words;
+          statuses = subst (λ (owners : List (List SeatValue)). AreClosedTrees fabric.seats owners g.statuses) owners_are statuses;
           left = left ∙ ap (λ (g : GatheringValue). g.left) pumped ∙ has.left ∙ reserved.left;
         }

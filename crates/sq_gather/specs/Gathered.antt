@@ -47,7 +47,7 @@ pub record IsGathered (fabric : FabricValue) (nodes : List NodeState) (pumps : L
   pub receipts : g.receipts ≡ fabric.receipts ++ flat_map (λ node. node.receipts) nodes
   pub ends : map closed_ends g.links ≡ map ends_of fabric.links
   pub links : (i : ℕ) (link : GatheredLink) → slice_get g.links i ≡ Some link → IsClosedLink (map node_value nodes) link
-  pub words : AreClosed fabric.seats (owners_of nodes pumps) g.words
+  pub statuses : AreClosed fabric.seats (owners_of nodes pumps) g.statuses
   pub left : length g.left ≡ fabric.parts
 
 -- of each node all holds that a node keeps

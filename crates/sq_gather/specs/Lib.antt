@@ -1,7 +1,6 @@
 pub mod Ends
 pub mod Gathered
 pub mod GatheringValue
-pub mod Grown
 pub mod LinkEnds
 pub mod Links
 pub mod Reopened

@@ -31,11 +31,11 @@ abbrev pub AreWhole : List SeatValue → Type 0
 AreWhole seats = AwaitOwners 0 seats
 
 -- for each seat there are the statuses of a tree that this seat alone is left of
-pub record AreTreesOf (seats : List SeatValue) (words : List (List Status)) : Type 0 where
-  pub count : length words ≡ length seats
-  pub each : (seg : ℕ) (seat : SeatValue) → slice_get seats seg ≡ Some seat → IsTreeOf (slice_index_or words seg []) (seat.view ∷ [])
+pub record AreTreesOf (seats : List SeatValue) (statuses : List (List Status)) : Type 0 where
+  pub count : length statuses ≡ length seats
+  pub each : (seg : ℕ) (seat : SeatValue) → slice_get seats seg ≡ Some seat → IsTreeOf (slice_index_or statuses seg []) (seat.view ∷ [])
 
 -- for each first seat there are the statuses of a tree that this seat alone is left of, with all that the owners' seats did
-pub record AreClosed (first : List SeatValue) (owners : List (List SeatValue)) (words : List (List Status)) : Type 0 where
-  pub count : length words ≡ length first
-  pub each : (seg : ℕ) (seat : SeatValue) → slice_get first seg ≡ Some seat → IsTreeOf (slice_index_or words seg []) (view_with seat.view owners seg ∷ [])
+pub record AreClosed (first : List SeatValue) (owners : List (List SeatValue)) (statuses : List (List Status)) : Type 0 where
+  pub count : length statuses ≡ length first
+  pub each : (seg : ℕ) (seat : SeatValue) → slice_get first seg ≡ Some seat → IsTreeOf (slice_index_or statuses seg []) (view_with seat.view owners seg ∷ [])

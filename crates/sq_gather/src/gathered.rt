@@ -16,7 +16,7 @@ pub struct Gathered {
     /// The links, by source and then by destination.
     pub links: Vec<ClosedLink>,
     /// For each segment the statuses of its tree's nodes, that of node 1 first.
-    pub words: Vec<[Status; NODES]>,
+    pub statuses: Vec<[Status; NODES]>,
     /// The receipts, partition by partition, each partition's in the order in which they were written.
     pub receipts: Vec<Receipt>,
     /// For each partition the jobs that weren't answered: those that waited there, those that were pending for it, and those
@@ -27,12 +27,12 @@ pub struct Gathered {
 impl Model for Gathered {
     ghost use Rattle.std.specs.Prelude.{map};
     ghost use Rattle.std.specs.Coded.{codes};
-    ghost use Rattle.sq_store.proofs.Codes.{store_coded};
-    ghost use Rattle.sq_node_model.specs.Gathered.{GatheredValue};
+    ghost use Rattle.sq_store.specs.Prelude.{store_coded};
+    ghost use Rattle.sq_node_model.specs.Prelude.{GatheredValue};
 
     ghost Value = { GatheredValue };
 
     ghost coded = { Prim.hlevel (codes, store_coded) };
 
-    ghost view = { λ g. record { stage = g.stage; stores = g.stores.items; links = g.links.items; words = g.words.items; receipts = g.receipts.items; left = map (λ jobs. jobs.items) g.left.items } };
+    ghost view = { λ g. record { stage = g.stage; stores = g.stores.items; links = g.links.items; statuses = g.statuses.items; receipts = g.receipts.items; left = map (λ jobs. jobs.items) g.left.items } };
 }

@@ -1,6 +1,6 @@
 // What is gathered of a run, node by node.
 ghost use Rattle.std.specs.Prelude.{◌≡◌, ℕ, ◌+◌, ◌<◌, ◌≤◌, ◌∷◌, [], ◌++◌, length, map, sum_by, slice_get, Some, IfOk, IfSome};
-ghost use Rattle.sq_node.specs.NodeState.{NodeState};
+ghost use Rattle.sq_node.specs.Prelude.{NodeState};
 ghost use Rattle.sq_gather.specs.Links.{AreClosed as AreClosedLinks};
 ghost use Rattle.sq_gather.specs.Trees.{AreClosed as AreClosedTrees};
 ghost use Rattle.sq_gather.specs.GatheringValue.{IsAddable, HasRoomFor, AreReserved, IsReserved, AddsReceipts, AddsNode, AddsNodes, IsClosable};
@@ -32,14 +32,14 @@ pub(crate) struct Gathering {
     owners: Vec<Vec<TreeSeat>>,
     ends: Vec<LinkEnds>,
     links: Vec<ClosedLink>,
-    words: Vec<[Status; NODES]>,
+    statuses: Vec<[Status; NODES]>,
     left: Vec<Vec<Txn>>,
 }
 
 impl Model for Gathering {
     ghost use Rattle.std.specs.Prelude.{◌≡◌, map, length, vec_len, vec_capacity};
     ghost use Rattle.std.specs.Coded.{codes};
-    ghost use Rattle.sq_store.proofs.Codes.{store_coded};
+    ghost use Rattle.sq_store.specs.Prelude.{store_coded};
     ghost use Rattle.sq_gather.specs.GatheringValue.{GatheringValue};
 
     ghost Value = { GatheringValue };
@@ -57,7 +57,7 @@ impl Model for Gathering {
         receipts = vec_capacity g.receipts;
         owners = vec_capacity g.owners;
         links = vec_capacity g.links;
-        trees = length g.words.items;
+        trees = length g.statuses.items;
       };
     } };
 
@@ -84,7 +84,7 @@ impl Gathering {
             owners: Vec::with_capacity(alloc, owners)?,
             ends: reserve_ends(alloc, fabric.links())?,
             links: Vec::with_capacity(alloc, fabric.links().len())?,
-            words: vec![in alloc; [Status::Free; NODES]; trees]?,
+            statuses: vec![in alloc; [Status::Free; NODES]; trees]?,
             left: reserve_left(alloc, fabric.parts(), nodes)?,
         })
     }
@@ -185,7 +185,7 @@ impl Gathering {
         ensures stores { result.stores ≡ self.stores }
         ensures receipts { result.receipts ≡ self.receipts }
         ensures links { AreClosedLinks links.items self.ends result.links }
-        ensures words { AreClosedTrees first.items self.owners result.words }
+        ensures statuses { AreClosedTrees first.items self.owners result.statuses }
         ensures left { length result.left ≡ self.left }
     {
         Gathered {
@@ -193,7 +193,7 @@ impl Gathering {
             stores: self.stores,
             receipts: self.receipts,
             links: close_links(rt, links, self.ends, self.links),
-            words: close_trees(trees, first, self.owners, self.words),
+            statuses: close_trees(trees, first, self.owners, self.statuses),
             left: self.left,
         }
     }

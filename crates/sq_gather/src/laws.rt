@@ -1,13 +1,10 @@
 // Runs, and what can be gathered.
 ghost use Rattle.std.specs.Prelude.{ℕ, List};
-ghost use Rattle.sq_ranges.specs.OpeningValue.{OpeningValue};
-ghost use Rattle.sq_ranges.specs.Opening.{IsOpening};
+ghost use Rattle.sq_ranges.specs.Prelude.{OpeningValue, IsOpening};
 ghost use Rattle.sq_pull.specs.Seats.{AreSeatsOf, OnlyClaimed};
 ghost use Rattle.sq_pull.specs.Pump.{PumpValue};
-ghost use Rattle.sq_node_model.specs.BeganWith.{BeganWith, first_began, CanBegin};
-ghost use Rattle.sq_node.specs.FabricValue.{FabricValue, HasBegun, IsFabric};
-ghost use Rattle.sq_node.specs.NodeState.{NodeState};
-ghost use Rattle.sq_node.specs.Opened.{IsFabricOf, IsOpened};
+ghost use Rattle.sq_node_model.specs.Prelude.{BeganWith, first_began, CanBegin};
+ghost use Rattle.sq_node.specs.Prelude.{FabricValue, HasBegun, IsFabric, NodeState, IsFabricOf, IsOpened};
 ghost use Rattle.sq_gather.specs.Gathered.{AreAllOf, AllHold, IsPumpOf};
 ghost use Rattle.sq_gather.specs.Reopened.{IsRunInStage, AllStay, AllPumpsStay};
 

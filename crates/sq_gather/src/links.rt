@@ -23,7 +23,7 @@ pub struct ClosedLink {
 }
 
 impl Model for ClosedLink {
-    ghost use Rattle.sq_node_model.specs.Gathered.{GatheredLink};
+    ghost use Rattle.sq_node_model.specs.Prelude.{GatheredLink};
 
     ghost Value = { GatheredLink };
 

@@ -1,9 +1,8 @@
 // The stage after the one that was gathered.
 ghost use Rattle.std.specs.Prelude.{◌≡◌, ◌+◌, ◌<◌, ◌≤◌, length, IfOk, IfErr};
-ghost use Rattle.sq_ranges.specs.ReconValue.{stages};
+ghost use Rattle.sq_ranges.specs.Prelude.{stages};
 ghost use Rattle.sq_pull.specs.declared.numbers.TheConstants.{MAX_PUMPS};
-ghost use Rattle.sq_node_model.specs.Placed.{IsPlaced};
-ghost use Rattle.sq_node_model.specs.Next.{IsStageDone, next_began};
+ghost use Rattle.sq_node_model.specs.Prelude.{IsPlaced, IsStageDone, next_began};
 ghost use Rattle.sq_gather.specs.Reopened.{IsRunInStage};
 
 use crate::gathered::Gathered;
@@ -37,7 +36,7 @@ pub fn reopen(
         stage,
         stores,
         links,
-        words,
+        statuses,
         receipts,
         left,
     } = g;
@@ -57,7 +56,7 @@ pub fn reopen(
             stage,
             stores,
             links,
-            words,
+            statuses,
             receipts,
             left,
         }),

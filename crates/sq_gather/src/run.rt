@@ -1,11 +1,8 @@
 // Gathering a run.
 ghost use Rattle.std.specs.Prelude.{IfOk, IfErr, ◌≡◌};
-ghost use Rattle.sq_ranges.specs.OpeningValue.{OpeningValue};
-ghost use Rattle.sq_ranges.specs.Opening.{IsOpening};
-ghost use Rattle.sq_node_model.specs.Placed.{IsPlaced, GoOn};
-ghost use Rattle.sq_node_model.specs.BeganWith.{BeganWith, CanBegin};
-ghost use Rattle.sq_node.specs.FabricValue.{HasBegun};
-ghost use Rattle.sq_node.specs.Opened.{IsFabricOf};
+ghost use Rattle.sq_ranges.specs.Prelude.{OpeningValue, IsOpening};
+ghost use Rattle.sq_node_model.specs.Prelude.{IsPlaced, GoOn, BeganWith, CanBegin};
+ghost use Rattle.sq_node.specs.Prelude.{HasBegun, IsFabricOf};
 ghost use Rattle.sq_gather.specs.Gathered.{AreAllOf, IsGathered, AllHold};
 
 use crate::gathered::Gathered;

@@ -1,11 +1,8 @@
 // Whether the segments of the stage that was gathered are complete.
 ghost use Rattle.std.specs.Prelude.{◌≡◌, ◌≤◌, ◌*◌, ◌^◌, ℕ};
 ghost use Rattle.std.specs.Bool.{Decides};
-ghost use Rattle.sq_tree.specs.Status.{reading_within};
-ghost use Rattle.sq_tree.specs.Reading.{is_complete_reading};
-ghost use Rattle.sq_tree.specs.Tree.{status_at, IsGrown};
-ghost use Rattle.sq_node_model.specs.Next.{is_whole_in, IsStageDone};
-ghost use Rattle.sq_gather.specs.Grown.{AreGrown};
+ghost use Rattle.sq_tree.specs.Prelude.{reading_within, is_complete_reading, status_at, IsGrown};
+ghost use Rattle.sq_node_model.specs.Prelude.{is_whole_in, IsStageDone, AllGrown};
 
 use crate::gathered::Gathered;
 use sq_ranges::{Opening, SegId};
@@ -14,7 +11,7 @@ use sq_tree::{NODES, NodeId, Status};
 impl Gathered {
     /// Whether each segment of the stage that was gathered is complete.
     pub fn is_stage_done(&self, opening: &Opening) -> bool
-        requires { AreGrown self.now.words }
+        requires { AllGrown self.now.statuses }
         ensures { Decides result (IsStageDone opening.now self.now) }
     {
         let recon = opening.recon();
@@ -31,10 +28,10 @@ impl Gathered {
 
     // Whether a segment is complete. One without statuses isn't.
     fn is_whole(&self, seg: SegId) -> bool
-        requires { AreGrown self.now.words }
+        requires { AllGrown self.now.statuses }
         ensures { result ≡ is_whole_in self.now seg }
     {
-        match self.words.get(seg.index()) {
+        match self.statuses.get(seg.index()) {
             Some(statuses) => reads_complete(statuses, NodeId::WHOLE),
             None => false,
         }

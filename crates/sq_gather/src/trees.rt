@@ -1,7 +1,7 @@
 // Closing the trees.
 ghost use Rattle.std.specs.Prelude.{◌≡◌, [], ◌∷◌, length, map};
 ghost use Rattle.sq_pull.specs.Seats.{AreSeatsOf};
-ghost use Rattle.sq_node.specs.FabricValue.{AreFirst};
+ghost use Rattle.sq_node.specs.Prelude.{AreFirst};
 ghost use Rattle.sq_gather.specs.Trees.{AllAreSeatsOf, AwaitOwners, AreJoined, AreWhole, AreTreesOf, AreClosed};
 
 use sq_status::{StatusTree, TreeSeat};

@@ -7,10 +7,10 @@ use Rattle.std.proofs.lemmas.List.FromFn.{length-range_with_len, get_or-range_wi
 use Rattle.std.proofs.lemmas.List.Folds.{Any-from_list_any, list_any_at}
 use Rattle.std.proofs.lemmas.List.Sums.{AllPass-from_list_all, list_all-from_AllPass}
 use Rattle.sq_ranges.specs.declared.recon.Range.{Range}
-use Rattle.sq_ranges.specs.ReconValue.{ReconValue, stage_in}
+use Rattle.sq_ranges.specs.ReconValue.{ReconValue, stage_in, moves_into}
 use Rattle.sq_leader.specs.LeaderValue.{StageValue}
 use Rattle.sq_leader.specs.Marks.{is_marked}
-use Rattle.sq_leader.specs.Segments.{moves_into, have_reported, owes_no_report}
+use Rattle.sq_leader.specs.Segments.{have_reported, owes_no_report}
 use Rattle.sq_leader.proofs.Wholes.{all_pass, is_into-at}
 
 abbrev no_range : Range

@@ -8,8 +8,8 @@ use Rattle.std.proofs.lemmas.List.Folds.{list_all_at}
 use Rattle.std.proofs.lemmas.List.Sums.{AllPass-from_list_all}
 use Rattle.std.proofs.lemmas.Option.{slice_get-get_or, slice_get_past}
 use Rattle.sq_ranges.specs.declared.recon.Range.{Range}
-use Rattle.sq_ranges.specs.ReconValue.{ReconValue, stage_in, of_stage, goes_into}
-use Rattle.sq_leader.specs.Segments.{moves_into, is_told_whole, all_told_whole}
+use Rattle.sq_ranges.specs.ReconValue.{ReconValue, stage_in, of_stage, goes_into, moves_into}
+use Rattle.sq_leader.specs.Segments.{is_told_whole, all_told_whole}
 
 -- each number passes
 pub all_pass : (p : ℕ → Bool) (a n : ℕ) → ((k : ℕ) → a ≤ k → k < a + n → p k ≡ true) → list_all p (range_with_len a n) ≡ true

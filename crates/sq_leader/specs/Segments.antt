@@ -1,14 +1,10 @@
 -- The segments that move into a partition in a stage, and what is wanted of them.
-use Rattle.std.specs.Prelude.{ℕ, Bool, false, ◌==◌, ◌||◌, not, List, length, slice_get, slice_index_or}
+use Rattle.std.specs.Prelude.{ℕ, Bool, false, ◌==◌, ◌||◌, not, List, length, slice_index_or}
 use Rattle.std.specs.List.{list_any, list_all, range_with_len}
 use Rattle.sq_ranges.specs.declared.recon.Range.{Range}
-use Rattle.sq_ranges.specs.ReconValue.{ReconValue, stage_in, of_stage, goes_into}
+use Rattle.sq_ranges.specs.ReconValue.{ReconValue, stage_in, moves_into}
 use Rattle.sq_leader.specs.LeaderValue.{StageValue}
 use Rattle.sq_leader.specs.Marks.{is_marked}
-
--- the segment of this number moves into the partition in this stage
-abbrev pub moves_into : ReconValue → ℕ → ℕ → ℕ → Bool
-moves_into recon stage part seg = goes_into (of_stage recon stage (slice_get recon.segments seg)) part
 
 -- the segment of this number is whole; one of which nothing is said isn't
 abbrev pub is_told_whole : List Bool → ℕ → Bool

@@ -1,6 +1,7 @@
 // Reports of partitions.
 ghost use Rattle.std.specs.Prelude.{◌≡◌, ℕ, IsTrue, OnOk};
-ghost use Rattle.sq_leader.specs.Segments.{all_told_whole, moves_into, is_told_whole};
+ghost use Rattle.sq_ranges.specs.Prelude.{moves_into};
+ghost use Rattle.sq_leader.specs.Segments.{all_told_whole, is_told_whole};
 ghost use Rattle.sq_leader.specs.Leader.{made_answer};
 
 use crate::fault::ReportFault;

@@ -7,13 +7,12 @@ use Rattle.std.proofs.lemmas.List.FromFn.{length-range_with_len, get_or-range_wi
 use Rattle.std.proofs.lemmas.List.Sums.{count_by-le-length, AllPass-from_list_all}
 use Rattle.std.proofs.lemmas.Option.{slice_get-get_or, slice_get_within, slice_get_past}
 use Rattle.sq_ranges.specs.declared.recon.Range.{Range}
-use Rattle.sq_ranges.specs.ReconValue.{stage_in, stage_at, stage_found, stages, of_stage, goes_into}
+use Rattle.sq_ranges.specs.ReconValue.{stage_in, stage_at, stage_found, stages, of_stage, goes_into, moves_into}
 use Rattle.sq_ranges.specs.OpeningValue.{OpeningValue}
 use Rattle.sq_ranges.specs.Opening.{IsOpening}
 use Rattle.sq_ranges.proofs.Stages.{stage_below}
 use Rattle.sq_leader.proofs.Wholes.{all_pass}
 use Rattle.sq_leader.specs.LeaderValue.{StageValue}
-use Rattle.sq_leader.specs.Segments.{moves_into}
 use Rattle.sq_model.proofs.Keys.{linked}
 use Rattle.sq_node_model.specs.Gathered.{GatheredValue}
 use Rattle.sq_node_model.specs.Next.{is_whole_in, IsStageDone}
@@ -67,7 +66,7 @@ below_or_at a b le = elim (cases_lt a b) [
 
 module _ (o : OpeningValue) (g : GatheredValue) (is : IsOpening o) where
   -- where marks tell which segments are complete, as many count
-  pub marks_counted : (moved : List Bool) → MarksMoved g.words moved → marked_count o.recon g.stage moved ≡ moved_count o g
+  pub marks_counted : (moved : List Bool) → MarksMoved g.statuses moved → marked_count o.recon g.stage moved ≡ moved_count o g
   marks_counted moved each = same_count _ (segment_has_moved o g) 0 (length o.recon.segments) (λ seg low high.
       let few = is.few_segments in
       ap (λ b. nat_lt (stage_at o.recon seg) g.stage || b) (each seg (omega (arith, high, few))))

@@ -31,7 +31,7 @@ use Rattle.sq_live.proofs.Moved.{complete_by, marked_by, gone_on_by, ended_by}
 pub record WasTold (account : AccountValue) (moving : StageValue) (began : BeganWith) (g : GatheredValue) (moved : List Bool) : Type 0 where
   pub is : IsOpening account.opening
   pub ran : RanFrom account.opening began g
-  pub marks : MarksMoved g.words moved
+  pub marks : MarksMoved g.statuses moved
   pub now : moving.stage ≡ g.stage
 
 module _ (account : AccountValue) (moving : StageValue) (began : BeganWith) (g : GatheredValue) (moved : List Bool) (told : WasTold account moving began g moved) where

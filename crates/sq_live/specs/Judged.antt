@@ -18,11 +18,11 @@ HasIdsOf receipts ids = (id : ℕ) → contains nat_cmp ids id ≡ list_any (λ 
 
 -- the segment of this number is complete: its node 1 reads complete
 abbrev pub is_moved : List (List Status) → ℕ → Bool
-is_moved words seg = is_complete_reading (reading (status_at (slice_index_or words seg [])) 1)
+is_moved statuses seg = is_complete_reading (reading (status_at (slice_index_or statuses seg [])) 1)
 
 -- just the segments are marked that are complete
 abbrev pub MarksMoved : List (List Status) → List Bool → Type 0
-MarksMoved words moved = (seg : ℕ) → seg < SEGMENT_LIMIT → is_told_whole moved seg ≡ is_moved words seg
+MarksMoved statuses moved = (seg : ℕ) → seg < SEGMENT_LIMIT → is_told_whole moved seg ≡ is_moved statuses seg
 
 -- how many segments moved in an earlier stage than this, or are marked
 abbrev pub marked_count : ReconValue → ℕ → List Bool → ℕ

@@ -1,11 +1,11 @@
 -- The leader of a live run: whom it heard in a stage, and that it went on to the next, or ended the move.
 use Rattle.std.specs.Prelude.{◌≡◌, ℕ, ◌+◌, ◌&&◌, Bool, true, IsTrue, nat_lt, List, length, slice_get, Some, Ok}
 use Rattle.sq_ranges.specs.declared.recon.Range.{Range}
-use Rattle.sq_ranges.specs.ReconValue.{stage_in, stages}
+use Rattle.sq_ranges.specs.ReconValue.{stage_in, stages, moves_into}
 use Rattle.sq_ranges.specs.OpeningValue.{OpeningValue}
 use Rattle.sq_leader.specs.LeaderValue.{StageValue}
 use Rattle.sq_leader.specs.Marks.{none_marked, is_marked}
-use Rattle.sq_leader.specs.Segments.{moves_into, all_told_whole}
+use Rattle.sq_leader.specs.Segments.{all_told_whole}
 use Rattle.sq_leader.specs.Leader.{answer_to_next, answer_to_finish}
 use Rattle.sq_live.specs.declared.leader.Led.{Led}
 use Rattle.sq_live.specs.declared.leader.Led.TheVariants.{Next, Ended, Missing}

@@ -5,8 +5,7 @@ ghost use Rattle.sq_ranges.specs.declared.segment.TheConstants.{SEGMENT_LIMIT};
 ghost use Rattle.sq_ranges.specs.Prelude.{stages, stage_at};
 ghost use Rattle.sq_leader.specs.LeaderValue.{StageValue};
 ghost use Rattle.sq_leader.specs.Segments.{is_told_whole};
-ghost use Rattle.sq_node_model.specs.Prelude.{is_whole_in, IsStageDone};
-ghost use Rattle.sq_gather.specs.Grown.{AreGrown};
+ghost use Rattle.sq_node_model.specs.Prelude.{is_whole_in, IsStageDone, AllGrown};
 ghost use Rattle.sq_live.specs.Leading.{HasEnded};
 ghost use Rattle.sq_live.specs.Outcome.{answered_count, commit_count, CameTo, WhyStopped};
 ghost use Rattle.sq_live.specs.Judged.{HasIdsOf, MarksMoved, marked_count};
@@ -34,7 +33,7 @@ pub(crate) fn judge_end(
     g: &Gathered,
     moved: &[bool],
 ) -> Result<LiveOutcome, AllocError>
-    requires moved { MarksMoved g.now.words moved.now }
+    requires moved { MarksMoved g.now.statuses moved.now }
     requires last { g.now.stage + 1 ≡ stages account.now.opening.recon }
     requires done { IsStageDone account.now.opening g.now }
     requires ended { (at : StageValue) × HasEnded account.now.opening g.now.stage (is_whole_in g.now) at }
@@ -62,7 +61,7 @@ pub(crate) fn judge_stopped(
     g: &Gathered,
     moved: &[bool],
 ) -> Result<LiveOutcome, AllocError>
-    requires moved { MarksMoved g.now.words moved.now }
+    requires moved { MarksMoved g.now.statuses moved.now }
     requires missing { IsStageDone account.now.opening g.now → ⊥ }
     ensures { IfOk result (λ outcome. (folds : Bool) → CameTo folds account.now g.now outcome) }
 {
@@ -72,7 +71,7 @@ pub(crate) fn judge_stopped(
 
 // A run that stopped, of whose jobs so many have a receipt now.
 fn stopped(account: &Account, g: &Gathered, moved: &[bool], answered: usize) -> LiveOutcome
-    requires moved { MarksMoved g.now.words moved.now }
+    requires moved { MarksMoved g.now.statuses moved.now }
     requires answered { answered ≡ answered_count g.now.receipts account.now.jobs }
     requires most { answered ≤ length account.now.jobs }
     requires why { WhyStopped account.now g.now }
@@ -114,13 +113,13 @@ fn ids_of(alloc: Global, receipts: &[Receipt]) -> Result<BTreeSet<u64>, AllocErr
 }
 
 /// Which segments are complete. One without statuses isn't.
-pub(crate) fn moved_segments(words: &[[Status; NODES]]) -> [bool; SEGMENTS]
-    requires { AreGrown words.now }
-    ensures { MarksMoved words.now result }
+pub(crate) fn moved_segments(statuses: &[[Status; NODES]]) -> [bool; SEGMENTS]
+    requires { AllGrown statuses.now }
+    ensures { MarksMoved statuses.now result }
 {
     let mut moved = [false; SEGMENTS];
-    for seg in 0..words.len().min(SEGMENTS) {
-        moved[seg] = reads_complete(&words[seg], NodeId::WHOLE);
+    for seg in 0..statuses.len().min(SEGMENTS) {
+        moved[seg] = reads_complete(&statuses[seg], NodeId::WHOLE);
     }
     moved
 }

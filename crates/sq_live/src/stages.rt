@@ -146,7 +146,7 @@ fn run_stage<R: Threads + Wait + Sync, G: Watch>(
     // For the proof alone: what the account has is an opening.
     let _recon = account.opening.recon();
     let gathered = drive_all(rt, alloc, fabric, nodes, pumps, manner.turns, watch)?;
-    let moved = moved_segments(&gathered.words);
+    let moved = moved_segments(&gathered.statuses);
     match lead_on(moving, &account.opening, &moved) {
         Led::Next(moving) => match continue_with(alloc, manner.folds, account, gathered)? {
             Continued::With(account, gathered) => {

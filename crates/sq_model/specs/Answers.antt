@@ -18,7 +18,7 @@ use Rattle.sq_tree.specs.Answer.{split_answer, claim_answer, begin_answer, compl
 use Rattle.sq_chunk.specs.declared.chunk.Note.{Note}
 use Rattle.sq_ranges.specs.declared.recon.Range.{Range}
 use Rattle.sq_ranges.specs.declared.opening.TheConstants.{MAX_WAITING}
-use Rattle.sq_ranges.specs.ReconValue.{ReconValue, is_link, leaf_at, stage_on, stages, of_stage, goes_into}
+use Rattle.sq_ranges.specs.ReconValue.{ReconValue, is_link, leaf_at, stage_on, stages, of_stage, moves_into}
 use Rattle.sq_ranges.specs.OpeningValue.{OpeningValue}
 use Rattle.sq_model.specs.declared.step.Step.{Step}
 use Rattle.sq_model.specs.declared.step.Step.TheVariants.{Prepare, Start, Submit, Resume, Split, Claim, Begin, Cut, Push, Pop, Load, Complete, Report, Next, Finish, Status, Fold}
@@ -192,7 +192,7 @@ is_complete_segment t seg = is_complete_reading (reading (status_of t seg) 1)
 
 -- the segment of this number moves into the partition in the running stage
 abbrev pub is_into : OpeningValue → Trace → ℕ → ℕ → Bool
-is_into o t part seg = goes_into (running o t seg) part
+is_into o t part seg = moves_into o.recon (stage t) part seg
 
 -- the numbers of the segments
 abbrev pub segment_numbers : OpeningValue → List ℕ

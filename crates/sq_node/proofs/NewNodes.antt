@@ -85,12 +85,6 @@ unused trees seats sends recvs new unsent unreceived =
     none_by ends none other None is = refl
     none_by ends none other (Some end) is = none other end is
 
-swap_tests : {X : Type 0} (a b : Bool) (x : X) → (if a && b then Some x else None) ≡ (if b then (if a then Some x else None) else None)
-swap_tests true true x = refl
-swap_tests true false x = refl
-swap_tests false true x = refl
-swap_tests false false x = refl
-
 none_earlier : (n : ℕ) → nat_lt n 0 ≡ false
 none_earlier n = grind (arith, nat_tests)
 
@@ -98,7 +92,6 @@ none_earlier n = grind (arith, nat_tests)
 owned_opens : (o : OpeningValue) (part : ℕ) (store : StoreValue) → HasOwned o part store → OpensWith o (first_began o) part store
 owned_opens o part store owned root =
     owned root
-    ∙ swap_tests (is_opened o root) (source o root == part) (opening_family o root)
     ∙ ap (λ p. if p == part then if is_opened o root then Some (opening_family o root) else None else None) (sym (unmoved_source o 0 root (none_earlier (key_stage o root))))
 
 -- so they are for each partition

@@ -4,8 +4,8 @@ use Rattle.std.specs.Prelude.{◌==◌, if◌then◌else◌, unwrap_or, IfOk, On
 use Rattle.sq_schema.specs.TxnValue.{TxnValue}
 use Rattle.sq_schema.specs.declared.txn.Reply.{Reply}
 use Rattle.sq_schema.specs.declared.txn.Reply.TheVariants.{Committed, Aborted}
-use Rattle.sq_schema.specs.Family.{FamilyValue}
-use Rattle.sq_store.specs.StoreValue.{StoreValue, family_at, log_length, absent, with_txn, store_reply, store_after}
+use Rattle.sq_schema.specs.Family.{FamilyValue, logged}
+use Rattle.sq_store.specs.StoreValue.{StoreValue, family_at, log_length, absent, store_reply, store_after}
 use Rattle.sq_store.proofs.Keys.{get-insert_same}
 use Rattle.sq_exec.specs.declared.outcome.Outcome.{Outcome}
 use Rattle.sq_exec.specs.declared.outcome.Outcome.TheVariants.{Done, Moved, Waits}
@@ -45,7 +45,7 @@ pub position_is : (store : StoreValue) (txn : TxnValue) (reply : Reply) → posi
 position_is store txn (Committed answers) =
     let family = family_at store txn.root in
     let after : log_length (store_after store txn (Committed answers)) txn.root ≡ length family.log + 1 =
-    ap (λ (found : Option FamilyValue). length (unwrap_or found (absent txn.root)).log) (get-insert_same store txn.root (with_txn family txn) txn.root refl) ∙ length-push family.log txn in
+    ap (λ (found : Option FamilyValue). length (unwrap_or found (absent txn.root)).log) (get-insert_same store txn.root (logged family txn) txn.root refl) ∙ length-push family.log txn in
     ap (λ (n : ℕ). n - 1) after ∙ less_one (length family.log)
 position_is store txn (Aborted at cause) = refl
 

@@ -10,3 +10,4 @@ pub mod Idle
 pub mod Opened
 pub mod Left
 pub mod Holds
+pub mod Prelude

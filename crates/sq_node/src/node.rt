@@ -43,7 +43,7 @@ pub struct Node {
 impl Model for Node {
     ghost use Rattle.std.specs.Prelude.{◌≡◌};
     ghost use Rattle.std.specs.Coded.{codes};
-    ghost use Rattle.sq_store.proofs.Codes.{store_coded};
+    ghost use Rattle.sq_store.specs.Prelude.{store_coded};
     ghost use Rattle.sq_node.specs.NodeState.{NodeState};
     ghost use Rattle.sq_node.specs.Settled.{IsNode};
 

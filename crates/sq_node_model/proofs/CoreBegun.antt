@@ -1,4 +1,4 @@
--- What a node does to the words of its trees: it looks, begins and completes.
+-- What a node does to the statuses of its trees: it looks, begins and completes.
 use Rattle.std.proofs.Common.{◌≡◌, ℕ, ◌<◌, true, ◌==◌, List, ◌∷◌, length, Contains, slice_get, Some, refl, sym, ap, ◌∙◌, subst, arith}
 use Rattle.std.proofs.lemmas.Bool.{and_from, eq-eqb}
 use Rattle.std.proofs.lemmas.Option.{slice_get_within}

@@ -22,13 +22,13 @@ use Rattle.sq_node_model.specs.Chunks.{cut_to, loaded_from, HasCut, HasLoaded}
 use Rattle.sq_node_model.specs.OutHolds.{IsOwnNote}
 use Rattle.sq_node_model.specs.FamiliesHold.{IsCarried}
 use Rattle.sq_node_model.specs.Gathered.{GatheredLink, GatheredValue, Gathers}
-use Rattle.sq_node_model.specs.Spots.{word_in}
+use Rattle.sq_node_model.specs.Spots.{gathered_status}
 use Rattle.sq_node_model.proofs.Keys.{IsMovedFrom, moved_from}
 use Rattle.sq_node_model.proofs.Facts.{own_note, own_within, cut_carried}
 use Rattle.sq_node_model.proofs.Members.{slice_get-front}
 use Rattle.sq_node_model.proofs.Lists.{at_map}
 use Rattle.sq_node_model.proofs.Ends.{HasEnds, ends, cut_notes_are}
-use Rattle.sq_node_model.proofs.Words.{begun}
+use Rattle.sq_node_model.proofs.Statuses.{begun}
 
 -- the chunk is the one at this place of those that were cut for the link at this place
 pub record IsCutAt (o : OpeningValue) (began : BeganWith) (nodes : List NodeValue) (g : GatheredValue) (chunk : ChunkValue) : Type 0 where
@@ -131,7 +131,7 @@ module _ (o : OpeningValue) (began : BeganWith) (is : IsOpening o) (nodes : List
     pub about_node : is_node chunk.note.node ≡ true
     about_node = c.ends.from_holds.begun.nodes chunk.note.seg chunk.note.node own.about
 
-    pub about_begun : is_begun (word_in g chunk.note.seg chunk.note.node) ≡ true
+    pub about_begun : is_begun (gathered_status g chunk.note.seg chunk.note.node) ≡ true
     about_begun = begun o began nodes g gathers c.link.src c.ends.from c.link.src c.link.dst chunk.note.seg chunk.note.node c.ends.from_there on_link own.about
 
     pub within : (root : ℕ) → covers chunk.note root ≡ true → is_within (extent_of o chunk.note.seg chunk.note.node) root ≡ true

@@ -26,7 +26,7 @@ use Rattle.sq_model.proofs.Notes.{SegmentGoes, goes_once}
 use Rattle.sq_model.proofs.Tiles.{about_is}
 use Rattle.sq_node_model.specs.Stages.{runs_in}
 use Rattle.sq_node_model.specs.Gathered.{GatheredLink, GatheredValue}
-use Rattle.sq_node_model.specs.Spots.{word_in, loaded_notes, loaded_count, loads_of}
+use Rattle.sq_node_model.specs.Spots.{gathered_status, loaded_notes, loaded_count, loads_of}
 use Rattle.sq_node_model.specs.Placed.{IsPlaced}
 use Rattle.sq_node_model.specs.Next.{IsStageDone}
 use Rattle.sq_node_model.proofs.Members.{Contains-reverse, Contains-map}
@@ -58,9 +58,9 @@ none_after o (first ∷ newer) older note tiles has last =
 
 module _ (o : OpeningValue) (g : GatheredValue) (p : IsPlaced o g) (done : IsStageDone o g) where
   -- a begun tree node of the stage is complete
-  begun_complete : (seg n src dst : ℕ) → (goes : SegmentGoes o seg src dst) → runs_in o g.stage src dst ≡ true → is_node n ≡ true → is_begun (word_in g seg n) ≡ true → is_complete (word_in g seg n) ≡ true
+  begun_complete : (seg n src dst : ℕ) → (goes : SegmentGoes o seg src dst) → runs_in o g.stage src dst ≡ true → is_node n ≡ true → is_begun (gathered_status g seg n) ≡ true → is_complete (gathered_status g seg n) ≡ true
   begun_complete seg n src dst goes runs node begun =
-      let status = word_in g seg in
+      let status = gathered_status g seg in
       let running : stage_in o.recon goes.segment ≡ g.stage = (λ i. stage_on o.recon (goes.source i) (goes.destination i)) ∙ eqb-true (stage_on o.recon src dst) g.stage runs in
       let whole = all_complete status (p.fit.grown seg) (done seg goes.segment goes.there running) in
       let leaf = first_leaf n in

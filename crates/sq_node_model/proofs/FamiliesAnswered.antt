@@ -9,8 +9,8 @@ use Rattle.std.proofs.lemmas.List.Elements.{All-nil, All-push, Contains-push_cas
 use Rattle.sq_schema.specs.TxnValue.{TxnValue}
 use Rattle.sq_schema.specs.declared.txn.Reply.{Reply}
 use Rattle.sq_schema.specs.Effect.{RowList}
-use Rattle.sq_schema.specs.Family.{FamilyValue}
-use Rattle.sq_store.specs.StoreValue.{StoreValue, absent, family_at, family_in, with_txn, store_reply}
+use Rattle.sq_schema.specs.Family.{FamilyValue, logged}
+use Rattle.sq_store.specs.StoreValue.{StoreValue, absent, family_at, family_in, store_reply}
 use Rattle.sq_store.proofs.Applies.{found_family, absent_family}
 use Rattle.sq_chunk.specs.ChunkValue.{ChunkValue, covers}
 use Rattle.sq_ranges.specs.OpeningValue.{OpeningValue}
@@ -73,7 +73,7 @@ module _ {began : BeganWith} (o : OpeningValue) (part : ℕ) (cut loaded : Chunk
   was = family_at store txn.root
 
   abbrev new : FamilyValue
-  new = with_txn was txn
+  new = logged was txn
 
   abbrev more : StoreValue
   more = insert store txn.root new

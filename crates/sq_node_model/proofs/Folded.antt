@@ -98,7 +98,7 @@ module _ (o : OpeningValue) (is : IsOpening o) (g : GatheredValue) (p : IsPlaced
       parts = record {
         all_stores = f.count ∙ p.fit.parts.all_stores;
         each_link = assumption (p.fit.parts.each_link);
-        all_words = p.fit.parts.all_words;
+        all_statuses = p.fit.parts.all_statuses;
       };
       links = link_too;
       apart = p.fit.apart;

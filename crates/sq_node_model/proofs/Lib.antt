@@ -31,7 +31,7 @@ pub mod Began
 pub mod Lists
 pub mod NamedAcross
 pub mod Ends
-pub mod Words
+pub mod Statuses
 pub mod Cuts
 pub mod Once
 pub mod Stands

@@ -34,7 +34,7 @@ use Rattle.sq_node_model.specs.Cores.{staged_core, OpensWith, IsUnused}
 use Rattle.sq_node_model.specs.declared.spot.Spot.{Spot}
 use Rattle.sq_node_model.specs.declared.spot.Spot.TheVariants.{Store, Chunk}
 use Rattle.sq_node_model.specs.Gathered.{GatheredLink, GatheredValue}
-use Rattle.sq_node_model.specs.Spots.{word_in, cut_notes, loaded_notes, loaded_count, loads_of, gathered_place, family_at_spot, StandsAt}
+use Rattle.sq_node_model.specs.Spots.{gathered_status, cut_notes, loaded_notes, loaded_count, loads_of, gathered_place, family_at_spot, StandsAt}
 use Rattle.sq_node_model.specs.Placed.{IsPlaced}
 use Rattle.sq_node_model.specs.Next.{IsStageDone, next_began}
 use Rattle.sq_node_model.proofs.Made.{node_with}
@@ -115,7 +115,7 @@ module _ (o : OpeningValue) (is : IsOpening o) (g : GatheredValue) (p : IsPlaced
     covered_by : (root seg : ℕ) (segment : Range) → segment_of o.recon.segments root ≡ Some seg → IsIn o root seg segment → runs_in o g.stage segment.src segment.dst ≡ true
         → (note : Note) × Contains (loaded_notes g) note × (covers note root ≡ true)
     covered_by root seg segment found at runs =
-        let status = word_in g seg in
+        let status = gathered_status g seg in
         let leaf = leaf_of o.recon.width segment root in
         let n = covering status leaf in
         let whole = all_complete status (p.fit.grown seg) (done seg segment at.there (eqb-true (stage_on o.recon segment.src segment.dst) g.stage runs)) in

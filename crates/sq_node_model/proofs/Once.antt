@@ -14,13 +14,13 @@ use Rattle.sq_node_model.specs.BeganWith.{BeganWith}
 use Rattle.sq_node_model.specs.NodeValue.{NodeValue}
 use Rattle.sq_node_model.specs.Chunks.{cut_to, loaded_from}
 use Rattle.sq_node_model.specs.Gathered.{GatheredLink, GatheredValue, Gathers}
-use Rattle.sq_node_model.specs.Spots.{word_in, cut_notes, loaded_notes, loads_of}
+use Rattle.sq_node_model.specs.Spots.{gathered_status, cut_notes, loaded_notes, loads_of}
 use Rattle.sq_node_model.proofs.Members.{Contains-unreversed}
 use Rattle.sq_node_model.proofs.Keys.{one_segment}
 use Rattle.sq_node_model.proofs.Trees.{begun_apart}
 use Rattle.sq_node_model.proofs.Lists.{map_at, at_reverse, same_from_end}
 use Rattle.sq_node_model.proofs.Ends.{notes_of, ends, out, cut_notes_are, loads_are}
-use Rattle.sq_node_model.proofs.Words.{grown}
+use Rattle.sq_node_model.proofs.Statuses.{grown}
 use Rattle.sq_node_model.proofs.Cuts.{IsCutAt, cut_chunk, loaded_chunk, noted_at, about_node, about_begun, within, moved}
 
 -- a chunk with this note, at its place
@@ -79,12 +79,12 @@ module _ (o : OpeningValue) (began : BeganWith) (is : IsOpening o) (nodes : List
     pub one_node : chunk.note.node ≡ other.note.node
     one_node =
         let seg = chunk.note.seg in
-        begun_apart o is (word_in g seg) (grown o began nodes g gathers seg) root seg chunk.note.node other.note.node
+        begun_apart o is (gathered_status g seg) (grown o began nodes g gathers seg) root seg chunk.note.node other.note.node
         (about_node o began is nodes g gathers chunk c) (about_node o began is nodes g gathers other d)
         (within o began is nodes g gathers chunk c root covered)
         (subst (λ k. is_within (extent_of o k other.note.node) root ≡ true) (sym one_seg) (within o began is nodes g gathers other d root covered'))
         (about_begun o began is nodes g gathers chunk c)
-        (subst (λ k. is_begun (word_in g k other.note.node) ≡ true) (sym one_seg) (about_begun o began is nodes g gathers other d))
+        (subst (λ k. is_begun (gathered_status g k other.note.node) ≡ true) (sym one_seg) (about_begun o began is nodes g gathers other d))
 
     -- and of one link
     one_place : c.place ≡ d.place

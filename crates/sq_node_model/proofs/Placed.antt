@@ -13,10 +13,10 @@ use Rattle.sq_node_model.specs.Stages.{is_on_link_in}
 use Rattle.sq_node_model.specs.BeganWith.{BeganWith, CanBegin}
 use Rattle.sq_node_model.specs.NodeValue.{NodeValue}
 use Rattle.sq_node_model.specs.Gathered.{GatheredLink, GatheredValue, Gathers}
-use Rattle.sq_node_model.specs.Spots.{word_in, loaded_notes}
+use Rattle.sq_node_model.specs.Spots.{gathered_status, loaded_notes}
 use Rattle.sq_node_model.specs.Placed.{IsLinkPlaced, FitTogether, IsPlaced}
 use Rattle.sq_node_model.proofs.Ends.{ends, out, way_is, way_cut}
-use Rattle.sq_node_model.proofs.Words.{grown, begun, completed}
+use Rattle.sq_node_model.proofs.Statuses.{grown, begun, completed}
 use Rattle.sq_node_model.proofs.Cuts.{loaded_at}
 use Rattle.sq_node_model.proofs.Once.{apart, link_tiles}
 use Rattle.sq_node_model.proofs.Places.{loaded_among, placed, once}
@@ -46,7 +46,7 @@ module _ (o : OpeningValue) (began : BeganWith) (is : IsOpening o) (nodes : List
       }
 
   -- a complete tree node has its last note among the loaded ones
-  complete : (seg n : ℕ) → is_complete (word_in g seg n) ≡ true → has_last seg n (loaded_notes g) ≡ true
+  complete : (seg n : ℕ) → is_complete (gathered_status g seg n) ≡ true → has_last seg n (loaded_notes g) ≡ true
   complete seg n is_it =
       let found = completed o began nodes g gathers seg n is_it in
       let last = found.3 in
@@ -60,7 +60,7 @@ module _ (o : OpeningValue) (began : BeganWith) (is : IsOpening o) (nodes : List
     parts = record {
       all_stores = ap (λ (stores : List StoreValue). length stores) gathers.stores ∙ length-map nodes (λ (node : NodeValue). node.store) ∙ gathers.count;
       each_link = gathers.each_link;
-      all_words = gathers.all_words;
+      all_statuses = gathers.all_statuses;
     };
     links = link_placed;
     apart = apart o began is nodes g gathers;

@@ -6,15 +6,14 @@ use Rattle.std.proofs.lemmas.Option.{slice_get_within}
 use Rattle.std.proofs.Math.Seq.{take-append_seam}
 use Rattle.sq_schema.specs.TxnValue.{TxnValue}
 use Rattle.sq_schema.specs.Effect.{replay_rows, reply}
-use Rattle.sq_schema.specs.Family.{FamilyValue, rows_of}
-use Rattle.sq_store.specs.StoreValue.{with_txn}
+use Rattle.sq_schema.specs.Family.{FamilyValue, rows_of, logged}
 use Rattle.sq_status.specs.View.{one_if}
 use Rattle.sq_node_model.specs.NodeValue.{ReceiptValue}
 use Rattle.sq_node_model.specs.Receipts.{IsToldBy}
 use Rattle.sq_node_model.proofs.Members.{slice_get-front, slice_get-pushed}
 
 -- a receipt of an earlier position stays right
-pub told_more : (family : FamilyValue) (txn : TxnValue) (receipt : ReceiptValue) → IsToldBy family receipt → IsToldBy (with_txn family txn) receipt
+pub told_more : (family : FamilyValue) (txn : TxnValue) (receipt : ReceiptValue) → IsToldBy family receipt → IsToldBy (logged family txn) receipt
 told_more family txn receipt t =
     let within = slice_get_within family.log receipt.position t.txn t.there in
     record {
@@ -25,7 +24,7 @@ told_more family txn receipt t =
     }
 
 -- and so is that of the transaction that made the log grow
-pub told_new : (family : FamilyValue) (txn : TxnValue) (receipt : ReceiptValue) → receipt.id ≡ txn.id → receipt.position ≡ length family.log → receipt.reply ≡ reply (rows_of family) txn → IsToldBy (with_txn family txn) receipt
+pub told_new : (family : FamilyValue) (txn : TxnValue) (receipt : ReceiptValue) → receipt.id ≡ txn.id → receipt.position ≡ length family.log → receipt.reply ≡ reply (rows_of family) txn → IsToldBy (logged family txn) receipt
 told_new family txn receipt same at is = record {
   txn = txn;
   there = ap (slice_get (family.log ++ txn ∷ [])) at ∙ slice_get-pushed family.log txn;

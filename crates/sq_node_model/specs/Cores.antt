@@ -6,6 +6,7 @@ use Rattle.sq_chunk.specs.ChunkValue.{ChunkValue, IsChunk, covers}
 use Rattle.sq_ranges.specs.OpeningValue.{OpeningValue}
 use Rattle.sq_model.specs.Staged.{owner_in}
 use Rattle.sq_exec.specs.CoreValue.{CoreValue, opened_core}
+use Rattle.sq_exec.specs.Opened.{HasOwnedOf}
 use Rattle.sq_exec.specs.Moving.{can_load}
 use Rattle.sq_status.specs.declared.view.View.{View}
 use Rattle.sq_node_model.specs.NodeValue.{NodeValue}
@@ -29,8 +30,7 @@ pub record IsCoreOf (o : OpeningValue) (i : ℕ) (core : CoreValue) : Type 0 whe
 
 -- the store has the families that were given to the root keys that the partition owns, and no others
 abbrev pub OpensWith : OpeningValue → BeganWith → ℕ → StoreValue → Type 0
-OpensWith o began part store =
-    (root : ℕ) → get store root ≡ (if owner_in o began.stage root == part then began.families root else None)
+OpensWith o began part store = HasOwnedOf (owner_in o began.stage) began.families part store
 
 -- the chunk that came from a partition can be loaded
 pub record IsLoadable (core : CoreValue) (src : ℕ) (chunk : ChunkValue) : Type 0 where

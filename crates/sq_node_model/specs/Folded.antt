@@ -22,7 +22,7 @@ folded_opening o table = record o { table = table }
 
 -- what was gathered with these stores and no receipts
 abbrev pub folded_gathered : GatheredValue → List StoreValue → GatheredValue
-folded_gathered g stores = record { stage = g.stage; stores = stores; links = g.links; words = g.words; receipts = []; left = g.left }
+folded_gathered g stores = record { stage = g.stage; stores = stores; links = g.links; statuses = g.statuses; receipts = []; left = g.left }
 
 -- the table has the rows of the families that stand, and no others; and the stores have the families folded
 pub record IsFolded (o : OpeningValue) (g : GatheredValue) (table : TableValue) (stores : List StoreValue) : Type 0 where

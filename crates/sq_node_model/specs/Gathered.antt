@@ -28,7 +28,7 @@ pub record GatheredValue : Type 0 where
   pub stage : ℕ
   pub stores : List StoreValue
   pub links : List GatheredLink
-  pub words : List (List Status)
+  pub statuses : List (List Status)
   pub receipts : List ReceiptValue
   pub left : List (List TxnValue)
 
@@ -51,9 +51,9 @@ pub record IsClosedLink (nodes : List NodeValue) (link : GatheredLink) : Type 0 
   pub way : link.under_way ≡ option_to_list (to.inboxes link.src) ++ (queue ++ option_to_list (from.outs link.dst).outbox)
 
 -- the statuses of a segment are those of a tree that one seat is left of, which began and completed what the nodes did
-pub record IsClosedTree (nodes : List NodeValue) (words : List (List Status)) (seg : ℕ) : Type 0 where
+pub record IsClosedTree (nodes : List NodeValue) (statuses : List (List Status)) (seg : ℕ) : Type 0 where
   pub view : View
-  pub tree : IsTreeOf (slice_index_or words seg []) (view ∷ [])
+  pub tree : IsTreeOf (slice_index_or statuses seg []) (view ∷ [])
   pub begun : view.begun ≡ flat_map (λ node. node.begun seg) nodes
   pub completed : view.completed ≡ flat_map (λ node. node.completed seg) nodes
 
@@ -68,5 +68,5 @@ pub record Gathers (o : OpeningValue) (began : BeganWith) (nodes : List NodeValu
   pub receipts : g.receipts ≡ began.receipts ++ flat_map (λ node. node.receipts) nodes
   pub each_link : HasEachLink o g.stage g.links
   pub links : (i : ℕ) (link : GatheredLink) → slice_get g.links i ≡ Some link → IsClosedLink nodes link
-  pub all_words : length g.words ≡ length o.recon.segments
-  pub trees : (seg : ℕ) → seg < length o.recon.segments → IsClosedTree nodes g.words seg
+  pub all_statuses : length g.statuses ≡ length o.recon.segments
+  pub trees : (seg : ℕ) → seg < length o.recon.segments → IsClosedTree nodes g.statuses seg

@@ -9,11 +9,11 @@ use Rattle.sq_model.specs.Staged.{owner_in}
 use Rattle.sq_node_model.specs.BeganWith.{BeganWith}
 use Rattle.sq_node_model.specs.declared.spot.Spot.TheVariants.{Store}
 use Rattle.sq_node_model.specs.Gathered.{GatheredValue}
-use Rattle.sq_node_model.specs.Spots.{word_in, family_at_spot}
+use Rattle.sq_node_model.specs.Spots.{gathered_status, family_at_spot}
 
 -- the segment is complete: its node 1 reads complete
 abbrev pub is_whole_in : GatheredValue → ℕ → Bool
-is_whole_in g seg = is_complete_reading (reading (word_in g seg) 1)
+is_whole_in g seg = is_complete_reading (reading (gathered_status g seg) 1)
 
 -- the segments of the stage that was gathered are complete
 abbrev pub IsStageDone : OpeningValue → GatheredValue → Type 0

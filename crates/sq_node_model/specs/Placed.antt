@@ -18,13 +18,13 @@ use Rattle.sq_node_model.specs.Receipts.{is_commit, times_named, IsToldBy}
 use Rattle.sq_node_model.specs.FamiliesHold.{IsOf, GrowsFrom}
 use Rattle.sq_node_model.specs.declared.spot.Spot.{Spot}
 use Rattle.sq_node_model.specs.Gathered.{GatheredLink, GatheredValue, HasEachLink}
-use Rattle.sq_node_model.specs.Spots.{AllGrown, loaded_count, cut_notes, loaded_notes, gathered_place, word_in, StandsAt, IsSpotOf}
+use Rattle.sq_node_model.specs.Spots.{AllGrown, loaded_count, cut_notes, loaded_notes, gathered_place, gathered_status, StandsAt, IsSpotOf}
 
 -- there is a store for each partition, a link wherever a range moves in the stage, and a tree for each segment
 pub record HasEachPart (o : OpeningValue) (g : GatheredValue) : Type 0 where
   pub all_stores : length g.stores ≡ o.old.parts
   pub each_link : HasEachLink o g.stage g.links
-  pub all_words : length g.words ≡ length o.recon.segments
+  pub all_statuses : length g.statuses ≡ length o.recon.segments
 
 -- the note goes along the link, and is about a node of the tree of one of its segments of the stage, which was begun
 pub record IsLinkNote (o : OpeningValue) (g : GatheredValue) (link : GatheredLink) (note : Note) : Type 0 where
@@ -32,7 +32,7 @@ pub record IsLinkNote (o : OpeningValue) (g : GatheredValue) (link : GatheredLin
   pub goes_to : note.dst ≡ link.dst
   pub segment : is_on_link_in o g.stage link.src link.dst note.seg ≡ true
   pub node : is_node note.node ≡ true
-  pub begun : is_begun (word_in g note.seg note.node) ≡ true
+  pub begun : is_begun (gathered_status g note.seg note.node) ≡ true
 
 -- the chunks under way are those of the last notes; the notes are numbered from 0, are the link's, and tile their nodes; and
 -- each family of a chunk is of its note's keys
@@ -49,8 +49,8 @@ pub record FitTogether (o : OpeningValue) (g : GatheredValue) : Type 0 where
   pub parts : HasEachPart o g
   pub links : (i : ℕ) (link : GatheredLink) → slice_get g.links i ≡ Some link → IsLinkPlaced o g link
   pub apart : AreDisjoint (cut_notes g)
-  pub grown : AllGrown g.words
-  pub complete : (seg n : ℕ) → is_complete (word_in g seg n) ≡ true → has_last seg n (loaded_notes g) ≡ true
+  pub grown : AllGrown g.statuses
+  pub complete : (seg n : ℕ) → is_complete (gathered_status g seg n) ≡ true → has_last seg n (loaded_notes g) ≡ true
   pub placed : (spot : Spot) (root : ℕ) (family : FamilyValue) → StandsAt g spot root family
       → IsSpotOf g spot (gathered_place o g root)
   pub keyed : (spot : Spot) (root : ℕ) (family : FamilyValue) → StandsAt g spot root family → IsOf root family

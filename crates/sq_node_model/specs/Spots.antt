@@ -34,12 +34,12 @@ abbrev pub gathered_place : OpeningValue → GatheredValue → ℕ → Place
 gathered_place o g root = place_from (owner_in o g.stage root) (cut_notes g) (loaded_notes g) root
 
 -- the status of a node of a segment's tree
-abbrev pub word_in : GatheredValue → ℕ → ℕ → Status
-word_in g seg n = status_at (slice_index_or g.words seg []) n
+abbrev pub gathered_status : GatheredValue → ℕ → ℕ → Status
+gathered_status g seg n = status_at (slice_index_or g.statuses seg []) n
 
 -- the statuses of each segment are those of a tree that grew from a free one
 abbrev pub AllGrown : List (List Status) → Type 0
-AllGrown words = (seg : ℕ) → IsGrown (status_at (slice_index_or words seg []))
+AllGrown statuses = (seg : ℕ) → IsGrown (status_at (slice_index_or statuses seg []))
 
 -- the chunk at a place of the link at a place
 abbrev pub chunk_in : GatheredValue → ℕ → ℕ → Option ChunkValue

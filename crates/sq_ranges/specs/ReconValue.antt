@@ -147,6 +147,10 @@ abbrev pub goes_into : Option Range → ℕ → Bool
 goes_into None part = false
 goes_into (Some segment) part = segment.dst == part
 
+-- the segment of this number moves into the partition in this stage
+abbrev pub moves_into : ReconValue → ℕ → ℕ → ℕ → Bool
+moves_into recon stage part seg = goes_into (of_stage recon stage (slice_get recon.segments seg)) part
+
 -- links in their order: by source, and then by destination
 abbrev pub link_cmp : Link → Link → Ordering
 link_cmp one other = ordering_then (nat_cmp one.src other.src) (nat_cmp one.dst other.dst)

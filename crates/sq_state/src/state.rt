@@ -45,7 +45,7 @@ pub struct State {
 impl Model for State {
     ghost use Rattle.std.specs.Prelude.{map};
     ghost use Rattle.std.specs.Coded.{codes};
-    ghost use Rattle.sq_store.proofs.Codes.{store_coded};
+    ghost use Rattle.sq_store.specs.Prelude.{store_coded};
     ghost use Rattle.sq_transition.specs.Prelude.{WorldValue};
 
     ghost Value = { WorldValue };

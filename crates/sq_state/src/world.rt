@@ -27,7 +27,7 @@ pub struct World {
 
 impl Model for World {
     ghost use Rattle.std.specs.Coded.{codes};
-    ghost use Rattle.sq_store.proofs.Codes.{store_coded};
+    ghost use Rattle.sq_store.specs.Prelude.{store_coded};
     ghost use Rattle.sq_transition.specs.Prelude.{WorldValue};
     ghost use Rattle.sq_state.specs.Reached.{IsReached};
 

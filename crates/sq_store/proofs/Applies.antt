@@ -9,8 +9,8 @@ use Rattle.sq_schema.specs.declared.txn.Reply.TheVariants.{Committed, Aborted}
 use Rattle.sq_schema.specs.declared.fault.ApplyFault.{ApplyFault}
 use Rattle.sq_schema.specs.declared.fault.ApplyFault.TheVariants.{LogFull, Memory}
 use Rattle.sq_schema.specs.declared.family.TheConstants.{MAX_LOG}
-use Rattle.sq_schema.specs.Family.{FamilyValue, answered}
-use Rattle.sq_store.specs.StoreValue.{StoreValue, absent, family_at, with_txn, store_after}
+use Rattle.sq_schema.specs.Family.{FamilyValue, answered, logged}
+use Rattle.sq_store.specs.StoreValue.{StoreValue, absent, family_at, store_after}
 use Rattle.sq_store.specs.Listed.{roots_rise, store_of, opened, IsRootAt, IsRootGap}
 use Rattle.sq_store.proofs.Lists.{get_at, get_gap, insert_at, insert_gap}
 
@@ -61,7 +61,7 @@ module _ (store : StoreValue) (families : List FamilyValue) (txn : TxnValue) (at
   store_applied old now (Ok (Committed answers)) read ok =
       let same : now.root ≡ txn.root = ap (λ f. f.root) ok ∙ root_found old read in
       let put = (insert_at families at now rising (at_root now same)).same in
-      let family : now ≡ with_txn (family_at store txn.root) txn = ok ∙ ap (λ f. with_txn f txn) (sym (family_found old read)) in
+      let family : now ≡ logged (family_at store txn.root) txn = ok ∙ ap (λ f. logged f txn) (sym (family_found old read)) in
       sym put ∙ (λ i. insert (is i) (same i) (family i))
   store_applied old now (Ok (Aborted n cause)) read ok = unchanged old now read ok
   store_applied old now (Err fault) read ok = tt
@@ -75,14 +75,14 @@ module _ (store : StoreValue) (families : List FamilyValue) (txn : TxnValue) (at
   family_absent = absent_family store txn.root get_absent
 
   pub rising_opened : (now : List FamilyValue) (result : Result Reply ApplyFault) → IfOk result (λ r. now ≡ opened families at txn r) → OnErr result (now ≡ families) → roots_rise now ≡ true
-  rising_opened now (Ok (Committed answers)) ok err = ap roots_rise ok ∙ (insert_gap families at (with_txn (absent txn.root) txn) rising gap).rising
+  rising_opened now (Ok (Committed answers)) ok err = ap roots_rise ok ∙ (insert_gap families at (logged (absent txn.root) txn) rising gap).rising
   rising_opened now (Ok (Aborted n cause)) ok err = ap roots_rise ok ∙ rising
   rising_opened now (Err fault) ok err = ap roots_rise err ∙ rising
 
   pub store_opened : (now : List FamilyValue) (result : Result Reply ApplyFault) → IfOk result (λ r. now ≡ opened families at txn r) → IfOk result (λ r. store_of now ≡ store_after store txn r)
   store_opened now (Ok (Committed answers)) ok =
-      let family : with_txn (absent txn.root) txn ≡ with_txn (family_at store txn.root) txn = ap (λ f. with_txn f txn) (sym family_absent) in
-      ap store_of ok ∙ sym (insert_gap families at (with_txn (absent txn.root) txn) rising gap).same ∙ (λ i. insert (is i) txn.root (family i))
+      let family : logged (absent txn.root) txn ≡ logged (family_at store txn.root) txn = ap (λ f. logged f txn) (sym family_absent) in
+      ap store_of ok ∙ sym (insert_gap families at (logged (absent txn.root) txn) rising gap).same ∙ (λ i. insert (is i) txn.root (family i))
   store_opened now (Ok (Aborted n cause)) ok = ap store_of ok ∙ is
   store_opened now (Err fault) ok = tt
 

@@ -22,6 +22,5 @@ pub mod Filled
 pub mod Opened
 pub mod Writes
 pub mod PutsIn
-pub mod Codes
 pub mod Folds
 pub mod FoldWrites

@@ -12,8 +12,8 @@ use Rattle.sq_schema.specs.TxnValue.{TxnValue}
 use Rattle.sq_schema.specs.declared.txn.Reply.{Reply}
 use Rattle.sq_schema.specs.declared.txn.Reply.TheVariants.{Committed, Aborted}
 use Rattle.sq_schema.specs.declared.fault.ApplyFault.{ApplyFault}
-use Rattle.sq_schema.specs.Family.{FamilyValue, answered}
-use Rattle.sq_store.specs.StoreValue.{StoreValue, with_txn, store_after}
+use Rattle.sq_schema.specs.Family.{FamilyValue, answered, logged}
+use Rattle.sq_store.specs.StoreValue.{StoreValue, store_after}
 use Rattle.sq_store.specs.Indexed.{indexed, IsIndex}
 use Rattle.sq_store.proofs.Applies.{root_kept, found_family}
 use Rattle.sq_store.proofs.Keys.{insert_again}
@@ -47,7 +47,7 @@ module _ (families : Slab FamilyValue) (index : BTreeMap ℕ ℕ) (store : Store
   pub store_written : (now : FamilyValue) (result : Result Reply ApplyFault) → IfOk result (λ r. now ≡ answered old txn r) → IfOk result (λ r. indexed (with_value families key now) index ≡ store_after store txn r)
   store_written now (Ok (Committed answers)) ok =
       let same : now.root ≡ txn.root = ap (λ f. f.root) ok ∙ root_stored in
-      let family : now ≡ with_txn old txn = ok in
-      (holds_written now same).view ∙ (λ i. insert store (same i) (family i)) ∙ ap (λ f. insert store txn.root (with_txn f txn)) (sym (found_family store txn.root old get_stored))
+      let family : now ≡ logged old txn = ok in
+      (holds_written now same).view ∙ (λ i. insert store (same i) (family i)) ∙ ap (λ f. insert store txn.root (logged f txn)) (sym (found_family store txn.root old get_stored))
   store_written now (Ok (Aborted n cause)) ok = unchanged now ok
   store_written now (Err fault) ok = tt

@@ -6,8 +6,8 @@ use Rattle.std.specs.List.{insert}
 use Rattle.sq_schema.specs.TxnValue.{TxnValue}
 use Rattle.sq_schema.specs.declared.txn.Reply.{Reply}
 use Rattle.sq_schema.specs.declared.txn.Reply.TheVariants.{Committed, Aborted}
-use Rattle.sq_schema.specs.Family.{FamilyValue, rows_of, folded}
-use Rattle.sq_store.specs.StoreValue.{StoreValue, absent, with_txn}
+use Rattle.sq_schema.specs.Family.{FamilyValue, rows_of, folded, logged}
+use Rattle.sq_store.specs.StoreValue.{StoreValue, absent}
 
 -- each family with its root key
 abbrev pub keyed_families : List FamilyValue → List (ℕ × FamilyValue)
@@ -49,5 +49,5 @@ folded_families families = map folded (filter (λ family. not (length (rows_of f
 
 -- the list after a transaction with this reply, of a root key without a family: one that commits puts a family at this place
 abbrev pub opened : List FamilyValue → ℕ → TxnValue → Reply → List FamilyValue
-opened families at txn (Committed answers) = insert families at (with_txn (absent txn.root) txn)
+opened families at txn (Committed answers) = insert families at (logged (absent txn.root) txn)
 opened families at txn (Aborted n cause) = families

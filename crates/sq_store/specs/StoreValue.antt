@@ -7,8 +7,7 @@ use Rattle.sq_schema.specs.TxnValue.{TxnValue}
 use Rattle.sq_schema.specs.declared.txn.Reply.{Reply}
 use Rattle.sq_schema.specs.declared.txn.Reply.TheVariants.{Committed, Aborted}
 use Rattle.sq_schema.specs.Effect.{reply}
-use Rattle.sq_schema.specs.Family.{FamilyValue, rows_of, rows_size, folded}
-pub use Rattle.sq_schema.specs.Family.{logged as with_txn}
+use Rattle.sq_schema.specs.Family.{FamilyValue, rows_of, rows_size, folded, logged}
 use Rattle.sq_ranges.specs.CutEnd.{end_of}
 
 -- the families of a store by root key
@@ -33,7 +32,7 @@ store_reply store txn = reply (rows_of (family_at store txn.root)) txn
 
 -- the store after a transaction with this reply: one that commits goes to the end of its family's log
 abbrev pub store_after : StoreValue → TxnValue → Reply → StoreValue
-store_after store txn (Committed answers) = insert store txn.root (with_txn (family_at store txn.root) txn)
+store_after store txn (Committed answers) = insert store txn.root (logged (family_at store txn.root) txn)
 store_after store txn (Aborted at cause) = store
 
 -- the families from lo up to hi, by root key in rising order

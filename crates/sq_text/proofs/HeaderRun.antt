@@ -5,6 +5,7 @@ use Rattle.std.specs.Option.{option_map, option_or}
 use Rattle.std.proofs.lemmas.Bool.{le-ltb}
 use Rattle.std.proofs.lemmas.Bool.Decides.{nat_tests}
 use Rattle.std.proofs.lemmas.Option.{none-some, same_Some}
+use Rattle.sq_schema.specs.Chain.{◌>>=◌}
 use Rattle.sq_schema.specs.Effect.{RowTable}
 use Rattle.sq_schema.specs.Table.{TableValue, rows_in, row_given_fault}
 use Rattle.sq_schema.specs.declared.fault.TxnFault.{TxnFault}
@@ -31,7 +32,7 @@ use Rattle.sq_text.specs.declared.input_fault.InputFault.TheVariants as fault
 use Rattle.sq_text.specs.declared.located.InputLine.{InputLine}
 use Rattle.sq_text.specs.declared.located.InputLine.TheVariants as line
 use Rattle.sq_text.specs.declared.located.LocatedFault.{LocatedFault}
-use Rattle.sq_text.specs.InputFaults.{◌>>=◌, IsRead, IsReadGivenMemory}
+use Rattle.sq_text.specs.InputFaults.{IsRead, IsReadGivenMemory}
 use Rattle.sq_text.specs.Located.{at_line, located, line_number, of_opening}
 use Rattle.sq_text.specs.Header.{line_in, next_line, line_as, plan_behind, config_of, given_of, first_lines, IsReadBefore, unless_faulty, HeaderValue, plans_fault, header_of_first, plans_of, row_taken, rows_taken, header_of, header_in, Opens}
 

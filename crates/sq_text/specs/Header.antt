@@ -1,6 +1,7 @@
 -- The header of an input: two plans, the sizes, and the opening rows.
 use Rattle.std.specs.Prelude.{◌≡◌, ◌≢◌, ◌≤◌, ◌+◌, ℕ, nat_eq, nat_lt, if◌then◌else◌, List, [], ◌∷◌, length, drop, Option, Some, None, IfSome, Result, Ok, Err, codes, ok_or}
 use Rattle.std.specs.List.{starts_with}
+use Rattle.sq_schema.specs.Chain.{◌>>=◌}
 use Rattle.sq_schema.specs.Effect.{RowTable}
 use Rattle.sq_schema.specs.Table.{rows_in}
 use Rattle.sq_plan.specs.declared.fault.PlanFault.{PlanFault}
@@ -21,7 +22,6 @@ use Rattle.sq_text.specs.declared.located.LocatedFault.{LocatedFault}
 use Rattle.sq_text.specs.Words.{words_of}
 use Rattle.sq_lines.specs.Pieces.{PieceValue, Line, Rest, Failed, Endless, TooMany, bytes_of}
 use Rattle.sq_lines.specs.Coming.{LinesValue}
-use Rattle.sq_text.specs.InputFaults.{◌>>=◌}
 use Rattle.sq_text.specs.Located.{at_line, line_number, of_opening}
 use Rattle.sq_text.specs.HeaderFields.{config_in, given_in}
 

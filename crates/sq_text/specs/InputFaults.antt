@@ -32,12 +32,6 @@ abbrev pub of_read : ReadFault → InputFault
 of_read words.Malformed = BadHeader
 of_read words.Memory = Memory
 
--- the next step goes on with what this one found, and a fault stops
-infixl 10 ◌>>=◌
-abbrev pub ◌>>=◌ : {A B F : Type 0} → Result A F → (A → Result B F) → Result B F
-(Ok x) >>= f = f x
-(Err fault) >>= f = Err fault
-
 -- the answer, seen by view, is this
 abbrev pub IsRead : {X Y : Type 0} → (X → Y) → Result X InputFault → Result Y InputFault → Type 0
 IsRead view (Ok x) wanted = wanted ≡ Ok (view x)

@@ -11,9 +11,9 @@ use Rattle.sq_schema.specs.declared.txn.Reply.{Reply}
 use Rattle.sq_schema.specs.declared.txn.Reply.TheVariants.{Committed, Aborted}
 use Rattle.sq_schema.specs.Effect.{RowList, RowTable, reply, only}
 use Rattle.sq_schema.specs.declared.family.TheConstants.{MAX_LOG}
-use Rattle.sq_schema.specs.Family.{FamilyValue, rows_of, family_stands}
+use Rattle.sq_schema.specs.Family.{FamilyValue, rows_of, family_stands, logged}
 use Rattle.sq_chunk.specs.ChunkValue.{ChunkValue, covers}
-use Rattle.sq_store.specs.StoreValue.{family_at, with_txn, store_reply, store_after}
+use Rattle.sq_store.specs.StoreValue.{family_at, store_reply, store_after}
 use Rattle.sq_ranges.specs.OpeningValue.{OpeningValue}
 use Rattle.sq_exec.specs.CoreValue.{CoreValue}
 use Rattle.sq_exec.specs.Serving.{is_log_full}
@@ -151,14 +151,14 @@ ran_store : (o : OpeningValue) (t : Trace) (w : WorldValue) (part : ℕ) (txn : 
 ran_store o t w part txn (Aborted at cause) root h there placed = (h.partitions.each part there).store root
 ran_store o t w part txn (Committed answers) root h there placed =
     let store = (core_at w part).store in
-    let new = with_txn (family_at store txn.root) txn in
+    let new = logged (family_at store txn.root) txn in
     let here : ℕ → Bool = λ key. is_at part (place o t key) in
     get-insert nat_cmp_total store txn.root new root
     ∙ ap (λ b. if b then Some new else get store root) (unsigned_tied root txn.root)
     ∙ by_place root txn.root (λ b. (if b then Some new else get store root) ≡ share_by o (base_of o t) (λ p. unfolded t p ++ txn ∷ []) here root)
     (λ same.
     subst (λ r. Some new ≡ share_by o (base_of o t) (λ p. unfolded t p ++ txn ∷ []) here r) (sym same)
-    (ap (λ f. Some (with_txn f txn)) (family_same o t w part txn.root h there placed)
+    (ap (λ f. Some (logged f txn)) (family_same o t w part txn.root h there placed)
     ∙ sym (share_here o (base_of o t) (unfolded t) txn here (ap (is_at part) placed ∙ eq-eqb part part refl))))
     (λ apart. (h.partitions.each part there).store root ∙ sym (share_other o (base_of o t) (unfolded t) txn (Committed answers) here root (λ e. apart (sym e))))
 

@@ -1,6 +1,6 @@
 // What doesn't fit in a faulty line.
 use crate::plans::read_plan;
-use crate::source::{Place, Source};
+use crate::source::{FaultPlace, Source};
 use sq_diagnosis::{
     LineFlaw, PlanFlaw, ToldFlaw, ToldWord, Wanted, job_flaw, job_word, opening_word, plan_flaw,
     plan_line_flaw, row_flaw, sizes_flaw,
@@ -58,7 +58,7 @@ pub fn tell_misfit<T: Eprint + Files + AllocGlobal, R: Read>(
         return;
     };
     let place = source.place(line);
-    if let (Place::File(name), InputFault::Plan(fault)) = (place, located.fault) {
+    if let (FaultPlace::File(name), InputFault::Plan(fault)) = (place, located.fault) {
         tell_plan_of_file(rt, name, fault);
         return;
     }
@@ -71,7 +71,7 @@ pub fn tell_misfit<T: Eprint + Files + AllocGlobal, R: Read>(
 /// Says on standard error what doesn't fit in the line of a job that has a fault, where that can be told.
 pub fn tell_misfit_of_job<T: Eprint, R: Read>(
     rt: &T,
-    place: Place<'_>,
+    place: FaultPlace<'_>,
     reader: &Recalling<R>,
     job: JobLineFault,
 ) {

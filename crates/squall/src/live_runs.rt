@@ -36,7 +36,7 @@ pub struct Manner {
 
 /// What is told of a live run besides its line.
 #[derive(Clone, Copy, Debug, PartialEq, Eq)]
-pub struct Report<'a> {
+pub struct RunReport<'a> {
     /// Whether a summary is.
     pub summary: bool,
     /// The name of the file into which a timeline is written, where one is.
@@ -56,7 +56,7 @@ pub fn live_run<
     reader: &mut Recalling<R>,
     writer: &mut W,
     manner: Manner,
-    report: Report<'_>,
+    report: RunReport<'_>,
     watch: &G,
     source: &Source<'_>,
 ) -> u8
@@ -88,7 +88,7 @@ pub fn live_run<
 // memory for it, which standard error says: then the run goes on without. The time of reading goes from here on.
 fn recording<'a, T: Wait + Clock + Sync + Eprint + AllocGlobal, G: Watch>(
     rt: &'a T,
-    report: Report<'_>,
+    report: RunReport<'_>,
     watch: &'a G,
 ) -> Option<RecordingWatch<'a, T, G>> {
     let draws = report.timeline.is_some();
@@ -105,7 +105,7 @@ fn recording<'a, T: Wait + Clock + Sync + Eprint + AllocGlobal, G: Watch>(
 // Tells of a run what was asked for.
 fn tell<T: Wait + Clock + Sync + Eprint + Files + AllocGlobal, G: Watch>(
     rt: &T,
-    report: Report<'_>,
+    report: RunReport<'_>,
     told: &RecordingWatch<'_, T, G>,
 ) {
     if report.summary {

@@ -14,7 +14,7 @@ mod session;
 mod source;
 
 use explaining::explanation;
-use live_runs::{Manner, Report, live_run};
+use live_runs::{Manner, RunReport, live_run};
 use plans::lines_of_plans;
 use progress::Progress;
 use session::{
@@ -127,7 +127,7 @@ where
                     pumps,
                     folds,
                 };
-                let report = Report { summary, timeline };
+                let report = RunReport { summary, timeline };
                 live_run(rt, &mut reader, writer, manner, report, self.watch, source)
             }
         }

@@ -16,7 +16,7 @@ pub struct Source<'a> {
 
 /// Where a line stands.
 #[derive(Clone, Copy)]
-pub enum Place<'a> {
+pub enum FaultPlace<'a> {
     /// The line of the input that has this number.
     Line(u64),
     /// The file of this name, of which all is one line of the input.
@@ -28,29 +28,29 @@ pub enum Place<'a> {
 impl<'a> Source<'a> {
     /// Where a line of the input stands. Where the plans have files of their own, that is a file and a line of it, or the
     /// whole file of a plan; else it is the line of the input.
-    pub fn place(&self, line: InputLine) -> Place<'a> {
+    pub fn place(&self, line: InputLine) -> FaultPlace<'a> {
         let number = line.number();
         let Some(plans) = self.input.plans else {
-            return Place::Line(number);
+            return FaultPlace::Line(number);
         };
         match number {
-            1 => Place::File(plans.old),
-            2 => Place::File(plans.new),
-            3 => Place::LineOf(self.main(), 1),
+            1 => FaultPlace::File(plans.old),
+            2 => FaultPlace::File(plans.new),
+            3 => FaultPlace::LineOf(self.main(), 1),
             _ => self.place_behind(number.saturating_sub(3), plans.rows),
         }
     }
 
     // Where the line stands that is so many lines behind the sizes, with the rows from this file, if from any.
-    fn place_behind(&self, behind: u64, rows: Option<&'a str>) -> Place<'a> {
+    fn place_behind(&self, behind: u64, rows: Option<&'a str>) -> FaultPlace<'a> {
         let Some(file) = rows else {
-            return Place::LineOf(self.main(), behind.saturating_add(1));
+            return FaultPlace::LineOf(self.main(), behind.saturating_add(1));
         };
         match self.rows.get() {
             Some(lines) if behind > lines as u64 => {
-                Place::LineOf(self.main(), (behind - lines as u64).saturating_add(1))
+                FaultPlace::LineOf(self.main(), (behind - lines as u64).saturating_add(1))
             }
-            _ => Place::LineOf(file, behind),
+            _ => FaultPlace::LineOf(file, behind),
         }
     }
 
@@ -60,12 +60,12 @@ impl<'a> Source<'a> {
     }
 }
 
-impl Display for Place<'_> {
+impl Display for FaultPlace<'_> {
     fn fmt<W: Write>(&self, f: &mut Formatter<W>) -> fmt::Result {
         match *self {
-            Place::Line(line) => write!(f, "line {line}"),
-            Place::File(file) => f.write_str(file),
-            Place::LineOf(file, line) => write!(f, "{file}: line {line}"),
+            FaultPlace::Line(line) => write!(f, "line {line}"),
+            FaultPlace::File(file) => f.write_str(file),
+            FaultPlace::LineOf(file, line) => write!(f, "{file}: line {line}"),
         }
     }
 }

@@ -197,9 +197,9 @@ fn covers(links: &[ClosedLink], key: u64) -> u64 {
 }
 
 // How many leaves of a tree are below nodes that are complete.
-fn complete_leaves(words: &[Status; NODES]) -> u64 {
+fn complete_leaves(statuses: &[Status; NODES]) -> u64 {
     let mut leaves: u64 = 0;
-    for (node, status) in NodeId::all().iter().zip(words) {
+    for (node, status) in NodeId::all().iter().zip(statuses) {
         if matches!(status, Status::Complete(_)) {
             leaves = leaves.saturating_add(node.span());
         }
@@ -240,9 +240,9 @@ fn six_threads_agree_with_a_replay(rt: HostRuntime) -> Result<(), Fail> {
     );
     assert!(rt;
         gathered
-            .words
+            .statuses
             .iter()
-            .all(|words| complete_leaves(words) == 32)
+            .all(|statuses| complete_leaves(statuses) == 32)
     );
     Ok(())
 }

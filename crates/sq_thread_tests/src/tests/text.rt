@@ -20,8 +20,8 @@ pub fn text_of(alloc: Global, gathered: &Gathered) -> Result<String, Fail> {
     for link in &gathered.links {
         write_link(&mut text, link)?;
     }
-    for words in &gathered.words {
-        write_words(&mut text, words)?;
+    for statuses in &gathered.statuses {
+        write_statuses(&mut text, statuses)?;
     }
     write_receipts(alloc, &mut text, &gathered.receipts)?;
     Ok(String::from_utf8(text)?)
@@ -56,8 +56,8 @@ fn write_link(text: &mut Vec<u8>, link: &ClosedLink) -> Result<(), Fail> {
 }
 
 // The nodes of a tree that aren't free.
-fn write_words(text: &mut Vec<u8>, words: &[Status; NODES]) -> Result<(), Fail> {
-    for (node, status) in NodeId::all().iter().zip(words) {
+fn write_statuses(text: &mut Vec<u8>, statuses: &[Status; NODES]) -> Result<(), Fail> {
+    for (node, status) in NodeId::all().iter().zip(statuses) {
         if *status != Status::Free {
             let number = node.number();
             writeln!(text, "node {number} {status:?}")?;

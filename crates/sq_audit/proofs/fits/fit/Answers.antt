@@ -2,19 +2,19 @@ use Rattle.std.proofs.Common.{List, ap, ◌∙◌, subst}
 use Rattle.std.specs.Bool.{Decides}
 use Rattle.sq_tree.specs.declared.status.Status.{Status}
 use Rattle.sq_node_model.specs.Gathered.{GatheredValue}
-use Rattle.sq_gather.specs.Grown.{AreGrown}
+use Rattle.sq_node_model.specs.Spots.{AllGrown}
 use Rattle.sq_audit.proofs.Each.{decides_not, refuted, shown}
 use Rattle.sq_audit.proofs.Fitting.{FitsSoFar, notes_apart, fit_if_placed}
 use Rattle.sq_audit.proofs.fits.fit.Goals as goal
 use Rattle.sq_audit.proofs.fits.fit.Goals.{After-have_grown, Else-not-branch-2}
 
 -- whether the trees grew
-grown_is : (c : After-have_grown) → Decides c.have_grown.result (AreGrown c.args.g.now.words)
+grown_is : (c : After-have_grown) → Decides c.have_grown.result (AllGrown c.args.g.now.statuses)
 grown_is c =
-    subst (λ (words : List (List Status)). Decides c.have_grown.result (AreGrown words)) (c.deref.ensures.value ∙ ap (λ (g : GatheredValue). g.words) c.g.view_is) c.have_grown.ensures
+    subst (λ (statuses : List (List Status)). Decides c.have_grown.result (AllGrown statuses)) (c.deref.ensures.value ∙ ap (λ (g : GatheredValue). g.statuses) c.g.view_is) c.have_grown.ensures
 
 -- what is known once the tests before the last one are passed
-so_far : (c : Else-not-branch-2) → Decides c.have_grown.result (AreGrown c.args.g.now.words) → FitsSoFar c.args.opening.now c.args.g.now
+so_far : (c : Else-not-branch-2) → Decides c.have_grown.result (AllGrown c.args.g.now.statuses) → FitsSoFar c.args.opening.now c.args.g.now
 so_far c grown =
     record {
       parts = shown c.has_parts.result c.has_parts.ensures c.if-not-has_parts.false;

@@ -37,9 +37,9 @@ returns c =
     let known = shown c.are_known_links.result (known_are (goal.at.returns c).After-are_known_links) c.if-not-are_known_links.false in
     let known_too = known_again o g.stage g.links c.links.result.now c.links-2.result.now are are_too known in
     let stores : length g.stores ≡ o.old.parts = ap (λ (v : GatheredValue). length v.stores) (sym c.g.view_is) ∙ (let e : length c.g.inside.stores.items ≡ vec_len c.g.inside.stores = search rules in e) ∙ sym c.len.ensures ∙ c.if-len-from.false ∙ c.from.ensures ∙ c.parts.ensures.parts ∙ ap (λ (p : PlanValue). p.parts) c.old_plan.ensures.plan in
-    let words : length g.words ≡ length o.recon.segments = ap (λ (v : GatheredValue). length v.words) (sym c.g.view_is) ∙ (let e : length c.g.inside.words.items ≡ vec_len c.g.inside.words = search rules in e) ∙ sym c.len-2.ensures ∙ c.if-len-segments.false ∙ ap (λ (r : List Range). length r) c.segments.ensures.segments ∙ ap (λ (r : ReconValue). length r.segments) c.recon-recon.ensures.recon in
+    let statuses : length g.statuses ≡ length o.recon.segments = ap (λ (v : GatheredValue). length v.statuses) (sym c.g.view_is) ∙ (let e : length c.g.inside.statuses.items ≡ vec_len c.g.inside.statuses = search rules in e) ∙ sym c.len-2.ensures ∙ c.if-len-segments.false ∙ ap (λ (r : List Range). length r) c.segments.ensures.segments ∙ ap (λ (r : ReconValue). length r.segments) c.recon-recon.ensures.recon in
     Decides-like c.have_one_each.result
-    (λ once. record { all_stores = stores; each_link = each_link_from o g.stage g.links c.links-2.result.now are_too known_too once; all_words = words })
+    (λ once. record { all_stores = stores; each_link = each_link_from o g.stage g.links c.links-2.result.now are_too known_too once; all_statuses = statuses })
     (λ parts. one_of_each o g.stage g.links c.links-2.result.now are_too parts.each_link)
     (told_of (λ (r : ReconValue) (i : ℕ) (ls : List GatheredLink). Decides c.have_one_each.result (HaveOneEach r i c.links-2.result.now ls))
     c.recon-recon.result.now o.recon c.g.inside.stage g.stage c.deref-2.result.now g.links

@@ -12,7 +12,7 @@ use Rattle.sq_ranges.specs.ReconValue.{ReconValue, stage_on}
 use Rattle.sq_model.specs.Links.{goes, is_on_link}
 use Rattle.sq_node_model.specs.Gathered.{GatheredLink, GatheredValue}
 use Rattle.sq_node_model.specs.Stages.{runs_in}
-use Rattle.sq_node_model.specs.Spots.{word_in}
+use Rattle.sq_node_model.specs.Spots.{gathered_status}
 use Rattle.sq_node_model.specs.Placed.{IsLinkNote}
 use Rattle.sq_audit.proofs.Each.{decides_not, looked_up}
 use Rattle.sq_audit.proofs.notes.is_link_note.Goals as goal
@@ -66,9 +66,9 @@ returns c =
     let to : note.dst ≡ c.link.inside.dst = search rules in
     let along : is_on_link o link.src link.dst note.seg ≡ true = sym (goes_along (goal.at.returns c).After-goes) ∙ c.if-not-goes.false in
     let stage : stage_on o.recon link.src link.dst ≡ g.stage = sym (stage_is (goal.at.returns c).After-stage_on) ∙ c.if-stage_on-g.false ∙ ap (λ (v : GatheredValue). v.stage) c.g.view_is in
-    let words : c.deref.result.now ≡ g.words = c.deref.ensures.value ∙ ap (λ (g : GatheredValue). g.words) c.g.view_is in
-    let status : c.status_of.result ≡ word_in g note.seg note.node = c.status_of.ensures.status ∙ ap (λ (ws : List (List Status)). status_at (slice_index_or ws note.seg []) note.node) words in
-    let begun : c.is_begun.result ≡ is_begun (word_in g note.seg note.node) = c.is_begun.ensures ∙ ap is_begun status in (
+    let statuses : c.deref.result.now ≡ g.statuses = c.deref.ensures.value ∙ ap (λ (g : GatheredValue). g.statuses) c.g.view_is in
+    let status : c.status_of.result ≡ gathered_status g note.seg note.node = c.status_of.ensures.status ∙ ap (λ (ws : List (List Status)). status_at (slice_index_or ws note.seg []) note.node) statuses in
+    let begun : c.is_begun.result ≡ is_begun (gathered_status g note.seg note.node) = c.is_begun.ensures ∙ ap is_begun status in (
       (λ e. record {
         comes_from = from ∙ src;
         goes_to = to ∙ dst;

@@ -74,9 +74,9 @@ returns-clause-gathered g c =
     let whole = c.add_pumps.new.self in
     let closed = c.close.ensures in
     let links : AreClosedLinks c.args.fabric.links whole.ends c.close.result.links = subst (λ (links : List LinkValue). AreClosedLinks links whole.ends c.close.result.links) parts.links closed.links in
-    let words : AreClosedTrees c.args.fabric.seats whole.owners c.close.result.words = subst (λ (seats : List SeatValue). AreClosedTrees seats whole.owners c.close.result.words) parts.seats closed.words in
+    let statuses : AreClosedTrees c.args.fabric.seats whole.owners c.close.result.statuses = subst (λ (seats : List SeatValue). AreClosedTrees seats whole.owners c.close.result.statuses) parts.seats closed.statuses in
     is_gathered c.args.fabric nodes c.args.pumps.items parts.fabric c.requires c.add_receipts.new.self begun c.add_jobs.new.self adds whole c.add_pumps.ensures c.close.result
-    closed.stores closed.receipts closed.left (closed.stage ∙ parts.stage) links words
+    closed.stores closed.receipts closed.left (closed.stage ∙ parts.stage) links statuses
 
 pub returns-clause-placed : goal.returns-clause-placed
 returns-clause-placed g c =

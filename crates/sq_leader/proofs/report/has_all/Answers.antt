@@ -1,8 +1,8 @@
 use Rattle.std.proofs.Common.{◌≡◌, ◌<◌, ◌||◌, ◌&&◌, ◌==◌, not, true, false, List, length, get_or, arith, sym, ap, ◌∙◌, below_more}
 use Rattle.std.proofs.lemmas.Bool.{eq-eqb, ne_eqb, or_right}
 use Rattle.sq_ranges.specs.declared.recon.Range.{Range}
-use Rattle.sq_ranges.specs.ReconValue.{stage_in}
-use Rattle.sq_leader.specs.Segments.{moves_into, is_told_whole}
+use Rattle.sq_ranges.specs.ReconValue.{stage_in, moves_into}
+use Rattle.sq_leader.specs.Segments.{is_told_whole}
 use Rattle.sq_leader.proofs.Wholes.{all_pass, one_fails, is_missing-at, moves_elsewhere}
 use Rattle.sq_leader.proofs.report.has_all.Goals as goal
 use Rattle.sq_leader.proofs.report.has_all.Goals.{After-eq, else-eq-via-then-eq+then-stage_on-stage+else-not-is_whole, else-eq-via-then-eq+else-stage_on-stage, else-eq-via-else-eq}

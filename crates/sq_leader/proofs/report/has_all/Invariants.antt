@@ -1,5 +1,6 @@
 use Rattle.std.proofs.Common.{◌≡◌, ℕ, ◌<◌, ◌||◌, not, true}
-use Rattle.sq_leader.specs.Segments.{moves_into, is_told_whole}
+use Rattle.sq_ranges.specs.ReconValue.{moves_into}
+use Rattle.sq_leader.specs.Segments.{is_told_whole}
 use Rattle.sq_leader.proofs.report.has_all.Given as goal
 
 -- each segment so far that moves into the partition in the stage is whole

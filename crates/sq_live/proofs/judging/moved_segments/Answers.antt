@@ -5,8 +5,8 @@ use Rattle.sq_live.proofs.Leading.{none_yet, set_next}
 use Rattle.sq_live.proofs.judging.moved_segments.Goals as goal
 
 pub loop-seg-init : goal.loop-seg-init
-loop-seg-init c = none_yet SEGMENT_LIMIT (is_moved c.args.words.now)
+loop-seg-init c = none_yet SEGMENT_LIMIT (is_moved c.args.statuses.now)
 
 pub loop-seg-preserved : goal.loop-seg-preserved
 loop-seg-preserved c =
-    set_next SEGMENT_LIMIT (is_moved c.args.words.now) c.loop-seg.seg c.loop-seg.moved c.reads_complete.result (omega (arith, c.min-seg-end.ensures)) c.loop-seg.invariant (c.reads_complete.ensures 5 (omega arith))
+    set_next SEGMENT_LIMIT (is_moved c.args.statuses.now) c.loop-seg.seg c.loop-seg.moved c.reads_complete.result (omega (arith, c.min-seg-end.ensures)) c.loop-seg.invariant (c.reads_complete.ensures 5 (omega arith))

@@ -5,4 +5,4 @@ use Rattle.sq_live.proofs.judging.moved_segments.Given as goal
 
 -- of the segments so far those are marked that are complete
 abbrev pub invariant-loop-seg : goal.invariant-loop-seg
-invariant-loop-seg l = AreMarked SEGMENT_LIMIT l.seg (is_moved l.words) l.moved
+invariant-loop-seg l = AreMarked SEGMENT_LIMIT l.seg (is_moved l.statuses) l.moved

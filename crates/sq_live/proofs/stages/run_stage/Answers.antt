@@ -5,7 +5,7 @@ use Rattle.sq_leader.specs.LeaderValue.{StageValue}
 use Rattle.sq_leader.specs.Segments.{is_told_whole}
 use Rattle.sq_node_model.specs.BeganWith.{BeganWith}
 use Rattle.sq_node_model.specs.Gathered.{GatheredValue}
-use Rattle.sq_gather.specs.Grown.{AreGrown}
+use Rattle.sq_node_model.specs.Spots.{AllGrown}
 use Rattle.sq_live.specs.declared.leader.Led.TheVariants.{Next, Ended, Missing}
 use Rattle.sq_live.specs.Account.{AccountValue}
 use Rattle.sq_live.specs.Leading.{Leads}
@@ -24,8 +24,8 @@ opening g c = subst (λ (a : AccountValue). IsOpening a.opening) c.account.view_
 ran : (g : Over) (c : After-deref g) → (began : BeganWith) → IsReady began c.args.ready → RanFrom c.args.ready.account.opening began c.in_ok-gathered.gathered
 ran g c began ready = c.in_ok-gathered.ensures c.args.ready.account.opening began (opening g c) ready.run
 
-words : (g : Over) (c : After-deref g) → c.deref.result.now ≡ c.in_ok-gathered.gathered.words
-words g c = c.deref.ensures.value ∙ ap (λ (g : GatheredValue). g.words) c.gathered.view_is
+statuses : (g : Over) (c : After-deref g) → c.deref.result.now ≡ c.in_ok-gathered.gathered.statuses
+statuses g c = c.deref.ensures.value ∙ ap (λ (g : GatheredValue). g.statuses) c.gathered.view_is
 
 -- the leader was told of the segments that are complete
 told : (g : Over) (c : After-deref g) → (moved : List Bool) → MarksMoved c.deref.result.now moved → (began : BeganWith) → IsReady began c.args.ready
@@ -35,7 +35,7 @@ told g c moved marks began ready =
     record {
       is = opening g c;
       ran = ran;
-      marks = subst (λ (words : List (List Status)). MarksMoved words moved) (words g c) marks;
+      marks = subst (λ (statuses : List (List Status)). MarksMoved statuses moved) (statuses g c) marks;
       now = ap (λ (at : StageValue). at.stage) ready.led ∙ sym ran.stage;
     }
 
@@ -62,7 +62,7 @@ goes g d n c told led =
     (done_before c.args.ready.account c.args.ready.moving c.requires.ready.0 c.in_ok-gathered.gathered c.moved_segments-moved.result told c.in-Next.moving led) told.ran.all_left
 
 pub moved_segments-moved-requires : goal.moved_segments-moved-requires
-moved_segments-moved-requires g c = subst AreGrown (sym (words g c)) (ran g c c.requires.ready.0 c.requires.ready.1).placed.fit.grown
+moved_segments-moved-requires g c = subst AllGrown (sym (statuses g c)) (ran g c c.requires.ready.0 c.requires.ready.1).placed.fit.grown
 
 pub continue_with-requires : goal.continue_with-requires
 continue_with-requires g c =

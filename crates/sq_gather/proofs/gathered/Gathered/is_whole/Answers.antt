@@ -8,10 +8,10 @@ use Rattle.sq_gather.proofs.gathered.Gathered.is_whole.Goals as goal
 
 pub reads_complete-requires : goal.reads_complete-requires
 reads_complete-requires c =
-    let there : slice_index_or c.args.self.now.words c.args.seg [] ≡ c.in-Some.statuses.now = search rules in
+    let there : slice_index_or c.args.self.now.statuses c.args.seg [] ≡ c.in-Some.statuses.now = search rules in
     subst (λ (sts : List Status). IsGrown (status_at sts)) there (c.requires c.args.seg)
 
 pub returns-in-Some : goal.returns-in-Some
 returns-in-Some c =
-    let there : c.in-Some.statuses.now ≡ slice_index_or c.args.self.now.words c.args.seg [] = search rules in
+    let there : c.in-Some.statuses.now ≡ slice_index_or c.args.self.now.statuses c.args.seg [] = search rules in
     c.reads_complete.ensures 5 (omega arith) ∙ ap (λ (sts : List Status). is_complete_reading (reading_within 5 (status_at sts) 1)) there

@@ -1,7 +1,7 @@
 use Rattle.std.proofs.Common.{ℕ, ◌<◌, []}
 use Rattle.std.specs.Prelude.{slice_index_or}
 use Rattle.sq_tree.specs.Tree.{status_at, IsGrown}
-use Rattle.sq_audit.proofs.words.have_grown.Given as goal
+use Rattle.sq_audit.proofs.statuses.have_grown.Given as goal
 
 abbrev pub invariant-loop-tree : goal.invariant-loop-tree
-invariant-loop-tree l = (i : ℕ) → i < l.tree-index → IsGrown (status_at (slice_index_or l.words i []))
+invariant-loop-tree l = (i : ℕ) → i < l.tree-index → IsGrown (status_at (slice_index_or l.statuses i []))

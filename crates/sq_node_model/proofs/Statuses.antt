@@ -18,7 +18,7 @@ use Rattle.sq_node_model.specs.NodeValue.{NodeValue}
 use Rattle.sq_node_model.specs.Chunks.{HasLoaded, HasLast}
 use Rattle.sq_node_model.specs.BegunHolds.{IsNamed}
 use Rattle.sq_node_model.specs.Gathered.{GatheredValue, Gathers}
-use Rattle.sq_node_model.specs.Spots.{word_in}
+use Rattle.sq_node_model.specs.Spots.{gathered_status}
 use Rattle.sq_node_model.proofs.Trees.{grown_tree, begun_stands}
 use Rattle.sq_node_model.proofs.Lists.{Contains-flat_map}
 
@@ -44,15 +44,15 @@ none_past zero = refl
 none_past (suc n) = refl
 
 module _ (o : OpeningValue) (began : BeganWith) (nodes : List NodeValue) (g : GatheredValue) (gathers : Gathers o began nodes g) where
-  past_end : (seg : ℕ) → length o.recon.segments ≤ seg → (n : ℕ) → word_in g seg n ≡ Free
+  past_end : (seg : ℕ) → length o.recon.segments ≤ seg → (n : ℕ) → gathered_status g seg n ≡ Free
   past_end seg past n =
-      let words = gathers.all_words in
-      ap (λ statuses. status_at statuses n) (get_or_past g.words seg [] (omega (arith, words, past))) ∙ none_past n
+      let statuses = gathers.all_statuses in
+      ap (λ statuses. status_at statuses n) (get_or_past g.statuses seg [] (omega (arith, statuses, past))) ∙ none_past n
 
-  pub grown : (seg : ℕ) → IsGrown (word_in g seg)
+  pub grown : (seg : ℕ) → IsGrown (gathered_status g seg)
   grown seg =
       ⊎_elim
-      (λ below. let tree = gathers.trees seg below in grown_tree (slice_index_or g.words seg []) (tree.view ∷ []) tree.tree)
+      (λ below. let tree = gathers.trees seg below in grown_tree (slice_index_or g.statuses seg []) (tree.view ∷ []) tree.tree)
       (λ past. record {
         live = λ n touched. absurd (true≢false (sym (ap is_free (past_end seg past n)) ∙ touched));
         leaves = λ n leaf. ap is_split (past_end seg past n);
@@ -60,28 +60,28 @@ module _ (o : OpeningValue) (began : BeganWith) (nodes : List NodeValue) (g : Ga
       (cases_lt seg (length o.recon.segments))
 
   -- a tree node that a partition began for a link
-  pub begun : (q : ℕ) (node : NodeValue) (src dst seg n : ℕ) → slice_get nodes q ≡ Some node → is_on_link_in o began.stage src dst seg ≡ true → IsNamed (node.begun seg) n → is_begun (word_in g seg n) ≡ true
+  pub begun : (q : ℕ) (node : NodeValue) (src dst seg n : ℕ) → slice_get nodes q ≡ Some node → is_on_link_in o began.stage src dst seg ≡ true → IsNamed (node.begun seg) n → is_begun (gathered_status g seg n) ≡ true
   begun q node src dst seg n at linked named =
       let goes = on_link_goes o began.stage src dst seg linked in
       let tree = gathers.trees seg (slice_get_within o.recon.segments seg goes.segment goes.there) in
       let among = Contains-flat_map (λ (node : NodeValue). node.begun seg) nodes node (n, named.0) (Contains-slice_get nodes q node at) named.1 in
-      begun_stands (slice_index_or g.words seg []) (tree.view ∷ []) 0 tree.view n named.0 tree.tree refl
+      begun_stands (slice_index_or g.statuses seg []) (tree.view ∷ []) 0 tree.view n named.0 tree.tree refl
       (subst (λ list. Contains list (n, named.0)) (sym tree.begun) among)
 
-  complete_below : (seg n : ℕ) → is_complete (word_in g seg n) ≡ true → seg < length o.recon.segments
+  complete_below : (seg n : ℕ) → is_complete (gathered_status g seg n) ≡ true → seg < length o.recon.segments
   complete_below seg n complete =
       ⊎_elim (λ (below : seg < length o.recon.segments). below)
       (λ past. absurd (true≢false (sym complete ∙ ap is_complete (past_end seg past n))))
       (cases_lt seg (length o.recon.segments))
 
   -- of a complete tree node some partition loaded the last chunk
-  pub completed : (seg n : ℕ) → is_complete (word_in g seg n) ≡ true → (q : ℕ) × (node : NodeValue) × (slice_get nodes q ≡ Some node) × HasLast (HasLoaded node) seg n
+  pub completed : (seg n : ℕ) → is_complete (gathered_status g seg n) ≡ true → (q : ℕ) × (node : NodeValue) × (slice_get nodes q ≡ Some node) × HasLast (HasLoaded node) seg n
   completed seg n complete =
       let tree = gathers.trees seg (complete_below seg n complete) in
-      let is = complete_is (word_in g seg n) complete in
+      let is = complete_is (gathered_status g seg n) complete in
       let pull = is.0 in
       let won = tree.tree.once n (Complete pull) (λ e. absurd cc) in
-      let counted : one_if (is_past (Complete pull) (word_in g seg n)) ≡ 1 = ap (λ st. one_if (is_past (Complete pull) st)) is.1 ∙ ap one_if (eq-eqb pull pull refl) in
+      let counted : one_if (is_past (Complete pull) (gathered_status g seg n)) ≡ 1 = ap (λ st. one_if (is_past (Complete pull) st)) is.1 ∙ ap one_if (eq-eqb pull pull refl) in
       let has = counted_in n pull tree.view.completed (omega (arith, won, counted)) in
       let found = flat_map_in (λ (node : NodeValue). node.completed seg) nodes (n, pull) (subst (λ list. Contains list (n, pull)) tree.completed has) in
       let there = slice_get-Contains nodes found.0 found.1 in

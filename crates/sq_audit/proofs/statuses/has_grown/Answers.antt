@@ -1,9 +1,9 @@
 use Rattle.std.proofs.Common.{◌+◌, subst, arith, below_more, refl}
 use Rattle.sq_tree.specs.Tree.{status_at}
-use Rattle.sq_audit.specs.Words.{IsGrownAt}
+use Rattle.sq_audit.specs.Statuses.{IsGrownAt}
 use Rattle.sq_audit.proofs.Each.{decides_not, refuted, shown}
 use Rattle.sq_audit.proofs.Growing.{numbered_at, grown_from, grown_at}
-use Rattle.sq_audit.proofs.words.has_grown.Goals as goal
+use Rattle.sq_audit.proofs.statuses.has_grown.Goals as goal
 
 pub returns-then-not-has_grown_at : goal.returns-then-not-has_grown_at
 returns-then-not-has_grown_at c = decides_not (λ grown. refuted c.has_grown_at.result c.has_grown_at.ensures c.if-not-has_grown_at.true (grown_at (status_at c.args.tree.now) _ grown))

@@ -3,7 +3,7 @@ use Rattle.std.specs.Prelude.{◌||◌}
 use Rattle.std.specs.BTreeSet.{contains}
 use Rattle.sq_model.specs.Links.{has_last}
 use Rattle.sq_audit.specs.Counts.{key_order}
-use Rattle.sq_audit.proofs.words.add_ended.Given as goal
+use Rattle.sq_audit.proofs.statuses.add_ended.Given as goal
 
 abbrev pub invariant-loop-note : goal.invariant-loop-note
 invariant-loop-note l =

@@ -4,8 +4,8 @@ use Rattle.sq_audit.specs.Counts.{key_order}
 use Rattle.sq_audit.proofs.Listing.{item_at}
 use Rattle.sq_audit.proofs.Counting.{pair_is}
 use Rattle.sq_audit.proofs.Ending.{not_ended, ended_next}
-use Rattle.sq_audit.proofs.words.add_ended.Goals as goal
-use Rattle.sq_audit.proofs.words.add_ended.Goals.{then-note+in_ok-insert, else-note}
+use Rattle.sq_audit.proofs.statuses.add_ended.Goals as goal
+use Rattle.sq_audit.proofs.statuses.add_ended.Goals.{then-note+in_ok-insert, else-note}
 
 pub loop-note-preserved : goal.loop-note-preserved
 loop-note-preserved c =

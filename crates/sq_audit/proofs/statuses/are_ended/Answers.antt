@@ -1,9 +1,9 @@
 use Rattle.std.proofs.Common.{◌∙◌, sym, ap, arith, refl, true≢false}
 use Rattle.sq_tree.specs.Tree.{status_at}
 use Rattle.sq_tree.specs.Status.{is_complete}
-use Rattle.sq_audit.specs.Words.{IsEnded}
+use Rattle.sq_audit.specs.Statuses.{IsEnded}
 use Rattle.sq_audit.proofs.Growing.{by_nodes}
-use Rattle.sq_audit.proofs.words.are_ended.Goals as goal
+use Rattle.sq_audit.proofs.statuses.are_ended.Goals as goal
 
 pub returns : goal.returns
 returns c =

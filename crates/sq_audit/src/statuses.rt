@@ -6,10 +6,9 @@ ghost use Rattle.std.specs.Bool.{Decides};
 ghost use Rattle.std.specs.BTreeSet.{contains};
 ghost use Rattle.sq_tree.specs.Prelude.{is_live, status_at, IsGrown};
 ghost use Rattle.sq_model.specs.Prelude.{has_last};
-ghost use Rattle.sq_node_model.specs.Prelude.{loads_of};
-ghost use Rattle.sq_gather.specs.Grown.{AreGrown};
+ghost use Rattle.sq_node_model.specs.Prelude.{loads_of, AllGrown};
 ghost use Rattle.sq_audit.specs.Counts.{key_order};
-ghost use Rattle.sq_audit.specs.Words.{IsGrownAt, CompleteAreLoaded, AreEnded, IsEnded};
+ghost use Rattle.sq_audit.specs.Statuses.{IsGrownAt, CompleteAreLoaded, AreEnded, IsEnded};
 
 use crate::spans::loads;
 use sq_chunk::Note;
@@ -19,10 +18,10 @@ use std::alloc::{AllocError, Global};
 use std::collections::BTreeSet;
 
 /// Whether each of these trees grew from a free one.
-pub(crate) fn have_grown(words: &[[Status; NODES]]) -> bool
-    ensures { Decides result (AreGrown words.now) }
+pub(crate) fn have_grown(statuses: &[[Status; NODES]]) -> bool
+    ensures { Decides result (AllGrown statuses.now) }
 {
-    for tree in words {
+    for tree in statuses {
         if !has_grown(tree) {
             return false;
         }
@@ -65,7 +64,7 @@ pub(crate) fn are_complete(alloc: Global, g: &Gathered) -> Result<bool, AllocErr
     ensures { IfOk result (λ complete. Decides complete (CompleteAreLoaded g.now)) }
 {
     let ended = ended(alloc, &g.links)?;
-    for (seg, tree) in g.words.iter().enumerate() {
+    for (seg, tree) in g.statuses.iter().enumerate() {
         if !are_ended(&ended, seg as u64, tree) {
             return Ok(false);
         }

@@ -6,7 +6,7 @@ use Rattle.sq_tree.specs.Node.{is_leaf}
 use Rattle.sq_tree.specs.Status.{is_free, is_split, is_live, is_complete}
 use Rattle.sq_model.specs.Links.{has_last}
 use Rattle.sq_node_model.specs.Gathered.{GatheredValue}
-use Rattle.sq_node_model.specs.Spots.{word_in, loaded_notes}
+use Rattle.sq_node_model.specs.Spots.{gathered_status, loaded_notes}
 use Rattle.sq_audit.specs.Counts.{key_order}
 
 -- what a tree that grew has at a node: if it isn't free it is live, and a leaf isn't split
@@ -16,7 +16,7 @@ pub record IsGrownAt (status : ℕ → Status) (n : ℕ) : Type 0 where
 
 -- each complete node has its last note loaded
 abbrev pub CompleteAreLoaded : GatheredValue → Type 0
-CompleteAreLoaded g = (seg n : ℕ) → is_complete (word_in g seg n) ≡ true → has_last seg n (loaded_notes g) ≡ true
+CompleteAreLoaded g = (seg n : ℕ) → is_complete (gathered_status g seg n) ≡ true → has_last seg n (loaded_notes g) ≡ true
 
 -- the node, if it is complete, is among these
 abbrev pub IsEnded : BTreeSet (ℕ × ℕ) → ℕ → ℕ → Status → Type 0

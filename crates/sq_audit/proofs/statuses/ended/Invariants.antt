@@ -4,7 +4,7 @@ use Rattle.std.specs.BTreeSet.{contains}
 use Rattle.sq_model.specs.Links.{has_last}
 use Rattle.sq_node_model.specs.Spots.{loads_of}
 use Rattle.sq_audit.specs.Counts.{key_order}
-use Rattle.sq_audit.proofs.words.ended.Given as goal
+use Rattle.sq_audit.proofs.statuses.ended.Given as goal
 
 abbrev pub invariant-loop-link : goal.invariant-loop-link
 invariant-loop-link l = (seg node : ℕ) → contains key_order l.ended (seg, node) ≡ has_last seg node (flat_map loads_of (take l.link-index l.links))
