@@ -1,11 +1,10 @@
 // The leader: a whole move, in one stage and in two, its refusals, and that a refused call changes nothing.
+use super::fixtures::ALL_OF_THREE;
 use sq_leader::{Idle, Leader, Moving, Report, ReportFault};
 use sq_plan::Plan;
 use sq_ranges::Recon;
 use std::alloc::Global;
 use std::test::Fail;
-
-const ALL: &str = r#"{"version":1,"partitions":3,"ranges":[[0,4294967296,0]]}"#;
 
 // The root keys 4 to 7 (segment 0) and 20 to 23 (segment 2) to partition 1, and 12 to 15 (segment 1) to partition 2.
 const SHARED: &str =
@@ -102,7 +101,7 @@ fn after(leader: Leader, call: Call, plan: &Plan, recon: &Recon) -> (Leader, Opt
 
 // Makes the calls of a move from a plan to another one by one. The first that isn't answered as wanted, with its answer.
 fn first_wrong(alloc: Global, new: &str, rows: &[Row]) -> Result<Option<Row>, Fail> {
-    let old = Plan::read(alloc, ALL.as_bytes())?;
+    let old = Plan::read(alloc, ALL_OF_THREE.as_bytes())?;
     let new = Plan::read(alloc, new.as_bytes())?;
     let recon = Recon::between(alloc, &old, &new, 1)?;
     let mut leader = Leader::Idle(Idle::new(&old, recon.clone()?));
@@ -118,86 +117,87 @@ fn first_wrong(alloc: Global, new: &str, rows: &[Row]) -> Result<Option<Row>, Fa
     Ok(None)
 }
 
-#[test]
-fn a_whole_move(rt: HostRuntime) -> Result<(), Fail> {
-    let rows = [
-        (Call::Prepare(3), Err(219)),
-        (Call::Prepare(u64::MAX), Err(219)),
-        (Call::Prepare(1), Ok(Phase::Preparing)),
-        (Call::Prepare(3), Err(219)),
-        (Call::Start, Err(228)),
-        (Call::Prepare(1), Ok(Phase::Preparing)),
-        (Call::Prepare(0), Ok(Phase::Preparing)),
-        (Call::Start, Err(228)),
-        (Call::Prepare(2), Ok(Phase::Preparing)),
-        (Call::Start, Ok(Phase::Moving)),
-        (Call::Finish, Err(218)),
-        (Call::Report(3, &[]), Err(219)),
-        (Call::Report(257, &[true, true, true]), Err(219)),
-        (Call::Report(1, &[false, true, true]), Err(218)),
-        (Call::Report(1, &[true, true, false]), Err(218)),
-        (Call::Report(1, &[true]), Err(218)),
-        (Call::Finish, Err(218)),
-        (Call::Report(1, &[true, false, true]), Ok(Phase::Moving)),
-        (Call::Report(1, &[true, true, true]), Ok(Phase::Moving)),
-        (Call::Report(0, &[]), Ok(Phase::Moving)),
-        (Call::Report(2, &[true, false, true]), Err(218)),
-        (Call::Finish, Err(218)),
-        (Call::Report(2, &[false, true]), Ok(Phase::Moving)),
-        (Call::Finish, Ok(Phase::Ended)),
-    ];
-    let wrong = first_wrong(rt.alloc(), SHARED, &rows)?;
-    assert!(rt; wrong.is_none(), "{wrong:?}");
-    Ok(())
-}
+// The calls of a move of nothing.
+const CALLS_OF_NOTHING: [Row; 5] = [
+    (Call::Prepare(2), Ok(Phase::Preparing)),
+    (Call::Prepare(1), Ok(Phase::Preparing)),
+    (Call::Prepare(0), Ok(Phase::Preparing)),
+    (Call::Start, Ok(Phase::Moving)),
+    (Call::Finish, Ok(Phase::Ended)),
+];
+
+// Those of a whole move in one stage.
+const CALLS_IN_ONE_STAGE: [Row; 24] = [
+    (Call::Prepare(3), Err(219)),
+    (Call::Prepare(u64::MAX), Err(219)),
+    (Call::Prepare(1), Ok(Phase::Preparing)),
+    (Call::Prepare(3), Err(219)),
+    (Call::Start, Err(228)),
+    (Call::Prepare(1), Ok(Phase::Preparing)),
+    (Call::Prepare(0), Ok(Phase::Preparing)),
+    (Call::Start, Err(228)),
+    (Call::Prepare(2), Ok(Phase::Preparing)),
+    (Call::Start, Ok(Phase::Moving)),
+    (Call::Finish, Err(218)),
+    (Call::Report(3, &[]), Err(219)),
+    (Call::Report(257, &[true, true, true]), Err(219)),
+    (Call::Report(1, &[false, true, true]), Err(218)),
+    (Call::Report(1, &[true, true, false]), Err(218)),
+    (Call::Report(1, &[true]), Err(218)),
+    (Call::Finish, Err(218)),
+    (Call::Report(1, &[true, false, true]), Ok(Phase::Moving)),
+    (Call::Report(1, &[true, true, true]), Ok(Phase::Moving)),
+    (Call::Report(0, &[]), Ok(Phase::Moving)),
+    (Call::Report(2, &[true, false, true]), Err(218)),
+    (Call::Finish, Err(218)),
+    (Call::Report(2, &[false, true]), Ok(Phase::Moving)),
+    (Call::Finish, Ok(Phase::Ended)),
+];
+
+// Those of one in two stages.
+const CALLS_IN_TWO_STAGES: [Row; 20] = [
+    (Call::Prepare(0), Ok(Phase::Preparing)),
+    (Call::Prepare(1), Ok(Phase::Preparing)),
+    (Call::Prepare(2), Ok(Phase::Preparing)),
+    (Call::Start, Ok(Phase::Moving)),
+    (Call::Next, Err(218)),
+    (Call::Finish, Err(218)),
+    (Call::Report(1, &[true, true, false]), Err(218)),
+    (Call::ReportFor(2, 1, &[false, true, false]), Err(218)),
+    (Call::Report(2, &[]), Ok(Phase::Moving)),
+    (Call::Next, Err(218)),
+    (Call::Report(1, &[true, false, true]), Ok(Phase::Moving)),
+    (Call::Finish, Err(218)),
+    (Call::Next, Ok(Phase::Moving)),
+    (Call::Next, Err(225)),
+    (Call::ReportFor(2, 0, &[]), Err(218)),
+    (Call::Report(2, &[true, false, true]), Err(218)),
+    (Call::Finish, Err(218)),
+    (Call::Report(2, &[false, true, false]), Ok(Phase::Moving)),
+    (Call::Next, Err(225)),
+    (Call::Finish, Ok(Phase::Ended)),
+];
+
+// New plans, with the calls of the move to them.
+const MOVES: [(&str, &[Row]); 3] = [
+    (ALL_OF_THREE, &CALLS_OF_NOTHING),
+    (SHARED, &CALLS_IN_ONE_STAGE),
+    (IN_STAGES, &CALLS_IN_TWO_STAGES),
+];
 
 #[test]
-fn a_move_in_two_stages(rt: HostRuntime) -> Result<(), Fail> {
-    let rows = [
-        (Call::Prepare(0), Ok(Phase::Preparing)),
-        (Call::Prepare(1), Ok(Phase::Preparing)),
-        (Call::Prepare(2), Ok(Phase::Preparing)),
-        (Call::Start, Ok(Phase::Moving)),
-        (Call::Next, Err(218)),
-        (Call::Finish, Err(218)),
-        (Call::Report(1, &[true, true, false]), Err(218)),
-        (Call::ReportFor(2, 1, &[false, true, false]), Err(218)),
-        (Call::Report(2, &[]), Ok(Phase::Moving)),
-        (Call::Next, Err(218)),
-        (Call::Report(1, &[true, false, true]), Ok(Phase::Moving)),
-        (Call::Finish, Err(218)),
-        (Call::Next, Ok(Phase::Moving)),
-        (Call::Next, Err(225)),
-        (Call::ReportFor(2, 0, &[]), Err(218)),
-        (Call::Report(2, &[true, false, true]), Err(218)),
-        (Call::Finish, Err(218)),
-        (Call::Report(2, &[false, true, false]), Ok(Phase::Moving)),
-        (Call::Next, Err(225)),
-        (Call::Finish, Ok(Phase::Ended)),
-    ];
-    let wrong = first_wrong(rt.alloc(), IN_STAGES, &rows)?;
-    assert!(rt; wrong.is_none(), "{wrong:?}");
-    Ok(())
-}
-
-#[test]
-fn a_move_of_nothing(rt: HostRuntime) -> Result<(), Fail> {
-    let rows = [
-        (Call::Prepare(2), Ok(Phase::Preparing)),
-        (Call::Prepare(1), Ok(Phase::Preparing)),
-        (Call::Prepare(0), Ok(Phase::Preparing)),
-        (Call::Start, Ok(Phase::Moving)),
-        (Call::Finish, Ok(Phase::Ended)),
-    ];
-    let wrong = first_wrong(rt.alloc(), ALL, &rows)?;
-    assert!(rt; wrong.is_none(), "{wrong:?}");
+fn moves(rt: HostRuntime) -> Result<(), Fail> {
+    for (new, rows) in MOVES {
+        let wrong = first_wrong(rt.alloc(), new, rows)?;
+        assert!(rt; wrong.is_none(), "{wrong:?} to {new}");
+    }
     Ok(())
 }
 
 // Whom the leader has heard, of the partitions 0 to 3.
 #[test]
 fn who_was_heard(rt: HostRuntime) -> Result<(), Fail> {
-    let plan = Plan::read(rt.alloc(), ALL.as_bytes())?;
+    let plan = Plan::read(rt.alloc(), ALL_OF_THREE.as_bytes())?;
     let recon = Recon::between(rt.alloc(), &plan, &plan, 1)?;
     let mut leader = Leader::Idle(Idle::new(&plan, recon.clone()?));
     let rows = [
@@ -226,7 +226,7 @@ fn who_was_heard(rt: HostRuntime) -> Result<(), Fail> {
 // A report of a plan with more partitions than the leader's changes nothing.
 #[test]
 fn a_report_of_another_plan(rt: HostRuntime) -> Result<(), Fail> {
-    let three = Plan::read(rt.alloc(), ALL.as_bytes())?;
+    let three = Plan::read(rt.alloc(), ALL_OF_THREE.as_bytes())?;
     let one = Plan::read(
         rt.alloc(),
         br#"{"version":1,"partitions":1,"ranges":[[0,4294967296,0]]}"#,

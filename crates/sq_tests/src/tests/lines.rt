@@ -29,57 +29,37 @@ pub const SIZES: [usize; 4] = [1, 2, 7, 4096];
 // How many bytes of a line are looked at.
 const MOST: usize = 6;
 
-// Inputs, whether a read fails after them, and what comes next of them, with its bytes.
-const INPUTS: [(&[u8], bool, &[(Next, &[u8])]); 8] = [
-    (b"", false, &[(Next::End, b"")]),
-    (b"", true, &[(Next::Failed, b"")]),
+// What comes next of an input, with its bytes.
+type Coming = &'static [(Next, &'static [u8])];
+
+// Inputs with what comes first of them, and then where the reader ends, and where it fails.
+const INPUTS: [(&[u8], Coming, Coming, Coming); 5] = [
+    (b"", &[], &[(Next::End, b"")], &[(Next::Failed, b"")]),
     (
         b"start\n\npush",
-        false,
-        &[
-            (Next::Line, b"start"),
-            (Next::Line, b""),
-            (Next::Rest, b"push"),
-            (Next::End, b"push"),
-        ],
-    ),
-    (
-        b"start\n\npush",
-        true,
-        &[
-            (Next::Line, b"start"),
-            (Next::Line, b""),
-            (Next::Failed, b""),
-            (Next::Failed, b""),
-        ],
+        &[(Next::Line, b"start"), (Next::Line, b"")],
+        &[(Next::Rest, b"push"), (Next::End, b"push")],
+        &[(Next::Failed, b""), (Next::Failed, b"")],
     ),
     (
         b"\r\n\n",
-        false,
-        &[(Next::Line, b"\r"), (Next::Line, b""), (Next::End, b"")],
+        &[(Next::Line, b"\r"), (Next::Line, b"")],
+        &[(Next::End, b"")],
+        &[(Next::Failed, b"")],
     ),
-    (b"finish", false, &[(Next::Rest, b"finish")]),
-    (b"resumed", false, &[(Next::Long, b"")]),
-    (b"resumed", true, &[(Next::Long, b"")]),
+    (
+        b"finish",
+        &[],
+        &[(Next::Rest, b"finish")],
+        &[(Next::Failed, b"")],
+    ),
+    (b"resumed", &[(Next::Long, b"")], &[], &[]),
 ];
 
-// Whether these come of an input, whose reader gives this many bytes a call.
-fn come(
-    alloc: Global,
-    input: &[u8],
-    most: usize,
-    fails: bool,
-    wanted: &[(Next, &[u8])],
-) -> Result<bool, Fail> {
-    let mut lines = LineReader::new(
-        alloc,
-        Drip {
-            rest: input,
-            most,
-            fails,
-        },
-    )?;
-    for (next, piece) in wanted {
+// Whether these come of a reader.
+fn come(alloc: Global, reader: Drip<'_>, first: Coming, then: Coming) -> Result<bool, Fail> {
+    let mut lines = LineReader::new(alloc, reader)?;
+    for (next, piece) in first.iter().chain(then) {
         if lines.next_read(MOST) != *next {
             return Ok(false);
         }
@@ -92,13 +72,20 @@ fn come(
 
 #[test]
 fn lines_in_pieces(rt: HostRuntime) -> Result<(), Fail> {
-    for (input, fails, wanted) in INPUTS {
-        for most in SIZES {
-            // A longer line may be given whole where its end came with it.
-            assert!(rt;
-                come(rt.alloc(), input, most, fails, wanted)?,
-                "{input:?} by {most}"
-            );
+    for (input, first, at_end, at_failure) in INPUTS {
+        for (fails, then) in [(false, at_end), (true, at_failure)] {
+            for most in SIZES {
+                let reader = Drip {
+                    rest: input,
+                    most,
+                    fails,
+                };
+                // A longer line may be given whole where its end came with it.
+                assert!(rt;
+                    come(rt.alloc(), reader, first, then)?,
+                    "{input:?} by {most}"
+                );
+            }
         }
     }
     Ok(())

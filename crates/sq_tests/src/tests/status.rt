@@ -110,6 +110,26 @@ fn split_all(tree: &StatusTree, seat: &mut TreeSeat)
     }
 }
 
+// Shares out two more seats.
+fn share_two(tree: &StatusTree, seat: &mut TreeSeat) -> (TreeSeat, TreeSeat)
+    requires { (seat.old.tree ≡ tree.now) × (seat.old.view.first ≡ true) }
+    ensures first { (seat.new.tree ≡ tree.now) × (seat.new.view.first ≡ true) }
+    ensures shared { (result.0.tree ≡ tree.now) × (result.1.tree ≡ tree.now) }
+{
+    let one = tree.share(seat);
+    (one, tree.share(seat))
+}
+
+// Joins two that were shared out.
+fn join_two(tree: &StatusTree, seat: &mut TreeSeat, one: TreeSeat, other: TreeSeat)
+    requires first { (seat.old.tree ≡ tree.now) × (seat.old.view.first ≡ true) }
+    requires shared { (one.tree ≡ tree.now) × (other.tree ≡ tree.now) }
+    ensures { (seat.new.tree ≡ tree.now) × (seat.new.view.first ≡ true) }
+{
+    tree.join(seat, one);
+    tree.join(seat, other);
+}
+
 // Two threads claim what they find: what each was given, and the statuses then.
 fn share_out<R: Threads + Sync>(
     rt: &R,
@@ -124,8 +144,7 @@ fn share_out<R: Threads + Sync>(
 > {
     let (tree, mut first) = StatusTree::open(alloc)?;
     split_all(&tree, &mut first);
-    let even = tree.share(&mut first);
-    let odd = tree.share(&mut first);
+    let (even, odd) = share_two(&tree, &mut first);
     let shared = &tree;
     let (evens, odds) = thread::join(
         rt,
@@ -140,8 +159,7 @@ fn share_out<R: Threads + Sync>(
     );
     let (even, to_even) = evens;
     let (odd, to_odd) = odds;
-    tree.join(&mut first, even);
-    tree.join(&mut first, odd);
+    join_two(&tree, &mut first, even, odd);
     Ok((to_even, to_odd, tree.close(first)))
 }
 
@@ -271,10 +289,8 @@ fn four<R: Threads + Sync>(
     alloc: Global,
 ) -> Result<([Status; NODES], Vec<(NodeId, Status)>), AllocError> {
     let (tree, mut first) = StatusTree::open(alloc)?;
-    let a = tree.share(&mut first);
-    let b = tree.share(&mut first);
-    let c = tree.share(&mut first);
-    let d = tree.share(&mut first);
+    let (a, b) = share_two(&tree, &mut first);
+    let (c, d) = share_two(&tree, &mut first);
     let shared = &tree;
     let (left, right) = thread::join(
         rt,
@@ -290,10 +306,8 @@ fn four<R: Threads + Sync>(
     let (a, b, mut wins) = left?;
     let (c, d, mut others) = right?;
     wins.append(&mut others)?;
-    tree.join(&mut first, a);
-    tree.join(&mut first, b);
-    tree.join(&mut first, c);
-    tree.join(&mut first, d);
+    join_two(&tree, &mut first, a, b);
+    join_two(&tree, &mut first, c, d);
     Ok((tree.close(first), wins))
 }
 

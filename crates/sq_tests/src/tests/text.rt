@@ -1,9 +1,9 @@
 // Lines, headers and inputs, and the lines of answers.
-use super::fixtures::{PLANS, has, schema, step, transaction};
+use super::fixtures::{PLANS, has, line_of, schema, step, transaction};
 use sq_lines::{LineReader, MAX_UNENDED, Next};
 use sq_model::{Answer, Refusal};
 use sq_schema::{Cause, OpAnswer, OpAnswers, Reply, RowKey, Schema};
-use sq_text::{read_header, read_step, write_answer};
+use sq_text::{read_header, read_step};
 use sq_tree::{Reading, Status};
 use std::alloc::Global;
 use std::test::Fail;
@@ -92,42 +92,31 @@ fn lines_that_are_refused(rt: HostRuntime) -> Result<(), Fail> {
     Ok(())
 }
 
-// Statuses of nodes, and what the nodes read as, with the lines that tell them.
-const READINGS: [(Status, Reading, &str); 7] = [
-    (Status::Free, Reading::NotStarted, "is free not-started\n"),
-    (Status::Free, Reading::Complete, "is free complete\n"),
-    (Status::Split, Reading::Partial, "is split partial\n"),
-    (
-        Status::Claimed(2),
-        Reading::NotStarted,
-        "is claimed 2 not-started\n",
-    ),
-    (
-        Status::Partial(0),
-        Reading::Partial,
-        "is partial 0 partial\n",
-    ),
-    (
-        Status::Complete(3),
-        Reading::Complete,
-        "is complete 3 complete\n",
-    ),
-    (
-        Status::Complete(4_294_967_295),
-        Reading::Complete,
-        "is complete 4294967295 complete\n",
-    ),
+// Statuses of nodes with their words in a line.
+const STATUSES: [(Status, &str); 6] = [
+    (Status::Free, "free"),
+    (Status::Split, "split"),
+    (Status::Claimed(2), "claimed 2"),
+    (Status::Partial(0), "partial 0"),
+    (Status::Complete(3), "complete 3"),
+    (Status::Complete(4_294_967_295), "complete 4294967295"),
+];
+
+// What nodes read as, with the last word of a line.
+const READINGS: [(Reading, &str); 3] = [
+    (Reading::NotStarted, "not-started"),
+    (Reading::Partial, "partial"),
+    (Reading::Complete, "complete"),
 ];
 
 #[test]
 fn readings_of_nodes(rt: HostRuntime) -> Result<(), Fail> {
-    for (status, reading, want) in READINGS {
-        let mut line = Vec::new(rt.alloc());
-        write_answer(&mut line, &Answer::Reads { status, reading })?;
-        assert!(rt;
-            line.as_slice() == want.as_bytes(),
-            "{status:?} is {line:?}"
-        );
+    for (status, has) in STATUSES {
+        for (reading, reads) in READINGS {
+            let line = line_of(rt.alloc(), &Answer::Reads { status, reading })?;
+            let want = format!(in rt.alloc(); "is {has} {reads}\n")?;
+            assert!(rt; line.as_str() == want.as_str(), "{status:?} is {line:?}");
+        }
     }
     Ok(())
 }
@@ -141,12 +130,8 @@ const REFUSALS: [(Refusal, &str); 2] = [
 #[test]
 fn refusals(rt: HostRuntime) -> Result<(), Fail> {
     for (refusal, want) in REFUSALS {
-        let mut line = Vec::new(rt.alloc());
-        write_answer(&mut line, &Answer::Refused(refusal))?;
-        assert!(rt;
-            line.as_slice() == want.as_bytes(),
-            "{refusal:?} is {line:?}"
-        );
+        let line = line_of(rt.alloc(), &Answer::Refused(refusal))?;
+        assert!(rt; line.as_str() == want, "{refusal:?} is {line:?}");
     }
     Ok(())
 }
@@ -154,29 +139,28 @@ fn refusals(rt: HostRuntime) -> Result<(), Fail> {
 // A transaction that was resumed is told as one that was submitted.
 #[test]
 fn resumed_transactions(rt: HostRuntime) -> Result<(), Fail> {
-    let mut answers = Vec::new(rt.alloc());
-    answers.push(OpAnswer::Found(None))?;
-    answers.push(OpAnswer::Number(-3))?;
-    let reply = Reply::Committed(OpAnswers::new(answers));
-    let txn = transaction(rt.alloc(), "txn 1 6 5 get 1 7 add 0 0 -13")?;
-    let mut line = Vec::new(rt.alloc());
-    write_answer(&mut line, &Answer::Resumed { txn, reply })?;
-    assert!(rt;
-        line.as_slice() == "commit 6 none -3\n".as_bytes(),
-        "{line:?}"
-    );
-
-    let reply = Reply::Aborted {
+    let list = vec![in rt.alloc(); OpAnswer::Found(None), OpAnswer::Number(-3)]?;
+    let committed = Reply::Committed(OpAnswers::new(list));
+    let aborted = Reply::Aborted {
         at: 1,
         cause: Cause::Small,
     };
-    let txn = transaction(rt.alloc(), "txn 1 7 5 get 0 0 check 0 0 11")?;
-    let mut line = Vec::new(rt.alloc());
-    write_answer(&mut line, &Answer::Resumed { txn, reply })?;
-    assert!(rt;
-        line.as_slice() == "abort 7 1 small\n".as_bytes(),
-        "{line:?}"
-    );
+    for (line, reply, want) in [
+        (
+            "txn 1 6 5 get 1 7 add 0 0 -13",
+            committed,
+            "commit 6 none -3\n",
+        ),
+        (
+            "txn 1 7 5 get 0 0 check 0 0 11",
+            aborted,
+            "abort 7 1 small\n",
+        ),
+    ] {
+        let txn = transaction(rt.alloc(), line)?;
+        let told = line_of(rt.alloc(), &Answer::Resumed { txn, reply })?;
+        assert!(rt; told.as_str() == want, "{line} is {told:?}");
+    }
     Ok(())
 }
 
