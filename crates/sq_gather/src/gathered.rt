@@ -1,4 +1,9 @@
 // What is gathered of a run.
+ghost use Rattle.std.specs.Prelude.{map};
+ghost use Rattle.std.specs.Coded.{codes};
+ghost use Rattle.sq_store.specs.Prelude.{store_coded};
+ghost use Rattle.sq_node_model.specs.Prelude.{GatheredValue};
+
 use crate::links::ClosedLink;
 use sq_node::Receipt;
 use sq_schema::Txn;
@@ -25,11 +30,6 @@ pub struct Gathered {
 }
 
 impl Model for Gathered {
-    ghost use Rattle.std.specs.Prelude.{map};
-    ghost use Rattle.std.specs.Coded.{codes};
-    ghost use Rattle.sq_store.specs.Prelude.{store_coded};
-    ghost use Rattle.sq_node_model.specs.Prelude.{GatheredValue};
-
     ghost Value = { GatheredValue };
 
     ghost coded = { Prim.hlevel (codes, store_coded) };

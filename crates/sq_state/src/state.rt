@@ -1,9 +1,11 @@
 // The state of a world.
-ghost use Rattle.std.specs.Prelude.{◌≡◌, ◌<◌, nat_le, not, is_none, length, IfOk};
+ghost use Rattle.std.specs.Prelude.{◌≡◌, ◌<◌, nat_le, not, is_none, length, IfOk, map};
+ghost use Rattle.std.specs.Coded.{codes};
 ghost use Rattle.sq_model.specs.declared.answer.Refusal.{Refusal};
 ghost use Rattle.sq_model.specs.Prelude.{is_moving_phase};
 ghost use Rattle.sq_tree.specs.Prelude.{is_node};
-ghost use Rattle.sq_transition.specs.Prelude.{running_range, phase_of};
+ghost use Rattle.sq_store.specs.Prelude.{store_coded};
+ghost use Rattle.sq_transition.specs.Prelude.{running_range, phase_of, WorldValue};
 ghost use Rattle.sq_state.specs.Results.{refuse_if, unless};
 
 use crate::queue::Queue;
@@ -43,11 +45,6 @@ pub struct State {
 }
 
 impl Model for State {
-    ghost use Rattle.std.specs.Prelude.{map};
-    ghost use Rattle.std.specs.Coded.{codes};
-    ghost use Rattle.sq_store.specs.Prelude.{store_coded};
-    ghost use Rattle.sq_transition.specs.Prelude.{WorldValue};
-
     ghost Value = { WorldValue };
 
     ghost coded = { Prim.hlevel (codes, store_coded) };
