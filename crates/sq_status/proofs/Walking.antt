@@ -14,7 +14,7 @@ use Rattle.sq_status.specs.declared.view.View.{View}
 use Rattle.sq_status.specs.View.{times, times_won, HasSeen}
 use Rattle.sq_status.specs.Plays.{IsLater, KnowsSplit, MayBring, Found, Won}
 use Rattle.sq_status.specs.declared.tree.walks.LeafClaim.TheVariants.{Held}
-use Rattle.sq_status.specs.Walks.{is_taken, Added, Passed, WalkedTo, WalkedLeaf}
+use Rattle.sq_status.specs.Walks.{is_taken, Added, IsPassedAt, Passed, WalkedTo, WalkedLeaf}
 use Rattle.sq_status.proofs.Hands.{times-append}
 use Rattle.sq_status.proofs.Sights.{only}
 
@@ -92,6 +92,9 @@ module _ (leaf levels : ℕ) (splits : List ℕ) (looks : List (ℕ × Status)) 
   within : levels < 5
   within = let all = passed.count in omega arith
 
+  higher : (n : ℕ) → IsPassedAt leaf (levels + 1) n → IsPassedAt leaf levels n
+  higher n at = (at.0, omega (arith, at.1), at.2, at.3)
+
   split_passed : Passed leaf levels (node_above leaf (levels + 1) ∷ splits) looks
   split_passed =
       let n = node_above leaf (levels + 1) in
@@ -102,9 +105,9 @@ module _ (leaf levels : ℕ) (splits : List ℕ) (looks : List (ℕ × Status)) 
             (λ other. ⊎_elim (λ (split : Contains splits (node_above leaf k)). inl (Contains-append_right (n ∷ []) splits (node_above leaf k) split)) (λ (look : Contains looks (node_above leaf k, Split)). inr look)
             (passed.each k (omega arith) low));
         splits_only = λ m h.
-            ⊎_elim (λ (new : Contains (n ∷ []) m). (levels + 1, omega arith, omega (arith, within), only n m new)) (λ (old : Contains splits m). let o = passed.splits_only m old in (o.0, omega (arith, o.1), o.2, o.3))
+            ⊎_elim (λ (new : Contains (n ∷ []) m). (levels + 1, omega arith, omega (arith, within), only n m new)) (λ (old : Contains splits m). higher m (passed.splits_only m old))
             (Contains-append_cases (n ∷ []) splits m h);
-        looks_only = λ m st h. let o = passed.looks_only m st h in (o.0, omega (arith, o.1), o.2, o.3, o.4);
+        looks_only = λ m st h. let o = passed.looks_only m st h in (higher m o.0, o.1);
         count = let all = passed.count in omega arith;
       }
 
@@ -117,12 +120,12 @@ module _ (leaf levels : ℕ) (splits : List ℕ) (looks : List (ℕ × Status)) 
             (λ same. inr (subst (λ (j : ℕ). Contains ((n, Split) ∷ looks) (node_above leaf j, Split)) (sym same) (itself (n, Split) looks)))
             (λ other. ⊎_elim (λ (split : Contains splits (node_above leaf k)). inl split) (λ (look : Contains looks (node_above leaf k, Split)). inr (Contains-append_right ((n, Split) ∷ []) looks (node_above leaf k, Split) look))
             (passed.each k (omega arith) low));
-        splits_only = λ m h. let o = passed.splits_only m h in (o.0, omega (arith, o.1), o.2, o.3);
+        splits_only = λ m h. higher m (passed.splits_only m h);
         looks_only = λ m st h.
             ⊎_elim
             (λ (new : Contains ((n, Split) ∷ []) (m, st)).
-            let same = only (n, Split) (m, st) new in (levels + 1, omega arith, omega (arith, within), ap (λ (x : ℕ × Status). x.0) same, ap (λ (x : ℕ × Status). x.1) same))
-            (λ (old : Contains looks (m, st)). let o = passed.looks_only m st old in (o.0, omega (arith, o.1), o.2, o.3, o.4))
+            let same = only (n, Split) (m, st) new in ((levels + 1, omega arith, omega (arith, within), ap (λ (x : ℕ × Status). x.0) same), ap (λ (x : ℕ × Status). x.1) same))
+            (λ (old : Contains looks (m, st)). let o = passed.looks_only m st old in (higher m o.0, o.1))
             (Contains-append_cases ((n, Split) ∷ []) looks (m, st) h);
         count = let all = passed.count in omega arith;
       }

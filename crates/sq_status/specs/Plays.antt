@@ -34,7 +34,8 @@ pub record MayBring (v : View) (n : ℕ) (st : Status) : Type 0 where
 -- the node had this status at a moment at which the rule held and the seat had this view
 abbrev pub Stood : ℕ → Status → View → Type 0
 Stood n st v =
-    (statuses : List Status) × (views : List View) × (seat : ℕ) × IsTreeOf statuses views × (get_elem? views seat ≡ some v) × (st ≡ status_at statuses n)
+    (statuses : List Status) × (views : List View) × (seat : ℕ)
+    × IsTreeOf statuses views × (get_elem? views seat ≡ some v) × (st ≡ status_at statuses n)
 
 -- the seat found this status at the node
 pub record Found (v : View) (n : ℕ) (st : Status) (w : View) : Type 0 where
@@ -52,7 +53,8 @@ pub record Won (v : View) (n : ℕ) (st : Status) (w : View) : Type 0 where
 -- a load of a node's word
 abbrev pub Looked : Step (Unit {0}) → Me (Unit {0}) View → ℕ → Me (Unit {0}) View → Type 0
 Looked s before_it word after_it =
-    (n : ℕ) → n ≡ s.word + 1 → (found : Status) × (word ≡ word_of found) × (after_it.1 ≡ before_it.1) × Found before_it.0 n found after_it.0
+    (n : ℕ) → n ≡ s.word + 1
+    → (found : Status) × (word ≡ word_of found) × (after_it.1 ≡ before_it.1) × Found before_it.0 n found after_it.0
 
 -- an exchange of a node's word, of a status for the one that comes after it
 abbrev pub Advanced : Step (Unit {0}) → Me (Unit {0}) View → ℕ → Me (Unit {0}) View → Type 0

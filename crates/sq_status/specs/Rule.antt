@@ -1,4 +1,5 @@
--- The rule of a tree that several seats share: what holds, between any two steps, of the statuses of its nodes and of the views of all its seats.
+-- The rule of a tree that several seats share: what holds, between any two steps, of the statuses of its nodes and of the
+-- views of all its seats.
 use Rattle.std.specs.Prelude.{◌≡◌, ◌≢◌, ℕ, ◌+◌, ◌^◌, ◌<◌, ◌≤◌, true, List, map, length}
 use mathlib.Core.Option.{some}
 use lib.ListN.{get_elem?}
@@ -30,11 +31,13 @@ pub record IsTreeOf (statuses : List Status) (views : List View) : Type 0 where
   -- over all seats a node was brought to a status once where it has that status or a later one, and else never
   pub once : (n : ℕ) (st : Status) → st ≢ Free → total (times_won n st) views ≡ one_if (is_past st (status_at statuses n))
   -- a node is at or past all that a seat found there
-  pub looks : (seat : ℕ) (v : View) → get_elem? views seat ≡ some v → (n : ℕ) (st : Status) → HasSeen v n st → IsPast st (status_at statuses n)
+  pub looks : (seat : ℕ) (v : View) → get_elem? views seat ≡ some v → (n : ℕ) (st : Status) → HasSeen v n st
+      → IsPast st (status_at statuses n)
   -- a joined seat has no lists
   pub joined : (seat : ℕ) (v : View) → get_elem? views seat ≡ some v → v.spent ≡ true → HasNoLists v
   -- one seat at most is the first; besides it, as many seats aren't joined as it gave and hasn't taken
-  pub seats : (seat : ℕ) (v : View) → get_elem? views seat ≡ some v → v.first ≡ true → (seat ≡ 0) × (total alive views + v.taken ≡ v.given + 1)
+  pub seats : (seat : ℕ) (v : View) → get_elem? views seat ≡ some v → v.first ≡ true
+      → (seat ≡ 0) × (total alive views + v.taken ≡ v.given + 1)
 
 -- the same of the words
 abbrev pub Kept : List ℕ → List View → Type 0

@@ -17,28 +17,35 @@ is_taken (Claimed pull) = true
 is_taken (Partial pull) = true
 is_taken (Complete pull) = true
 
--- the seat's lists have these splits and looks more, the newest first, and else nothing is new. Each is at or past all that the seat knew of the node
+-- the seat's lists have these splits and looks more, the newest first, and else nothing is new. Each is at or past all that
+-- the seat knew of the node
 pub record Added (v : View) (splits : List ℕ) (looks : List (ℕ × Status)) (w : View) : Type 0 where
   pub after : w ≡ record v { split = splits ++ v.split; looked = looks ++ v.looked }
   pub splits_later : (n : ℕ) → Contains splits n → IsLater v n Free
   pub looks_later : (n : ℕ) (st : Status) → Contains looks (n, st) → IsLater v n st
 
+-- the node is more than `levels` levels above the leaf's own
+abbrev pub IsPassedAt : ℕ → ℕ → ℕ → Type 0
+IsPassedAt leaf levels n = (k : ℕ) × (levels < k) × (k ≤ 5) × (n ≡ node_above leaf k)
+
 -- each node more than `levels` levels above the leaf's own was split or found split, and no other node was
 pub record Passed (leaf levels : ℕ) (splits : List ℕ) (looks : List (ℕ × Status)) : Type 0 where
   pub each : (k : ℕ) → levels < k → k ≤ 5 → Contains splits (node_above leaf k) ⊎ Contains looks (node_above leaf k, Split)
-  pub splits_only : (n : ℕ) → Contains splits n → (k : ℕ) × (levels < k) × (k ≤ 5) × (n ≡ node_above leaf k)
-  pub looks_only : (n : ℕ) (st : Status) → Contains looks (n, st) → (k : ℕ) × (levels < k) × (k ≤ 5) × (n ≡ node_above leaf k) × (st ≡ Split)
+  pub splits_only : (n : ℕ) → Contains splits n → IsPassedAt leaf levels n
+  pub looks_only : (n : ℕ) (st : Status) → Contains looks (n, st) → IsPassedAt leaf levels n × (st ≡ Split)
   pub count : length splits + length looks + levels ≡ 5
 
 -- from node 1 down to the node `levels` levels above the leaf's own, which isn't looked at yet
 abbrev pub WalkedTo : ℕ → ℕ → View → View → Type 0
-WalkedTo leaf levels v w = (splits : List ℕ) × (looks : List (ℕ × Status)) × Passed leaf levels splits looks × Added v splits looks w
+WalkedTo leaf levels v w =
+    (splits : List ℕ) × (looks : List (ℕ × Status)) × Passed leaf levels splits looks × Added v splits looks w
 
 -- a walk from node 1 to a leaf ends by a claim of the leaf's node, or at the first node that a pull has
 abbrev pub WalkedLeaf : ℕ → ℕ → View → View → LeafClaim → Type 0
 WalkedLeaf leaf pull v w (claim.Claimed n) = (n ≡ LEAVES + leaf) × ((u : View) × WalkedTo leaf 0 v u × Won u n (Claimed pull) w)
 WalkedLeaf leaf pull v w (claim.Held n st) =
-    IsTrue (is_above n leaf) × IsTrue (is_taken st) × ((levels : ℕ) × (u : View) × (n ≡ node_above leaf levels) × WalkedTo leaf levels v u × Found u n st w)
+    IsTrue (is_above n leaf) × IsTrue (is_taken st)
+    × ((levels : ℕ) × (u : View) × (n ≡ node_above leaf levels) × WalkedTo leaf levels v u × Found u n st w)
 
 -- the leaf is under a node that was found taken
 abbrev pub HeldAbove : List (ℕ × Status) → ℕ → Type 0
@@ -48,14 +55,16 @@ HeldAbove looks leaf = (n : ℕ) × (st : Status) × Contains looks (n, st) × I
 abbrev pub nodes_under : ℕ → ℕ
 nodes_under n = 2 * span n - 1
 
--- a search from n downward, in order of the leaves, finds no node to claim where each leaf is under a node that is taken; else it claims a node
--- where that holds of each leaf before
+-- a search from n downward, in order of the leaves, finds no node to claim where each leaf is under a node that is taken;
+-- else it claims a node where that holds of each leaf before
 abbrev pub Searched : ℕ → ℕ → View → View → Option ℕ → Type 0
 Searched n pull v w None =
-    (looks : List (ℕ × Status)) × Added v [] looks w × (length looks ≤ nodes_under n) × ((leaf : ℕ) → IsTrue (is_above n leaf) → HeldAbove looks leaf)
+    (looks : List (ℕ × Status)) × Added v [] looks w × (length looks ≤ nodes_under n)
+    × ((leaf : ℕ) → IsTrue (is_above n leaf) → HeldAbove looks leaf)
 Searched n pull v w (Some m) =
     IsTrue (is_under n m)
-    × ((looks : List (ℕ × Status)) × (u : View) × Added v [] looks u × Won u m (Claimed pull) w × (length looks + 1 ≤ nodes_under n)
+    × ((looks : List (ℕ × Status)) × (u : View) × Added v [] looks u × Won u m (Claimed pull) w
+    × (length looks + 1 ≤ nodes_under n)
     × ((leaf : ℕ) → first_leaf n ≤ leaf → leaf < first_leaf m → HeldAbove looks leaf))
 
 -- the seat claimed these nodes, and began and completed none
