@@ -1,6 +1,7 @@
 -- A pump, which claims what is free, segment by segment, and what becomes of a turn of it.
-use Rattle.std.specs.Prelude.{◌≡◌, ℕ, ◌<◌, ◌≤◌, ◌⊎◌, true, ◌==◌, nat_lt, List, [], ◌∷◌, ◌++◌, length, filter, Some, None}
+use Rattle.std.specs.Prelude.{◌≡◌, ◌≢◌, ℕ, ◌<◌, ◌≤◌, ◌⊎◌, true, ◌==◌, nat_lt, List, [], ◌∷◌, ◌++◌, length, filter, Some, None}
 use Rattle.std.specs.List.{list_all, range_with_len}
+use Rattle.atomic_table.specs.Seated.{TableId}
 use Rattle.sq_ranges.specs.declared.segment.TheConstants.{SEGMENT_LIMIT}
 use Rattle.sq_ranges.specs.ReconValue.{ReconValue, stage_at}
 use Rattle.sq_status.specs.Seat.{SeatValue}
@@ -9,7 +10,7 @@ use Rattle.sq_pull.specs.declared.pump.PumpTurn.{PumpTurn}
 use Rattle.sq_pull.specs.declared.pump.PumpTurn.TheVariants.{Won, Nothing, Spent}
 use Rattle.sq_pull.specs.Numbers.{pump_pull}
 use Rattle.sq_pull.specs.Wins.{WinsValue, no_wins, AddsWin, Sends, AreWonClaims}
-use Rattle.sq_pull.specs.Seats.{StepsAt, ClaimsAny}
+use Rattle.sq_pull.specs.Seats.{AreSeatsOf, StepsAt, ClaimsAny, OnlyClaimed}
 
 -- a pump with its seats, one for each segment, what it won, and its round: the segments that it goes on looking at, the next one first
 pub record PumpValue : Type 0 where
@@ -24,7 +25,8 @@ stage_round recon stage count = filter (λ seg. stage_at recon seg == stage) (ra
 
 -- a pump that has won nothing. Its round has all segments of the stage
 abbrev pub new_pump : ReconValue → ℕ → ℕ → List SeatValue → PumpValue
-new_pump recon stage number seats = record { number = number; wins = no_wins; seats = seats; round = stage_round recon stage (length seats) }
+new_pump recon stage number seats =
+    record { number = number; wins = no_wins; seats = seats; round = stage_round recon stage (length seats) }
 
 -- the pull that it claims with next
 abbrev pub next_asynchronous : PumpValue → ℕ
@@ -78,3 +80,15 @@ pub record IsPump (pump : PumpValue) : Type 0 where
   pub segments : list_all (λ seg. nat_lt seg (length pump.seats)) pump.round ≡ true
   pub few : length pump.seats ≤ SEGMENT_LIMIT
   pub claims : AreWonClaims pump.seats pump.wins
+
+-- a pump with a seat at each of these trees is one still, and its seats only claimed
+pub record StaysPump (trees : List TableId) (old new : PumpValue) : Type 0 where
+  pub seats : AreSeatsOf trees new.seats
+  pub work : OnlyClaimed old.seats new.seats
+  pub pump : IsPump new
+
+-- there was no memory for the request of one more claim
+pub record LacksRoom (old new : PumpValue) : Type 0 where
+  pub few : old.wins.count < MAX_CLAIMS
+  pub some : old.round ≢ []
+  pub same : new ≡ old

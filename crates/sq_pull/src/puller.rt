@@ -94,7 +94,8 @@ impl Puller {
         requires trees { length shared.now.trees.now ≡ length shared.now.recon.now.segments }
         requires segment { seg < length shared.now.recon.now.segments }
         ensures seats { AreSeatsOf shared.now.trees.now seats.new.items }
-        ensures pulled { IfOk result (HasPulled shared.now.recon.now seg leaf self.old.puller seats.old.items self.new.puller seats.new.items) }
+        ensures pulled { IfOk result
+            (HasPulled shared.now.recon.now seg leaf self.old.puller seats.old.items self.new.puller seats.new.items) }
         ensures memory { OnErr result (self.old.has_room ≡ false) }
         ensures err { OnErr result ((self.old.puller.wins.count < MAX_CLAIMS) × (self.new ≡ self.old)
             × (seats.new.items ≡ seats.old.items)) }

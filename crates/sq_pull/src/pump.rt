@@ -50,7 +50,7 @@ impl Model for Pump {
 }
 
 impl Pump {
-    ghost use Rattle.sq_pull.specs.Pump.{new_pump, IsPump, ClaimsNext, HasTurned, OnlySends};
+    ghost use Rattle.sq_pull.specs.Pump.{new_pump, IsPump, StaysPump, LacksRoom, ClaimsNext, HasTurned, OnlySends};
 
     /// The pump of this number, which has won no claim. Its seats are of the segments in their order, and its round has
     /// those of the stage. Where there is no memory for the round, the seats come back.
@@ -138,12 +138,9 @@ impl Pump {
     fn claim_next(&mut self, shared: &Shared<'_>) -> Result<PumpTurn, AllocError>
         requires seats { AreSeatsOf shared.now.trees.now self.old.seats }
         requires trees { length shared.now.trees.now ≡ length shared.now.recon.now.segments }
-        ensures seats { AreSeatsOf shared.now.trees.now self.new.seats }
         ensures claimed { IfOk result (ClaimsNext shared.now.recon.now self.old self.new) }
-        ensures memory { OnErr result ((self.old.wins.count < MAX_CLAIMS) × (self.old.round ≢ [])) }
-        ensures err { OnErr result (self.new ≡ self.old) }
-        ensures work { OnlyClaimed self.old.seats self.new.seats }
-        ensures pump { IsPump self.new }
+        ensures err { OnErr result (LacksRoom self.old self.new) }
+        ensures stays { StaysPump shared.now.trees.now self.old self.new }
     {
         if self.wins.is_spent() {
             return Ok(PumpTurn::Spent);

@@ -25,7 +25,10 @@ impl Model for Wins {
 
     ghost Value = { RoomyWins };
 
-    ghost view = { λ w. record { wins = record { count = w.count; pending = w.pending.items }; has_room = nat_lt (vec_len w.pending) (vec_capacity w.pending) } };
+    ghost view = { λ w. record {
+      wins = record { count = w.count; pending = w.pending.items };
+      has_room = nat_lt (vec_len w.pending) (vec_capacity w.pending);
+    } };
 
     ghost invariant = { λ w. w.count ≤ MAX_CLAIMS };
 }

@@ -18,8 +18,8 @@ invariant_of-self-in_default-claim_any c =
     let skips : SkipsNext old new = record { few = few; seg = c.in-Some.seg; next = next; seats = seats; wins = c.reserve.ensures.same; number = refl } in
     IsPump-skipped old new skips c.self.invariant
 
-pub returns-in_default-claim_any-clause-pump : goal.returns-in_default-claim_any-clause-pump
-returns-in_default-claim_any-clause-pump c = invariant_of-self-in_default-claim_any c
+pub returns-in_default-claim_any-clause-stays : goal.returns-in_default-claim_any-clause-stays
+returns-in_default-claim_any-clause-stays c = record { seats = search rules; work = search rules; pump = invariant_of-self-in_default-claim_any c }
 
 pub invariant_of-self-2 : goal.invariant_of-self-2
 invariant_of-self-2 c =
@@ -37,5 +37,5 @@ invariant_of-self-2 c =
     record { few = few; rest = drop 1 old.round; next = next; round = round; seats = seats; wins = adds; number = refl } in
     IsPump-won c.args.shared.now.recon.now seg node old new wins c.self.invariant
 
-pub returns-clause-pump : goal.returns-clause-pump
-returns-clause-pump c = invariant_of-self-2 c
+pub returns-clause-stays : goal.returns-clause-stays
+returns-clause-stays c = record { seats = search rules; work = search rules; pump = invariant_of-self-2 c }
