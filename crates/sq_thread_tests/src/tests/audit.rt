@@ -128,6 +128,16 @@ fn make(alloc: Global, gathered: &mut Gathered, change: Change) -> Result<(), Fa
     Ok(())
 }
 
+// The number of the defect that an audit finds, if it finds one.
+fn defect_of(opening: &Opening, gathered: &Gathered, jobs: &[Job]) -> Result<Option<u16>, Fail>
+    requires { IdsDiffer jobs.now }
+{
+    match audit(opening, gathered, jobs)? {
+        Verdict::Sound => Ok(None),
+        Verdict::Unsound(defect) => Ok(Some(defect.number())),
+    }
+}
+
 // Each change, and the number of the defect that is found.
 const DEFECTS: [(Change, Option<u16>); 9] = [
     (Change::Nothing, None),
@@ -149,11 +159,10 @@ fn each_change_has_its_defect(rt: HostRuntime) -> Result<(), Fail> {
     for (change, want) in DEFECTS {
         let mut gathered = worked(&rt, alloc)?;
         make(alloc, &mut gathered, change)?;
-        let found = match audit(&opening, &gathered, &jobs)? {
-            Verdict::Sound => None,
-            Verdict::Unsound(defect) => Some(defect.number()),
-        };
-        assert!(rt; found == want, "{change:?}");
+        assert!(rt;
+            defect_of(&opening, &gathered, &jobs)? == want,
+            "{change:?}"
+        );
     }
     Ok(())
 }
@@ -190,11 +199,10 @@ fn a_pull_is_audited(rt: HostRuntime) -> Result<(), Fail> {
     let jobs = one_job(alloc, PULL)?;
     for (turns, want) in TURNS {
         let gathered = pulled(&rt, alloc, turns)?;
-        let found = match audit(&opening, &gathered, &jobs)? {
-            Verdict::Sound => None,
-            Verdict::Unsound(defect) => Some(defect.number()),
-        };
-        assert!(rt; found == want, "after {turns} turns");
+        assert!(rt;
+            defect_of(&opening, &gathered, &jobs)? == want,
+            "after {turns} turns"
+        );
     }
     Ok(())
 }

@@ -1,5 +1,5 @@
 // Gathering a run that turned in one thread.
-use super::node::PAIR;
+use super::node::{PAIR, SPLIT};
 use super::run::TestRun;
 use super::text::text_of;
 use std::alloc::Global;
@@ -19,12 +19,6 @@ fn cut<R: Wait>(rt: &R, alloc: Global) -> Result<TestRun, Fail> {
 const UNDER_WAY: &str = "note 0 1 0 0 33 5 6 true
 way 0 1 0 0 33 5 6 last 1
 in 5 0 0.0=10/-
-node 1 Split
-node 2 Split
-node 4 Split
-node 8 Split
-node 16 Split
-node 33 Partial(3)
 ";
 
 // A chunk that was cut and not loaded is under way.
@@ -33,18 +27,16 @@ fn a_chunk_under_way_is_gathered(rt: HostRuntime) -> Result<(), Fail> {
     let alloc = rt.alloc();
     let gathered = cut(&rt, alloc)?.gathered(&rt, alloc)?;
     assert!(rt; gathered.stores.len() == 2);
-    assert_eq!(rt; text_of(alloc, &gathered)?.as_str(), UNDER_WAY);
+    let wanted = format!(in alloc; "{UNDER_WAY}{SPLIT}node 33 Partial(3)\n")?;
+    assert_eq!(rt; text_of(alloc, &gathered)?.as_str(), wanted.as_str());
     Ok(())
 }
 
 const LOADED: &str = "at 1 5 1 0.0=10/-
 note 0 1 0 0 33 5 6 true
-node 1 Split
-node 2 Split
-node 4 Split
-node 8 Split
-node 16 Split
-node 33 Complete(3)
+";
+
+const ANSWERED: &str = "node 33 Complete(3)
 receipt 5 0 commit 9 10/-
 ";
 
@@ -55,6 +47,7 @@ fn a_pull_that_is_complete_is_gathered(rt: HostRuntime) -> Result<(), Fail> {
     let mut run = cut(&rt, alloc)?;
     run.turn(&rt, 1)?;
     let gathered = run.gathered(&rt, alloc)?;
-    assert_eq!(rt; text_of(alloc, &gathered)?.as_str(), LOADED);
+    let wanted = format!(in alloc; "{LOADED}{SPLIT}{ANSWERED}")?;
+    assert_eq!(rt; text_of(alloc, &gathered)?.as_str(), wanted.as_str());
     Ok(())
 }

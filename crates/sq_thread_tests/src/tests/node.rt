@@ -1,6 +1,6 @@
 // Nodes in one thread: a pull of one leaf, and requests that no claim made.
 use super::run::TestRun;
-use super::text::{receipts_text, text_of};
+use super::text::text_of;
 use sq_node::Stepped;
 use sq_pull::{PumpTurn, Request};
 use sq_ranges::SegId;
@@ -16,16 +16,22 @@ config 1 64 1
 row 5 0 0 10 -
 "#;
 
-// Once leaf 1 was pulled for a transaction at partition 1, one at partition 0 ran, and the pump claimed leaf 0.
-const PULLED: &str = "at 0 9 1
-at 1 5 1 0.0=10/-
-note 0 1 0 0 33 5 6 true
-node 1 Split
+/// The nodes above leaf 1, once it was pulled.
+pub const SPLIT: &str = "node 1 Split
 node 2 Split
 node 4 Split
 node 8 Split
 node 16 Split
-node 32 Claimed(0)
+";
+
+// Once leaf 1 was pulled for a transaction at partition 1, one at partition 0 ran, and the pump claimed leaf 0: what is
+// gathered before the nodes that are split, and behind them.
+const PULLED: &str = "at 0 9 1
+at 1 5 1 0.0=10/-
+note 0 1 0 0 33 5 6 true
+";
+
+const CLAIMED: &str = "node 32 Claimed(0)
 node 33 Complete(3)
 receipt 9 0 commit 10 none
 receipt 5 0 commit 9 10/-
@@ -57,7 +63,8 @@ fn a_pull_of_one_leaf(rt: HostRuntime) -> Result<(), Fail> {
     );
     assert!(rt; run.turn_pump(&rt, 0)? == won(32)?);
     let gathered = run.gathered(&rt, alloc)?;
-    assert_eq!(rt; text_of(alloc, &gathered)?.as_str(), PULLED);
+    let wanted = format!(in alloc; "{PULLED}{SPLIT}{CLAIMED}")?;
+    assert_eq!(rt; text_of(alloc, &gathered)?.as_str(), wanted.as_str());
     Ok(())
 }
 

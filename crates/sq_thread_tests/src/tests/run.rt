@@ -21,17 +21,20 @@ use std::sync::Wait;
 use std::test::Fail;
 use std::thread::Threads;
 
+// The schema of 8 tables.
+fn schema() -> Result<Schema, Fail> {
+    Ok(Schema::new(8).ok_or("8 tables are a schema")?)
+}
+
 /// The opening of a header.
 pub fn read_opening(alloc: Global, header: &str) -> Result<Opening, Fail> {
-    let schema = Schema::new(8).ok_or("8 tables are a schema")?;
     let mut lines = LineReader::new(alloc, header.as_bytes())?;
-    Ok(read_header(alloc, schema, &mut lines)?)
+    Ok(read_header(alloc, schema()?, &mut lines)?)
 }
 
 /// The job of a line, which names its partition.
 pub fn job(alloc: Global, line: &str) -> Result<Job, Fail> {
-    let schema = Schema::new(8).ok_or("8 tables are a schema")?;
-    match read_step(alloc, &schema, line.as_bytes())? {
+    match read_step(alloc, &schema()?, line.as_bytes())? {
         Step::Submit(part, txn) if part < 256 => Ok(Job {
             part: PartId::new(part as u8),
             txn,
