@@ -1,10 +1,16 @@
 // Stages that go on with what the one before left.
+ghost use Rattle.std.specs.Prelude.{◌<◌, ◌≤◌, IfOk, All};
+ghost use Rattle.sq_pull.specs.declared.numbers.TheConstants.{MAX_PUMPS};
+ghost use Rattle.sq_node.specs.NodeState.{IsNodeOf};
+ghost use Rattle.sq_driver.specs.Pumps.{HasAllSeats};
+
 use super::node::PAIR;
 use super::run::{job, read_opening};
 use sq_driver::laws::resumed_workers_can_be_driven;
 use sq_driver::{OpenGate, run_workers};
-use sq_node::Fabric;
+use sq_node::{Fabric, Node};
 use sq_plan::PartId;
+use sq_pull::Pump;
 use sq_schema::Txn;
 use sq_store::SlabStore;
 use std::alloc::Global;
@@ -24,22 +30,28 @@ fn no_families(alloc: Global) -> Result<Vec<SlabStore>, Fail> {
     Ok(vec![in alloc; SlabStore::new(alloc), SlabStore::new(alloc)]?)
 }
 
+// A stage that goes on with these, with this many pumps.
+fn resumed(alloc: Global, pumps: u32) -> Result<(Fabric, Vec<Node>, Vec<Pump>), Fail>
+    requires { pumps ≤ MAX_PUMPS }
+    ensures nodes { IfOk result (λ stage. All (IsNodeOf stage.0) stage.1.items) }
+    ensures pumps { IfOk result (λ stage. All (HasAllSeats stage.0) stage.2.items) }
+    ensures parts { IfOk result (λ stage. 0 < stage.0.parts) }
+{
+    let opening = read_opening(alloc, PAIR)?;
+    let (stores, left) = (no_families(alloc)?, many_left(alloc)?);
+    let Ok(stage) = Fabric::resumed(alloc, &opening, 0, stores, left, Vec::new(alloc), pumps) else {
+        return Err("the stage doesn't begin")?;
+    };
+    // For the proof: the workers of a stage can be driven.
+    resumed_workers_can_be_driven();
+    Ok(stage)
+}
+
 // A stage that goes on has the jobs that were left: 4,096 in the queue of their partition, and the others at its node.
 #[test]
 fn jobs_that_were_left_are_posted(rt: HostRuntime) -> Result<(), Fail> {
     let alloc = rt.alloc();
-    let opening = read_opening(alloc, PAIR)?;
-    let Ok((fabric, nodes, _)) = Fabric::resumed(
-        alloc,
-        &opening,
-        0,
-        no_families(alloc)?,
-        many_left(alloc)?,
-        Vec::new(alloc),
-        0,
-    ) else {
-        return Err("the stage doesn't begin")?;
-    };
+    let (fabric, nodes, _) = resumed(alloc, 0)?;
     let more = job(alloc, "txn 0 2 9 check 0 0 1")?.txn;
     assert!(rt; fabric.post(&rt, PartId::new(0), more).is_err());
     let mut pending = Vec::new(alloc);
@@ -53,21 +65,7 @@ fn jobs_that_were_left_are_posted(rt: HostRuntime) -> Result<(), Fail> {
 // Each of them is answered, once, and the workers end then.
 #[test]
 fn jobs_that_were_left_are_answered(rt: HostRuntime) -> Result<(), Fail> {
-    let alloc = rt.alloc();
-    let opening = read_opening(alloc, PAIR)?;
-    let Ok((fabric, mut nodes, mut pumps)) = Fabric::resumed(
-        alloc,
-        &opening,
-        0,
-        no_families(alloc)?,
-        many_left(alloc)?,
-        Vec::new(alloc),
-        1,
-    ) else {
-        return Err("the stage doesn't begin")?;
-    };
-    // For the proof: the workers of a stage can be driven.
-    resumed_workers_can_be_driven();
+    let (fabric, mut nodes, mut pumps) = resumed(rt.alloc(), 1)?;
     run_workers(
         &rt,
         &fabric,

@@ -5,11 +5,7 @@ use Rattle.sq_driver.specs.Pumps.{HasAllSeats}
 use Rattle.sq_thread_tests.proofs.tests.stages.jobs_that_were_left_are_answered.Goals as goal
 
 pub run_workers-requires-clause-nodes : goal.run_workers-requires-clause-nodes
-run_workers-requires-clause-nodes g c = λ κs.
-    subst (All (IsNodeOf c.in-Ok.fabric)) (sym c.deref_mut.ensures.value)
-    (c.resumed_workers_can_be_driven.ensures.nodes c.in_ok-opening.opening 0 _ _ 1 c.in-Ok.fabric c.in-Ok.nodes.items c.in-Ok.pumps.items c.in-Ok.ensures.run)
+run_workers-requires-clause-nodes g c = λ κs. subst (All (IsNodeOf c.in_ok-fabric.fabric)) (sym c.deref_mut.ensures.value) c.in_ok-fabric.ensures.nodes
 
 pub run_workers-requires-clause-pumps : goal.run_workers-requires-clause-pumps
-run_workers-requires-clause-pumps g c = λ κs.
-    subst (All (HasAllSeats c.in-Ok.fabric)) (sym c.deref_mut-2.ensures.value)
-    (c.resumed_workers_can_be_driven.ensures.pumps c.in_ok-opening.opening 0 _ _ 1 c.in-Ok.fabric c.in-Ok.nodes.items c.in-Ok.pumps.items c.in-Ok.ensures.run)
+run_workers-requires-clause-pumps g c = λ κs. subst (All (HasAllSeats c.in_ok-fabric.fabric)) (sym c.deref_mut-2.ensures.value) c.in_ok-fabric.ensures.pumps
