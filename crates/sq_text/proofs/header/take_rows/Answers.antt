@@ -11,10 +11,10 @@ loop-alloc-preserved g c =
     let table = rows_in c.loop-alloc.opening.table in
     let same : c.lines_left.result ≡ c.loop-alloc.lines.lines_left = c.lines_left.ensures ∙ c.begins_read.ensures.goes_on.1 in
     let read =
-    row_read_at c.args.opening.now.tables c.loop-alloc.opening.tables table (c.lines_left-most.result - c.loop-alloc.lines.lines_left) (c.lines_left-most.result - c.lines_left.result) (rows_in c.take_row.new.opening.table) (Ok tt) c.begins_read.new.self c.take_row.new.lines_left
+    row_read_at c.args.opening.now.tables c.loop-alloc.opening.tables table (c.lines_left-most.result - c.loop-alloc.lines.lines_left) (c.lines_left-most.result - c.lines_left.result) (rows_in c.take_row.new.opening.table) (Ok tt) c.begins_read.new.self c.take_row.new.lines
     (ap (λ (o : OpeningValue). o.tables) so_far.kept) (ap (λ n. c.lines_left-most.result - n) same) c.in_ok-take_row.ensures.row in
     record {
-      rows = one_more _ _ table (c.lines_left-most.result - c.loop-alloc.lines.lines_left) _ _ _ _ so_far.rows c.begins_read.ensures.goes_on _ (c.lines_left-most.result - c.take_row.new.lines_left.lines_left) c.loop-alloc-test.ensures.begins read (omega (arith, c.lines_left.ensures, c.in_ok-take_row.ensures.fewer, so_far.taken, same));
+      rows = one_more _ _ table (c.lines_left-most.result - c.loop-alloc.lines.lines_left) _ _ _ _ so_far.rows c.begins_read.ensures.goes_on _ (c.lines_left-most.result - c.take_row.new.lines.lines_left) c.loop-alloc-test.ensures.begins read (omega (arith, c.lines_left.ensures, c.in_ok-take_row.ensures.fewer, so_far.taken, same));
       kept = other_table c.args.opening.now c.loop-alloc.opening c.take_row.new.opening so_far.kept c.in_ok-take_row.ensures.kept;
       taken = omega (arith, c.lines_left.ensures, c.in_ok-take_row.ensures.fewer, so_far.taken, same);
     }
@@ -25,7 +25,7 @@ returns-in_err-take_row-clause-rows g c =
     let so_far = c.loop-alloc.invariant in
     let table = rows_in c.loop-alloc.opening.table in
     let read =
-    row_read_at c.args.opening.now.tables c.loop-alloc.opening.tables table (c.lines_left-most.result - c.loop-alloc.lines.lines_left) (c.lines_left-most.result - c.lines_left.result) (rows_in c.take_row.new.opening.table) (Err c.in_err-take_row.field-0.0) c.begins_read.new.self c.take_row.new.lines_left
+    row_read_at c.args.opening.now.tables c.loop-alloc.opening.tables table (c.lines_left-most.result - c.loop-alloc.lines.lines_left) (c.lines_left-most.result - c.lines_left.result) (rows_in c.take_row.new.opening.table) (Err c.in_err-take_row.field-0.0) c.begins_read.new.self c.take_row.new.lines
     (ap (λ (o : OpeningValue). o.tables) so_far.kept) (ap (λ n. c.lines_left-most.result - n) (c.lines_left.ensures ∙ c.begins_read.ensures.goes_on.1)) c.in_err-take_row.ensures.row in
     rw (p.1, p.2) (bad_row _ _ table (c.lines_left-most.result - c.loop-alloc.lines.lines_left) _ _ _ _ so_far.rows c.begins_read.ensures.goes_on (rows_in c.take_row.new.opening.table) c.in_err-take_row.field-0.0 c.loop-alloc-test.ensures.begins read)
 
