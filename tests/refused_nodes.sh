@@ -28,7 +28,7 @@ make_programs() {
     for name in refused_nodes refused_stages; do
         sed -n "s/^sq_thread_tests [^:]*:/$name: sq_link sq_status/p" "$top/crates.txt" >> "$room/crates.txt"
         mkdir -p "$room/crates/$name/src"
-        cp "$top"/crates/sq_thread_tests/src/{run,text}.rt "$room/crates/$name/src/"
+        cp "$top"/crates/sq_thread_tests/src/tests/{run,text}.rt "$room/crates/$name/src/"
         { shared; "$name"; } > "$room/crates/$name/src/main.rt"
     done
 }
@@ -39,7 +39,7 @@ shared() {
 mod run;
 mod text;
 
-use run::{Run, read_opening};
+use run::{TestRun, read_opening};
 use sq_gather::Gathered;
 use sq_node::Stepped;
 use sq_ranges::Opening;
@@ -62,18 +62,18 @@ fn allocate<R: Read>(alloc: Global, reader: &mut R) {
 }
 
 // The run of an opening with one pump.
-fn opened<R: Print>(rt: &R, alloc: Global, opening: &Opening) -> Result<Run, Fail> {
-    match Run::of(alloc, opening, 1) {
+fn opened<R: Print>(rt: &R, alloc: Global, opening: &Opening) -> Result<TestRun, Fail> {
+    match TestRun::of(alloc, opening, 1) {
         Ok(run) => Ok(run),
         Err(_) => {
             println!(rt; "refused open")?;
-            Ok(Run::of(alloc, opening, 1)?)
+            Ok(TestRun::of(alloc, opening, 1)?)
         }
     }
 }
 
 // A turn of a partition.
-fn turn<R: Wait + Print>(rt: &R, run: &mut Run, part: usize) -> Result<(), Fail> {
+fn turn<R: Wait + Print>(rt: &R, run: &mut TestRun, part: usize) -> Result<(), Fail> {
     for (name, stepped) in STEPS.iter().zip(run.steps(rt, part)?) {
         if stepped == Stepped::Memory {
             println!(rt; "refused {name}")?;
@@ -83,7 +83,7 @@ fn turn<R: Wait + Print>(rt: &R, run: &mut Run, part: usize) -> Result<(), Fail>
 }
 
 // What is gathered of a run.
-fn gathered<R: Wait + Print>(rt: &R, alloc: Global, run: Run) -> Result<Gathered, Fail> {
+fn gathered<R: Wait + Print>(rt: &R, alloc: Global, run: TestRun) -> Result<Gathered, Fail> {
     let gathered = match run.gather(rt, alloc) {
         Ok(gathered) => gathered,
         Err(back) => {
@@ -150,7 +150,7 @@ fn try_link<R: Wait + Print>(rt: &R, alloc: Global) -> Result<(), Fail> {
 }
 
 // Turns of these partitions, one after another.
-fn turns<R: Wait + Print>(rt: &R, run: &mut Run, parts: &[usize]) -> Result<(), Fail> {
+fn turns<R: Wait + Print>(rt: &R, run: &mut TestRun, parts: &[usize]) -> Result<(), Fail> {
     for part in parts {
         for _turn in 0..8 {
             turn(rt, run, *part)?;
@@ -208,7 +208,7 @@ const FIRST: &str = "txn 0 1 5 add 0 0 1";
 const SECOND: &str = "txn 0 2 9 get 0 0";
 
 // The workers' turns, in one thread. A pump whose growth is refused claims at a later turn, and tells nobody.
-fn work<R: Wait + Print>(rt: &R, run: &mut Run) -> Result<(), Fail> {
+fn work<R: Wait + Print>(rt: &R, run: &mut TestRun) -> Result<(), Fail> {
     for _turn in 0..8 {
         run.drive_pump(rt, 0, 1, &OpenGate)?;
         for part in 0..3 {
@@ -248,13 +248,13 @@ fn reopened<R: Print>(
     alloc: Global,
     opening: &Opening,
     gathered: Gathered,
-) -> Result<Run, Fail> {
+) -> Result<TestRun, Fail> {
     match reopen(alloc, opening, gathered, 1) {
-        Ok((fabric, nodes, pumps)) => Ok(Run::new(fabric, nodes, pumps)),
+        Ok((fabric, nodes, pumps)) => Ok(TestRun::new(fabric, nodes, pumps)),
         Err(back) => {
             println!(rt; "refused reopen")?;
             match reopen(alloc, opening, back, 1) {
-                Ok((fabric, nodes, pumps)) => Ok(Run::new(fabric, nodes, pumps)),
+                Ok((fabric, nodes, pumps)) => Ok(TestRun::new(fabric, nodes, pumps)),
                 Err(_) => Err("not reopened")?,
             }
         }

@@ -1,7 +1,5 @@
 // What is gathered of a run, node by node.
-ghost use Rattle.std.specs.Prelude.{◌≡◌, ℕ, ◌+◌, ◌<◌, ◌≤◌, ◌∷◌, [], ◌++◌, length, map, sum_by, slice_get, Some, IfOk, IfSome, vec_len, vec_capacity};
-ghost use Rattle.std.specs.Coded.{codes};
-ghost use Rattle.sq_store.specs.Prelude.{store_coded};
+ghost use Rattle.std.specs.Prelude.{◌≡◌, ℕ, ◌+◌, ◌<◌, ◌≤◌, ◌∷◌, [], ◌++◌, length, map, sum_by, slice_get, Some, IfOk, IfSome};
 ghost use Rattle.sq_node.specs.Prelude.{NodeState};
 ghost use Rattle.sq_gather.specs.Links.{AreClosed as AreClosedLinks};
 ghost use Rattle.sq_gather.specs.Trees.{AreClosed as AreClosedTrees};
@@ -39,6 +37,9 @@ pub(crate) struct Gathering {
 }
 
 impl Model for Gathering {
+    ghost use Rattle.std.specs.Prelude.{◌≡◌, map, length, vec_len, vec_capacity};
+    ghost use Rattle.std.specs.Coded.{codes};
+    ghost use Rattle.sq_store.specs.Prelude.{store_coded};
     ghost use Rattle.sq_gather.specs.GatheringValue.{GatheringValue};
 
     ghost Value = { GatheringValue };

@@ -1,7 +1,5 @@
 // Nodes.
 ghost use Rattle.std.specs.Prelude.{◌≡◌, ◌<◌, ℕ, true, false, [], length, replicate};
-ghost use Rattle.std.specs.Coded.{codes};
-ghost use Rattle.sq_store.specs.Prelude.{store_coded};
 ghost use Rattle.sq_exec.specs.Prelude.{loaded_at, is_whole};
 ghost use Rattle.sq_pull.specs.declared.numbers.TheConstants.{MAX_OWNERS};
 
@@ -43,6 +41,9 @@ pub struct Node {
 }
 
 impl Model for Node {
+    ghost use Rattle.std.specs.Prelude.{◌≡◌};
+    ghost use Rattle.std.specs.Coded.{codes};
+    ghost use Rattle.sq_store.specs.Prelude.{store_coded};
     ghost use Rattle.sq_node.specs.NodeState.{NodeState};
     ghost use Rattle.sq_node.specs.Settled.{IsNode};
 

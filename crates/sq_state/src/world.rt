@@ -1,10 +1,8 @@
 // Worlds.
 ghost use Rattle.std.specs.Prelude.{◌≡◌, [], ◌∷◌, None, IfOk, IfErr};
-ghost use Rattle.std.specs.Coded.{codes};
 ghost use Rattle.sq_ranges.specs.Prelude.{OpeningValue, IsOpeningOf, opening_fault, IsOpening};
-ghost use Rattle.sq_store.specs.Prelude.{store_coded};
 ghost use Rattle.sq_model.specs.Prelude.{Trace, IsLegal};
-ghost use Rattle.sq_transition.specs.Prelude.{IsTransition, Holds, KeepsHeadline, IsAsPlanned, WorldValue};
+ghost use Rattle.sq_transition.specs.Prelude.{IsTransition, Holds, KeepsHeadline, IsAsPlanned};
 ghost use Rattle.sq_state.specs.History.{IsNotOpened};
 
 use crate::state::State;
@@ -28,6 +26,9 @@ pub struct World {
 }
 
 impl Model for World {
+    ghost use Rattle.std.specs.Coded.{codes};
+    ghost use Rattle.sq_store.specs.Prelude.{store_coded};
+    ghost use Rattle.sq_transition.specs.Prelude.{WorldValue};
     ghost use Rattle.sq_state.specs.Reached.{IsReached};
 
     ghost Value = { WorldValue };
