@@ -1,8 +1,7 @@
 // What a chunk is made of, and chunks that are cut out of a store.
-use super::fixtures::{note, transaction};
+use super::fixtures::{fill, have, note};
 use sq_chunk::{Chunk, Note, cut_next};
 use sq_ranges::Extent;
-use sq_schema::Family;
 use sq_store::{FamilyStore, VecStore};
 use std::alloc::Global;
 use std::test::Fail;
@@ -10,19 +9,8 @@ use std::test::Fail;
 // A store with families of these root keys, each of 56 bytes.
 fn store(alloc: Global, roots: &[u64]) -> Result<VecStore, Fail> {
     let mut store = VecStore::new(alloc);
-    for root in roots {
-        let line = format!(in alloc; "txn 0 1 {root} put 0 0 1 -")?;
-        let _ = store.apply(&transaction(alloc, line.as_str())?)?;
-    }
+    fill(alloc, &mut store, roots)?;
     Ok(store)
-}
-
-// Whether these families have the root keys.
-fn have(families: &[Family], roots: &[u64]) -> bool {
-    families
-        .iter()
-        .map(|family| family.root().number())
-        .eq(roots.iter().copied())
 }
 
 #[test]

@@ -1,6 +1,7 @@
 // Two partitions, between which root keys 4 to 7 move in chunks of one family, with ample memory.
 ghost use Rattle.std.specs.Prelude.{◌≡◌, ◌<◌, length, IfOk};
 
+use super::fixtures::{ALL, ALL_OF_THREE, FOUR_KEYS};
 use sq_chunk::{Chunk, Note};
 use sq_exec::{Outcome, PartCore};
 use sq_plan::{PartId, Plan};
@@ -11,11 +12,6 @@ use sq_tree::NodeId;
 use std::alloc::Global;
 use std::test::Fail;
 
-const OLD: &[u8] = b"{\"version\":1,\"partitions\":2,\"ranges\":[[0,4294967296,0]]}";
-
-const NEW: &[u8] =
-    b"{\"version\":1,\"partitions\":2,\"ranges\":[[0,4,0],[4,8,1],[8,4294967296,0]]}";
-
 const SIZES: Config = Config {
     width: 1,
     limit: 64,
@@ -23,14 +19,14 @@ const SIZES: Config = Config {
 };
 
 fn opening(alloc: Global) -> Result<Opening, Fail> {
-    opening_of(alloc, OLD, NEW)
+    opening_of(alloc, ALL, FOUR_KEYS)
 }
 
 // The opening of two plans.
-fn opening_of(alloc: Global, old: &[u8], new: &[u8]) -> Result<Opening, Fail> {
+fn opening_of(alloc: Global, old: &str, new: &str) -> Result<Opening, Fail> {
     let schema = Schema::new(1).ok_or("one table is a schema")?;
-    let old = Plan::read(alloc, old)?;
-    let new = Plan::read(alloc, new)?;
+    let old = Plan::read(alloc, old.as_bytes())?;
+    let new = Plan::read(alloc, new.as_bytes())?;
     let rows = Vec::new(alloc);
     Ok(Opening::new(alloc, schema, old, new, SIZES, rows)?)
 }
@@ -295,15 +291,13 @@ fn numbers_begin_anew_where_none_is_left(rt: HostRuntime) -> Result<(), Fail> {
     Ok(())
 }
 
-// Plans by which partition 0 gives the root keys 4 to 7 to partition 1, and then 8 to 11 to partition 2.
-const OLD_OF_THREE: &[u8] = b"{\"version\":1,\"partitions\":3,\"ranges\":[[0,4294967296,0]]}";
-
-const NEW_IN_STAGES: &[u8] =
-    b"{\"version\":2,\"partitions\":3,\"ranges\":[[0,4,0],[4,8,1],[8,12,2],[12,4294967296,0]],\"stages\":\"auto\"}";
+// The plan by which partition 0 of three gives the root keys 4 to 7 to partition 1, and then 8 to 11 to partition 2.
+const NEW_IN_STAGES: &str =
+    r#"{"version":2,"partitions":3,"ranges":[[0,4,0],[4,8,1],[8,12,2],[12,4294967296,0]],"stages":"auto"}"#;
 
 // Partition 2 of the plans in stages, in this stage.
 fn third_in_stage(alloc: Global, stage: u64) -> Result<PartCore<VecStore>, Fail> {
-    let opening = opening_of(alloc, OLD_OF_THREE, NEW_IN_STAGES)?;
+    let opening = opening_of(alloc, ALL_OF_THREE, NEW_IN_STAGES)?;
     let store = VecStore::new(alloc);
     let mut part = started(alloc, &opening, PartId::new(2), store)?;
     part.enter(stage);

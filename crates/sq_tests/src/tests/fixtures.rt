@@ -2,9 +2,10 @@
 use sq_chunk::Note;
 use sq_lines::LineReader;
 use sq_model::{Answer, Step};
-use sq_plan::PartId;
-use sq_ranges::{Opening, SegId};
-use sq_schema::{Reply, Root, RowKey, Schema, Table, Txn};
+use sq_plan::{PartId, Plan};
+use sq_ranges::{Opening, Recon, SegId};
+use sq_schema::{Family, Reply, Root, RowKey, Schema, Table, Txn};
+use sq_store::FamilyStore;
 use sq_text::{read_header, read_step, write_answer};
 use sq_tree::NodeId;
 use std::alloc::Global;
@@ -14,6 +15,23 @@ use std::test::Fail;
 pub const PLANS: &str = r#"old {"version":1,"partitions":2,"ranges":[[0,4294967296,0]]}
 new {"version":1,"partitions":2,"ranges":[[0,4,0],[4,8,1],[8,4294967296,0]]}
 "#;
+
+/// A plan by which partition 0 of two has all root keys.
+pub const ALL: &str = r#"{"version":1,"partitions":2,"ranges":[[0,4294967296,0]]}"#;
+
+/// The plan by which the root keys 4 to 7 go from there to partition 1, in one segment.
+pub const FOUR_KEYS: &str =
+    r#"{"version":1,"partitions":2,"ranges":[[0,4,0],[4,8,1],[8,4294967296,0]]}"#;
+
+/// A plan by which partition 0 of three has all root keys.
+pub const ALL_OF_THREE: &str = r#"{"version":1,"partitions":3,"ranges":[[0,4294967296,0]]}"#;
+
+/// What moves between the plans of these texts, with leaves of one root key.
+pub fn between(alloc: Global, old: &str, new: &str) -> Result<Recon, Fail> {
+    let old = Plan::read(alloc, old.as_bytes())?;
+    let new = Plan::read(alloc, new.as_bytes())?;
+    Ok(Recon::between(alloc, &old, &new, 1)?)
+}
 
 /// The schema of 8 tables.
 pub fn schema() -> Result<Schema, Fail> {
@@ -40,11 +58,33 @@ pub fn opening(alloc: Global, lines: &str) -> Result<Opening, Fail> {
     Ok(read_header(alloc, schema()?, &mut lines)?)
 }
 
-/// The line of a reply to transaction 1.
-pub fn reply_line(alloc: Global, reply: Reply) -> Result<Vec<u8>, Fail> {
+/// The line of an answer.
+pub fn line_of(alloc: Global, answer: &Answer) -> Result<String, Fail> {
     let mut line = Vec::new(alloc);
-    write_answer(&mut line, &Answer::Replied { id: 1, reply })?;
-    Ok(line)
+    write_answer(&mut line, answer)?;
+    Ok(String::from_utf8(line)?)
+}
+
+/// The line of a reply to transaction 1.
+pub fn reply_line(alloc: Global, reply: Reply) -> Result<String, Fail> {
+    line_of(alloc, &Answer::Replied { id: 1, reply })
+}
+
+/// Puts families with a root row without a note into a store, which makes each 56 bytes large.
+pub fn fill<S: FamilyStore>(alloc: Global, store: &mut S, roots: &[u64]) -> Result<(), Fail> {
+    for root in roots {
+        let line = format!(in alloc; "txn 0 1 {root} put 0 0 5 -")?;
+        let _ = store.apply(&transaction(alloc, line.as_str())?)?;
+    }
+    Ok(())
+}
+
+/// Whether these families have the root keys.
+pub fn have(families: &[Family], roots: &[u64]) -> bool {
+    families
+        .iter()
+        .map(|family| family.root().number())
+        .eq(roots.iter().copied())
 }
 
 /// Whether the table has this number and note at a key, or no row.

@@ -2,8 +2,9 @@
 ghost use Rattle.std.specs.Prelude.{◌≡◌, ◌<◌, length, IfOk};
 ghost use Rattle.sq_pull.specs.Seats.{AreSeatsOf};
 
+use super::fixtures::{ALL, ALL_OF_THREE, FOUR_KEYS, between};
 use crossbeam_queue::ArrayQueue;
-use sq_plan::{PartId, Plan};
+use sq_plan::PartId;
 use sq_pull::{Puller, Pump, PumpTurn, ReactivePull, Request, Shared};
 use sq_ranges::{Recon, SegId};
 use sq_status::{StatusTree, TreeSeat};
@@ -12,18 +13,10 @@ use std::alloc::{AllocError, Global};
 use std::sync::Wait;
 use std::test::Fail;
 
-const ALL: &str = r#"{"version":1,"partitions":2,"ranges":[[0,4294967296,0]]}"#;
-
-// The root keys 4 to 7 go from partition 0 to partition 1, in one segment.
-const FOUR_KEYS: &str =
-    r#"{"version":1,"partitions":2,"ranges":[[0,4,0],[4,8,1],[8,4294967296,0]]}"#;
-
 // The root keys 0 to 39 go from partition 0 to partition 1, in two segments.
 const FORTY_KEYS: &str = r#"{"version":1,"partitions":2,"ranges":[[0,40,1],[40,4294967296,0]]}"#;
 
-// Three partitions, before the first gives four root keys to the second, and then four to the third.
-const OF_THREE: &str = r#"{"version":1,"partitions":3,"ranges":[[0,4294967296,0]]}"#;
-
+// The first of three partitions gives four root keys to the second, and then four to the third.
 const IN_TWO_STAGES: &str =
     r#"{"version":2,"partitions":3,"ranges":[[0,4,1],[4,8,2],[8,4294967296,0]],"stages":"auto"}"#;
 
@@ -65,7 +58,7 @@ impl Setting {
     fn opened(alloc: Global, new: &str, capacity: usize) -> Result<Setting, Fail>
         requires { 0 < capacity }
     {
-        Setting::in_stage(alloc, moves(alloc, ALL, new)?, 0, capacity)
+        Setting::in_stage(alloc, between(alloc, ALL, new)?, 0, capacity)
     }
 
     // The same of this that moves, where the pump is of a stage.
@@ -156,13 +149,6 @@ impl Setting {
         let node = NodeId::new(number).ok_or("no node")?;
         Ok(self.trees[0].look(&mut self.seats[0], node))
     }
-}
-
-// What moves between the plans of these texts.
-fn moves(alloc: Global, old: &str, new: &str) -> Result<Recon, Fail> {
-    let old = Plan::read(alloc, old.as_bytes())?;
-    let new = Plan::read(alloc, new.as_bytes())?;
-    Ok(Recon::between(alloc, &old, &new, 1)?)
 }
 
 // Trees with nothing claimed, and two seats of each.
@@ -276,7 +262,7 @@ fn a_pump_goes_round_its_segments(rt: HostRuntime) -> Result<(), Fail> {
 #[test]
 fn a_pump_claims_in_its_stage_alone(rt: HostRuntime) -> Result<(), Fail> {
     for stage in [0, 1] {
-        let recon = moves(rt.alloc(), OF_THREE, IN_TWO_STAGES)?;
+        let recon = between(rt.alloc(), ALL_OF_THREE, IN_TWO_STAGES)?;
         let mut setting = Setting::in_stage(rt.alloc(), recon, stage, 16)?;
         assert!(rt; setting.answer(&rt, Call::Turn)? == Answer::Won(stage, 1));
         assert!(rt; setting.answer(&rt, Call::Turn)? == Answer::Nothing);
@@ -313,7 +299,7 @@ fn a_puller_sends_later_what_finds_no_room(rt: HostRuntime) -> Result<(), Fail> 
 #[test]
 fn a_pump_gives_its_seats_back(rt: HostRuntime) -> Result<(), Fail> {
     let (_trees, _seats, others) = fresh_trees(rt.alloc(), 2)?;
-    let recon = moves(rt.alloc(), ALL, FORTY_KEYS)?;
+    let recon = between(rt.alloc(), ALL, FORTY_KEYS)?;
     let Ok(pump) = Pump::new(rt.alloc(), &recon, 0, 15, others) else {
         return Err("no memory for a pump")?;
     };

@@ -1,22 +1,10 @@
 // What moves between two plans.
-use super::fixtures::{has, node, opening};
+use super::fixtures::{ALL, ALL_OF_THREE, FOUR_KEYS, between, has, node, opening};
 use sq_plan::Plan;
 use sq_ranges::{Extent, Link, Range, Recon, SegId};
 use sq_schema::{Root, RowKey, Rows};
 use std::alloc::Global;
 use std::test::Fail;
-
-const ALL: &str = r#"{"version":1,"partitions":2,"ranges":[[0,4294967296,0]]}"#;
-
-const FOUR_KEYS: &str =
-    r#"{"version":1,"partitions":2,"ranges":[[0,4,0],[4,8,1],[8,4294967296,0]]}"#;
-
-// What moves between the plans of these texts, with leaves of one root key.
-fn between(alloc: Global, old: &str, new: &str) -> Result<Recon, Fail> {
-    let old = Plan::read(alloc, old.as_bytes())?;
-    let new = Plan::read(alloc, new.as_bytes())?;
-    Ok(Recon::between(alloc, &old, &new, 1)?)
-}
 
 // A range with its source and its destination.
 type Moved = (u64, u64, u8, u8);
@@ -101,18 +89,16 @@ fn moves(rt: HostRuntime) -> Result<(), Fail> {
     Ok(())
 }
 
-const THREE: &str = r#"{"version":1,"partitions":3,"ranges":[[0,4294967296,0]]}"#;
-
 // Two plans, how many stages there are between them, and the stage of each segment.
 const STAGES: [(&str, &str, u64, &[u64]); 5] = [
     (
-        THREE,
+        ALL_OF_THREE,
         r#"{"version":2,"partitions":3,"ranges":[[0,4,0],[4,8,1],[8,12,2],[12,16,1],[16,4294967296,0]],"stages":"auto"}"#,
         2,
         &[0, 1, 0],
     ),
     (
-        THREE,
+        ALL_OF_THREE,
         r#"{"version":2,"partitions":3,"ranges":[[0,4,0],[4,8,1],[8,12,2],[12,16,1],[16,4294967296,0]],"stages":"one"}"#,
         1,
         &[0, 0, 0],
@@ -130,7 +116,7 @@ const STAGES: [(&str, &str, u64, &[u64]); 5] = [
         &[0, 1, 2, 0],
     ),
     (
-        THREE,
+        ALL_OF_THREE,
         r#"{"version":2,"partitions":3,"ranges":[[0,4294967296,0]],"stages":"auto"}"#,
         1,
         &[],

@@ -30,13 +30,18 @@ fn family(alloc: Global, has_row: bool) -> Result<Family, Fail> {
     Ok(Family::opened(alloc, root, rows)?)
 }
 
-// What a family answers to the transaction of a line.
-fn answer(alloc: Global, family: &mut Family, line: &str) -> Result<Vec<u8>, Fail> {
-    let txn = transaction(alloc, line)?;
+// What a family answers to a transaction of its root key.
+fn family_reply(family: &mut Family, txn: &Txn) -> Result<Reply, Fail> {
     if txn.root() != family.root() {
         return Err("a transaction of another root key")?;
     }
-    reply_line(alloc, family.apply(&txn)?)
+    Ok(family.apply(txn)?)
+}
+
+// What a family answers to the transaction of a line.
+fn answer(alloc: Global, family: &mut Family, line: &str) -> Result<String, Fail> {
+    let txn = transaction(alloc, line)?;
+    reply_line(alloc, family_reply(family, &txn)?)
 }
 
 #[test]
@@ -82,10 +87,7 @@ fn families(rt: HostRuntime) -> Result<(), Fail> {
     for (has_row, line, want, size, log) in TRANSACTIONS {
         let mut family = family(rt.alloc(), has_row)?;
         let got = answer(rt.alloc(), &mut family, line)?;
-        assert!(rt;
-            got.as_slice() == want.as_bytes() && family.size() == size,
-            "{line}"
-        );
+        assert!(rt; got.as_str() == want && family.size() == size, "{line}");
         assert!(rt;
             family.log().len() == log && family.log().iter().all(|txn| txn.id() == 1),
             "{line}"
@@ -106,22 +108,11 @@ fn rows_without_a_log(rt: HostRuntime) -> Result<(), Fail> {
         let mut rows = family.rows().clone()?;
         let txn = transaction(alloc, line)?;
         let reply = rows.apply(alloc, &txn)?;
-        assert!(rt; reply == rows_reply(&mut family, &txn)?, "{line}");
+        assert!(rt; reply == family_reply(&mut family, &txn)?, "{line}");
         assert!(rt; rows == *family.rows() && rows.size() == size, "{line}");
-        assert!(rt;
-            reply_line(alloc, reply)?.as_slice() == want.as_bytes(),
-            "{line}"
-        );
+        assert!(rt; reply_line(alloc, reply)?.as_str() == want, "{line}");
     }
     Ok(())
-}
-
-// What a family of root key 5 answers.
-fn rows_reply(family: &mut Family, txn: &Txn) -> Result<Reply, Fail> {
-    if txn.root() != family.root() {
-        return Err("a transaction of another root key")?;
-    }
-    Ok(family.apply(txn)?)
 }
 
 // Lines of transactions, of which no two are equal.
@@ -163,9 +154,12 @@ const REPLIES: [(bool, &str); 6] = [
 fn equal_replies(rt: HostRuntime) -> Result<(), Fail> {
     let alloc = rt.alloc();
     for (at, (has_row, line)) in REPLIES.iter().enumerate() {
-        let reply = rows_reply(&mut family(alloc, *has_row)?, &transaction(alloc, line)?)?;
+        let reply = family_reply(&mut family(alloc, *has_row)?, &transaction(alloc, line)?)?;
         for (other, (has_other, again)) in REPLIES.iter().enumerate() {
-            let second = rows_reply(&mut family(alloc, *has_other)?, &transaction(alloc, again)?)?;
+            let second = family_reply(
+                &mut family(alloc, *has_other)?,
+                &transaction(alloc, again)?,
+            )?;
             assert!(rt; (reply == second) == (at == other), "{line} and {again}");
         }
     }

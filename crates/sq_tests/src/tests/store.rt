@@ -1,5 +1,5 @@
 // Each store, transaction by transaction and chunk by chunk, and runs of commands.
-use super::fixtures::{reply_line, transaction};
+use super::fixtures::{fill, have, reply_line, transaction};
 use sq_ranges::Extent;
 use sq_schema::{Family, ROOT_END, Reply, Root};
 use sq_store::{FamilyStore, SlabStore, StoreAnswer, StoreCommand, VecStore, run_store};
@@ -8,18 +8,9 @@ use std::process::Abort;
 use std::test::Fail;
 
 // What a store answers to the transaction of a line.
-fn answer<S: FamilyStore>(alloc: Global, store: &mut S, line: &str) -> Result<Vec<u8>, Fail> {
+fn answer<S: FamilyStore>(alloc: Global, store: &mut S, line: &str) -> Result<String, Fail> {
     let txn = transaction(alloc, line)?;
     reply_line(alloc, store.apply(&txn)?)
-}
-
-// Puts families with a root row without a note in, which makes each 56 bytes large.
-fn fill<S: FamilyStore>(alloc: Global, store: &mut S, roots: &[u64]) -> Result<(), Fail> {
-    for root in roots {
-        let line = format!(in alloc; "txn 0 1 {root} put 0 0 5 -")?;
-        let _ = answer(alloc, store, line.as_str())?;
-    }
-    Ok(())
 }
 
 fn root_of(family: Option<&Family>) -> Option<u64> {
@@ -38,12 +29,36 @@ fn holds<S: FamilyStore>(store: &S, roots: &[u64]) -> bool {
     store.walk(at).is_none()
 }
 
-// Whether these families have the root keys.
-fn have(families: &[Family], roots: &[u64]) -> bool {
-    families
-        .iter()
-        .map(|family| family.root().number())
-        .eq(roots.iter().copied())
+// What is tried of a store.
+#[derive(Clone, Copy)]
+enum Trial {
+    Transactions,
+    Cuts,
+    Gifts,
+    Commands,
+    Reads,
+}
+
+// Tries it in a store that has no families.
+fn tried_in<R: Abort, S: FamilyStore>(
+    rt: &R,
+    alloc: Global,
+    store: &mut S,
+    trial: Trial,
+) -> Result<(), Fail> {
+    match trial {
+        Trial::Transactions => transactions_in(rt, alloc, store),
+        Trial::Cuts => cuts_of(rt, alloc, store),
+        Trial::Gifts => gifts_to(rt, alloc, store),
+        Trial::Commands => commands_to(rt, alloc, store),
+        Trial::Reads => reads_of(rt, alloc, store),
+    }
+}
+
+// Tries it in a store of each kind.
+fn in_each_store<R: Abort>(rt: &R, alloc: Global, trial: Trial) -> Result<(), Fail> {
+    tried_in(rt, alloc, &mut VecStore::new(alloc), trial)?;
+    tried_in(rt, alloc, &mut SlabStore::new(alloc), trial)
 }
 
 // Lines with their answers, and the root keys that have a family then.
@@ -79,7 +94,7 @@ fn transactions_in<R: Abort, S: FamilyStore>(
 ) -> Result<(), Fail> {
     for (line, want, roots) in LINES {
         let got = answer(alloc, store, line)?;
-        assert!(rt; got.as_slice() == want.as_bytes(), "{line}");
+        assert!(rt; got.as_str() == want, "{line}");
         assert!(rt; holds(store, roots), "after {line}");
     }
     Ok(())
@@ -87,9 +102,7 @@ fn transactions_in<R: Abort, S: FamilyStore>(
 
 #[test]
 fn transactions(rt: HostRuntime) -> Result<(), Fail> {
-    let alloc = rt.alloc();
-    transactions_in(&rt, alloc, &mut VecStore::new(alloc))?;
-    transactions_in(&rt, alloc, &mut SlabStore::new(alloc))
+    in_each_store(&rt, rt.alloc(), Trial::Transactions)
 }
 
 // All root keys.
@@ -170,9 +183,7 @@ fn cuts_of<R: Abort, S: FamilyStore>(rt: &R, alloc: Global, store: &mut S) -> Re
 
 #[test]
 fn cuts(rt: HostRuntime) -> Result<(), Fail> {
-    let alloc = rt.alloc();
-    cuts_of(&rt, alloc, &mut VecStore::new(alloc))?;
-    cuts_of(&rt, alloc, &mut SlabStore::new(alloc))
+    in_each_store(&rt, rt.alloc(), Trial::Cuts)
 }
 
 // Which root keys are given, whether they are taken, and the root keys that have a family then.
@@ -200,9 +211,7 @@ fn gifts_to<R: Abort, S: FamilyStore>(rt: &R, alloc: Global, store: &mut S) -> R
 
 #[test]
 fn gives(rt: HostRuntime) -> Result<(), Fail> {
-    let alloc = rt.alloc();
-    gifts_to(&rt, alloc, &mut VecStore::new(alloc))?;
-    gifts_to(&rt, alloc, &mut SlabStore::new(alloc))
+    in_each_store(&rt, rt.alloc(), Trial::Gifts)
 }
 
 // What is taken of the families 7, 4 and 9, an extent after the other.
@@ -234,9 +243,7 @@ fn commands_to<R: Abort, S: FamilyStore>(rt: &R, alloc: Global, store: &mut S) -
 
 #[test]
 fn commands(rt: HostRuntime) -> Result<(), Fail> {
-    let alloc = rt.alloc();
-    commands_to(&rt, alloc, &mut VecStore::new(alloc))?;
-    commands_to(&rt, alloc, &mut SlabStore::new(alloc))
+    in_each_store(&rt, rt.alloc(), Trial::Commands)
 }
 
 // Families in no order, so many that an index grows while they are put in, and all that there are then.
@@ -304,9 +311,7 @@ fn reads_of<R: Abort, S: FamilyStore>(rt: &R, alloc: Global, store: &mut S) -> R
 
 #[test]
 fn reads(rt: HostRuntime) -> Result<(), Fail> {
-    let alloc = rt.alloc();
-    reads_of(&rt, alloc, &mut VecStore::new(alloc))?;
-    reads_of(&rt, alloc, &mut SlabStore::new(alloc))
+    in_each_store(&rt, rt.alloc(), Trial::Reads)
 }
 
 #[test]
