@@ -1,5 +1,5 @@
 use crate::{obey, obey_buffered};
-use sq_audit::Defect;
+use sq_audit::ALL_DEFECTS;
 use sq_driver::{Gate, NodeStep, OpenGate};
 use sq_explain::entry;
 use sq_live::Watch;
@@ -134,14 +134,7 @@ fn a_refusal_means_what_the_table_says(rt: HostRuntime) -> Result<(), Fail> {
 
 #[test]
 fn a_defect_means_what_the_table_says(rt: HostRuntime) -> Result<(), Fail> {
-    for defect in [
-        Defect::RootMissing,
-        Defect::RootDoubled,
-        Defect::BaseChanged,
-        Defect::WrongPlace,
-        Defect::ReceiptUnknown,
-        Defect::Unanswered,
-    ] {
+    for defect in ALL_DEFECTS {
         let text = format!(in rt.alloc(); "{defect}")?;
         assert!(rt; table_says(defect.number(), text.as_str()));
     }
