@@ -9,6 +9,7 @@ pub mod Sizes
 pub mod Sound
 pub mod Weights
 pub mod Latest
+pub mod Marked
 pub mod PendingWrites
 pub mod Runs
 pub mod Tables

@@ -1,25 +1,18 @@
 -- What one more write makes of rows with pending writes.
 use Rattle.std.proofs.Common.{◌≡◌, ℕ, ◌+◌, ◌-◌, ◌*◌, ◌^◌, ◌<◌, ◌≤◌, true, [], ◌∷◌, ◌++◌, length, Some, None, Option, IfSome, arith, refl}
-use Rattle.std.specs.Option.{option_map_or}
 use Rattle.std.proofs.lemmas.Bool.Decides.{nat_tests}
 use Rattle.std.proofs.lemmas.List.Elements.{All-push}
 use Rattle.sq_schema.specs.declared.row.RowKey.{RowKey}
 use Rattle.sq_schema.specs.Values.{RowValue}
 use Rattle.sq_schema.specs.Effect.{row_at}
-use Rattle.sq_schema.specs.Family.{row_size, rows_size}
+use Rattle.sq_schema.specs.Family.{rows_size}
 use Rattle.sq_schema.specs.declared.schema.TheConstants.{MAX_NOTE}
-use Rattle.sq_schema.specs.Writes.{PendingValue, pending_rows, with_write, is_sound, is_write, IsPending}
+use Rattle.sq_schema.specs.Writes.{PendingValue, pending_rows, with_write, is_sound, is_write, count_of, size_of, IsPending}
 use Rattle.sq_schema.proofs.Kept.{IsRowList-with_write}
 use Rattle.sq_schema.proofs.KeyOrder.{length_bound}
 use Rattle.sq_schema.proofs.Latest.{with_writes-push}
 use Rattle.sq_schema.proofs.Sizes.{rows_size_bound}
 use Rattle.sq_schema.proofs.Weights.{length-with_write, rows_size-with_write}
-
-abbrev pub count_of : Option RowValue → ℕ
-count_of row = option_map_or (λ row. 1) row 0
-
-abbrev pub size_of : Option RowValue → ℕ
-size_of row = option_map_or row_size row 0
 
 pub is_sound_from : (key : RowKey) (row : Option RowValue) → key.table < 2 ^ 8 → key.sub < 2 ^ 32 → IfSome row (λ row. length row.note ≤ MAX_NOTE) → is_sound key row ≡ true
 is_sound_from key None table sub short = refl

@@ -1,10 +1,11 @@
 -- Writes of rows that wait to be made.
 use Rattle.std.specs.Prelude.{◌≡◌, ℕ, Bool, true, ◌==◌, ◌&&◌, List, fold, length, reverse, Option, Some, None}
 use Rattle.std.specs.List.{AllPass, find}
+use Rattle.std.specs.Option.{option_map_or}
 use Rattle.sq_schema.specs.declared.row.RowKey.{RowKey}
 use Rattle.sq_schema.specs.Values.{RowValue}
 use Rattle.sq_schema.specs.Effect.{RowList, with_row, without_row}
-use Rattle.sq_schema.specs.Family.{rows_size}
+use Rattle.sq_schema.specs.Family.{row_size, rows_size}
 use Rattle.sq_schema.specs.Rows.{is_entry, IsRowList}
 
 -- the row that a key is to have, or none
@@ -32,6 +33,14 @@ is_sound key (Some row) = is_entry (key, row)
 -- what the write puts is sound
 abbrev pub is_write : Write → Bool
 is_write write = is_sound write.0 write.1
+
+-- how many rows this is
+abbrev pub count_of : Option RowValue → ℕ
+count_of row = option_map_or (λ row. 1) row 0
+
+-- and their size
+abbrev pub size_of : Option RowValue → ℕ
+size_of row = option_map_or row_size row 0
 
 -- rows with pending writes
 pub record PendingValue : Type 0 where

@@ -8,6 +8,7 @@ ghost use Rattle.sq_schema.specs.Runs.{EndsBy};
 use crate::row::{Row, RowKey};
 use crate::rows::{Rows, weight};
 use crate::txn::{Cause, Op, OpAnswer, OpAnswers, Reply};
+use crate::written_keys::WrittenKeys;
 use std::alloc::{AllocError, Global};
 use std::marker::Model;
 
@@ -17,18 +18,21 @@ use std::marker::Model;
 pub(crate) struct PendingRows<'a> {
     rows: &'a Rows,
     writes: Vec<(RowKey, Option<Row>)>,
+    written: WrittenKeys,
     count: usize,
     size: u64,
 }
 
 impl<'a> Model for PendingRows<'a> {
     ghost use Rattle.sq_schema.specs.Writes.{PendingValue, IsPending};
+    ghost use Rattle.sq_schema.specs.WrittenKeys.{AreMarked};
 
     ghost Value = { PendingValue };
 
     ghost view = { λ d. record { base = d.rows.now; writes = d.writes.items } };
 
-    ghost invariant = { λ d. IsPending (record { base = d.rows.now; writes = d.writes.items }) d.count d.size };
+    ghost invariant = { λ d. IsPending (record { base = d.rows.now; writes = d.writes.items }) d.count d.size
+        × AreMarked d.written.marks d.writes.items };
 }
 
 /// Why an operation has no answer.
@@ -74,7 +78,7 @@ impl From<AllocError> for Stop {
 impl<'a> PendingRows<'a> {
     ghost use Rattle.sq_schema.specs.Effect.{row_at, op_outcome};
     ghost use Rattle.sq_schema.specs.Refusals.{op_fault};
-    ghost use Rattle.sq_schema.specs.Writes.{is_write, pending_rows};
+    ghost use Rattle.sq_schema.specs.Writes.{count_of, size_of, is_write, pending_rows};
     ghost use Rattle.sq_schema.specs.Runs.{ComesTo};
 
     // These rows, and no writes.
@@ -87,6 +91,7 @@ impl<'a> PendingRows<'a> {
             size: rows.size(),
             rows,
             writes: Vec::new(alloc),
+            written: WrittenKeys::new(),
         }
     }
 
@@ -95,21 +100,27 @@ impl<'a> PendingRows<'a> {
         ensures row { option_copied result ≡ row_at (pending_rows self.now) key }
         ensures short { IfSome result (λ row. length row.now.note ≤ MAX_NOTE) }
     {
+        if !self.written.may_have(key) {
+            return self.rows.get(key);
+        }
         match self.writes.iter().rev().find(|write| write.0 == key) {
             Some((_, row)) => row.as_ref(),
             None => self.rows.get(key),
         }
     }
 
-    // Adds a write.
-    fn write(&mut self, key: RowKey, row: Option<Row>) -> Result<(), AllocError>
-        requires { IfSome row (λ row. length row.note ≤ MAX_NOTE) }
+    // Adds a write of a key whose row weighs this.
+    fn write(&mut self, key: RowKey, old: (usize, u64), row: Option<Row>) -> Result<(), AllocError>
+        requires short { IfSome row (λ row. length row.note ≤ MAX_NOTE) }
+        requires count { old.0 ≡ count_of (row_at (pending_rows self.old) key) }
+        requires size { old.1 ≡ size_of (row_at (pending_rows self.old) key) }
         ensures base { self.new.base ≡ self.old.base }
         ensures ok { OnOk result (self.new.writes ≡ self.old.writes ++ (key, row) ∷ []) }
     {
-        let (old_count, old_size) = weight(self.get(key));
+        let (old_count, old_size) = old;
         let (new_count, new_size) = weight(row.as_ref());
         self.writes.push((key, row))?;
+        self.written.add(key);
         self.count = self.count + new_count - old_count;
         self.size = self.size + new_size - old_size;
         Ok(())
@@ -147,7 +158,8 @@ impl<'a> PendingRows<'a> {
         if key.table != 0 && self.get(RowKey::ROOT).is_none() {
             return Err(Stop::Abort(Cause::NoRoot));
         }
-        self.write(key, Some(row.clone()?))?;
+        let old = weight(self.get(key));
+        self.write(key, old, Some(row.clone()?))?;
         Ok(OpAnswer::Done)
     }
 
@@ -156,9 +168,10 @@ impl<'a> PendingRows<'a> {
         ensures outcome { ComesTo (op_outcome (pending_rows self.old) (Op.Add key by)) (pending_rows self.new) result }
     {
         let row = self.get(key).ok_or(Cause::Absent)?;
+        let old = weight(Some(row));
         let number = row.number().checked_add(by).ok_or(Cause::Range)?;
         let row = row.with_number(number)?;
-        self.write(key, Some(row))?;
+        self.write(key, old, Some(row))?;
         Ok(OpAnswer::Number(number))
     }
 
@@ -166,13 +179,11 @@ impl<'a> PendingRows<'a> {
         ensures base { self.new.base ≡ self.old.base }
         ensures outcome { ComesTo (op_outcome (pending_rows self.old) (Op.Del key)) (pending_rows self.new) result }
     {
-        if self.get(key).is_none() {
-            return Err(Stop::Abort(Cause::Absent));
-        }
+        let old = weight(Some(self.get(key).ok_or(Cause::Absent)?));
         if key == RowKey::ROOT && self.count != 1 {
             return Err(Stop::Abort(Cause::Children));
         }
-        self.write(key, None)?;
+        self.write(key, old, None)?;
         Ok(OpAnswer::Done)
     }
 
@@ -210,6 +221,7 @@ pub(crate) fn run(alloc: Global, rows: &Rows, ops: &[Op]) -> Result<RunOutcome, 
     let PendingRows {
         rows: _,
         writes,
+        written: _,
         count: _,
         size,
     } = pending;

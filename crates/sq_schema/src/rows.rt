@@ -1,13 +1,13 @@
 // The rows of one root key.
 ghost use Rattle.std.specs.Prelude.{◌≡◌, ◌+◌, ◌*◌, ◌^◌, ◌<◌, ◌≤◌, ◌==◌, true, [], ◌∷◌, length, vec_len, vec_capacity, OnOk, OnErr, IfOk, IfErr, IfSome};
-ghost use Rattle.std.specs.Option.{option_copied, option_map_or};
+ghost use Rattle.std.specs.Option.{option_copied};
 ghost use Rattle.std.specs.List.{AllPass};
 ghost use Rattle.sq_schema.specs.declared.row.RowKey.{RowKey};
 ghost use Rattle.sq_schema.specs.declared.schema.TheConstants.{MAX_NOTE};
 ghost use Rattle.sq_schema.specs.Effect.{RowList, row_at, with_row, effect, reply};
-ghost use Rattle.sq_schema.specs.Family.{row_size, rows_size};
+ghost use Rattle.sq_schema.specs.Family.{rows_size};
 ghost use Rattle.sq_schema.specs.Rows.{IsRowList};
-ghost use Rattle.sq_schema.specs.Writes.{is_write, with_write, with_writes};
+ghost use Rattle.sq_schema.specs.Writes.{count_of, size_of, is_write, with_write, with_writes};
 
 use crate::entry_iter::{RowIter, are_equal};
 use crate::entry_list::EntryList;
@@ -191,8 +191,8 @@ impl Clone for Rows {
 
 // How many rows this is, and their size.
 pub(crate) fn weight(row: Option<&Row>) -> (usize, u64)
-    ensures count { result.0 ≡ option_map_or (λ row. 1) (option_copied row.entry) 0 }
-    ensures size { result.1 ≡ option_map_or row_size (option_copied row.entry) 0 }
+    ensures count { result.0 ≡ count_of (option_copied row.entry) }
+    ensures size { result.1 ≡ size_of (option_copied row.entry) }
 {
     match row {
         Some(row) => (1, row.size()),

@@ -38,6 +38,6 @@ returns c =
     record {
       reply = rw c.new-2.ensures (sym (ap reply_of ran));
       after = sym (ap (rows_after rows) ran);
-      writes = c.pending-2.invariant.writes;
-      size = c.pending-2.invariant.size ∙ ap (λ (r : RowList). rows_size (with_writes r writes)) base;
+      writes = c.pending-2.invariant.0.writes;
+      size = c.pending-2.invariant.0.size ∙ ap (λ (r : RowList). rows_size (with_writes r writes)) base;
     }

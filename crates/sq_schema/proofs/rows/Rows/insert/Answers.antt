@@ -2,7 +2,7 @@ use Rattle.std.proofs.Common.{◌≡◌, Some, sym, ap, ◌∙◌, arith}
 use Rattle.std.proofs.lemmas.Bool.Decides.{nat_tests}
 use Rattle.sq_schema.specs.Effect.{row_at, with_row}
 use Rattle.sq_schema.specs.EntryList.{entries_of}
-use Rattle.sq_schema.proofs.PendingWrites.{size_of}
+use Rattle.sq_schema.specs.Writes.{size_of}
 use Rattle.sq_schema.proofs.Kept.{IsRowList-with_row}
 use Rattle.sq_schema.proofs.Sizes.{rows_size_bound}
 use Rattle.sq_schema.proofs.Weights.{rows_size-with_write}

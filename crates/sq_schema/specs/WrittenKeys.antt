@@ -1,0 +1,14 @@
+-- Marks of keys that were written.
+use Rattle.std.specs.Prelude.{◌≡◌, Bool, true, false, ◌%◌, List, slice_index_or}
+use Rattle.std.specs.List.{AllPass}
+use Rattle.sq_schema.specs.declared.row.RowKey.{RowKey}
+use Rattle.sq_schema.specs.declared.written_keys.TheConstants.{MARKS}
+use Rattle.sq_schema.specs.Writes.{Write}
+
+-- the key has its mark, which it may share
+abbrev pub is_marked : List Bool → RowKey → Bool
+is_marked marks key = slice_index_or marks (key.sub % MARKS) false
+
+-- the key of each of these writes has its mark
+abbrev pub AreMarked : List Bool → List Write → Type 0
+AreMarked marks writes = AllPass (λ write. is_marked marks write.0) writes

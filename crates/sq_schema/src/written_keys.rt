@@ -1,0 +1,46 @@
+// Which keys were written.
+ghost use Rattle.std.specs.Prelude.{◌≡◌, ◌%◌, true};
+ghost use Rattle.sq_schema.specs.declared.row.RowKey.{RowKey};
+ghost use Rattle.sq_schema.specs.WrittenKeys.{is_marked};
+
+use crate::row::RowKey;
+
+// How many marks there are.
+const MARKS: u32 = 256;
+
+/// Marks of the keys that were written, which say quickly of most others that they weren't. Some keys share a mark.
+#[derive(Drop)]
+pub(crate) struct WrittenKeys {
+    marks: [bool; MARKS as usize],
+}
+
+impl WrittenKeys {
+    /// No key.
+    pub(crate) fn new() -> WrittenKeys {
+        WrittenKeys {
+            marks: [false; MARKS as usize],
+        }
+    }
+
+    /// Whether the key may have been written.
+    pub(crate) fn may_have(&self, key: RowKey) -> bool
+        ensures { result ≡ is_marked self.now.marks key }
+    {
+        self.marks[place(key)]
+    }
+
+    /// The key was written too.
+    pub(crate) fn add(&mut self, key: RowKey)
+        ensures added { is_marked self.new.marks key ≡ true }
+        ensures kept { (other : RowKey) → is_marked self.old.marks other ≡ true → is_marked self.new.marks other ≡ true }
+    {
+        self.marks[place(key)] = true;
+    }
+}
+
+// The place of a key's mark.
+fn place(key: RowKey) -> usize
+    ensures { result ≡ key.sub % MARKS }
+{
+    (key.sub % MARKS) as usize
+}
