@@ -12,6 +12,7 @@ pub mod Refusals
 pub mod Fault
 pub mod Rows
 pub mod Writes
+pub mod WriteList
 pub mod WrittenKeys
 pub mod Runs
 pub mod Standing

@@ -9,6 +9,7 @@ use Rattle.sq_schema.specs.declared.pending.RunOutcome.{RunOutcome}
 use Rattle.sq_schema.specs.Effect.{RowList, OpOutcome, ops_outcome, reply_of, rows_after}
 use Rattle.sq_schema.specs.Family.{rows_size}
 use Rattle.sq_schema.specs.Writes.{is_write, with_writes}
+use Rattle.sq_schema.specs.WriteList.{writes_of}
 
 -- an operation with this outcome ends so: with its answer and these rows after it, for its cause, or because memory ran out
 abbrev pub ComesTo : OpOutcome → RowList → Result OpAnswer Stop → Type 0
@@ -19,6 +20,6 @@ ComesTo outcome rows (Err Memory) = ⊤
 -- operations on these rows end so
 pub record EndsBy (rows : RowList) (ops : List Op) (outcome : RunOutcome) : Type 0 where
   pub reply : outcome.reply ≡ reply_of (ops_outcome 0 ops rows)
-  pub after : with_writes rows outcome.writes.items ≡ rows_after rows (ops_outcome 0 ops rows)
-  pub writes : AllPass is_write outcome.writes.items
-  pub size : outcome.size ≡ rows_size (with_writes rows outcome.writes.items)
+  pub after : with_writes rows (writes_of outcome.writes) ≡ rows_after rows (ops_outcome 0 ops rows)
+  pub writes : AllPass is_write (writes_of outcome.writes)
+  pub size : outcome.size ≡ rows_size (with_writes rows (writes_of outcome.writes))

@@ -7,11 +7,13 @@ ghost use Rattle.sq_schema.specs.declared.row.RowKey.{RowKey};
 ghost use Rattle.sq_schema.specs.Effect.{RowList, row_at, with_row};
 ghost use Rattle.sq_schema.specs.EntryList.{entries_of, HasRoom, IsListed, IsOne, StandsAlone};
 ghost use Rattle.sq_schema.specs.Writes.{with_write, with_writes};
+ghost use Rattle.sq_schema.specs.WriteList.{writes_of};
 
 use crate::entry_iter::RowIter;
 use crate::keyed_entries::{get, insert, map_of, moves_entries, place};
 use crate::row::{Row, RowKey};
 use crate::row_map;
+use crate::write_list::{RowWrite, WriteList};
 use std::alloc::{AllocError, AllocFailed, Global};
 use std::collections::BTreeMap;
 use std::fmt::{self, Debug, Formatter, Write};
@@ -108,18 +110,39 @@ impl EntryList {
     }
 
     /// Makes these writes in their order, or none where there is no memory.
-    pub(crate) fn write_all(
-        &mut self,
-        mut writes: Vec<(RowKey, Option<Row>)>,
-    ) -> Result<(), AllocError>
+    pub(crate) fn write_all(&mut self, writes: WriteList) -> Result<(), AllocError>
+        requires { is_sorted key_cmp (entries_of self.old) ≡ true }
+        ensures ok { OnOk result (entries_of self.new ≡ with_writes (entries_of self.old) (writes_of writes)) }
+        ensures err { OnErr result (entries_of self.new ≡ entries_of self.old) }
+    {
+        match writes {
+            WriteList::One((key, row)) => self.write_one(key, row),
+            WriteList::Many(writes) => self.write_many(writes),
+        }
+    }
+
+    // Makes one write, or none where there is no memory.
+    fn write_one(&mut self, key: RowKey, row: Option<Row>) -> Result<(), AllocError>
+        requires { is_sorted key_cmp (entries_of self.old) ≡ true }
+        ensures ok { OnOk result (entries_of self.new ≡ with_write (entries_of self.old) key row) }
+        ensures err { OnErr result (entries_of self.new ≡ entries_of self.old) }
+    {
+        if self.moves_many(key, row.is_none()) {
+            self.grow()?;
+        }
+        match self {
+            EntryList::Map(rows) => row_map::write(rows, key, row),
+            EntryList::One(_) | EntryList::Many(_) => self.write_one_listed(key, row),
+        }
+    }
+
+    // Makes these writes in their order, or none where there is no memory.
+    fn write_many(&mut self, mut writes: Vec<RowWrite>) -> Result<(), AllocError>
         requires { is_sorted key_cmp (entries_of self.old) ≡ true }
         ensures ok { OnOk result (entries_of self.new ≡ with_writes (entries_of self.old) writes.items) }
         ensures err { OnErr result (entries_of self.new ≡ entries_of self.old) }
     {
-        let moves_many = writes
-            .iter()
-            .any(|(key, row)| self.moves_many(*key, row.is_none()));
-        if moves_many {
+        if self.one_moves_many(&writes) {
             self.grow()?;
         }
         match self {
@@ -129,18 +152,12 @@ impl EntryList {
     }
 
     // Makes these writes in a list.
-    fn write_listed(&mut self, mut writes: Vec<(RowKey, Option<Row>)>) -> Result<(), AllocError>
+    fn write_listed(&mut self, writes: Vec<RowWrite>) -> Result<(), AllocError>
         requires rising { is_sorted key_cmp (entries_of self.old) ≡ true }
         requires listed { IsListed self.old }
         ensures ok { OnOk result (entries_of self.new ≡ with_writes (entries_of self.old) writes.items) }
         ensures err { OnErr result (entries_of self.new ≡ entries_of self.old) }
     {
-        if writes.len() == 1 {
-            let Some((key, row)) = writes.pop() else {
-                unreachable!()
-            };
-            return self.write_one(key, row);
-        }
         self.reserve(writes.len())?;
         for (key, row) in writes {
             self.write(key, row);
@@ -149,7 +166,7 @@ impl EntryList {
     }
 
     // Makes one write in a list, or none where there is no memory.
-    fn write_one(&mut self, key: RowKey, row: Option<Row>) -> Result<(), AllocError>
+    fn write_one_listed(&mut self, key: RowKey, row: Option<Row>) -> Result<(), AllocError>
         requires rising { is_sorted key_cmp (entries_of self.old) ≡ true }
         requires listed { IsListed self.old }
         ensures ok { OnOk result (entries_of self.new ≡ with_write (entries_of self.old) key row) }
@@ -186,6 +203,16 @@ impl EntryList {
         match self {
             EntryList::Many(rows) => rows.len() >= MAX_MOVED && moves_entries(rows, key, removes),
             EntryList::One(_) | EntryList::Map(_) => false,
+        }
+    }
+
+    // Whether one of these writes does.
+    fn one_moves_many(&self, writes: &[RowWrite]) -> bool {
+        match self {
+            EntryList::Many(rows) if rows.len() >= MAX_MOVED => writes
+                .iter()
+                .any(|(key, row)| moves_entries(rows, *key, row.is_none())),
+            _ => false,
         }
     }
 

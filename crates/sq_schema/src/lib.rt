@@ -18,6 +18,7 @@ mod rows;
 mod schema;
 mod table;
 mod txn;
+mod write_list;
 mod written_keys;
 
 pub use entry_iter::{EntryIter, RowIter};

@@ -3,9 +3,10 @@ ghost use Rattle.std.specs.Prelude.{◌≡◌, OnOk, OnErr};
 ghost use Rattle.std.specs.List.{AllPass};
 ghost use Rattle.sq_schema.specs.Family.{rows_size};
 ghost use Rattle.sq_schema.specs.Writes.{is_write, with_writes};
+ghost use Rattle.sq_schema.specs.WriteList.{writes_of};
 
-use crate::row::{Row, RowKey};
 use crate::rows::Rows;
+use crate::write_list::WriteList;
 use std::alloc::{AllocError, Global};
 use std::marker::Model;
 
@@ -62,16 +63,16 @@ impl LoggedRows {
     pub(crate) fn write_all(
         &mut self,
         alloc: Global,
-        writes: Vec<(RowKey, Option<Row>)>,
+        writes: WriteList,
         size: u64,
     ) -> Result<(), AllocError>
-        requires writes { AllPass is_write writes.items }
-        requires size { size ≡ rows_size (with_writes self.old.rows writes.items) }
+        requires writes { AllPass is_write (writes_of writes) }
+        requires size { size ≡ rows_size (with_writes self.old.rows (writes_of writes)) }
         ensures base { self.new.base ≡ self.old.base }
-        ensures ok { OnOk result (self.new.rows ≡ with_writes self.old.rows writes.items) }
+        ensures ok { OnOk result (self.new.rows ≡ with_writes self.old.rows (writes_of writes)) }
         ensures err { OnErr result (self.new.rows ≡ self.old.rows) }
     {
-        if writes.is_empty() {
+        if writes.as_slice().is_empty() {
             return Ok(());
         }
         if self.base.is_none() {

@@ -8,6 +8,7 @@ ghost use Rattle.sq_schema.specs.Runs.{EndsBy};
 use crate::row::{Row, RowKey};
 use crate::rows::{Rows, weight};
 use crate::txn::{Cause, Op, OpAnswer, OpAnswers, Reply};
+use crate::write_list::WriteList;
 use crate::written_keys::WrittenKeys;
 use std::alloc::{AllocError, Global};
 use std::marker::Model;
@@ -16,8 +17,10 @@ use std::marker::Model;
 /// a `PendingValue`.
 #[derive(Drop)]
 pub(crate) struct PendingRows<'a> {
+    alloc: Global,
     rows: &'a Rows,
-    writes: Vec<(RowKey, Option<Row>)>,
+    writes: WriteList,
+    most: usize,
     written: WrittenKeys,
     count: usize,
     size: u64,
@@ -25,14 +28,15 @@ pub(crate) struct PendingRows<'a> {
 
 impl<'a> Model for PendingRows<'a> {
     ghost use Rattle.sq_schema.specs.Writes.{PendingValue, IsPending};
+    ghost use Rattle.sq_schema.specs.WriteList.{writes_of};
     ghost use Rattle.sq_schema.specs.WrittenKeys.{AreMarked};
 
     ghost Value = { PendingValue };
 
-    ghost view = { λ d. record { base = d.rows.now; writes = d.writes.items } };
+    ghost view = { λ d. record { base = d.rows.now; writes = writes_of d.writes } };
 
-    ghost invariant = { λ d. IsPending (record { base = d.rows.now; writes = d.writes.items }) d.count d.size
-        × AreMarked d.written.marks d.writes.items };
+    ghost invariant = { λ d. IsPending (record { base = d.rows.now; writes = writes_of d.writes }) d.count d.size
+        × AreMarked d.written.marks (writes_of d.writes) };
 }
 
 /// Why an operation has no answer.
@@ -48,7 +52,7 @@ pub(crate) struct RunOutcome {
     /// What their transaction is answered.
     pub(crate) reply: Reply,
     /// What is still to be written: nothing where one of them aborts.
-    pub(crate) writes: Vec<(RowKey, Option<Row>)>,
+    pub(crate) writes: WriteList,
     /// The size in bytes of a family with the rows after these writes.
     pub(crate) size: u64,
 }
@@ -81,16 +85,18 @@ impl<'a> PendingRows<'a> {
     ghost use Rattle.sq_schema.specs.Writes.{count_of, size_of, is_write, pending_rows};
     ghost use Rattle.sq_schema.specs.Runs.{ComesTo};
 
-    // These rows, and no writes.
-    fn new(alloc: Global, rows: &'a Rows) -> PendingRows<'a>
+    // These rows without writes, of which there will be this many at most.
+    fn new(alloc: Global, rows: &'a Rows, most: usize) -> PendingRows<'a>
         ensures rows { result.base ≡ rows.now }
         ensures writes { result.writes ≡ [] }
     {
         PendingRows {
+            alloc,
             count: rows.len(),
             size: rows.size(),
             rows,
-            writes: Vec::new(alloc),
+            writes: WriteList::new(alloc),
+            most,
             written: WrittenKeys::new(),
         }
     }
@@ -103,7 +109,13 @@ impl<'a> PendingRows<'a> {
         if !self.written.may_have(key) {
             return self.rows.get(key);
         }
-        match self.writes.iter().rev().find(|write| write.0 == key) {
+        match self
+            .writes
+            .as_slice()
+            .iter()
+            .rev()
+            .find(|write| write.0 == key)
+        {
             Some((_, row)) => row.as_ref(),
             None => self.rows.get(key),
         }
@@ -119,7 +131,7 @@ impl<'a> PendingRows<'a> {
     {
         let (old_count, old_size) = old;
         let (new_count, new_size) = weight(row.as_ref());
-        self.writes.push((key, row))?;
+        self.writes.push(self.alloc, self.most, (key, row))?;
         self.written.add(key);
         self.count = self.count + new_count - old_count;
         self.size = self.size + new_size - old_size;
@@ -203,7 +215,7 @@ pub(crate) fn run(alloc: Global, rows: &Rows, ops: &[Op]) -> Result<RunOutcome, 
     requires { ops_fault MAX_TABLES ops.now ≡ None }
     ensures { IfOk result (EndsBy rows.now ops.now) }
 {
-    let mut pending = PendingRows::new(alloc, rows);
+    let mut pending = PendingRows::new(alloc, rows, ops.len());
     let mut answers = Vec::with_capacity(alloc, ops.len())?;
     for (at, op) in ops.iter().enumerate() {
         match pending.run(op) {
@@ -211,7 +223,7 @@ pub(crate) fn run(alloc: Global, rows: &Rows, ops: &[Op]) -> Result<RunOutcome, 
             Err(Stop::Abort(cause)) => {
                 return Ok(RunOutcome {
                     reply: Reply::Aborted { at, cause },
-                    writes: Vec::new(alloc),
+                    writes: WriteList::new(alloc),
                     size: rows.size(),
                 });
             }
@@ -219,8 +231,10 @@ pub(crate) fn run(alloc: Global, rows: &Rows, ops: &[Op]) -> Result<RunOutcome, 
         }
     }
     let PendingRows {
+        alloc: _,
         rows: _,
         writes,
+        most: _,
         written: _,
         count: _,
         size,

@@ -6,6 +6,7 @@ ghost use Rattle.sq_schema.specs.Keys.{key_cmp};
 ghost use Rattle.sq_schema.specs.Writes.{last_write, with_write, with_writes};
 
 use crate::row::{Row, RowKey};
+use crate::write_list::RowWrite;
 use std::alloc::AllocError;
 use std::collections::BTreeMap;
 
@@ -13,7 +14,7 @@ use std::collections::BTreeMap;
 /// made, since it would take memory to put it back.
 pub(crate) fn write_all(
     rows: &mut BTreeMap<RowKey, Row>,
-    writes: &mut [(RowKey, Option<Row>)],
+    writes: &mut [RowWrite],
 ) -> Result<(), AllocError>
     requires { is_sorted key_cmp rows.old.entries ≡ true }
     ensures ok { OnOk result (rows.new.entries ≡ with_writes rows.old.entries writes.old) }
@@ -39,6 +40,27 @@ pub(crate) fn write_all(
     Ok(())
 }
 
+/// Makes a write, or none where there is no memory.
+pub(crate) fn write(
+    rows: &mut BTreeMap<RowKey, Row>,
+    key: RowKey,
+    row: Option<Row>,
+) -> Result<(), AllocError>
+    requires { is_sorted key_cmp rows.old.entries ≡ true }
+    ensures ok { OnOk result (rows.new.entries ≡ with_write rows.old.entries key row) }
+    ensures err { OnErr result (rows.new.entries ≡ rows.old.entries) }
+{
+    match row {
+        Some(row) => {
+            rows.insert(key, row)?;
+        }
+        None => {
+            rows.remove(&key);
+        }
+    }
+    Ok(())
+}
+
 // Puts the row back that a key had, or none, which takes no memory since one stands.
 fn put_back(rows: &mut BTreeMap<RowKey, Row>, key: RowKey, old: Option<Row>)
     requires rising { is_sorted key_cmp rows.old.entries ≡ true }
@@ -55,7 +77,7 @@ fn put_back(rows: &mut BTreeMap<RowKey, Row>, key: RowKey, old: Option<Row>)
 }
 
 // Whether one of these writes is of this key.
-fn is_written(writes: &[(RowKey, Option<Row>)], key: RowKey) -> bool
+fn is_written(writes: &[RowWrite], key: RowKey) -> bool
     ensures { result ≡ is_some (last_write writes.now key) }
 {
     writes.iter().rev().find(|write| write.0 == key).is_some()

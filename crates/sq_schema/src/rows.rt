@@ -8,12 +8,14 @@ ghost use Rattle.sq_schema.specs.Effect.{RowList, row_at, with_row, effect, repl
 ghost use Rattle.sq_schema.specs.Family.{rows_size};
 ghost use Rattle.sq_schema.specs.Rows.{IsRowList};
 ghost use Rattle.sq_schema.specs.Writes.{count_of, size_of, is_write, with_write, with_writes};
+ghost use Rattle.sq_schema.specs.WriteList.{writes_of};
 
 use crate::entry_iter::{RowIter, are_equal};
 use crate::entry_list::EntryList;
 use crate::pending::{RunOutcome, run};
 use crate::row::{Row, RowKey};
 use crate::txn::{Reply, Txn};
+use crate::write_list::WriteList;
 use std::alloc::{AllocError, AllocFailed, Global};
 use std::marker::Model;
 
@@ -137,14 +139,10 @@ impl Rows {
     }
 
     // Makes these writes in their order, or none where there is no memory. The size is that of the rows afterwards.
-    pub(crate) fn write_all(
-        &mut self,
-        writes: Vec<(RowKey, Option<Row>)>,
-        size: u64,
-    ) -> Result<(), AllocError>
-        requires writes { AllPass is_write writes.items }
-        requires size { size ≡ rows_size (with_writes self.old writes.items) }
-        ensures ok { OnOk result (self.new ≡ with_writes self.old writes.items) }
+    pub(crate) fn write_all(&mut self, writes: WriteList, size: u64) -> Result<(), AllocError>
+        requires writes { AllPass is_write (writes_of writes) }
+        requires size { size ≡ rows_size (with_writes self.old (writes_of writes)) }
+        ensures ok { OnOk result (self.new ≡ with_writes self.old (writes_of writes)) }
         ensures err { OnErr result (self.new ≡ self.old) }
     {
         self.rows.write_all(writes)?;

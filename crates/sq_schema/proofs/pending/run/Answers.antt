@@ -4,6 +4,7 @@ use Rattle.sq_schema.specs.declared.schema.TheConstants.{MAX_TABLES}
 use Rattle.sq_schema.specs.Effect.{RowList, ops_outcome, reply_of, rows_after}
 use Rattle.sq_schema.specs.Family.{rows_size}
 use Rattle.sq_schema.specs.Writes.{PendingValue, is_write, with_writes, pending_rows}
+use Rattle.sq_schema.specs.WriteList.{writes_of}
 use Rattle.sq_schema.proofs.Runs.{op_fault-at, ran_one, aborted_at, ran_all}
 use Rattle.sq_schema.proofs.pending.run.Goals as goal
 
@@ -23,15 +24,15 @@ returns-in-Err-Abort c =
     let stopped : ops_outcome 0 c.args.ops.now rows ≡ Err (c.loop-at.at, cause) = aborted_at c.args.ops.now rows c.loop-at.at c.loop-at.answers.items (pending_rows c.loop-at.pending) c.loop-at.invariant.rest c.index-ops-at.result (omega arith) c.index-ops-at.is cause (rw c.in-Err-Abort.field-0-is at c.in-Err-Abort.ensures.outcome) in
     record {
       reply = rw c.in-Err-Abort.cause-is (sym (ap reply_of stopped));
-      after = rw c.new.ensures.items (sym (ap (rows_after rows) stopped));
-      writes = rw c.new.ensures.items (All-nil (λ write. is_write write ≡ true));
-      size = rw c.new.ensures.items c.size.ensures;
+      after = rw c.new.ensures (sym (ap (rows_after rows) stopped));
+      writes = rw c.new.ensures (All-nil (λ write. is_write write ≡ true));
+      size = rw c.new.ensures c.size.ensures;
     }
 
 pub returns : goal.returns
 returns c =
     let rows = c.args.rows.now in
-    let writes = c.pending-2.inside.writes.items in
+    let writes = writes_of c.pending-2.inside.writes in
     let base : c.pending-2.inside.rows.now ≡ rows = ap (λ (p : PendingValue). p.base) c.pending-2.view_is ∙ c.loop-at.invariant.base in
     let now : pending_rows c.loop-at.pending ≡ with_writes rows writes = ap pending_rows (sym c.pending-2.view_is) ∙ ap (λ (r : RowList). with_writes r writes) base in
     let ran : ops_outcome 0 c.args.ops.now rows ≡ Ok (with_writes rows writes, c.loop-at.answers.items) = rw (← now) (ran_all c.args.ops.now rows c.loop-at.at c.loop-at.answers.items (pending_rows c.loop-at.pending) c.loop-at.invariant.rest c.loop-at-test.false) in

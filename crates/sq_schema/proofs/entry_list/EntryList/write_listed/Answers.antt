@@ -11,7 +11,7 @@ pub loop-key-init : goal.loop-key-init
 loop-key-init c =
     let kept = c.in_ok-reserve.ensures in
     let all : into_iter_items c.into_iter-key-iterator.result ≡ c.args.writes.items = search rules in
-    let count : c.len-2.result ≡ length c.args.writes.items = search rules in (
+    let count : c.len.result ≡ length c.args.writes.items = search rules in (
       tt,
       tt,
       rw all (ap (λ rows. with_writes rows c.args.writes.items) kept.rows),
@@ -22,9 +22,9 @@ loop-key-init c =
 -- this write is the first of those that were left
 pub loop-key-preserved : goal.loop-key-preserved
 loop-key-preserved c =
-    let key = c.in-Some-2.key in
-    let row = c.in-Some-2.row in
-    let first = c.in-Some-2.ensures.steps.0 in
+    let key = c.in-Some.key in
+    let row = c.in-Some.row in
+    let first = c.in-Some.ensures.steps.0 in
     let inv = c.loop-key.invariant in (
       tt,
       tt,
@@ -38,7 +38,7 @@ write-requires-clause-rising c = c.loop-key.invariant.3
 
 pub write-requires-clause-room : goal.write-requires-clause-room
 write-requires-clause-room c =
-    let first = c.in-Some-2.ensures.steps.0 in
+    let first = c.in-Some.ensures.steps.0 in
     HasRoom-fewer c.loop-key.self 1 (length (into_iter_items c.loop-key.key-iterator)) (omega (arith, ap length first)) c.loop-key.invariant.4
 
 pub returns-clause-ok : goal.returns-clause-ok

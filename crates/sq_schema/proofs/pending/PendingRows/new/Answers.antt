@@ -6,7 +6,7 @@ use Rattle.sq_schema.proofs.pending.PendingRows.new.Goals as goal
 
 pub invariant_of-result : goal.invariant_of-result
 invariant_of-result c =
-    rw c.new.ensures.items (
+    rw c.new.ensures (
       record { rows = c.len.ensures.sound; writes = All-nil (λ write. is_write write ≡ true); count = c.len.ensures.count; size = c.size.ensures },
       All-nil (λ write. is_marked c.new-2.result.marks write.0 ≡ true),
     )
