@@ -2,10 +2,11 @@
 ghost use Rattle.std.specs.Prelude.{◌≡◌, IfOk};
 
 use std::alloc::{AllocError, Global};
+use std::cmp::Ordering;
 use std::marker::Model;
 
 /// Where a row stands within its root key. Table 0 is the root table, and its only sub key is 0.
-#[derive(Clone, Copy, Debug, PartialEq, Eq, PartialOrd, Ord)]
+#[derive(Clone, Copy, Debug, PartialEq, Eq, PartialOrd)]
 pub struct RowKey {
     /// The table, from 0.
     pub table: u8,
@@ -16,6 +17,31 @@ pub struct RowKey {
 impl RowKey {
     /// The key of the root row.
     pub const ROOT: RowKey = RowKey { table: 0, sub: 0 };
+}
+
+impl Ord for RowKey {
+    ghost use Rattle.std.specs.Cmp.Rules.{comparing};
+    ghost use Rattle.std.proofs.Common.{rules};
+    ghost use Rattle.sq_schema.specs.Keys.{key_cmp};
+
+    ghost cmp = { key_cmp };
+
+    ghost total = { Prim.search (comparing, rules) };
+
+    ghost matches_partial_cmp = { Prim.search (comparing, rules) };
+
+    ghost matches_eq = { Prim.search (comparing, rules) };
+
+    // Asks first whether it comes later, as a search does at most keys: a derive compiles to more tests.
+    fn cmp(&self, other: &RowKey) -> Ordering {
+        if self.table > other.table || self.table == other.table && self.sub > other.sub {
+            Ordering::Greater
+        } else if self == other {
+            Ordering::Equal
+        } else {
+            Ordering::Less
+        }
+    }
 }
 
 /// A row: a number and a note of any length (a schema refuses long ones). To a contract it is a `RowValue`.
