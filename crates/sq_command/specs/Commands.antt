@@ -12,10 +12,13 @@ use Rattle.sq_command.specs.declared.line.TheConstants.{MAX_TURNS, MAX_PUMPS}
 abbrev pub program : Shape
 program = record (new_shape (codes "squall")) { has_version = true; subcommand_required = true }
 
--- an option with a value that this parser takes, and the one that stands where it isn't given
+-- an option with a value, as the name of a file
+abbrev pub valued_rule : Text → Rule
+valued_rule name = record (new_rule name) { long = Some name; value_names = 1 }
+
+-- one whose value this parser takes, and the value that stands where it isn't given
 abbrev pub option_rule : Text → ValueParser → Text → Rule
-option_rule name parser default =
-    record (new_rule name) { long = Some name; value_names = 1; parser = Some parser; defaults = default ∷ [] }
+option_rule name parser default = record (valued_rule name) { parser = Some parser; defaults = default ∷ [] }
 
 -- an option that takes no value
 abbrev pub flag_rule : Text → Rule
@@ -24,10 +27,6 @@ flag_rule name = record (new_rule name) { long = Some name; action = Some SetTru
 -- a word without an option's name: the file to read
 abbrev pub file_rule : Rule
 file_rule = record (new_rule (codes "file")) { value_names = 1 }
-
--- an option for the name of a file
-abbrev pub path_rule : Text → Rule
-path_rule name = record (new_rule name) { long = Some name; value_names = 1 }
 
 -- a word that is a number of 16 bits
 abbrev pub number_rule : Rule
@@ -40,7 +39,7 @@ larger shape rule = record shape { rules = shape.rules ++ rule ∷ [] }
 -- the subcommand with what says where its input comes from: the file, and those of the plans and of the rows
 abbrev pub with_input : Shape → Shape
 with_input shape =
-    larger (larger (larger (larger shape file_rule) (path_rule (codes "old"))) (path_rule (codes "new"))) (path_rule (codes "rows"))
+    larger (larger (larger (larger shape file_rule) (valued_rule (codes "old"))) (valued_rule (codes "new"))) (valued_rule (codes "rows"))
 
 -- the subcommand that makes the steps of a script
 abbrev pub run_shape : Shape
@@ -60,7 +59,7 @@ numbered_shape =
 abbrev pub live_shape : Shape
 live_shape =
     with_input (larger (larger (larger numbered_shape (flag_rule (codes "fold"))) (flag_rule (codes "summary")))
-    (path_rule (codes "timeline")))
+    (valued_rule (codes "timeline")))
 
 -- the subcommand that tells what numbers mean
 abbrev pub explain_shape : Shape

@@ -4,7 +4,7 @@ ghost use Rattle.clap.specs.Walk.{rule_of};
 ghost use Rattle.clap.specs.Simple.{new_shape};
 ghost use Rattle.clap.specs.Words.{app_of, shape_of};
 ghost use Rattle.clap.specs.declared.builder.command.Command.TheViews.{out-Command};
-ghost use Rattle.sq_command.specs.Commands.{program, squall, option_rule, flag_rule, file_rule, path_rule, larger, with_input, run_shape, ranges_shape, numbered_shape, live_shape, explain_shape};
+ghost use Rattle.sq_command.specs.Commands.{program, squall, option_rule, flag_rule, file_rule, valued_rule, larger, with_input, run_shape, ranges_shape, numbered_shape, live_shape, explain_shape};
 
 use crate::help;
 use crate::line::{MAX_PUMPS, MAX_TURNS, PUMPS, TURNS};
@@ -37,6 +37,17 @@ fn subcommand<'a>(alloc: Global, name: &'a str, about: &'a str, after_help: &'a 
         .after_help(after_help)
 }
 
+// An option with a value, which help calls so.
+fn valued<'a>(alloc: Global, name: &'a str, value: &'a str, help: &'a str) -> Arg<'a>
+    ensures rule { rule_of result ≡ valued_rule name.entry.now }
+    ensures local { result.global ≡ false }
+{
+    Arg::new(alloc, name)
+        .long(name)
+        .value_name(value)
+        .help(help)
+}
+
 // An option for a number, and the one that stands where it isn't given.
 fn option<'a>(
     alloc: Global,
@@ -48,10 +59,7 @@ fn option<'a>(
     ensures rule { rule_of result ≡ option_rule name.entry.now parser.entry default.entry.now }
     ensures local { result.global ≡ false }
 {
-    Arg::new(alloc, name)
-        .long(name)
-        .value_name("N")
-        .help(help)
+    valued(alloc, name, "N", help)
         .value_parser(parser)
         .default_value(default)
 }
@@ -77,13 +85,10 @@ fn file<'a>(alloc: Global) -> Arg<'a>
 
 // An option for the name of a file.
 fn path<'a>(alloc: Global, name: &'a str, help: &'a str) -> Arg<'a>
-    ensures rule { rule_of result ≡ path_rule name.entry.now }
+    ensures rule { rule_of result ≡ valued_rule name.entry.now }
     ensures local { result.global ≡ false }
 {
-    Arg::new(alloc, name)
-        .long(name)
-        .value_name("FILE")
-        .help(help)
+    valued(alloc, name, "FILE", help)
 }
 
 // The command with one argument more.
@@ -139,9 +144,9 @@ fn numbered<'a>(alloc: Global) -> Result<Command<'a>, AllocError>
     let any_pumps = value_parser!(u64).range(1..=MAX_PUMPS as i64);
     let turns = option(alloc, "turns", help::TURNS, any_turns, "1000000");
     let pumps = option(alloc, "pumps", help::PUMPS, any_pumps, "1");
-    subcommand(alloc, "live", help::LIVE_ABOUT, help::LIVE)
-        .arg(turns)?
-        .arg(pumps)
+    let plain = subcommand(alloc, "live", help::LIVE_ABOUT, help::LIVE);
+    let with_turns = with(plain, turns)?;
+    with(with_turns, pumps)
 }
 
 // The subcommand that runs jobs in threads.
