@@ -13,6 +13,7 @@ pub mod Marked
 pub mod PendingWrites
 pub mod Runs
 pub mod Tables
+pub mod From
 pub mod Applied
 pub mod Rooted
 pub mod Replay

@@ -18,11 +18,12 @@ pub struct EntryIter<'a, K, V> {
 /// The rows of one root key with their keys, by key in rising order.
 pub type RowIter<'a> = EntryIter<'a, RowKey, Row>;
 
-// Those that are left, in either form.
+// Those that are left, in each form.
 #[derive(Drop)]
 enum EntriesLeft<'a, K, V> {
     Listed(slice::Iter<'a, (K, V)>),
     Mapped(btree_map::Iter<'a, K, V>),
+    Ranged(btree_map::Range<'a, K, V>),
 }
 
 impl<'a, K, V> Model for EntryIter<'a, K, V> {
@@ -52,6 +53,15 @@ impl<'a, K: Ord, V> EntryIter<'a, K, V> {
             left: EntriesLeft::Mapped(entries.iter()),
         }
     }
+
+    /// The entries of a part of a map.
+    pub(crate) fn of_range(entries: btree_map::Range<'a, K, V>) -> EntryIter<'a, K, V>
+        ensures { result ≡ entries.entry }
+    {
+        EntryIter {
+            left: EntriesLeft::Ranged(entries),
+        }
+    }
 }
 
 impl<'a, K, V> Iterator for EntryIter<'a, K, V> {
@@ -68,6 +78,7 @@ impl<'a, K, V> Iterator for EntryIter<'a, K, V> {
                 Some((key, value))
             }
             EntriesLeft::Mapped(entries) => entries.next(),
+            EntriesLeft::Ranged(entries) => entries.next(),
         }
     }
 
@@ -75,6 +86,7 @@ impl<'a, K, V> Iterator for EntryIter<'a, K, V> {
         match &self.left {
             EntriesLeft::Listed(entries) => entries.size_hint(),
             EntriesLeft::Mapped(entries) => entries.size_hint(),
+            EntriesLeft::Ranged(entries) => entries.size_hint(),
         }
     }
 }

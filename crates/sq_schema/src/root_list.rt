@@ -1,5 +1,5 @@
 // The rows of a database in memory, by root key.
-ghost use Rattle.std.specs.Prelude.{◌≡◌, ◌≤◌, true, [], length, IsSome, IfOk, IfErr, OnOk, OnErr};
+ghost use Rattle.std.specs.Prelude.{◌≡◌, ◌≤◌, true, nat_le, nat_lt, [], length, filter, IsSome, IfOk, IfErr, OnOk, OnErr};
 ghost use Rattle.std.specs.Option.{option_copied};
 ghost use Rattle.std.specs.Ordering.{nat_cmp};
 ghost use Rattle.std.specs.FinMap.Entries.{find, put, is_sorted};
@@ -49,6 +49,25 @@ impl RootList {
         match self {
             RootList::Listed(rows) => EntryIter::of_list(rows),
             RootList::Mapped(rows) => EntryIter::of_map(rows),
+        }
+    }
+
+    /// The root keys from this one on with their rows, in rising order.
+    pub(crate) fn iter_from(&self, from: Root) -> EntryIter<'_, Root, Rows>
+        requires { is_sorted nat_cmp (table_of self.now) ≡ true }
+        ensures { result ≡ filter (λ entry. nat_le from entry.0) (table_of self.now) }
+    {
+        match self {
+            RootList::Listed(rows) => {
+                let list = rows.as_slice();
+                let at = list.partition_point(
+                    |entry: &(Root, Rows)| -> bool
+                        ensures { result ≡ nat_lt entry.now.0 from }
+                    { entry.0 < from },
+                );
+                EntryIter::of_list(&list[at..])
+            }
+            RootList::Mapped(rows) => EntryIter::of_range(rows.range(from..)),
         }
     }
 

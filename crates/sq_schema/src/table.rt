@@ -1,5 +1,5 @@
 // Tables that aren't partitioned.
-ghost use Rattle.std.specs.Prelude.{◌≡◌, ◌==◌, ℕ, true, [], None, length, MatchResult, IfErr, IfSome, IsSome, OnOk, OnErr};
+ghost use Rattle.std.specs.Prelude.{◌≡◌, ◌==◌, nat_le, ℕ, true, [], None, length, filter, MatchResult, IfErr, IfSome, IsSome, OnOk, OnErr};
 ghost use Rattle.std.specs.List.{AllPass};
 ghost use Rattle.std.specs.Option.{option_copied};
 ghost use Rattle.std.specs.Ordering.{nat_cmp};
@@ -69,6 +69,13 @@ impl Table {
         ensures opening { AllPass (λ entry. is_opening entry.1) self.now }
     {
         self.rows.iter()
+    }
+
+    /// The root keys from this one on that have rows, in rising order, with these.
+    pub fn iter_from(&self, from: Root) -> EntryIter<'_, Root, Rows>
+        ensures { result ≡ filter (λ entry. nat_le from entry.0) self.now }
+    {
+        self.rows.iter_from(from)
     }
 
     /// Takes one opening row, which a schema was asked for. On an error nothing changes, and the row comes back.

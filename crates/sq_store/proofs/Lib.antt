@@ -19,6 +19,7 @@ pub mod Walks
 pub mod Leading
 pub mod Indexes
 pub mod Filled
+pub mod Suffixes
 pub mod Opened
 pub mod Writes
 pub mod PutsIn

@@ -1,6 +1,6 @@
 -- A store that is opened with families one after another, in the order of their root keys.
-use Rattle.std.proofs.Common.{◌≡◌, ℕ, Bool, true, false, List, [], ◌∷◌, ◌++◌, length, refl, sym, ap, ◌∙◌, arith, append_assoc, true≢false}
-use Rattle.std.specs.Prelude.{◌+◌, ◌==◌, ◌||◌, not, if◌then◌else◌, map, filter, cond, is_some, None}
+use Rattle.std.proofs.Common.{◌≡◌, ℕ, Bool, true, false, List, [], ◌∷◌, ◌++◌, refl, sym, ap, ◌∙◌, arith, append_assoc, true≢false}
+use Rattle.std.specs.Prelude.{◌==◌, ◌||◌, not, if◌then◌else◌, map, filter, cond, is_some, None}
 use Rattle.std.specs.Ordering.{nat_cmp, is_lt}
 use Rattle.std.specs.FinMap.{get, insert, empty, get-empty}
 use Rattle.std.specs.FinMap.Entries.{below_all, is_sorted}
@@ -48,18 +48,6 @@ module _ (front back : List FamilyValue) (family : FamilyValue) (differ : roots_
 pub next_put : (front : List FamilyValue) (family : FamilyValue) → with_families empty (front ++ family ∷ []) ≡ insert (with_families empty front) family.root family
 next_put front family = fold-append (λ (store : StoreValue) (f : FamilyValue). insert store f.root f) empty front (family ∷ [])
 
--- a root key's family comes first where the partition owns it, and else it is left out
-module _ (plan : PlanValue) (part : ℕ) (entry : ℕ × RowList) (table : TableValue) where
-  pub kept : (owner plan entry.0 == part) ≡ true → opened_families plan part (entry ∷ table) ≡ opened_family entry ∷ opened_families plan part table
-  kept is =
-      ap (λ b. map opened_family (if b then entry ∷ filter (λ (e : ℕ × RowList). owner plan e.0 == part) table else filter (λ (e : ℕ × RowList). owner plan e.0 == part) table))
-      is
-
-  pub left_out : (owner plan entry.0 == part) ≡ false → opened_families plan part (entry ∷ table) ≡ opened_families plan part table
-  left_out other =
-      ap (λ b. map opened_family (if b then entry ∷ filter (λ (e : ℕ × RowList). owner plan e.0 == part) table else filter (λ (e : ℕ × RowList). owner plan e.0 == part) table))
-      other
-
 -- their root keys differ
 not_named : (plan : PlanValue) (part x : ℕ) (table : TableValue) → below_all nat_cmp x table ≡ true → names (opened_families plan part table) x ≡ false
 not_named plan part x [] below = refl
@@ -94,23 +82,10 @@ opened_differ plan part (entry ∷ table) rising =
     by_owner true differ =
         and_from (not (names (map opened_family rest) entry.0)) (roots_differ (map opened_family rest)) (ap not (not_named plan part entry.0 table parts.0)) differ
 
--- once the first of the root keys that are left is taken, one more family is there, or as many as before are still to come
-module _ (plan : PlanValue) (part : ℕ) (entry : ℕ × RowList) (table left : TableValue) (next : left ≡ entry ∷ table) where
-  pub one_more : (owner plan entry.0 == part) ≡ true → length (opened_families plan part left) ≡ length (opened_families plan part table) + 1
-  one_more owned =
-      let more : length (opened_families plan part left) ≡ length (opened_family entry ∷ opened_families plan part table) = ap length (ap (opened_families plan part) next ∙ kept plan part entry table owned) in
-      omega (arith, more)
+-- once the first of the root keys that are left is taken, the families so far and it go before those that are left
+module _ (before all : List FamilyValue) (entry : ℕ × RowList) (table left : TableValue) (next : left ≡ entry ∷ table) (so_far : before ++ map opened_family left ≡ all) where
+  pub next_kept : before ++ opened_family entry ∷ map opened_family table ≡ all
+  next_kept = ap (λ (entries : TableValue). before ++ map opened_family entries) (sym next) ∙ so_far
 
-  pub as_many : (owner plan entry.0 == part) ≡ false → length (opened_families plan part left) ≡ length (opened_families plan part table)
-  as_many other = ap length (ap (opened_families plan part) next ∙ left_out plan part entry table other)
-
-  -- the families so far go before those that are left
-  module _ (before all : List FamilyValue) (so_far : before ++ opened_families plan part left ≡ all) where
-    pub next_kept : (owner plan entry.0 == part) ≡ true → before ++ opened_family entry ∷ opened_families plan part table ≡ all
-    next_kept owned = ap (λ xs. before ++ xs) (sym (ap (opened_families plan part) next ∙ kept plan part entry table owned)) ∙ so_far
-
-    pub next_moved : (owner plan entry.0 == part) ≡ true → (before ++ opened_family entry ∷ []) ++ opened_families plan part table ≡ all
-    next_moved owned = append_assoc before (opened_family entry ∷ []) (opened_families plan part table) ∙ next_kept owned
-
-    pub next_left_out : (owner plan entry.0 == part) ≡ false → before ++ opened_families plan part table ≡ all
-    next_left_out other = ap (λ xs. before ++ xs) (sym (ap (opened_families plan part) next ∙ left_out plan part entry table other)) ∙ so_far
+  pub next_moved : (before ++ opened_family entry ∷ []) ++ map opened_family table ≡ all
+  next_moved = append_assoc before (opened_family entry ∷ []) (map opened_family table) ∙ next_kept

@@ -1,5 +1,5 @@
 -- The families that a partition opens with.
-use Rattle.std.specs.Prelude.{◌≡◌, ℕ, ◌==◌, true, List, [], map, filter}
+use Rattle.std.specs.Prelude.{◌≡◌, ℕ, ◌==◌, true, nat_le, List, [], map, filter}
 use Rattle.sq_schema.specs.Effect.{RowList}
 use Rattle.sq_schema.specs.Table.{TableValue}
 use Rattle.sq_schema.specs.Family.{FamilyValue}
@@ -10,10 +10,18 @@ use Rattle.sq_plan.specs.PlanValue.{PlanValue, holds, owner}
 abbrev pub opened_family : ℕ × RowList → FamilyValue
 opened_family entry = record { root = entry.0; base = entry.1; log = [] }
 
+-- the root keys that a partition owns, with their rows
+abbrev pub owned_entries : PlanValue → ℕ → TableValue → TableValue
+owned_entries plan part table = filter (λ entry. owner plan entry.0 == part) table
+
 -- the families of the root keys that a partition owns
 abbrev pub opened_families : PlanValue → ℕ → TableValue → List FamilyValue
-opened_families plan part table = map opened_family (filter (λ entry. owner plan entry.0 == part) table)
+opened_families plan part table = map opened_family (owned_entries plan part table)
 
 -- each root key that the range holds has the range's owner
 abbrev pub IsOwned : PlanValue → PlanRange → Type 0
 IsOwned plan range = (key : ℕ) → holds range key ≡ true → owner plan key ≡ range.owner
+
+-- the entries are those of the table from some root key on
+abbrev pub IsSuffix : TableValue → TableValue → Type 0
+IsSuffix entries table = (from : ℕ) × (entries ≡ filter (λ entry. nat_le from entry.0) table)

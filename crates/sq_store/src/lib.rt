@@ -4,6 +4,7 @@
 mod command;
 pub mod laws;
 mod merge;
+mod owned;
 mod run;
 mod slab_store;
 mod sorted;

@@ -1,10 +1,10 @@
-use Rattle.std.proofs.Common.{◌≡◌, ◌+◌, ◌≤◌, ◌++◌, List, length, vec_len, vec_capacity}
+use Rattle.std.proofs.Common.{◌≡◌, ◌+◌, ◌≤◌, ◌++◌, List, map, length, vec_len, vec_capacity}
 use Rattle.std.specs.FinMap.{empty}
 use Rattle.std.specs.List.{AllPass}
 use Rattle.slab.specs.Slab.{HasRoomFor}
 use Rattle.sq_schema.specs.Family.{FamilyValue}
 use Rattle.sq_schema.specs.Table.{is_opening}
-use Rattle.sq_store.specs.Opened.{opened_families, IsOwned}
+use Rattle.sq_store.specs.Opened.{opened_family, opened_families}
 use Rattle.sq_store.specs.StoreValue.{with_families}
 use Rattle.sq_store.proofs.Filled.{IsFilled}
 use Rattle.sq_store.proofs.slab_store.SlabStore.opened.Given as goal
@@ -15,9 +15,8 @@ invariant-loop-root l =
     (goal.iterator-loop-root).can_next l.root-iterator
     × (goal.iterator-loop-root).is_finite l.root-iterator
     × (so_far : List FamilyValue)
-    × (so_far ++ opened_families l.plan l.part l.root-iterator ≡ opened_families l.plan l.part l.table)
+    × (so_far ++ map opened_family l.root-iterator ≡ opened_families l.plan l.fn.part l.table)
     × IsFilled l.families l.keys.items (with_families empty so_far)
-    × HasRoomFor l.families (length (opened_families l.plan l.part l.root-iterator))
-    × (vec_len l.keys + length (opened_families l.plan l.part l.root-iterator) ≤ vec_capacity l.keys)
+    × HasRoomFor l.families (length l.root-iterator)
+    × (vec_len l.keys + length l.root-iterator ≤ vec_capacity l.keys)
     × AllPass (λ entry. is_opening entry.1) l.root-iterator
-    × IsOwned l.plan l.range
