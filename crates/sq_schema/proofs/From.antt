@@ -1,15 +1,19 @@
--- The entries of a table from a root key on.
-use Rattle.std.proofs.Common.{◌≡◌, ℕ, zero, suc, ◌<◌, ◌≤◌, Bool, true, false, cond, ◌==◌, nat_le, nat_lt, List, [], ◌∷◌, length, get_or, drop, filter, refl, ap, ◌∙◌, inl, inr, arith}
+-- The entries of a table from a root key on, and that all are below the end of the root keys.
+use Rattle.std.proofs.Common.{◌≡◌, ℕ, zero, suc, ◌<◌, ◌≤◌, Bool, true, false, cond, ◌==◌, nat_le, nat_lt, List, [], ◌∷◌, length, get_or, drop, filter, Some, refl, ap, ◌∙◌, inl, inr, arith}
 use Rattle.std.specs.declared.cmp.Ordering.TheVariants.{Less, Equal, Greater}
+use Rattle.std.specs.Prelude.{slice_get, ◌-◌}
+use Rattle.std.specs.List.{AllPass}
 use Rattle.std.specs.Ordering.{nat_cmp}
 use Rattle.std.specs.FinMap.Entries.{is_sorted}
 use Rattle.std.specs.List.Sorted.{IsPartitionedBy, IsPartitionPoint}
 use Rattle.std.proofs.lemmas.Bool.{cond-true, cond-false, cases_lt, ltb-true, lt-ltb}
 use Rattle.std.proofs.lemmas.Bool.Decides.{nat_tests}
 use Rattle.std.proofs.lemmas.Cmp.{nat_cmp_total}
+use Rattle.std.proofs.lemmas.List.Elements.{All-from_get_or}
+use Rattle.std.proofs.lemmas.Option.{slice_get_within, get_or_from_slice_get}
 use Rattle.sq_schema.specs.Effect.{RowList}
 use Rattle.sq_schema.specs.Table.{TableValue}
-use Rattle.sq_schema.proofs.Entries.{sorted_at}
+use Rattle.sq_schema.proofs.Entries.{sorted_at, all_below}
 
 -- what passes is what stands from a place on, where none before it passes and all from it on do
 filter_from : {X : Type 0} (p : X → Bool) (xs : List X) (at : ℕ) → at ≤ length xs
@@ -59,3 +63,13 @@ module _ (table : TableValue) (from : ℕ) (rising : is_sorted nat_cmp table ≡
       filter_from (λ (entry : ℕ × RowList). nat_le from entry.0) table at within
       (λ i d low. not_from _ from (point.0 i d (omega arith) low))
       (λ i d low high. is_from _ from (point.1 i d low high))
+
+  -- where the last root key is below one, each is
+  pub all_fit : (last : ℕ × RowList) → slice_get table (length table - 1) ≡ Some last → last.0 < from → AllPass (λ entry. nat_lt entry.0 from) table
+  all_fit last stands below =
+      let some : length table - 1 < length table = slice_get_within table (length table - 1) last stands in
+      let at_end : (d : ℕ × RowList) → nat_cmp (get_or table (length table - 1) d).0 from ≡ Less = λ d.
+      ap (λ (e : ℕ × RowList). nat_cmp e.0 from) (get_or_from_slice_get table (length table - 1) last d stands)
+      ∙ cond-true (nat_lt last.0 from) Less (cond (last.0 == from) Equal Greater) (lt-ltb last.0 from below) in
+      let each = all_below nat_cmp nat_cmp_total from table (length table - 1) rising (omega (arith, some)) at_end in
+      All-from_get_or (λ (e : ℕ × RowList). nat_lt e.0 from ≡ true) table last (λ i inside. lt-ltb (get_or table i last).0 from (less (get_or table i last).0 from (each i last (omega arith) inside)))

@@ -1,8 +1,10 @@
 // The rows of a database in memory, by root key.
 ghost use Rattle.std.specs.Prelude.{◌≡◌, ◌≤◌, true, nat_le, nat_lt, [], length, filter, IsSome, IfOk, IfErr, OnOk, OnErr};
+ghost use Rattle.std.specs.List.{AllPass};
 ghost use Rattle.std.specs.Option.{option_copied};
 ghost use Rattle.std.specs.Ordering.{nat_cmp};
 ghost use Rattle.std.specs.FinMap.Entries.{find, put, is_sorted};
+ghost use Rattle.sq_schema.specs.declared.root.TheConstants.{ROOT_END};
 ghost use Rattle.sq_schema.specs.declared.schema.TheConstants.{MAX_NOTE};
 ghost use Rattle.sq_schema.specs.Effect.{with_row};
 ghost use Rattle.sq_schema.specs.RootList.{table_of};
@@ -49,6 +51,25 @@ impl RootList {
         match self {
             RootList::Listed(rows) => EntryIter::of_list(rows),
             RootList::Mapped(rows) => EntryIter::of_map(rows),
+        }
+    }
+
+    /// Looks at the greatest root key, which is below [`ROOT_END`]: so are all.
+    pub(crate) fn check_roots(&self)
+        requires { is_sorted nat_cmp (table_of self.now) ≡ true }
+        ensures { AllPass (λ entry. nat_lt entry.0 ROOT_END) (table_of self.now) }
+    {
+        match self {
+            RootList::Listed(rows) => {
+                if let Some((root, _)) = rows.last() {
+                    let _ = root.number();
+                }
+            }
+            RootList::Mapped(rows) => {
+                if let Some((root, _)) = rows.last_key_value() {
+                    let _ = root.number();
+                }
+            }
         }
     }
 

@@ -1,9 +1,10 @@
 // Tables that aren't partitioned.
-ghost use Rattle.std.specs.Prelude.{◌≡◌, ◌==◌, nat_le, ℕ, true, [], None, length, filter, MatchResult, IfErr, IfSome, IsSome, OnOk, OnErr};
+ghost use Rattle.std.specs.Prelude.{◌≡◌, ◌==◌, nat_le, nat_lt, ℕ, true, [], None, length, filter, MatchResult, IfErr, IfSome, IsSome, OnOk, OnErr};
 ghost use Rattle.std.specs.List.{AllPass};
 ghost use Rattle.std.specs.Option.{option_copied};
 ghost use Rattle.std.specs.Ordering.{nat_cmp};
 ghost use Rattle.std.specs.FinMap.Entries.{find, is_sorted};
+ghost use Rattle.sq_schema.specs.declared.root.TheConstants.{ROOT_END};
 ghost use Rattle.sq_schema.specs.declared.schema.TheConstants.{MAX_TABLES};
 ghost use Rattle.sq_schema.specs.Effect.{replay, table_after};
 ghost use Rattle.sq_schema.specs.Refusals.{row_fault};
@@ -67,7 +68,9 @@ impl Table {
         ensures all { result ≡ self.now }
         ensures rising { is_sorted nat_cmp self.now ≡ true }
         ensures opening { AllPass (λ entry. is_opening entry.1) self.now }
+        ensures roots { AllPass (λ entry. nat_lt entry.0 ROOT_END) self.now }
     {
+        self.rows.check_roots();
         self.rows.iter()
     }
 

@@ -1,13 +1,14 @@
 -- The root keys of a table that a partition owns, from some root key on.
-use Rattle.std.proofs.Common.{◌≡◌, ℕ, ◌+◌, ◌<◌, ◌≤◌, Bool, true, false, nat_le, List, [], ◌∷◌, length, filter, find, Some, refl, sym, ap, subst, ◌∙◌, inl, inr, arith}
+use Rattle.std.proofs.Common.{◌≡◌, ℕ, ◌+◌, ◌<◌, ◌≤◌, Bool, true, false, nat_le, nat_lt, List, [], ◌∷◌, length, filter, find, Some, refl, sym, ap, subst, ◌∙◌, inl, inr, arith}
 use Rattle.std.specs.Prelude.{◌==◌, if◌then◌else◌}
 use Rattle.std.specs.Ordering.{nat_cmp, is_lt}
-use Rattle.std.specs.List.{All}
+use Rattle.std.specs.List.{All, AllPass}
 use Rattle.std.specs.FinMap.Entries.{below_all, is_sorted}
-use Rattle.std.proofs.lemmas.Bool.{and_parts, cond-true, cond-false, cases_Bool, cases_lt, leb-true, le-leb}
+use Rattle.std.proofs.lemmas.Bool.{and_parts, cond-true, cond-false, cases_Bool, cases_lt, leb-true, le-leb, ltb-true}
 use Rattle.std.proofs.lemmas.Bool.Decides.{nat_tests}
 use Rattle.std.proofs.lemmas.Option.{same_Some}
-use Rattle.std.proofs.lemmas.List.Elements.{filter_passes, All-head}
+use Rattle.std.proofs.lemmas.List.Elements.{filter_passes, All-head, All-tail}
+use Rattle.sq_schema.specs.declared.root.TheConstants.{ROOT_END}
 use Rattle.sq_schema.specs.Effect.{RowList}
 use Rattle.sq_schema.specs.Table.{TableValue}
 use Rattle.sq_plan.specs.declared.plan.PlanRange.{PlanRange}
@@ -107,6 +108,13 @@ fewer from to (entry ∷ table) upto =
     one_more true = omega arith
     one_more false = omega arith
 
+-- past all root keys there is no entry
+pub none_from : (from : ℕ) (table : TableValue) → AllPass (λ entry. nat_lt entry.0 ROOT_END) table → ROOT_END ≤ from → from_on from table ≡ []
+none_from from [] fit past = refl
+none_from from (entry ∷ table) fit past =
+    let below : entry.0 < ROOT_END = ltb-true entry.0 ROOT_END (All-head (λ (e : ℕ × RowList). nat_lt e.0 ROOT_END ≡ true) entry table fit) in
+    goes from entry table (omega (arith, below, past)) ∙ none_from from table (All-tail (λ (e : ℕ × RowList). nat_lt e.0 ROOT_END ≡ true) entry table fit) past
+
 -- where a partition owns no root key from one on and below another, those that it owns from the first one on are those from the
 -- other on
 module _ (plan : PlanValue) (part from to : ℕ) (upto : from ≤ to) (none : (key : ℕ) → from ≤ key → key < to → (owner plan key == part) ≡ false) where
@@ -158,3 +166,7 @@ module _ (plan : PlanValue) (part : ℕ) (range : PlanRange) (table left rest : 
       let behind_it : length rest ≡ length (from_on (entry.0 + 1) table) = ap length (suffix_behind table left rest entry rising suffix next) in
       let all : length left ≡ length (entry ∷ rest) = ap length next in
       omega (arith, fewer (entry.0 + 1) range.hi table (omega (arith, ends.1)), behind_it, all)
+
+  -- where no root key is past the end of the range none is left
+  pub none_left_out : AllPass (λ entry. nat_lt entry.0 ROOT_END) table → ROOT_END ≤ range.hi → owned_entries plan part rest ≡ []
+  none_left_out fit past = sym one_left_out ∙ range_left_out ∙ ap (owned_entries plan part) (none_from range.hi table fit past)

@@ -25,9 +25,11 @@ pub(crate) struct OwnedEntries<'a> {
 }
 
 impl<'a> Model for OwnedEntries<'a> {
-    ghost use Rattle.std.specs.Prelude.{◌≡◌, true};
+    ghost use Rattle.std.specs.Prelude.{◌≡◌, nat_lt, true};
+    ghost use Rattle.std.specs.List.{AllPass};
     ghost use Rattle.std.specs.Ordering.{nat_cmp};
     ghost use Rattle.std.specs.FinMap.Entries.{is_sorted};
+    ghost use Rattle.sq_schema.specs.declared.root.TheConstants.{ROOT_END};
     ghost use Rattle.sq_schema.specs.Table.{TableValue};
     ghost use Rattle.sq_store.specs.Opened.{owned_entries, IsOwned, IsSuffix};
 
@@ -35,7 +37,8 @@ impl<'a> Model for OwnedEntries<'a> {
 
     ghost view = { λ o. owned_entries o.plan.now o.part o.left };
 
-    ghost invariant = { λ o. IsOwned o.plan.now o.range × IsSuffix o.left o.table.now × (is_sorted nat_cmp o.table.now ≡ true) };
+    ghost invariant = { λ o. IsOwned o.plan.now o.range × IsSuffix o.left o.table.now × (is_sorted nat_cmp o.table.now ≡ true)
+        × AllPass (λ entry. nat_lt entry.0 ROOT_END) o.table.now };
 }
 
 impl<'a> OwnedEntries<'a> {
@@ -62,15 +65,16 @@ impl<'a> Iterator for OwnedEntries<'a> {
 
     ghost remaining = { λ entries. at_most (length entries) };
 
+    #[inline]
     fn next(&mut self) -> Option<(&'a Root, &'a Rows)> {
         while let Some((root, rows)) = self.left.next() {
             self.range = range_of(self.plan, self.range, *root);
             if self.range.owner == self.part {
                 return Some((root, rows));
             }
-            if let Some(next) = Root::new(self.range.hi) {
-                self.left = self.table.iter_from(next);
-            }
+            // The last range has no end among the root keys: none is left behind it.
+            let next = Root::new(self.range.hi)?;
+            self.left = self.table.iter_from(next);
         }
         None
     }

@@ -9,4 +9,5 @@ invariant_of-result c = (
   λ key holding. absurd (true≢false (sym holding ∙ c.no_root_keys.ensures key)),
   subst (λ (entries : TableValue). IsSuffix entries c.args.table.now) (sym c.iter.ensures.all) (suffix_all c.args.table.now),
   c.iter.ensures.rising,
+  c.iter.ensures.roots,
 )

@@ -1,9 +1,12 @@
-use Rattle.std.proofs.Common.{◌≡◌, ℕ, ◌+◌, ◌<◌, false, length, sym, ap, ◌∙◌, arith}
+use Rattle.std.proofs.Common.{⊎_elim, ◌≡◌, ℕ, ◌+◌, ◌<◌, ◌≤◌, Option, Bor, subst, false, length, sym, ap, ◌∙◌, arith}
 use Rattle.std.specs.Prelude.{◌==◌}
+use Rattle.std.specs.Map.Iter.{TakesFirst, deref_pair}
+use Rattle.std.proofs.lemmas.Bool.{cases_lt}
+use Rattle.sq_schema.specs.declared.root.TheConstants.{ROOT_END}
 use Rattle.sq_schema.specs.Effect.{RowList}
 use Rattle.sq_schema.specs.Table.{TableValue}
 use Rattle.sq_store.specs.Opened.{owned_entries, IsSuffix}
-use Rattle.sq_store.proofs.Suffixes.{from_on, suffix_behind, one_left_out, range_left_out, range_fewer}
+use Rattle.sq_store.proofs.Suffixes.{from_on, suffix_behind, one_left_out, range_left_out, range_fewer, none_left_out}
 use Rattle.sq_store.proofs.owned.OwnedEntriesIterator.next.Goals as goal
 use Rattle.sq_store.proofs.owned.OwnedEntriesIterator.next.Goals.{In-Some}
 
@@ -15,26 +18,26 @@ rest_suffix c =
     (entry.0 + 1, suffix_behind at.table.now at.left c.next.new.self entry c.loop-root.invariant.rising c.loop-root.invariant.suffix c.in-Some.ensures.steps)
 
 pub invariant_of-self : goal.invariant_of-self
-invariant_of-self c = (c.range_of-self-inside.ensures.owned, rest_suffix (goal.at.invariant_of-self c).In-Some, c.loop-root.invariant.rising)
+invariant_of-self c = (c.range_of-self-inside.ensures.owned, rest_suffix (goal.at.invariant_of-self c).In-Some, c.loop-root.invariant.rising, c.loop-root.invariant.roots)
 
-pub loop-root-smaller-in-Some-new : goal.loop-root-smaller-in-Some-new
-loop-root-smaller-in-Some-new c =
+pub loop-root-smaller : goal.loop-root-smaller
+loop-root-smaller c =
     let at = c.loop-root.self-inside in
     let entry : ℕ × RowList = (c.in-Some.root.now, c.in-Some.rows.now) in
     let found = c.range_of-self-inside in
-    let from_end : c.iter_from-self-inside.result ≡ from_on found.result.hi at.table.now = c.iter_from-self-inside.ensures ∙ ap (λ (from : ℕ). from_on from at.table.now) c.in-Some-new.ensures.1 in
+    let from_end : c.iter_from-self-inside.result ≡ from_on found.result.hi at.table.now = c.iter_from-self-inside.ensures ∙ ap (λ (from : ℕ). from_on from at.table.now) c.in_ok-next.ensures.1 in
     let other : (found.result.owner == at.part) ≡ false = sym c.eq.ensures ∙ c.if-eq.false in
     let end : length c.iter_from-self-inside.result ≡ length (from_on found.result.hi at.table.now) = ap (λ (entries : TableValue). length entries) from_end in
     let less : length (from_on found.result.hi at.table.now) < length at.left =
     range_fewer at.plan.now at.part found.result at.table.now at.left c.next.new.self entry c.loop-root.invariant.rising c.loop-root.invariant.suffix c.in-Some.ensures.steps found.ensures.owned found.ensures.held other in
     omega (arith, end, less)
 
-pub loop-root-preserved-in-Some-new : goal.loop-root-preserved-in-Some-new
-loop-root-preserved-in-Some-new c =
+pub loop-root-preserved : goal.loop-root-preserved
+loop-root-preserved c =
     let at = c.loop-root.self-inside in
     let entry : ℕ × RowList = (c.in-Some.root.now, c.in-Some.rows.now) in
     let found = c.range_of-self-inside in
-    let from_end : c.iter_from-self-inside.result ≡ from_on found.result.hi at.table.now = c.iter_from-self-inside.ensures ∙ ap (λ (from : ℕ). from_on from at.table.now) c.in-Some-new.ensures.1 in
+    let from_end : c.iter_from-self-inside.result ≡ from_on found.result.hi at.table.now = c.iter_from-self-inside.ensures ∙ ap (λ (from : ℕ). from_on from at.table.now) c.in_ok-next.ensures.1 in
     let other : (found.result.owner == at.part) ≡ false = sym c.eq.ensures ∙ c.if-eq.false in
     record {
       plan = c.loop-root.invariant.plan;
@@ -46,21 +49,20 @@ loop-root-preserved-in-Some-new c =
       range = found.ensures.owned;
       suffix = (found.result.hi, from_end);
       rising = c.loop-root.invariant.rising;
+      roots = c.loop-root.invariant.roots;
     }
 
-pub loop-root-preserved : goal.loop-root-preserved
-loop-root-preserved c =
+pub invariant_of-self-in_err-next : goal.invariant_of-self-in_err-next
+invariant_of-self-in_err-next c = (c.range_of-self-inside.ensures.owned, rest_suffix (goal.at.invariant_of-self-in_err-next c).In-Some, c.loop-root.invariant.rising, c.loop-root.invariant.roots)
+
+pub returns-in_err-next-clause-steps : goal.returns-in_err-next-clause-steps
+returns-in_err-next-clause-steps c =
     let at = c.loop-root.self-inside in
     let entry : ℕ × RowList = (c.in-Some.root.now, c.in-Some.rows.now) in
     let found = c.range_of-self-inside in
     let other : (found.result.owner == at.part) ≡ false = sym c.eq.ensures ∙ c.if-eq.false in
-    record {
-      plan = c.loop-root.invariant.plan;
-      part = c.loop-root.invariant.part;
-      owned =
-          sym (one_left_out at.plan.now at.part found.result at.table.now at.left c.next.new.self entry c.loop-root.invariant.rising c.loop-root.invariant.suffix c.in-Some.ensures.steps found.ensures.owned found.ensures.held other)
-          ∙ c.loop-root.invariant.owned;
-      range = found.ensures.owned;
-      suffix = rest_suffix (goal.at.loop-root-preserved c).In-Some;
-      rising = c.loop-root.invariant.rising;
-    }
+    let past : ROOT_END ≤ found.result.hi = ⊎_elim (λ (low : found.result.hi < ROOT_END). absurd (c.in_err-next.ensures low)) (λ (high : ROOT_END ≤ found.result.hi). high) (cases_lt found.result.hi ROOT_END) in
+    let behind = one_left_out at.plan.now at.part found.result at.table.now at.left c.next.new.self entry c.loop-root.invariant.rising c.loop-root.invariant.suffix c.in-Some.ensures.steps found.ensures.owned found.ensures.held other in
+    let none = none_left_out at.plan.now at.part found.result at.table.now at.left c.next.new.self entry c.loop-root.invariant.rising c.loop-root.invariant.suffix c.in-Some.ensures.steps found.ensures.owned found.ensures.held other c.loop-root.invariant.roots past in
+    subst (λ (result : Option (Bor ℕ × Bor RowList)). TakesFirst deref_pair c.args.self.now result (owned_entries at.plan.now at.part c.next.new.self)) (sym c.from_residual.ensures)
+    (sym c.self.view_is ∙ sym c.loop-root.invariant.owned ∙ behind ∙ none, none)

@@ -1,6 +1,9 @@
 use Rattle.std.proofs.Common.{◌≡◌, true, length}
+use Rattle.std.specs.Prelude.{nat_lt}
+use Rattle.std.specs.List.{AllPass}
 use Rattle.std.specs.Ordering.{nat_cmp}
 use Rattle.std.specs.FinMap.Entries.{is_sorted}
+use Rattle.sq_schema.specs.declared.root.TheConstants.{ROOT_END}
 use Rattle.sq_store.specs.Opened.{owned_entries, IsOwned, IsSuffix}
 use Rattle.sq_store.proofs.owned.OwnedEntriesIterator.next.Given as goal
 
@@ -13,6 +16,7 @@ invariant-loop-root l = record {
   range : IsOwned l.self-inside.plan.now l.self-inside.range;
   suffix : IsSuffix l.self-inside.left l.self-inside.table.now;
   rising : is_sorted nat_cmp l.self-inside.table.now ≡ true;
+  roots : AllPass (λ entry. nat_lt entry.0 ROOT_END) l.self-inside.table.now;
 }
 
 abbrev pub decreases-loop-root : goal.decreases-loop-root
