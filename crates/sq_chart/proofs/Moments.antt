@@ -1,6 +1,6 @@
 -- The moments after the events so far.
 use Rattle.std.proofs.Common.{⊎_elim, ◌≡◌, ◌⊎◌, inl, inr, ℕ, ◌+◌, ◌<◌, ◌≤◌, List, [], ◌∷◌, ◌++◌, length, get_or, take, Some, refl, sym, ap, ◌∙◌, arith, length-append, subst}
-use Rattle.std.specs.Prelude.{slice_get, count_by}
+use Rattle.std.specs.Prelude.{not, slice_get, count_by}
 use Rattle.std.proofs.lemmas.List.Sums.{count_by_more_yes, count_by_more_no}
 use Rattle.std.proofs.Math.ListN.{get_or-append}
 use Rattle.std.proofs.Math.Seq.{get_or-append_seam}
@@ -10,7 +10,7 @@ use Rattle.sq_chart.specs.declared.moment.Happened.{Happened}
 use Rattle.sq_chart.specs.declared.moment.Happened.TheVariants.{JobAnswered, SegmentComplete}
 use Rattle.sq_chart.specs.declared.moment.Event.{Event}
 use Rattle.sq_chart.specs.declared.moment.Moment.{Moment}
-use Rattle.sq_chart.specs.Moments.{AreMoments, answers_job, completes_segment, moment_of, one_more, moment_after}
+use Rattle.sq_chart.specs.Moments.{AreMoments, answers_job, moment_of, one_more, moment_after}
 
 -- what stands in a list with one more at its end
 push_stood : {X : Type 0} (xs : List X) (x : X) (i : ℕ) (y : X) → slice_get (xs ++ x ∷ []) i ≡ Some y → (slice_get xs i ≡ Some y) ⊎ ((i ≡ length xs) × (x ≡ y))
@@ -29,7 +29,7 @@ pub record AreFirst (events : List Event) (moments : List Moment) (now : Moment)
   pub each : (k : ℕ) (event : Event) (moment : Moment) → slice_get events k ≡ Some event → slice_get moments k ≡ Some moment
       → moment ≡ moment_of (take (k + 1) events) event
   pub jobs : now.jobs ≡ count_by (λ event. answers_job event.what) (take i events)
-  pub segments : now.segments ≡ count_by (λ event. completes_segment event.what) (take i events)
+  pub segments : now.segments ≡ count_by (λ event. not (answers_job event.what)) (take i events)
   pub few_jobs : now.jobs ≤ i
   pub few_segments : now.segments ≤ i
 
@@ -38,16 +38,19 @@ module _ (events : List Event) (moments : List Moment) (now : Moment) (i : ℕ) 
   within : i < length events
   within = slice_get_within events i event there
 
+  what_is : (what : Happened) → event.what ≡ what → (get_or events i event).what ≡ what
+  what_is what is = ap (λ (e : Event). e.what) (get_or_from_slice_get events i event event there) ∙ is
+
   answered : (what : Happened) → event.what ≡ what → (one_more now event.micros what) ≡ moment_of (take (i + 1) events) event
   answered JobAnswered is =
-      let yes = count_by_more_yes (λ (e : Event). answers_job e.what) events i event within (ap (λ (e : Event). answers_job e.what) (get_or_from_slice_get events i event event there) ∙ ap answers_job is) in
-      let no = count_by_more_no (λ (e : Event). completes_segment e.what) events i event within (ap (λ (e : Event). completes_segment e.what) (get_or_from_slice_get events i event event there) ∙ ap completes_segment is) in
+      let yes = count_by_more_yes (λ (e : Event). answers_job e.what) events i event within (ap answers_job (what_is JobAnswered is)) in
+      let no = count_by_more_no (λ (e : Event). not (answers_job e.what)) events i event within (ap (λ what. not (answers_job what)) (what_is JobAnswered is)) in
       let jobs = so_far.jobs in
       let segments = so_far.segments in
       cc
   answered SegmentComplete is =
-      let no = count_by_more_no (λ (e : Event). answers_job e.what) events i event within (ap (λ (e : Event). answers_job e.what) (get_or_from_slice_get events i event event there) ∙ ap answers_job is) in
-      let yes = count_by_more_yes (λ (e : Event). completes_segment e.what) events i event within (ap (λ (e : Event). completes_segment e.what) (get_or_from_slice_get events i event event there) ∙ ap completes_segment is) in
+      let no = count_by_more_no (λ (e : Event). answers_job e.what) events i event within (ap answers_job (what_is SegmentComplete is)) in
+      let yes = count_by_more_yes (λ (e : Event). not (answers_job e.what)) events i event within (ap (λ what. not (answers_job what)) (what_is SegmentComplete is)) in
       let jobs = so_far.jobs in
       let segments = so_far.segments in
       cc

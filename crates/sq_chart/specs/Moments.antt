@@ -1,17 +1,14 @@
 -- How far a run was after each of its events.
-use Rattle.std.specs.Prelude.{◌≡◌, ℕ, ◌+◌, Bool, true, false, List, length, take, slice_get, Some, count_by}
+use Rattle.std.specs.Prelude.{◌≡◌, ℕ, ◌+◌, Bool, true, false, not, List, length, take, slice_get, Some, count_by}
 use Rattle.sq_chart.specs.declared.moment.Happened.{Happened}
 use Rattle.sq_chart.specs.declared.moment.Happened.TheVariants.{JobAnswered, SegmentComplete}
 use Rattle.sq_chart.specs.declared.moment.Event.{Event}
 use Rattle.sq_chart.specs.declared.moment.Moment.{Moment}
 
+-- a job was answered; any other event completes a segment
 abbrev pub answers_job : Happened → Bool
 answers_job JobAnswered = true
 answers_job SegmentComplete = false
-
-abbrev pub completes_segment : Happened → Bool
-completes_segment JobAnswered = false
-completes_segment SegmentComplete = true
 
 -- the moment after these events, of which this is the last:
 -- when it was, how many jobs were answered by then, and how many segments were complete
@@ -19,7 +16,7 @@ abbrev pub moment_of : List Event → Event → Moment
 moment_of events last = record {
   micros = last.micros;
   jobs = count_by (λ event. answers_job event.what) events;
-  segments = count_by (λ event. completes_segment event.what) events;
+  segments = count_by (λ event. not (answers_job event.what)) events;
 }
 
 -- there is a moment for each event: the one after all events up to this one

@@ -11,13 +11,9 @@ use std::io::Write;
 fn write_moment<W: Write>(writer: &mut W, moment: Moment) -> io::Result<()>
     ensures { OnOk result (Appends (W.contents writer.old) (W.contents writer.new) (csv_line moment)) }
 {
-    let Moment {
-        micros,
-        jobs,
-        segments,
-    } = moment;
-    let millis = micros / 1000;
-    let rest = micros % 1000;
+    let Moment { jobs, segments, .. } = moment;
+    let millis = moment.micros / 1000;
+    let rest = moment.micros % 1000;
     writeln!(writer, "{millis}.{rest:03},{jobs},{segments}")
 }
 
