@@ -9,7 +9,8 @@ pub record ChunkValue : Type 0 where
   pub note : Note
   pub families : List FamilyValue
 
--- what holds of every chunk: it is about a node of a tree, and has families of its keys by rising root key, each with a log of its own root key
+-- what holds of every chunk: it is about a node of a tree, and has families of its keys by rising root key,
+-- each with a log of its own root key
 pub record IsChunk (chunk : ChunkValue) : Type 0 where
   pub node : is_node chunk.note.node ≡ true
   pub rising : are_within chunk.note.lo chunk.note.hi chunk.families ≡ true

@@ -1,6 +1,6 @@
 // Families in a vector.
 ghost use Rattle.std.specs.Prelude.{◌≡◌, ◌≤◌, ◌==◌, not, length, map, filter, vec_len, IfOk, IfErr, OnErr};
-ghost use Rattle.std.specs.FinMap.{len, empty};
+ghost use Rattle.std.specs.FinMap.{empty};
 ghost use Rattle.sq_schema.specs.Prelude.{reply, rows_of, folded};
 ghost use Rattle.sq_store.specs.StoreValue.{absent};
 ghost use Rattle.sq_store.specs.InOrder.{families_in, HoldsByRoot};
@@ -44,20 +44,6 @@ impl VecStore {
         VecStore {
             families: Vec::new(alloc),
         }
-    }
-
-    /// How many families there are.
-    pub fn len(&self) -> usize
-        ensures { result ≡ len self.now }
-    {
-        self.families.len()
-    }
-
-    /// Whether there are none.
-    pub fn is_empty(&self) -> bool
-        ensures { result ≡ (len self.now == 0) }
-    {
-        self.families.is_empty()
     }
 
     /// The families by rising root key.
