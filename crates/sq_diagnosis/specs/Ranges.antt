@@ -1,7 +1,7 @@
 -- The first range that isn't as the ranges of a plan are to be. Ranges are counted from 1.
 use Rattle.std.specs.Prelude.{ℕ, ◌+◌, ◌==◌, nat_le, if◌then◌else◌, List, [], ◌∷◌, Option, Some, None}
 use Rattle.sq_schema.specs.declared.root.TheConstants.{ROOT_END}
-use Rattle.sq_diagnosis.specs.declared.plans.Entry.{Entry}
+use Rattle.sq_plan.specs.declared.plan.PlanRange.{PlanRange}
 use Rattle.sq_diagnosis.specs.declared.plans.PlanFlaw.{PlanFlaw}
 use Rattle.sq_diagnosis.specs.declared.plans.PlanFlaw.TheVariants.{NoRange, Begins, Empty, EndsAt, Owner}
 
@@ -11,7 +11,7 @@ end_flaw at end = if at == 0 then Some NoRange else if end == ROOT_END then None
 
 -- the first range that doesn't begin where the one before it ends, or is empty, of those behind this many that end here;
 -- else what is wrong with the last one
-abbrev pub gap : ℕ → ℕ → List Entry → Option PlanFlaw
+abbrev pub gap : ℕ → ℕ → List PlanRange → Option PlanFlaw
 gap before end [] = end_flaw before end
 gap before end (range ∷ ranges) =
     if range.lo == end
@@ -19,7 +19,7 @@ gap before end (range ∷ ranges) =
     else Some (Begins (before + 1) range.lo end)
 
 -- the first range whose owner isn't below the number of partitions, of those behind this many
-abbrev pub stranger : ℕ → ℕ → List Entry → Option PlanFlaw
+abbrev pub stranger : ℕ → ℕ → List PlanRange → Option PlanFlaw
 stranger partitions before [] = None
 stranger partitions before (range ∷ ranges) =
     if nat_le partitions range.owner then Some (Owner (before + 1) range.owner partitions) else stranger partitions (before + 1) ranges

@@ -3,7 +3,7 @@ ghost use Rattle.std.specs.Prelude.{◌≡◌};
 ghost use Rattle.sq_diagnosis.specs.Ranges.{gap, stranger};
 
 use serde_json::{Category, Value};
-use sq_plan::PlanFault;
+use sq_plan::{JsonRange, PlanFault};
 use sq_schema::ROOT_END;
 use std::alloc::Global;
 use std::fmt;
@@ -182,51 +182,29 @@ fn field_flaw(plan: &Value, field: &'static str, kind: FieldKind) -> Option<Plan
 // The first range that isn't three whole numbers.
 fn item_flaw(plan: &Value) -> Option<PlanFlaw> {
     let items = plan.get("ranges")?.as_array()?;
-    let at = items.iter().position(|item| Entry::of(item).is_none())?;
+    let at = items.iter().position(|item| JsonRange::of(item).is_none())?;
     Some(PlanFlaw::NotThreeNumbers {
         at: at.saturating_add(1),
     })
 }
 
-/// A range as the JSON has it, whose owner may be no partition.
-#[derive(Clone, Copy, Debug, PartialEq, Eq)]
-struct Entry {
-    lo: u64,
-    hi: u64,
-    owner: u64,
-}
-
-impl Entry {
-    // Three whole numbers.
-    fn of(item: &Value) -> Option<Entry> {
-        let [lo, hi, owner] = item.as_array()?.as_slice() else {
-            return None;
-        };
-        Some(Entry {
-            lo: lo.as_u64()?,
-            hi: hi.as_u64()?,
-            owner: owner.as_u64()?,
-        })
-    }
-}
-
 // The ranges of a plan, where each of them is one; `None` too where memory ran out.
-fn ranges_of(alloc: Global, plan: &Value) -> Option<Vec<Entry>> {
+fn ranges_of(alloc: Global, plan: &Value) -> Option<Vec<JsonRange>> {
     let mut ranges = Vec::new(alloc);
     for item in plan.get("ranges")?.as_array()?.as_slice() {
-        ranges.push(Entry::of(item)?).ok()?;
+        ranges.push(JsonRange::of(item)?).ok()?;
     }
     Some(ranges)
 }
 
 // The first range that doesn't begin where the one before it ends, or is empty; or else what is wrong with the last one.
-fn order_flaw(ranges: &[Entry]) -> Option<PlanFlaw>
+fn order_flaw(ranges: &[JsonRange]) -> Option<PlanFlaw>
     ensures { result ≡ gap 0 0 ranges.now }
 {
     let mut at = 0;
     let mut end = 0;
     for range in ranges {
-        let Entry { lo, hi, .. } = *range;
+        let JsonRange { lo, hi, .. } = *range;
         at += 1;
         if lo != end {
             return Some(PlanFlaw::Begins {
@@ -250,7 +228,7 @@ fn order_flaw(ranges: &[Entry]) -> Option<PlanFlaw>
 }
 
 // The first range whose owner isn't one of the partitions.
-fn owner_flaw(ranges: &[Entry], partitions: u64) -> Option<PlanFlaw>
+fn owner_flaw(ranges: &[JsonRange], partitions: u64) -> Option<PlanFlaw>
     ensures { result ≡ stranger partitions 0 ranges.now }
 {
     let mut at = 0;

@@ -12,4 +12,5 @@ mod write;
 pub use fault::PlanFault;
 pub use part::PartId;
 pub use plan::{FIRST_MAX_PARTS, MAX_PARTS, MAX_RANGES, Plan, PlanRange};
+pub use read::JsonRange;
 pub use version::{Stages, Version};

@@ -16,32 +16,33 @@ use std::alloc::{AllocError, Global};
 use std::marker::Model;
 
 /// A range as the JSON has it, whose owner may be no partition. To a contract it is the range.
-#[derive(Clone, Copy)]
-struct Entry {
-    lo: u64,
-    hi: u64,
-    owner: u64,
+#[derive(Clone, Copy, Debug, PartialEq, Eq)]
+pub struct JsonRange {
+    pub lo: u64,
+    /// The key after the last.
+    pub hi: u64,
+    pub owner: u64,
 }
 
-impl Model for Entry {
+impl Model for JsonRange {
     ghost use Rattle.sq_plan.specs.declared.plan.PlanRange.{PlanRange};
 
     ghost Value = { PlanRange };
 
-    ghost view = { λ e. record { lo = e.lo; hi = e.hi; owner = e.owner } };
+    ghost view = { λ r. record { lo = r.lo; hi = r.hi; owner = r.owner } };
 
     ghost inverse = { λ r. record { lo = r.lo; hi = r.hi; owner = r.owner } };
 }
 
-impl Entry {
-    // Three whole numbers.
-    fn of(item: &Value) -> Option<Entry>
+impl JsonRange {
+    /// The range that a JSON value is: an array of three whole numbers.
+    pub fn of(item: &Value) -> Option<JsonRange>
         ensures { result ≡ range_in (view item.now) }
     {
         let [lo, hi, owner] = item.as_array()?.as_slice() else {
             return None;
         };
-        Some(Entry {
+        Some(JsonRange {
             lo: lo.as_u64()?,
             hi: hi.as_u64()?,
             owner: owner.as_u64()?,
@@ -99,7 +100,7 @@ fn layout_of(items: &[Value], parts: u64) -> Option<Layout>
     let mut ordered = true;
     let mut owned = true;
     for item in items {
-        let entry = Entry::of(item)?;
+        let entry = JsonRange::of(item)?;
         ordered = ordered && entry.lo == at && entry.lo < entry.hi;
         owned = owned && entry.owner < parts;
         at = entry.hi;
@@ -229,7 +230,7 @@ fn ranges_of(alloc: Global, items: &[Value]) -> Result<Vec<PlanRange>, AllocErro
 {
     let mut ranges = Vec::with_capacity(alloc, items.len())?;
     for item in items {
-        let Some(entry) = Entry::of(item) else {
+        let Some(entry) = JsonRange::of(item) else {
             unreachable!()
         };
         ranges.push_reserved(entry.range());

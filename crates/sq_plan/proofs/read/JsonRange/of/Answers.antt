@@ -2,8 +2,8 @@
 use Rattle.std.proofs.Common.{◌≡◌, length, option_and_then, ◌∙◌, ap, rules}
 use Rattle.sq_plan.specs.Reading.{range_of_items}
 use Rattle.sq_plan.proofs.Items.{range_of_items-other}
-use Rattle.sq_plan.proofs.read.Entry.of.Goals as goal
-use Rattle.sq_plan.proofs.read.Entry.of.Goals.{in_default-via-then-as_slice-lt3, in_default-via-else-as_slice-lt3+else-this-lt4}
+use Rattle.sq_plan.proofs.read.JsonRange.of.Goals as goal
+use Rattle.sq_plan.proofs.read.JsonRange.of.Goals.{in_default-via-then-as_slice-lt3, in_default-via-else-as_slice-lt3+else-this-lt4}
 
 pub returns-in_default : goal.returns-in_default
 returns-in_default c =
