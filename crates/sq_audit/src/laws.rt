@@ -1,12 +1,13 @@
 //! What the definitions come to. The functions do nothing: each states a law, which the checker proves.
-ghost use Rattle.std.specs.Prelude.{◌≡◌, ◌↔◌, List};
+ghost use Rattle.std.specs.Prelude.{◌≡◌, ◌↔◌, true, List, is_some};
+ghost use Rattle.sq_explain.specs.Meanings.{meaning_of};
 ghost use Rattle.sq_ranges.specs.Prelude.{OpeningValue};
 ghost use Rattle.sq_node_model.specs.Prelude.{GatheredValue, IsPlaced};
 ghost use Rattle.sq_audit.specs.declared.job.Job.{Job};
 ghost use Rattle.sq_audit.specs.declared.verdict.Defect.{Defect};
 ghost use Rattle.sq_audit.specs.declared.verdict.Verdict.{Verdict};
 ghost use Rattle.sq_audit.specs.Sound.{IsSoundRun};
-ghost use Rattle.sq_audit.specs.Defects.{Clears, IsVerdict};
+ghost use Rattle.sq_audit.specs.Defects.{defect_number, Clears, IsVerdict};
 
 /// What was gathered is sound exactly if it is clear of each defect.
 pub fn sound_is_clear_of_each_defect()
@@ -24,4 +25,9 @@ pub fn one_verdict()
 /// opening rows, and the receipts tell its log.
 pub fn sound_is_placed()
     ensures { (o : OpeningValue) (g : GatheredValue) (jobs : List Job) → IsVerdict o g jobs Verdict.Sound → IsPlaced o g }
+{}
+
+/// The table of numbers has each defect.
+pub fn each_defect_has_a_meaning()
+    ensures { (defect : Defect) → is_some (meaning_of (defect_number defect)) ≡ true }
 {}

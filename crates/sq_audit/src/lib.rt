@@ -26,4 +26,4 @@ pub use folded::{Folded, Unchanged, Unfolded};
 pub use folding::fold;
 pub use job::Job;
 pub use passes::audit;
-pub use verdict::{ALL_DEFECTS, Defect, Verdict};
+pub use verdict::{Defect, Verdict};

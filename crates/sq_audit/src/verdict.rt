@@ -2,24 +2,19 @@
 ghost use Rattle.std.specs.Prelude.{◌≡◌};
 ghost use Rattle.sq_audit.specs.Defects.{defect_number};
 
+use sq_explain::meaning;
 use thiserror::Error;
 
-/// What is wrong with what was gathered, in the order in which it is looked for. The number of a variant is what a user
-/// sees of it.
+/// What is wrong with what was gathered, in the order in which it is looked for, in which the numbers rise by one.
 #[derive(Clone, Copy, Debug, PartialEq, Eq, Error)]
+#[error("{}", meaning(self.number()))]
 pub enum Defect {
-    #[error("a root key with opening rows has no family")]
     RootMissing = 301,
-    #[error("a root key has a family at two places")]
-    RootDoubled = 302,
-    #[error("a family doesn't start from the opening rows of its root key")]
-    BaseChanged = 303,
-    #[error("a family isn't where it belongs, or notes, statuses and chunks don't fit one another")]
-    WrongPlace = 304,
-    #[error("a receipt isn't what its job had to be answered, or a log position isn't named by one receipt")]
-    ReceiptUnknown = 305,
-    #[error("a job has no receipt, or more than one")]
-    Unanswered = 306,
+    RootDoubled,
+    BaseChanged,
+    WrongPlace,
+    ReceiptUnknown,
+    Unanswered,
 }
 
 /// The defects, in the order in which they are looked for, which is that of their numbers.

@@ -1,4 +1,3 @@
-pub mod Fault
 pub mod Runs
 pub mod GivenUp
 pub mod Work

@@ -5,4 +5,4 @@ mod table;
 mod telling;
 
 pub use table::Entry;
-pub use telling::{entries, entry, explain, write_entries, write_entry};
+pub use telling::{entries, entry, explain, meaning, write_entries, write_entry};

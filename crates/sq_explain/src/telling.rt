@@ -1,5 +1,5 @@
 // What is told of numbers.
-ghost use Rattle.std.specs.Prelude.{◌≡◌, IfOk, OnOk, IfSome, map, option_map};
+ghost use Rattle.std.specs.Prelude.{◌≡◌, [], IfOk, OnOk, IfSome, map, option_map, unwrap_or};
 ghost use Rattle.std.specs.List.{flat_map};
 ghost use Rattle.std.specs.Io.KnownBytes.{Appends};
 ghost use Rattle.sq_explain.specs.Meanings.{meanings, meaning_of, entry_lines, Explains};
@@ -22,6 +22,13 @@ pub fn entry(number: u16) -> Option<Entry>
 {
     let found = entries().iter().find(|entry| entry.number == number);
     found.copied()
+}
+
+/// What a number means; nothing where no such number is given.
+pub fn meaning(number: u16) -> &'static str
+    ensures { result.now ≡ unwrap_or (meaning_of number) [] }
+{
+    entry(number).map_or("", |entry| entry.meaning)
 }
 
 /// Writes an entry. An error is the writer's.

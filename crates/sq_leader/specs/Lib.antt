@@ -1,4 +1,3 @@
-pub mod Fault
 pub mod LeaderValue
 pub mod Marks
 pub mod Segments

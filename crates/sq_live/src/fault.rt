@@ -2,9 +2,9 @@
 ghost use Rattle.std.specs.Prelude.{◌≡◌};
 ghost use Rattle.sq_live.specs.Faults.{job_fault_number, live_fault_number, fault_at};
 
-use crate::job_list::MAX_JOBS;
+use sq_explain::meaning;
 use sq_schema::{OUT_OF_MEMORY, TxnFault};
-use sq_text::{InputFault, LocatedFault, MAX_LINE};
+use sq_text::{InputFault, LocatedFault};
 use std::alloc::AllocError;
 use std::fmt;
 use std::fmt::{Display, Formatter, Write};
@@ -12,27 +12,21 @@ use thiserror::Error;
 
 /// Why a line behind the header gives no job.
 #[derive(Clone, Copy, Debug, PartialEq, Eq, Error)]
+#[error("{}", meaning(self.number()))]
 pub enum JobFault {
     /// 125.
-    #[error("there are more than {MAX_JOBS} jobs")]
     TooMany,
     /// 126.
-    #[error("a line behind the header is no transaction")]
     NotAJob,
     /// 127.
-    #[error("a job has the id of one before it")]
     RepeatedId,
     /// The schema doesn't have the transaction.
-    #[error(transparent)]
     Txn(TxnFault),
     /// 219.
-    #[error("there is no such partition")]
     NoSuchPartition,
     /// 231.
-    #[error("a line has more than {MAX_LINE} bytes")]
     LineTooLong,
     /// Memory ran out.
-    #[error("{}", AllocError)]
     Memory,
 }
 

@@ -1,7 +1,6 @@
 -- The numbers of refusals, as a user sees them.
 use Rattle.std.specs.Prelude.{ℕ}
-use Rattle.sq_schema.specs.declared.fault.ApplyFault.TheVariants as apply
-use Rattle.sq_schema.specs.Fault.{memory_number, apply_fault_number}
+use Rattle.sq_schema.specs.Fault.{memory_number}
 use Rattle.sq_model.specs.declared.answer.Refusal.{Refusal}
 use Rattle.sq_model.specs.declared.answer.Refusal.TheVariants.{NotMoving, NoSuchSegment, NoSuchNode, NotFree, NotLive, IsLeaf, NotClaimed, WrongPull, NothingToCut, OutboxFull, OutboxEmpty, LinkFull, LinkEmpty, InboxFull, InboxEmpty, NotLoaded, AlreadyMoving, NotFinished, NoSuchPartition, WaitFull, LogFull, Memory, NoneReady, NoSuchLink, LastStage, NotPartial, NotPrepared}
 
@@ -26,7 +25,7 @@ refusal_number AlreadyMoving = 217
 refusal_number NotFinished = 218
 refusal_number NoSuchPartition = 219
 refusal_number WaitFull = 220
-refusal_number LogFull = apply_fault_number apply.LogFull
+refusal_number LogFull = 221
 refusal_number Memory = memory_number
 refusal_number NoneReady = 223
 refusal_number NoSuchLink = 224

@@ -1,10 +1,10 @@
 // What steps are answered.
 use sq_chunk::Note;
+use sq_explain::meaning;
 use sq_plan::PartId;
 use sq_ranges::SegId;
-use sq_schema::{ApplyFault, OUT_OF_MEMORY, Reply, Txn};
+use sq_schema::{OUT_OF_MEMORY, Reply, Txn};
 use sq_tree::{Leaf, Reading, Status};
-use std::alloc::AllocError;
 use thiserror::Error;
 
 /// The answer to a step.
@@ -66,60 +66,34 @@ pub enum Answer {
 
 /// Why a step was refused.
 #[derive(Clone, Copy, Debug, PartialEq, Eq, Error)]
+#[error("{}", meaning(self.number()))]
 pub enum Refusal {
-    #[error("the move isn't under way")]
     NotMoving = 201,
-    #[error("there is no such segment")]
     NoSuchSegment = 202,
-    #[error("a node isn't one of 1 to 63")]
     NoSuchNode = 203,
-    #[error("the node isn't free")]
     NotFree = 204,
-    #[error("the node's parent isn't split")]
     NotLive = 205,
-    #[error("a leaf isn't split")]
     IsLeaf = 206,
-    #[error("the node isn't claimed")]
     NotClaimed = 207,
-    #[error("another pull has the node")]
     WrongPull = 208,
-    #[error("the source has no work for this link")]
     NothingToCut = 209,
-    #[error("the chunk that was cut before still waits to go onto the link")]
     OutboxFull = 210,
-    #[error("no chunk waits to go onto the link")]
     OutboxEmpty = 211,
-    #[error("the link holds as many chunks as it can")]
     LinkFull = 212,
-    #[error("the link holds no chunk")]
     LinkEmpty = 213,
-    #[error("the chunk that came before still waits to be loaded")]
     InboxFull = 214,
-    #[error("no chunk waits to be loaded")]
     InboxEmpty = 215,
-    #[error("the node's last chunk isn't loaded")]
     NotLoaded = 216,
-    #[error("the move was started before")]
     AlreadyMoving = 217,
-    #[error("something of the move, or a report of it, is missing")]
     NotFinished = 218,
-    #[error("there is no such partition")]
     NoSuchPartition = 219,
-    #[error("as many transactions wait at the partition as can")]
     WaitFull = 220,
-    #[error("{}", ApplyFault::LogFull)]
-    LogFull = ApplyFault::LogFull as isize,
-    #[error("{}", AllocError)]
+    LogFull = 221,
     Memory = OUT_OF_MEMORY as isize,
-    #[error("the rows of all waiting transactions are on their way")]
     NoneReady = 223,
-    #[error("no range goes from the one partition to the other")]
     NoSuchLink = 224,
-    #[error("no stage comes after the running one")]
     LastStage = 225,
-    #[error("the node isn't partial")]
     NotPartial = 227,
-    #[error("a partition isn't prepared")]
     NotPrepared = 228,
 }
 

@@ -1,11 +1,15 @@
-// Laws of the definitions: worked examples, which the checker computes, two limits, and what every legal history keeps.
-ghost use Rattle.std.specs.Prelude.{◌≡◌, ◌≤◌, ◌<◌, ℕ, [], length, false, true, Some, pos};
+// Laws of the definitions: worked examples, which the checker computes, two limits, what every legal history keeps, and that
+// each refusal has a meaning.
+ghost use Rattle.std.specs.Prelude.{◌≡◌, ◌≤◌, ◌<◌, ℕ, [], length, false, true, Some, is_some, pos};
+ghost use Rattle.sq_explain.specs.Meanings.{meaning_of};
 ghost use Rattle.sq_schema.specs.Prelude.{TxnValue, rows_of};
 ghost use Rattle.sq_ranges.specs.Prelude.{OpeningValue, IsOpening};
 ghost use Rattle.sq_ranges.specs.declared.opening.TheConstants.{MAX_WAITING};
 ghost use Rattle.sq_model.specs.Trace.{Trace, notes, loads};
 ghost use Rattle.sq_model.specs.Tables.{IsFoldedRoot, now, stands, family_of, is_full};
 ghost use Rattle.sq_model.specs.Leader.{phase};
+ghost use Rattle.sq_model.specs.declared.answer.Refusal.{Refusal};
+ghost use Rattle.sq_model.specs.Refusal.{refusal_number};
 ghost use Rattle.sq_model.specs.Place.{At, place, destination, runner};
 ghost use Rattle.sq_model.specs.Waiting.{waiting, has_to_wait};
 ghost use Rattle.sq_model.specs.Answers.{answer};
@@ -160,4 +164,9 @@ pub fn moves_in_order()
 pub fn ends_where_planned()
     ensures { (o : OpeningValue) (t : Trace) (root : ℕ) → IsOpening o → IsLegal o t → phase t ≡ Phase.Ended
         → place o t root ≡ At (destination o root) }
+{}
+
+/// The table of numbers has each refusal.
+pub fn each_refusal_has_a_meaning()
+    ensures { (refusal : Refusal) → is_some (meaning_of (refusal_number refusal)) ≡ true }
 {}

@@ -2,23 +2,18 @@
 ghost use Rattle.std.specs.Prelude.{◌≡◌};
 ghost use Rattle.sq_ranges.specs.Fault.{of_row, recon_fault_number, opening_fault_number};
 
-use crate::opening::{MAX_CAPACITY, MAX_LIMIT, MIN_LIMIT};
-use crate::recon::MAX_WIDTH;
-use crate::segment::{FIRST_SEGMENT_LIMIT, SEGMENT_LIMIT};
+use sq_explain::meaning;
 use sq_schema::{OUT_OF_MEMORY, RowFault, TxnFault};
 use std::alloc::AllocError;
 use thiserror::Error;
 
 /// Why there is no reconfiguration between two plans.
 #[derive(Clone, Copy, Debug, PartialEq, Eq, Error)]
+#[error("{}", meaning(self.number()))]
 pub enum ReconFault {
-    #[error("the old and the new plan have different numbers of partitions")]
     PartitionsDiffer = 111,
-    #[error("the width of a leaf isn't from 1 to {MAX_WIDTH}")]
     Width = 112,
-    #[error("the move would have more than {FIRST_SEGMENT_LIMIT} segments, or {SEGMENT_LIMIT} where the new plan is of version 2: wider leaves make fewer")]
     TooManySegments = 113,
-    #[error("{}", AllocError)]
     Memory = OUT_OF_MEMORY as isize,
 }
 
@@ -43,24 +38,19 @@ impl From<AllocError> for ReconFault {
 
 /// Why a world doesn't open.
 #[derive(Clone, Copy, Debug, PartialEq, Eq, Error)]
+#[error("{}", meaning(self.number()))]
 pub enum OpeningFault {
     /// There is no reconfiguration.
-    #[error(transparent)]
     Recon(ReconFault),
     /// 114.
-    #[error("the limit of a chunk isn't from {MIN_LIMIT} to {MAX_LIMIT}")]
     Limit,
     /// 115.
-    #[error("the capacity of a link isn't from 1 to {MAX_CAPACITY}")]
     Capacity,
     /// The row with this number, from 0, isn't of the schema.
-    #[error("{1}")]
     Row(usize, TxnFault),
     /// The row with this number, from 0, isn't in its place.
-    #[error("{1}")]
     Place(usize, RowFault),
     /// Memory ran out, wherever it did.
-    #[error("{}", AllocError)]
     Memory,
 }
 
@@ -87,16 +77,6 @@ impl OpeningFault {
             RowFault::Memory => OpeningFault::Memory,
             fault => OpeningFault::Place(at, fault),
         }
-    }
-}
-
-impl From<AllocError> for OpeningFault {
-    ghost use Rattle.sq_ranges.specs.declared.fault.OpeningFault.TheVariants as faults;
-
-    ghost from_gives = { λ _ fault. fault ≡ faults.Memory };
-
-    fn from(_error: AllocError) -> OpeningFault {
-        OpeningFault::Memory
     }
 }
 

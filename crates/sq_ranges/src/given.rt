@@ -109,7 +109,9 @@ fn take(table: &mut Table, tables: u8, at: usize, given: &GivenRow) -> Result<()
     if let Some(fault) = table.fault(root, given.key()) {
         return Err(OpeningFault::of_row(at, fault));
     }
-    let row = given.row()?;
+    let Ok(row) = given.row() else {
+        return Err(OpeningFault::Memory);
+    };
     if let Err((fault, _)) = table.insert(root, given.key(), row) {
         return Err(OpeningFault::of_row(at, fault));
     }

@@ -18,11 +18,6 @@ IsParsedGivenMemory view (Ok x) there = there ≡ Some (view x)
 IsParsedGivenMemory view (Err faults.Malformed) there = there ≡ None
 IsParsedGivenMemory view (Err faults.Memory) there = Unit {0}
 
--- a line of the script that can't be read
-abbrev pub line_fault : ReadFault → LineFault
-line_fault faults.Malformed = lines.NotAStep
-line_fault faults.Memory = lines.Memory
-
 -- the number that a user sees
 abbrev pub line_fault_number : LineFault → ℕ
 line_fault_number lines.NotAStep = 230

@@ -1,14 +1,10 @@
 -- Why an input gives no run, and what a reader of its header answers.
 use Rattle.std.specs.Prelude.{◌≡◌, ◌≢◌, ℕ, Result, Ok, Err}
-use Rattle.sq_plan.specs.declared.fault.PlanFault.{PlanFault}
-use Rattle.sq_plan.specs.declared.fault.PlanFault.TheVariants as plan
 use Rattle.sq_plan.specs.Fault.{plan_fault_number}
 use Rattle.sq_ranges.specs.Fault.{opening_fault_number}
 use Rattle.sq_schema.specs.Fault.{memory_number}
 use Rattle.sq_text.specs.Faults.{line_fault_number}
 use Rattle.sq_text.specs.declared.fault.LineFault.TheVariants as lines
-use Rattle.sq_text.specs.declared.fault.ReadFault.{ReadFault}
-use Rattle.sq_text.specs.declared.fault.ReadFault.TheVariants as words
 use Rattle.sq_text.specs.declared.input_fault.InputFault.{InputFault}
 use Rattle.sq_text.specs.declared.input_fault.InputFault.TheVariants.{Plan, Opening, BadHeader, TooLong, ReadFailed, Memory, LineTooLong}
 
@@ -21,16 +17,6 @@ input_fault_number TooLong = 122
 input_fault_number ReadFailed = 123
 input_fault_number Memory = memory_number
 input_fault_number LineTooLong = line_fault_number lines.TooLong
-
--- why a text is no plan, told as a fault of the input
-abbrev pub of_plan : PlanFault → InputFault
-of_plan plan.Memory = Memory
-of_plan fault = Plan fault
-
--- why words aren't read, told as a fault of the input
-abbrev pub of_read : ReadFault → InputFault
-of_read words.Malformed = BadHeader
-of_read words.Memory = Memory
 
 -- the answer, seen by view, is this
 abbrev pub IsRead : {X Y : Type 0} → (X → Y) → Result X InputFault → Result Y InputFault → Type 0

@@ -68,6 +68,9 @@ pub record TxnLine : Type 0 where
   pub root : ℕ
   pub ops : List Op
 
+abbrev pub spelled : ℕ → ℕ → ℕ → List Op → TxnLine
+spelled part id root ops = record { part = part; id = id; root = root; ops = ops }
+
 -- a partition, an id, a root key and operations, up to the end of the words
 unfoldable pub txn_in : List Word → Option TxnLine
 txn_in words = do
@@ -75,7 +78,7 @@ txn_in words = do
   id ← number_field part.1
   root ← number_field id.1
   ops ← ops_in root.1
-  Some (record { part = part.0; id = id.0; root = root.0; ops = ops })
+  Some (spelled part.0 id.0 root.0 ops)
 
 -- the transaction is submitted, unless there is a fault
 abbrev pub submit_unless : Option TxnFault → TxnLine → Result Step LineFault

@@ -2,25 +2,22 @@
 ghost use Rattle.std.specs.Prelude.{◌≡◌};
 ghost use Rattle.sq_text.specs.Faults.{line_fault_number};
 
-use crate::step::MAX_LINE;
+use sq_explain::meaning;
 use sq_schema::{OUT_OF_MEMORY, TxnFault};
 use std::alloc::{AllocError, AllocFailed};
 use thiserror::Error;
 
 /// Why a line of the script is no step.
 #[derive(Clone, Copy, Debug, PartialEq, Eq, Error)]
+#[error("{}", meaning(self.number()))]
 pub enum LineFault {
     /// 230.
-    #[error("a line is of no step's form")]
     NotAStep,
     /// 231.
-    #[error("a line has more than {MAX_LINE} bytes")]
     TooLong,
     /// The schema doesn't have the transaction.
-    #[error(transparent)]
     Txn(TxnFault),
     /// Memory ran out.
-    #[error("{}", AllocError)]
     Memory,
 }
 
@@ -34,29 +31,6 @@ impl LineFault {
             LineFault::TooLong => 231,
             LineFault::Txn(fault) => fault.number(),
             LineFault::Memory => OUT_OF_MEMORY,
-        }
-    }
-}
-
-impl From<Malformed> for LineFault {
-    ghost use Rattle.sq_text.specs.declared.fault.LineFault.TheVariants as faults;
-
-    ghost from_gives = { λ _ fault. fault ≡ faults.NotAStep };
-
-    fn from(_malformed: Malformed) -> LineFault {
-        LineFault::NotAStep
-    }
-}
-
-impl From<ReadFault> for LineFault {
-    ghost use Rattle.sq_text.specs.Faults.{line_fault};
-
-    ghost from_gives = { λ cause fault. fault ≡ line_fault cause };
-
-    fn from(fault: ReadFault) -> LineFault {
-        match fault {
-            ReadFault::Malformed => LineFault::NotAStep,
-            ReadFault::Memory => LineFault::Memory,
         }
     }
 }

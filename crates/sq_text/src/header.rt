@@ -17,7 +17,7 @@ use crate::note::note;
 use crate::step::MAX_LINE;
 use crate::words::Words;
 use sq_lines::{LineReader, Next};
-use sq_plan::Plan;
+use sq_plan::{Plan, PlanFault};
 use sq_ranges::{Config, GivenRow, Opening};
 use sq_schema::{RowKey, Schema};
 use std::alloc::Global;
@@ -55,7 +55,11 @@ fn plan(alloc: Global, front: &[u8], line: &[u8]) -> Result<Plan, InputFault>
     ensures { IsReadGivenMemory (λ plan. plan) result (plan_behind front.now line.now) }
 {
     let text = behind(front, line)?;
-    Ok(Plan::read(alloc, text)?)
+    match Plan::read(alloc, text) {
+        Ok(plan) => Ok(plan),
+        Err(PlanFault::Memory) => Err(InputFault::Memory),
+        Err(fault) => Err(InputFault::Plan(fault)),
+    }
 }
 
 // The plan of the next line, which begins so.
@@ -95,7 +99,7 @@ fn sizes(line: &[u8]) -> Result<Config, InputFault>
     ensures { IsRead (λ config. config) result (config_of line.now) }
 {
     let text = behind(b"config ", line)?;
-    Ok(config(Words::of(text))?)
+    config(Words::of(text)).map_err(|_| InputFault::BadHeader)
 }
 
 // The sizes of the next line.
@@ -135,7 +139,11 @@ fn row(alloc: Global, line: &[u8]) -> Result<GivenRow, InputFault>
     ensures { IsReadGivenMemory value_of result (given_of line.now) }
 {
     let text = behind(b"row ", line)?;
-    Ok(given(alloc, Words::of(text))?)
+    match given(alloc, Words::of(text)) {
+        Ok(row) => Ok(row),
+        Err(ReadFault::Malformed) => Err(InputFault::BadHeader),
+        Err(ReadFault::Memory) => Err(InputFault::Memory),
+    }
 }
 
 // The opening row of the next line.
@@ -216,7 +224,8 @@ fn take_rows<R: Read>(
         (λ all left. IsReadBefore (λ _. rows_in opening.new.table) result left
         (rows_taken opening.old.tables (rows_in opening.old.table) 0 all)) }
     ensures kept { opening.new ≡ record opening.old { table = opening.new.table } }
-    ensures stops { IfErr result (λ refused. IfSome refused.line (λ line. lines.old.lines_left + 3 ≤ lines.new.lines_left + line_number line)) }
+    ensures stops { IfErr result (λ refused. IfSome refused.line
+        (λ line. lines.old.lines_left + 3 ≤ lines.new.lines_left + line_number line)) }
 {
     let most = lines.lines_left();
     while lines.begins_read(b"row ") {

@@ -24,7 +24,7 @@ pub use dump::{write_at, write_end, write_way};
 pub use fault::LineFault;
 pub use header::{read_header, read_plans};
 pub use input_fault::InputFault;
-pub use located::{InputLine, LocatedFault};
+pub use located::{InputLine, LocatedFault, Meaning};
 pub use moves_text::write_moves;
 pub use note::is_note;
 pub use number::{signed, unsigned};

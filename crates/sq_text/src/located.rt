@@ -3,8 +3,9 @@ ghost use Rattle.std.specs.Prelude.{◌≡◌, ◌+◌, ◌<◌, ◌^◌, None, 
 ghost use Rattle.sq_text.specs.Located.{line_number, located, of_opening};
 
 use crate::input_fault::InputFault;
+use sq_explain::meaning;
+use sq_plan::PlanFault;
 use sq_ranges::OpeningFault;
-use std::alloc::AllocError;
 use std::fmt;
 use std::fmt::{Display, Formatter, Write};
 
@@ -69,19 +70,36 @@ impl InputFault {
     }
 }
 
-/// Says the line by its number, the number of the fault, and what it means; a plan is said to be the old or the new one.
+/// Says the line by its number, and what [`Meaning`] says.
 impl Display for LocatedFault {
     fn fmt<W: Write>(&self, f: &mut Formatter<W>) -> fmt::Result {
         if let Some(line) = self.line {
             write!(f, "line {}: ", line.number())?;
         }
-        write!(f, "fault {}: ", self.fault.number())?;
-        match (self.line, self.fault) {
-            (Some(InputLine::Old), InputFault::Plan(fault)) => write!(f, "the old {fault}"),
-            (Some(InputLine::New), InputFault::Plan(fault)) => write!(f, "the new {fault}"),
-            (_, fault) => write!(f, "{fault}"),
+        write!(f, "{}", Meaning(self))
+    }
+}
+
+/// What a fault means, with its number, and without its line; a plan is said to be the old or the new one.
+#[derive(Clone, Copy)]
+pub struct Meaning<'a>(pub &'a LocatedFault);
+
+impl Display for Meaning<'_> {
+    fn fmt<W: Write>(&self, f: &mut Formatter<W>) -> fmt::Result {
+        let fault = self.0.fault;
+        write!(f, "fault {}: ", fault.number())?;
+        match (self.0.line, fault) {
+            (Some(InputLine::Old), InputFault::Plan(fault)) => write!(f, "the old {}", bare(fault)),
+            (Some(InputLine::New), InputFault::Plan(fault)) => write!(f, "the new {}", bare(fault)),
+            _ => write!(f, "{fault}"),
         }
     }
+}
+
+// What a fault of a plan means, without the article that it begins with.
+fn bare(fault: PlanFault) -> &'static str {
+    let text = meaning(fault.number());
+    text.strip_prefix("a ").unwrap_or(text)
 }
 
 impl From<OpeningFault> for LocatedFault {
@@ -97,17 +115,5 @@ impl From<OpeningFault> for LocatedFault {
             }
             fault => InputFault::Opening(fault).at(InputLine::Config),
         }
-    }
-}
-
-impl From<AllocError> for LocatedFault {
-    ghost use Rattle.std.specs.Prelude.{None};
-    ghost use Rattle.sq_text.specs.Located.{located};
-    ghost use Rattle.sq_text.specs.declared.input_fault.InputFault.TheVariants as faults;
-
-    ghost from_gives = { λ _ fault. fault ≡ located faults.Memory None };
-
-    fn from(_error: AllocError) -> LocatedFault {
-        InputFault::Memory.at_no_line()
     }
 }

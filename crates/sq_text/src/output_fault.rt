@@ -1,12 +1,13 @@
 // Why an output can't be written.
 ghost use Rattle.std.specs.Prelude.{◌≡◌};
 
+use sq_explain::meaning;
 use std::io;
 use thiserror::Error;
 
 /// A write failed. How much went out isn't told.
 #[derive(Clone, Copy, Debug, PartialEq, Eq, Error)]
-#[error("the output can't be written")]
+#[error("{}", meaning(self.number()))]
 pub struct WriteFault;
 
 impl WriteFault {

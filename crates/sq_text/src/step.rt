@@ -1,16 +1,16 @@
 // The steps that lines of the script spell.
 ghost use Rattle.std.specs.Prelude.{◌≡◌, true, Err, ok_or};
 ghost use Rattle.sq_text.specs.Fields.{value_at_end};
-ghost use Rattle.sq_text.specs.Steps.{pair_field, pull_field, step_with, verb_step, txn_in, txn_step, step_in, step_of, begins_txn};
+ghost use Rattle.sq_text.specs.Steps.{pair_field, pull_field, step_with, verb_step, spelled, txn_in, txn_step, step_in, step_of, begins_txn};
 ghost use Rattle.sq_text.specs.Words.{words_of};
 ghost use Rattle.sq_text.specs.Faults.{IsParsed, IsParsedGivenMemory, IsStep};
 
-use crate::fault::{LineFault, Malformed};
+use crate::fault::{LineFault, Malformed, ReadFault};
 use crate::op::ops;
 use crate::verb::Verb;
 use crate::words::Words;
 use sq_model::Step;
-use sq_schema::{Schema, Txn};
+use sq_schema::{Op, Schema, Txn};
 use std::alloc::Global;
 
 /// The most bytes that a line has, without its end.
@@ -62,22 +62,33 @@ fn step(verb: Verb, words: &mut Words<'_>) -> Result<Step, Malformed>
 fn verb_step(verb: Verb, mut words: Words<'_>) -> Result<Step, LineFault>
     ensures { result ≡ ok_or (value_at_end (step_with verb words.entry)) LineFault.NotAStep }
 {
-    let step = step(verb, &mut words)?;
+    let step = step(verb, &mut words).map_err(|_| LineFault::NotAStep)?;
     match words.next() {
         Some(_) => Err(LineFault::NotAStep),
         None => Ok(step),
     }
 }
 
-// The step of a line that begins with `txn`.
+// A transaction as its line spells it: a partition, an id, a root key, and operations.
 #[tactic(auto, unfolding(crate::specs::Steps::txn_in))]
-fn submit(alloc: Global, schema: &Schema, mut words: Words<'_>) -> Result<Step, LineFault>
-    ensures { IsStep result (txn_step schema.now (txn_in words.entry)) }
+fn txn_line(alloc: Global, mut words: Words<'_>) -> Result<(u64, u64, u64, Vec<Op>), ReadFault>
+    ensures { IsParsedGivenMemory (λ txn. spelled txn.0 txn.1 txn.2 txn.3.items) result (txn_in words.entry) }
 {
     let part = words.number()?;
     let id = words.number()?;
     let root = words.number()?;
-    let ops = ops(alloc, words)?;
+    Ok((part, id, root, ops(alloc, words)?))
+}
+
+// The step of a line that begins with `txn`.
+fn submit(alloc: Global, schema: &Schema, words: Words<'_>) -> Result<Step, LineFault>
+    ensures { IsStep result (txn_step schema.now (txn_in words.entry)) }
+{
+    let (part, id, root, ops) = match txn_line(alloc, words) {
+        Ok(line) => line,
+        Err(ReadFault::Malformed) => return Err(LineFault::NotAStep),
+        Err(ReadFault::Memory) => return Err(LineFault::Memory),
+    };
     match Txn::new(schema, id, root, ops) {
         Ok(txn) => Ok(Step::Submit(part, txn)),
         Err((fault, _)) => Err(LineFault::Txn(fault)),

@@ -7,12 +7,12 @@ ghost use Rattle.sq_world.specs.Run.{Runs};
 ghost use Rattle.squall.specs.Session.{exit_status, EndsAs, ListsAs, IsUsageStatus};
 
 use crate::flaws::tell_misfit;
-use crate::source::{Meaning, Source};
+use crate::source::Source;
 use clap::Error;
 use sq_command::Form;
 use sq_inputs::Recalling;
 use sq_picture::{AsJson, AsSvg};
-use sq_text::{InputFault, InputLine, LocatedFault, WriteFault};
+use sq_text::{InputFault, InputLine, LocatedFault, Meaning, WriteFault};
 use sq_world::{Ending, list, ranges, run_and_echo};
 use std::fs::OpenFile;
 use std::io::{ErrorKind, Read, Write};

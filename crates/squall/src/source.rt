@@ -1,6 +1,6 @@
 // Where the lines of an input come from.
 use sq_command::Input;
-use sq_text::{InputFault, InputLine, LocatedFault};
+use sq_text::InputLine;
 use std::cell::Cell;
 use std::fmt;
 use std::fmt::{Display, Formatter, Write};
@@ -66,22 +66,6 @@ impl Display for FaultPlace<'_> {
             FaultPlace::Line(line) => write!(f, "line {line}"),
             FaultPlace::File(file) => f.write_str(file),
             FaultPlace::LineOf(file, line) => write!(f, "{file}: line {line}"),
-        }
-    }
-}
-
-/// What a fault means, with its number, and without its line.
-#[derive(Clone, Copy)]
-pub struct Meaning<'a>(pub &'a LocatedFault);
-
-impl Display for Meaning<'_> {
-    fn fmt<W: Write>(&self, f: &mut Formatter<W>) -> fmt::Result {
-        let fault = self.0.fault;
-        write!(f, "fault {}: ", fault.number())?;
-        match (self.0.line, fault) {
-            (Some(InputLine::Old), InputFault::Plan(fault)) => write!(f, "the old {fault}"),
-            (Some(InputLine::New), InputFault::Plan(fault)) => write!(f, "the new {fault}"),
-            _ => write!(f, "{fault}"),
         }
     }
 }

@@ -1,9 +1,6 @@
 use crate::{obey, obey_buffered};
-use sq_audit::ALL_DEFECTS;
 use sq_driver::{Gate, NodeStep, OpenGate};
-use sq_explain::entry;
 use sq_live::Watch;
-use sq_world::Refusal;
 use std::io;
 use std::io::{ErrorKind, Write};
 use std::sync::atomic::{AtomicU64, Ordering};
@@ -86,57 +83,6 @@ fn a_live_run_has_the_turns_and_pumps_of_its_options(rt: HostRuntime) -> Result<
         assert_eq!(rt; line.as_str(), "stopped 0 of 0 jobs, 0 of 1 segments\n");
         assert!(rt; watch.turns.load(Ordering::SeqCst) == turns_taken);
         assert!(rt; watch.highest.load(Ordering::SeqCst) == last_worker);
-    }
-    Ok(())
-}
-
-// Whether this is what the table says of a number.
-fn table_says(number: u16, text: &str) -> bool {
-    entry(number).map(|entry| entry.meaning) == Some(text)
-}
-
-#[test]
-fn a_refusal_means_what_the_table_says(rt: HostRuntime) -> Result<(), Fail> {
-    for refusal in [
-        Refusal::NotMoving,
-        Refusal::NoSuchSegment,
-        Refusal::NoSuchNode,
-        Refusal::NotFree,
-        Refusal::NotLive,
-        Refusal::IsLeaf,
-        Refusal::NotClaimed,
-        Refusal::WrongPull,
-        Refusal::NothingToCut,
-        Refusal::OutboxFull,
-        Refusal::OutboxEmpty,
-        Refusal::LinkFull,
-        Refusal::LinkEmpty,
-        Refusal::InboxFull,
-        Refusal::InboxEmpty,
-        Refusal::NotLoaded,
-        Refusal::AlreadyMoving,
-        Refusal::NotFinished,
-        Refusal::NoSuchPartition,
-        Refusal::WaitFull,
-        Refusal::LogFull,
-        Refusal::Memory,
-        Refusal::NoneReady,
-        Refusal::NoSuchLink,
-        Refusal::LastStage,
-        Refusal::NotPartial,
-        Refusal::NotPrepared,
-    ] {
-        let text = format!(in rt.alloc(); "{refusal}")?;
-        assert!(rt; table_says(refusal.number(), text.as_str()));
-    }
-    Ok(())
-}
-
-#[test]
-fn a_defect_means_what_the_table_says(rt: HostRuntime) -> Result<(), Fail> {
-    for defect in ALL_DEFECTS {
-        let text = format!(in rt.alloc(); "{defect}")?;
-        assert!(rt; table_says(defect.number(), text.as_str()));
     }
     Ok(())
 }

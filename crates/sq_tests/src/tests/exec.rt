@@ -151,15 +151,15 @@ fn answer(alloc: Global, part: &mut PartCore<VecStore>, call: Call) -> Result<To
     Ok(match call {
         Call::Submit(root) => match part.submit(&add(alloc, root)?) {
             Ok(done) => what_became(&done),
-            Err(fault) => Told::Refused(fault.number()),
+            Err(fault) => Told::Refused(fault as u16),
         },
         Call::Resume => match part.resume() {
             Ok(resumed) => what_became(&resumed.outcome),
-            Err(fault) => Told::Refused(fault.number()),
+            Err(fault) => Told::Refused(fault as u16),
         },
         Call::Cut(dst) => match part.cut(PartId::new(dst)) {
             Ok(note) => noted(note),
-            Err(fault) => Told::Refused(fault.number()),
+            Err(fault) => Told::Refused(fault as u16),
         },
         Call::TakeOutbox => match part.take_outbox(PartId::new(1)) {
             Some(chunk) => Told::Families(chunk.len()),
@@ -167,7 +167,7 @@ fn answer(alloc: Global, part: &mut PartCore<VecStore>, call: Call) -> Result<To
         },
         Call::Load if part.may_load(src) || part.inbox(src).is_none() => match part.load(src) {
             Ok(note) => noted(note),
-            Err(fault) => Told::Refused(fault.number()),
+            Err(fault) => Told::Refused(fault as u16),
         },
         Call::Load => Told::Else,
     })

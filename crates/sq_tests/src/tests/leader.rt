@@ -52,9 +52,9 @@ fn report(moving: Moving, made: Result<Report, ReportFault>) -> (Leader, Option<
     match made {
         Ok(report) => match moving.report(report) {
             Ok(moving) => (Leader::Moving(moving), None),
-            Err(refused) => (Leader::Moving(refused.leader), Some(refused.fault.number())),
+            Err(refused) => (Leader::Moving(refused.leader), Some(refused.fault as u16)),
         },
-        Err(fault) => (Leader::Moving(moving), Some(fault.number())),
+        Err(fault) => (Leader::Moving(moving), Some(fault as u16)),
     }
 }
 
@@ -63,20 +63,20 @@ fn after(leader: Leader, call: Call, plan: &Plan, recon: &Recon) -> (Leader, Opt
     match (leader, call) {
         (Leader::Idle(idle), Call::Prepare(part)) => match idle.prepare(part) {
             Ok(preparing) => (Leader::Preparing(preparing), None),
-            Err(refused) => (Leader::Idle(refused.leader), Some(refused.fault.number())),
+            Err(refused) => (Leader::Idle(refused.leader), Some(refused.fault as u16)),
         },
         (Leader::Preparing(preparing), Call::Prepare(part)) => match preparing.prepare(part) {
             Ok(preparing) => (Leader::Preparing(preparing), None),
             Err(refused) => (
                 Leader::Preparing(refused.leader),
-                Some(refused.fault.number()),
+                Some(refused.fault as u16),
             ),
         },
         (Leader::Preparing(preparing), Call::Start) => match preparing.start() {
             Ok(moving) => (Leader::Moving(moving), None),
             Err(refused) => (
                 Leader::Preparing(refused.leader),
-                Some(refused.fault.number()),
+                Some(refused.fault as u16),
             ),
         },
         (Leader::Moving(moving), Call::Report(part, whole)) => {
@@ -88,11 +88,11 @@ fn after(leader: Leader, call: Call, plan: &Plan, recon: &Recon) -> (Leader, Opt
         }
         (Leader::Moving(moving), Call::Next) => match moving.next() {
             Ok(moving) => (Leader::Moving(moving), None),
-            Err(refused) => (Leader::Moving(refused.leader), Some(refused.fault.number())),
+            Err(refused) => (Leader::Moving(refused.leader), Some(refused.fault as u16)),
         },
         (Leader::Moving(moving), Call::Finish) => match moving.finish() {
             Ok(ended) => (Leader::Ended(ended), None),
-            Err(refused) => (Leader::Moving(refused.leader), Some(refused.fault.number())),
+            Err(refused) => (Leader::Moving(refused.leader), Some(refused.fault as u16)),
         },
         // There is no such call.
         (leader, _) => (leader, Some(0)),
