@@ -6,7 +6,7 @@ ghost use Rattle.sq_live.specs.JobLines.{AddsJob, AddsFresh, AreJobs, IsFirstFau
 
 use crate::fault::{JobFault, LiveFault};
 use sq_audit::Job;
-use sq_lines::{LineReader, MAX_LINES, MAX_UNENDED, Next};
+use sq_lines::{LineReader, MAX_UNENDED, Next};
 use sq_model::Step;
 use sq_node::JOB_PLACES;
 use sq_plan::PartId;
@@ -16,9 +16,6 @@ use std::alloc::Global;
 use std::collections::BTreeSet;
 use std::io::Read;
 use std::marker::Model;
-
-// The line after the last one that an input may have.
-const AFTER_THE_LAST: InputLine = InputLine::Later(MAX_LINES + 1);
 
 /// The most jobs that a live run has: as many as the queue of a partition takes.
 pub const MAX_JOBS: usize = JOB_PLACES;
@@ -153,7 +150,9 @@ pub fn read_jobs<R: Read>(
             Next::End => return Ok(jobs),
             Next::Failed => return Err(InputFault::ReadFailed.at(InputLine::Later(line)).into()),
             Next::Long => return Err(InputFault::TooLong.at(InputLine::Later(line)).into()),
-            Next::TooMany => return Err(InputFault::TooLong.at(AFTER_THE_LAST).into()),
+            Next::TooMany => {
+                return Err(InputFault::TooLong.at(InputLine::AFTER_THE_LAST).into());
+            }
             Next::Unread => unreachable!(),
         }
     }

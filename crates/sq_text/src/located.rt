@@ -4,6 +4,7 @@ ghost use Rattle.sq_text.specs.Located.{line_number, located, of_opening};
 
 use crate::input_fault::InputFault;
 use sq_explain::meaning;
+use sq_lines::MAX_LINES;
 use sq_plan::PlanFault;
 use sq_ranges::OpeningFault;
 use std::fmt;
@@ -25,6 +26,9 @@ pub enum InputLine {
 }
 
 impl InputLine {
+    /// The line after the last one that an input may have.
+    pub const AFTER_THE_LAST: InputLine = InputLine::Later(MAX_LINES + 1);
+
     /// Its number in the input, whose first line has the number 1.
     pub fn number(self) -> u64
         ensures { line_number self < 2 ^ 64 → result ≡ line_number self }

@@ -8,16 +8,13 @@ ghost use Rattle.sq_world.specs.Script.{AnswersWorld, RunsScript};
 
 use crate::echo::{write_refusal, write_told};
 use crate::ending::Ending;
-use sq_lines::{LineReader, MAX_LINES, MAX_UNENDED, Next};
+use sq_lines::{LineReader, MAX_UNENDED, Next};
 use sq_schema::Schema;
 use sq_state::World;
 use sq_text::{InputFault, InputLine, LineFault, LocatedFault, read_step, write_fault};
 use std::alloc::Global;
 use std::io;
 use std::io::{Read, Write};
-
-// The line after the last one that an input may have.
-const AFTER_THE_LAST: InputLine = InputLine::Later(MAX_LINES + 1);
 
 // Writes what the lines of a script are answered, each answer behind its line where it echoes, and then the dump. What is
 // written goes out before more is read.
@@ -47,7 +44,9 @@ pub(crate) fn run_script<R: Read, W: Write>(
             Next::End => return end(world, writer),
             Next::Failed => return end_by(writer, InputFault::ReadFailed.at(line_of(lines))),
             Next::Long => return end_by(writer, InputFault::TooLong.at(line_of(lines))),
-            Next::TooMany => return end_by(writer, InputFault::TooLong.at(AFTER_THE_LAST)),
+            Next::TooMany => {
+                return end_by(writer, InputFault::TooLong.at(InputLine::AFTER_THE_LAST));
+            }
         }
     }
 }
