@@ -29,10 +29,12 @@ after_calls parts recon (call ∷ calls) = after_call (after_calls parts recon c
 abbrev pub was_heard : ℕ → ReconValue → List Call → ℕ → ℕ → Bool
 was_heard parts recon [] part stage = false
 was_heard parts recon (Hear told ∷ calls) part stage =
-    ((told.part == part) && ((told.stage == stage) && ((after_calls parts recon calls).stage == stage))) || was_heard parts recon calls part stage
+    ((told.part == part) && ((told.stage == stage) && ((after_calls parts recon calls).stage == stage)))
+    || was_heard parts recon calls part stage
 was_heard parts recon (Next ∷ calls) part stage = was_heard parts recon calls part stage
 
--- where the move can end after these calls, a report was heard for each segment: of the partition into which it moves, in the segment's stage
+-- where the move can end after these calls, a report was heard for each segment: of the partition into which it moves, in the
+-- segment's stage
 abbrev pub EndsHeard : ℕ → ReconValue → List Call → Type 0
 EndsHeard parts recon calls =
     is_ok (answer_to_finish (after_calls parts recon calls)) ≡ true → (segment : Range) → Contains recon.segments segment

@@ -12,7 +12,8 @@ pub record PreparingValue : Type 0 where
   pub prepared : List Bool
   pub recon : ReconValue
 
--- a leader of a move that was started: of each partition whether it has reported in the running stage, which stage that is, and what moves; once the move has ended, the last stage as it was
+-- a leader of a move that was started: of each partition whether it has reported in the running stage, which stage that is,
+-- and what moves; once the move has ended, the last stage as it was
 pub record StageValue : Type 0 where
   pub reported : List Bool
   pub stage : ℕ

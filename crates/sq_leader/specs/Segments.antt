@@ -12,7 +12,8 @@ is_told_whole whole seg = slice_index_or whole seg false
 
 -- each segment into the partition in this stage is whole
 abbrev pub all_told_whole : ReconValue → ℕ → List Bool → ℕ → Bool
-all_told_whole recon stage whole part = list_all (λ seg. not (moves_into recon stage part seg) || is_told_whole whole seg) (range_with_len 0 (length recon.segments))
+all_told_whole recon stage whole part =
+    list_all (λ seg. not (moves_into recon stage part seg) || is_told_whole whole seg) (range_with_len 0 (length recon.segments))
 
 -- the segment moves in another stage, or the partition into which it moves reported
 abbrev pub is_heard : StageValue → Range → Bool
@@ -24,4 +25,6 @@ have_reported at = list_all (is_heard at) at.recon.segments
 
 -- the partition reported, or no segment moves into it in the running stage
 abbrev pub owes_no_report : StageValue → ℕ → Bool
-owes_no_report at part = is_marked at.reported part || not (list_any (moves_into at.recon at.stage part) (range_with_len 0 (length at.recon.segments)))
+owes_no_report at part =
+    is_marked at.reported part
+    || not (list_any (moves_into at.recon at.stage part) (range_with_len 0 (length at.recon.segments)))

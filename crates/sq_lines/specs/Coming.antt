@@ -52,7 +52,9 @@ pub record IsLong (most : ℕ) (v : LinesValue) : Type 0 where
 -- the next line is given
 abbrev pub GivesLine : LinesValue → LinesValue → Type 0
 GivesLine old new =
-    CameBefore old (Line (next_line_number old.lines_left) new.piece) new × (old.lines_left ≡ new.lines_left + 1) × (length new.piece ≤ MAX_UNENDED)
+    CameBefore old (Line (next_line_number old.lines_left) new.piece) new
+    × (old.lines_left ≡ new.lines_left + 1)
+    × (length new.piece ≤ MAX_UNENDED)
 
 -- a piece of this kind with these bytes can come, and then nothing else
 abbrev pub CanEndIn : LinesValue → (ℕ → List ℕ → PieceValue) → List ℕ → Type 0

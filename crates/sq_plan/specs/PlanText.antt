@@ -1,4 +1,5 @@
--- The text of a plan: {"partitions":P,"ranges":[[lo,hi,owner],..],"version":1}, or with "stages":"..","version":2 at its end; with no white space.
+-- The text of a plan: {"partitions":P,"ranges":[[lo,hi,owner],..],"version":1}, or with "stages":"..","version":2 at its end;
+-- with no white space.
 use Rattle.std.specs.Prelude.{ℕ, List, ◌++◌, map, codes, decimal}
 use Rattle.std.specs.List.{join_with_byte}
 use Rattle.sq_plan.specs.declared.plan.PlanRange.{PlanRange}
@@ -22,4 +23,7 @@ version_text (Second stages) = codes "\"stages\":\"" ++ stages_name stages ++ co
 
 -- the number of partitions, the ranges as they stand in the plan, and the version
 abbrev pub plan_text : PlanValue → List ℕ
-plan_text plan = codes "{\"partitions\":" ++ decimal plan.parts ++ codes ",\"ranges\":[" ++ ranges_text plan.ranges ++ codes "]," ++ version_text plan.version ++ codes "}"
+plan_text plan =
+    codes "{\"partitions\":" ++ decimal plan.parts
+    ++ codes ",\"ranges\":[" ++ ranges_text plan.ranges ++ codes "],"
+    ++ version_text plan.version ++ codes "}"

@@ -27,7 +27,9 @@ whole_at name value = option_and_then whole_in (get name value)
 -- three whole numbers
 abbrev pub range_of_items : Items → Option PlanRange
 range_of_items (item lo (item hi (item owner no_items))) =
-    option_and_then (λ a. option_and_then (λ b. option_and_then (λ p. Some (record { lo = a; hi = b; owner = p })) (whole_in owner)) (whole_in hi)) (whole_in lo)
+    option_and_then
+    (λ a. option_and_then (λ b. option_and_then (λ p. Some (record { lo = a; hi = b; owner = p })) (whole_in owner)) (whole_in hi))
+    (whole_in lo)
 range_of_items _ = None
 
 -- a range, where the value is an array of three whole numbers
@@ -37,7 +39,8 @@ range_in value = option_and_then range_of_items (as_array value)
 -- the ranges, where each item is one
 abbrev pub ranges_in : Items → Option (List PlanRange)
 ranges_in no_items = Some []
-ranges_in (item value values) = option_and_then (λ range. option_and_then (λ ranges. Some (range ∷ ranges)) (ranges_in values)) (range_in value)
+ranges_in (item value values) =
+    option_and_then (λ range. option_and_then (λ ranges. Some (range ∷ ranges)) (ranges_in values)) (range_in value)
 
 -- the ranges of a field
 abbrev pub ranges_at : List ℕ → Data → Option (List PlanRange)

@@ -1,4 +1,5 @@
--- How a plan stands in JSON: {"version":1,"partitions":P,"ranges":[[lo,hi,owner],..]}, in version 2 with "stages":".."; the fields in any order and among others.
+-- How a plan stands in JSON: {"version":1,"partitions":P,"ranges":[[lo,hi,owner],..]}, in version 2 with "stages":".."; the
+-- fields in any order and among others.
 use Rattle.std.specs.Prelude.{◌≡◌, ℕ, List, [], ◌∷◌, Some, codes}
 use Rattle.serde_json.specs.Data.{Data, Items, Members, number, unsigned, string, array, no_items, item, object, member, no_members}
 use Rattle.serde_json.specs.Find.{get}
@@ -40,4 +41,8 @@ version_data (Second stages) = member (codes "stages") (string (stages_name stag
 
 -- the JSON value that has the fields of the plan alone
 abbrev pub plan_data : PlanValue → Data
-plan_data plan = object (member (codes "partitions") (number_data plan.parts) (member (codes "ranges") (array (ranges_data plan.ranges)) (version_data plan.version)))
+plan_data plan =
+    object (
+    member (codes "partitions") (number_data plan.parts)
+    (member (codes "ranges") (array (ranges_data plan.ranges)) (version_data plan.version))
+    )

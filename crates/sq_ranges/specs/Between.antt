@@ -24,7 +24,8 @@ recon_fault old new width =
     else None
 
 abbrev pub recon_of : PlanValue → PlanValue → ℕ → ReconValue
-recon_of old new width = record { width = width; ranges = moves_of old new; segments = segments_of width (moves_of old new); auto = is_auto new.version }
+recon_of old new width =
+    record { width = width; ranges = moves_of old new; segments = segments_of width (moves_of old new); auto = is_auto new.version }
 
 -- this is the reconfiguration between two plans
 pub record IsReconOf (old new : PlanValue) (width : ℕ) (recon : ReconValue) : Type 0 where

@@ -16,4 +16,5 @@ pub record OpeningValue : Type 0 where
 
 -- the opening with these parts
 abbrev pub opening_of : OpeningParts → OpeningValue
-opening_of parts = record { tables = parts.schema; old = parts.old; new = parts.new; recon = parts.recon; config = parts.config; table = parts.table }
+opening_of parts =
+    record { tables = parts.schema; old = parts.old; new = parts.new; recon = parts.recon; config = parts.config; table = parts.table }

@@ -58,7 +58,8 @@ no_moves = record { width = 1; ranges = []; segments = []; auto = false }
 abbrev pub are_in_key_order : ℕ → List Range → Bool
 are_in_key_order lo [] = true
 are_in_key_order lo (range ∷ ranges) =
-    nat_le lo range.lo && (nat_lt range.lo range.hi && (nat_le range.hi ROOT_END && (not (range.src == range.dst) && are_in_key_order range.hi ranges)))
+    nat_le lo range.lo
+    && (nat_lt range.lo range.hi && (nat_le range.hi ROOT_END && (not (range.src == range.dst) && are_in_key_order range.hi ranges)))
 
 -- what holds of each reconfiguration, whatever its plans
 pub record IsRecon (recon : ReconValue) : Type 0 where
@@ -87,7 +88,9 @@ extent width segment n =
 -- the segment and the leaf that hold a key; none where no segment holds it
 abbrev pub leaf_at : ReconValue → ℕ → Option (ℕ × ℕ)
 leaf_at recon key =
-    option_and_then (λ i. option_map (λ segment. (i, leaf_of recon.width segment key)) (slice_get recon.segments i)) (segment_of recon.segments key)
+    option_and_then
+    (λ i. option_map (λ segment. (i, leaf_of recon.width segment key)) (slice_get recon.segments i))
+    (segment_of recon.segments key)
 
 -- the keys of a node of a segment; none where there is no such segment
 abbrev pub extent_at : ReconValue → ℕ → ℕ → Option Extent

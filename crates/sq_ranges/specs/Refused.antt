@@ -49,7 +49,8 @@ given_fault tables table at given =
 -- the fault of the first row that has one, each taken on top of those before it; the rows are numbered from this on
 abbrev pub rows_fault : ℕ → RowTable → ℕ → List GivenRow → Option OpeningFault
 rows_fault tables table at [] = None
-rows_fault tables table at (given ∷ rows) = option_or (given_fault tables table at (value_of given)) (rows_fault tables (with_one table (value_of given)) (at + 1) rows)
+rows_fault tables table at (given ∷ rows) =
+    option_or (given_fault tables table at (value_of given)) (rows_fault tables (with_one table (value_of given)) (at + 1) rows)
 
 -- the fault of the first row, which has this number, where it has one
 abbrev pub first_fault : ℕ → RowTable → ℕ → List GivenRow → Option OpeningFault

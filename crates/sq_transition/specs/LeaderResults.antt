@@ -66,7 +66,9 @@ report_result w part =
 -- each partition reported, or no segment moves into it in the running stage
 abbrev pub all_reported : WorldValue → Bool
 all_reported w =
-    list_all (λ part. has_reported w.leader part || not (list_any (is_segment_into w part) (segment_range w))) (range_with_len 0 w.old.parts)
+    list_all
+    (λ part. has_reported w.leader part || not (list_any (is_segment_into w part) (segment_range w)))
+    (range_with_len 0 w.old.parts)
 
 abbrev pub runs_last : WorldValue → Bool
 runs_last w = running_stage w + 1 == stages w.recon

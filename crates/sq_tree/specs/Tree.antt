@@ -34,7 +34,8 @@ pub record IsCovering (status : ℕ → Status) (leaf n : ℕ) : Type 0 where
   pub whole : is_split (status n) ≡ false
   pub only : (m : ℕ) → is_node m ≡ true → is_above m leaf ≡ true → is_live status m ≡ true → is_split (status m) ≡ false → m ≡ n
 
--- the rule of readings: a live node reads by its status, a split one by its halves, and one that isn't live as the node that it is a half of
+-- the rule of readings: a live node reads by its status, a split one by its halves, and one that isn't live as the node that it
+-- is a half of
 pub record IsReading (status : ℕ → Status) (reads : ℕ → Reading) : Type 0 where
   pub live : (n : ℕ) → is_node n ≡ true → is_live status n ≡ true → reads n ≡ reading_of reads n (status n)
   pub rest : (n : ℕ) → is_node n ≡ true → is_live status n ≡ false → reads n ≡ reads (parent n)

@@ -27,7 +27,8 @@ abbrev pub IsToldOrRefused : (ReconValue → List ℕ → Type 0) → ReconValue
 IsToldOrRefused tells recon out ending = (tells recon out × (ending ≡ Done)) ⊎ IsFault (located Memory None) out ending
 
 -- the first three lines spell plans and sizes, and what tells of their reconfiguration is all that is written
-pub record IsWholeListing (tells : ReconValue → List ℕ → Type 0) (tables : ℕ) (given : List PieceValue) (out : List ℕ) (ending : Ending) : Type 0 where
+pub record IsWholeListing (tells : ReconValue → List ℕ → Type 0) (tables : ℕ) (given : List PieceValue) (out : List ℕ)
+    (ending : Ending) : Type 0 where
   pub opening : OpeningValue
   pub left : List PieceValue
   pub plans : Opens tables (Ok opening) left (plans_of given)

@@ -72,9 +72,12 @@ pub record IsFault (located : LocatedFault) (out : List ℕ) (ending : Ending) :
 abbrev pub Writes : Bool → OpeningValue → Trace → List PieceValue → List ℕ → Ending → Type 0
 Writes echoes o t [] out ending = IsDumped o t out × (ending ≡ Done)
 Writes echoes o t (Line number line ∷ others) out ending =
-    (after : Trace) × (text : List ℕ) × (later : List ℕ) × AnswersLine echoes o t line after text × (out ≡ text ++ later) × Writes echoes o after others later ending
+    (after : Trace) × (text : List ℕ) × (later : List ℕ)
+    × AnswersLine echoes o t line after text × (out ≡ text ++ later) × Writes echoes o after others later ending
 Writes echoes o t (Rest number bytes ∷ others) out ending =
-    (later : List ℕ) × (out ≡ refused_text echoes bytes (line_fault_number line_fault.NotAStep) ++ later) × Writes echoes o t others later ending
+    (later : List ℕ)
+    × (out ≡ refused_text echoes bytes (line_fault_number line_fault.NotAStep) ++ later)
+    × Writes echoes o t others later ending
 Writes echoes o t (Failed number bytes ∷ others) out ending = IsFault (located ReadFailed (Some (Later number))) out ending
 Writes echoes o t (Endless number bytes ∷ others) out ending = IsFault (located TooLong (Some (Later number))) out ending
 Writes echoes o t (TooMany ∷ others) out ending = IsFault (located TooLong (Some (Later (MAX_LINES + 1)))) out ending

@@ -21,7 +21,8 @@ pub record LeadsTo (o : OpeningValue) (t : Trace) (w : WorldValue) : Type 0 wher
   pub holds : Holds o t w
 
 -- what a line is answered after this history was written, and the world is the one that the history then leads to
-pub record IsAnswered (echoes : Bool) (o : OpeningValue) (t : Trace) (line : List ℕ) (before now : Option (List ℕ)) (w : WorldValue) : Type 0 where
+pub record IsAnswered (echoes : Bool) (o : OpeningValue) (t : Trace) (line : List ℕ) (before now : Option (List ℕ))
+    (w : WorldValue) : Type 0 where
   pub after : Trace
   pub text : List ℕ
   pub answers_line : AnswersLine echoes o t line after text
@@ -29,7 +30,8 @@ pub record IsAnswered (echoes : Bool) (o : OpeningValue) (t : Trace) (line : Lis
   pub written : Appends before now text
 
 -- what the lines of a script are answered after this history was written, and so the run ends
-pub record IsWritten (echoes : Bool) (o : OpeningValue) (t : Trace) (lines : LinesValue) (before now : Option (List ℕ)) (ending : Ending) : Type 0 where
+pub record IsWritten (echoes : Bool) (o : OpeningValue) (t : Trace) (lines : LinesValue) (before now : Option (List ℕ))
+    (ending : Ending) : Type 0 where
   pub pieces : List PieceValue
   pub can_come : CanCome lines pieces
   pub out : List ℕ
