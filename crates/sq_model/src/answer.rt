@@ -64,7 +64,7 @@ pub enum Answer {
     Refused(Refusal),
 }
 
-/// Why a step was refused.
+/// Why a step was refused. What each means stands in the table of `sq_explain`, by its number.
 #[derive(Clone, Copy, Debug, PartialEq, Eq, Error)]
 #[error("{}", meaning(self.number()))]
 pub enum Refusal {
