@@ -87,9 +87,11 @@ impl Waiting {
         ensures below { IfSome result (λ found. found.0 < no_number) }
         ensures rises { IsStrictlyIncreasing (numbers_of self.now.arrivals) }
     {
-        let (first, txn) = self.txns.range(from..).next()?;
-        if *first < self.due_below {
-            return Some((*first, txn));
+        if from < self.due_below {
+            let (first, txn) = self.txns.range(from..).next()?;
+            if *first < self.due_below {
+                return Some((*first, txn));
+            }
         }
         let number = self.due.range(from..).next()?;
         match self.txns.get(number) {
