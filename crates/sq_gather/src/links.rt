@@ -6,6 +6,7 @@ use crate::link_ends::LinkEnds;
 use sq_chunk::{Chunk, Note};
 use sq_link::SharedLink;
 use sq_plan::PartId;
+use sq_ranges::Link;
 use std::marker::Model;
 use std::sync::Wait;
 
@@ -57,8 +58,7 @@ pub fn close_link<R: Wait>(rt: &R, link: SharedLink, ends: LinkEnds) -> ClosedLi
     requires { HasBothEnds link ends }
     ensures { IsClosed link ends result }
 {
-    let src = link.src();
-    let dst = link.dst();
+    let Link { src, dst } = link.ends();
     let LinkEnds {
         sender,
         notes,

@@ -87,6 +87,10 @@ receives pass v may chunk items views rule at =
       refl,
     )
 
+-- nothing was sent or received, and this pass is the one that receives
+receiver_is : {items : List ChunkValue} {old new : List EndView} (rule : IsInOrder items old) (receiver : ℕ) → EachPass (MaySend rule.sender rule.sent) new → EachPass (MayReceive receiver rule.received) new → IsInOrder items new
+receiver_is rule receiver sends receives = record { sender = rule.sender; receiver = receiver; sent = rule.sent; received = rule.received; order = rule.order; sends = sends; receives = receives }
+
 -- the pass with both ends keeps the sending one and gives the other away
 pub parts : (pass : ℕ) (v : EndView) → v.sends ≡ true → v.receives ≡ true → Forks IsInOrder pass v (ends true false v.sent []) (ends false true [] v.received)
 parts pass v may_send may_receive items views rule at =
@@ -97,15 +101,9 @@ parts pass v may_send may_receive items views rule at =
     let theirs = rule.receives pass v at may_receive in
     let none : EachPass (λ j u. u.receives ≡ true → ⊥) rest =
     each-set (λ j u. u.receives ≡ true → ⊥) views pass sender (λ p. true≢false (sym p)) (λ j u other there p. other ((rule.receives j u there p).0 ∙ sym theirs.0)) in
-    record {
-      sender = rule.sender;
-      receiver = length rest;
-      sent = rule.sent;
-      received = rule.received;
-      order = rule.order;
-      sends = each-snoc (MaySend rule.sender rule.sent) rest receiver (each-set (MaySend rule.sender rule.sent) views pass sender (λ _. mine) (λ j u _ there. rule.sends j u there)) (λ p. absurd (true≢false (sym p)));
-      receives = each-snoc (MayReceive (length rest) rule.received) rest receiver (λ j u there p. absurd (none j u there p)) (λ _. (refl, theirs.1));
-    }
+    receiver_is rule (length rest)
+    (each-snoc (MaySend rule.sender rule.sent) rest receiver (each-set (MaySend rule.sender rule.sent) views pass sender (λ _. mine) (λ j u _ there. rule.sends j u there)) (λ p. absurd (true≢false (sym p))))
+    (each-snoc (MayReceive (length rest) rule.received) rest receiver (λ j u there p. absurd (none j u there p)) (λ _. (refl, theirs.1)))
 
 -- the sending pass takes the receiving one in, which is given up
 pub joins : (pass : ℕ) (v : EndView) (other : ℕ) (u : EndView) → v.sends ≡ true → u.receives ≡ true
@@ -120,16 +118,9 @@ joins pass v other u may_send may_receive items views rule at apart at_other =
     let theirs = rule.receives other u was may_receive in
     let now : EachPass (λ j y. j ≢ other → MayReceive pass rule.received j y) rest =
     each-set (λ j y. j ≢ other → MayReceive pass rule.received j y) views pass both (λ _ _. (refl, theirs.1)) (λ j y _ there elsewhere p. absurd (elsewhere ((rule.receives j y there p).0 ∙ sym theirs.0))) in
-    record {
-      sender = rule.sender;
-      receiver = pass;
-      sent = rule.sent;
-      received = rule.received;
-      order = rule.order;
-      sends = each-set (MaySend rule.sender rule.sent) rest other spent (λ p. absurd (true≢false (sym p)))
-          (λ j y _ there. each-set (MaySend rule.sender rule.sent) views pass both (λ _. mine) (λ i z _ old. rule.sends i z old) j y there);
-      receives = each-set (MayReceive pass rule.received) rest other spent (λ p. absurd (true≢false (sym p))) (λ j y elsewhere there. now j y there elsewhere);
-    }
+    receiver_is rule pass
+    (each-set (MaySend rule.sender rule.sent) rest other spent (λ p. absurd (true≢false (sym p))) (λ j y _ there. each-set (MaySend rule.sender rule.sent) views pass both (λ _. mine) (λ i z _ old. rule.sends i z old) j y there))
+    (each-set (MayReceive pass rule.received) rest other spent (λ p. absurd (true≢false (sym p))) (λ j y elsewhere there. now j y there elsewhere))
 
 -- the sender knows that the queue holds the last ones of what it sent
 pub learns_end : (pass : ℕ) (v : EndView) → v.sends ≡ true → Learns IsInOrder pass v (IsEndOf v.sent)

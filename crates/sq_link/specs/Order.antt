@@ -9,7 +9,8 @@ use Rattle.sq_link.specs.declared.order.EndView.{EndView}
 abbrev pub ends : Bool → Bool → List ChunkValue → List ChunkValue → EndView
 ends sends receives sent received = record { sends = sends; receives = receives; sent = sent; received = received }
 
--- The rule of the queue, whatever each thread has done: one pass at most sends, and it knows all that was sent; one at most receives, and it knows all that was received
+-- the rule of the queue, whatever each thread has done: one pass at most sends, and it knows all that was sent;
+-- one at most receives, and it knows all that was received
 pub record IsInOrder (items : List ChunkValue) (views : List EndView) : Type 0 where
   pub sender : ℕ
   pub receiver : ℕ

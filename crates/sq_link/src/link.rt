@@ -7,6 +7,7 @@ use crate::order::{Ends, LinkQueue, Receives, Sends};
 use crate::pass::{LinkPass, RecvPass, SendPass};
 use sq_chunk::Chunk;
 use sq_plan::PartId;
+use sq_ranges::Link;
 use std::alloc::{AllocError, Global};
 use std::marker::Model;
 use std::sync::Wait;
@@ -14,8 +15,7 @@ use std::sync::Wait;
 /// The way of chunks from one partition to another, which the two threads share by `&`. To a contract it is a `LinkValue`.
 #[derive(Drop)]
 pub struct SharedLink {
-    src: PartId,
-    dst: PartId,
+    pub(crate) ends: Link,
     queue: LinkQueue,
     room: Vec<Chunk>,
 }
@@ -28,7 +28,7 @@ impl Model for SharedLink {
 
     ghost use Rattle.crossbeam_queue.specs.Passes.{ruled_capacity};
 
-    ghost view = { λ l. record { queue = l.queue.table.shared.table_id; src = l.src; dst = l.dst; capacity = ruled_capacity l.queue } };
+    ghost view = { λ l. record { queue = l.queue.table.shared.table_id; src = l.ends.src; dst = l.ends.dst; capacity = ruled_capacity l.queue } };
 
     ghost invariant = { λ l. (vec_len l.room ≡ 0) × (ruled_capacity l.queue ≤ vec_capacity l.room) };
 }
@@ -51,26 +51,18 @@ impl SharedLink {
         let (queue, mut sender) = LinkQueue::ruled(alloc, capacity)?;
         let receiver = queue.another::<Ends>(&mut sender);
         let link = SharedLink {
-            src,
-            dst,
+            ends: Link { src, dst },
             queue,
             room,
         };
         Ok((link, LinkPass::new(sender), LinkPass::new(receiver)))
     }
 
-    /// The partition that it leads from.
-    pub fn src(&self) -> PartId
-        ensures { result ≡ self.now.src }
+    /// The partitions between which it leads.
+    pub fn ends(&self) -> Link
+        ensures { result ≡ record { src = self.now.src; dst = self.now.dst } }
     {
-        self.src
-    }
-
-    /// The partition that it leads to.
-    pub fn dst(&self) -> PartId
-        ensures { result ≡ self.now.dst }
-    {
-        self.dst
+        self.ends
     }
 
     /// How many chunks it holds.
@@ -108,8 +100,7 @@ impl SharedLink {
         ensures few { length result.items ≤ self.capacity }
     {
         let SharedLink {
-            src: _,
-            dst: _,
+            ends: _,
             queue,
             room: mut rest,
         } = self;

@@ -45,11 +45,11 @@ impl Side for Sends {
     ghost far = { λ link. link.dst };
 
     fn near(link: &SharedLink) -> PartId {
-        link.src()
+        link.ends.src
     }
 
     fn far(link: &SharedLink) -> PartId {
-        link.dst()
+        link.ends.dst
     }
 }
 
@@ -66,11 +66,11 @@ impl Side for Receives {
     ghost far = { λ link. link.src };
 
     fn near(link: &SharedLink) -> PartId {
-        link.dst()
+        link.ends.dst
     }
 
     fn far(link: &SharedLink) -> PartId {
-        link.src()
+        link.ends.src
     }
 }
 

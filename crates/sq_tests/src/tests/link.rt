@@ -5,6 +5,7 @@ use super::fixtures::note;
 use sq_chunk::{Chunk, Note};
 use sq_link::{RecvPass, SendPass, SharedLink};
 use sq_plan::PartId;
+use sq_ranges::Link;
 use sq_schema::{Family, Root, Row, RowKey, Rows};
 use std::alloc::Global;
 use std::process::Abort;
@@ -136,7 +137,8 @@ fn pass_on<R: Abort + Wait>(rt: &R, alloc: Global, capacity: u32, room: u32) -> 
         PartId::new(5),
         count,
     )?;
-    assert!(rt; link.src().number() == 3 && link.dst().number() == 5 && link.capacity() == count);
+    let Link { src, dst } = link.ends();
+    assert!(rt; src.number() == 3 && dst.number() == 5 && link.capacity() == count);
     let (mut sender, held) = send_all(rt, &link, sender, to_send, count + 1);
     let first = link.recv(rt, &mut receiver).expect(rt, "a chunk comes");
     let held = held.expect(rt, "a chunk comes back");
