@@ -5,7 +5,9 @@ use Rattle.sq_ranges.specs.Opening.{IsOpening}
 use Rattle.sq_node_model.specs.BeganWith.{BeganWith}
 use Rattle.sq_node_model.specs.NodeHolds.{NodeHolds}
 use Rattle.sq_node_model.specs.Cores.{IsCoreOf, HasNoneToLoad}
-use Rattle.sq_node.specs.NodeState.{NodeState, node_value}
+use Rattle.sq_node.specs.declared.stepped.Stepped.{Stepped}
+use Rattle.sq_node.specs.FabricValue.{FabricValue}
+use Rattle.sq_node.specs.NodeState.{NodeState, IsNodeOf, node_value}
 
 -- the partition is of the opening and of the stage, and what a node keeps holds of the node
 pub record HoldsUnder (o : OpeningValue) (began : BeganWith) (node : NodeState) : Type 0 where
@@ -15,6 +17,10 @@ pub record HoldsUnder (o : OpeningValue) (began : BeganWith) (node : NodeState) 
 -- what a node keeps holds still, under each opening, and each beginning of a stage, under which it did
 abbrev pub KeepsAll : NodeState → NodeState → Type 0
 KeepsAll old new = (o : OpeningValue) (began : BeganWith) → IsOpening o → HoldsUnder o began old → HoldsUnder o began new
+
+-- a step did this; the node is one of the fabric still, and what a node keeps holds of it still
+abbrev pub DoesAndKeeps : FabricValue → (NodeState → Stepped → NodeState → Type 0) → NodeState → Stepped → NodeState → Type 0
+DoesAndKeeps fabric did old answer new = record { step : did old answer new; of : IsNodeOf fabric new; holds : KeepsAll old new }
 
 -- under each opening, and each beginning of a stage, under which all holds of the node: each chunk that came and isn't loaded
 -- doesn't belong here, or covers a root key that was loaded

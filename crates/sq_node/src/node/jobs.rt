@@ -2,7 +2,7 @@
 ghost use Rattle.std.specs.Prelude.{◌≡◌, ◌⊎◌};
 ghost use Rattle.sq_store.specs.Prelude.{log_length};
 ghost use Rattle.sq_node.specs.NodeState.{IsNodeOf, position_before};
-ghost use Rattle.sq_node.specs.Holds.{KeepsAll};
+ghost use Rattle.sq_node.specs.Holds.{DoesAndKeeps};
 ghost use Rattle.sq_node.specs.Steps.{JobStep, ResumeStep};
 
 use super::Node;
@@ -19,9 +19,7 @@ impl Node {
     /// partition, and posted again where it is refused. Where it waits, the leaf that it waits for is claimed.
     pub fn step_job<R: Wait>(&mut self, rt: &R, fabric: &Fabric) -> Stepped
         requires { IsNodeOf fabric.now self.old }
-        ensures step { JobStep self.old result self.new }
-        ensures of { IsNodeOf fabric.now self.new }
-        ensures holds { KeepsAll self.old self.new }
+        ensures { DoesAndKeeps fabric.now JobStep self.old result self.new }
     {
         if self.desk.reserve().is_err() || self.puller.reserve().is_err() {
             return Stepped::Memory;
@@ -56,9 +54,7 @@ impl Node {
     /// Takes up a transaction that waits, if one can go.
     pub fn step_resume<R: Wait>(&mut self, rt: &R, fabric: &Fabric) -> Stepped
         requires { IsNodeOf fabric.now self.old }
-        ensures step { ResumeStep self.old result self.new }
-        ensures of { IsNodeOf fabric.now self.new }
-        ensures holds { KeepsAll self.old self.new }
+        ensures { DoesAndKeeps fabric.now ResumeStep self.old result self.new }
     {
         if self.desk.reserve().is_err() {
             return Stepped::Memory;

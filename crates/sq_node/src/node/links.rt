@@ -4,7 +4,7 @@ ghost use Rattle.sq_chunk.specs.ChunkValue.{IsChunk};
 ghost use Rattle.sq_exec.specs.Prelude.{out_at, inbox_at, may_cut};
 ghost use Rattle.sq_node.specs.FabricValue.{FabricValue};
 ghost use Rattle.sq_node.specs.NodeState.{IsNodeOf};
-ghost use Rattle.sq_node.specs.Holds.{KeepsAll, HasNoneLoadable};
+ghost use Rattle.sq_node.specs.Holds.{KeepsAll, DoesAndKeeps, HasNoneLoadable};
 ghost use Rattle.sq_node.specs.Steps.{SendsChunk, Receives, HasNoneToCut, HasNoneToSend, HasNoneToReceive, CutStep, SendStep, RecvStep, LoadStep, may_load_now};
 
 use super::Node;
@@ -47,9 +47,7 @@ impl Node {
     /// Sends the chunk for the first partition whose link has room for it.
     pub fn step_send<R: Wait>(&mut self, rt: &R, fabric: &Fabric) -> Stepped
         requires { IsNodeOf fabric.now self.old }
-        ensures step { SendStep fabric.now self.old result self.new }
-        ensures of { IsNodeOf fabric.now self.new }
-        ensures holds { KeepsAll self.old self.new }
+        ensures { DoesAndKeeps fabric.now (SendStep fabric.now) self.old result self.new }
     {
         for number in 0..fabric.parts() {
             if self.send_to(rt, fabric, PartId::new(number)) {
@@ -83,9 +81,7 @@ impl Node {
     /// Receives a chunk from the first partition whose link has one and whose inbox is empty.
     pub fn step_recv<R: Wait>(&mut self, rt: &R, fabric: &Fabric) -> Stepped
         requires { IsNodeOf fabric.now self.old }
-        ensures step { RecvStep self.old result self.new }
-        ensures of { IsNodeOf fabric.now self.new }
-        ensures holds { KeepsAll self.old self.new }
+        ensures { DoesAndKeeps fabric.now RecvStep self.old result self.new }
     {
         for number in 0..fabric.parts() {
             if self.recv_from(rt, fabric, PartId::new(number)) {
@@ -113,9 +109,7 @@ impl Node {
     /// Loads the chunk of the first partition from which one came that can be loaded.
     pub fn step_load(&mut self, fabric: &Fabric) -> Stepped
         requires { IsNodeOf fabric.now self.old }
-        ensures step { LoadStep self.old result self.new }
-        ensures of { IsNodeOf fabric.now self.new }
-        ensures holds { KeepsAll self.old self.new }
+        ensures makes { DoesAndKeeps fabric.now LoadStep self.old result self.new }
         ensures nothing { result ≡ Stepped.Nothing → HasNoneLoadable self.old }
     {
         let Some(src) = self.next_load(fabric) else {

@@ -6,7 +6,7 @@ ghost use Rattle.sq_status.specs.Seat.{IsSameSeat};
 ghost use Rattle.sq_exec.specs.Prelude.{begun_core};
 ghost use Rattle.sq_pull.specs.Seats.{AreSeatsOf, StepsAt};
 ghost use Rattle.sq_node.specs.NodeState.{IsNodeOf};
-ghost use Rattle.sq_node.specs.Holds.{KeepsAll};
+ghost use Rattle.sq_node.specs.Holds.{DoesAndKeeps};
 ghost use Rattle.sq_node.specs.Looks.{OnlyLooked, LooksOnly, LooksAndCompletes, CompletesOne, CompletesNone};
 ghost use Rattle.sq_node.specs.Steps.{IsOutward, RequestStep, CompleteStep};
 
@@ -27,9 +27,7 @@ impl Node {
     /// stage, a bad node, or a node that isn't claimed for its pull is dropped.
     pub fn step_request<R: Wait>(&mut self, rt: &R, fabric: &Fabric) -> Stepped
         requires { IsNodeOf fabric.now self.old }
-        ensures step { RequestStep self.old result self.new }
-        ensures of { IsNodeOf fabric.now self.new }
-        ensures holds { KeepsAll self.old self.new }
+        ensures { DoesAndKeeps fabric.now RequestStep self.old result self.new }
     {
         if self.core.reserve_begin().is_err() {
             return Stepped::Memory;
@@ -76,9 +74,7 @@ impl Node {
     /// Completes a node whose last chunk was loaded, and sees whether its segment is complete with it.
     pub fn step_complete(&mut self, fabric: &Fabric) -> Stepped
         requires { IsNodeOf fabric.now self.old }
-        ensures step { CompleteStep self.old result self.new }
-        ensures of { IsNodeOf fabric.now self.new }
-        ensures holds { KeepsAll self.old self.new }
+        ensures { DoesAndKeeps fabric.now CompleteStep self.old result self.new }
     {
         let trees = fabric.trees();
         let Some(seg) = complete_first(trees, &mut self.seats, &mut self.to_complete) else {

@@ -78,26 +78,17 @@ impl Node {
         ensures receipts { result.receipts.items ≡ self.receipts }
         ensures kept { (arrivals : List Arrival) × IsCore self.core arrivals }
     {
-        let Node {
-            core,
-            seats,
-            sends,
-            recvs,
-            desk,
-            puller,
-            ..
-        } = self;
-        let part = core.part();
-        let (receipts, posts) = desk.into_parts();
+        let part = self.core.part();
+        let (receipts, posts) = self.desk.into_parts();
         NodeParts {
             part,
-            core: core.close(),
-            seats,
-            sends,
-            recvs,
+            core: self.core.close(),
+            seats: self.seats,
+            sends: self.sends,
+            recvs: self.recvs,
             receipts,
             posts,
-            puller,
+            puller: self.puller,
         }
     }
 

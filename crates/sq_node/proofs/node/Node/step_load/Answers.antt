@@ -9,8 +9,8 @@ use Rattle.sq_node.specs.NodeState.{NodeState}
 use Rattle.sq_node.specs.Settled.{IsNode}
 use Rattle.sq_node.specs.Steps.{LoadStep}
 use Rattle.sq_node.specs.declared.stepped.Stepped.TheVariants.{Did}
-use Rattle.sq_node.proofs.Stays.{load_stays}
-use Rattle.sq_node.proofs.Keeps.{load_keeps, none_to_load}
+use Rattle.sq_node.proofs.Told.{load_told}
+use Rattle.sq_node.proofs.Keeps.{none_to_load}
 use Rattle.sq_node.proofs.Settles.{after_load}
 use Rattle.sq_node.proofs.node.Node.step_load.Goals as goal
 use Rattle.sq_node.proofs.node.Node.step_load.Goals.{In-Ok}
@@ -61,23 +61,11 @@ invariant_of-self-else-note c =
     settles (goal.at.invariant_of-self-else-note c).In-Ok c.reserve.new.self.items
     (c.reserve.ensures.items ∙ ap (λ (b : Bool). if b then pending ++ (note.seg, note.node) ∷ [] else pending) (sym c.if-note.false))
 
-pub returns-then-note-clause-step : goal.returns-then-note-clause-step
-returns-then-note-clause-step c = loads (goal.at.returns-then-note-clause-step c).In-Ok
+pub returns-then-note-clause-makes : goal.returns-then-note-clause-makes
+returns-then-note-clause-makes c = load_told c.args.fabric.now c.args.self.now Did _ c.requires (loads (goal.at.returns-then-note-clause-makes c).In-Ok)
 
-pub returns-then-note-clause-holds : goal.returns-then-note-clause-holds
-returns-then-note-clause-holds c = load_keeps c.args.self.now Did _ (returns-then-note-clause-step c)
-
-pub returns-else-note-clause-step : goal.returns-else-note-clause-step
-returns-else-note-clause-step c = loads (goal.at.returns-else-note-clause-step c).In-Ok
-
-pub returns-else-note-clause-holds : goal.returns-else-note-clause-holds
-returns-else-note-clause-holds c = load_keeps c.args.self.now Did _ (returns-else-note-clause-step c)
+pub returns-else-note-clause-makes : goal.returns-else-note-clause-makes
+returns-else-note-clause-makes c = load_told c.args.fabric.now c.args.self.now Did _ c.requires (loads (goal.at.returns-else-note-clause-makes c).In-Ok)
 
 pub returns-in_default-clause-nothing : goal.returns-in_default-clause-nothing
 returns-in_default-clause-nothing c = λ nothing. none_to_load c.args.self.now c.in_default.ensures.none c.in_default.ensures.chunks
-
-pub returns-then-note-clause-of : goal.returns-then-note-clause-of
-returns-then-note-clause-of c = load_stays c.args.fabric.now c.args.self.now Did _ (returns-then-note-clause-step c) c.requires
-
-pub returns-else-note-clause-of : goal.returns-else-note-clause-of
-returns-else-note-clause-of c = load_stays c.args.fabric.now c.args.self.now Did _ (returns-else-note-clause-step c) c.requires

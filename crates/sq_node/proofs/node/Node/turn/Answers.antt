@@ -25,7 +25,7 @@ returns-clause-steps g c =
       cutting = (c.step_cut.result, c.step_cut.ensures.step);
       sending = (c.step_send.result, c.step_send.ensures.step);
       receiving = (c.step_recv.result, c.step_recv.ensures.step);
-      loading = (c.step_load.result, c.step_load.ensures.step);
+      loading = (c.step_load.result, c.step_load.ensures.makes.step);
       completing = (c.step_complete.result, c.step_complete.ensures.step);
       resuming = (c.step_resume.result, c.step_resume.ensures.step);
     }
@@ -38,6 +38,6 @@ returns-clause-holds g c = λ o b is h.
     let cut = c.step_cut.ensures.holds o b is asked in
     let sent = c.step_send.ensures.holds o b is cut in
     let received = c.step_recv.ensures.holds o b is sent in
-    let loaded = c.step_load.ensures.holds o b is received in
+    let loaded = c.step_load.ensures.makes.holds o b is received in
     let completed = c.step_complete.ensures.holds o b is loaded in
     c.step_resume.ensures.holds o b is completed

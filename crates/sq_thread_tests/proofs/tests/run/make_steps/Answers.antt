@@ -8,7 +8,7 @@ returns-clause-part g c =
     let fabric = c.args.fabric.now in
     step_part fabric Resume c.step_complete.new.self c.step_resume.result c.step_resume.new.self c.step_resume.ensures.step
     ∙ step_part fabric Complete c.step_load.new.self c.step_complete.result c.step_complete.new.self c.step_complete.ensures.step
-    ∙ step_part fabric Load c.step_recv.new.self c.step_load.result c.step_load.new.self c.step_load.ensures.step
+    ∙ step_part fabric Load c.step_recv.new.self c.step_load.result c.step_load.new.self c.step_load.ensures.makes.step
     ∙ step_part fabric Recv c.step_send.new.self c.step_recv.result c.step_recv.new.self c.step_recv.ensures.step
     ∙ step_part fabric Send c.step_cut.new.self c.step_send.result c.step_send.new.self c.step_send.ensures.step
     ∙ step_part fabric Cut c.step_request.new.self c.step_cut.result c.step_cut.new.self c.step_cut.ensures.step
