@@ -7,12 +7,13 @@
 #
 # Prints for each script the seconds, the lines a second, the most memory that the program took, and the multiple of the
 # time that `LC_ALL=C wc -lw` takes on the same input, which is a measure that stands on every machine. Then it prints
-# how the time of a transaction and of a chunk grows with the database, and that of an operation with the rows of its root
-# key: the ratio of the time at many to that at 1,000; and what a fold of nearly 100,000 families takes. These are
-# differences of an input with the steps and one without them. Each of these times is processor time. At last come live
-# runs with 4,096 jobs, whose partitions each give all their root keys to the next one: how many jobs are answered in a
-# second that passes, and the ratio to a run of one partition. Each time is the best of several (RUNS=COUNT, 5 if left
-# out).
+# how the time of a transaction and of a chunk grows with the database, and that of a transaction with the rows of its root
+# key: the ratio of the time at many to that at 1,000, and the ratio of the instructions, where valgrind is there to count
+# them (a log has no room for as many transactions of one operation as could be timed beside so many rows, so these are
+# counted alone); and what a fold of nearly 100,000 families takes. These are differences of an input with the steps and one
+# without them. Each of these times is processor time. At last come live runs with 4,096 jobs, whose partitions each give
+# all their root keys to the next one: how many jobs are answered in a second that passes, and the ratio to a run of one
+# partition. Each time is the best of several (RUNS=COUNT, 5 if left out).
 #
 # The program is crates/squall/out/squall, which `rt run` leaves in crates/squall; SQUALL=PATH takes another.
 set -eu
@@ -241,8 +242,8 @@ BEGIN {
 }'
 
 # A root key with its root row and as many rows of another table as are named, which come in no order; where `writes` is
-# set a write of its root row, before which the rows that its log starts from are copied; and then transactions of 60
-# operations each on any of its rows.
+# set a write of its root row, before which the rows that its log starts from are copied; and then transactions of so many
+# operations each on any of its rows as are named.
 rows_of_one='
 function shuffled(at) { return (at * 7919 + 13) % many }
 BEGIN {
@@ -255,9 +256,9 @@ BEGIN {
     if (writes) step("txn 0 0 0 put 0 0 1 -", "commit 0 ok")
     for (id = 1; id <= count; id++) {
         asked = answers = ""
-        for (i = 0; i < 60; i++) {
+        for (i = 0; i < operations; i++) {
             sub_key = random(many)
-            if (i % 2 == 0) {
+            if ((id + i) % 2 == 0) {
                 asked = asked " get 1 " sub_key
                 answers = answers " " number[sub_key] "/-"
             } else {
@@ -389,52 +390,81 @@ END {
 }' "$room/input"
 }
 
-# script_time COUNT NAME PROGRAM PARTS NAME=VALUE..: the time in nanoseconds of one part of a script, which is COUNT times
-# run in sequence.
-script_time() {
+# The instructions that the program takes on the input, by valgrind.
+instructions() {
+    valgrind --tool=callgrind --callgrind-out-file=/dev/null "$squall" run < "$room/input" 2>&1 > "$room/output" |
+        awk '/Collected/ { print $NF }'
+}
+
+# taken COUNT: what the program takes on the input in the unit of this moment, `nanoseconds` of the processor, the least of
+# COUNT runs in sequence, or `instructions`.
+taken() {
+    if [ "$unit" = instructions ]; then instructions; else echo $(($(best "$1" "$squall" run) * 1000)); fi
+}
+
+# script_cost COUNT NAME PROGRAM PARTS NAME=VALUE..: what one part of a script takes, which is COUNT times run in sequence.
+script_cost() {
     local runs_each=$1 name=$2 program=$3 parts=$4
     shift 4
     difference "$runs_each" "$name" "$program" "$parts" count=0 count="$parts" "$@"
 }
 
-# difference COUNT NAME PROGRAM PARTS WITHOUT WITH NAME=VALUE..: the time in nanoseconds that a script takes longer with
-# one setting than with another, divided by PARTS.
+# difference COUNT NAME PROGRAM PARTS WITHOUT WITH NAME=VALUE..: what a script takes more with one setting than with
+# another, divided by PARTS.
 difference() {
     local runs_each=$1 name=$2 program=$3 parts=$4 less=$5 more=$6 without with
     shift 6
     generate "$program" "$@" "$less"
     check "$name"
-    without=$(best "$runs_each" "$squall" run)
+    without=$(taken "$runs_each")
     generate "$program" "$@" "$more"
     check "$name"
-    with=$(best "$runs_each" "$squall" run)
-    echo $(((with - without) * 1000 / parts))
+    with=$(taken "$runs_each")
+    echo $(((with - without) / parts))
 }
 
-# say_growth NAME WHAT FEW MANY COUNT: the times of a part of a script at 1,000 of something and at COUNT.
+# counted COMMAND..: does it in instructions, where valgrind is there to count them.
+counted() {
+    unit=instructions
+    if command -v valgrind > /dev/null; then "$@"; fi
+    unit=nanoseconds
+}
+
+# timed_and_counted COMMAND..: does it in nanoseconds, and then in instructions.
+timed_and_counted() {
+    "$@"
+    counted "$@"
+}
+
+# say_growth NAME WHAT FEW MANY COUNT: what a part of a script takes at 1,000 of something and at COUNT.
 say_growth() {
-    awk -v name="$1" -v what="$2" -v few="$3" -v many="$4" -v count="$5" 'BEGIN {
-    printf "%s: %d nanoseconds at 1,000 %s, %d at %s, which is %.2f times\n", name, few, what, many, count, many / few
+    awk -v name="$1" -v what="$2" -v few="$3" -v many="$4" -v count="$5" -v unit="$unit" 'BEGIN {
+    printf "%s: %d %s at 1,000 %s, %d at %s, which is %.2f times\n", name, few, unit, what, many, count, many / few
 }'
 }
 
-# grows NAME PROGRAM FEW MANY: how the time of a part of a script grows with the database, where the scripts have so many
-# parts.
+# grows NAME PROGRAM FEW MANY ROOTS SAID: how what a part of a script takes grows with the database, where the scripts have
+# so many parts at 1,000 families and at ROOTS.
 grows() {
     local name=$1 program=$2 few many
-    few=$(script_time 40 "$name" "$program" "$3" roots=1000 moved=500 most_number=10)
-    many=$(script_time 1 "$name" "$program" "$4" roots=400000 moved=100000 most_number=10)
-    say_growth "$name" families "$few" "$many" 400,000
+    few=$(script_cost 40 "$name" "$program" "$3" roots=1000 moved=500 most_number=10)
+    many=$(script_cost 1 "$name" "$program" "$4" roots="$5" moved="$4" most_number=10)
+    say_growth "$name" families "$few" "$many" "$6"
 }
 
-# How the time of a transaction of 60 operations grows with the rows of its root key, and what the first write of a root
-# key takes, which copies the rows that the log starts from.
+# grows_with_rows OPERATIONS COUNT: how what a transaction of so many operations takes grows with the rows of its root key,
+# where the scripts have COUNT of them.
 grows_with_rows() {
-    local few many
-    few=$(script_time 5 "rows of one root key" "$rows_of_one" 4000 many=1000 writes=1)
-    many=$(script_time 1 "rows of one root key" "$rows_of_one" 4000 many=900000 writes=1)
-    say_growth "a transaction of 60 operations" "rows of its root key" "$few" "$many" 900,000
-    many=$(difference 1 "the first write" "$rows_of_one" 900000 writes=0 writes=1 many=900000 count=0)
+    local settings="operations=$1 writes=1" few many
+    few=$(script_cost 5 "rows of one root key" "$rows_of_one" "$2" many=1000 $settings)
+    many=$(script_cost 1 "rows of one root key" "$rows_of_one" "$2" many=900000 $settings)
+    say_growth "a transaction of $1 operation$([ "$1" = 1 ] || echo s)" "rows of its root key" "$few" "$many" 900,000
+}
+
+# What the first write of a root key takes, which copies the rows that the log starts from.
+first_write() {
+    local many
+    many=$(difference 1 "the first write" "$rows_of_one" 900000 writes=0 writes=1 many=900000 operations=60 count=0)
     echo "the first write of a root key with 900,000 rows: $many nanoseconds a row"
 }
 
@@ -469,11 +499,14 @@ measure "move in chunks" "$chunks"
 measure "move one by one" "$one_by_one"
 measure "resumed transactions" "$resumes"
 measure "empty lines" "$empty_lines"
-measure "a root key with many rows" "$rows_of_one" many=900000 count=4000 writes=1
+measure "a root key with many rows" "$rows_of_one" many=900000 count=4000 operations=60 writes=1
 measure "many root keys" "$transactions" roots=900000 count=50000
-grows "a transaction" "$transactions" 2000 250000
-grows "a chunk" "$growing_chunks" 500 100000
-grows_with_rows
+unit=nanoseconds
+timed_and_counted grows "a transaction" "$transactions" 2000 90000 900000 900,000
+timed_and_counted grows "a chunk" "$growing_chunks" 500 100000 400000 400,000
+counted grows_with_rows 1 4000
+timed_and_counted grows_with_rows 60 4000
+first_write
 folding
 lively 1
 one=$rate
