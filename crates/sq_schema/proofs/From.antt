@@ -56,7 +56,7 @@ module _ (table : TableValue) (from : ℕ) (rising : is_sorted nat_cmp table ≡
   -- a search for a root key comes out at the first of those from it on
   pub from_point : (at : ℕ) → at ≤ length table
       → (IsPartitionedBy (λ (entry : ℕ × RowList). nat_lt entry.0 from) table
-          → IsPartitionPoint (λ (entry : ℕ × RowList). nat_lt entry.0 from ≡ true) (λ (entry : ℕ × RowList). nat_lt entry.0 from ≡ false) table at)
+      → IsPartitionPoint (λ (entry : ℕ × RowList). nat_lt entry.0 from ≡ true) (λ (entry : ℕ × RowList). nat_lt entry.0 from ≡ false) table at)
       → filter (λ (entry : ℕ × RowList). nat_le from entry.0) table ≡ drop at table
   from_point at within search =
       let point = search parted in
