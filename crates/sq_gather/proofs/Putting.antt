@@ -8,7 +8,7 @@ use Rattle.std.proofs.lemmas.Option.{same_Some, slice_get_read, get_or_from_slic
 use Rattle.sq_node_model.proofs.Members.{set_kept, set_new, slice_get-front, slice_get-pushed}
 use Rattle.sq_node.specs.Ends.{EndValue, end_at}
 use Rattle.sq_gather.specs.LinkEnds.{LinkEndsValue}
-use Rattle.sq_gather.specs.Ends.{WasPut, HavePut, AreApart, AreAmong}
+use Rattle.sq_gather.specs.Ends.{PutBeside, WasPut, HavePut, AreApart, AreAmong}
 
 none_or_some : {X : Type 0} (found : Option X) (x : X) → found ≡ None → found ≡ Some x → ⊥
 none_or_some found x none some = cc
@@ -24,7 +24,7 @@ front_fewer {X} left rest all x is front = record { each = λ k y there. front.e
 front_last : {X : Type 0} (left rest all : List X) (x : X) → left ≡ rest ++ x ∷ [] → AreFront left all → slice_get all (length rest) ≡ Some x
 front_last {X} left rest all x is front = front.each (length rest) x (ap (λ (list : List X). slice_get list (length rest)) is ∙ slice_get-pushed rest x)
 
-module _ {Y : Type 0} (put : LinkEndsValue → EndValue → Y → LinkEndsValue) (ends : List (Option EndValue)) (beside : List Y) (none : Y) where
+module _ {Y : Type 0} (put : PutBeside Y) (ends : List (Option EndValue)) (beside : List Y) (none : Y) where
   -- nothing is put where the node has no end
   pub put_none : (old now : List LinkEndsValue) (at from : ℕ) → from ≡ at + 1 → end_at ends at ≡ None → HavePut put ends beside none from old now → HavePut put ends beside none at old now
   put_none old now at from next no_end so_far = record {
@@ -101,7 +101,7 @@ module _ {Y : Type 0} (put : LinkEndsValue → EndValue → Y → LinkEndsValue)
         here_or_there i was was_there kept kept_there same (inr other) = (kept, set_kept now end.link i after kept kept_there other, inr same)
 
 -- the first ends are left, with what stands beside them, and the others were put
-pub record AreLeft {Y : Type 0} (put : LinkEndsValue → EndValue → Y → LinkEndsValue) (none : Y) (all : List (Option EndValue)) (beside : List Y) (old : List LinkEndsValue) (left : List (Option EndValue)) (left_beside : List Y)
+pub record AreLeft {Y : Type 0} (put : PutBeside Y) (none : Y) (all : List (Option EndValue)) (beside : List Y) (old : List LinkEndsValue) (left : List (Option EndValue)) (left_beside : List Y)
     (now : List LinkEndsValue) : Type 0 where
   pub others : HavePut put all beside none (length left) old now
   pub pairs : length left_beside ≡ length left
@@ -109,7 +109,7 @@ pub record AreLeft {Y : Type 0} (put : LinkEndsValue → EndValue → Y → Link
   pub front_beside : AreFront left_beside beside
 
 -- the last of those that are left is taken, with what stands beside it
-pub record IsTaken {Y : Type 0} (put : LinkEndsValue → EndValue → Y → LinkEndsValue) (none : Y) (all : List (Option EndValue)) (beside : List Y) (old : List LinkEndsValue) (rest : List (Option EndValue)) (rest_beside : List Y)
+pub record IsTaken {Y : Type 0} (put : PutBeside Y) (none : Y) (all : List (Option EndValue)) (beside : List Y) (old : List LinkEndsValue) (rest : List (Option EndValue)) (rest_beside : List Y)
     (now : List LinkEndsValue) (one : Option EndValue) (its : Y) : Type 0 where
   pub left : List (Option EndValue)
   pub left_beside : List Y
@@ -117,7 +117,13 @@ pub record IsTaken {Y : Type 0} (put : LinkEndsValue → EndValue → Y → Link
   pub is : left ≡ rest ++ one ∷ []
   pub its_is : left_beside ≡ rest_beside ++ its ∷ []
 
-module _ {Y : Type 0} {put : LinkEndsValue → EndValue → Y → LinkEndsValue} {none : Y} {all : List (Option EndValue)} {beside : List Y} {old : List LinkEndsValue} {rest : List (Option EndValue)} {rest_beside : List Y} {now : List LinkEndsValue}
+pub took : {Y : Type 0} {put : PutBeside Y} {none : Y} {all : List (Option EndValue)} {beside : List Y} {old : List LinkEndsValue} {left rest : List (Option EndValue)} {left_beside rest_beside : List Y} {now : List LinkEndsValue}
+    {end one : Option EndValue} {its : Y}
+    → AreLeft put none all beside old left left_beside now → left ≡ rest ++ end ∷ [] → one ≡ end → left_beside ≡ rest_beside ++ its ∷ [] → IsTaken put none all beside old rest rest_beside now one its
+took {left = left} {rest = rest} {left_beside = left_beside} so_far is one_is its_is =
+    record { left = left; left_beside = left_beside; so_far = so_far; is = is ∙ ap (λ (end : Option EndValue). rest ++ end ∷ []) (sym one_is); its_is = its_is }
+
+module _ {Y : Type 0} {put : PutBeside Y} {none : Y} {all : List (Option EndValue)} {beside : List Y} {old : List LinkEndsValue} {rest : List (Option EndValue)} {rest_beside : List Y} {now : List LinkEndsValue}
     {one : Option EndValue} {its : Y} (taken : IsTaken put none all beside old rest rest_beside now one its) where
   next : length taken.left ≡ length rest + 1
   next = ap length taken.is ∙ length-append rest (one ∷ [])
@@ -154,7 +160,7 @@ module _ {Y : Type 0} {put : LinkEndsValue → EndValue → Y → LinkEndsValue}
         (left_now _ (put_one put all beside none apart old now (length rest) (length taken.left) next end (there ∙ end_is) taken.so_far.others cur (slice_get_read now (length now) end.link cur refl link_below read)))
 
 -- the ends were put with what is read of what stands beside them
-pub put_as : {W Y : Type 0} {put : LinkEndsValue → EndValue → Y → LinkEndsValue} (read : W → Y) {ends : List (Option EndValue)} {beside : List W} {none : W} {from : ℕ} {old new : List LinkEndsValue}
+pub put_as : {W Y : Type 0} {put : PutBeside Y} (read : W → Y) {ends : List (Option EndValue)} {beside : List W} {none : W} {from : ℕ} {old new : List LinkEndsValue}
     → HavePut (λ was end w. put was end (read w)) ends beside none from old new → HavePut put ends (map read beside) (read none) from old new
 put_as {put = put} read {ends = ends} {beside = beside} {none = none} {from = from} put_all =
     record {

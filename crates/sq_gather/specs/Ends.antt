@@ -5,8 +5,13 @@ use Rattle.sq_exec.specs.OutLink.{OutLinkValue, RoomyOutLink, new_out_link}
 use Rattle.sq_node.specs.Ends.{EndValue, end_at}
 use Rattle.sq_gather.specs.LinkEnds.{LinkEndsValue}
 
+-- how an end of a node is put where its link stands, with what stands beside it
+abbrev pub PutBeside : Type 0 → Type 0
+PutBeside Y = LinkEndsValue → EndValue → Y → LinkEndsValue
+
 -- the end of this place of a node was put here, with what stands beside it
-pub record WasPut {Y : Type 0} (put : LinkEndsValue → EndValue → Y → LinkEndsValue) (ends : List (Option EndValue)) (beside : List Y) (none : Y) (from i : ℕ) (was now : LinkEndsValue) : Type 0 where
+pub record WasPut {Y : Type 0} (put : PutBeside Y) (ends : List (Option EndValue)) (beside : List Y) (none : Y) (from i : ℕ)
+    (was now : LinkEndsValue) : Type 0 where
   pub other : ℕ
   pub past : from ≤ other
   pub end : EndValue
@@ -14,11 +19,15 @@ pub record WasPut {Y : Type 0} (put : LinkEndsValue → EndValue → Y → LinkE
   pub here : end.link ≡ i
   pub is : now ≡ put was end (slice_index_or beside other none)
 
--- each end that a node had, from this place on, was put where its link stands, with what stands beside it, and nothing else was put
-pub record HavePut {Y : Type 0} (put : LinkEndsValue → EndValue → Y → LinkEndsValue) (ends : List (Option EndValue)) (beside : List Y) (none : Y) (from : ℕ) (old new : List LinkEndsValue) : Type 0 where
+-- each end that a node had, from this place on, was put where its link stands, with what stands beside it, and nothing else was
+-- put
+pub record HavePut {Y : Type 0} (put : PutBeside Y) (ends : List (Option EndValue)) (beside : List Y) (none : Y) (from : ℕ)
+    (old new : List LinkEndsValue) : Type 0 where
   pub count : length new ≡ length old
-  pub all : (other : ℕ) (end : EndValue) (was : LinkEndsValue) → from ≤ other → end_at ends other ≡ Some end → slice_get old end.link ≡ Some was → slice_get new end.link ≡ Some (put was end (slice_index_or beside other none))
-  pub each : (i : ℕ) (was : LinkEndsValue) → slice_get old i ≡ Some was → (now : LinkEndsValue) × (slice_get new i ≡ Some now) × (WasPut put ends beside none from i was now ⊎ (now ≡ was))
+  pub all : (other : ℕ) (end : EndValue) (was : LinkEndsValue) → from ≤ other → end_at ends other ≡ Some end
+      → slice_get old end.link ≡ Some was → slice_get new end.link ≡ Some (put was end (slice_index_or beside other none))
+  pub each : (i : ℕ) (was : LinkEndsValue) → slice_get old i ≡ Some was
+      → (now : LinkEndsValue) × (slice_get new i ≡ Some now) × (WasPut put ends beside none from i was now ⊎ (now ≡ was))
 
 -- no two of a node's ends are of one link
 abbrev pub AreApart : List (Option EndValue) → Type 0

@@ -23,9 +23,11 @@ pub record IsPumpOf (fabric : FabricValue) (pump : PumpValue) : Type 0 where
 
 -- each link of the run leads from one of its partitions to another
 abbrev pub LinksHaveNodes : FabricValue → Type 0
-LinksHaveNodes fabric = (i : ℕ) (link : LinkValue) → slice_get fabric.links i ≡ Some link → (link.src < fabric.parts) × (link.dst < fabric.parts)
+LinksHaveNodes fabric =
+    (i : ℕ) (link : LinkValue) → slice_get fabric.links i ≡ Some link → (link.src < fabric.parts) × (link.dst < fabric.parts)
 
--- these are all nodes of the run, in the order of their partitions, and all its pumps: as many seats of each tree were given out as there are of them, and each link has its two nodes among them
+-- these are all nodes of the run, in the order of their partitions, and all its pumps:
+-- as many seats of each tree were given out as there are of them, and each link has its two nodes among them
 pub record AreAllOf (fabric : FabricValue) (nodes : List NodeState) (pumps : List PumpValue) : Type 0 where
   pub seats : AreFirstSeats (length nodes + length pumps) fabric.trees fabric.seats
   pub count : length nodes ≡ fabric.parts
@@ -40,7 +42,9 @@ owners_of nodes pumps = map (λ node. node.seats) nodes ++ map (λ pump. pump.se
 abbrev pub closed_ends : GatheredLink → Link
 closed_ends link = record { src = link.src; dst = link.dst }
 
--- this is gathered of these nodes and pumps: the stage of the run, their families, the receipts of earlier stages and then theirs, the links of the run, each with what its two nodes and its queue left of it, the statuses that all seats together made, and for each partition a list of jobs
+-- this is gathered of these nodes and pumps: the stage of the run, their families, the receipts of earlier stages and then theirs,
+-- the links of the run, each with what its two nodes and its queue left of it, the statuses that all seats together made,
+-- and for each partition a list of jobs
 pub record IsGathered (fabric : FabricValue) (nodes : List NodeState) (pumps : List PumpValue) (g : GatheredValue) : Type 0 where
   pub stage : g.stage ≡ fabric.stage
   pub stores : g.stores ≡ map (λ node. node.core.store) nodes

@@ -21,7 +21,8 @@ pub record RoomValue : Type 0 where
   pub links : ℕ
   pub trees : ℕ
 
--- the families by partition, the receipts, the seats by owner, what the ends of each link left of it, and for how many partitions there are lists of jobs
+-- the families by partition, the receipts, the seats by owner, what the ends of each link left of it,
+-- and for how many partitions there are lists of jobs
 pub record GatheringValue : Type 0 where
   pub stores : List StoreValue
   pub receipts : List ReceiptValue
@@ -41,10 +42,12 @@ pub record IsRoomFor (fabric : FabricValue) (nodes : List NodeState) (pumps : �
 -- for each link there is room, and none of its ends is there
 pub record AreReserved (links : List LinkValue) (ends : List LinkEndsValue) : Type 0 where
   pub count : length ends ≡ length links
-  pub each : (i : ℕ) (link : LinkValue) (left : LinkEndsValue) → slice_get links i ≡ Some link → slice_get ends i ≡ Some left → left ≡ no_ends (link.capacity + 2)
+  pub each : (i : ℕ) (link : LinkValue) (left : LinkEndsValue) → slice_get links i ≡ Some link
+      → slice_get ends i ≡ Some left → left ≡ no_ends (link.capacity + 2)
 
 -- these receipts are gathered and nothing else, and there is room for all
-pub record IsReserved (past : List ReceiptValue) (fabric : FabricValue) (nodes : List NodeState) (pumps : ℕ) (gathering : GatheringValue) : Type 0 where
+pub record IsReserved (past : List ReceiptValue) (fabric : FabricValue) (nodes : List NodeState) (pumps : ℕ)
+    (gathering : GatheringValue) : Type 0 where
   pub stores : gathering.stores ≡ []
   pub receipts : gathering.receipts ≡ past
   pub owners : gathering.owners ≡ []
@@ -96,7 +99,8 @@ abbrev pub AddsNodes : GatheringValue → List NodeState → GatheringValue → 
 AddsNodes old [] new = new ≡ old
 AddsNodes old (node ∷ nodes) new = (between : GatheringValue) × AddsNode old node between × AddsNodes between nodes new
 
--- these trees and links can be closed: the trees' first seats await the owners' seats, each link has both of its ends, and there is room for all
+-- these trees and links can be closed: the trees' first seats await the owners' seats, each link has both of its ends,
+-- and there is room for all
 pub record IsClosable (trees : List TableId) (first : List SeatValue) (links : List LinkValue) (gathering : GatheringValue) : Type 0 where
   pub first_seats : AreSeatsOf trees first
   pub opened : AreFirst first

@@ -19,7 +19,8 @@ pub record HasBothEnds (link : LinkValue) (ends : LinkEndsValue) : Type 0 where
   pub receives_on : receiver.queue ≡ link.queue
   pub room : link.capacity + 2 ≤ ends.room
 
--- the link is closed: what was sent is what was received and what the queue held, and under way is what is in the inbox, the queue and the outbox
+-- the link is closed: what was sent is what was received and what the queue held,
+-- and under way is what is in the inbox, the queue and the outbox
 pub record IsClosed (link : LinkValue) (ends : LinkEndsValue) (closed : GatheredLink) : Type 0 where
   pub src : closed.src ≡ link.src
   pub dst : closed.dst ≡ link.dst
@@ -35,9 +36,11 @@ pub record IsClosed (link : LinkValue) (ends : LinkEndsValue) (closed : Gathered
 -- each link has its ends, in the same order
 pub record HaveBothEnds (links : List LinkValue) (ends : List LinkEndsValue) : Type 0 where
   pub count : length ends ≡ length links
-  pub each : (i : ℕ) (link : LinkValue) (left : LinkEndsValue) → slice_get links i ≡ Some link → slice_get ends i ≡ Some left → HasBothEnds link left
+  pub each : (i : ℕ) (link : LinkValue) (left : LinkEndsValue) → slice_get links i ≡ Some link
+      → slice_get ends i ≡ Some left → HasBothEnds link left
 
 -- each link is closed with its ends, in the same order
 pub record AreClosed (links : List LinkValue) (ends : List LinkEndsValue) (closed : List GatheredLink) : Type 0 where
   pub count : length closed ≡ length links
-  pub each : (i : ℕ) (link : LinkValue) (left : LinkEndsValue) (now : GatheredLink) → slice_get links i ≡ Some link → slice_get ends i ≡ Some left → slice_get closed i ≡ Some now → IsClosed link left now
+  pub each : (i : ℕ) (link : LinkValue) (left : LinkEndsValue) (now : GatheredLink) → slice_get links i ≡ Some link
+      → slice_get ends i ≡ Some left → slice_get closed i ≡ Some now → IsClosed link left now

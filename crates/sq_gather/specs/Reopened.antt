@@ -10,8 +10,10 @@ use Rattle.sq_node.specs.Holds.{KeepsAll}
 use Rattle.sq_node.specs.Opened.{IsFabricOf, AllHoldUnder}
 use Rattle.sq_gather.specs.Gathered.{AreAllOf}
 
--- a run is in a stage that began so: what it shares fits the opening, the stage could begin so, these are all nodes and all pumps of the run, and what a node keeps holds of each node
-pub record IsRunInStage (o : OpeningValue) (began : BeganWith) (fabric : FabricValue) (nodes : List NodeState) (pumps : List PumpValue) : Type 0 where
+-- a run is in a stage that began so: what it shares fits the opening, the stage could begin so,
+-- these are all nodes and all pumps of the run, and what a node keeps holds of each node
+pub record IsRunInStage (o : OpeningValue) (began : BeganWith) (fabric : FabricValue) (nodes : List NodeState)
+    (pumps : List PumpValue) : Type 0 where
   pub shared : IsFabricOf o fabric
   pub begun : HasBegun began fabric
   pub can : CanBegin o began
@@ -27,7 +29,8 @@ pub record Stays (fabric : FabricValue) (old new : NodeState) : Type 0 where
 -- each node that there is now was one before, and stays
 pub record AllStay (fabric : FabricValue) (old new : List NodeState) : Type 0 where
   pub count : length new ≡ length old
-  pub each : (part : ℕ) (node : NodeState) → slice_get new part ≡ Some node → (was : NodeState) × (slice_get old part ≡ Some was) × Stays fabric was node
+  pub each : (part : ℕ) (node : NodeState) → slice_get new part ≡ Some node
+      → (was : NodeState) × (slice_get old part ≡ Some was) × Stays fabric was node
 
 -- a pump is of the run still, and its seats began and completed nothing more
 pub record PumpStays (fabric : FabricValue) (old new : PumpValue) : Type 0 where
@@ -37,4 +40,5 @@ pub record PumpStays (fabric : FabricValue) (old new : PumpValue) : Type 0 where
 -- each pump that there is now was one before, and stays
 pub record AllPumpsStay (fabric : FabricValue) (old new : List PumpValue) : Type 0 where
   pub count : length new ≡ length old
-  pub each : (i : ℕ) (pump : PumpValue) → slice_get new i ≡ Some pump → (was : PumpValue) × (slice_get old i ≡ Some was) × PumpStays fabric was pump
+  pub each : (i : ℕ) (pump : PumpValue) → slice_get new i ≡ Some pump
+      → (was : PumpValue) × (slice_get old i ≡ Some was) × PumpStays fabric was pump

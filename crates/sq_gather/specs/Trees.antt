@@ -24,7 +24,8 @@ view_with view owners seg = fold took view (map (λ seats. views_of seats seg) o
 -- the seats of these owners were joined into the first seats
 pub record AreJoined (old : List SeatValue) (owners : List (List SeatValue)) (new : List SeatValue) : Type 0 where
   pub count : length new ≡ length old
-  pub each : (seg : ℕ) (seat : SeatValue) → slice_get old seg ≡ Some seat → slice_get new seg ≡ Some (record { tree = seat.tree; view = view_with seat.view owners seg })
+  pub each : (seg : ℕ) (seat : SeatValue) → slice_get old seg ≡ Some seat
+      → slice_get new seg ≡ Some (record { tree = seat.tree; view = view_with seat.view owners seg })
 
 -- each seat that was given out was taken back
 abbrev pub AreWhole : List SeatValue → Type 0
@@ -38,4 +39,5 @@ pub record AreTreesOf (seats : List SeatValue) (statuses : List (List Status)) :
 -- for each first seat there are the statuses of a tree that this seat alone is left of, with all that the owners' seats did
 pub record AreClosed (first : List SeatValue) (owners : List (List SeatValue)) (statuses : List (List Status)) : Type 0 where
   pub count : length statuses ≡ length first
-  pub each : (seg : ℕ) (seat : SeatValue) → slice_get first seg ≡ Some seat → IsTreeOf (slice_index_or statuses seg []) (view_with seat.view owners seg ∷ [])
+  pub each : (seg : ℕ) (seat : SeatValue) → slice_get first seg ≡ Some seat
+      → IsTreeOf (slice_index_or statuses seg []) (view_with seat.view owners seg ∷ [])

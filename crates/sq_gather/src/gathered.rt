@@ -34,5 +34,12 @@ impl Model for Gathered {
 
     ghost coded = { Prim.hlevel (codes, store_coded) };
 
-    ghost view = { λ g. record { stage = g.stage; stores = g.stores.items; links = g.links.items; statuses = g.statuses.items; receipts = g.receipts.items; left = map (λ jobs. jobs.items) g.left.items } };
+    ghost view = { λ g. record {
+      stage = g.stage;
+      stores = g.stores.items;
+      links = g.links.items;
+      statuses = g.statuses.items;
+      receipts = g.receipts.items;
+      left = map (λ jobs. jobs.items) g.left.items;
+    } };
 }

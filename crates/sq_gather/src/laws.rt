@@ -17,7 +17,8 @@ pub fn a_run_begins()
 /// A run stays one where each of its nodes and of its pumps stays one of it, and what a node keeps holds still.
 pub fn a_run_goes_on()
     ensures { (o : OpeningValue) (began : BeganWith) (fabric : FabricValue) (old new : List NodeState) (before after : List PumpValue)
-        → IsOpening o → IsRunInStage o began fabric old before → AllStay fabric old new → AllPumpsStay fabric before after → IsRunInStage o began fabric new after }
+        → IsOpening o → IsRunInStage o began fabric old before → AllStay fabric old new → AllPumpsStay fabric before after
+        → IsRunInStage o began fabric new after }
 {}
 
 /// A run can be gathered: its nodes and pumps are all of it, and what is gathered is placed and goes on from what its stage

@@ -25,7 +25,14 @@ impl Model for LinkEnds {
 
     ghost Value = { LinkEndsValue };
 
-    ghost view = { λ e. record { sender = e.sender; notes = e.notes.items; outbox = e.outbox; receiver = e.receiver; inbox = e.inbox; room = vec_capacity e.room } };
+    ghost view = { λ e. record {
+      sender = e.sender;
+      notes = e.notes.items;
+      outbox = e.outbox;
+      receiver = e.receiver;
+      inbox = e.inbox;
+      room = vec_capacity e.room;
+    } };
 
     ghost invariant = { λ e. vec_len e.room ≡ 0 };
 }

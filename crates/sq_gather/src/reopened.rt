@@ -32,15 +32,8 @@ pub fn reopen(
 {
     // For the proof alone: there are no more stages than a number counts, and what was handed in is an opening.
     let _stages = opening.recon().stages();
-    let Gathered {
-        stage,
-        stores,
-        links,
-        statuses,
-        receipts,
-        left,
-    } = g;
-    match Fabric::resumed(alloc, opening, stage + 1, stores, left, receipts, pumps) {
+    let next = g.stage + 1;
+    match Fabric::resumed(alloc, opening, next, g.stores, g.left, g.receipts, pumps) {
         Ok((fabric, nodes, pumps)) => {
             // For the proof alone: it is a fabric.
             let _trees = fabric.trees();
@@ -53,12 +46,10 @@ pub fn reopen(
                 receipts,
             },
         ) => Err(Gathered {
-            stage,
             stores,
-            links,
-            statuses,
-            receipts,
             left,
+            receipts,
+            ..g
         }),
     }
 }
