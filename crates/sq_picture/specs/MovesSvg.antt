@@ -31,7 +31,9 @@ heading_of count =
 -- what stands left of the first column of each line
 abbrev pub names_of : ℕ → List ℕ
 names_of i =
-    if i % ACROSS == 0 then codes "<text x=\"-88\" y=\"14\">root keys</text><text x=\"-88\" y=\"52\">old owner</text><text x=\"-88\" y=\"124\">new owner</text><text x=\"-88\" y=\"154\">segments</text>\n"
+    if i % ACROSS == 0
+    then codes "<text x=\"-88\" y=\"14\">root keys</text><text x=\"-88\" y=\"52\">old owner</text>"
+    ++ codes "<text x=\"-88\" y=\"124\">new owner</text><text x=\"-88\" y=\"154\">segments</text>\n"
     else []
 
 -- where a column begins, from which on its places are counted

@@ -57,7 +57,8 @@ fn names_of(i: usize) -> &'static str
     ensures { result.now ≡ names_of i }
 {
     if i % ACROSS == 0 {
-        "<text x=\"-88\" y=\"14\">root keys</text><text x=\"-88\" y=\"52\">old owner</text><text x=\"-88\" y=\"124\">new owner</text><text x=\"-88\" y=\"154\">segments</text>\n"
+        "<text x=\"-88\" y=\"14\">root keys</text><text x=\"-88\" y=\"52\">old owner</text>\
+         <text x=\"-88\" y=\"124\">new owner</text><text x=\"-88\" y=\"154\">segments</text>\n"
     } else {
         ""
     }
