@@ -84,8 +84,8 @@ impl<'a, R: Wait + Clock, W: Watch> RecordingWatch<'a, R, W> {
         })
     }
 
-    /// Writes the summary: [`write_summary`](crate::write_summary), and a line of the times. Where memory ran out before all was counted, it says
-    /// so first. An error is the writer's, or that there is no memory.
+    /// Writes the summary: [`write_summary`](crate::write_summary), and a line of the times. Where memory ran out before all was
+    /// counted, it says so first. An error is the writer's, or that there is no memory.
     pub fn write_summary<O: Write>(&self, alloc: Global, writer: &mut O) -> io::Result<()> {
         let waited = self.waits.counts(alloc)?;
         self.summary.write(self.rt, writer, &waited)?;
