@@ -28,7 +28,12 @@ impl Model for SharedLink {
 
     ghost use Rattle.crossbeam_queue.specs.Passes.{ruled_capacity};
 
-    ghost view = { λ l. record { queue = l.queue.table.shared.table_id; src = l.ends.src; dst = l.ends.dst; capacity = ruled_capacity l.queue } };
+    ghost view = { λ l. record {
+      queue = l.queue.table.shared.table_id;
+      src = l.ends.src;
+      dst = l.ends.dst;
+      capacity = ruled_capacity l.queue;
+    } };
 
     ghost invariant = { λ l. (vec_len l.room ≡ 0) × (ruled_capacity l.queue ≤ vec_capacity l.room) };
 }
