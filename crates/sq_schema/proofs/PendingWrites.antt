@@ -7,7 +7,7 @@ use Rattle.sq_schema.specs.Values.{RowValue}
 use Rattle.sq_schema.specs.Effect.{row_at}
 use Rattle.sq_schema.specs.Family.{rows_size}
 use Rattle.sq_schema.specs.declared.schema.TheConstants.{MAX_NOTE}
-use Rattle.sq_schema.specs.Writes.{PendingValue, pending_rows, with_write, is_sound, is_write, count_of, size_of, IsPending}
+use Rattle.sq_schema.specs.Writes.{PendingValue, pending_rows, with_write, is_sound, is_write, count_of_row, size_of_row, IsPending}
 use Rattle.sq_schema.proofs.Kept.{IsRowList-with_write}
 use Rattle.sq_schema.proofs.KeyOrder.{length_bound}
 use Rattle.sq_schema.proofs.Latest.{with_writes-push}
@@ -18,11 +18,11 @@ pub is_sound_from : (key : RowKey) (row : Option RowValue) → key.table < 2 ^ 8
 is_sound_from key None table sub short = refl
 is_sound_from key (Some row) table sub short = grind (arith, nat_tests)
 
-count_of_bound : (row : Option RowValue) → count_of row ≤ 1
+count_of_bound : (row : Option RowValue) → count_of_row row ≤ 1
 count_of_bound None = omega arith
 count_of_bound (Some row) = omega arith
 
-size_of_bound : (row : Option RowValue) → IfSome row (λ row. length row.note ≤ MAX_NOTE) → size_of row ≤ 24 + MAX_NOTE
+size_of_bound : (row : Option RowValue) → IfSome row (λ row. length row.note ≤ MAX_NOTE) → size_of_row row ≤ 24 + MAX_NOTE
 size_of_bound None short = omega arith
 size_of_bound (Some row) short = omega arith
 
@@ -30,22 +30,22 @@ module _ (pending : PendingValue) (many large : ℕ) (is_pending : IsPending pen
   abbrev written : PendingValue
   written = record { base = pending.base; writes = pending.writes ++ (key, row) ∷ [] }
 
-  pub count_fits : many + count_of row ≤ 2 ^ 40 + 1
+  pub count_fits : many + count_of_row row ≤ 2 ^ 40 + 1
   count_fits = omega (arith, is_pending.count, length_bound (pending_rows pending) is_pending.rows.rising is_pending.rows.entries, count_of_bound row)
 
-  pub size_fits : IfSome row (λ row. length row.note ≤ MAX_NOTE) → large + size_of row ≤ 32 + (24 + MAX_NOTE) * (2 ^ 40 + 1)
+  pub size_fits : IfSome row (λ row. length row.note ≤ MAX_NOTE) → large + size_of_row row ≤ 32 + (24 + MAX_NOTE) * (2 ^ 40 + 1)
   size_fits short = omega (arith, is_pending.size, rows_size_bound (pending_rows pending) is_pending.rows, size_of_bound row short)
 
   pending_rows-written : pending_rows written ≡ with_write (pending_rows pending) key row
   pending_rows-written = with_writes-push pending.base pending.writes key row
 
-  pub count_after : length (pending_rows written) + count_of (row_at (pending_rows pending) key) ≡ many + count_of row
+  pub count_after : length (pending_rows written) + count_of_row (row_at (pending_rows pending) key) ≡ many + count_of_row row
   count_after = rw pending_rows-written (omega (arith, is_pending.count, length-with_write (pending_rows pending) key row is_pending.rows.rising))
 
-  pub size_after : rows_size (pending_rows written) + size_of (row_at (pending_rows pending) key) ≡ large + size_of row
+  pub size_after : rows_size (pending_rows written) + size_of_row (row_at (pending_rows pending) key) ≡ large + size_of_row row
   size_after = rw pending_rows-written (omega (arith, is_pending.size, rows_size-with_write (pending_rows pending) key row is_pending.rows.rising))
 
-  pub IsPending-written : is_sound key row ≡ true → IsPending written (many + count_of row - count_of (row_at (pending_rows pending) key)) (large + size_of row - size_of (row_at (pending_rows pending) key))
+  pub IsPending-written : is_sound key row ≡ true → IsPending written (many + count_of_row row - count_of_row (row_at (pending_rows pending) key)) (large + size_of_row row - size_of_row (row_at (pending_rows pending) key))
   IsPending-written sound =
       record {
         rows = rw pending_rows-written (IsRowList-with_write (pending_rows pending) key row sound is_pending.rows);

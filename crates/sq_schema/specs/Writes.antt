@@ -35,12 +35,12 @@ abbrev pub is_write : Write → Bool
 is_write write = is_sound write.0 write.1
 
 -- how many rows this is
-abbrev pub count_of : Option RowValue → ℕ
-count_of row = option_map_or (λ row. 1) row 0
+abbrev pub count_of_row : Option RowValue → ℕ
+count_of_row row = option_map_or (λ row. 1) row 0
 
 -- and their size
-abbrev pub size_of : Option RowValue → ℕ
-size_of row = option_map_or row_size row 0
+abbrev pub size_of_row : Option RowValue → ℕ
+size_of_row row = option_map_or row_size row 0
 
 -- rows with pending writes
 pub record PendingValue : Type 0 where

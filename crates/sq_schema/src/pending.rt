@@ -82,7 +82,7 @@ impl From<AllocError> for Stop {
 impl<'a> PendingRows<'a> {
     ghost use Rattle.sq_schema.specs.Effect.{row_at, op_outcome};
     ghost use Rattle.sq_schema.specs.Refusals.{op_fault};
-    ghost use Rattle.sq_schema.specs.Writes.{count_of, size_of, is_write, pending_rows};
+    ghost use Rattle.sq_schema.specs.Writes.{count_of_row, size_of_row, is_write, pending_rows};
     ghost use Rattle.sq_schema.specs.Runs.{ComesTo};
 
     // These rows without writes, of which there will be this many at most.
@@ -124,8 +124,8 @@ impl<'a> PendingRows<'a> {
     // Adds a write of a key whose row weighs this.
     fn write(&mut self, key: RowKey, old: (usize, u64), row: Option<Row>) -> Result<(), AllocError>
         requires short { IfSome row (λ row. length row.note ≤ MAX_NOTE) }
-        requires count { old.0 ≡ count_of (row_at (pending_rows self.old) key) }
-        requires size { old.1 ≡ size_of (row_at (pending_rows self.old) key) }
+        requires count { old.0 ≡ count_of_row (row_at (pending_rows self.old) key) }
+        requires size { old.1 ≡ size_of_row (row_at (pending_rows self.old) key) }
         ensures base { self.new.base ≡ self.old.base }
         ensures ok { OnOk result (self.new.writes ≡ self.old.writes ++ (key, row) ∷ []) }
     {

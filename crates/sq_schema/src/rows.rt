@@ -7,7 +7,7 @@ ghost use Rattle.sq_schema.specs.declared.schema.TheConstants.{MAX_NOTE};
 ghost use Rattle.sq_schema.specs.Effect.{RowList, row_at, with_row, effect, reply};
 ghost use Rattle.sq_schema.specs.Family.{rows_size};
 ghost use Rattle.sq_schema.specs.Rows.{IsRowList};
-ghost use Rattle.sq_schema.specs.Writes.{count_of, size_of, is_write, with_write, with_writes};
+ghost use Rattle.sq_schema.specs.Writes.{count_of_row, size_of_row, is_write, with_write, with_writes};
 ghost use Rattle.sq_schema.specs.WriteList.{writes_of};
 
 use crate::entry_iter::{RowIter, are_equal};
@@ -189,8 +189,8 @@ impl Clone for Rows {
 
 // How many rows this is, and their size.
 pub(crate) fn weight(row: Option<&Row>) -> (usize, u64)
-    ensures count { result.0 ≡ count_of (option_copied row.entry) }
-    ensures size { result.1 ≡ size_of (option_copied row.entry) }
+    ensures count { result.0 ≡ count_of_row (option_copied row.entry) }
+    ensures size { result.1 ≡ size_of_row (option_copied row.entry) }
 {
     match row {
         Some(row) => (1, row.size()),

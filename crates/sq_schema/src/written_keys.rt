@@ -1,7 +1,7 @@
 // Which keys were written.
 ghost use Rattle.std.specs.Prelude.{◌≡◌, ◌%◌, true};
 ghost use Rattle.sq_schema.specs.declared.row.RowKey.{RowKey};
-ghost use Rattle.sq_schema.specs.WrittenKeys.{is_marked};
+ghost use Rattle.sq_schema.specs.WrittenKeys.{has_its_mark};
 
 use crate::row::RowKey;
 
@@ -24,15 +24,15 @@ impl WrittenKeys {
 
     /// Whether the key may have been written.
     pub(crate) fn may_have(&self, key: RowKey) -> bool
-        ensures { result ≡ is_marked self.now.marks key }
+        ensures { result ≡ has_its_mark self.now.marks key }
     {
         self.marks[place(key)]
     }
 
     /// The key was written too.
     pub(crate) fn add(&mut self, key: RowKey)
-        ensures added { is_marked self.new.marks key ≡ true }
-        ensures kept { (other : RowKey) → is_marked self.old.marks other ≡ true → is_marked self.new.marks other ≡ true }
+        ensures added { has_its_mark self.new.marks key ≡ true }
+        ensures kept { (other : RowKey) → has_its_mark self.old.marks other ≡ true → has_its_mark self.new.marks other ≡ true }
     {
         self.marks[place(key)] = true;
     }

@@ -6,7 +6,7 @@ use Rattle.sq_schema.specs.Effect.{row_at}
 use Rattle.sq_schema.specs.declared.schema.TheConstants.{MAX_NOTE}
 use Rattle.sq_schema.specs.Writes.{PendingValue, pending_rows}
 use Rattle.sq_schema.specs.WriteList.{writes_of}
-use Rattle.sq_schema.specs.WrittenKeys.{is_marked}
+use Rattle.sq_schema.specs.WrittenKeys.{has_its_mark}
 use Rattle.sq_schema.proofs.Latest.{is_key, row_or, latest, row_at-short, IfSome-copied}
 use Rattle.sq_schema.proofs.Marked.{row_at-unmarked}
 use Rattle.sq_schema.proofs.pending.PendingRows.get.Goals as goal
@@ -26,7 +26,7 @@ returns-then-not-may_have-clause-row c =
     let base = c.self.inside.rows.now in
     let writes = writes_of c.self.inside.writes in
     let marks = c.self.inside.written.marks in
-    let none : is_marked marks c.args.key ≡ false = search (rules, tests) in
+    let none : has_its_mark marks c.args.key ≡ false = search (rules, tests) in
     c.get.ensures ∙ sym (row_at-unmarked base marks c.args.key writes none c.self.invariant.1) ∙ ap (λ pending. row_at (pending_rows pending) c.args.key) c.self.view_is
 
 pub returns-then-not-may_have-clause-short : goal.returns-then-not-may_have-clause-short

@@ -2,7 +2,7 @@ use Rattle.std.proofs.Common.{◌≡◌, Some, sym, ap, ◌∙◌, arith}
 use Rattle.std.proofs.lemmas.Bool.Decides.{nat_tests}
 use Rattle.sq_schema.specs.Effect.{row_at, with_row}
 use Rattle.sq_schema.specs.EntryList.{entries_of}
-use Rattle.sq_schema.specs.Writes.{size_of}
+use Rattle.sq_schema.specs.Writes.{size_of_row}
 use Rattle.sq_schema.proofs.Kept.{IsRowList-with_row}
 use Rattle.sq_schema.proofs.Sizes.{rows_size_bound}
 use Rattle.sq_schema.proofs.Weights.{rows_size-with_write}
@@ -13,8 +13,8 @@ pub overflow_add-size : goal.overflow_add-size
 overflow_add-size c = omega (arith, rows_size_bound (entries_of c.self.inside.rows) c.self.invariant.0, c.self.invariant.1, c.size.ensures, c.requires)
 
 -- the size of the row that stood
-old_size : (c : After-size) → c.weight-old_size.result.1 ≡ size_of (row_at (entries_of c.self.inside.rows) c.args.key)
-old_size c = c.weight-old_size.ensures.size ∙ ap size_of (c.get.ensures ∙ ap (λ rows. row_at rows c.args.key) (sym c.self.view_is))
+old_size : (c : After-size) → c.weight-old_size.result.1 ≡ size_of_row (row_at (entries_of c.self.inside.rows) c.args.key)
+old_size c = c.weight-old_size.ensures.size ∙ ap size_of_row (c.get.ensures ∙ ap (λ rows. row_at rows c.args.key) (sym c.self.view_is))
 
 pub overflow_sub-size : goal.overflow_sub-size
 overflow_sub-size c =
