@@ -56,6 +56,6 @@ fn chunks(rt: HostRuntime) -> Result<(), Fail> {
             "from {lo}"
         );
     }
-    assert!(rt; store.len() == 2);
+    assert!(rt; store.families().len() == 2);
     Ok(())
 }

@@ -210,7 +210,7 @@ fn calls_at_the_source(rt: HostRuntime) -> Result<(), Fail> {
     let mut part = source(rt.alloc(), &[4, 7, 9])?;
     assert!(rt; are_answered(rt.alloc(), &mut part, &AT_THE_SOURCE)?);
     let parts = part.close();
-    assert!(rt; parts.store.len() == 1 && parts.outs.len() == 2);
+    assert!(rt; parts.store.families().len() == 1 && parts.outs.len() == 2);
     Ok(())
 }
 
