@@ -109,6 +109,7 @@ refused_nodes() {
 
 use sq_link::SharedLink;
 use sq_plan::PartId;
+use sq_ranges::Link;
 use sq_status::StatusTree;
 use sq_tree::NodeId;
 
@@ -143,7 +144,8 @@ fn try_link<R: Wait + Print>(rt: &R, alloc: Global) -> Result<(), Fail> {
             SharedLink::open(alloc, PartId::new(3), PartId::new(1), 2)?
         }
     };
-    let (src, dst, capacity) = (link.src().number(), link.dst().number(), link.capacity());
+    let Link { src, dst } = link.ends();
+    let (src, dst, capacity) = (src.number(), dst.number(), link.capacity());
     let held = link.close(rt, send, recv).len();
     println!(rt; "link {src} {dst} {capacity} {held}")?;
     Ok(())
