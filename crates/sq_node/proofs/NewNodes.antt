@@ -1,6 +1,6 @@
 -- Nodes and pumps that are opened one after another.
 use Rattle.std.proofs.Common.{◌≡◌, ℕ, zero, suc, ◌+◌, ◌<◌, true, false, List, [], ◌∷◌, ◌++◌, length, replicate, get_or, map, Option, Some, None, refl, sym, ap, ◌∙◌, subst, ⊎_elim, true≢false, length-append, arith}
-use Rattle.std.specs.Prelude.{◌==◌, ◌&&◌, Bool, Contains, if◌then◌else◌, nat_lt, ◌≢◌, slice_get, slice_index_or}
+use Rattle.std.specs.Prelude.{◌==◌, Bool, Contains, if◌then◌else◌, nat_lt, ◌≢◌, slice_get, slice_index_or}
 use Rattle.std.specs.Option.{option_map_or}
 use Rattle.std.specs.FinMap.{empty}
 use Rattle.std.proofs.lemmas.List.{length-replicate}
@@ -19,7 +19,6 @@ use Rattle.sq_exec.specs.OutLink.{new_out_link}
 use Rattle.sq_exec.specs.CoreValue.{CoreValue, loaded_at}
 use Rattle.sq_exec.specs.Opened.{opened_part, HasOwned}
 use Rattle.std.proofs.lemmas.Bool.Decides.{nat_tests}
-use Rattle.sq_model.specs.Place.{source}
 use Rattle.sq_store.specs.StoreValue.{StoreValue}
 use Rattle.sq_node_model.proofs.Staged.{key_stage, unmoved_source}
 use Rattle.sq_node_model.specs.NodeValue.{ReceiptValue}

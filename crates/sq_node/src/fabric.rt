@@ -18,6 +18,7 @@ use std::sync::atomic::{AtomicU64, Ordering};
 mod left;
 mod open;
 mod resumed;
+mod workers;
 
 pub use resumed::Unresumed;
 

@@ -6,7 +6,7 @@ use Rattle.sq_node.specs.FabricValue.{FabricValue}
 use Rattle.sq_node.specs.Ends.{EndValue, src_of, dst_of}
 use Rattle.sq_node.specs.Opened.{AreFirstSeats, HasEnds, LeavesEnds, IsNewNode, AreNewNodes, running_core}
 use Rattle.sq_node.proofs.NewNodes.{alike, same_shared, same_new, more_nodes, left_ends, gave_one_more}
-use Rattle.sq_node.proofs.fabric.open.+open_nodes.Goals as goal
+use Rattle.sq_node.proofs.fabric.workers.+open_nodes.Goals as goal
 
 pub overflow_cast-len : goal.overflow_cast-len
 overflow_cast-len t c =

@@ -2,7 +2,7 @@ use Rattle.std.proofs.Common.{◌≡◌, ℕ, ◌∙◌, ap}
 use Rattle.sq_node.specs.FabricValue.{FabricValue}
 use Rattle.sq_node_model.specs.Cores.{staged_core}
 use Rattle.sq_node.proofs.NewNodes.{not_whole, new_node}
-use Rattle.sq_node.proofs.fabric.open.open_node.Goals as goal
+use Rattle.sq_node.proofs.fabric.workers.open_node.Goals as goal
 
 pub open-requires-clause-fresh : goal.open-requires-clause-fresh
 open-requires-clause-fresh c = not_whole c.args.opening.now c.stage.result c.args.part c.args.store c.in_ok-core.core.core c.in_ok-core.ensures.ok

@@ -3,7 +3,7 @@ use Rattle.atomic_table.specs.Seated.{TableId}
 use Rattle.sq_node.specs.FabricValue.{FabricValue}
 use Rattle.sq_node.specs.Opened.{AreFirstSeats, AreNewPumps}
 use Rattle.sq_node.proofs.NewNodes.{alike, gave_one_more, more_pumps}
-use Rattle.sq_node.proofs.fabric.open.open_pumps.Goals as goal
+use Rattle.sq_node.proofs.fabric.workers.open_pumps.Goals as goal
 
 pub loop-number-preserved : goal.loop-number-preserved
 loop-number-preserved c =

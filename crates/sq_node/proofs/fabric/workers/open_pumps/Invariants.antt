@@ -1,6 +1,6 @@
 use Rattle.std.proofs.Common.{◌≡◌, ℕ, ◌+◌}
 use Rattle.sq_node.specs.Opened.{AreFirstSeats, AreNewPumps}
-use Rattle.sq_node.proofs.fabric.open.open_pumps.Given as goal
+use Rattle.sq_node.proofs.fabric.workers.open_pumps.Given as goal
 
 -- the pumps so far are there
 abbrev pub invariant-loop-number : goal.invariant-loop-number

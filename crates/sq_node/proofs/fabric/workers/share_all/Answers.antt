@@ -2,7 +2,7 @@ use Rattle.std.proofs.Common.{◌+◌, List, sym, subst}
 use Rattle.std.specs.Prelude.{slice_set}
 use Rattle.sq_status.specs.Seat.{SeatValue}
 use Rattle.sq_node.proofs.Shares.{Shares, shared_of, shared_first, shares_more, all_shared}
-use Rattle.sq_node.proofs.fabric.open.share_all.Goals as goal
+use Rattle.sq_node.proofs.fabric.workers.share_all.Goals as goal
 
 pub returns-in_err-push-clause-of : goal.returns-in_err-push-clause-of
 returns-in_err-push-clause-of c =

@@ -1,5 +1,5 @@
 use Rattle.sq_node.proofs.Shares.{Shares}
-use Rattle.sq_node.proofs.fabric.open.share_all.Given as goal
+use Rattle.sq_node.proofs.fabric.workers.share_all.Given as goal
 
 -- a seat of each tree so far is shared out
 abbrev pub invariant-loop-at : goal.invariant-loop-at

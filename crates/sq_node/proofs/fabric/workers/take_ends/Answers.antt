@@ -4,7 +4,7 @@ use Rattle.std.proofs.lemmas.Bool.{eq-eqb}
 use Rattle.sq_node.specs.Ends.{link_at, link_between, end_at}
 use Rattle.sq_node.specs.Opened.{new_end}
 use Rattle.sq_node.proofs.Taken.{takes_one, found_link}
-use Rattle.sq_node.proofs.fabric.open.take_ends.Goals as goal
+use Rattle.sq_node.proofs.fabric.workers.take_ends.Goals as goal
 
 pub loop-number-preserved : goal.loop-number-preserved
 loop-number-preserved g c =

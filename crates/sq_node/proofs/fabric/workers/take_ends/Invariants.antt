@@ -3,7 +3,7 @@ use Rattle.std.specs.Prelude.{◌==◌}
 use Rattle.sq_node.specs.Ends.{link_at, link_between}
 use Rattle.sq_node.specs.Opened.{new_end}
 use Rattle.sq_node.proofs.Taken.{Takes}
-use Rattle.sq_node.proofs.fabric.open.take_ends.Given as goal
+use Rattle.sq_node.proofs.fabric.workers.take_ends.Given as goal
 
 -- the ends for the partitions so far are taken
 abbrev pub invariant-loop-number : goal.invariant-loop-number

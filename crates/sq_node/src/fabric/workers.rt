@@ -1,0 +1,239 @@
+// The nodes and the pumps that a stage of a run opens with, each with its seats and its ends of links.
+ghost use Rattle.std.specs.Prelude.{◌≡◌, ℕ, ◌<◌, ◌≤◌, false, length, replicate, slice_set, None, MatchOption, IfOk, IfErr, OnOk, OnErr, vec_capacity};
+ghost use Rattle.sq_pull.specs.Seats.{AreSeatsOf};
+ghost use Rattle.sq_pull.specs.declared.numbers.TheConstants.{MAX_PUMPS};
+ghost use Rattle.sq_node.specs.Ends.{src_of, dst_of, link_between, end_at};
+ghost use Rattle.sq_node.specs.FabricValue.{AreFirst, IsFabric};
+ghost use Rattle.sq_node.specs.Opened.{AreNewSeats, GaveEach, GivesOut, HasEnds, LeavesEnds, AreNewEnds, IsFabricOf, IsNewNode, AreNewNodes, IsNewPump, AreNewPumps, running_core};
+
+use super::Fabric;
+use crate::ends::{PartEnd, Receiver, Sender};
+use crate::node::{Node, SeatsAndEnds};
+use sq_exec::PartCore;
+use sq_link::{SharedLink, Side};
+use sq_plan::PartId;
+use sq_pull::Pump;
+use sq_ranges::Opening;
+use sq_status::{StatusTree, TreeSeat};
+use sq_store::SlabStore;
+use std::alloc::{AllocError, Global};
+
+// The ends of links that aren't handed out, each where its link stands.
+#[derive(Drop)]
+pub(super) struct LooseEnds {
+    pub(super) sends: Vec<Sender>,
+    pub(super) recvs: Vec<Receiver>,
+}
+
+impl Fabric {
+    // A seat at each tree.
+    fn share_seats(&mut self, alloc: Global) -> Result<Vec<TreeSeat>, AllocError>
+        ensures same { self.new ≡ record self.old { seats = self.new.seats } }
+        ensures own { IfOk result (λ own. AreNewSeats self.old.trees own.items) }
+        ensures gave { OnOk result (GaveEach self.old.seats self.new.seats) }
+        ensures fabric { IsFabric self.old }
+    {
+        share_all(alloc, &self.trees, &mut self.seats)
+    }
+}
+
+// A seat at each tree.
+fn share_all(
+    alloc: Global,
+    trees: &[StatusTree],
+    seats: &mut Vec<TreeSeat>,
+) -> Result<Vec<TreeSeat>, AllocError>
+    requires of { AreSeatsOf trees.now seats.old.items }
+    requires first { AreFirst seats.old.items }
+    ensures of { AreSeatsOf trees.now seats.new.items }
+    ensures first { AreFirst seats.new.items }
+    ensures own { IfOk result (λ own. AreNewSeats trees.now own.items) }
+    ensures gave { OnOk result (GaveEach seats.old.items seats.new.items) }
+{
+    let mut shared = Vec::new(alloc);
+    for (at, tree) in trees.iter().enumerate() {
+        shared.push(tree.share(&mut seats[at]))?;
+    }
+    Ok(shared)
+}
+
+// For each of these families the node of their partition; the families then are with them. Where there is no memory the
+// families stay.
+pub(super) fn open_nodes(
+    alloc: Global,
+    opening: &Opening,
+    fabric: &mut Fabric,
+    ends: &mut LooseEnds,
+    stores: &mut Vec<SlabStore>,
+) -> Result<Vec<Node>, AllocError>
+    requires fabric { IsFabricOf opening.now fabric.old }
+    requires stores { length stores.old.items ≤ opening.now.old.parts }
+    requires sends { (part : ℕ) → part < length stores.old.items → HasEnds src_of fabric.old.links ends.old.sends.items part }
+    requires recvs { (part : ℕ) → part < length stores.old.items → HasEnds dst_of fabric.old.links ends.old.recvs.items part }
+    ensures same { fabric.new ≡ record fabric.old { seats = fabric.new.seats } }
+    ensures seats { OnOk result (GivesOut (length stores.old.items) fabric.old fabric.new) }
+    ensures nodes { IfOk result (λ nodes. AreNewNodes opening.now fabric.new stores.old.items nodes.items) }
+    ensures room { IfOk result (λ nodes. opening.now.old.parts ≤ vec_capacity nodes) }
+    ensures back { OnErr result (stores.new.items ≡ stores.old.items) }
+    ensures capacity { vec_capacity stores.new ≡ vec_capacity stores.old }
+{
+    let parts = fabric.parts();
+    let Some(store) = stores.pop() else {
+        return Vec::with_capacity(alloc, usize::from(parts));
+    };
+    let part = PartId::new(stores.len() as u8);
+    let node = match open_node(alloc, opening, fabric, ends, part, store) {
+        Ok(node) => node,
+        Err(store) => {
+            stores.push_reserved(store);
+            return Err(AllocError);
+        }
+    };
+    match open_nodes(alloc, opening, fabric, ends, stores) {
+        Ok(mut nodes) => {
+            nodes.push_reserved(node);
+            Ok(nodes)
+        }
+        Err(_) => {
+            stores.push_reserved(node.into_parts().core.store);
+            Err(AllocError)
+        }
+    }
+}
+
+// The node of a partition that has these families. Where there is no memory they come back.
+fn open_node(
+    alloc: Global,
+    opening: &Opening,
+    fabric: &mut Fabric,
+    ends: &mut LooseEnds,
+    part: PartId,
+    store: SlabStore,
+) -> Result<Node, SlabStore>
+    requires fabric { IsFabricOf opening.now fabric.old }
+    requires part { part < opening.now.old.parts }
+    requires sends { HasEnds src_of fabric.old.links ends.old.sends.items part }
+    requires recvs { HasEnds dst_of fabric.old.links ends.old.recvs.items part }
+    ensures same { fabric.new ≡ record fabric.old { seats = fabric.new.seats } }
+    ensures gave { OnOk result (GaveEach fabric.old.seats fabric.new.seats) }
+    ensures node { IfOk result (IsNewNode fabric.old (running_core opening.now fabric.old.stage part store)) }
+    ensures sends { OnOk result (LeavesEnds src_of fabric.old.links ends.old.sends.items part ends.new.sends.items) }
+    ensures recvs { OnOk result (LeavesEnds dst_of fabric.old.links ends.old.recvs.items part ends.new.recvs.items) }
+    ensures back { IfErr result (λ back. back ≡ store) }
+{
+    let Ok(place) = open_place(alloc, fabric, ends, part) else {
+        return Err(store);
+    };
+    let core = PartCore::open_in_stage(alloc, opening, part, fabric.stage(), store)?;
+    Ok(Node::open(alloc, core, place))
+}
+
+// The place of a partition's node.
+fn open_place(
+    alloc: Global,
+    fabric: &mut Fabric,
+    ends: &mut LooseEnds,
+    part: PartId,
+) -> Result<SeatsAndEnds, AllocError>
+    requires sends { HasEnds src_of fabric.old.links ends.old.sends.items part }
+    requires recvs { HasEnds dst_of fabric.old.links ends.old.recvs.items part }
+    ensures same { fabric.new ≡ record fabric.old { seats = fabric.new.seats } }
+    ensures gave { OnOk result (GaveEach fabric.old.seats fabric.new.seats) }
+    ensures seats { IfOk result (λ place. AreNewSeats fabric.old.trees place.seats.items) }
+    ensures sends { IfOk result (λ place. AreNewEnds src_of dst_of fabric.old.links fabric.old.parts part place.sends.items) }
+    ensures recvs { IfOk result (λ place. AreNewEnds dst_of src_of fabric.old.links fabric.old.parts part place.recvs.items) }
+    ensures flags { IfOk result (λ place. place.complete.items ≡ replicate (length fabric.old.recon.segments) false) }
+    ensures left_sends { OnOk result (LeavesEnds src_of fabric.old.links ends.old.sends.items part ends.new.sends.items) }
+    ensures left_recvs { OnOk result (LeavesEnds dst_of fabric.old.links ends.old.recvs.items part ends.new.recvs.items) }
+{
+    let seats = fabric.share_seats(alloc)?;
+    let parts = fabric.parts();
+    let sends = take_ends(alloc, parts, fabric.links(), &mut ends.sends, part)?;
+    let recvs = take_ends(alloc, parts, fabric.links(), &mut ends.recvs, part)?;
+    let complete = vec![in alloc; false; fabric.recon().segments().len()]?;
+    Ok(SeatsAndEnds {
+        seats,
+        sends,
+        recvs,
+        complete,
+    })
+}
+
+// This many pumps.
+pub(super) fn open_pumps(
+    alloc: Global,
+    count: u32,
+    fabric: &mut Fabric,
+) -> Result<Vec<Pump>, AllocError>
+    requires { count ≤ MAX_PUMPS }
+    ensures same { fabric.new ≡ record fabric.old { seats = fabric.new.seats } }
+    ensures seats { OnOk result (GivesOut count fabric.old fabric.new) }
+    ensures pumps { IfOk result (λ pumps. AreNewPumps fabric.new count pumps.items) }
+{
+    let mut pumps = Vec::new(alloc);
+    for number in 0..count {
+        pumps.push(open_pump(alloc, fabric, number)?)?;
+    }
+    Ok(pumps)
+}
+
+// The pump of a number.
+fn open_pump(alloc: Global, fabric: &mut Fabric, number: u32) -> Result<Pump, AllocError>
+    requires { number < MAX_PUMPS }
+    ensures same { fabric.new ≡ record fabric.old { seats = fabric.new.seats } }
+    ensures gave { OnOk result (GaveEach fabric.old.seats fabric.new.seats) }
+    ensures pump { IfOk result (IsNewPump fabric.old number) }
+{
+    let seats = fabric.share_seats(alloc)?;
+    match Pump::new(alloc, &fabric.recon, fabric.stage, number, seats) {
+        Ok(pump) => Ok(pump),
+        Err(_) => Err(AllocError),
+    }
+}
+
+// The ends that a partition has on this side of links, by the other partition of each.
+fn take_ends<S: Side>(
+    alloc: Global,
+    parts: u8,
+    links: &[SharedLink],
+    ends: &mut [PartEnd<S>],
+    part: PartId,
+) -> Result<Vec<PartEnd<S>>, AllocError>
+    requires { HasEnds S.near links.now ends.old part }
+    ensures ends { IfOk result (λ taken. AreNewEnds S.near S.far links.now parts part taken.items) }
+    ensures left { OnOk result (LeavesEnds S.near links.now ends.old part ends.new) }
+{
+    let mut taken = Vec::new(alloc);
+    for number in 0..parts {
+        let end = take_end(links, ends, part, PartId::new(number));
+        taken.push(end)?;
+    }
+    Ok(taken)
+}
+
+// The end that a partition has on this side of the link between it and another one, if there is such a link.
+fn take_end<S: Side>(
+    links: &[SharedLink],
+    ends: &mut [PartEnd<S>],
+    part: PartId,
+    other: PartId,
+) -> PartEnd<S>
+    requires { length ends.old ≡ length links.now }
+    ensures { MatchOption (link_between S.near S.far links.now part other)
+        ((result ≡ None) × (ends.new ≡ ends.old))
+        (λ at. (result ≡ end_at ends.old at) × (ends.new ≡ slice_set ends.old at None)) }
+{
+    match link_between::<S>(links, part, other) {
+        Some(at) => ends[at].take(),
+        None => PartEnd::new(None),
+    }
+}
+
+// Where the link stands that has a partition on this side and another one on the other.
+fn link_between<S: Side>(links: &[SharedLink], part: PartId, other: PartId) -> Option<usize>
+    ensures { result ≡ link_between S.near S.far links.now part other }
+{
+    links
+        .iter()
+        .position(|link| S::near(link) == part && S::far(link) == other)
+}
