@@ -1,5 +1,5 @@
 -- Why a world doesn't open.
-use Rattle.std.specs.Prelude.{◌≡◌, ℕ, ◌+◌, Bool, ◌&&◌, not, nat_lt, nat_le, if◌then◌else◌, List, [], ◌∷◌, Option, Some, None}
+use Rattle.std.specs.Prelude.{◌≡◌, ◌≤◌, ℕ, ◌+◌, Bool, ◌&&◌, not, nat_lt, nat_le, if◌then◌else◌, List, [], ◌∷◌, Option, Some, None}
 use Rattle.std.specs.Option.{option_map, option_or}
 use Rattle.sq_schema.specs.Effect.{RowTable}
 use Rattle.sq_schema.specs.Refusals.{row_fault}
@@ -24,6 +24,13 @@ is_limit limit = nat_le MIN_LIMIT limit && nat_le limit MAX_LIMIT
 -- the queue of a link may be set to hold this many chunks
 abbrev pub is_capacity : ℕ → Bool
 is_capacity capacity = nat_le 1 capacity && nat_le capacity MAX_CAPACITY
+
+-- the sizes are within their limits
+pub record HasFitSizes (config : Config) : Type 0 where
+  pub some_limit : MIN_LIMIT ≤ config.limit
+  pub small_limit : config.limit ≤ MAX_LIMIT
+  pub some_capacity : 1 ≤ config.capacity
+  pub small_capacity : config.capacity ≤ MAX_CAPACITY
 
 abbrev pub sizes_fault : Config → Option OpeningFault
 sizes_fault config =

@@ -9,7 +9,7 @@ ghost use Rattle.sq_schema.specs.Prelude.{rows_in, is_opening};
 ghost use Rattle.sq_plan.specs.PlanValue.{IsPlan};
 ghost use Rattle.sq_ranges.specs.Between.{recon_of, IsReconOf};
 ghost use Rattle.sq_ranges.specs.Given.{value_of, no_rows, with_one, given_rows, IsTableOf};
-ghost use Rattle.sq_ranges.specs.Refused.{config_fault, given_fault, rows_fault, first_fault, opening_fault, early_fault, MayRefuse};
+ghost use Rattle.sq_ranges.specs.Refused.{HasFitSizes, config_fault, given_fault, rows_fault, first_fault, opening_fault, early_fault, MayRefuse};
 
 use crate::fault::OpeningFault;
 use crate::opening::{Config, GivenRow, MAX_CAPACITY, MAX_LIMIT, MIN_LIMIT};
@@ -35,6 +35,7 @@ pub(crate) fn moves_and_table(
     ensures recon { IfOk result (λ parts. (parts.0 ≡ recon_of old.now new.now config.width)
         × IsReconOf old.now new.now config.width parts.0) }
     ensures table { IfOk result (λ parts. IsTableOf rows.now parts.1) }
+    ensures sizes { OnOk result (HasFitSizes config) }
     ensures plans { IsPlan old.now × IsPlan new.now }
 {
     check(old, new, config)?;
@@ -55,6 +56,7 @@ pub(crate) fn moves(
         MatchResult result (λ _. fault ≡ None) (MayRefuse fault fault) }
     ensures recon { IfOk result (λ recon. (recon ≡ recon_of old.now new.now config.width)
         × IsReconOf old.now new.now config.width recon) }
+    ensures sizes { OnOk result (HasFitSizes config) }
     ensures plans { IsPlan old.now × IsPlan new.now }
 {
     check(old, new, config)?;
@@ -64,6 +66,7 @@ pub(crate) fn moves(
 // Refuses plans between which nothing can move, and then sizes out of their limits.
 fn check(old: &Plan, new: &Plan, config: Config) -> Result<(), OpeningFault>
     ensures fault { result_err result ≡ config_fault old.now new.now config }
+    ensures sizes { OnOk result (HasFitSizes config) }
     ensures plans { IsPlan old.now × IsPlan new.now }
 {
     if let Some(fault) = Recon::fault(old, new, config.width) {
