@@ -140,13 +140,15 @@ fn numbered<'a>(alloc: Global) -> Result<Command<'a>, AllocError>
     ensures shape { IfOk result (λ command. shape_of command ≡ numbered_shape) }
     ensures local { IfOk result (λ command. (out-Command command).has_globals ≡ false) }
 {
-    let any_turns = value_parser!(u64).range(1..=MAX_TURNS as i64);
-    let any_pumps = value_parser!(u64).range(1..=MAX_PUMPS as i64);
-    let turns = option(alloc, "turns", help::TURNS, any_turns, "1000000");
-    let pumps = option(alloc, "pumps", help::PUMPS, any_pumps, "1");
     let plain = subcommand(alloc, "live", help::LIVE_ABOUT, help::LIVE);
+    let any_turns = value_parser!(u64).range(1..=MAX_TURNS as i64);
+    let turns = option(alloc, "turns", help::TURNS, any_turns, "1000000");
     let with_turns = with(plain, turns)?;
-    with(with_turns, pumps)
+    let any_pumps = value_parser!(u64).range(1..=MAX_PUMPS as i64);
+    with(
+        with_turns,
+        option(alloc, "pumps", help::PUMPS, any_pumps, "1"),
+    )
 }
 
 // The subcommand that runs jobs in threads.
@@ -177,13 +179,8 @@ fn explain<'a>(alloc: Global) -> Result<Command<'a>, AllocError>
 pub fn command<'a>(alloc: Global) -> Result<Command<'a>, AllocError>
     ensures { IfOk result (λ command. app_of command ≡ squall) }
 {
-    let run = run(alloc)?;
-    let ranges = ranges(alloc)?;
-    let live = live(alloc)?;
-    let explain = explain(alloc)?;
-    program(alloc)
-        .subcommand(run)?
-        .subcommand(ranges)?
-        .subcommand(live)?
-        .subcommand(explain)
+    let runs = program(alloc).subcommand(run(alloc)?)?;
+    let tells = runs.subcommand(ranges(alloc)?)?;
+    let lives = tells.subcommand(live(alloc)?)?;
+    lives.subcommand(explain(alloc)?)
 }
