@@ -18,7 +18,7 @@ use Rattle.clap.specs.declared.error.kind.ErrorKind.TheVariants.{DisplayHelp, In
 use Rattle.std.specs.Prelude.{Result, Ok, Err, IfOk}
 use Rattle.clap.specs.declared.error.Error.{Error}
 use Rattle.sq_command.specs.Commands.{squall}
-use Rattle.sq_command.specs.Line.{IsLineOf, Asks, Settles, ComesOf, LineIsWithin}
+use Rattle.sq_command.specs.Line.{IsSubcommand, IsLineOf, Asks, Settles, ComesOf, LineIsWithin}
 use Rattle.sq_command.specs.declared.clash.Clash.{Clash}
 use Rattle.sq_command.specs.declared.line.Line.{Line}
 
@@ -224,18 +224,50 @@ met_is command words m name rows is_squall matches named told =
 pub is_text : (name text : Text) → true ≡ bytes_eq name text → name ≡ text
 is_text name text same = (bytes_eq-Decides name text).0 (sym same)
 
+-- a subcommand that is one of the command's is met
+pub is_met : (met : Option Text) → IsOwn met → is_some met ≡ true
+is_met met (inl run) = ap is_some run
+is_met met (inr (inl ranges)) = ap is_some ranges
+is_met met (inr (inr (inl live))) = ap is_some live
+is_met met (inr (inr (inr explain))) = ap is_some explain
+
+-- and its name is one of theirs
+pub own_name : (name : Text) (met : Option Text) → Some name ≡ met → IsOwn met → IsSubcommand name
+own_name name met is own = elim own [
+  | inl run ↦ inl (text_of (is ∙ run))
+  | inr other ↦ elim other [
+    | inl ranges ↦ inr (inl (text_of (is ∙ ranges)))
+    | inr another ↦ elim another [ inl live ↦ inr (inr (inl (text_of (is ∙ live)))) | inr explain ↦ inr (inr (inr (text_of (is ∙ explain)))) ]
+  ]
+]
+  where
+    text_of : {text : Text} → Some name ≡ Some text → name ≡ text
+    text_of same = ap (λ (o : Option Text). unwrap_or o []) same
+
+-- a name that differs from a text isn't the text
+differs : (name text : Text) → false ≡ bytes_eq name text → name ≡ text → ⊥
+differs name text other is = true≢false (sym ((bytes_eq-Decides name text).1 is) ∙ sym other)
+
+-- the name that is none of the three others
+pub is_explain : (name : Text) → IsSubcommand name → false ≡ bytes_eq name (codes "run") → false ≡ bytes_eq name (codes "ranges") → false ≡ bytes_eq name (codes "live") → name ≡ codes "explain"
+is_explain name (inl run) no_run no_ranges no_live = absurd (differs name (codes "run") no_run run)
+is_explain name (inr (inl ranges)) no_run no_ranges no_live = absurd (differs name (codes "ranges") no_ranges ranges)
+is_explain name (inr (inr (inl live))) no_run no_ranges no_live = absurd (differs name (codes "live") no_live live)
+is_explain name (inr (inr (inr explain))) no_run no_ranges no_live = explain
+
+-- options that ask for something of which more holds
+pub asks_more : (IsLine IsMore : List Row → Line → Type 0) (rows : List Row) → ((line : Line) → IsLine rows line → IsMore rows line) → (asked : Result Line Clash) → Asks IsLine rows asked → Asks IsMore rows asked
+asks_more IsLine IsMore rows more (Ok line) asks = more line asks
+asks_more IsLine IsMore rows more (Err clash) asks = asks
+
 -- what comes of words in which no fault is found, by what the options of their subcommand ask for
 module _ (words : List Text) (name : Text) (rows : List Row) (free : fault_of squall words ≡ []) (met : subcommand_of squall words ≡ Some (name, rows)) where
-  line_comes : (line : Line) → IsLineOf (Some (name, rows)) line → ComesOf words (Ok line)
-  line_comes line is = (free, rw met is)
-
-  pub settled_comes : (IsLine : List Row → Line → Type 0) → ((line : Line) → IsLine rows line → IsLineOf (Some (name, rows)) line)
-      → (asked : Result Line Clash) (result : Result Line Error) → Settles asked result → Asks IsLine rows asked → ComesOf words result
-  settled_comes IsLine is_own (Ok line) (Ok settled) same asks = line_comes settled (rw same (is_own line asks))
-  settled_comes IsLine is_own (Ok line) (Err error) same asks = absurd same
-  settled_comes IsLine is_own (Err clash) (Ok settled) same asks = absurd same
-  settled_comes IsLine is_own (Err clash) (Err error) (inl memory) asks = inl (inl memory)
-  settled_comes IsLine is_own (Err clash) (Err error) (inr kind) asks = inr (free, rw (met, kind) asks)
+  pub settled_comes : (asked : Result Line Clash) (result : Result Line Error) → Settles asked result → Asks (λ rows line. IsLineOf (Some (name, rows)) line) rows asked → ComesOf words result
+  settled_comes (Ok line) (Ok settled) same asks = (free, rw (met, same) asks)
+  settled_comes (Ok line) (Err error) same asks = absurd same
+  settled_comes (Err clash) (Ok settled) same asks = absurd same
+  settled_comes (Err clash) (Err error) (inl memory) asks = inl (inl memory)
+  settled_comes (Err clash) (Err error) (inr kind) asks = inr (free, rw (met, kind) asks)
 
 -- a line that settles is within its limits where the one that was asked for is
 pub settled_within : (asked : Result Line Clash) (result : Result Line Error) → Settles asked result → IfOk asked LineIsWithin → IfOk result LineIsWithin

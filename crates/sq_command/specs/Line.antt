@@ -95,6 +95,10 @@ abbrev pub IsExplainLine : List Row → Line → Type 0
 IsExplainLine rows (Work task input) = ⊥
 IsExplainLine rows (Explain number) = GivenNumber (one_of (codes "number") rows) number
 
+-- the program has a subcommand of this name
+abbrev pub IsSubcommand : Text → Type 0
+IsSubcommand name = (name ≡ codes "run") ⊎ ((name ≡ codes "ranges") ⊎ ((name ≡ codes "live") ⊎ (name ≡ codes "explain")))
+
 -- this is what words ask for by which `clap` finds this subcommand with these options
 abbrev pub IsLineOf : Option (Text × List Row) → Line → Type 0
 IsLineOf None line = ⊥

@@ -1,8 +1,8 @@
 // What a command line asks for.
-ghost use Rattle.std.specs.Prelude.{◌≡◌, ◌≤◌, IfOk, map};
+ghost use Rattle.std.specs.Prelude.{◌≡◌, ◌≤◌, Some, IfOk, map};
 ghost use Rattle.clap.specs.Matches.{found_of};
 ghost use Rattle.clap.specs.Walk.{one_of, rows_of};
-ghost use Rattle.sq_command.specs.Line.{NumberOf, FlagOf, IsNameOf, ArePlansOf, IsInputOf, IsFormOf, IsRunTask, IsRangesTask, IsLiveTask, IsWorkLine, IsExplainLine, Asks, Settles, ComesOf, LineIsWithin};
+ghost use Rattle.sq_command.specs.Line.{NumberOf, FlagOf, IsNameOf, ArePlansOf, IsInputOf, IsFormOf, IsRunTask, IsRangesTask, IsLiveTask, IsWorkLine, IsExplainLine, IsSubcommand, IsLineOf, Asks, Settles, ComesOf, LineIsWithin};
 
 use crate::clash::{Clash, refusal};
 use crate::commands::command;
@@ -98,12 +98,26 @@ pub fn line_of<'a, S: AsStr>(alloc: Global, words: &'a [S]) -> Result<Line<'a>, 
     ensures within { IfOk result LineIsWithin }
 {
     let matches = command(alloc)?.try_get_matches_from(words)?;
-    match matches.subcommand() {
-        Some((name, options)) if name == "run" => settle(alloc, name, run_line(options)),
-        Some((name, options)) if name == "ranges" => settle(alloc, name, ranges_line(options)),
-        Some((name, options)) if name == "live" => settle(alloc, name, live_line(options)),
-        Some((name, options)) if name == "explain" => Ok(explain_line(options)),
-        _ => unreachable!(),
+    let Some((name, options)) = matches.subcommand() else {
+        unreachable!()
+    };
+    settle(alloc, name, asked(name, options))
+}
+
+// What the options of the subcommand of this name ask for.
+fn asked<'a>(name: &str, options: &ArgMatches<'a>) -> Result<Line<'a>, Clash>
+    requires { IsSubcommand name.now }
+    ensures line { Asks (λ rows line. IsLineOf (Some (name.now, rows)) line) (rows_of (found_of options.now)) result }
+    ensures within { IfOk result LineIsWithin }
+{
+    if name == "run" {
+        run_line(options)
+    } else if name == "ranges" {
+        ranges_line(options)
+    } else if name == "live" {
+        live_line(options)
+    } else {
+        Ok(explain_line(options))
     }
 }
 
