@@ -1,14 +1,16 @@
-use Rattle.std.proofs.Common.{rules, ◌≡◌, refl, true, [], ◌∷◌, ◌++◌, None, length, sym, ap, ◌∙◌, subst}
+use Rattle.std.proofs.Common.{rules, ◌≡◌, refl, true, List, [], ◌∷◌, ◌++◌, None, length, sym, ap, ◌∙◌, subst}
 use Rattle.sq_ranges.specs.ReconValue.{ReconValue}
 use Rattle.sq_exec.specs.declared.outcome.Outcome.{Outcome}
-use Rattle.sq_exec.specs.declared.outcome.Outcome.TheVariants.{Done, Waits}
+use Rattle.sq_exec.specs.declared.outcome.Outcome.TheVariants.{Done, Moved, Waits}
 use Rattle.sq_exec.specs.Serving.{must_wait, submit_refusal, IsTaken}
 use Rattle.sq_store.specs.StoreValue.{log_length}
 use Rattle.sq_pull.specs.Puller.{PullerValue}
+use Rattle.sq_node_model.specs.NodeValue.{ReceiptValue}
 use Rattle.sq_node_model.specs.Steps.{receipt_of, receipts_after}
 use Rattle.sq_node.specs.NodeState.{NodeState}
 use Rattle.sq_node.specs.Settled.{IsNode}
-use Rattle.sq_node.specs.Steps.{ClaimsAt}
+use Rattle.sq_node.specs.Steps.{ClaimsNone, ClaimsAt, ClaimsFor, JobStep}
+use Rattle.sq_node.specs.Holds.{DoesAndKeeps}
 use Rattle.sq_node.specs.declared.stepped.Stepped.TheVariants.{Did}
 use Rattle.sq_node.proofs.Told.{job_told}
 use Rattle.sq_node.proofs.Stays.{taken_part}
@@ -53,30 +55,47 @@ invariant_of-self-in-Waits g c =
           (job_taken g taken),
     )
 
-pub returns-in-Done : goal.returns-in-Done
-returns-in-Done g c =
+-- what the node did and keeps where nothing is claimed for the job, with the receipts that follow from it
+unclaimed_told : (g : Over) (c : In-Ok g) (outcome : Outcome) → c.in-Ok.outcome ≡ outcome → ((old new : NodeState) → ClaimsNone old new → ClaimsFor outcome old new)
+    → (receipts : List ReceiptValue) → let inside = c.self.inside in receipts ≡ receipts_after inside.core.core.store c.in-Some.job outcome inside.desk.receipts
+    → DoesAndKeeps c.args.fabric.now JobStep c.args.self.now Did
+    (record { core = c.submit.new.self.core; seats = inside.seats.items; sends = inside.sends.items; recvs = inside.recvs.items; receipts = receipts; claims = c.reserve-else-is_err.new.self.puller.wins.count })
+unclaimed_told g c outcome is none receipts same =
     let inside = c.self.inside in
     let job = c.in-Some.job in
+    let new = c.submit.new.self.core in
+    let seats = inside.seats.items in
+    let count = c.reserve-else-is_err.new.self.puller.wins.count in
+    let taken : IsTaken (must_wait inside.core.core job.root) inside.core.core job outcome new = subst (λ (o : Outcome). IsTaken (must_wait inside.core.core job.root) inside.core.core job o new) is c.in-Ok.ensures.ok in
+    let claims = ap (λ (puller : PullerValue). puller.wins.count) c.reserve-else-is_err.ensures.same in
+    job_told c.args.fabric.now c.args.self.now Did _ c.requires
+    (record {
+      txn = job;
+      outcome = outcome;
+      accepted = subst (λ (node : NodeState). submit_refusal node.core job ≡ None) c.self.view_is c.in-Ok.ensures.refused;
+      taken = subst (λ (node : NodeState). IsTaken (must_wait node.core job.root) node.core job outcome new) c.self.view_is taken;
+      claims = none _ _ (ap (λ (node : NodeState). node.seats) c.self.view_is, claims ∙ ap (λ (node : NodeState). node.claims) c.self.view_is);
+      after = (λ k. record { core = new; seats = seats; sends = inside.sends.items; recvs = inside.recvs.items; receipts = same k; claims = count })
+          ∙ ap (λ (node : NodeState). record node { core = new; seats = seats; claims = count; receipts = receipts_after node.core.store job outcome node.receipts }) c.self.view_is;
+    })
+
+pub returns-in-Done : goal.returns-in-Done
+returns-in-Done g c =
+    let job = c.in-Some.job in
     let reply = c.in-Done.reply in
-    let old = inside.core.core in
+    let old = c.self.inside.core.core in
     let new = c.submit.new.self.core in
     let waits = must_wait old job.root in
     let taken : IsTaken waits old job (Done reply) new = subst (λ (o : Outcome). IsTaken waits old job o new) c.in-Done.is c.in-Ok.ensures.ok in
     let receipt : c.receipt.result ≡ receipt_of old.store job reply =
     receipt_same old.store job reply (log_length new.store job.root) c.receipt.result c.receipt.ensures (submitted_position waits old new job reply taken) in
-    let receipts : c.add.new.self.receipts ≡ inside.desk.receipts ++ receipt_of old.store job reply ∷ [] = c.add.ensures.receipts ∙ (λ k. c.reserve.ensures.receipts k ++ receipt k ∷ []) in
-    let seats = inside.seats.items in
-    let claims = ap (λ (puller : PullerValue). puller.wins.count) c.reserve-else-is_err.ensures.same in
-    job_told c.args.fabric.now c.args.self.now Did _ c.requires
-    (record {
-      txn = job;
-      outcome = Done reply;
-      accepted = subst (λ (node : NodeState). submit_refusal node.core job ≡ None) c.self.view_is c.in-Ok.ensures.refused;
-      taken = subst (λ (node : NodeState). IsTaken (must_wait node.core job.root) node.core job (Done reply) new) c.self.view_is taken;
-      claims = (ap (λ (node : NodeState). node.seats) c.self.view_is, claims ∙ ap (λ (node : NodeState). node.claims) c.self.view_is);
-      after = (λ k. record { core = new; seats = seats; sends = inside.sends.items; recvs = inside.recvs.items; receipts = receipts k; claims = c.reserve-else-is_err.new.self.puller.wins.count })
-          ∙ ap (λ (node : NodeState). record node { core = new; seats = seats; claims = c.reserve-else-is_err.new.self.puller.wins.count; receipts = receipts_after node.core.store job (Done reply) node.receipts }) c.self.view_is;
-    })
+    unclaimed_told g (goal.at.returns-in-Done g c).In-Ok (Done reply) c.in-Done.is (λ old new none. none) c.add.new.self.receipts
+    (c.add.ensures.receipts ∙ (λ k. c.reserve.ensures.receipts k ++ receipt k ∷ []))
+
+pub returns-in-Moved : goal.returns-in-Moved
+returns-in-Moved g c =
+    unclaimed_told g (goal.at.returns-in-Moved g c).In-Ok (Moved c.in-Moved.to) c.in-Moved.is (λ old new none. none) c.post-in-Moved.new.self.receipts
+    (c.post-in-Moved.ensures ∙ c.reserve.ensures.receipts)
 
 has_room : (g : Over) (c : In-Waits g) → c.reserve-else-is_err.new.self.has_room ≡ true
 has_room g c = search rules
@@ -109,6 +128,3 @@ returns-in-Waits g c =
       after = (λ k. record { core = new; seats = after; sends = inside.sends.items; recvs = inside.recvs.items; receipts = c.reserve.ensures.receipts k; claims = count })
           ∙ ap (λ (node : NodeState). record node { core = new; seats = after; claims = count }) c.self.view_is;
     })
-
-pub returns-in-Moved : goal.returns-in-Moved
-returns-in-Moved g c = job_told c.args.fabric.now c.args.self.now Did _ c.requires (search rules)

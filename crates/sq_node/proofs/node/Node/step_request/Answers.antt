@@ -1,10 +1,12 @@
-use Rattle.std.proofs.Common.{rules, ◌≡◌, sym, ap, ◌∙◌, subst}
+use Rattle.std.proofs.Common.{◌≡◌, sym, ap, ◌∙◌, subst}
 use Rattle.sq_tree.specs.declared.status.Status.TheVariants.{Partial}
 use Rattle.sq_status.specs.declared.view.View.{View}
 use Rattle.sq_status.specs.Plays.{Won}
+use Rattle.sq_pull.specs.Seats.{StepsAt}
 use Rattle.sq_exec.specs.CoreValue.{CoreValue}
 use Rattle.sq_exec.specs.Moving.{begun_core}
 use Rattle.sq_node.specs.NodeState.{NodeState}
+use Rattle.sq_node.specs.Steps.{IsOutward}
 use Rattle.sq_node.specs.Looks.{OnlyLooked, SeatsLooked}
 use Rattle.sq_node.specs.declared.stepped.Stepped.TheVariants.{Did, Nothing}
 use Rattle.sq_node.proofs.Told.{request_told}
@@ -58,4 +60,19 @@ returns g c =
     })
 
 pub returns-then-begin : goal.returns-then-begin
-returns-then-begin g c = request_told c.args.fabric.now c.args.self.now Did _ c.requires (search rules)
+returns-then-begin g c =
+    let inside = c.self.inside in
+    let named = c.in-Some-named.named in
+    let pull = c.in-Some.request.pull in
+    let new = c.begin.new.seats.items in
+    let begun = c.if-begin.ensures.1 ∙ ap (λ (core : CoreValue). begun_core core named.seg named.node pull) c.reserve_begin.ensures.same in
+    request_told c.args.fabric.now c.args.self.now Did _ c.requires
+    (record {
+      seg = named.seg;
+      node = named.node;
+      pull = pull;
+      outward = subst (λ (core : CoreValue). IsOutward core named.seg named.node) (c.reserve_begin.ensures.same ∙ ap (λ (node : NodeState). node.core) c.self.view_is) c.in-Some-named.ensures;
+      won = subst (λ (node : NodeState). StepsAt named.seg (λ v w. Won v named.node (Partial pull) w) node.seats new) c.self.view_is c.if-begin.ensures.0;
+      after = (λ k. record { core = begun k; seats = new; sends = inside.sends.items; recvs = inside.recvs.items; receipts = inside.desk.receipts; claims = inside.puller.puller.wins.count })
+          ∙ ap (λ (node : NodeState). record node { core = begun_core node.core named.seg named.node pull; seats = new }) c.self.view_is;
+    })

@@ -1,12 +1,15 @@
-use Rattle.std.proofs.Common.{rules, ◌≡◌, [], ◌∷◌, ◌++◌, sym, ap, ◌∙◌, subst}
+use Rattle.std.proofs.Common.{◌≡◌, List, [], ◌∷◌, ◌++◌, refl, sym, ap, ◌∙◌, subst}
 use Rattle.sq_exec.specs.CoreValue.{CoreValue}
 use Rattle.sq_exec.specs.declared.outcome.Outcome.{Outcome}
-use Rattle.sq_exec.specs.declared.outcome.Outcome.TheVariants.{Done}
+use Rattle.sq_exec.specs.declared.outcome.Outcome.TheVariants.{Done, Moved, Waits}
 use Rattle.sq_exec.specs.Serving.{IsResumed}
 use Rattle.sq_store.specs.StoreValue.{log_length}
+use Rattle.sq_node_model.specs.NodeValue.{ReceiptValue}
 use Rattle.sq_node_model.specs.Steps.{receipt_of, receipts_after}
 use Rattle.sq_node.specs.NodeState.{NodeState}
 use Rattle.sq_node.specs.Settled.{IsNode}
+use Rattle.sq_node.specs.Steps.{ResumeStep}
+use Rattle.sq_node.specs.Holds.{DoesAndKeeps}
 use Rattle.sq_node.specs.declared.stepped.Stepped.TheVariants.{Did}
 use Rattle.sq_node.proofs.Told.{resume_told}
 use Rattle.sq_node.proofs.Served.{after_resumed, resumed_position, receipt_same}
@@ -26,26 +29,48 @@ invariant_of-self-in-Done g c = resumed_keeps g (goal.at.invariant_of-self-in-Do
 pub invariant_of-self-in-Moved : goal.invariant_of-self-in-Moved
 invariant_of-self-in-Moved g c = resumed_keeps g (goal.at.invariant_of-self-in-Moved g c).In-Ok
 
-pub returns-in-Done : goal.returns-in-Done
-returns-in-Done g c =
+-- what the node did and keeps, with the receipts that follow from it
+resumed_told : (g : Over) (c : In-Ok g) (receipts : List ReceiptValue)
+    → let inside = c.self.inside in let resumed = c.in-Ok.resumed in receipts ≡ receipts_after inside.core.core.store resumed.txn resumed.outcome inside.desk.receipts
+    → DoesAndKeeps c.args.fabric.now ResumeStep c.args.self.now Did
+    (record { core = c.resume.new.self.core; seats = inside.seats.items; sends = inside.sends.items; recvs = inside.recvs.items; receipts = receipts; claims = inside.puller.puller.wins.count })
+resumed_told g c receipts same =
     let inside = c.self.inside in
     let resumed = c.in-Ok.resumed in
-    let txn = resumed.txn in
-    let reply = c.in-Done.reply in
-    let old = inside.core.core in
     let new = c.resume.new.self.core in
-    let done : resumed.outcome ≡ Done reply = c.in-Done.is in
-    let receipt : c.receipt.result ≡ receipt_of old.store txn reply =
-    receipt_same old.store txn reply (log_length new.store txn.root) c.receipt.result c.receipt.ensures (resumed_position old new resumed reply c.in-Ok.ensures.ok done) in
-    let receipts : c.add.new.self.receipts ≡ receipts_after old.store txn resumed.outcome inside.desk.receipts =
-    c.add.ensures.receipts ∙ (λ k. c.reserve.ensures.receipts k ++ receipt k ∷ []) ∙ ap (λ (o : Outcome). receipts_after old.store txn o inside.desk.receipts) (sym done) in
     resume_told c.args.fabric.now c.args.self.now Did _ c.requires
     (record {
       resumed = resumed;
       taken = subst (λ (node : NodeState). IsResumed node.core resumed new) c.self.view_is c.in-Ok.ensures.ok;
-      after = (λ k. record { core = new; seats = inside.seats.items; sends = inside.sends.items; recvs = inside.recvs.items; receipts = receipts k; claims = inside.puller.puller.wins.count })
-          ∙ ap (λ (node : NodeState). record node { core = new; receipts = receipts_after node.core.store txn resumed.outcome node.receipts }) c.self.view_is;
+      after = (λ k. record { core = new; seats = inside.seats.items; sends = inside.sends.items; recvs = inside.recvs.items; receipts = same k; claims = inside.puller.puller.wins.count })
+          ∙ ap (λ (node : NodeState). record node { core = new; receipts = receipts_after node.core.store resumed.txn resumed.outcome node.receipts }) c.self.view_is;
     })
 
+-- the receipts stay where there is no answer
+kept : (g : Over) (c : In-Ok g) (outcome : Outcome) → let inside = c.self.inside in let after = receipts_after inside.core.core.store c.in-Ok.resumed.txn in c.in-Ok.resumed.outcome ≡ outcome
+    → inside.desk.receipts ≡ after outcome inside.desk.receipts → c.reserve.new.self.receipts ≡ after c.in-Ok.resumed.outcome inside.desk.receipts
+kept g c outcome is same =
+    let inside = c.self.inside in
+    c.reserve.ensures.receipts ∙ same ∙ ap (λ (o : Outcome). receipts_after inside.core.core.store c.in-Ok.resumed.txn o inside.desk.receipts) (sym is)
+
+pub returns-in-Done : goal.returns-in-Done
+returns-in-Done g c =
+    let ok = (goal.at.returns-in-Done g c).In-Ok in
+    let txn = c.in-Ok.resumed.txn in
+    let reply = c.in-Done.reply in
+    let old = c.self.inside.core.core in
+    let new = c.resume.new.self.core in
+    let receipt : c.receipt.result ≡ receipt_of old.store txn reply =
+    receipt_same old.store txn reply (log_length new.store txn.root) c.receipt.result c.receipt.ensures (resumed_position old new c.in-Ok.resumed reply c.in-Ok.ensures.ok c.in-Done.is) in
+    resumed_told g ok c.add.new.self.receipts
+    (c.add.ensures.receipts ∙ (λ k. c.reserve.ensures.receipts k ++ receipt k ∷ []) ∙ ap (λ (o : Outcome). receipts_after old.store txn o c.self.inside.desk.receipts) (sym c.in-Done.is))
+
 pub returns-in-Moved : goal.returns-in-Moved
-returns-in-Moved g c = resume_told c.args.fabric.now c.args.self.now Did _ c.requires (search rules)
+returns-in-Moved g c =
+    let ok = (goal.at.returns-in-Moved g c).In-Ok in
+    resumed_told g ok c.post.new.self.receipts (c.post.ensures ∙ kept g ok (Moved c.in-Moved.to) c.in-Moved.is refl)
+
+pub returns-in-Waits : goal.returns-in-Waits
+returns-in-Waits g c =
+    let ok = (goal.at.returns-in-Waits g c).In-Ok in
+    resumed_told g ok c.reserve.new.self.receipts (kept g ok (Waits c.in-Waits.field-0 c.in-Waits.field-1) c.in-Waits.is refl)
