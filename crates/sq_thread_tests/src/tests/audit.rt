@@ -1,5 +1,6 @@
 // The audit of a run, and of what was gathered of it with one thing changed.
-ghost use Rattle.std.specs.Prelude.{IfOk};
+ghost use Rattle.std.specs.Prelude.{IfOk, OnOk};
+ghost use Rattle.sq_node_model.specs.Prelude.{IsStageDone};
 ghost use Rattle.sq_audit.specs.Answers.{IdsDiffer};
 
 use super::node::PAIR;
@@ -11,6 +12,7 @@ use sq_ranges::{Extent, Opening};
 use sq_schema::{Family, Root, Row, RowKey, Rows};
 use sq_store::{FamilyStore, SlabStore, StoreAnswer, StoreCommand, run_store};
 use std::alloc::Global;
+use std::process::Abort;
 use std::sync::Wait;
 use std::test::Fail;
 
@@ -129,10 +131,11 @@ fn make(alloc: Global, gathered: &mut Gathered, change: Change) -> Result<(), Fa
 }
 
 // The number of the defect that an audit finds, if it finds one.
-fn defect_of(opening: &Opening, gathered: &Gathered, jobs: &[Job]) -> Result<Option<u16>, Fail>
+fn defect_of(alloc: Global, gathered: &Gathered, jobs: &[Job]) -> Result<Option<u16>, Fail>
     requires { IdsDiffer jobs.now }
 {
-    match audit(opening, gathered, jobs)? {
+    let opening = read_opening(alloc, PAIR)?;
+    match audit(&opening, gathered, jobs)? {
         Verdict::Sound => Ok(None),
         Verdict::Unsound(defect) => Ok(Some(defect.number())),
     }
@@ -151,18 +154,19 @@ const DEFECTS: [(Change, Option<u16>); 9] = [
     (Change::ReceiptOut(1), Some(306)),
 ];
 
+// The number of the defect that is found once this is changed.
+fn defect_after<R: Wait>(rt: &R, alloc: Global, change: Change) -> Result<Option<u16>, Fail> {
+    let jobs = jobs(alloc, FIRST, SECOND)?;
+    let mut gathered = worked(rt, alloc)?;
+    make(alloc, &mut gathered, change)?;
+    defect_of(alloc, &gathered, &jobs)
+}
+
 #[test]
 fn each_change_has_its_defect(rt: HostRuntime) -> Result<(), Fail> {
-    let alloc = rt.alloc();
-    let opening = read_opening(alloc, PAIR)?;
-    let jobs = jobs(alloc, FIRST, SECOND)?;
     for (change, want) in DEFECTS {
-        let mut gathered = worked(&rt, alloc)?;
-        make(alloc, &mut gathered, change)?;
-        assert!(rt;
-            defect_of(&opening, &gathered, &jobs)? == want,
-            "{change:?}"
-        );
+        let found = defect_after(&rt, rt.alloc(), change)?;
+        assert!(rt; found == want, "{change:?}");
     }
     Ok(())
 }
@@ -192,17 +196,17 @@ fn pulled<R: Wait>(rt: &R, alloc: Global, turns: usize) -> Result<Gathered, Fail
 // answer.
 const TURNS: [(usize, Option<u16>); 2] = [(3, Some(306)), (4, None)];
 
+// The number of the defect that is found after so many turns.
+fn defect_after_turns<R: Wait>(rt: &R, alloc: Global, turns: usize) -> Result<Option<u16>, Fail> {
+    let jobs = one_job(alloc, PULL)?;
+    defect_of(alloc, &pulled(rt, alloc, turns)?, &jobs)
+}
+
 #[test]
 fn a_pull_is_audited(rt: HostRuntime) -> Result<(), Fail> {
-    let alloc = rt.alloc();
-    let opening = read_opening(alloc, PAIR)?;
-    let jobs = one_job(alloc, PULL)?;
     for (turns, want) in TURNS {
-        let gathered = pulled(&rt, alloc, turns)?;
-        assert!(rt;
-            defect_of(&opening, &gathered, &jobs)? == want,
-            "after {turns} turns"
-        );
+        let found = defect_after_turns(&rt, rt.alloc(), turns)?;
+        assert!(rt; found == want, "after {turns} turns");
     }
     Ok(())
 }
@@ -227,30 +231,25 @@ fn moved<R: Wait>(rt: &R, alloc: Global) -> Result<Gathered, Fail> {
 
 // What is folded of it with this job and with one that wasn't posted.
 fn folded<R: Wait>(rt: &R, alloc: Global, line: &str) -> Result<Result<Folded, Unfolded>, Fail> {
-    let opening = read_opening(alloc, PAIR)?;
+    let jobs = jobs(alloc, line, PULL)?;
     let gathered = moved(rt, alloc)?;
-    let posted = one_job(alloc, ADD)?;
-    fold_sound(alloc, opening, gathered, &posted, jobs(alloc, line, PULL)?)
+    let opening = read_opening(alloc, PAIR)?;
+    check_sound(alloc, &opening, &gathered)?;
+    Ok(fold(alloc, opening, gathered, jobs))
 }
 
-// Folds what was gathered with these jobs, if it is sound with the jobs that were posted, and complete.
-fn fold_sound(
-    alloc: Global,
-    opening: Opening,
-    gathered: Gathered,
-    posted: &[Job],
-    jobs: Vec<Job>,
-) -> Result<Result<Folded, Unfolded>, Fail>
-    requires posted { IdsDiffer posted.now }
-    requires jobs { IdsDiffer jobs.items }
+// Whether what was gathered is sound with the job that was posted, and complete.
+fn check_sound(alloc: Global, opening: &Opening, gathered: &Gathered) -> Result<(), Fail>
+    ensures { OnOk result (IsStageDone opening.now gathered.now) }
 {
-    let Verdict::Sound = audit(&opening, &gathered, posted)? else {
+    let posted = one_job(alloc, ADD)?;
+    let Verdict::Sound = audit(opening, gathered, &posted)? else {
         return Err("it isn't sound")?;
     };
-    if !gathered.is_stage_done(&opening) {
+    if !gathered.is_stage_done(opening) {
         return Err("it isn't complete")?;
     }
-    Ok(fold(alloc, opening, gathered, jobs))
+    Ok(())
 }
 
 const FOLDED: &str = "at 1 5 0 0.0=11/-
@@ -258,32 +257,37 @@ note 0 1 0 0 1 4 8 true
 node 1 Complete(0)
 ";
 
-// The rows are in the base and in the opening, and the job that wasn't posted is left.
-#[test]
-fn a_log_is_folded(rt: HostRuntime) -> Result<(), Fail> {
-    let alloc = rt.alloc();
-    let Ok(folded) = folded(&rt, alloc, ADD)? else {
-        return Err("it isn't folded")?;
-    };
-    assert_eq!(rt; text_of(alloc, &folded.gathered)?.as_str(), FOLDED);
+// The number in the root row of root key 5, as an opening has it.
+fn number_in(opening: &Opening) -> Result<i64, Fail> {
     let root = Root::new(5).ok_or("no root key")?;
-    let rows = folded.opening.table().rows(root).ok_or("no rows")?;
-    let row = rows.get(RowKey::ROOT).ok_or("no row")?;
-    assert!(rt; row.number() == 11);
+    let rows = opening.table().rows(root).ok_or("no rows")?;
+    Ok(rows.get(RowKey::ROOT).ok_or("no row")?.number())
+}
+
+// The rows are in the base and in the opening, and the job that wasn't posted is left.
+fn check_folded<R: Abort>(rt: &R, alloc: Global, folded: &Folded) -> Result<(), Fail> {
+    assert_eq!(rt; text_of(alloc, &folded.gathered)?.as_str(), FOLDED);
+    assert!(rt; number_in(&folded.opening)? == 11);
     assert!(rt; folded.jobs.len() == 1);
     assert!(rt; folded.jobs.iter().all(|job| job.txn.id() == 9));
     Ok(())
 }
 
+#[test]
+fn a_log_is_folded(rt: HostRuntime) -> Result<(), Fail> {
+    match folded(&rt, rt.alloc(), ADD)? {
+        Ok(folded) => check_folded(&rt, rt.alloc(), &folded),
+        Err(_) => Err("it isn't folded")?,
+    }
+}
+
 // A receipt that isn't the answer to its job is told, and nothing is folded.
 #[test]
 fn a_fold_is_refused(rt: HostRuntime) -> Result<(), Fail> {
-    let alloc = rt.alloc();
-    match folded(&rt, alloc, ADD_MORE)? {
-        Err(Unfolded::Unsound(defect)) => {
-            assert!(rt; defect == Defect::ReceiptUnknown);
-            Ok(())
-        }
-        _ => Err("no defect is found")?,
-    }
+    let told = match folded(&rt, rt.alloc(), ADD_MORE)? {
+        Err(Unfolded::Unsound(defect)) => Some(defect),
+        _ => None,
+    };
+    assert!(rt; told == Some(Defect::ReceiptUnknown));
+    Ok(())
 }

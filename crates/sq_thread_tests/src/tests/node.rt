@@ -6,6 +6,7 @@ use sq_pull::{PumpTurn, Request};
 use sq_ranges::SegId;
 use sq_tree::NodeId;
 use std::alloc::Global;
+use std::process::Abort;
 use std::sync::Wait;
 use std::test::Fail;
 
@@ -37,30 +38,41 @@ receipt 9 0 commit 10 none
 receipt 5 0 commit 9 10/-
 ";
 
-// A transaction that waits pulls its leaf, and is answered once its rows came; one of another partition is posted on.
-#[test]
-fn a_pull_of_one_leaf(rt: HostRuntime) -> Result<(), Fail> {
-    let alloc = rt.alloc();
-    let mut run = TestRun::opened(alloc, PAIR, 1)?;
-    run.post(&rt, alloc, "txn 1 9 5 get 0 0")?;
+// A transaction that waits pulls its leaf, and is answered once its rows came.
+fn pulls_its_leaf<R: Wait + Abort>(rt: &R, alloc: Global, run: &mut TestRun) -> Result<(), Fail> {
+    run.post(rt, alloc, "txn 1 9 5 get 0 0")?;
     for part in [0, 1, 0, 1] {
-        run.turn(&rt, part)?;
+        run.turn(rt, part)?;
     }
     assert_eq!(rt;
         run.text_of_receipts(alloc, 1)?.as_str(),
         "receipt 5 0 commit 9 10/-\n"
     );
     for part in [0, 1] {
-        assert!(rt; run.steps(&rt, part)? == [Stepped::Nothing; 8], "{part}");
+        assert!(rt; run.steps(rt, part)? == [Stepped::Nothing; 8], "{part}");
     }
-    run.post(&rt, alloc, "txn 1 10 9 get 0 0")?;
+    Ok(())
+}
+
+// One of another partition is posted on.
+fn is_posted_on<R: Wait + Abort>(rt: &R, alloc: Global, run: &mut TestRun) -> Result<(), Fail> {
+    run.post(rt, alloc, "txn 1 10 9 get 0 0")?;
     for part in [1, 0] {
-        run.turn(&rt, part)?;
+        run.turn(rt, part)?;
     }
     assert_eq!(rt;
         run.text_of_receipts(alloc, 0)?.as_str(),
         "receipt 9 0 commit 10 none\n"
     );
+    Ok(())
+}
+
+#[test]
+fn a_pull_of_one_leaf(rt: HostRuntime) -> Result<(), Fail> {
+    let alloc = rt.alloc();
+    let mut run = TestRun::opened(alloc, PAIR, 1)?;
+    pulls_its_leaf(&rt, alloc, &mut run)?;
+    is_posted_on(&rt, alloc, &mut run)?;
     assert!(rt; run.turn_pump(&rt, 0)? == won(32)?);
     let gathered = run.gathered(&rt, alloc)?;
     let wanted = format!(in alloc; "{PULLED}{SPLIT}{CLAIMED}")?;
