@@ -81,10 +81,19 @@ fn begin_all(part: &mut PartCore<VecStore>) -> Result<(), Fail>
 // The source with these families, once all that moves is begun.
 fn source(alloc: Global, roots: &[u64]) -> Result<PartCore<VecStore>, Fail> {
     let opening = opening(alloc)?;
+    source_of(alloc, &opening, store(alloc, roots)?)
+}
+
+// The source of an opening.
+fn source_of(
+    alloc: Global,
+    opening: &Opening,
+    store: VecStore,
+) -> Result<PartCore<VecStore>, Fail> {
     if opening.recon().segments().is_empty() {
         return Err("nothing moves")?;
     }
-    let mut part = started(alloc, &opening, PartId::new(0), store(alloc, roots)?)?;
+    let mut part = started(alloc, opening, PartId::new(0), store)?;
     begin_all(&mut part)?;
     Ok(part)
 }
@@ -92,11 +101,19 @@ fn source(alloc: Global, roots: &[u64]) -> Result<PartCore<VecStore>, Fail> {
 // The destination, once this chunk came.
 fn destination(alloc: Global, chunk: Option<Chunk>) -> Result<PartCore<VecStore>, Fail> {
     let opening = opening(alloc)?;
-    let parts = opening.old_plan().parts();
-    let mut part = PartCore::open(alloc, &opening, PartId::new(1), VecStore::new(alloc))?;
+    destination_of(alloc, &opening, chunk)
+}
+
+// The destination of an opening.
+fn destination_of(
+    alloc: Global,
+    opening: &Opening,
+    chunk: Option<Chunk>,
+) -> Result<PartCore<VecStore>, Fail> {
+    let mut part = PartCore::open(alloc, opening, PartId::new(1), VecStore::new(alloc))?;
     part.start();
     if let Some(chunk) = chunk {
-        if parts > 0 {
+        if opening.old_plan().parts() > 0 {
             part.put_inbox(PartId::new(0), chunk)?;
         }
     }
@@ -282,12 +299,14 @@ fn have_arrived(part: &PartCore<VecStore>, five: Option<u64>, six: Option<u64>) 
 fn numbers_begin_anew_where_none_is_left(rt: HostRuntime) -> Result<(), Fail> {
     let last = 18_446_744_073_709_551_614;
     let mut part = destination_at(rt.alloc(), last)?;
-    assert!(rt; have_arrived(&part, None, None));
-    assert!(rt; are_answered(rt.alloc(), &mut part, &[(Call::Submit(5), Told::Waits(1))])?);
-    assert!(rt; have_arrived(&part, Some(last), None));
-    assert!(rt; are_answered(rt.alloc(), &mut part, &[(Call::Submit(6), Told::Waits(2))])?);
-    assert!(rt; have_arrived(&part, Some(0), Some(1)));
-    assert!(rt; are_answered(rt.alloc(), &mut part, &[(Call::Resume, Told::Refused(223))])?);
+    for (five, six, call) in [
+        (None, None, (Call::Submit(5), Told::Waits(1))),
+        (Some(last), None, (Call::Submit(6), Told::Waits(2))),
+        (Some(0), Some(1), (Call::Resume, Told::Refused(223))),
+    ] {
+        assert!(rt; have_arrived(&part, five, six));
+        assert!(rt; are_answered(rt.alloc(), &mut part, &[call])?);
+    }
     Ok(())
 }
 

@@ -150,16 +150,17 @@ const REPLIES: [(bool, &str); 6] = [
     (true, "txn 0 1 5 get 0 0 check 0 0 11"),
 ];
 
+// What a family with or without a row answers to the transaction of a line.
+fn replied(alloc: Global, has_row: bool, line: &str) -> Result<Reply, Fail> {
+    family_reply(&mut family(alloc, has_row)?, &transaction(alloc, line)?)
+}
+
 #[test]
 fn equal_replies(rt: HostRuntime) -> Result<(), Fail> {
-    let alloc = rt.alloc();
     for (at, (has_row, line)) in REPLIES.iter().enumerate() {
-        let reply = family_reply(&mut family(alloc, *has_row)?, &transaction(alloc, line)?)?;
+        let reply = replied(rt.alloc(), *has_row, line)?;
         for (other, (has_other, again)) in REPLIES.iter().enumerate() {
-            let second = family_reply(
-                &mut family(alloc, *has_other)?,
-                &transaction(alloc, again)?,
-            )?;
+            let second = replied(rt.alloc(), *has_other, again)?;
             assert!(rt; (reply == second) == (at == other), "{line} and {again}");
         }
     }

@@ -52,18 +52,23 @@ fn rows(alloc: Global) -> Result<Vec<GivenRow>, Fail> {
     Ok(rows)
 }
 
-#[test]
-fn a_world_before_any_step(rt: HostRuntime) -> Result<(), Fail> {
-    let parts = opening(rt.alloc(), "config 1 64 1\n")?.into_parts();
-    let rows = rows(rt.alloc())?;
-    let world = World::open(
-        rt.alloc(),
+// The world of these plans, sizes and rows, each handed in by itself.
+fn fresh_world(alloc: Global) -> Result<World, Fail> {
+    let parts = opening(alloc, "config 1 64 1\n")?.into_parts();
+    let rows = rows(alloc)?;
+    Ok(World::open(
+        alloc,
         parts.schema,
         parts.old,
         parts.new,
         parts.config,
         rows,
-    )?;
+    )?)
+}
+
+#[test]
+fn a_world_before_any_step(rt: HostRuntime) -> Result<(), Fail> {
+    let world = fresh_world(rt.alloc())?;
     assert!(rt; world.phase() == Phase::Idle && world.status(0, 63) == Some(Status::Free));
     for (part, families) in [(0, Some(1)), (1, Some(0)), (2, None)] {
         assert!(rt;
