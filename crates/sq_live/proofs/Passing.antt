@@ -11,17 +11,15 @@ use Rattle.sq_node_model.specs.Gathered.{GatheredValue}
 use Rattle.sq_node_model.specs.Placed.{IsPlaced}
 use Rattle.sq_node_model.specs.Next.{is_whole_in, IsStageDone, next_began}
 use Rattle.sq_audit.specs.declared.job.Job.{Job}
-use Rattle.sq_audit.specs.declared.verdict.Defect.{Defect}
-use Rattle.sq_live.specs.declared.continuing.Continued.TheVariants as continued
 use Rattle.sq_live.specs.declared.outcome.LiveOutcome.{LiveOutcome}
-use Rattle.sq_live.specs.declared.outcome.LiveOutcome.TheVariants as outcome
 use Rattle.sq_live.specs.declared.stages.Ready.{Ready}
+use Rattle.sq_live.specs.declared.stages.AfterStage.{AfterStage}
 use Rattle.sq_live.specs.declared.stages.AfterStage.TheVariants as after
 use Rattle.sq_live.specs.Account.{AccountValue, first_account}
 use Rattle.sq_live.specs.declared.leader.Led.TheVariants.{Next, Ended, Missing}
 use Rattle.sq_live.specs.Leading.{leading, AreComplete, HasGoneOn, HasEnded, Leads}
 use Rattle.sq_live.specs.Judged.{MarksMoved}
-use Rattle.sq_live.specs.Stages.{RanFrom, ContinuesWith, Continues, HavePassed, IsReady, ComesAfterStage}
+use Rattle.sq_live.specs.Stages.{RanFrom, ContinuesWith, HavePassed, IsReady, ComesAfterStage, GoesOnTo}
 use Rattle.sq_live.specs.Live.{WereRun}
 use Rattle.sq_live.proofs.Moved.{complete_by, marked_by, gone_on_by, ended_by}
 
@@ -130,26 +128,16 @@ module _ (old : AccountValue) (g : GatheredValue) (new : AccountValue) (next : G
 -- ---- what comes after a stage
 
 module _ (folds : Bool) (old : AccountValue) (began : BeganWith) (g : GatheredValue) (ran : RanFrom old.opening began g) (at : StageValue) (led : HasGoneOn old.opening g.stage (is_whole_in g) at) where
-  pub next_comes : IsStageDone old.opening g → (new : AccountValue) (next : GatheredValue) → ContinuesWith folds old g new next → (ready : Ready) → ready.account ≡ new → IsReady (next_began new.opening next) ready
-      → ComesAfterStage folds old began (after.Next ready)
-  next_comes done new next continues ready same is = (
+  -- the next stage, or the end at the defect that the fold between the stages found
+  pub goes_on_comes : IsStageDone old.opening g → (next : AfterStage) → GoesOnTo folds old g next → ComesAfterStage folds old began next
+  goes_on_comes done (after.Next ready) goes = (
     g,
-    next_began new.opening next,
-    record {
-      ran = ran;
-      done = done;
-      leader = at;
-      led = led;
-      next = next;
-      continues = subst (λ (a : AccountValue). ContinuesWith folds old g a next) (sym same) continues;
-      later_is = ap (λ (a : AccountValue). next_began a.opening next) (sym same);
-    },
-    is,
+    next_began ready.account.opening goes.0,
+    record { ran = ran; done = done; leader = at; led = led; next = goes.0; continues = goes.1; later_is = refl },
+    goes.2,
   )
-
-  -- or the fold between the stages found a defect
-  pub unsound_comes : (defect : Defect) → Continues folds old g (continued.Unsound defect) → ComesAfterStage folds old began (after.Ended (outcome.Unsound defect))
-  unsound_comes defect found = (g, ran, inl (found.0, at, led, found.1))
+  goes_on_comes done (after.Ended ended) goes =
+      subst (λ (o : LiveOutcome). ComesAfterStage folds old began (after.Ended o)) (sym goes.1) (g, ran, inl (goes.2.0, at, led, goes.2.1))
 
 -- ---- stage by stage
 

@@ -10,10 +10,12 @@ use Rattle.sq_node_model.specs.Next.{is_whole_in, IsStageDone, next_began}
 use Rattle.sq_gather.specs.Reopened.{IsRunInStage}
 use Rattle.sq_audit.specs.declared.job.Job.{Job}
 use Rattle.sq_audit.specs.declared.folded.Folded.{Folded}
+use Rattle.sq_audit.specs.declared.verdict.Defect.{Defect}
 use Rattle.sq_audit.specs.Defects.{IsFirstDefect}
 use Rattle.sq_audit.specs.Folding.{IsFold, answered_jobs}
 use Rattle.sq_live.specs.declared.continuing.Continued.{Continued}
 use Rattle.sq_live.specs.declared.continuing.Continued.TheVariants as continued
+use Rattle.sq_live.specs.declared.outcome.LiveOutcome.TheVariants as outcome
 use Rattle.sq_live.specs.declared.stages.Ready.{Ready}
 use Rattle.sq_live.specs.declared.stages.AfterStage.{AfterStage}
 use Rattle.sq_live.specs.declared.stages.AfterStage.TheVariants as after
@@ -80,3 +82,10 @@ ComesAfterStage folds account began (after.Ended outcome) =
     (g : GatheredValue) × RanFrom account.opening began g × CameTo folds account g outcome
 ComesAfterStage folds account began (after.Next ready) =
     (g : GatheredValue) × (later : BeganWith) × HasPassed folds account began g ready.account later × IsReady later ready
+
+-- what a run goes on to where the leader goes on: the next stage is ready, or the fold's audit ended the run at a defect
+abbrev pub GoesOnTo : Bool → AccountValue → GatheredValue → AfterStage → Type 0
+GoesOnTo folds old g (after.Ended ended) =
+    (defect : Defect) × (ended ≡ outcome.Unsound defect) × Continues folds old g (continued.Unsound defect)
+GoesOnTo folds old g (after.Next ready) =
+    (next : GatheredValue) × ContinuesWith folds old g ready.account next × IsReady (next_began ready.account.opening next) ready

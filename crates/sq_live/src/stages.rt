@@ -8,7 +8,7 @@ ghost use Rattle.sq_gather.specs.Reopened.{IsRunInStage};
 ghost use Rattle.sq_live.specs.Account.{first_account};
 ghost use Rattle.sq_live.specs.Jobs.{HavePartitions};
 ghost use Rattle.sq_live.specs.Leading.{leading};
-ghost use Rattle.sq_live.specs.Stages.{RanFrom, IsReady, ComesAfterStage};
+ghost use Rattle.sq_live.specs.Stages.{RanFrom, IsReady, ComesAfterStage, GoesOnTo};
 ghost use Rattle.sq_live.specs.Live.{WereRun};
 
 use crate::account::Account;
@@ -148,14 +148,32 @@ fn run_stage<R: Threads + Wait + Sync, G: Watch>(
     let gathered = drive_all(rt, alloc, fabric, nodes, pumps, manner.turns, watch)?;
     let moved = moved_segments(&gathered.statuses);
     match lead_on(moving, &account.opening, &moved) {
-        Led::Next(moving) => match continue_with(alloc, manner.folds, account, gathered)? {
-            Continued::With(account, gathered) => {
-                Ok(AfterStage::Next(next_ready(alloc, account, gathered, moving, manner.pumps)?))
-            }
-            Continued::Unsound(defect) => Ok(AfterStage::Ended(LiveOutcome::Unsound(defect))),
-        },
+        Led::Next(moving) => go_on(alloc, account, gathered, moving, manner),
         Led::Ended => Ok(AfterStage::Ended(judge_end(alloc, &account, &gathered, &moved)?)),
         Led::Missing => Ok(AfterStage::Ended(judge_stopped(alloc, &account, &gathered, &moved)?)),
+    }
+}
+
+// What comes after a stage whose segments are complete where the leader goes on.
+fn go_on(
+    alloc: Global,
+    account: Account,
+    gathered: Gathered,
+    moving: Moving,
+    manner: RunManner,
+) -> Result<AfterStage, AllocError>
+    requires placed { IsPlaced account.opening gathered }
+    requires done { IsStageDone account.opening gathered }
+    requires left { length gathered.left ≡ account.opening.old.parts }
+    requires led { moving ≡ leading account.opening (gathered.stage + 1) }
+    ensures { IfOk result (GoesOnTo manner.folds account gathered) }
+{
+    match continue_with(alloc, manner.folds, account, gathered)? {
+        Continued::With(account, gathered) => {
+            let ready = next_ready(alloc, account, gathered, moving, manner.pumps)?;
+            Ok(AfterStage::Next(ready))
+        }
+        Continued::Unsound(defect) => Ok(AfterStage::Ended(LiveOutcome::Unsound(defect))),
     }
 }
 
