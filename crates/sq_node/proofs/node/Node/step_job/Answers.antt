@@ -94,8 +94,7 @@ returns-in-Done g c =
 
 pub returns-in-Moved : goal.returns-in-Moved
 returns-in-Moved g c =
-    unclaimed_told g (goal.at.returns-in-Moved g c).In-Ok (Moved c.in-Moved.to) c.in-Moved.is (λ old new none. none) c.post-in-Moved.new.self.receipts
-    (c.post-in-Moved.ensures ∙ c.reserve.ensures.receipts)
+    unclaimed_told g (goal.at.returns-in-Moved g c).In-Ok (Moved c.in-Moved.to) c.in-Moved.is (λ old new none. none) _ (search rules)
 
 has_room : (g : Over) (c : In-Waits g) → c.reserve-else-is_err.new.self.has_room ≡ true
 has_room g c = search rules
