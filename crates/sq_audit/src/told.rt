@@ -158,7 +158,7 @@ fn is_answered(
     if !may_stand(next, txn, receipt) {
         return Ok(false);
     }
-    let reply = rows.apply(alloc, txn)?;
+    let reply = txn.apply_to(alloc, rows)?;
     Ok(reply == receipt.reply)
 }
 

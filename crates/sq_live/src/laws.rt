@@ -2,7 +2,8 @@
 ghost use Rattle.std.specs.Prelude.{◌≡◌};
 ghost use Rattle.sq_lines.specs.declared.reader.TheConstants.{MAX_LINES};
 ghost use Rattle.sq_lines.specs.declared.buffer.TheConstants.{MAX_UNENDED};
-ghost use Rattle.sq_schema.specs.declared.schema.TheConstants.{MAX_TABLES, MAX_NOTE};
+ghost use Rattle.sq_schema.specs.Prelude.{MAX_NOTE};
+ghost use Rattle.sq_schema.specs.declared.schema.TheConstants.{MAX_TABLES};
 ghost use Rattle.sq_schema.specs.declared.root.TheConstants.{ROOT_END};
 ghost use Rattle.sq_schema.specs.declared.txn.TheConstants.{MAX_OPS};
 ghost use Rattle.sq_schema.specs.declared.family.TheConstants.{MAX_LOG};

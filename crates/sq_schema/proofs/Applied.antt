@@ -3,18 +3,19 @@ use Rattle.std.proofs.Common.{◌≡◌, ℕ, ◌+◌, true, false, not, ◌&&�
 use Rattle.std.specs.Ordering.{eq_by_cmp, is_lt, int_cmp}
 use Rattle.std.specs.Prelude.{ℤ, ◌+ℤ◌}
 use Rattle.std.specs.Result.{result_unwrap_or}
-use Rattle.sq_schema.proofs.Rooted.{is_rooted-with_row, is_rooted-with_known, is_rooted-without_row}
-use Rattle.sq_schema.specs.declared.row.RowKey.{RowKey}
+use Rattle.sq_rows.proofs.Rooted.{is_rooted-with_row, is_rooted-with_known, is_rooted-without_row}
+use Rattle.sq_rows.specs.declared.row.RowKey.{RowKey}
 use Rattle.sq_schema.specs.declared.txn.Op.{Op}
 use Rattle.sq_schema.specs.declared.txn.Op.TheVariants.{Get, Put, Add, Del, Check}
 use Rattle.sq_schema.specs.declared.txn.OpAnswer.{OpAnswer}
 use Rattle.sq_schema.specs.declared.txn.OpAnswer.TheVariants.{Found, Number, Done}
 use Rattle.sq_schema.specs.declared.txn.Cause.TheVariants.{Absent, Small, Range, NoRoot, Children}
-use Rattle.sq_schema.specs.Values.{RowValue}
+use Rattle.sq_rows.specs.Values.{RowValue}
 use Rattle.sq_schema.specs.TxnValue.{TxnValue}
-use Rattle.sq_schema.specs.Keys.{key_cmp}
-use Rattle.sq_schema.specs.Rows.{is_rooted}
-use Rattle.sq_schema.specs.Effect.{RowList, root_key, row_at, with_row, without_row, is_i64, add_outcome, del_outcome, check_outcome, op_outcome, with_answer, then_rest, ops_outcome, rows_after, effect, replay_rows}
+use Rattle.sq_rows.specs.Keys.{key_cmp}
+use Rattle.sq_rows.specs.Rows.{is_rooted}
+use Rattle.sq_rows.specs.RowList.{RowList, root_key, row_at, with_row, without_row}
+use Rattle.sq_schema.specs.Effect.{is_i64, add_outcome, del_outcome, check_outcome, op_outcome, with_answer, then_rest, ops_outcome, rows_after, effect, replay_rows}
 
 -- what an operation leaves: the rows as they were, or with a row put, or with a row deleted
 pub data Edits (rows : RowList) : Op → RowList → Type 0 where

@@ -1,10 +1,9 @@
--- Values that are equal are one value.
+-- Transactions and replies that are equal are one value.
 use Rattle.std.proofs.Common.{◌≡◌, ℕ, ℤ, Bool, ◌&&◌, ap, refl, List, Some, None}
 use Rattle.std.specs.Bool.{Decides}
 use Rattle.std.proofs.lemmas.Bool.Decides.{Decides-and, Decides-like}
 use Rattle.std.specs.Cmp.{unsigned_Decides, signed_Decides}
 use Rattle.std.specs.Cmp.Lexicographic.{pointwise_decides}
-use Rattle.sq_schema.specs.declared.row.RowKey.{RowKey}
 use Rattle.sq_schema.specs.declared.txn.Op.{Op}
 use Rattle.sq_schema.specs.declared.txn.Op.TheVariants.{Get, Put, Add, Del, Check}
 use Rattle.sq_schema.specs.contracts.txn.OpPartialEq.TheImpl as op
@@ -16,29 +15,13 @@ use Rattle.sq_schema.specs.declared.txn.Reply.TheVariants.{Committed, Aborted}
 use Rattle.sq_schema.specs.contracts.txn.OpAnswerPartialEq.TheImpl as answer
 use Rattle.sq_schema.specs.contracts.txn.Cause.{the_type}
 use Rattle.sq_schema.specs.contracts.txn.CausePartialEq.TheImpl as cause
-use Rattle.sq_schema.specs.Values.{RowValue}
+use Rattle.sq_rows.specs.Values.{RowValue}
 use Rattle.sq_schema.specs.TxnValue.{TxnValue}
-use Rattle.sq_schema.specs.Effect.{RowList}
-use Rattle.sq_schema.specs.Equal.{row_eq, row_key_eq, rows_eq}
 use Rattle.sq_schema.specs.Equal.Txns.{txn_eq}
 use Rattle.sq_schema.specs.Equal.Replies.{reply_eq}
+use Rattle.sq_rows.proofs.Equal.{both, row_key_same, row_same}
+pub use Rattle.sq_rows.proofs.Equal.{rows_same}
 use denote.Enum.Bare.{same_true, true_same}
-
--- a value of two parts, each of which a test decides
-both : {A B C : Type 0} (f : A → B → C) (p q : Bool) (a a' : A) (b b' : B) → Decides p (a ≡ a') → Decides q (b ≡ b') → (f a b ≡ f a' b' → (a ≡ a') × (b ≡ b')) → Decides (p && q) (f a b ≡ f a' b')
-both f p q a a' b b' one other parts = Decides-like (p && q) (λ same. let first = same.0 in let second = same.1 in cc) parts (Decides-and p q one other)
-
-row_key_same : (key other : RowKey) → Decides (row_key_eq key other) (key ≡ other)
-row_key_same key other =
-    let of : ℕ → ℕ → RowKey = λ table sub. record { table = table; sub = sub } in
-    both of _ _ key.table other.table key.sub other.sub (unsigned_Decides key.table other.table) (unsigned_Decides key.sub other.sub)
-    (λ same. (ap (λ (k : RowKey). k.table) same, ap (λ (k : RowKey). k.sub) same))
-
-row_same : (row other : RowValue) → Decides (row_eq row other) (row ≡ other)
-row_same row other =
-    let of : ℤ → List ℕ → RowValue = λ number note. record { number = number; note = note } in
-    both of _ _ row.number other.number row.note other.note (signed_Decides row.number other.number) (pointwise_decides unsigned_Decides row.note other.note)
-    (λ same. (ap (λ (r : RowValue). r.number) same, ap (λ (r : RowValue). r.note) same))
 
 op_same : (one other : Op) → Decides ((op.ghosts).eq one other) (one ≡ other)
 op_same (Get key) (Get other) = Decides-like _ (λ same. ap Get same) (λ same. cc) (row_key_same key other)
@@ -56,15 +39,6 @@ txn_same txn other =
     (both pair _ _ txn.root other.root txn.ops other.ops (unsigned_Decides txn.root other.root) (pointwise_decides op_same txn.ops other.ops)
     (λ same. (ap (λ (p : ℕ × List Op). p.0) same, ap (λ (p : ℕ × List Op). p.1) same)))
     (λ same. (ap (λ (t : TxnValue). t.id) same, ap (λ (t : TxnValue). pair t.root t.ops) same))
-
-entry_same : (entry other : RowKey × RowValue) → Decides (row_key_eq entry.0 other.0 && row_eq entry.1 other.1) (entry ≡ other)
-entry_same entry other =
-    let pair : RowKey → RowValue → RowKey × RowValue = λ key row. (key, row) in
-    both pair _ _ entry.0 other.0 entry.1 other.1 (row_key_same entry.0 other.0) (row_same entry.1 other.1)
-    (λ same. (ap (λ (e : RowKey × RowValue). e.0) same, ap (λ (e : RowKey × RowValue). e.1) same))
-
-pub rows_same : (rows others : RowList) → Decides (rows_eq rows others) (rows ≡ others)
-rows_same rows others = pointwise_decides entry_same rows others
 
 answer_same : (one other : OpAnswer) → Decides ((answer.ghosts).eq one other) (one ≡ other)
 answer_same (Found None) (Found None) = ((λ same. refl), (λ same. refl))

@@ -2,8 +2,8 @@
 use Rattle.std.proofs.Common.{◌≡◌, [], refl, ap, ◌∙◌, arith}
 use Rattle.std.proofs.lemmas.List.Elements.{All-nil}
 use Rattle.sq_schema.specs.TxnValue.{TxnValue}
-use Rattle.sq_schema.specs.Effect.{RowList}
-use Rattle.sq_schema.specs.Rows.{is_rooted}
+use Rattle.sq_rows.specs.RowList.{RowList}
+use Rattle.sq_rows.specs.Rows.{is_rooted}
 use Rattle.sq_schema.specs.Standing.{IsKept}
 use Rattle.sq_schema.specs.Family.{FamilyValue}
 use Rattle.sq_schema.proofs.Applied.{is_rooted-replay_rows}

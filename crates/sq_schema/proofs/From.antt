@@ -11,9 +11,9 @@ use Rattle.std.proofs.lemmas.Bool.Decides.{nat_tests}
 use Rattle.std.proofs.lemmas.Cmp.{nat_cmp_total}
 use Rattle.std.proofs.lemmas.List.Elements.{All-from_get_or}
 use Rattle.std.proofs.lemmas.Option.{slice_get_within, get_or_from_slice_get}
-use Rattle.sq_schema.specs.Effect.{RowList}
+use Rattle.sq_rows.specs.RowList.{RowList}
 use Rattle.sq_schema.specs.Table.{TableValue}
-use Rattle.sq_schema.proofs.Entries.{sorted_at, all_below}
+use Rattle.sq_rows.proofs.Entries.{sorted_at, all_below}
 
 -- what passes is what stands from a place on, where none before it passes and all from it on do
 filter_from : {X : Type 0} (p : X → Bool) (xs : List X) (at : ℕ) → at ≤ length xs

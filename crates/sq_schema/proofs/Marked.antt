@@ -2,13 +2,13 @@
 use Rattle.std.proofs.Common.{◌≡◌, ◌%◌, Bool, true, false, cond, List, [], ◌∷◌, ◌++◌, Option, refl, sym, ap, ◌∙◌, arith}
 use Rattle.std.specs.List.{All}
 use Rattle.std.proofs.lemmas.List.Elements.{All-head, All-tail, All-push, All-weaker}
-use Rattle.sq_schema.specs.declared.row.RowKey.{RowKey}
-use Rattle.sq_schema.specs.Values.{RowValue}
-use Rattle.sq_schema.specs.Effect.{RowList, row_at}
-use Rattle.sq_schema.specs.Writes.{Write, with_write, with_writes}
+use Rattle.sq_rows.specs.declared.row.RowKey.{RowKey}
+use Rattle.sq_rows.specs.Values.{RowValue}
+use Rattle.sq_rows.specs.RowList.{RowList, row_at}
+use Rattle.sq_rows.specs.Writes.{Write, with_write, with_writes}
 use Rattle.sq_schema.specs.WrittenKeys.{has_its_mark, AreMarked}
-use Rattle.sq_schema.proofs.KeyOrder.{same_key_from_test}
-use Rattle.sq_schema.proofs.Latest.{is_key, is_key-cmp, row_at-with_write}
+use Rattle.sq_rows.proofs.KeyOrder.{same_key_from_test}
+use Rattle.sq_rows.proofs.Latest.{is_key, is_key-cmp, row_at-with_write}
 
 -- writes of other keys leave the row of a key
 pub row_at-others : (rows : RowList) (key : RowKey) (writes : List Write) → All (λ write. is_key write.0 key ≡ false) writes → row_at (with_writes rows writes) key ≡ row_at rows key

@@ -2,17 +2,18 @@
 use Rattle.std.proofs.Common.{◌≡◌, ℕ, ◌+◌, ◌-◌, ◌*◌, ◌^◌, ◌<◌, ◌≤◌, true, [], ◌∷◌, ◌++◌, length, Some, None, Option, IfSome, arith, refl}
 use Rattle.std.proofs.lemmas.Bool.Decides.{nat_tests}
 use Rattle.std.proofs.lemmas.List.Elements.{All-push}
-use Rattle.sq_schema.specs.declared.row.RowKey.{RowKey}
-use Rattle.sq_schema.specs.Values.{RowValue}
-use Rattle.sq_schema.specs.Effect.{row_at}
-use Rattle.sq_schema.specs.Family.{rows_size}
-use Rattle.sq_schema.specs.declared.schema.TheConstants.{MAX_NOTE}
-use Rattle.sq_schema.specs.Writes.{PendingValue, pending_rows, with_write, is_sound, is_write, count_of_row, size_of_row, IsPending}
-use Rattle.sq_schema.proofs.Kept.{IsRowList-with_write}
-use Rattle.sq_schema.proofs.KeyOrder.{length_bound}
-use Rattle.sq_schema.proofs.Latest.{with_writes-push}
-use Rattle.sq_schema.proofs.Sizes.{rows_size_bound}
-use Rattle.sq_schema.proofs.Weights.{length-with_write, rows_size-with_write}
+use Rattle.sq_rows.specs.declared.row.RowKey.{RowKey}
+use Rattle.sq_rows.specs.Values.{RowValue}
+use Rattle.sq_rows.specs.RowList.{row_at}
+use Rattle.sq_rows.specs.Sizes.{rows_size}
+use Rattle.sq_rows.specs.declared.row.TheConstants.{MAX_NOTE}
+use Rattle.sq_rows.specs.Writes.{with_write, is_sound, is_write, count_of_row, size_of_row}
+use Rattle.sq_schema.specs.Pending.{PendingValue, pending_rows, IsPending}
+use Rattle.sq_rows.proofs.Kept.{IsRowList-with_write}
+use Rattle.sq_rows.proofs.KeyOrder.{length_bound}
+use Rattle.sq_rows.proofs.Latest.{with_writes-push}
+use Rattle.sq_rows.proofs.Sizes.{rows_size_bound}
+use Rattle.sq_rows.proofs.Weights.{length-with_write, rows_size-with_write}
 
 pub is_sound_from : (key : RowKey) (row : Option RowValue) → key.table < 2 ^ 8 → key.sub < 2 ^ 32 → IfSome row (λ row. length row.note ≤ MAX_NOTE) → is_sound key row ≡ true
 is_sound_from key None table sub short = refl

@@ -4,7 +4,8 @@ use Rattle.std.proofs.lemmas.List.Elements.{All-push}
 use Rattle.std.proofs.lemmas.List.Sums.{fold_push}
 use Rattle.sq_schema.specs.declared.family.TheConstants.{MAX_LOG}
 use Rattle.sq_schema.specs.TxnValue.{TxnValue}
-use Rattle.sq_schema.specs.Effect.{RowList, effect, replay_rows, RowTable, table_after, replay, only}
+use Rattle.sq_rows.specs.RowList.{RowList}
+use Rattle.sq_schema.specs.Effect.{effect, replay_rows, RowTable, table_after, replay, only}
 use Rattle.sq_schema.specs.Family.{FamilyValue, logged}
 use Rattle.sq_schema.specs.Standing.{IsKept}
 

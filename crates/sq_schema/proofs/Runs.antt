@@ -4,7 +4,8 @@ use Rattle.std.proofs.lemmas.List.{drop_more, drop_all}
 use Rattle.sq_schema.specs.declared.txn.Op.{Op}
 use Rattle.sq_schema.specs.declared.txn.OpAnswer.{OpAnswer}
 use Rattle.sq_schema.specs.declared.txn.Cause.{Cause}
-use Rattle.sq_schema.specs.Effect.{RowList, op_outcome, OpsOutcome, with_answer, then_rest, ops_outcome}
+use Rattle.sq_rows.specs.RowList.{RowList}
+use Rattle.sq_schema.specs.Effect.{op_outcome, OpsOutcome, with_answer, then_rest, ops_outcome}
 use Rattle.sq_schema.specs.Refusals.{op_fault, ops_fault}
 use Rattle.sq_schema.proofs.Sound.{or_none}
 

@@ -11,18 +11,19 @@ use Rattle.std.proofs.lemmas.Bool.Decides.{nat_tests}
 use Rattle.std.proofs.lemmas.Cmp.{nat_cmp_total, eq_by_cmp_equiv}
 use Rattle.std.proofs.lemmas.Map.Entries.{All-lookup}
 use Rattle.std.proofs.lemmas.List.Elements.{All-nil, All-cons, All-head, All-tail}
-use Rattle.sq_schema.specs.declared.row.RowKey.{RowKey}
-use Rattle.sq_schema.specs.Values.{RowValue}
-use Rattle.sq_schema.specs.Effect.{RowList, root_key, row_at, with_row, effect, table_after}
+use Rattle.sq_rows.specs.declared.row.RowKey.{RowKey}
+use Rattle.sq_rows.specs.Values.{RowValue}
+use Rattle.sq_rows.specs.RowList.{RowList, root_key, row_at, with_row}
+use Rattle.sq_schema.specs.Effect.{effect, table_after}
 use Rattle.sq_schema.specs.TxnValue.{TxnValue}
-use Rattle.sq_schema.specs.Keys.{key_cmp}
-use Rattle.sq_schema.specs.Rows.{is_rooted}
+use Rattle.sq_rows.specs.Keys.{key_cmp}
+use Rattle.sq_rows.specs.Rows.{is_rooted}
 use Rattle.sq_schema.specs.declared.fault.RowFault.TheVariants.{RowRepeated, NoRootRow}
-use Rattle.sq_schema.proofs.Rooted.{is_rooted-with_row}
+use Rattle.sq_rows.proofs.Rooted.{is_rooted-with_row}
 use Rattle.sq_schema.specs.Table.{TableValue, IsTable, rows_in, is_opening, row_given_fault, with_given}
-use Rattle.sq_schema.proofs.Entries.{find-lookup, insert_entry-put}
-use Rattle.sq_schema.proofs.Kept.{to_T, from_T}
-use Rattle.sq_schema.proofs.Latest.{nat_eq-cmp}
+use Rattle.sq_rows.proofs.Entries.{find-lookup, insert_entry-put}
+use Rattle.sq_rows.proofs.Kept.{to_T, from_T}
+use Rattle.sq_rows.proofs.Latest.{nat_eq-cmp}
 
 -- what a map holds after a change at one root key
 pub rows_in-updates : (old new : TableValue) (root : ℕ) (rows : Option RowList) → ((k : ℕ) → lookup (is_at (nat_cmp k)) new ≡ cond (is_at (nat_cmp root) k) rows (lookup (is_at (nat_cmp k)) old)) → (k : ℕ) → rows_in new k ≡ (if root == k then unwrap_or rows [] else rows_in old k)

@@ -1,8 +1,7 @@
 -- What a transaction does to the rows of its root key, and what it is answered.
 use Rattle.std.specs.Prelude.{ℕ, ℤ, Bool, ◌+◌, ◌^◌, ◌+ℤ◌, ◌==◌, ◌&&◌, not, nat_lt, if◌then◌else◌, List, [], ◌∷◌, length, fold, filter, Option, Some, None, Result, Ok, Err, is_some, pos, negsuc}
 use Rattle.std.specs.Ordering.{eq_by_cmp, int_cmp, is_lt}
-use Rattle.std.specs.FinMap.Entries.{find, put, where_key}
-use Rattle.sq_schema.specs.declared.row.RowKey.{RowKey}
+use Rattle.sq_rows.specs.declared.row.RowKey.{RowKey}
 use Rattle.sq_schema.specs.declared.txn.Op.{Op}
 use Rattle.sq_schema.specs.declared.txn.Op.TheVariants.{Get, Put, Add, Del, Check}
 use Rattle.sq_schema.specs.declared.txn.OpAnswer.{OpAnswer}
@@ -11,29 +10,10 @@ use Rattle.sq_schema.specs.declared.txn.Cause.{Cause}
 use Rattle.sq_schema.specs.declared.txn.Cause.TheVariants.{Absent, Small, Range, NoRoot, Children}
 use Rattle.sq_schema.specs.declared.txn.Reply.{Reply}
 use Rattle.sq_schema.specs.declared.txn.Reply.TheVariants.{Committed, Aborted}
-use Rattle.sq_schema.specs.Values.{RowValue}
-use Rattle.sq_schema.specs.Keys.{key_cmp}
+use Rattle.sq_rows.specs.Values.{RowValue}
+use Rattle.sq_rows.specs.Keys.{key_cmp}
+pub use Rattle.sq_rows.specs.RowList.{RowList, root_key, row_at, with_row, without_row}
 use Rattle.sq_schema.specs.TxnValue.{TxnValue}
-
--- the rows of one root key, by key in rising order
-abbrev pub RowList : Type 0
-RowList = List (RowKey × RowValue)
-
--- the key of the root row
-abbrev pub root_key : RowKey
-root_key = record { table = 0; sub = 0 }
-
--- the row that a key has, if it has one
-abbrev pub row_at : RowList → RowKey → Option RowValue
-row_at rows key = find key_cmp key rows
-
--- the rows with this one put, new or in place of the one that stands
-abbrev pub with_row : RowList → RowKey → RowValue → RowList
-with_row rows key row = put key_cmp key row rows
-
--- the rows without that of a key
-abbrev pub without_row : RowList → RowKey → RowList
-without_row rows key = where_key key_cmp (λ other. not (eq_by_cmp key_cmp key other)) rows
 
 -- a number that an `i64` holds
 abbrev pub is_i64 : ℤ → Bool

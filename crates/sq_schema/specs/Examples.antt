@@ -1,11 +1,11 @@
 -- Worked examples.
 use Rattle.std.specs.Prelude.{ℕ, ℤ, pos, negsuc, List, [], ◌∷◌}
-use Rattle.sq_schema.specs.declared.row.RowKey.{RowKey}
+use Rattle.sq_rows.specs.declared.row.RowKey.{RowKey}
 use Rattle.sq_schema.specs.declared.txn.Op.{Op}
 use Rattle.sq_schema.specs.declared.txn.Op.TheVariants.{Get, Put, Add, Del, Check}
-use Rattle.sq_schema.specs.Values.{RowValue}
+use Rattle.sq_rows.specs.Values.{RowValue}
 use Rattle.sq_schema.specs.TxnValue.{TxnValue}
-use Rattle.sq_schema.specs.Effect.{RowList, root_key}
+use Rattle.sq_rows.specs.RowList.{RowList, root_key}
 
 -- a row without a note
 abbrev pub plain : ℤ → RowValue

@@ -1,9 +1,10 @@
 -- A family: the rows of one root key, with the rows that its log starts from and the transactions that committed since.
-use Rattle.std.specs.Prelude.{ℕ, Bool, ◌+◌, ◌==◌, ◌||◌, not, List, [], ◌∷◌, ◌++◌, length, sum_by}
+use Rattle.std.specs.Prelude.{ℕ, Bool, ◌==◌, ◌||◌, not, List, [], ◌∷◌, ◌++◌, length}
 use Rattle.sq_schema.specs.declared.txn.Reply.{Reply}
 use Rattle.sq_schema.specs.declared.txn.Reply.TheVariants.{Committed, Aborted}
-use Rattle.sq_schema.specs.Values.{RowValue}
-use Rattle.sq_schema.specs.Effect.{RowList, replay_rows}
+use Rattle.sq_rows.specs.RowList.{RowList}
+pub use Rattle.sq_rows.specs.Sizes.{row_size, rows_size}
+use Rattle.sq_schema.specs.Effect.{replay_rows}
 use Rattle.sq_schema.specs.TxnValue.{TxnValue}
 
 -- a root key, the rows that its log starts from, and its log
@@ -15,14 +16,6 @@ pub record FamilyValue : Type 0 where
 -- its rows are the replay of its log on its base
 abbrev pub rows_of : FamilyValue → RowList
 rows_of family = replay_rows family.base family.log
-
--- the size in bytes of a row in its family
-abbrev pub row_size : RowValue → ℕ
-row_size row = 24 + length row.note
-
--- the size in bytes of a family with these rows
-abbrev pub rows_size : RowList → ℕ
-rows_size rows = 32 + sum_by (λ entry. row_size entry.1) rows
 
 -- a family stands that has rows to start from, or a log
 abbrev pub family_stands : FamilyValue → Bool

@@ -1,10 +1,10 @@
 -- Why a transaction is refused before it runs.
 use Rattle.std.specs.Prelude.{ℕ, ◌==◌, ◌&&◌, ◌||◌, not, nat_lt, if◌then◌else◌, List, [], ◌∷◌, length, Option, Some, None}
 use Rattle.std.specs.Option.{option_or}
-use Rattle.sq_schema.specs.Values.{RowValue}
+use Rattle.sq_rows.specs.Values.{RowValue}
 use Rattle.sq_schema.specs.declared.root.TheConstants.{ROOT_END}
-use Rattle.sq_schema.specs.declared.row.RowKey.{RowKey}
-use Rattle.sq_schema.specs.declared.schema.TheConstants.{MAX_NOTE}
+use Rattle.sq_rows.specs.declared.row.RowKey.{RowKey}
+use Rattle.sq_rows.specs.declared.row.TheConstants.{MAX_NOTE}
 use Rattle.sq_schema.specs.declared.txn.TheConstants.{MAX_OPS}
 use Rattle.sq_schema.specs.declared.txn.Op.{Op}
 use Rattle.sq_schema.specs.declared.txn.Op.TheVariants.{Get, Put, Add, Del, Check}

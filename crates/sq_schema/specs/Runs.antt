@@ -6,10 +6,11 @@ use Rattle.sq_schema.specs.declared.txn.OpAnswer.{OpAnswer}
 use Rattle.sq_schema.specs.declared.pending.Stop.{Stop}
 use Rattle.sq_schema.specs.declared.pending.Stop.TheVariants.{Abort, Memory}
 use Rattle.sq_schema.specs.declared.pending.RunOutcome.{RunOutcome}
-use Rattle.sq_schema.specs.Effect.{RowList, OpOutcome, ops_outcome, reply_of, rows_after}
-use Rattle.sq_schema.specs.Family.{rows_size}
-use Rattle.sq_schema.specs.Writes.{is_write, with_writes}
-use Rattle.sq_schema.specs.WriteList.{writes_of}
+use Rattle.sq_rows.specs.RowList.{RowList}
+use Rattle.sq_schema.specs.Effect.{OpOutcome, ops_outcome, reply_of, rows_after}
+use Rattle.sq_rows.specs.Sizes.{rows_size}
+use Rattle.sq_rows.specs.Writes.{is_write, with_writes}
+use Rattle.sq_rows.specs.WriteList.{writes_of}
 
 -- an operation with this outcome ends so: with its answer and these rows after it, for its cause, or because memory ran out
 abbrev pub ComesTo : OpOutcome → RowList → Result OpAnswer Stop → Type 0

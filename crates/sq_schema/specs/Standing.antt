@@ -1,8 +1,8 @@
 -- What every family keeps.
 use Rattle.std.specs.Prelude.{◌≡◌, true, ◌≤◌, length}
 use Rattle.std.specs.List.{All}
-use Rattle.sq_schema.specs.Effect.{RowList}
-use Rattle.sq_schema.specs.Rows.{is_rooted}
+use Rattle.sq_rows.specs.RowList.{RowList}
+use Rattle.sq_rows.specs.Rows.{is_rooted}
 use Rattle.sq_schema.specs.declared.family.TheConstants.{MAX_LOG}
 use Rattle.sq_schema.specs.Family.{FamilyValue, rows_of}
 

@@ -3,12 +3,13 @@ use Rattle.std.specs.Prelude.{◌≡◌, ℕ, Bool, true, ◌==◌, ◌&&◌, no
 use Rattle.std.specs.List.{AllPass}
 use Rattle.std.specs.Ordering.{nat_cmp}
 use Rattle.std.specs.FinMap.Entries.{find, is_sorted}
-use Rattle.sq_schema.specs.declared.row.RowKey.{RowKey}
+use Rattle.sq_rows.specs.declared.row.RowKey.{RowKey}
 use Rattle.sq_schema.specs.declared.fault.RowFault.{RowFault}
 use Rattle.sq_schema.specs.declared.fault.RowFault.TheVariants.{RowRepeated, NoRootRow, Memory}
-use Rattle.sq_schema.specs.Values.{RowValue}
-use Rattle.sq_schema.specs.Effect.{RowList, RowTable, root_key, row_at, with_row}
-use Rattle.sq_schema.specs.Rows.{is_rooted}
+use Rattle.sq_rows.specs.Values.{RowValue}
+use Rattle.sq_rows.specs.RowList.{RowList, root_key, row_at, with_row}
+use Rattle.sq_schema.specs.Effect.{RowTable}
+use Rattle.sq_rows.specs.Rows.{is_rooted}
 
 -- the rows of the root keys that have some, by rising root key
 abbrev pub TableValue : Type 0

@@ -1,9 +1,9 @@
 -- Marks of keys that were written.
 use Rattle.std.specs.Prelude.{◌≡◌, Bool, true, false, ◌%◌, List, slice_index_or}
 use Rattle.std.specs.List.{AllPass}
-use Rattle.sq_schema.specs.declared.row.RowKey.{RowKey}
+use Rattle.sq_rows.specs.declared.row.RowKey.{RowKey}
 use Rattle.sq_schema.specs.declared.written_keys.TheConstants.{MARKS}
-use Rattle.sq_schema.specs.Writes.{Write}
+use Rattle.sq_rows.specs.Writes.{Write}
 
 -- the key has its mark, which it may share
 abbrev pub has_its_mark : List Bool → RowKey → Bool

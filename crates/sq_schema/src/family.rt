@@ -2,15 +2,16 @@
 ghost use Rattle.std.specs.Prelude.{◌≡◌, ◌≤◌, ◌↔◌, true, [], length, IfOk, IfErr, OnErr, IsErrOf, IsTrue};
 ghost use Rattle.std.specs.List.{All};
 ghost use Rattle.sq_schema.specs.Effect.{reply};
-ghost use Rattle.sq_schema.specs.Family.{rows_of, rows_size, family_stands, folded, answered};
-ghost use Rattle.sq_schema.specs.Rows.{is_rooted};
+ghost use Rattle.sq_rows.specs.Sizes.{rows_size};
+ghost use Rattle.sq_schema.specs.Family.{rows_of, family_stands, folded, answered};
+ghost use Rattle.sq_rows.specs.Rows.{is_rooted};
 
 use crate::fault::ApplyFault;
 use crate::logged_rows::LoggedRows;
 use crate::pending::{RunOutcome, run};
 use crate::root::Root;
-use crate::rows::Rows;
 use crate::txn::{Reply, Txn};
+use sq_rows::Rows;
 use std::alloc::Global;
 use std::marker::Model;
 

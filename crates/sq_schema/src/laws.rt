@@ -4,11 +4,12 @@ ghost use Rattle.sq_schema.specs.declared.txn.OpAnswer.TheVariants.{Found, Numbe
 ghost use Rattle.sq_schema.specs.declared.txn.Cause.TheVariants.{Absent, Small, Range, NoRoot, Children};
 ghost use Rattle.sq_schema.specs.declared.txn.Reply.TheVariants.{Committed, Aborted};
 ghost use Rattle.sq_schema.specs.declared.txn.Reply.{Reply};
-ghost use Rattle.sq_schema.specs.Equal.{rows_eq};
+ghost use Rattle.sq_rows.specs.Equal.{rows_eq};
 ghost use Rattle.sq_schema.specs.Equal.Txns.{txn_eq};
 ghost use Rattle.sq_schema.specs.Equal.Replies.{reply_eq};
 ghost use Rattle.sq_schema.specs.TxnValue.{TxnValue};
-ghost use Rattle.sq_schema.specs.Effect.{RowList, RowTable, root_key, reply, effect, replay, replay_rows, only};
+ghost use Rattle.sq_rows.specs.RowList.{RowList, root_key};
+ghost use Rattle.sq_schema.specs.Effect.{RowTable, reply, effect, replay, replay_rows, only};
 ghost use Rattle.sq_schema.specs.Examples.{ten, plain, hi, key, adds_largest, deletes_parent, puts_child, checks, deletes_absent, puts_and_adds, adds_one, gets_and_deletes, gets};
 
 /// Replies of transactions on a root row of 10 and on no rows, each worked out by hand.

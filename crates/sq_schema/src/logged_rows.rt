@@ -1,12 +1,12 @@
 // Rows, with those that a log starts from.
 ghost use Rattle.std.specs.Prelude.{◌≡◌, OnOk, OnErr};
 ghost use Rattle.std.specs.List.{AllPass};
-ghost use Rattle.sq_schema.specs.Family.{rows_size};
-ghost use Rattle.sq_schema.specs.Writes.{is_write, with_writes};
-ghost use Rattle.sq_schema.specs.WriteList.{writes_of};
+ghost use Rattle.sq_rows.specs.Sizes.{rows_size};
+ghost use Rattle.sq_rows.specs.Writes.{is_write, with_writes};
+ghost use Rattle.sq_rows.specs.WriteList.{writes_of};
 
-use crate::rows::Rows;
-use crate::write_list::WriteList;
+use sq_rows::Rows;
+use sq_rows::write_list::WriteList;
 use std::alloc::{AllocError, Global};
 use std::marker::Model;
 

@@ -1,15 +1,16 @@
 // Operations on the rows of a root key, which make no write before all of them have run.
 ghost use Rattle.std.specs.Prelude.{◌≡◌, ◌≤◌, ◌++◌, ◌∷◌, [], None, length, IfOk, IfSome, OnOk};
 ghost use Rattle.std.specs.Option.{option_copied};
-ghost use Rattle.sq_schema.specs.declared.schema.TheConstants.{MAX_NOTE, MAX_TABLES};
+ghost use Rattle.sq_rows.specs.declared.row.TheConstants.{MAX_NOTE};
+ghost use Rattle.sq_schema.specs.declared.schema.TheConstants.{MAX_TABLES};
 ghost use Rattle.sq_schema.specs.Refusals.{ops_fault};
 ghost use Rattle.sq_schema.specs.Runs.{EndsBy};
 
-use crate::row::{Row, RowKey};
-use crate::rows::{Rows, weight};
 use crate::txn::{Cause, Op, OpAnswer, OpAnswers, Reply};
-use crate::write_list::WriteList;
 use crate::written_keys::WrittenKeys;
+use sq_rows::rows::weight;
+use sq_rows::write_list::WriteList;
+use sq_rows::{Row, RowKey, Rows};
 use std::alloc::{AllocError, Global};
 use std::marker::Model;
 
@@ -27,8 +28,8 @@ pub(crate) struct PendingRows<'a> {
 }
 
 impl<'a> Model for PendingRows<'a> {
-    ghost use Rattle.sq_schema.specs.Writes.{PendingValue, IsPending};
-    ghost use Rattle.sq_schema.specs.WriteList.{writes_of};
+    ghost use Rattle.sq_schema.specs.Pending.{PendingValue, IsPending};
+    ghost use Rattle.sq_rows.specs.WriteList.{writes_of};
     ghost use Rattle.sq_schema.specs.WrittenKeys.{AreMarked};
 
     ghost Value = { PendingValue };
@@ -80,9 +81,11 @@ impl From<AllocError> for Stop {
 }
 
 impl<'a> PendingRows<'a> {
-    ghost use Rattle.sq_schema.specs.Effect.{row_at, op_outcome};
+    ghost use Rattle.sq_rows.specs.RowList.{row_at};
+    ghost use Rattle.sq_schema.specs.Effect.{op_outcome};
     ghost use Rattle.sq_schema.specs.Refusals.{op_fault};
-    ghost use Rattle.sq_schema.specs.Writes.{count_of_row, size_of_row, is_write, pending_rows};
+    ghost use Rattle.sq_rows.specs.Writes.{count_of_row, size_of_row, is_write};
+    ghost use Rattle.sq_schema.specs.Pending.{pending_rows};
     ghost use Rattle.sq_schema.specs.Runs.{ComesTo};
 
     // These rows without writes, of which there will be this many at most.

@@ -5,16 +5,14 @@ ghost use Rattle.std.specs.Option.{option_copied};
 ghost use Rattle.std.specs.Ordering.{nat_cmp};
 ghost use Rattle.std.specs.FinMap.Entries.{find, put, is_sorted};
 ghost use Rattle.sq_schema.specs.declared.root.TheConstants.{ROOT_END};
-ghost use Rattle.sq_schema.specs.declared.schema.TheConstants.{MAX_NOTE};
-ghost use Rattle.sq_schema.specs.Effect.{with_row};
+ghost use Rattle.sq_rows.specs.declared.row.TheConstants.{MAX_NOTE};
+ghost use Rattle.sq_rows.specs.RowList.{with_row};
 ghost use Rattle.sq_schema.specs.RootList.{table_of};
 ghost use Rattle.sq_schema.specs.Table.{rows_in};
 
-use crate::entry_iter::EntryIter;
-use crate::keyed_entries::{get, insert, map_of, moves_entries, place};
 use crate::root::Root;
-use crate::row::{Row, RowKey};
-use crate::rows::Rows;
+use sq_rows::keyed_entries::{get, insert, map_of, moves_entries, place};
+use sq_rows::{EntryIter, Row, RowKey, Rows};
 use std::alloc::{AllocError, AllocFailed, Global};
 use std::collections::BTreeMap;
 

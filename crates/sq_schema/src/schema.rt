@@ -5,14 +5,11 @@ ghost use Rattle.std.specs.Result.{result_err};
 ghost use Rattle.sq_schema.specs.Refusals.{key_fault, row_fault};
 
 use crate::fault::TxnFault;
-use crate::row::{Row, RowKey};
+use sq_rows::{MAX_NOTE, Row, RowKey};
 use std::marker::Model;
 
 /// The most tables that a schema has.
 pub const MAX_TABLES: u8 = 8;
-
-/// The most bytes that a note has.
-pub const MAX_NOTE: usize = 255;
 
 /// The tables of a database: 1 to [`MAX_TABLES`] of them, numbered from 0. To a contract it is their count.
 #[derive(Clone, Copy, Debug, PartialEq, Eq)]

@@ -8,16 +8,14 @@ ghost use Rattle.sq_schema.specs.declared.root.TheConstants.{ROOT_END};
 ghost use Rattle.sq_schema.specs.declared.schema.TheConstants.{MAX_TABLES};
 ghost use Rattle.sq_schema.specs.Effect.{replay, table_after};
 ghost use Rattle.sq_schema.specs.Refusals.{row_fault};
-ghost use Rattle.sq_schema.specs.Rows.{is_rooted};
+ghost use Rattle.sq_rows.specs.Rows.{is_rooted};
 ghost use Rattle.sq_schema.specs.Table.{IsTable, rows_in, is_opening, row_given_fault, RefusesBy, with_given, with_rows};
 
-use crate::entry_iter::EntryIter;
 use crate::fault::RowFault;
 use crate::root::Root;
 use crate::root_list::RootList;
-use crate::row::{Row, RowKey};
-use crate::rows::Rows;
 use crate::txn::Txn;
+use sq_rows::{EntryIter, Row, RowKey, Rows};
 use std::alloc::{AllocError, AllocFailed, Global};
 use std::collections::BTreeMap;
 use std::marker::Model;
@@ -32,8 +30,8 @@ pub struct Table {
 
 impl Model for Table {
     ghost use Rattle.std.specs.Prelude.{ℕ, List};
-    ghost use Rattle.sq_schema.specs.Values.{RowValue};
-    ghost use Rattle.sq_schema.specs.declared.row.RowKey.{RowKey};
+    ghost use Rattle.sq_rows.specs.Values.{RowValue};
+    ghost use Rattle.sq_rows.specs.declared.row.RowKey.{RowKey};
     ghost use Rattle.sq_schema.specs.RootList.{table_of};
     ghost use Rattle.sq_schema.specs.Table.{IsTable};
 
@@ -196,7 +194,7 @@ fn run(alloc: Global, table: &mut BTreeMap<Root, Rows>, txn: &Txn) -> Result<(),
 {
     let root = txn.root();
     let mut rows = table.remove(&root).unwrap_or(Rows::new(alloc));
-    rows.run(alloc, txn)?;
+    txn.run_on(alloc, &mut rows)?;
     if !rows.is_empty() {
         drop(table.insert(root, rows)?);
     } else {

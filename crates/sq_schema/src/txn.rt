@@ -6,8 +6,8 @@ ghost use Rattle.std.specs.Result.{result_err};
 use crate::fault::TxnFault;
 use crate::op_list::OpList;
 use crate::root::Root;
-use crate::row::{Row, RowKey};
 use crate::schema::{Schema, check_key, check_row};
+use sq_rows::{Row, RowKey};
 use std::alloc::AllocError;
 use std::marker::Model;
 

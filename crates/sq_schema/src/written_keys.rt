@@ -1,9 +1,9 @@
 // Which keys were written.
 ghost use Rattle.std.specs.Prelude.{◌≡◌, ◌%◌, true};
-ghost use Rattle.sq_schema.specs.declared.row.RowKey.{RowKey};
+ghost use Rattle.sq_rows.specs.declared.row.RowKey.{RowKey};
 ghost use Rattle.sq_schema.specs.WrittenKeys.{has_its_mark};
 
-use crate::row::RowKey;
+use sq_rows::RowKey;
 
 // How many marks there are.
 const MARKS: u32 = 256;

@@ -1,7 +1,7 @@
 -- What reads the front of the words leaves fewer of them.
 use Rattle.std.proofs.Common.{◌≡◌, ℕ, ◌^◌, ◌<◌, Bool, true, false, cond, List, [], ◌∷◌, length, Option, Some, None, refl, ap, arith}
 use Rattle.std.specs.Prelude.{option_map, nat_lt}
-use Rattle.sq_schema.specs.declared.row.RowKey.{RowKey}
+use Rattle.sq_schema.specs.RowKey.{RowKey}
 use Rattle.sq_schema.specs.declared.txn.Op.{Op}
 use Rattle.sq_schema.specs.declared.txn.Op.TheVariants as op
 use Rattle.sq_schema.specs.Values.{RowValue}

@@ -1,6 +1,6 @@
 -- The fields of a line, each read from the front of the words: what it is, and the words after it.
 use Rattle.std.specs.Prelude.{ℕ, ℤ, ◌^◌, nat_lt, if◌then◌else◌, List, [], ◌∷◌, Option, Some, None, option_map}
-use Rattle.sq_schema.specs.declared.row.RowKey.{RowKey}
+use Rattle.sq_schema.specs.RowKey.{RowKey}
 use Rattle.sq_schema.specs.Values.{RowValue}
 use Rattle.sq_text.specs.Words.{Word, ◌>>=◌}
 use Rattle.sq_text.specs.Numbers.{unsigned_in, signed_in}

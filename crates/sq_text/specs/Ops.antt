@@ -1,6 +1,6 @@
 -- The operations of a transaction, as the words of its line spell them.
 use Rattle.std.specs.Prelude.{ℕ, zero, suc, List, [], ◌∷◌, length, Option, Some, None}
-use Rattle.sq_schema.specs.declared.row.RowKey.{RowKey}
+use Rattle.sq_schema.specs.RowKey.{RowKey}
 use Rattle.sq_schema.specs.declared.txn.Op.{Op}
 use Rattle.sq_schema.specs.declared.txn.Op.TheVariants as op
 use Rattle.sq_text.specs.declared.verb.OpName.{OpName}

@@ -2,7 +2,7 @@
 use Rattle.std.specs.Prelude.{ℕ, Bool, true, false, not, ◌==◌, ◌+◌, ◌/◌, ◌%◌, nat_lt, if◌then◌else◌, List, [], ◌∷◌, ◌++◌, length, map, Option, Some, None, decimal, codes}
 use Rattle.std.specs.List.{flat_map, join_with_byte}
 use Rattle.std.specs.Fmt.{signed_decimal, digit_glyph}
-use Rattle.sq_schema.specs.declared.row.RowKey.{RowKey}
+use Rattle.sq_schema.specs.RowKey.{RowKey}
 use Rattle.sq_schema.specs.declared.txn.Cause.{Cause}
 use Rattle.sq_schema.specs.declared.txn.Cause.TheVariants.{Absent, Small, Range, NoRoot, Children}
 use Rattle.sq_schema.specs.declared.txn.OpAnswer.{OpAnswer}

@@ -107,7 +107,7 @@ fn rows_without_a_log(rt: HostRuntime) -> Result<(), Fail> {
         let mut family = family(alloc, has_row)?;
         let mut rows = family.rows().clone()?;
         let txn = transaction(alloc, line)?;
-        let reply = rows.apply(alloc, &txn)?;
+        let reply = txn.apply_to(alloc, &mut rows)?;
         assert!(rt; reply == family_reply(&mut family, &txn)?, "{line}");
         assert!(rt; rows == *family.rows() && rows.size() == size, "{line}");
         assert!(rt; reply_line(alloc, reply)?.as_str() == want, "{line}");

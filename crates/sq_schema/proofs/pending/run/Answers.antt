@@ -1,10 +1,12 @@
 use Rattle.std.proofs.Common.{◌≡◌, true, Ok, Err, sym, ap, ◌∙◌, arith}
 use Rattle.std.proofs.lemmas.List.Elements.{All-nil}
 use Rattle.sq_schema.specs.declared.schema.TheConstants.{MAX_TABLES}
-use Rattle.sq_schema.specs.Effect.{RowList, ops_outcome, reply_of, rows_after}
-use Rattle.sq_schema.specs.Family.{rows_size}
-use Rattle.sq_schema.specs.Writes.{PendingValue, is_write, with_writes, pending_rows}
-use Rattle.sq_schema.specs.WriteList.{writes_of}
+use Rattle.sq_rows.specs.RowList.{RowList}
+use Rattle.sq_schema.specs.Effect.{ops_outcome, reply_of, rows_after}
+use Rattle.sq_rows.specs.Sizes.{rows_size}
+use Rattle.sq_rows.specs.Writes.{is_write, with_writes}
+use Rattle.sq_schema.specs.Pending.{PendingValue, pending_rows}
+use Rattle.sq_rows.specs.WriteList.{writes_of}
 use Rattle.sq_schema.proofs.Runs.{op_fault-at, ran_one, aborted_at, ran_all}
 use Rattle.sq_schema.proofs.pending.run.Goals as goal
 

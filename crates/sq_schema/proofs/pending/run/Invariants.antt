@@ -1,6 +1,6 @@
 use Rattle.std.proofs.Common.{◌≡◌, drop}
 use Rattle.sq_schema.specs.Effect.{ops_outcome}
-use Rattle.sq_schema.specs.Writes.{pending_rows}
+use Rattle.sq_schema.specs.Pending.{pending_rows}
 use Rattle.sq_schema.proofs.Runs.{with_answers}
 use Rattle.sq_schema.proofs.pending.run.Given as goal
 

@@ -5,9 +5,9 @@ use Rattle.std.specs.Ordering.{nat_cmp}
 use Rattle.std.proofs.lemmas.Bool.{and_from, eqb-true}
 use Rattle.std.proofs.lemmas.List.{nil_from_length}
 use Rattle.sq_schema.specs.Effect.{effect}
-use Rattle.sq_schema.specs.Rows.{is_rooted}
+use Rattle.sq_rows.specs.Rows.{is_rooted}
 use Rattle.sq_schema.specs.Table.{rows_in, is_opening}
-use Rattle.sq_schema.proofs.Entries.{find-lookup, sorted_from_keys}
+use Rattle.sq_rows.proofs.Entries.{find-lookup, sorted_from_keys}
 use Rattle.sq_schema.proofs.Applied.{is_rooted-effect}
 use Rattle.sq_schema.proofs.Tables.{All-insert_entry, All-remove_entry, rows_in-updates, is_rooted-rows_in, rows_in-run, rows_in-twice}
 use Rattle.sq_schema.proofs.table.run.Goals as goal

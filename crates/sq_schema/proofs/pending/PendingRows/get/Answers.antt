@@ -2,12 +2,12 @@ use Rattle.std.proofs.Common.{◌≡◌, sym, ap, ◌∙◌, length, ◌≤◌, 
 use Rattle.std.specs.Prelude.{option_copied}
 use Rattle.std.proofs.lemmas.Iterator.Search.{find_from_yields_List}
 use Rattle.std.proofs.lemmas.Iterator.Adapters.{YieldsList-from_rev_slice}
-use Rattle.sq_schema.specs.Effect.{row_at}
-use Rattle.sq_schema.specs.declared.schema.TheConstants.{MAX_NOTE}
-use Rattle.sq_schema.specs.Writes.{PendingValue, pending_rows}
-use Rattle.sq_schema.specs.WriteList.{writes_of}
+use Rattle.sq_rows.specs.RowList.{row_at}
+use Rattle.sq_rows.specs.declared.row.TheConstants.{MAX_NOTE}
+use Rattle.sq_schema.specs.Pending.{PendingValue, pending_rows}
+use Rattle.sq_rows.specs.WriteList.{writes_of}
 use Rattle.sq_schema.specs.WrittenKeys.{has_its_mark}
-use Rattle.sq_schema.proofs.Latest.{is_key, row_or, latest, row_at-short, IfSome-copied}
+use Rattle.sq_rows.proofs.Latest.{is_key, row_or, latest, row_at-short, IfSome-copied}
 use Rattle.sq_schema.proofs.Marked.{row_at-unmarked}
 use Rattle.sq_schema.proofs.pending.PendingRows.get.Goals as goal
 use Rattle.sq_schema.proofs.pending.PendingRows.get.Goals.{After-find}

@@ -1,6 +1,6 @@
 use Rattle.std.proofs.Common.{◌≡◌, true}
 use Rattle.std.proofs.lemmas.List.Elements.{All-nil}
-use Rattle.sq_schema.specs.Writes.{is_write}
+use Rattle.sq_rows.specs.Writes.{is_write}
 use Rattle.sq_schema.specs.WrittenKeys.{has_its_mark}
 use Rattle.sq_schema.proofs.pending.PendingRows.new.Goals as goal
 

@@ -1,7 +1,8 @@
 use Rattle.std.proofs.Common.{◌≡◌, ◌<◌, ◌^◌, arith, sym, ap, ◌∙◌}
-use Rattle.sq_schema.specs.Effect.{row_at}
-use Rattle.sq_schema.specs.Writes.{PendingValue, count_of_row, size_of_row, pending_rows}
-use Rattle.sq_schema.specs.WriteList.{writes_of}
+use Rattle.sq_rows.specs.RowList.{row_at}
+use Rattle.sq_rows.specs.Writes.{count_of_row, size_of_row}
+use Rattle.sq_schema.specs.Pending.{PendingValue, pending_rows}
+use Rattle.sq_rows.specs.WriteList.{writes_of}
 use Rattle.sq_schema.proofs.Marked.{AreMarked-push}
 use Rattle.sq_schema.proofs.PendingWrites.{is_sound_from, count_fits, size_fits, size_after, IsPending-written}
 use Rattle.sq_schema.proofs.pending.PendingRows.write.Goals as goal

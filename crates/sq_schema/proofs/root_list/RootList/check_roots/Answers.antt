@@ -1,7 +1,7 @@
 use Rattle.std.proofs.Common.{◌≡◌, ℕ, length, ap, subst, sym, ◌∙◌, arith, Some}
 use Rattle.std.specs.Prelude.{slice_get, ◌-◌, option_copied}
 use Rattle.sq_schema.specs.declared.root.TheConstants.{ROOT_END}
-use Rattle.sq_schema.specs.Effect.{RowList}
+use Rattle.sq_rows.specs.RowList.{RowList}
 use Rattle.sq_schema.specs.Table.{TableValue}
 use Rattle.sq_schema.proofs.From.{all_fit}
 use Rattle.sq_schema.proofs.root_list.RootList.check_roots.Goals as goal

@@ -1,6 +1,6 @@
 use Rattle.std.proofs.Common.{◌∙◌}
 use Rattle.std.specs.Ordering.{nat_cmp}
-use Rattle.sq_schema.proofs.Entries.{find-lookup}
+use Rattle.sq_rows.proofs.Entries.{find-lookup}
 use Rattle.sq_schema.proofs.root_list.RootList.get.Goals as goal
 
 pub returns-in-Mapped : goal.returns-in-Mapped

@@ -3,7 +3,7 @@ use Rattle.std.specs.Ordering.{nat_cmp}
 use Rattle.std.specs.FinMap.Entries.{is_sorted}
 use Rattle.std.proofs.lemmas.Fn.{always_returns_same}
 use Rattle.std.proofs.lemmas.List.{take_rest}
-use Rattle.sq_schema.specs.Effect.{RowList}
+use Rattle.sq_rows.specs.RowList.{RowList}
 use Rattle.sq_schema.specs.Table.{TableValue}
 use Rattle.sq_schema.proofs.From.{from_point}
 use Rattle.sq_schema.proofs.root_list.RootList.iter_from.Goals as goal

@@ -5,11 +5,11 @@ use Rattle.std.specs.Ordering.{nat_cmp}
 use Rattle.std.specs.FinMap.Entries.{find, put}
 use Rattle.std.proofs.lemmas.Cmp.{nat_cmp_total}
 use Rattle.std.proofs.lemmas.Map.Steps.{set_value_same}
-use Rattle.sq_schema.specs.declared.row.RowKey.{RowKey}
-use Rattle.sq_schema.specs.Values.{RowValue}
-use Rattle.sq_schema.specs.Effect.{RowList, with_row}
+use Rattle.sq_rows.specs.declared.row.RowKey.{RowKey}
+use Rattle.sq_rows.specs.Values.{RowValue}
+use Rattle.sq_rows.specs.RowList.{RowList, with_row}
 use Rattle.sq_schema.specs.Table.{TableValue, rows_in}
-use Rattle.sq_schema.proofs.Entries.{find-lookup, set_value-put}
+use Rattle.sq_rows.proofs.Entries.{find-lookup, set_value-put}
 use Rattle.sq_schema.proofs.Tables.{OnOk-map, OnErr-map}
 use Rattle.sq_schema.proofs.root_list.RootList.put_row.Goals as goal
 use Rattle.sq_schema.proofs.root_list.RootList.put_row.Goals.{In-Some}

@@ -1,7 +1,7 @@
 use Rattle.std.proofs.Common.{◌≡◌, ℕ, None, refl, sym, ap, ◌∙◌, subst}
 use Rattle.std.specs.Ordering.{nat_cmp}
 use Rattle.std.specs.FinMap.Entries.{put}
-use Rattle.sq_schema.specs.Effect.{with_row}
+use Rattle.sq_rows.specs.RowList.{with_row}
 use Rattle.sq_schema.specs.RootList.{table_of}
 use Rattle.sq_schema.specs.Table.{TableValue, rows_in, row_given_fault, with_given}
 use Rattle.sq_schema.proofs.Tables.{IsTable-row, rows_in-put, rows_in-given, OnOk-map}

@@ -1,7 +1,7 @@
 use Rattle.std.proofs.Common.{◌≡◌, ℕ, true, [], ◌==◌, if◌then◌else◌, unwrap_or, refl, ap, ◌∙◌, subst, sym}
 use Rattle.std.specs.Ordering.{nat_cmp}
 use Rattle.std.specs.FinMap.Entries.{find}
-use Rattle.sq_schema.specs.Effect.{with_row}
+use Rattle.sq_rows.specs.RowList.{with_row}
 use Rattle.sq_schema.specs.RootList.{table_of}
 use Rattle.sq_schema.specs.Table.{TableValue, IsTable, rows_in, is_opening, with_given}
 use Rattle.sq_schema.proofs.Tables.{IsTable-put, is_opening-with_row, rows_in-put, rows_in-given}

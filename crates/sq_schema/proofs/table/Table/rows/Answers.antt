@@ -3,7 +3,7 @@ use Rattle.std.specs.Ordering.{nat_cmp}
 use Rattle.std.specs.FinMap.Entries.{find}
 use Rattle.sq_schema.specs.RootList.{table_of}
 use Rattle.sq_schema.specs.Table.{is_opening}
-use Rattle.sq_schema.proofs.Latest.{IfSome-copied}
+use Rattle.sq_rows.proofs.Latest.{IfSome-copied}
 use Rattle.sq_schema.proofs.Tables.{found_opening}
 use Rattle.sq_schema.proofs.table.Table.rows.Goals as goal
 

@@ -1,0 +1,11 @@
+pub mod Entries
+pub mod Room
+pub mod RowMaps
+pub mod KeyOrder
+pub mod Kept
+pub mod Places
+pub mod Sizes
+pub mod Weights
+pub mod Latest
+pub mod Rooted
+pub mod Equal

@@ -1,0 +1,11 @@
+pub mod Values
+pub mod Keys
+pub mod RowList
+pub mod Sizes
+pub mod Rows
+pub mod Places
+pub mod EntryList
+pub mod EntryIter
+pub mod Writes
+pub mod WriteList
+pub mod Equal

@@ -1,0 +1,14 @@
+//! The rows of one root key: how they lie in memory, and writes of them.
+#![tactic(auto)]
+
+pub mod entry_iter;
+mod entry_list;
+pub mod keyed_entries;
+pub mod row;
+mod row_map;
+pub mod rows;
+pub mod write_list;
+
+pub use entry_iter::{EntryIter, RowIter};
+pub use row::{MAX_NOTE, Row, RowKey};
+pub use rows::Rows;

@@ -1,0 +1,171 @@
+// The rows of one root key.
+ghost use Rattle.std.specs.Prelude.{◌≡◌, ◌+◌, ◌*◌, ◌^◌, ◌<◌, ◌≤◌, ◌==◌, true, [], ◌∷◌, length, vec_len, vec_capacity, OnOk, OnErr, IfOk, IfErr, IfSome};
+ghost use Rattle.std.specs.Option.{option_copied};
+ghost use Rattle.std.specs.List.{AllPass};
+ghost use Rattle.sq_rows.specs.declared.row.RowKey.{RowKey};
+ghost use Rattle.sq_rows.specs.declared.row.TheConstants.{MAX_NOTE};
+ghost use Rattle.sq_rows.specs.RowList.{RowList, row_at, with_row};
+ghost use Rattle.sq_rows.specs.Sizes.{rows_size};
+ghost use Rattle.sq_rows.specs.Rows.{IsRowList};
+ghost use Rattle.sq_rows.specs.Writes.{count_of_row, size_of_row, is_write, with_write, with_writes};
+ghost use Rattle.sq_rows.specs.WriteList.{writes_of};
+
+use crate::entry_iter::{RowIter, are_equal};
+use crate::entry_list::EntryList;
+use crate::row::{Row, RowKey};
+use crate::write_list::WriteList;
+use std::alloc::{AllocError, AllocFailed, Global};
+use std::marker::Model;
+
+/// The rows of one root key, by key in rising order. To a contract they are the list of key and row.
+#[derive(Debug, Drop)]
+pub struct Rows {
+    rows: EntryList,
+    size: u64,
+}
+
+impl Model for Rows {
+    ghost use Rattle.std.specs.Prelude.{◌≡◌, List};
+    ghost use Rattle.sq_rows.specs.Values.{RowValue};
+    ghost use Rattle.sq_rows.specs.declared.row.RowKey.{RowKey};
+    ghost use Rattle.sq_rows.specs.EntryList.{entries_of};
+    ghost use Rattle.sq_rows.specs.Sizes.{rows_size};
+    ghost use Rattle.sq_rows.specs.Rows.{IsRowList};
+
+    ghost Value = { List (RowKey × RowValue) };
+
+    ghost view = { λ r. entries_of r.rows };
+
+    ghost invariant = { λ r. IsRowList (entries_of r.rows) × (r.size ≡ rows_size (entries_of r.rows)) };
+}
+
+impl Rows {
+    /// No rows.
+    pub fn new(alloc: Global) -> Rows
+        ensures { result ≡ [] }
+    {
+        Rows {
+            rows: EntryList::new(alloc),
+            size: 32,
+        }
+    }
+
+    /// How many rows there are.
+    pub fn len(&self) -> usize
+        ensures count { result ≡ length self.now }
+        ensures sound { IsRowList self.now }
+    {
+        self.rows.len()
+    }
+
+    /// Whether there are none.
+    pub fn is_empty(&self) -> bool
+        ensures { result ≡ (length self.now == 0) }
+    {
+        self.rows.len() == 0
+    }
+
+    /// The rows with their keys, in rising order.
+    pub fn iter(&self) -> RowIter<'_>
+        ensures all { result ≡ self.now }
+        ensures sound { IsRowList self.now }
+    {
+        self.rows.iter()
+    }
+
+    /// The row of a key.
+    pub fn get(&self, key: RowKey) -> Option<&Row>
+        ensures { option_copied result ≡ row_at self.now key }
+    {
+        self.rows.get(key)
+    }
+
+    /// The size in bytes of a family with these rows: 32, and 24 and the length of the note for each row.
+    pub fn size(&self) -> u64
+        ensures { result ≡ rows_size self.now }
+    {
+        self.size
+    }
+
+    /// Puts a row, new or in place of the one that stands. Where there is no memory the row comes back.
+    pub fn insert(&mut self, key: RowKey, row: Row) -> Result<(), AllocFailed<Row>>
+        requires { length row.note ≤ MAX_NOTE }
+        ensures ok { OnOk result (self.new ≡ with_row self.old key row) }
+        ensures err { OnErr result (self.new ≡ self.old) }
+        ensures row_returned { IfErr result (λ failed. failed.value ≡ row) }
+    {
+        let (_, old_size) = weight(self.get(key));
+        let size = self.size + row.size() - old_size;
+        self.rows.insert(key, row)?;
+        self.size = size;
+        Ok(())
+    }
+
+    /// The first row.
+    pub fn into_first(self) -> Row
+        requires { 0 < length self }
+        ensures { (key : RowKey) × (rest : RowList) × (self ≡ (key, result) ∷ rest) }
+    {
+        let Rows { rows, size: _ } = self;
+        rows.into_first()
+    }
+
+    /// Makes these writes in their order, or none where there is no memory. The size is that of the rows afterwards.
+    pub fn write_all(&mut self, writes: WriteList, size: u64) -> Result<(), AllocError>
+        requires writes { AllPass is_write (writes_of writes) }
+        requires size { size ≡ rows_size (with_writes self.old (writes_of writes)) }
+        ensures ok { OnOk result (self.new ≡ with_writes self.old (writes_of writes)) }
+        ensures err { OnErr result (self.new ≡ self.old) }
+    {
+        self.rows.write_all(writes)?;
+        self.size = size;
+        Ok(())
+    }
+}
+
+impl PartialEq for Rows {
+    ghost use Rattle.std.specs.Cmp.{and_per, on_per};
+    ghost use Rattle.std.specs.Cmp.Lexicographic.{lists_per};
+    ghost use Rattle.sq_rows.specs.contracts.row.RowKeyPartialEq.TheImpl.Laws as key;
+    ghost use Rattle.sq_rows.specs.contracts.row.RowPartialEq.TheImpl.Laws as row;
+    ghost use Rattle.sq_rows.specs.Equal.{rows_eq};
+
+    ghost eq = { rows_eq };
+
+    ghost laws = { lists_per (and_per (on_per (λ entry. entry.0) key.laws-law) (on_per (λ entry. entry.1) row.laws-law)) };
+
+    fn eq(&self, other: &Rows) -> bool {
+        are_equal(self.iter(), other.iter())
+    }
+}
+
+impl Eq for Rows {
+    ghost use Rattle.std.specs.Cmp.{and_equiv, on_equiv};
+    ghost use Rattle.std.specs.Cmp.Lexicographic.{lists_equiv};
+    ghost use Rattle.sq_rows.specs.contracts.row.RowKeyEq.TheImpl.Laws as key;
+    ghost use Rattle.sq_rows.specs.contracts.row.RowEq.TheImpl.Laws as row;
+
+    ghost laws = { lists_equiv (and_equiv (on_equiv (λ entry. entry.0) key.laws-law) (on_equiv (λ entry. entry.1) row.laws-law)) };
+}
+
+impl Clone for Rows {
+    ghost is_clone = { λ rows copy. copy ≡ rows };
+
+    fn clone(&self) -> Result<Rows, AllocError> {
+        Ok(Rows {
+            rows: self.rows.clone()?,
+            size: self.size,
+        })
+    }
+}
+
+/// How many rows this is, and their size.
+pub fn weight(row: Option<&Row>) -> (usize, u64)
+    ensures count { result.0 ≡ count_of_row (option_copied row.entry) }
+    ensures size { result.1 ≡ size_of_row (option_copied row.entry) }
+{
+    match row {
+        Some(row) => (1, row.size()),
+        None => (0, 0),
+    }
+}
