@@ -219,6 +219,36 @@ try_told() {
     count no_moments_of_a_fault "$(ls "$room/fault.csv" 2> /dev/null || true)"
 }
 
+# most_threads PUMPS: the most threads that a live run of two partitions with so many pumps has at once, as far as it is
+# looked at.
+most_threads() {
+    local running most=0 threads
+    "$squall" live --pumps "$1" --turns 1000000000 < "$tests/lives/as_many_segments_as_there_may_be.in" > /dev/null &
+    running=$!
+    threads=("/proc/$running/task"/*)
+    while [ -e "${threads[0]}" ]; do
+        if [ "${#threads[@]}" -gt "$most" ]; then most=${#threads[@]}; fi
+        threads=("/proc/$running/task"/*)
+    done
+    wait "$running" || true
+    echo "$most"
+}
+
+# A live run has as many pumps as its option asks for: with two partitions some run of a hundred is seen to have a thread for
+# each of them and for each pump at once, and none has more.
+try_pumps() {
+    local pumps times most
+    for pumps in 1 3 16; do
+        times=0
+        most=0
+        while [ "$most" -lt $((pumps + 2)) ] && [ "$times" -lt 100 ]; do
+            most=$(most_threads "$pumps")
+            times=$((times + 1))
+        done
+        count "live --pumps $pumps" "$(if [ "$most" != $((pumps + 2)) ]; then echo "$most threads"; fi)"
+    done
+}
+
 # A live run has at most 4,096 jobs, and a line that is too long, or without end, is a fault of that line.
 try_live_limits() {
     local header
@@ -437,6 +467,22 @@ try_parts() {
     head -c 65533 /dev/zero | tr '\0' ' ' > "$room/old.json"
     fault_in_parts file_of_a_plan_that_is_too_long 231 "$room/old.json" 'a line of the header has more than 65536 bytes' ''
     parts "$input"
+    echo 'fault 231' > "$room/wanted"
+    echo "squall: /dev/zero: fault 231: a line of the header has more than 65536 bytes" > "$room/said"
+    give "$room/main.txt" run --old /dev/zero --new "$room/new.json"
+    judge file_of_a_plan_without_end 2 "$room/wanted" "$room/said"
+    # Nothing stands behind sizes without a line end.
+    parts "$input"
+    printf 'config 1 64 1' > "$room/main.txt"
+    {
+        echo "squall: standard input: line 1: fault 121: $(sed -n 's/^121 //p' "$tests/texts")"
+        echo "squall: standard input: line 1 is to be $(form 3)"
+        echo 'squall: standard input: line 1: it has no line end (the byte 0A)'
+    } > "$room/said"
+    echo 'fault 121' > "$room/wanted"
+    give "$room/main.txt" run --old "$room/old.json" --new "$room/new.json" --rows "$room/rows.txt"
+    judge sizes_without_a_line_end_in_the_main_part 2 "$room/wanted" "$room/said"
+    parts "$input"
     sed -i 's/^config [0-9]*/config 0/' "$room/main.txt"
     fault_in_parts sizes_of_the_main_part 112 'standard input: line 1' "the width of a leaf isn't from 1 to 65536" "word 2 is '0'" live
     parts "$input"
@@ -483,6 +529,37 @@ try_streams() {
     ended=0
     timeout 120 "$squall" --help > /dev/full 2> "$room/errors" || ended=$?
     judge help_that_is_not_written 2 /dev/null "$room/said"
+}
+
+# After a failed write nothing more is written. The output is a pipe that no one reads when the program writes. Standard
+# error is a full pipe, so that the program waits there until someone reads its output again.
+try_failed_write() {
+    local running state= looks=0
+    mkfifo "$room/answers" "$room/late"
+    exec 7<> "$room/answers" 8> "$room/answers" 9<> "$room/late" 6< "$room/late"
+    exec 7>&-
+    dd if=/dev/zero of="$room/late" bs=4096 oflag=nonblock 2> /dev/null || true
+    (trap '' PIPE; exec "$squall" run < "$tests/runs/empty_input.in" >&8 2>&9 6<&- 8>&- 9>&-) &
+    running=$!
+    while [ "$state" != S ] && [ "$looks" -lt 600 ]; do
+        sleep 0.1
+        if [ "/proc/$running/exe" -ef "$squall" ]; then
+            state=$(cut -d ' ' -f 3 "/proc/$running/stat" 2> /dev/null || true)
+        fi
+        looks=$((looks + 1))
+    done
+    exec 7< "$room/answers"
+    tr -d '\0' <&6 7>&- 8>&- 9>&- > "$room/errors" &
+    ended=0
+    wait "$running" || ended=$?
+    exec 8>&- 9>&-
+    wait "$!"
+    cat <&7 > "$room/output"
+    exec 6<&- 7<&-
+    rm "$room/answers" "$room/late"
+    if [ "$state" != S ]; then echo 'it has not waited' >> "$room/errors"; fi
+    said 124 > "$room/said"
+    judge output_that_is_written_no_more 2 /dev/null "$room/said"
 }
 
 # An input that ends within its first three lines has a fault of the line where it ends, and behind them none, unless it
@@ -766,10 +843,12 @@ for program in "${programs[@]}"; do
     try_pictures
     try_lives
     try_live_rounds
+    try_pumps
     try_live_limits
     try_told
     try_ends
     try_streams
+    try_failed_write
     try_memory
     try_session
     try_header_session

@@ -13,6 +13,3 @@ pub use plans::{PlanFlaw, plan_flaw};
 pub use told::{ToldFlaw, ToldWord};
 pub use wanted::Wanted;
 pub use words::{job_word, opening_word};
-
-#[cfg(test)]
-mod tests;

@@ -10,6 +10,3 @@ mod recalling;
 pub use inserting::Inserting;
 pub use plans::{PLAN_ROOM, plan_lines, plan_text};
 pub use recalling::{Recalled, Recalling};
-
-#[cfg(test)]
-mod tests;

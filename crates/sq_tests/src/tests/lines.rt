@@ -1,30 +1,8 @@
 // The lines of inputs, from readers that give little at a time, or fail.
+use super::readers::{Drip, SIZES};
 use sq_lines::{LineReader, Next, place_of};
 use std::alloc::Global;
-use std::io;
-use std::io::{ErrorKind, Read};
 use std::test::Fail;
-
-// A reader that gives a few bytes a call, and after the last one ends or fails.
-#[derive(Drop)]
-pub struct Drip<'a> {
-    pub rest: &'a [u8],
-    pub most: usize,
-    pub fails: bool,
-}
-
-impl Read for Drip<'_> {
-    fn read(&mut self, buf: &mut [u8]) -> io::Result<usize> {
-        if self.rest.is_empty() && self.fails {
-            return Err(io::Error::from(ErrorKind::BrokenPipe));
-        }
-        let most = buf.len().min(self.most);
-        self.rest.read(&mut buf[..most])
-    }
-}
-
-// How many bytes a reader gives a call.
-pub const SIZES: [usize; 4] = [1, 2, 7, 4096];
 
 // How many bytes of a line are looked at.
 const MOST: usize = 6;

@@ -1,7 +1,7 @@
 // Worlds, and whole runs through readers and writers that give or take little at a time, or fail. The other whole runs
 // are stored in `tests/runs`.
 use super::fixtures::{note, opening, step};
-use super::lines::{Drip, SIZES};
+use super::readers::{Drip, SIZES};
 use sq_chunk::Note;
 use sq_model::{Answer, Phase, Refusal, Step};
 use sq_ranges::GivenRow;
