@@ -2,10 +2,8 @@
 mod audit;
 mod driver;
 mod gates;
-mod gather;
 mod live;
 mod node;
-mod round;
 mod run;
 mod stages;
 mod text;

@@ -1,18 +1,17 @@
 // What the tests of several crates start from, read from the texts of a run.
 use sq_chunk::Note;
 use sq_lines::LineReader;
-use sq_model::{Answer, Step};
+use sq_model::Step;
 use sq_plan::{PartId, Plan};
 use sq_ranges::{Opening, Recon, SegId};
-use sq_schema::{Family, Reply, Root, RowKey, Schema, Table, Txn};
-use sq_store::FamilyStore;
-use sq_text::{read_header, read_step, write_answer};
+use sq_schema::{Family, Root, RowKey, Schema, Table, Txn};
+use sq_text::{read_header, read_step};
 use sq_tree::NodeId;
 use std::alloc::Global;
 use std::test::Fail;
 
-/// The lines of two plans, by which the root keys 4 to 7 go from partition 0 to partition 1.
-pub const PLANS: &str = r#"old {"version":1,"partitions":2,"ranges":[[0,4294967296,0]]}
+// The lines of two plans, by which the root keys 4 to 7 go from partition 0 to partition 1.
+const PLANS: &str = r#"old {"version":1,"partitions":2,"ranges":[[0,4294967296,0]]}
 new {"version":1,"partitions":2,"ranges":[[0,4,0],[4,8,1],[8,4294967296,0]]}
 "#;
 
@@ -33,19 +32,14 @@ pub fn between(alloc: Global, old: &str, new: &str) -> Result<Recon, Fail> {
     Ok(Recon::between(alloc, &old, &new, 1)?)
 }
 
-/// The schema of 8 tables.
-pub fn schema() -> Result<Schema, Fail> {
+// The schema of 8 tables.
+fn schema() -> Result<Schema, Fail> {
     Ok(Schema::new(8).ok_or("8 tables are a schema")?)
-}
-
-/// The step of a line.
-pub fn step(alloc: Global, line: &str) -> Result<Step, Fail> {
-    Ok(read_step(alloc, &schema()?, line.as_bytes())?)
 }
 
 /// The transaction of a line.
 pub fn transaction(alloc: Global, line: &str) -> Result<Txn, Fail> {
-    match step(alloc, line)? {
+    match read_step(alloc, &schema()?, line.as_bytes())? {
         Step::Submit(_, txn) => Ok(txn),
         _ => Err("no transaction")?,
     }
@@ -56,27 +50,6 @@ pub fn opening(alloc: Global, lines: &str) -> Result<Opening, Fail> {
     let header = format!(in alloc; "{PLANS}{lines}")?;
     let mut lines = LineReader::new(alloc, header.as_bytes())?;
     Ok(read_header(alloc, schema()?, &mut lines)?)
-}
-
-/// The line of an answer.
-pub fn line_of(alloc: Global, answer: &Answer) -> Result<String, Fail> {
-    let mut line = Vec::new(alloc);
-    write_answer(&mut line, answer)?;
-    Ok(String::from_utf8(line)?)
-}
-
-/// The line of a reply to transaction 1.
-pub fn reply_line(alloc: Global, reply: Reply) -> Result<String, Fail> {
-    line_of(alloc, &Answer::Replied { id: 1, reply })
-}
-
-/// Puts families with a root row without a note into a store, which makes each 56 bytes large.
-pub fn fill<S: FamilyStore>(alloc: Global, store: &mut S, roots: &[u64]) -> Result<(), Fail> {
-    for root in roots {
-        let line = format!(in alloc; "txn 0 1 {root} put 0 0 5 -")?;
-        let _ = store.apply(&transaction(alloc, line.as_str())?)?;
-    }
-    Ok(())
 }
 
 /// Whether these families have the root keys.
@@ -97,11 +70,6 @@ pub fn has(table: &Table, root: u64, key: RowKey, want: Option<(i64, &[u8])>) ->
         (Some(row), Some((number, note))) => row.number() == number && row.note() == note,
         _ => false,
     }
-}
-
-/// The node of this number.
-pub fn node(number: u64) -> Result<NodeId, Fail> {
-    Ok(NodeId::new(number).ok_or("no node")?)
 }
 
 /// The note of the chunk of this number from partition 0 to partition 1, on the keys 4 to 7 of the first segment. More

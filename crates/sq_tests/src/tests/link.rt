@@ -1,14 +1,12 @@
 // Links in one thread and between two.
-ghost use Rattle.std.specs.Prelude.{◌≡◌, [], IfOk};
+ghost use Rattle.std.specs.Prelude.{◌≡◌, ◌<◌, [], IfOk};
 
 use super::fixtures::note;
 use sq_chunk::{Chunk, Note};
 use sq_link::{RecvPass, SendPass, SharedLink};
 use sq_plan::PartId;
-use sq_ranges::Link;
 use sq_schema::{Family, Root, Row, RowKey, Rows};
 use std::alloc::Global;
-use std::process::Abort;
 use std::sync::Wait;
 use std::test::Fail;
 use std::thread;
@@ -124,38 +122,59 @@ fn receive_all<R: Wait>(
     (pass, into)
 }
 
-// Fills a link, receives the first chunk, and then as many as there is room for: the one that came back is sent
-// between, all come in order, and what was left comes when the link is closed.
-fn pass_on<R: Abort + Wait>(rt: &R, alloc: Global, capacity: u32, room: u32) -> Result<(), Fail> {
-    assert!(rt; 0 < capacity && capacity < CHUNKS);
-    let count = u64::from(capacity);
-    let to_send = chunks(alloc, capacity + 1)?;
-    let into = Vec::with_capacity(alloc, room as usize)?;
-    let (link, sender, mut receiver) = SharedLink::open(
-        alloc,
-        PartId::new(3),
-        PartId::new(5),
-        count,
-    )?;
-    let Link { src, dst } = link.ends();
-    assert!(rt; src.number() == 3 && dst.number() == 5 && link.capacity() == count);
-    let (mut sender, held) = send_all(rt, &link, sender, to_send, count + 1);
-    let first = link.recv(rt, &mut receiver).expect(rt, "a chunk comes");
-    let held = held.expect(rt, "a chunk comes back");
-    assert!(rt; is_chunk(&first, 0) && is_chunk(&held, capacity));
-    assert!(rt; link.send(rt, &mut sender, held).is_ok());
-    let (receiver, received) = receive_all(rt, &link, receiver, into, count + 1);
-    let left = link.close(rt, sender, receiver);
-    let came = room.min(capacity);
-    assert!(rt; received.len() == came as usize && are_chunks(&received, 1));
-    assert!(rt; left.len() == (capacity - came) as usize && are_chunks(&left, came + 1));
-    Ok(())
+// What became of one chunk more than a link holds, of which as many are received as there is room for.
+#[derive(Drop)]
+struct Carried {
+    // The chunk that found no place.
+    unsent: Option<Chunk>,
+    received: Vec<Chunk>,
+    // Those that were left when the link was closed.
+    left: Vec<Chunk>,
 }
+
+// Sends one chunk more than a link holds, and then receives.
+fn carry<R: Wait>(rt: &R, alloc: Global, capacity: u32, room: u32) -> Result<Carried, Fail>
+    requires { 0 < capacity }
+{
+    let to_send = chunks(alloc, capacity.saturating_add(1))?;
+    let into = Vec::with_capacity(alloc, room as usize)?;
+    let count = u64::from(capacity);
+    let (link, sender, receiver) = SharedLink::open(alloc, PartId::new(3), PartId::new(5), count)?;
+    let (sender, unsent) = send_all(rt, &link, sender, to_send, count + 1);
+    let (receiver, received) = receive_all(rt, &link, receiver, into, count + 1);
+    Ok(Carried {
+        unsent,
+        received,
+        left: link.close(rt, sender, receiver),
+    })
+}
+
+// Whether all of them came in their order: as many as there was room for, those that were left, and the one that found no
+// place.
+fn are_in_order(carried: &Carried, capacity: u32, room: u32) -> bool {
+    let came = room.min(capacity);
+    carried.received.len() == came as usize
+        && carried.left.len() == (capacity - came) as usize
+        && are_chunks(&carried.received, 0)
+        && are_chunks(&carried.left, came)
+        && carried
+            .unsent
+            .as_ref()
+            .is_some_and(|chunk| is_chunk(chunk, capacity))
+}
+
+// How many chunks more than one a link holds, and how many are received.
+const SIZES: [(u8, u32); 7] = [(0, 2), (1, 3), (2, 4), (6, 8), (63, 65), (1, 1), (63, 0)];
 
 #[test]
 fn as_many_as_the_link_holds(rt: HostRuntime) -> Result<(), Fail> {
-    for (capacity, room) in [(1, 2), (2, 3), (3, 4), (7, 8), (64, 65), (2, 1), (64, 0)] {
-        pass_on(&rt, rt.alloc(), capacity, room)?;
+    for (more, room) in SIZES {
+        let capacity = u32::from(more) + 1;
+        let carried = carry(&rt, rt.alloc(), capacity, room)?;
+        assert!(rt;
+            are_in_order(&carried, capacity, room),
+            "{room} of {capacity}"
+        );
     }
     Ok(())
 }

@@ -1,6 +1,5 @@
-// Which texts are plans, and what is read of plans.
+// Which texts are plans, and what is written of plans.
 use sq_plan::{Plan, PlanFault};
-use sq_schema::Root;
 use std::test::Fail;
 
 // Texts by the number of their fault, or by 0 where they are plans.
@@ -118,74 +117,6 @@ fn texts_of_plans(rt: HostRuntime) {
     assert_eq!(rt; PlanFault::Memory.number(), 222);
 }
 
-// Ranges with their owners, by lower bound, and keys with their owners.
-type Owned<'a> = (&'a [(u64, u64, u8)], &'a [(u64, u8)]);
-
-// Plans of this many partitions, with what they own.
-const PLANS: [(&str, u8, Owned<'static>); 3] = [
-    (
-        r#"{"version":1,"partitions":1,"ranges":[[0,4294967296,0]]}"#,
-        1,
-        (&[(0, 4_294_967_296, 0)], &[(0, 0), (4_294_967_295, 0)]),
-    ),
-    (
-        r#"{"version":1,"partitions":2,"ranges":[[0,4294967295,0],[4294967295,4294967296,1]]}"#,
-        2,
-        (
-            &[(0, 4_294_967_295, 0), (4_294_967_295, 4_294_967_296, 1)],
-            &[(4_294_967_294, 0), (4_294_967_295, 1)],
-        ),
-    ),
-    (
-        r#"{"version":1,"partitions":4,"ranges":[[0,5,0],[5,10,1],[10,15,2],[15,20,3],[20,4294967296,0]]}"#,
-        4,
-        (
-            &[
-                (0, 5, 0),
-                (5, 10, 1),
-                (10, 15, 2),
-                (15, 20, 3),
-                (20, 4_294_967_296, 0),
-            ],
-            &[
-                (0, 0),
-                (4, 0),
-                (5, 1),
-                (9, 1),
-                (10, 2),
-                (14, 2),
-                (15, 3),
-                (19, 3),
-                (20, 0),
-                (4_294_967_295, 0),
-            ],
-        ),
-    ),
-];
-
-// Whether the plan has these ranges, and the keys these owners.
-fn owns(plan: &Plan, (ranges, owners): Owned<'_>) -> bool {
-    let found = plan
-        .ranges()
-        .iter()
-        .map(|range| (range.lo, range.hi, range.owner.number()));
-    let owner_of = |key| Root::new(key).map(|root| plan.owner(root).number());
-    found.eq(ranges.iter().copied())
-        && owners
-            .iter()
-            .all(|(key, owner)| owner_of(*key) == Some(*owner))
-}
-
-#[test]
-fn owners(rt: HostRuntime) -> Result<(), Fail> {
-    for (text, parts, owned) in PLANS {
-        let plan = Plan::read(rt.alloc(), text.as_bytes())?;
-        assert_eq!(rt; plan.parts(), parts);
-        assert!(rt; owns(&plan, owned), "{text}");
-    }
-    Ok(())
-}
-
 // Texts of plans, and what is written for the plans that are read from them.
 const WRITTEN: [(&str, &str); 8] = [
     (
@@ -226,12 +157,7 @@ const WRITTEN: [(&str, &str); 8] = [
 fn written(rt: HostRuntime) -> Result<(), Fail> {
     for (text, wanted) in WRITTEN {
         let plan = Plan::read(rt.alloc(), text.as_bytes())?;
-        let written = plan.write()?;
-        assert_eq!(rt; written.as_str(), wanted);
-        let again = Plan::read(rt.alloc(), written.as_bytes())?;
-        assert_eq!(rt; again.version(), plan.version(), "{text}");
-        assert_eq!(rt; again.parts(), plan.parts(), "{text}");
-        assert!(rt; again.ranges() == plan.ranges(), "{text}");
+        assert_eq!(rt; plan.write()?.as_str(), wanted);
     }
     Ok(())
 }

@@ -8,7 +8,7 @@ use sq_plan::PartId;
 use sq_pull::{Puller, Pump, PumpTurn, ReactivePull, Request, Shared};
 use sq_ranges::{Recon, SegId};
 use sq_status::{StatusTree, TreeSeat};
-use sq_tree::{Leaf, NodeId, Status};
+use sq_tree::{Leaf, Status};
 use std::alloc::{AllocError, Global};
 use std::sync::Wait;
 use std::test::Fail;
@@ -41,6 +41,12 @@ enum Call {
     Reactive(u64),
     // A turn of the pump.
     Turn,
+    // Whether the pump is done.
+    IsDone,
+    // Sends the requests of the reactive pulls for which there was no room.
+    Send,
+    // Takes the next request to this partition.
+    Take(usize),
 }
 
 #[derive(Clone, Copy, Debug, PartialEq, Eq)]
@@ -50,21 +56,26 @@ enum Answer {
     Held(u64, Status),
     Nothing,
     Spent,
+    Done,
+    // So many requests are pending.
+    Pending(usize),
+    // The segment, the node and the pull.
+    Asked(u64, u64, u32),
 }
 
 impl Setting {
-    // What moves to the plan of this text, with a fresh tree for each segment, queues for this many requests to each of
-    // two partitions, and nothing claimed.
-    fn opened(alloc: Global, new: &str, capacity: usize) -> Result<Setting, Fail>
+    // What moves from one plan to another, with a fresh tree for each segment, queues for this many requests to each of two
+    // partitions, nothing claimed, and a pump of a stage.
+    fn opened(
+        alloc: Global,
+        old: &str,
+        new: &str,
+        stage: u64,
+        capacity: usize,
+    ) -> Result<Setting, Fail>
         requires { 0 < capacity }
     {
-        Setting::in_stage(alloc, between(alloc, ALL, new)?, 0, capacity)
-    }
-
-    // The same of this that moves, where the pump is of a stage.
-    fn in_stage(alloc: Global, recon: Recon, stage: u64, capacity: usize) -> Result<Setting, Fail>
-        requires { 0 < capacity }
-    {
+        let recon = between(alloc, old, new)?;
         if recon.segments().is_empty() {
             return Err("nothing moves")?;
         }
@@ -82,72 +93,63 @@ impl Setting {
         })
     }
 
-    // What a call is answered.
-    fn answer<R: Wait>(&mut self, rt: &R, call: Call) -> Result<Answer, Fail> {
+    // What a reactive pull for a leaf of segment 0 comes to.
+    fn reactive<R: Wait>(&mut self, rt: &R, leaf: u64) -> Result<Answer, Fail> {
         let shared = Shared {
             recon: &self.recon,
             trees: &self.trees,
             requests: &self.requests,
         };
-        match call {
-            Call::Reactive(leaf) => {
-                let leaf = Leaf::new(leaf).ok_or("no leaf")?;
-                let seg = SegId::new(0).ok_or("no segment")?;
-                let pull = self
-                    .puller
-                    .reactive(rt, &shared, &mut self.seats, seg, leaf)?;
-                Ok(match pull {
-                    ReactivePull::Won(node) => Answer::Won(0, node.number()),
-                    ReactivePull::Held(node, status) => Answer::Held(node.number(), status),
-                    ReactivePull::Spent => Answer::Spent,
-                })
-            }
-            Call::Turn => Ok(match self.pump.turn(rt, &shared)? {
-                PumpTurn::Won(seg, node) => Answer::Won(seg.number(), node.number()),
-                PumpTurn::Nothing => Answer::Nothing,
-                PumpTurn::Spent => Answer::Spent,
-            }),
-        }
+        let leaf = Leaf::new(leaf).ok_or("no leaf")?;
+        let seg = SegId::new(0).ok_or("no segment")?;
+        let pull = self
+            .puller
+            .reactive(rt, &shared, &mut self.seats, seg, leaf)?;
+        Ok(match pull {
+            ReactivePull::Won(node) => Answer::Won(0, node.number()),
+            ReactivePull::Held(node, status) => Answer::Held(node.number(), status),
+            ReactivePull::Spent => Answer::Spent,
+        })
     }
 
-    // Whether the calls are answered so, one after another.
-    fn are_answered<R: Wait>(&mut self, rt: &R, calls: &[(Call, Answer)]) -> Result<bool, Fail> {
-        for (call, want) in calls {
-            if self.answer(rt, *call)? != *want {
-                return Ok(false);
-            }
-        }
-        Ok(true)
-    }
-
-    // How many requests of the reactive pulls are pending, after those were sent that find room.
-    fn send_pending<R: Wait>(&mut self, rt: &R) -> usize {
-        self.puller.send_pending(rt, &self.requests);
-        self.puller.pending().len()
-    }
-
-    // Whether these requests, and no others, are in the queue to a partition, in this order. They are taken out.
-    fn are_sent<R: Wait>(&self, rt: &R, part: usize, requests: &[(u64, u64, u32)]) -> bool {
-        let Some(queue) = self.requests.get(part) else {
-            return false;
+    // What a turn of the pump comes to.
+    fn turn<R: Wait>(&mut self, rt: &R) -> Result<Answer, Fail> {
+        let shared = Shared {
+            recon: &self.recon,
+            trees: &self.trees,
+            requests: &self.requests,
         };
-        for (seg, node, pull) in requests {
-            let want = Request {
-                seg: *seg,
-                node: *node,
-                pull: *pull,
-            };
-            if queue.pop(rt) != Some(want) {
-                return false;
-            }
-        }
-        queue.pop(rt).is_none()
+        Ok(match self.pump.turn(rt, &shared)? {
+            PumpTurn::Won(seg, node) => Answer::Won(seg.number(), node.number()),
+            PumpTurn::Nothing => Answer::Nothing,
+            PumpTurn::Spent => Answer::Spent,
+        })
     }
 
-    // The status of a node of segment 0.
-    fn status(&mut self, number: u64) -> Result<Status, Fail> {
-        let node = NodeId::new(number).ok_or("no node")?;
-        Ok(self.trees[0].look(&mut self.seats[0], node))
+    // The next request to a partition, which is taken out of its queue.
+    fn asked<R: Wait>(&self, rt: &R, part: usize) -> Answer {
+        let Some(queue) = self.requests.get(part) else {
+            return Answer::Nothing;
+        };
+        match queue.pop(rt) {
+            Some(Request { seg, node, pull }) => Answer::Asked(seg, node, pull),
+            None => Answer::Nothing,
+        }
+    }
+
+    // What a call is answered.
+    fn answer<R: Wait>(&mut self, rt: &R, call: Call) -> Result<Answer, Fail> {
+        Ok(match call {
+            Call::Reactive(leaf) => self.reactive(rt, leaf)?,
+            Call::Turn => self.turn(rt)?,
+            Call::IsDone if self.pump.is_done() => Answer::Done,
+            Call::IsDone => Answer::Pending(self.pump.pending().len()),
+            Call::Send => {
+                self.puller.send_pending(rt, &self.requests);
+                Answer::Pending(self.puller.pending().len())
+            }
+            Call::Take(part) => self.asked(rt, part),
+        })
     }
 }
 
@@ -183,8 +185,11 @@ fn queues(alloc: Global, capacity: usize) -> Result<Vec<ArrayQueue<Request>>, Al
     Ok(queues)
 }
 
-// A leaf is claimed for a waiting transaction, and again; the pump takes what is left.
-const IN_ONE_SEGMENT: [(Call, Answer); 10] = [
+// A list of calls with their answers.
+type Story = &'static [(Call, Answer)];
+
+// A leaf is claimed for a waiting transaction, and again; the pump takes what is left. Each claim is asked for once.
+const IN_ONE_SEGMENT: Story = &[
     (Call::Reactive(1), Answer::Won(0, 33)),
     (Call::Reactive(1), Answer::Held(33, Status::Claimed(3))),
     (Call::Turn, Answer::Won(0, 32)),
@@ -195,116 +200,104 @@ const IN_ONE_SEGMENT: [(Call, Answer); 10] = [
     (Call::Turn, Answer::Won(0, 3)),
     (Call::Reactive(31), Answer::Held(3, Status::Claimed(512))),
     (Call::Turn, Answer::Nothing),
+    (Call::IsDone, Answer::Done),
+    (Call::Take(0), Answer::Asked(0, 33, 3)),
+    (Call::Take(0), Answer::Asked(0, 32, 0)),
+    (Call::Take(0), Answer::Asked(0, 34, 131)),
+    (Call::Take(0), Answer::Asked(0, 35, 128)),
+    (Call::Take(0), Answer::Asked(0, 9, 256)),
+    (Call::Take(0), Answer::Asked(0, 5, 384)),
+    (Call::Take(0), Answer::Asked(0, 3, 512)),
+    (Call::Take(0), Answer::Nothing),
+    (Call::Take(1), Answer::Nothing),
 ];
 
-#[test]
-fn each_claim_is_asked_for_once(rt: HostRuntime) -> Result<(), Fail> {
-    let mut setting = Setting::opened(rt.alloc(), FOUR_KEYS, 16)?;
-    setting.puller.reserve()?;
-    assert!(rt; setting.are_answered(&rt, &IN_ONE_SEGMENT)?);
-    assert!(rt; setting.pump.is_done());
-    let requests = [
-        (0, 33, 3),
-        (0, 32, 0),
-        (0, 34, 131),
-        (0, 35, 128),
-        (0, 9, 256),
-        (0, 5, 384),
-        (0, 3, 512),
-    ];
-    assert!(rt; setting.are_sent(&rt, 0, &requests));
-    assert!(rt; setting.are_sent(&rt, 1, &[]));
-    Ok(())
-}
-
-// The statuses of a tree of which leaf 1 was claimed by the first reactive pull of partition 1, and nothing else.
-const AFTER_LEAF_1: [(u64, Status); 8] = [
-    (1, Status::Split),
-    (2, Status::Split),
-    (4, Status::Split),
-    (8, Status::Split),
-    (16, Status::Split),
-    (33, Status::Claimed(3)),
-    (32, Status::Free),
-    (3, Status::Free),
-];
-
-#[test]
-fn a_reactive_pull_splits_down_to_its_leaf(rt: HostRuntime) -> Result<(), Fail> {
-    let mut setting = Setting::opened(rt.alloc(), FOUR_KEYS, 16)?;
-    assert!(rt; setting.answer(&rt, Call::Reactive(1))? == Answer::Won(0, 33));
-    for (node, status) in AFTER_LEAF_1 {
-        assert!(rt; setting.status(node)? == status, "{node}");
-    }
-    assert!(rt; setting.answer(&rt, Call::Turn)? == Answer::Won(0, 32));
-    Ok(())
-}
-
-// A pump in two segments.
-const IN_TWO_SEGMENTS: [(Call, Answer); 4] = [
+// A pump goes round its segments.
+const IN_TWO_SEGMENTS: Story = &[
+    (Call::IsDone, Answer::Pending(0)),
     (Call::Turn, Answer::Won(0, 1)),
     (Call::Turn, Answer::Won(1, 1)),
     (Call::Turn, Answer::Nothing),
     (Call::Turn, Answer::Nothing),
+    (Call::IsDone, Answer::Done),
+    (Call::Take(0), Answer::Asked(0, 1, 0)),
+    (Call::Take(0), Answer::Asked(1, 1, 128)),
+    (Call::Take(0), Answer::Nothing),
 ];
 
-#[test]
-fn a_pump_goes_round_its_segments(rt: HostRuntime) -> Result<(), Fail> {
-    let mut setting = Setting::opened(rt.alloc(), FORTY_KEYS, 16)?;
-    assert!(rt; !setting.pump.is_done());
-    assert!(rt; setting.are_answered(&rt, &IN_TWO_SEGMENTS)?);
-    assert!(rt; setting.pump.is_done());
-    assert!(rt; setting.are_sent(&rt, 0, &[(0, 1, 0), (1, 1, 128)]));
-    Ok(())
-}
+// A pump claims in its stage alone, which has one of two segments.
+const IN_THE_FIRST_STAGE: Story = &[
+    (Call::Turn, Answer::Won(0, 1)),
+    (Call::Turn, Answer::Nothing),
+    (Call::IsDone, Answer::Done),
+    (Call::Take(0), Answer::Asked(0, 1, 0)),
+    (Call::Take(0), Answer::Nothing),
+];
 
-// In each of two stages it claims in the one segment of that stage, and in no other.
-#[test]
-fn a_pump_claims_in_its_stage_alone(rt: HostRuntime) -> Result<(), Fail> {
-    for stage in [0, 1] {
-        let recon = between(rt.alloc(), ALL_OF_THREE, IN_TWO_STAGES)?;
-        let mut setting = Setting::in_stage(rt.alloc(), recon, stage, 16)?;
-        assert!(rt; setting.answer(&rt, Call::Turn)? == Answer::Won(stage, 1));
-        assert!(rt; setting.answer(&rt, Call::Turn)? == Answer::Nothing);
-        assert!(rt; setting.pump.is_done());
-        assert!(rt; setting.are_sent(&rt, 0, &[(stage, 1, 0)]));
+const IN_THE_SECOND_STAGE: Story = &[
+    (Call::Turn, Answer::Won(1, 1)),
+    (Call::Turn, Answer::Nothing),
+    (Call::IsDone, Answer::Done),
+    (Call::Take(0), Answer::Asked(1, 1, 0)),
+    (Call::Take(0), Answer::Nothing),
+];
+
+// A pump whose request finds no room sends it at a later turn.
+const FULL_FOR_THE_PUMP: Story = &[
+    (Call::Turn, Answer::Won(0, 1)),
+    (Call::Turn, Answer::Won(1, 1)),
+    (Call::Turn, Answer::Nothing),
+    (Call::Turn, Answer::Nothing),
+    (Call::IsDone, Answer::Pending(1)),
+    (Call::Take(0), Answer::Asked(0, 1, 0)),
+    (Call::Take(0), Answer::Nothing),
+    (Call::Turn, Answer::Nothing),
+    (Call::IsDone, Answer::Done),
+    (Call::Take(0), Answer::Asked(1, 1, 128)),
+];
+
+// The request of a reactive pull that finds no room is sent later.
+const FULL_FOR_A_PARTITION: Story = &[
+    (Call::Reactive(1), Answer::Won(0, 33)),
+    (Call::Reactive(2), Answer::Won(0, 34)),
+    (Call::Send, Answer::Pending(1)),
+    (Call::Take(0), Answer::Asked(0, 33, 3)),
+    (Call::Take(0), Answer::Nothing),
+    (Call::Send, Answer::Pending(0)),
+    (Call::Take(0), Answer::Asked(0, 34, 131)),
+];
+
+// Two plans, the stage of the pump, how many requests more than one a queue holds, and a list of calls.
+const STORIES: [(&str, &str, u64, u8, Story); 6] = [
+    (ALL, FOUR_KEYS, 0, 15, IN_ONE_SEGMENT),
+    (ALL, FORTY_KEYS, 0, 15, IN_TWO_SEGMENTS),
+    (ALL_OF_THREE, IN_TWO_STAGES, 0, 15, IN_THE_FIRST_STAGE),
+    (ALL_OF_THREE, IN_TWO_STAGES, 1, 15, IN_THE_SECOND_STAGE),
+    (ALL, FORTY_KEYS, 0, 0, FULL_FOR_THE_PUMP),
+    (ALL, FOUR_KEYS, 0, 0, FULL_FOR_A_PARTITION),
+];
+
+// The first call that isn't answered as wanted, with its answer.
+fn first_wrong<R: Wait>(
+    rt: &R,
+    setting: &mut Setting,
+    story: Story,
+) -> Result<Option<(Call, Answer)>, Fail> {
+    for (call, wanted) in story {
+        let answer = setting.answer(rt, *call)?;
+        if answer != *wanted {
+            return Ok(Some((*call, answer)));
+        }
     }
-    Ok(())
+    Ok(None)
 }
 
 #[test]
-fn a_pump_sends_later_what_finds_no_room(rt: HostRuntime) -> Result<(), Fail> {
-    let mut setting = Setting::opened(rt.alloc(), FORTY_KEYS, 1)?;
-    assert!(rt; setting.are_answered(&rt, &IN_TWO_SEGMENTS)?);
-    assert!(rt; setting.pump.pending().len() == 1 && !setting.pump.is_done());
-    assert!(rt; setting.are_sent(&rt, 0, &[(0, 1, 0)]));
-    assert!(rt; setting.answer(&rt, Call::Turn)? == Answer::Nothing);
-    assert!(rt; setting.pump.is_done());
-    assert!(rt; setting.are_sent(&rt, 0, &[(1, 1, 128)]));
-    Ok(())
-}
-
-#[test]
-fn a_puller_sends_later_what_finds_no_room(rt: HostRuntime) -> Result<(), Fail> {
-    let mut setting = Setting::opened(rt.alloc(), FOUR_KEYS, 1)?;
-    assert!(rt; setting.answer(&rt, Call::Reactive(1))? == Answer::Won(0, 33));
-    assert!(rt; setting.answer(&rt, Call::Reactive(2))? == Answer::Won(0, 34));
-    assert!(rt; setting.puller.pending().len() == 1);
-    assert!(rt; setting.are_sent(&rt, 0, &[(0, 33, 3)]));
-    assert!(rt; setting.send_pending(&rt) == 0);
-    assert!(rt; setting.are_sent(&rt, 0, &[(0, 34, 131)]));
-    Ok(())
-}
-
-#[test]
-fn a_pump_gives_its_seats_back(rt: HostRuntime) -> Result<(), Fail> {
-    let (_trees, _seats, others) = fresh_trees(rt.alloc(), 2)?;
-    let recon = between(rt.alloc(), ALL, FORTY_KEYS)?;
-    let Ok(pump) = Pump::new(rt.alloc(), &recon, 0, 15, others) else {
-        return Err("no memory for a pump")?;
-    };
-    assert!(rt; !pump.is_done());
-    let (seats, pending) = pump.into_parts();
-    assert!(rt; seats.len() == 2 && pending.is_empty());
+fn stories(rt: HostRuntime) -> Result<(), Fail> {
+    for (old, new, stage, more, story) in STORIES {
+        let mut setting = Setting::opened(rt.alloc(), old, new, stage, usize::from(more) + 1)?;
+        let wrong = first_wrong(&rt, &mut setting, story)?;
+        assert!(rt; wrong.is_none(), "{wrong:?} of {story:?}");
+    }
     Ok(())
 }

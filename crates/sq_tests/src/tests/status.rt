@@ -1,4 +1,4 @@
-// Trees that threads share: two seats in turn, and threads at once.
+// Trees that threads share: two seats in turn, and four threads at once.
 ghost use Rattle.std.specs.Prelude.{◌≡◌, ◌<◌, true, IsTrue, IfOk};
 ghost use Rattle.sq_tree.specs.Prelude.{is_node};
 
@@ -85,31 +85,6 @@ fn two_seats_in_turn(rt: HostRuntime) -> Result<(), Fail> {
     Ok(())
 }
 
-// The nodes that one thread was given, until none was left.
-fn claims(tree: &StatusTree, mut seat: TreeSeat, pull: u32) -> (TreeSeat, [Option<NodeId>; NODES])
-    requires { seat.tree ≡ tree.now }
-    ensures { result.0.tree ≡ tree.now }
-{
-    let mut nodes = [None; NODES];
-    for slot in nodes.iter_mut() {
-        *slot = tree.claim_any(&mut seat, pull);
-        if slot.is_none() {
-            return (seat, nodes);
-        }
-    }
-    (seat, nodes)
-}
-
-// Splits each inner node.
-fn split_all(tree: &StatusTree, seat: &mut TreeSeat)
-    requires { (seat.old.tree ≡ tree.now) × (seat.old.view.first ≡ true) }
-    ensures { (seat.new.tree ≡ tree.now) × (seat.new.view.first ≡ true) }
-{
-    for node in NodeId::all() {
-        let _ = tree.split(seat, node);
-    }
-}
-
 // Shares out two more seats.
 fn share_two(tree: &StatusTree, seat: &mut TreeSeat) -> (TreeSeat, TreeSeat)
     requires { (seat.old.tree ≡ tree.now) × (seat.old.view.first ≡ true) }
@@ -128,63 +103,6 @@ fn join_two(tree: &StatusTree, seat: &mut TreeSeat, one: TreeSeat, other: TreeSe
 {
     tree.join(seat, one);
     tree.join(seat, other);
-}
-
-// Two threads claim what they find: what each was given, and the statuses then.
-fn share_out<R: Threads + Sync>(
-    rt: &R,
-    alloc: Global,
-) -> Result<
-    (
-        [Option<NodeId>; NODES],
-        [Option<NodeId>; NODES],
-        [Status; NODES],
-    ),
-    AllocError,
-> {
-    let (tree, mut first) = StatusTree::open(alloc)?;
-    split_all(&tree, &mut first);
-    let (even, odd) = share_two(&tree, &mut first);
-    let shared = &tree;
-    let (evens, odds) = thread::join(
-        rt,
-        move ||
-            requires { even.tree ≡ shared.now }
-            ensures { result.0.tree ≡ shared.entry.now }
-        { claims(shared, even, 2) },
-        move ||
-            requires { odd.tree ≡ shared.now }
-            ensures { result.0.tree ≡ shared.entry.now }
-        { claims(shared, odd, 3) },
-    );
-    let (even, to_even) = evens;
-    let (odd, to_odd) = odds;
-    join_two(&tree, &mut first, even, odd);
-    Ok((to_even, to_odd, tree.close(first)))
-}
-
-// How often a node was given.
-fn count(given: &[Option<NodeId>], node: NodeId) -> usize {
-    given.iter().filter(|given| **given == Some(node)).count()
-}
-
-// Each leaf goes to exactly one of two threads, and no other node to any.
-#[test]
-fn each_leaf_goes_to_one_thread(rt: HostRuntime) -> Result<(), Fail> {
-    let (to_even, to_odd, statuses) = share_out(&rt, rt.alloc())?;
-    for node in NodeId::all() {
-        let by_even = count(&to_even, node);
-        let by_odd = count(&to_odd, node);
-        let want = match (by_even, by_odd) {
-            (1, 0) => Status::Claimed(2),
-            (0, 1) => Status::Claimed(3),
-            _ => Status::Split,
-        };
-        let is_given = matches!((by_even, by_odd), (0, 1) | (1, 0));
-        assert!(rt; is_given == node.is_leaf(), "{node:?}");
-        assert!(rt; statuses[node.index()] == want, "{node:?}");
-    }
-    Ok(())
 }
 
 // Whether what was won at a node leads to this status, each of its steps once.

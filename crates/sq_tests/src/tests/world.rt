@@ -1,117 +1,12 @@
-// Worlds, and whole runs through readers and writers that give or take little at a time, or fail. The other whole runs
-// are stored in `tests/runs`.
-use super::fixtures::{note, opening, step};
+// Whole runs through readers and writers that give or take little at a time, or fail. The other whole runs are stored in
+// `tests/runs`.
 use super::readers::{Drip, SIZES};
-use sq_chunk::Note;
-use sq_model::{Answer, Phase, Refusal, Step};
-use sq_ranges::GivenRow;
-use sq_store::SlabStore;
 use sq_text::{InputFault, InputLine, WriteFault};
-use sq_tree::Status;
-use sq_world::{Ending, World, run, run_world};
+use sq_world::{Ending, run};
 use std::alloc::Global;
 use std::io;
 use std::io::{ErrorKind, Read, Write};
 use std::test::Fail;
-
-// The sizes and the row of an opening.
-const LINES: &str = "config 1 64 1\nrow 5 0 0 10 -\n";
-
-fn steps(alloc: Global, lines: &[&str]) -> Result<Vec<Step>, Fail> {
-    let mut steps = Vec::new(alloc);
-    for line in lines {
-        steps.push(step(alloc, line)?)?;
-    }
-    Ok(steps)
-}
-
-#[test]
-fn a_list_of_steps(rt: HostRuntime) -> Result<(), Fail> {
-    let steps = steps(rt.alloc(), &["start", "prepare 0"])?;
-    let (world, answers) = run_world(rt.alloc(), opening(rt.alloc(), LINES)?, &steps)?;
-    assert!(rt;
-        matches!(
-            answers.as_slice(),
-            [Answer::Refused(Refusal::NotPrepared), Answer::Done]
-        )
-    );
-    assert!(rt; world.phase() == Phase::Preparing);
-    Ok(())
-}
-
-// The root row of root key 5, with number 10.
-fn rows(alloc: Global) -> Result<Vec<GivenRow>, Fail> {
-    let mut rows = Vec::new(alloc);
-    rows.push(GivenRow {
-        root: 5,
-        table: 0,
-        sub: 0,
-        number: 10,
-        note: Vec::new(alloc),
-    })?;
-    Ok(rows)
-}
-
-// The world of these plans, sizes and rows, each handed in by itself.
-fn fresh_world(alloc: Global) -> Result<World, Fail> {
-    let parts = opening(alloc, "config 1 64 1\n")?.into_parts();
-    let rows = rows(alloc)?;
-    Ok(World::open(
-        alloc,
-        parts.schema,
-        parts.old,
-        parts.new,
-        parts.config,
-        rows,
-    )?)
-}
-
-#[test]
-fn a_world_before_any_step(rt: HostRuntime) -> Result<(), Fail> {
-    let world = fresh_world(rt.alloc())?;
-    assert!(rt; world.phase() == Phase::Idle && world.status(0, 63) == Some(Status::Free));
-    for (part, families) in [(0, Some(1)), (1, Some(0)), (2, None)] {
-        assert!(rt;
-            world.store(part).map(SlabStore::len) == families,
-            "at {part}"
-        );
-    }
-    assert!(rt; world.under_way(0, 1, 0).is_none());
-    Ok(())
-}
-
-// The world of an opening after the steps of these lines.
-fn world_after(alloc: Global, lines: &[&str]) -> Result<World, Fail> {
-    let mut world = World::from_opening(alloc, opening(alloc, LINES)?)?;
-    for line in lines {
-        drop(world.step(&step(alloc, line)?));
-    }
-    Ok(world)
-}
-
-#[test]
-fn a_chunk_under_way(rt: HostRuntime) -> Result<(), Fail> {
-    let world = world_after(
-        rt.alloc(),
-        &[
-            "prepare 0",
-            "prepare 1",
-            "start",
-            "claim 0 1 2",
-            "begin 0 1 2",
-            "cut 0 1",
-        ],
-    )?;
-    let note = Note {
-        last: true,
-        ..note(0)?
-    };
-    let chunk = world.under_way(0, 1, 0).ok_or("no chunk")?;
-    assert!(rt; chunk.note() == note && chunk.len() == 1);
-    assert!(rt; world.phase() == Phase::Moving && world.status(0, 1) == Some(Status::Partial(2)));
-    assert!(rt; world.under_way(0, 1, 1).is_none());
-    Ok(())
-}
 
 // A move of the root keys 4 to 7 from partition 0 to partition 1, with answers of each form. Its last line is cut off,
 // and a chunk stays under way.

@@ -1,8 +1,8 @@
-// Workers one by one: how many turns they take, and what they ask before each step.
+// Workers one by one: what they ask before each step.
 use super::gates::Recorder;
 use super::node::PAIR;
 use super::run::TestRun;
-use sq_driver::{NodeStep, OpenGate};
+use sq_driver::NodeStep;
 use std::alloc::Global;
 use std::sync::Wait;
 use std::test::Fail;
@@ -19,19 +19,6 @@ fn two_jobs<R: Wait>(rt: &R, alloc: Global) -> Result<TestRun, Fail> {
     run.post(rt, alloc, "txn 0 1 5 put 0 0 1 -")?;
     run.post(rt, alloc, "txn 0 2 5 get 0 0")?;
     Ok(run)
-}
-
-#[test]
-fn a_node_takes_its_turns(rt: HostRuntime) -> Result<(), Fail> {
-    let alloc = rt.alloc();
-    let mut run = two_jobs(&rt, alloc)?;
-    run.work(&rt, 0, &OpenGate);
-    assert!(rt; run.receipts() == 0);
-    run.work(&rt, 1, &OpenGate);
-    assert!(rt; run.receipts() == 1);
-    run.work(&rt, 1, &OpenGate);
-    assert!(rt; run.receipts() == 2 && run.all_commit());
-    Ok(())
 }
 
 #[test]

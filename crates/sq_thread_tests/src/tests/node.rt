@@ -1,6 +1,5 @@
 // Nodes in one thread: a pull of one leaf, and requests that no claim made.
 use super::run::TestRun;
-use super::text::text_of;
 use sq_node::Stepped;
 use sq_pull::{PumpTurn, Request};
 use sq_ranges::SegId;
@@ -17,22 +16,17 @@ config 1 64 1
 row 5 0 0 10 -
 "#;
 
-/// The nodes above leaf 1, once it was pulled.
-pub const SPLIT: &str = "node 1 Split
+// What is gathered once leaf 1 was pulled for a transaction at partition 1, one at partition 0 ran, and the pump claimed leaf
+// 0.
+const PULLED: &str = "at 0 9 1
+at 1 5 1 0.0=10/-
+note 0 1 0 0 33 5 6 true
+node 1 Split
 node 2 Split
 node 4 Split
 node 8 Split
 node 16 Split
-";
-
-// Once leaf 1 was pulled for a transaction at partition 1, one at partition 0 ran, and the pump claimed leaf 0: what is
-// gathered before the nodes that are split, and behind them.
-const PULLED: &str = "at 0 9 1
-at 1 5 1 0.0=10/-
-note 0 1 0 0 33 5 6 true
-";
-
-const CLAIMED: &str = "node 32 Claimed(0)
+node 32 Claimed(0)
 node 33 Complete(3)
 receipt 9 0 commit 10 none
 receipt 5 0 commit 9 10/-
@@ -74,9 +68,7 @@ fn a_pull_of_one_leaf(rt: HostRuntime) -> Result<(), Fail> {
     pulls_its_leaf(&rt, alloc, &mut run)?;
     is_posted_on(&rt, alloc, &mut run)?;
     assert!(rt; run.turn_pump(&rt, 0)? == won(32)?);
-    let gathered = run.gathered(&rt, alloc)?;
-    let wanted = format!(in alloc; "{PULLED}{SPLIT}{CLAIMED}")?;
-    assert_eq!(rt; text_of(alloc, &gathered)?.as_str(), wanted.as_str());
+    assert_eq!(rt; run.text(&rt, alloc)?.as_str(), PULLED);
     Ok(())
 }
 
@@ -255,8 +247,8 @@ fn after_wrong_requests<R: Wait>(rt: &R, alloc: Global) -> Result<TestRun, Fail>
 #[test]
 fn wrong_requests_change_nothing(rt: HostRuntime) -> Result<(), Fail> {
     let alloc = rt.alloc();
-    let gathered = after_wrong_requests(&rt, alloc)?.gathered(&rt, alloc)?;
-    assert_eq!(rt; text_of(alloc, &gathered)?.as_str(), "at 0 5 0 0.0=10/-\n");
+    let text = after_wrong_requests(&rt, alloc)?.text(&rt, alloc)?;
+    assert_eq!(rt; text.as_str(), "at 0 5 0 0.0=10/-\n");
     Ok(())
 }
 
@@ -286,7 +278,6 @@ fn a_repeated_request_begins_its_node_once(rt: HostRuntime) -> Result<(), Fail> 
     for _turn in 0..3 {
         run.turn(&rt, 0)?;
     }
-    let gathered = run.gathered(&rt, alloc)?;
-    assert_eq!(rt; text_of(alloc, &gathered)?.as_str(), BEGUN);
+    assert_eq!(rt; run.text(&rt, alloc)?.as_str(), BEGUN);
     Ok(())
 }

@@ -4,7 +4,7 @@ ghost use Rattle.sq_pull.specs.declared.numbers.TheConstants.{MAX_PUMPS};
 ghost use Rattle.sq_node.specs.Prelude.{IsNodeOf};
 ghost use Rattle.sq_gather.specs.Gathered.{AreAllOf};
 
-use super::text::receipts_text;
+use super::text::{receipts_text, text_of};
 use sq_audit::Job;
 use sq_driver::{Gate, drive_pump, run_workers};
 use sq_gather::{Gathered, Ungathered, gather};
@@ -234,6 +234,12 @@ impl TestRun {
             Ok(gathered) => Ok(gathered),
             Err(_) => Err("no memory")?,
         }
+    }
+
+    /// The same, in lines.
+    pub fn text<R: Wait>(self, rt: &R, alloc: Global) -> Result<String, Fail> {
+        let gathered = self.gathered(rt, alloc)?;
+        text_of(alloc, &gathered)
     }
 }
 

@@ -1,5 +1,0 @@
-use Rattle.std.proofs.Common.{◌≡◌, true}
-use Rattle.sq_tests.proofs.tests.status.split_all.Given as goal
-
-abbrev pub invariant-loop-node : goal.invariant-loop-node
-invariant-loop-node l = (l.seat.tree ≡ l.tree) × (l.seat.view.first ≡ true)
