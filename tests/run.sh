@@ -10,7 +10,8 @@
 # A fault must be said on standard error: the line of the input that it belongs to, where NAME.status names one ('2 at
 # line 5'), its text in tests/texts, which has a line for each number, and what doesn't fit in the line, which tests/misfits
 # has by the name of the run; without a fault standard error is empty, unless NAME.err has what it is to say. Then come the
-# examples of examples/ and those of the help texts, streams that fail, memory that runs out, a live run at a terminal, and command lines, whose texts are in tests/usage.
+# texts of tests/plans, the examples of examples/ and those of the help texts, the threads of live runs, streams that fail,
+# memory that runs out, a live run at a terminal, and command lines, whose texts are in tests/usage.
 #
 # The programs are those that `rt ci` leaves in crates/squall/out: squall, as LLVM builds it, and squall.by-rattle, as
 # Rattle's own compiler does. SQUALL=PATH takes another one.
@@ -283,6 +284,20 @@ compare_all() {
             count "$(basename "$name")" "no $name.out"
         fi
     done
+}
+
+# Texts of tests/plans, each behind the number of its fault, or behind 0 where it is a plan. Given as the only line of a
+# header, a plan is followed by the fault of the line that is missing.
+try_plans() {
+    local line number
+    while IFS= read -r line; do
+        number=${line%% *}
+        if [ "$number" = 0 ]; then number=121; fi
+        echo "old ${line#* }" > "$room/plan.in"
+        echo "fault $number" > "$room/wanted"
+        give "$room/plan.in" run
+        count "plan ${line#* }" "$(difference "$room/wanted" "$room/output"; if [ "$ended" != 2 ]; then echo "status $ended"; fi)"
+    done < "$tests/plans"
 }
 
 # example WORD NAME [OPTION]: the example of this name in examples/, given to this subcommand, with this option.
@@ -835,6 +850,7 @@ for program in "${programs[@]}"; do
     compare_all "$tests/runs" run
     compare_all "$tests/listings" ranges
     compare_all "$room/limits" run
+    try_plans
     try_examples
     try_numbers
     try_echoes

@@ -1,37 +1,37 @@
 // Inputs in parts of which a read fails, and lines that are told once more.
 use super::readers::Drip;
 use sq_inputs::{Inserting, Recalled, Recalling};
+use std::alloc::Global;
 use std::cell::Cell;
 use std::io;
 use std::io::Read;
 use std::test::Fail;
 
-// Whether a read fails in the main part, or else in the rows, and what comes before it.
-const FAILING: [(bool, &str); 2] = [(true, "config\nrow 1\nsta"), (false, "config\nrow 1\n")];
+// What comes before a read fails, in the main part or else in the rows, and whether the next one fails too.
+fn read_failing(alloc: Global, fails_in_main: bool) -> (Vec<u8>, bool) {
+    let main = Drip {
+        rest: b"config\nsta",
+        most: 4,
+        fails: fails_in_main,
+    };
+    let rows = Drip {
+        rest: b"row 1\n",
+        most: 4,
+        fails: !fails_in_main,
+    };
+    let lines = Cell::new(None);
+    let mut reader = Inserting::new(main, rows, &lines);
+    let mut text = Vec::new(alloc);
+    let fails = reader.read_to_end(&mut text).is_err() && reader.read_to_end(&mut text).is_err();
+    (text, fails)
+}
 
-// What comes before a read that fails is given, and each further read fails too.
 #[test]
-fn a_read_that_fails_is_told(rt: HostRuntime) -> Result<(), Fail> {
-    for (fails_in_main, wanted) in FAILING {
-        let main = Drip {
-            rest: b"config\nsta",
-            most: 4,
-            fails: fails_in_main,
-        };
-        let rows = Drip {
-            rest: b"row 1\n",
-            most: 4,
-            fails: !fails_in_main,
-        };
-        let lines = Cell::new(None);
-        let mut reader = Inserting::new(main, rows, &lines);
-        let mut text = Vec::new(rt.alloc());
-        for _ in 0..2 {
-            let read = reader.read_to_end(&mut text);
-            assert!(rt; read.is_err() && text.as_slice() == wanted.as_bytes());
-        }
+fn a_read_that_fails_is_told(rt: HostRuntime) {
+    for (fails_in_main, wanted) in [(true, "config\nrow 1\nsta"), (false, "config\nrow 1\n")] {
+        let (text, fails) = read_failing(rt.alloc(), fails_in_main);
+        assert!(rt; fails && text.as_slice() == wanted.as_bytes());
     }
-    Ok(())
 }
 
 // How many bytes come by one read after another, and what is told of lines then.
@@ -59,6 +59,13 @@ const READS: [(usize, &[(usize, Recalled<'static>)]); 3] = [
     ),
 ];
 
+// Whether this is told of these lines.
+fn are_told<R: Read>(reader: &Recalling<R>, lines: &[(usize, Recalled<'_>)]) -> bool {
+    lines
+        .iter()
+        .all(|(number, line)| reader.line(*number) == *line)
+}
+
 #[test]
 fn the_lines_of_the_last_read_are_told(rt: HostRuntime) -> Result<(), Fail> {
     let input = Drip {
@@ -68,29 +75,29 @@ fn the_lines_of_the_last_read_are_told(rt: HostRuntime) -> Result<(), Fail> {
     };
     let mut reader = Recalling::new(rt.alloc(), input);
     let mut bytes = [0; 6];
-    for (count, told) in READS {
-        assert!(rt; reader.read(&mut bytes)? == count);
-        for (number, line) in told {
-            assert!(rt; reader.line(*number) == *line, "line {number}");
-        }
+    for (count, lines) in READS {
+        assert!(rt; reader.read(&mut bytes)? == count && are_told(&reader, lines));
     }
     Ok(())
 }
 
-// A line without end is told as far as it came, and no more once it is longer than there is room for.
+// How many bytes are told of a line without end after so many reads of 4,096 bytes, if it is told.
+fn told_length(alloc: Global, reads: u32) -> Result<Option<usize>, Fail> {
+    let mut reader = Recalling::new(alloc, io::repeat(b'x'));
+    let mut bytes = [0; 4096];
+    for _ in 0..reads {
+        reader.read(&mut bytes)?;
+    }
+    Ok(match reader.line(1) {
+        Recalled::Rest(line) => Some(line.len()),
+        _ => None,
+    })
+}
+
+// A line is told no more once it is longer than there is room for.
 #[test]
 fn a_line_without_end_is_lost(rt: HostRuntime) -> Result<(), Fail> {
-    let mut reader = Recalling::new(rt.alloc(), io::repeat(b'x'));
-    let mut bytes = [0; 4096];
-    for (reads, wanted) in [(32, Some(131_072)), (64, None)] {
-        for _ in 0..reads {
-            assert!(rt; reader.read(&mut bytes)? == 4096);
-        }
-        let length = match reader.line(1) {
-            Recalled::Rest(line) => Some(line.len()),
-            _ => None,
-        };
-        assert!(rt; length == wanted);
-    }
+    assert!(rt; told_length(rt.alloc(), 32)? == Some(131_072));
+    assert!(rt; told_length(rt.alloc(), 96)?.is_none());
     Ok(())
 }
