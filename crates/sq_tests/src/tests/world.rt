@@ -107,6 +107,13 @@ fn short_reads_and_writes(rt: HostRuntime) -> Result<(), Fail> {
     Ok(())
 }
 
+// What is written for what a reader gives, and how the run ends.
+fn run_of<R: Read>(alloc: Global, reader: &mut R) -> Result<(Vec<u8>, Ending), Fail> {
+    let mut output = Vec::new(alloc);
+    let ending = run(alloc, reader, &mut output)?;
+    Ok((output, ending))
+}
+
 // A reader that is interrupted twice before each read that another one makes.
 #[derive(Drop)]
 struct Interrupted<'a> {
@@ -137,8 +144,7 @@ fn interrupted_reads(rt: HostRuntime) -> Result<(), Fail> {
             },
             times: 0,
         };
-        let mut output = Vec::new(rt.alloc());
-        let ending = run(rt.alloc(), &mut reader, &mut output)?;
+        let (output, ending) = run_of(rt.alloc(), &mut reader)?;
         assert!(rt;
             ending == Ending::Done && output.as_slice() == OUTPUT,
             "by {most}"
@@ -192,9 +198,7 @@ fn run_failing(alloc: Global, given: &[u8], most: usize) -> Result<(Vec<u8>, End
         most,
         fails: true,
     };
-    let mut output = Vec::new(alloc);
-    let ending = run(alloc, &mut reader, &mut output)?;
-    Ok((output, ending))
+    run_of(alloc, &mut reader)
 }
 
 // The ending by a failed read in this line of the script, which stands behind the four lines of the header.
@@ -202,19 +206,30 @@ fn failed_at(line: u32) -> Ending {
     Ending::Fault(InputFault::ReadFailed.at(InputLine::Later(line.saturating_add(5))))
 }
 
-// Behind each front of a script the lines that ended are answered, and the fault belongs to the line behind them.
+// The header with a script.
+fn input_of(alloc: Global, script: &[u8]) -> Result<Vec<u8>, Fail> {
+    let mut input = Vec::new(alloc);
+    input.extend_from_slice(HEADER)?;
+    input.extend_from_slice(script)?;
+    Ok(input)
+}
+
+// Whether the lines of a script that ended are answered where a read fails behind it, and the fault belongs to the line behind
+// them.
+fn is_answered(alloc: Global, script: &[u8]) -> Result<bool, Fail> {
+    let ended = script.iter().filter(|byte| **byte == b'\n').count();
+    let input = input_of(alloc, script)?;
+    let (output, ending) = run_failing(alloc, &input, 4096)?;
+    Ok(ending == failed_at(ended as u32) && output == answers_and_fault(alloc, ended)?)
+}
+
 #[test]
 fn readers_that_fail_in_a_script(rt: HostRuntime) -> Result<(), Fail> {
     for length in 0..=SCRIPT.len() {
-        let script = &SCRIPT[..length];
-        let ended = script.iter().filter(|byte| **byte == b'\n').count();
-        let wanted = answers_and_fault(rt.alloc(), ended)?;
-        let mut given = Vec::new(rt.alloc());
-        given.extend_from_slice(HEADER)?;
-        given.extend_from_slice(script)?;
-        let (output, ending) = run_failing(rt.alloc(), &given, 4096)?;
-        assert!(rt; output == wanted, "after {length}");
-        assert!(rt; ending == failed_at(ended as u32), "after {length}");
+        assert!(rt;
+            is_answered(rt.alloc(), &SCRIPT[..length])?,
+            "after {length}"
+        );
     }
     Ok(())
 }
@@ -247,12 +262,9 @@ impl Read for Endless {
 fn readers_without_end(rt: HostRuntime) -> Result<(), Fail> {
     let header =
         "old {\"version\":1,\"partitions\":1,\"ranges\":[[0,4294967296,0]]}\nnew {\"version\":1,\"partitions\":1,\"ranges\":[[0,4294967296,0]]}\nconfig 1 64 1\nprepare 0\n";
-    let mut output = Vec::new(rt.alloc());
-    let ending = run(rt.alloc(), &mut Endless, &mut output)?;
+    let (output, ending) = run_of(rt.alloc(), &mut Endless)?;
     assert!(rt; ending.status() == 2 && output.as_slice() == b"fault 231\n".as_slice());
-    let mut output = Vec::new(rt.alloc());
-    let mut reader = header.as_bytes().chain(Endless);
-    let ending = run(rt.alloc(), &mut reader, &mut output)?;
+    let (output, ending) = run_of(rt.alloc(), &mut header.as_bytes().chain(Endless))?;
     assert!(rt; ending == Ending::Fault(InputFault::TooLong.at(InputLine::Later(5))));
     assert!(rt; output.as_slice() == b"ok\nfault 122\n".as_slice());
     Ok(())
@@ -298,9 +310,7 @@ fn writers_that_fail(rt: HostRuntime) {
 // The same of each call of a run, until one needs no more calls.
 #[test]
 fn writers_that_fail_at_each_call(rt: HostRuntime) -> Result<(), Fail> {
-    let mut input = Vec::new(rt.alloc());
-    input.extend_from_slice(HEADER)?;
-    input.extend_from_slice(SCRIPT)?;
+    let input = input_of(rt.alloc(), SCRIPT)?;
     for calls in 0..100 {
         let (ending, got) = run_narrowly(rt.alloc(), &input, calls);
         if ending == Ok(Ending::Done) {
