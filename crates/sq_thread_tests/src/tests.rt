@@ -4,6 +4,7 @@ mod driver;
 mod gates;
 mod live;
 mod node;
+mod round;
 mod run;
 mod stages;
 mod text;

@@ -1,0 +1,76 @@
+// Four partitions, each of which gives its five root keys to the next one, with all workers at once.
+use super::run::TestRun;
+use sq_driver::OpenGate;
+use sq_schema::{Root, Row, RowKey};
+use sq_store::{FamilyStore, SlabStore};
+use std::alloc::Global;
+use std::sync::Wait;
+use std::test::Fail;
+use std::thread::Threads;
+
+const HEADER: &str =
+    r#"old {"version":1,"partitions":4,"ranges":[[0,5,0],[5,10,1],[10,15,2],[15,20,3],[20,4294967296,0]]}
+new {"version":1,"partitions":4,"ranges":[[0,5,1],[5,10,2],[10,15,3],[15,20,0],[20,4294967296,0]]}
+config 1 128 2
+row 0 0 0 0 -
+row 1 0 0 0 -
+row 2 0 0 0 -
+row 3 0 0 0 -
+row 4 0 0 0 -
+row 5 0 0 0 -
+row 6 0 0 0 -
+row 7 0 0 0 -
+row 8 0 0 0 -
+row 9 0 0 0 -
+row 10 0 0 0 -
+row 11 0 0 0 -
+row 12 0 0 0 -
+row 13 0 0 0 -
+row 14 0 0 0 -
+row 15 0 0 0 -
+row 16 0 0 0 -
+row 17 0 0 0 -
+row 18 0 0 0 -
+row 19 0 0 0 -
+"#;
+
+// The run of these partitions, in which one was added to the number of each root key ten times, while all of them moved.
+fn worked<R: Threads + Wait + Sync>(rt: &R, alloc: Global) -> Result<TestRun, Fail> {
+    let mut run = TestRun::opened(alloc, HEADER, 2)?;
+    for id in 0..200_u64 {
+        let key = id % 20;
+        let part = key / 5;
+        let line = format!(in alloc; "txn {part} {id} {key} add 0 0 1")?;
+        run.post(rt, alloc, &line)?;
+    }
+    run.work(rt, 2_000_000, &OpenGate);
+    Ok(run)
+}
+
+// Whether a store has a root key with ten transactions in its log, and with the number 10.
+fn has_ten(store: &SlabStore, key: u64) -> bool {
+    let family = Root::new(key).and_then(|root| store.get(root));
+    family.is_some_and(|family| {
+        family.log().len() == 10 && family.rows().get(RowKey::ROOT).map(Row::number) == Some(10)
+    })
+}
+
+// How many root keys are so at their new owner, the partition behind the old one.
+fn count_moved(stores: &[SlabStore]) -> usize {
+    let mut count = 0_usize;
+    for key in 0..20_u64 {
+        let home = (key as usize / 5 + 1) % 4;
+        if stores.get(home).is_some_and(|store| has_ten(store, key)) {
+            count = count.saturating_add(1);
+        }
+    }
+    count
+}
+
+#[test]
+fn each_root_key_moves_with_its_ten_transactions(rt: HostRuntime) -> Result<(), Fail> {
+    let alloc = rt.alloc();
+    let gathered = worked(&rt, alloc)?.gathered(&rt, alloc)?;
+    assert_eq!(rt; count_moved(&gathered.stores), 20);
+    Ok(())
+}
