@@ -1,11 +1,10 @@
 #!/usr/bin/env bash
-# Makes inputs at the limits, and what is to be written for them: NAME.in, NAME.out and, where the exit status isn't 0,
-# NAME.status, in the folder that is named, as they stand in tests/runs. They are too large, or too much alike from line
-# to line, to be stored.
+# Makes the cases at the limits, in the folder that is named. They are too large, or too much alike from line to line, to be
+# stored.
 #
 #   tests/limits.sh FOLDER
 set -eu
-export LC_ALL=C
+. "$(dirname "$0")/lib.sh"
 cd "$1"
 
 # Plans by which the root keys 4 to 7 go from partition 0 to partition 1, sizes, and a family that moves.
@@ -23,63 +22,81 @@ repeat() { yes "$2" | head -n "$1"; }
 # letters COUNT: letters without a line end.
 letters() { head -c "$1" /dev/zero | tr '\0' a; }
 
-# fault NAME NUMBER LINE: nothing but this fault, which belongs to this line, is to be written.
+# input NAME [WORD]: makes a case for this subcommand, run if none is named; its input is read.
+input() {
+    mkdir "$1"
+    echo "${2:-run}" > "$1/words"
+    cat > "$1/input"
+}
+
+# output NAME: the output that is read is what a case is to write.
+output() { cat > "$1/output"; }
+
+# ends_with_fault NAME NUMBER LINE [MISFIT]: the run of a case ends with this fault, which belongs to this line, in which this
+# doesn't fit.
+ends_with_fault() {
+    said "$2" "$3" "${4:-}" > "$1/errors"
+    echo 2 > "$1/status"
+}
+
+# fault NAME NUMBER LINE [MISFIT]: the same, and nothing else is to be written.
 fault() {
-    echo "fault $2" > "$1.out"
-    echo "2 at line $3" > "$1.status"
+    echo "fault $2" | output "$1"
+    ends_with_fault "$@"
 }
 
 # An input may have any number of bytes: these are the header, 300 long lines and a rest.
-{ header; repeat 300 "$(letters 65535)"; printf x; } > input_of_20_megabytes.in
-{ repeat 301 'refused 230'; dump idle; } > input_of_20_megabytes.out
+{ header; repeat 300 "$(letters 65535)"; printf x; } | input input_of_20_megabytes
+{ repeat 301 'refused 230'; dump idle; } | output input_of_20_megabytes
 
 # An input has at most 1,000,000 lines, of which these are four for the header.
-{ header; repeat 999996 ''; } > most_lines.in
-{ repeat 999996 'refused 230'; dump idle; } > most_lines.out
-{ cat most_lines.in; printf x; } > more_than_1000000_lines.in
-{ repeat 999996 'refused 230'; echo 'fault 122'; } > more_than_1000000_lines.out
-echo '2 at line 1000001' > more_than_1000000_lines.status
+{ header; repeat 999996 ''; } | input most_lines
+{ repeat 999996 'refused 230'; dump idle; } | output most_lines
+{ cat most_lines/input; printf x; } | input more_than_1000000_lines
+{ repeat 999996 'refused 230'; echo 'fault 122'; } | output more_than_1000000_lines
+ends_with_fault more_than_1000000_lines 122 1000001
 
 # A line has at most 65,536 bytes.
-{ header; start; letters 65536; echo; letters 65537; echo; echo start; } > long_lines.in
-{ started; printf '%s\n' 'refused 230' 'refused 231' 'refused 217'; dump moving; } > long_lines.out
-{ header; letters 65537; echo; echo 'row 6 0 0 1 -'; } > long_line_after_the_header.in
-{ printf '%s\n' 'refused 231' 'refused 230'; dump idle; } > long_line_after_the_header.out
+{ header; start; letters 65536; echo; letters 65537; echo; echo start; } | input long_lines
+{ started; printf '%s\n' 'refused 230' 'refused 231' 'refused 217'; dump moving; } | output long_lines
+{ header; letters 65537; echo; echo 'row 6 0 0 1 -'; } | input long_line_after_the_header
+{ printf '%s\n' 'refused 231' 'refused 230'; dump idle; } | output long_line_after_the_header
 
 # The lines of a header too: spaces behind a plan are JSON's.
-{ printf '%-65536s\n' "$old"; header | tail -n 3; } > longest_line_of_a_header.in
-dump idle > longest_line_of_a_header.out
-{ printf '%-65537s\n' "$old"; header | tail -n 3; } > plan_line_over_65536_bytes.in
+{ printf '%-65536s\n' "$old"; header | tail -n 3; } | input longest_line_of_a_header
+dump idle | output longest_line_of_a_header
+{ printf '%-65537s\n' "$old"; header | tail -n 3; } | input plan_line_over_65536_bytes
 fault plan_line_over_65536_bytes 231 1
-{ printf 'old '; letters 65532; echo; } > longest_line_that_is_no_plan.in
-fault longest_line_that_is_no_plan 101 1
-{ header; printf 'row '; letters 65532; echo; } > row_of_65536_bytes.in
-fault row_of_65536_bytes 121 5
-{ header; printf 'row '; letters 65533; echo; } > row_over_65536_bytes.in
+{ printf 'old '; letters 65532; echo; } | input longest_line_that_is_no_plan
+fault longest_line_that_is_no_plan 101 1 "it isn't JSON at its line 1, column 1"
+{ header; printf 'row '; letters 65532; echo; } | input row_of_65536_bytes
+fault row_of_65536_bytes 121 5 \
+    "word 2, 'aaaaaaaaaaaaaaaaaaaaaaaaaaaaaaaaaaaaaaaa..', isn't a number up to 18446744073709551615, in decimal digits without a leading zero"
+{ header; printf 'row '; letters 65533; echo; } | input row_over_65536_bytes
 fault row_over_65536_bytes 231 5
-{ header; printf 'row '; letters 1048573; echo; } > row_without_end.in
+{ header; printf 'row '; letters 1048573; echo; } | input row_without_end
 fault row_without_end 231 5
-{ printf 'old '; letters 1048577; } > plan_line_without_end.in
+{ printf 'old '; letters 1048577; } | input plan_line_without_end
 fault plan_line_without_end 231 1
-{ header; printf rows; letters 65533; echo; } > long_line_like_a_row.in
-{ echo 'refused 231'; dump idle; } > long_line_like_a_row.out
+{ header; printf rows; letters 65533; echo; } | input long_line_like_a_row
+{ echo 'refused 231'; dump idle; } | output long_line_like_a_row
 
 # So has a rest in the header; in the script it is refused whatever it holds.
-{ printf 'old '; letters 65532; } > rest_of_65536_bytes.in
-fault rest_of_65536_bytes 121 1
-{ printf 'old '; letters 65533; } > rest_over_65536_bytes.in
+{ printf 'old '; letters 65532; } | input rest_of_65536_bytes
+fault rest_of_65536_bytes 121 1 'it has no line end (the byte 0A)'
+{ printf 'old '; letters 65533; } | input rest_over_65536_bytes
 fault rest_over_65536_bytes 231 1
-{ header; printf 'row '; letters 65533; } > rest_of_a_row_over_65536_bytes.in
+{ header; printf 'row '; letters 65533; } | input rest_of_a_row_over_65536_bytes
 fault rest_of_a_row_over_65536_bytes 231 5
 
 # At most 1,048,576 bytes come without a line end.
-{ header; start; letters 1048576; } > longest_rest.in
-{ started; echo 'refused 230'; dump moving; } > longest_rest.out
-{ header; start; letters 1048576; echo; echo start; } > longest_line_that_is_skipped.in
-{ started; printf '%s\n' 'refused 231' 'refused 217'; dump moving; } > longest_line_that_is_skipped.out
-{ header; start; letters 1048577; echo; echo start; } > line_without_end.in
-{ started; echo 'fault 122'; } > line_without_end.out
-echo '2 at line 8' > line_without_end.status
+{ header; start; letters 1048576; } | input longest_rest
+{ started; echo 'refused 230'; dump moving; } | output longest_rest
+{ header; start; letters 1048576; echo; echo start; } | input longest_line_that_is_skipped
+{ started; printf '%s\n' 'refused 231' 'refused 217'; dump moving; } | output longest_line_that_is_skipped
+{ header; start; letters 1048577; echo; echo start; } | input line_without_end
+{ started; echo 'fault 122'; } | output line_without_end
+ends_with_fault line_without_end 122 8
 
 # A plan has at most 16 partitions and 256 ranges: plan PARTITIONS RANGES.
 plan() {
@@ -88,15 +105,15 @@ plan() {
     for ((range = 1; range < $2; range++)); do printf '[%d,%d,0],' $((range - 1)) "$range"; done
     printf '[%d,4294967296,0]]}\n' $(($2 - 1))
 }
-{ echo "old $(plan 16 256)"; echo "new $(plan 16 1)"; echo 'config 1 64 1'; } > plan_of_16_partitions_and_256_ranges.in
-echo 'end idle' > plan_of_16_partitions_and_256_ranges.out
-echo "old $(plan 16 257)" > plan_of_257_ranges.in
+{ echo "old $(plan 16 256)"; echo "new $(plan 16 1)"; echo 'config 1 64 1'; } | input plan_of_16_partitions_and_256_ranges
+echo 'end idle' | output plan_of_16_partitions_and_256_ranges
+echo "old $(plan 16 257)" | input plan_of_257_ranges
 fault plan_of_257_ranges 107 1
-echo "old $(plan 17 256)" > plan_of_17_partitions_and_256_ranges.in
+echo "old $(plan 17 256)" | input plan_of_17_partitions_and_256_ranges
 fault plan_of_17_partitions_and_256_ranges 104 1
-echo "old $(plan 17 257)" > plan_of_17_partitions_and_257_ranges.in
+echo "old $(plan 17 257)" | input plan_of_17_partitions_and_257_ranges
 fault plan_of_17_partitions_and_257_ranges 104 1
-echo "old $(plan 0 1)" > plan_of_0_partitions_and_a_range.in
+echo "old $(plan 0 1)" | input plan_of_0_partitions_and_a_range
 fault plan_of_0_partitions_and_a_range 104 1
 
 # So has one of version 2, but for its 64 partitions; its ranges are looked at before its text for stages, and behind the
@@ -106,33 +123,33 @@ second() { plan "$1" "$2" | sed "s/\"version\":1/\"version\":2/; s/\\]}\$/]$3}/"
     echo "old $(second 64 256 ',"stages":"auto"')"
     echo "new $(second 64 1 ',"stages":"one"')"
     echo 'config 1 64 1'
-} > plan_of_64_partitions_and_256_ranges.in
-echo 'end idle' > plan_of_64_partitions_and_256_ranges.out
-echo "old $(second 64 257 ',"stages":"both"')" > plan_of_257_ranges_before_its_stages.in
+} | input plan_of_64_partitions_and_256_ranges
+echo 'end idle' | output plan_of_64_partitions_and_256_ranges
+echo "old $(second 64 257 ',"stages":"both"')" | input plan_of_257_ranges_before_its_stages
 fault plan_of_257_ranges_before_its_stages 107 1
-echo "old $(second 65 257 ',"stages":"both"')" > plan_of_65_partitions_and_257_ranges.in
+echo "old $(second 65 257 ',"stages":"both"')" | input plan_of_65_partitions_and_257_ranges
 fault plan_of_65_partitions_and_257_ranges 104 1
-echo "old $(second 64 257 '')" > plan_of_257_ranges_without_stages.in
-fault plan_of_257_ranges_without_stages 102 1
+echo "old $(second 64 257 '')" | input plan_of_257_ranges_without_stages
+fault plan_of_257_ranges_without_stages 102 1 "it has no field 'stages'"
 
 # JSON's arrays stand in one another at most 127 times. Those here are no plan.
 nested() { yes "$1" | head -n "$2" | tr -d '\n'; }
-echo "old $(nested '[' 127)$(nested ']' 127)" > arrays_in_127_arrays.in
-fault arrays_in_127_arrays 102 1
-echo "old $(nested '[' 128)$(nested ']' 128)" > arrays_in_128_arrays.in
-fault arrays_in_128_arrays 101 1
+echo "old $(nested '[' 127)$(nested ']' 127)" | input arrays_in_127_arrays
+fault arrays_in_127_arrays 102 1 "it isn't an object"
+echo "old $(nested '[' 128)$(nested ']' 128)" | input arrays_in_128_arrays
+fault arrays_in_128_arrays 101 1 "it isn't JSON at its line 1, column 129"
 
 # A log holds at most 4,096 transactions. Beyond it each is refused where the key runs, whatever its operations.
 {
     header
     repeat 4096 'txn 0 1 5 get 0 0'
     printf '%s\n' 'txn 0 2 5 get 0 0' 'txn 0 3 5 check 0 0 99' 'txn 0 4 6 get 0 0' 'txn 1 5 5 get 0 0' 'txn 0 6 5 get 8 0'
-} > full_log.in
+} | input full_log
 {
     repeat 4096 'commit 1 10/-'
     printf '%s\n' 'refused 221' 'refused 221' 'commit 4 none' 'moved 5 0' 'refused 133'
     printf '%s\n' 'end idle' 'at 0 5 4096 0.0=10/-' 'at 0 6 1'
-} > full_log.out
+} | output full_log
 
 # The steps that move the whole segment, and their answers.
 move() { printf '%s\n' 'claim 0 1 2' 'begin 0 1 2' 'cut 0 1' 'push 0 1' 'pop 0 1' 'load 0 1' 'complete 0 1 2' 'report 1' 'finish'; }
@@ -147,7 +164,7 @@ is_moved() { printf '%s\n' ok ok 'cut 0 0 1 4 8 last 1' ok ok 'load 0 0 1 4 8 la
     printf '%s\n' 'txn 1 9 5 get 0 0' 'fold 1'
     repeat 4096 'txn 1 9 5 get 0 0'
     printf '%s\n' 'txn 1 9 5 get 0 0' 'fold 0' 'txn 1 9 5 get 0 0' 'fold 1' 'txn 1 9 5 get 0 0'
-} > full_log_that_is_folded.in
+} | input full_log_that_is_folded
 {
     started
     is_moved
@@ -155,7 +172,7 @@ is_moved() { printf '%s\n' ok ok 'cut 0 0 1 4 8 last 1' ok ok 'load 0 0 1 4 8 la
     printf '%s\n' 'refused 221' ok
     repeat 4096 'commit 9 10/-'
     printf '%s\n' 'refused 221' ok 'refused 221' ok 'commit 9 10/-' 'end ended' 'at 1 5 1 0.0=10/-'
-} > full_log_that_is_folded.out
+} | output full_log_that_is_folded
 
 # A transaction that waits with a full log can be resumed once the log is folded, and those behind it.
 {
@@ -166,7 +183,7 @@ is_moved() { printf '%s\n' ok ok 'cut 0 0 1 4 8 last 1' ok ok 'load 0 0 1 4 8 la
     move
     printf '%s\n' 'resume 1' 'txn 1 3 5 get 0 0' 'fold 0' 'resume 1' 'fold 1' 'resume 1' 'txn 1 4 5 get 0 0'
     repeat 3 'resume 1'
-} > resumes_once_a_full_log_is_folded.in
+} | input resumes_once_a_full_log_is_folded
 {
     repeat 4096 'commit 1 10/-'
     started
@@ -174,7 +191,7 @@ is_moved() { printf '%s\n' ok ok 'cut 0 0 1 4 8 last 1' ok ok 'load 0 0 1 4 8 la
     is_moved
     printf '%s\n' 'refused 221' 'waits 3 0 1' ok 'refused 221' ok 'commit 2 11' 'waits 4 0 1'
     printf '%s\n' 'commit 3 11/-' 'commit 4 11/-' 'refused 223' 'end ended' 'at 1 5 3 0.0=11/-'
-} > resumes_once_a_full_log_is_folded.out
+} | output resumes_once_a_full_log_is_folded
 
 # At most 1,024 transactions wait at a partition.
 {
@@ -182,12 +199,12 @@ is_moved() { printf '%s\n' ok ok 'cut 0 0 1 4 8 last 1' ok ok 'load 0 0 1 4 8 la
     start
     repeat 1024 'txn 1 1 5 get 0 0'
     printf '%s\n' 'txn 1 2 6 get 0 0' 'txn 1 3 9 get 0 0' 'resume 1' 'txn 0 4 5 get 0 0'
-} > full_waiting_list.in
+} | input full_waiting_list
 {
     started
     repeat 1024 'waits 1 0 1'
     printf '%s\n' 'refused 220' 'moved 3 0' 'refused 223' 'commit 4 10/-' 'end moving' 'at 0 5 1 0.0=10/-'
-} > full_waiting_list.out
+} | output full_waiting_list
 
 # Each that is resumed leaves room for another one, which waits behind those on its root key and runs after them.
 {
@@ -198,7 +215,7 @@ is_moved() { printf '%s\n' ok ok 'cut 0 0 1 4 8 last 1' ok ok 'load 0 0 1 4 8 la
     printf '%s\n' 'txn 1 2 5 get 0 0' 'txn 1 3 6 get 0 0' 'resume 1' 'txn 1 4 5 get 0 0'
     repeat 1024 'resume 1'
     printf '%s\n' 'resume 1' 'txn 1 5 5 get 0 0'
-} > waiting_list_that_empties.in
+} | input waiting_list_that_empties
 {
     started
     repeat 1024 'waits 1 0 1'
@@ -207,7 +224,7 @@ is_moved() { printf '%s\n' ok ok 'cut 0 0 1 4 8 last 1' ok ok 'load 0 0 1 4 8 la
     printf 'commit 1 %d\n' $(seq 12 1034)
     printf '%s\n' 'commit 4 1034/-' 'refused 223' 'commit 5 1034/-'
     printf '%s\n' 'end moving' 'at 1 5 1026 0.0=1034/-' 'at 1 6 1'
-} > waiting_list_that_empties.out
+} | output waiting_list_that_empties
 
 # A transaction whose log is full is passed over, and goes on waiting.
 {
@@ -217,7 +234,7 @@ is_moved() { printf '%s\n' ok ok 'cut 0 0 1 4 8 last 1' ok ok 'load 0 0 1 4 8 la
     printf '%s\n' 'txn 1 2 5 get 0 0' 'txn 1 3 6 put 0 0 3 -' 'resume 1'
     printf '%s\n' 'claim 0 1 2' 'begin 0 1 2' 'cut 0 1' 'push 0 1' 'pop 0 1' 'load 0 1'
     printf '%s\n' 'resume 1' 'resume 1' 'txn 1 4 5 get 0 0' 'txn 1 5 6 get 0 0' 'resume 1'
-} > resumes_past_a_full_log.in
+} | input resumes_past_a_full_log
 {
     repeat 4096 'commit 1 10/-'
     started
@@ -225,7 +242,7 @@ is_moved() { printf '%s\n' ok ok 'cut 0 0 1 4 8 last 1' ok ok 'load 0 0 1 4 8 la
     printf '%s\n' ok ok 'cut 0 0 1 4 8 last 1' ok ok 'load 0 0 1 4 8 last 1'
     printf '%s\n' 'commit 3 ok' 'refused 221' 'waits 4 0 1' 'commit 5 3/-' 'refused 221'
     printf '%s\n' 'end moving' 'at 1 5 4096 0.0=10/-' 'at 1 6 2 0.0=3/-'
-} > resumes_past_a_full_log.out
+} | output resumes_past_a_full_log
 
 # A link's queue holds at most 64 chunks: of 66 chunks with a family each the 65th stays at the source.
 families=$(seq 0 65)
@@ -237,7 +254,7 @@ families=$(seq 0 65)
     start
     printf '%s\n' 'claim 0 1 2' 'begin 0 1 2'
     for chunk in $(seq 0 64); do printf '%s\n' 'cut 0 1' 'push 0 1'; done
-} > queue_of_64_chunks.in
+} | input queue_of_64_chunks
 {
     started
     repeat 2 ok
@@ -246,7 +263,7 @@ families=$(seq 0 65)
     for chunk in $(seq 0 64); do
         printf '%s\n' "way 0 1 $chunk 0 1 $chunk $((chunk + 1)) more 1" "in $chunk 0 0.0=1/-"
     done
-} > queue_of_64_chunks.out
+} | output queue_of_64_chunks
 
 # The steps that move a whole segment, which has one family, and their answers: pass SEG SRC DST, and
 # is_passed SEG SRC DST NUMBER LO HI FAMILIES.
@@ -278,7 +295,7 @@ done
         echo "report $(((part + 1) % 64))"
     done
     printf '%s\n' next finish
-} > moves_round_64_partitions.in
+} | input moves_round_64_partitions
 {
     repeat 65 ok
     for part in $(seq 0 63); do
@@ -287,7 +304,7 @@ done
     done
     printf '%s\n' 'refused 225' ok 'end ended' 'at 0 253 0 0.0=63/-'
     for part in $(seq 1 63); do echo "at $part $((4 * part - 3)) 0 0.0=$((part - 1))/-"; done
-} > moves_round_64_partitions.out
+} | output moves_round_64_partitions
 
 # One partition gives four root keys to each of 63 others, one after another in 63 stages. A transaction on a key of a
 # stage that is still to come runs at the source.
@@ -306,7 +323,7 @@ for stage in $(seq 0 62); do given+="[$((4 * stage)),$((4 * stage + 4)),$((stage
         printf '%s\n' "resume $((stage + 1))" 'txn 63 2 248 get 0 0' next "report $((stage + 1))" finish next
     done
     printf '%s\n' 'resume 63' finish next
-} > moves_in_63_stages.in
+} | input moves_in_63_stages
 {
     repeat 65 ok
     for stage in $(seq 0 61); do
@@ -320,7 +337,7 @@ for stage in $(seq 0 62); do given+="[$((4 * stage)),$((4 * stage + 4)),$((stage
     printf '%s\n' 'refused 223' 'refused 201' 'refused 201' 'end ended'
     for part in $(seq 1 62); do echo "at $part $((4 * part - 4)) 1 0.0=$((part - 1))/-"; done
     echo 'at 63 248 2 0.0=62/-'
-} > moves_in_63_stages.out
+} | output moves_in_63_stages
 
 # All of 1,024 segments move.
 {
@@ -330,7 +347,7 @@ for stage in $(seq 0 62); do given+="[$((4 * stage)),$((4 * stage + 4)),$((stage
     start
     for seg in $(seq 0 1023); do pass "$seg" 0 1; done
     printf '%s\n' 'claim 1024 1 2' 'report 1' 'finish' 'status 1023 1' 'status 1024 1'
-} > moves_1024_segments.in
+} | input moves_1024_segments
 {
     started
     for seg in $(seq 0 1023); do
@@ -340,4 +357,15 @@ for stage in $(seq 0 62); do given+="[$((4 * stage)),$((4 * stage + 4)),$((stage
     done
     printf '%s\n' 'refused 202' ok ok 'is complete 2 complete' 'refused 202' 'end ended'
     printf '%s\n' 'at 0 2147483648 0 0.0=3/-' 'at 1 0 0 0.0=1/-' 'at 1 2147483647 0 0.0=2/-'
-} > moves_1024_segments.out
+} | output moves_1024_segments
+
+# A live run has at most 4,096 jobs, and a line of at most 65,536 bytes.
+header_of_a_live_run() { head -n 4 "$tests/cases/live/move_without_jobs/input"; }
+{ header_of_a_live_run; seq -f 'txn 0 %.0f 9 get 0 0' 1 4096; } | input live_with_4096_jobs live
+echo 'sound 2 families 4096 committed' | output live_with_4096_jobs
+{ cat live_with_4096_jobs/input; echo 'txn 9 1 9'; } | input live_with_4097_jobs live
+fault live_with_4097_jobs 125 4101
+{ header_of_a_live_run; letters 65537; echo; } | input live_with_a_line_of_65537_bytes live
+echo 'fault 231' | output live_with_a_line_of_65537_bytes
+echo 2 > live_with_a_line_of_65537_bytes/status
+echo 'squall: line 5: fault 231: a line has more than 65536 bytes' > live_with_a_line_of_65537_bytes/errors

@@ -1,0 +1,185 @@
+# What tests/run.sh and tests/quick.sh share with those who make cases, tests/made.sh and tests/limits.sh. They source it.
+#
+# A case is a folder KIND/NAME with these files, none of which has to be there:
+#
+#   words    the words of the command line, one a line; without it the KIND is the only word
+#   input    standard input; without it there is none
+#   output   what is wanted on standard output, byte for byte; without it nothing
+#   errors   what is wanted on standard error; without it nothing
+#   status   the exit status that is wanted; without it 0
+#
+# Another file is one that the words name, as KIND/NAME/FILE, since a case is run in the folder above its KIND.
+#
+# Cases that are stored stand in tests/cases. Others are made of them, or are too large to store.
+export LC_ALL=C
+tests=$(cd "$(dirname "${BASH_SOURCE[0]}")" && pwd)
+top=$(dirname "$tests")
+examples=$top/examples
+
+# What is tried without a case, since it needs more than words and an input: each KIND by try_KIND in tests/run.sh.
+kinds='numbers pairs streams memory session header_session terminal told again rounds'
+
+# --- cases ---
+
+# has_pattern NAME: whether the name of a case or a kind has the pattern that was asked for.
+has_pattern() {
+    # shellcheck disable=SC2053
+    [[ $1 = *${pattern:-}* ]]
+}
+
+# make_cases: makes the cases that aren't stored, in $room/cases.
+make_cases() {
+    mkdir -p "$room/cases/limits"
+    bash "$tests/limits.sh" "$room/cases/limits"
+    bash "$tests/made.sh" "$room/cases"
+}
+
+# for_cases FUNCTION: calls FUNCTION FOLDER KIND/NAME for each case whose name has the pattern, in the folder above its KIND.
+for_cases() {
+    local folder case
+    for folder in "$tests/cases" "$room/cases"; do
+        cd "$folder"
+        for case in */*; do
+            if has_pattern "$case"; then "$1" "$folder" "$case"; fi
+        done
+    done
+    cd "$top"
+}
+
+# words_of FOLDER CASE: the words of a case.
+words_of() {
+    if [ -e "$1/$2/words" ]; then cat "$1/$2/words"; else echo "${2%%/*}"; fi
+}
+
+# stored FILE: the file, or one that is empty where it isn't there.
+stored() {
+    if [ -e "$1" ]; then echo "$1"; else echo /dev/null; fi
+}
+
+# --- comparing ---
+
+passed=0
+failed=0
+
+# count NAME WHY: counts a run, which has failed where there is a reason.
+count() {
+    if [ -z "$2" ]; then
+        passed=$((passed + 1))
+    else
+        failed=$((failed + 1))
+        printf '%s: %s\n' "$1" "$2" | cut -c 1-300
+    fi
+}
+
+# difference WANTED GOT: how a file differs from the wanted one, in a few lines; nothing where it doesn't.
+difference() {
+    if cmp -s "$1" "$2"; then return; fi
+    diff -a --speed-large-files "$1" "$2" > "$room/difference" 2>&1 || true
+    head -n 5 "$room/difference"
+}
+
+# judge NAME STATUS OUTPUT ERRORS: counts a run by its exit status, which stands in `ended`, and by what it wrote, which lies
+# in $room/output and $room/errors.
+judge() {
+    local output errors why=
+    output=$(difference "$3" "$room/output")
+    errors=$(difference "$4" "$room/errors")
+    if [ "$ended" != "$2" ]; then why="status $ended, and not $2"; fi
+    if [ -n "$errors" ]; then why="standard error (>) isn't the wanted one (<): $errors"; fi
+    if [ -n "$output" ]; then why="the output (>) isn't the wanted one (<): $output"; fi
+    count "$1" "$why"
+}
+
+# judge_case FOLDER CASE: counts the run of a case.
+judge_case() {
+    local status=0
+    if [ -e "$1/$2/status" ]; then read -r status < "$1/$2/status"; fi
+    judge "$2" "$status" "$(stored "$1/$2/output")" "$(stored "$1/$2/errors")"
+}
+
+# --- faults ---
+
+# form LINE: the form of a line of the header, as it is said where the line isn't of it.
+form() {
+    case $1 in
+        1) echo "'old PLAN', as in 'old {\"version\":1,\"partitions\":2,\"ranges\":[[0,4294967296,0]]}'" ;;
+        2) echo "'new PLAN', as in 'new {\"version\":1,\"partitions\":2,\"ranges\":[[0,8,1],[8,4294967296,0]]}'" ;;
+        3) echo "'config W L C', as in 'config 1 64 1': root keys in a leaf, bytes in a chunk, chunks on a link" ;;
+        *) echo "'row ROOT T S N NOTE', as in 'row 5 0 0 10 -': root key, table, sub key, number, note" ;;
+    esac
+}
+
+# said NUMBER [LINE [MISFIT]]: what is to be said on standard error of the fault of this number, which belongs to this line
+# of the input, in which this doesn't fit. Its text stands in tests/texts. The text of a plan's fault begins with 'plan';
+# which plan it is stands before it.
+said() {
+    local number text line=${2:+line $2: }
+    while read -r number text; do
+        case $text in
+            plan*) if [ "${2:-}" = 1 ]; then text="the old $text"; else text="the new $text"; fi ;;
+        esac
+        if [ "$number" = "$1" ]; then echo "squall: ${line}fault $number: $text"; fi
+    done < "$tests/texts"
+    if [ "$1" = 121 ]; then echo "squall: line $2 is to be $(form "$2")"; fi
+    if [ -n "${3:-}" ]; then echo "squall: line $2: $3"; fi
+}
+
+# --- pages ---
+
+# What is told in the pages is what is stored: this needs no program.
+try_pages() {
+    try_tour
+    try_readme
+    try_library
+    try_drawings
+}
+
+# The tour has two walks.
+try_tour() {
+    local page=$top/docs/tour.md
+    walk tour "$(sed '/^## A second walk/,$d' "$page")"
+    walk tour_in_stages "$(sed -n '/^## A second walk/,$p' "$page")"
+}
+
+# walk NAME TEXT: a walk of the tour is a case: the lines of its blocks that begin with '> ' are the input, and the others the
+# output.
+walk() {
+    sed -n 's/^    > //p' <<< "$2" > "$room/input"
+    sed -n '/^    > /d; s/^    //p' <<< "$2" > "$room/output"
+    count "$1_as_it_is_told" \
+        "$(difference "$tests/cases/run/$1/input" "$room/input"; difference "$tests/cases/run/$1/output" "$room/output")"
+}
+
+# The answers in the README are those of its first example.
+try_readme() {
+    sed -n '/^    ok$/,/^    at /s/^    //p' "$top/README.md" > "$room/told"
+    count answers_as_they_are_told "$(difference "$examples/first-move.out" "$room/told")"
+}
+
+# The code in docs/library.md is that of the callers of the library: its first block stands in the one, and its second in the
+# one that embeds threads, line by line.
+try_library() {
+    tell_block 1
+    sed -n "/^use sq_world/,/^}\$/p" "$top/crates/sq_example/src/lib.rt" > "$room/code"
+    count code_as_it_is_told "$(difference "$room/code" "$room/told")"
+    tell_block 2
+    sed -n '/^use sq_audit/,$p' "$top/crates/sq_thread_example/src/lib.rt" > "$room/code"
+    count code_of_threads_as_it_is_told "$(difference "$room/code" "$room/told")"
+}
+
+# tell_block NUMBER: the block of code of this number in docs/library.md.
+tell_block() {
+    awk -v wanted="$1" '/^```rust$/ { block++; inside = 1; next } /^```$/ { inside = 0 } inside && block == wanted' \
+        "$top/docs/library.md" > "$room/told"
+}
+
+# The pictures in docs: of the crates, as they are drawn; of what moves, as it is stored, of the example; of a tree before a
+# pull and after it, as the small caller of the library draws them.
+try_drawings() {
+    bash "$tests/crates_graph.sh" > "$room/picture"
+    count crates_as_they_are_drawn "$(difference "$top/docs/crates.svg" "$room/picture")"
+    count moves_as_they_are_drawn "$(difference "$tests/cases/pictures/two_ranges_svg/output" "$top/docs/moves.svg")"
+    count moves_of_the_example "$(difference "$examples/ranges.txt" "$tests/cases/pictures/two_ranges_svg/input")"
+    cat "$top/docs/tree-before.svg" "$top/docs/tree-after.svg" > "$room/picture"
+    count trees_as_they_are_drawn "$(difference "$top/crates/sq_tree_example/stdout" "$room/picture")"
+}
