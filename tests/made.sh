@@ -130,21 +130,22 @@ make_echoes() {
 
 # --- ends ---
 
-# end_at LENGTH: the input ends behind this many bytes, within its first three lines: a fault of the line where it ends.
+# end_at TEXT: the input ends behind this text, within its first three lines: a fault of the line where it ends.
 end_at() {
-    local case=ends/$1 misfit='it has no line end (the byte 0A)'
+    local case=ends/${#1} misfit='it has no line end (the byte 0A)' ended_lines=${1//[!$'\n']/}
     make "$case" run
-    head -c "$1" "$four_keys/input" > "$case/input"
-    if [ -z "$(tail -c 1 "$case/input" | tr -d '\n')" ]; then misfit='the input ends before it'; fi
+    printf %s "$1" > "$case/input"
+    case $1 in '' | *$'\n') misfit='the input ends before it' ;; esac
     echo 'fault 121' > "$case/output"
-    fails "$case" "$(said 121 "$(($(wc -l < "$case/input") + 1))" "$misfit")"
+    fails "$case" "$(said 121 $((${#ended_lines} + 1)) "$misfit")"
 }
 
 # Behind the first three lines an end is no fault, unless it is within a row.
 make_ends() {
     local length header
-    header=$(head -n 3 "$four_keys/input" | wc -c)
-    for ((length = 0; length < header; length++)); do end_at "$length"; done
+    header=$(head -n 3 "$four_keys/input"; echo .)
+    header=${header%.}
+    for ((length = 0; length < ${#header}; length++)); do end_at "${header:0:length}"; done
     make ends/in_a_row run
     { head -n 3 "$four_keys/input"; printf 'row 5'; } > ends/in_a_row/input
     echo 'fault 121' > ends/in_a_row/output

@@ -21,34 +21,28 @@ left=0
 tried=()
 data=()
 
-# is_large FILE: whether a file has too many bytes.
-is_large() {
-    [ -e "$1" ] && [ "$(wc -c < "$1")" -gt "$most" ]
-}
-
-# flat CASE: the name of a case as `rt try` takes it, which is that of a file.
-flat() {
-    echo "${1/\//.}"
-}
-
-# hand_over FOLDER CASE: lays a case where `rt try` takes it: its input, its words, and the files that they name.
+# hand_over FOLDER CASE: lays a case where `rt try` takes it, under KIND.NAME: its input, its words, and the files that they
+# name.
 hand_over() {
-    local case=$1/$2 file
-    if is_large "$case/input" || is_large "$case/output"; then left=$((left + 1)); return; fi
-    cat "$(stored "$case/input")" > "$room/given/$(flat "$2")"
-    words_of "$1" "$2" > "$room/given/$(flat "$2").args"
+    local case=$1/$2 to=$room/given/${2/\//.} file
+    if [ -n "$(find "$case" -size "+${most}c")" ]; then left=$((left + 1)); return; fi
+    cp "$(stored "$case/input")" "$to"
+    words_of "$1" "$2" > "$to.args"
     for file in "$case"/*; do
         case ${file##*/} in words | input | output | errors | status) ;; *) data+=(--data "$2/${file##*/}=$file") ;; esac
     done
     tried+=("$1" "$2")
 }
 
-# run_cases: gives the program all cases that were handed over, and leaves what it wrote for each.
+# run_cases: gives the program all cases that were handed over, and leaves what it wrote for each. Its name is squall, and
+# program under `rt try`. `--steps 1` leaves out the interpreter, which can't run a program with words.
 run_cases() {
-    (cd "$top/crates/squall" && rt try --cases "$room/given" "${data[@]}") > "$room/written" 2> "$room/told" || true
-    awk -v folder="$room/outputs/" '/^== / { close(file); file = folder $2; printf "" > file; next } { print > file }' \
-        "$room/written"
-    awk -v errors="$room/said/" -v ended="$room/ended/" '
+    local own="s/(^|: |\`)program( |:|\$)/\1squall\2/; s/'program'/'squall'/"
+    (cd "$top/crates/squall" && rt try --steps 1 --cases "$room/given" "${data[@]}") > "$room/written" 2> "$room/told" || true
+    sed -E "$own" "$room/written" | awk -v folder="$room/outputs/" '
+        /^== / { close(file); file = folder $2; printf "" > file; next }
+        { print > file }'
+    sed -E "$own" "$room/told" | awk -v errors="$room/said/" -v ended="$room/ended/" '
         /^case=/ {
             name = substr($1, 6)
             printf "%s", text > (errors name); close(errors name)
@@ -56,21 +50,16 @@ run_cases() {
             text = ""
             next
         }
-        { text = text $0 "\n" }' "$room/told"
-}
-
-# by_name FILE: what stands in a file, with the name squall where the program has that of `rt try`, which is program.
-by_name() {
-    if [ -e "$1" ]; then sed -E "s/(^|: |\`)program( |:|\$)/\1squall\2/; s/'program'/'squall'/" "$1"; fi
+        { text = text $0 "\n" }'
 }
 
 # judge_tried FOLDER CASE: counts a case by what was written for it.
 judge_tried() {
-    local name
-    name=$(flat "$2")
-    ended=$(cat "$(stored "$room/ended/$name")")
-    by_name "$room/outputs/$name" > "$room/output"
-    by_name "$room/said/$name" > "$room/errors"
+    local name=${2/\//.}
+    ended=none
+    if [ -e "$room/ended/$name" ]; then read -r ended < "$room/ended/$name"; fi
+    cp "$(stored "$room/outputs/$name")" "$room/output"
+    cp "$(stored "$room/said/$name")" "$room/errors"
     judge_case "$1" "$2"
 }
 

@@ -12,8 +12,7 @@
 # 222 and changes nothing: it goes when it is given again, and the other answers and the dump are as if it was given
 # once less.
 set -eu
-export LC_ALL=C
-top=$(dirname "$(cd "$(dirname "$0")" && pwd)")
+. "$(dirname "$0")/lib.sh"
 room=$(mktemp -d)
 trap 'rm -r "$room"' EXIT
 
@@ -86,14 +85,13 @@ run_inputs() {
     local texts
     mkdir "$room/inputs" "$room/outputs"
     for texts in $(seq "$fewest" "$most"); do input "$texts" > "$room/inputs/$texts"; done
-    (cd "$top/crates/squall" && rt try --cases "$room/inputs" --fail-alloc "$failing" -- run) \
-        > "$room/all" 2> "$room/said" || { cat "$room/said" >&2; exit 1; }
-    awk -v folder="$room/outputs/" '/^== / { close(file); file = folder $2; printf "" > file; next } { print > file }' "$room/all"
+    (cd "$top/crates/squall" && rt try --steps 1 --cases "$room/inputs" --fail-alloc "$failing" -- run) \
+        > "$room/written" 2> "$room/told" || { cat "$room/told" >&2; exit 1; }
+    awk -v folder="$room/outputs/" '/^== / { close(file); file = folder $2; printf "" > file; next } { print > file }' \
+        "$room/written"
 }
 
 run_inputs
-passed=0
-failed=0
 declare -A met
 for texts in $(seq "$fewest" "$most"); do
     got=$(cat "$room/outputs/$texts")

@@ -1,5 +1,5 @@
 // Whole runs through readers and writers that give or take little at a time, or fail. The other whole runs are stored in
-// `tests/runs`.
+// `tests/cases/run`.
 use super::readers::{Drip, SIZES};
 use sq_text::{InputFault, InputLine, WriteFault};
 use sq_world::{Ending, run};

@@ -1,0 +1,293 @@
+#!/usr/bin/env bash
+# Refused growths of calls of the library: runs in one thread, in each of which one allocation fails.
+#
+#   tests/refused_calls.sh
+#
+# The program stands in tests/programs/refused_calls. `rt try` builds it once, without a proof, and gives it one input after
+# another: a letter that says which call is tried, and for a call on a stored run its header and the lines of its script. In
+# each run the allocation of the same number fails. The program makes as many allocations of its own as its input begins with
+# spaces, so that it is another one of the call that fails each time.
+#
+#   steps        each step by `World::step`; one that answers 222 is made once more
+#   list         all steps by `run_world`; an opening that comes back is used once more
+#   run          header and lines by `run`
+#   vec          `apply`, `take` and `give` of a `VecStore`, with all families after each; one that is refused is called once more
+#   block        the same of a `SlabStore`
+#   nodes        a tree and a link by themselves, and two pulls of a leaf, the second of which is under way at the end
+#   two_stages   a move in two stages with a fold between them
+#
+# All but `run` tell first that they start, so that an output that is empty is a run that died.
+#
+# A step that answered 222 changed nothing: made once more it answers as it was to, and so do all later ones, with the same
+# dump. Of a list or a run at most one step is refused, and the rest is what the rules say of the script without it.
+#
+# The last two are the runs that crates/sq_thread_tests makes by hand. Where a growth of a tree, of a link, or of what a run
+# opens with (its trees, links, queues, nodes and pumps) is refused, it is opened once more. A step whose growth is refused
+# answers so, and its work is done at a later turn. A gathering, a fold and a next stage whose growth is refused hand all back,
+# and are called once more with what came back. So what is gathered in the end is always the same.
+set -eu
+. "$(dirname "$0")/lib.sh"
+room=$(mktemp -d)
+trap 'rm -r "$room"' EXIT
+
+# The allocation that fails.
+failing=700
+
+# The calls that are tried, each with the stored run that it is called on, with the fewest and the most spaces that its inputs
+# begin with, and with what takes memory in it. With the fewest none of its growths is refused. With the most one is that comes
+# before the call, but for `run`, which begins with its first. The stored runs are the shortest whole move, one that waits and
+# is resumed, and all operations.
+tries() {
+    cat <<'TRIES'
+@TRIES@
+TRIES
+}
+
+# A repository of the same crates and the program.
+make_program() {
+    local uses file
+    tar -C "$top" --exclude=out -cf - HANDLES crates | tar -C "$room" -xf -
+    uses=$(sed -nE 's/^(sq_tests|sq_thread_tests) [^:]*: //p' "$top/crates.txt" | tr ' ' '\n' | sort -u | tr '\n' ' ')
+    { cat "$top/crates.txt"; echo "refused_calls: $uses"; } > "$room/crates.txt"
+    mkdir -p "$room/crates/refused_calls/src" "$room/inputs" "$room/outputs"
+    for file in "$tests"/programs/refused_calls/*.rt.txt; do
+        cp "$file" "$room/crates/refused_calls/src/$(basename "$file" .txt)"
+    done
+    cp "$top"/crates/sq_thread_tests/src/tests/{run,text}.rt "$room/crates/refused_calls/src/"
+}
+
+# make_inputs CALL RUN FEWEST MOST: makes the inputs of a call on a stored run, or on none.
+make_inputs() {
+    local spaces
+    for ((spaces = $3; spaces <= $4; spaces++)); do
+        { printf '%*s%s' "$spaces" '' "${1:0:1}"; cat "$(stored "$tests/cases/run/$2/input")"; } > "$room/inputs/$1.$2.$spaces"
+    done
+}
+
+# Gives the program the inputs, and leaves what it wrote for each in a file, which is empty where it wrote nothing.
+run_inputs() {
+    (cd "$room/crates/refused_calls" && rt try --steps 1 --cases "$room/inputs" --fail-alloc "$failing") \
+        > "$room/written" 2> "$room/told" || { cat "$room/told" >&2; exit 1; }
+    awk -v folder="$room/outputs/" '/^== / { close(file); file = folder $2; printf "" > file; next } { print > file }' \
+        "$room/written"
+}
+
+# --- what is wanted of steps, a list, a run and a store ---
+
+# list_without STEP: what the shortest whole move comes to where this step of it is refused for want of memory.
+list_without() {
+    local step=$1
+    awk -v step="$step" 'NR < step' "$tests/cases/run/moves_four_keys/output"
+    echo 'refused 222'
+    case $step in
+        5) printf 'refused %s\n' 209 211 213 215 227 218 218 ;;
+        6) printf 'refused %s\n' 211 213 215 216 218 218 ;;
+        9) printf 'refused %s\n' 216 218 218 ;;
+        13) printf '%s\n' 'end ended' 'at 1 5 0 0.0=10/-'; return ;;
+        *) echo "step $step takes no memory"; return ;;
+    esac
+    printf '%s\n' 'waits 9 0 1' 'end moving'
+    case $step in
+        9) printf '%s\n' 'way 0 1 0 0 1 4 8 last 1' 'in 5 0 0.0=10/-' ;;
+        *) echo 'at 0 5 0 0.0=10/-' ;;
+    esac
+}
+
+# The calls of a store, each with its answer, and the families after it.
+calls() {
+    cat <<'CALLS'
+apply|commit 1 ok|at 0 5 1 0.0=5/61
+apply|commit 2 ok|at 0 5 1 0.0=5/61;at 0 6 1 0.0=7/-
+apply|commit 3 6|at 0 5 2 0.0=6/61;at 0 6 1 0.0=7/-
+take|took 5|at 0 6 1 0.0=7/-
+give|gave|at 0 5 2 0.0=6/61;at 0 6 1 0.0=7/-
+CALLS
+}
+
+# of_store CALL: what is to be written by the calls of a store where the call of this number, counted from 1, is refused; 0:
+# of none.
+of_store() {
+    local name answer after before= number=0
+    printf '%s\n' starts opened
+    while IFS='|' read -r name answer after; do
+        number=$((number + 1))
+        if [ "$number" = "$1" ]; then
+            echo "refused $name"
+            if [ "$name" = give ]; then echo 'back 5'; fi
+            if [ -n "$before" ]; then tr ';' '\n' <<< "$before"; fi
+        fi
+        echo "$answer"
+        tr ';' '\n' <<< "$after"
+        before=$after
+    done < <(calls)
+}
+
+# wanted CALL RUN STEP: what is to be written by a call on a stored run where its step of this number is refused; 0: of none.
+wanted() {
+    local out=$tests/cases/run/$2/output
+    case $1 in
+        steps)
+            printf '%s\n' starts opened
+            if [ "$3" = 0 ]; then cat "$out"; else awk -v step="$3" 'NR == step { print "refused 222" } { print }' "$out"; fi
+            ;;
+        list) printf '%s\n' starts opened; if [ "$3" = 0 ]; then cat "$out"; else list_without "$3"; fi ;;
+        run) if [ "$3" = 0 ]; then cat "$out"; else list_without "$3"; fi ;;
+        vec | block) of_store "$3" ;;
+    esac
+}
+
+# --- what is wanted of nodes and two stages ---
+
+# of_nodes CALL: what a call writes where nothing is refused.
+of_nodes() {
+    case $1 in
+        nodes)
+            cat <<'OUTPUT'
+starts
+read
+tree true Claimed(2) Free
+link 3 1 2 0
+opened
+works
+worked
+posted
+gathered
+at 1 5 1 0.0=10/-
+note 0 1 0 0 33 5 6 true
+note 0 1 1 0 34 6 7 true
+way 0 1 1 0 34 6 7 last 1
+in 6 0 0.0=7/-
+node 1 Split
+node 2 Split
+node 4 Split
+node 8 Split
+node 16 Split
+node 17 Split
+node 33 Complete(3)
+node 34 Partial(131)
+receipt 5 0 commit 9 10/-
+left 0
+left 1
+OUTPUT
+            ;;
+        two_stages)
+            cat <<'OUTPUT'
+starts
+read
+opened
+works
+worked
+posted
+gathered
+folds
+left 1
+gathered
+at 1 5 0 0.0=11/-
+at 2 9 1 0.0=20/-
+note 0 2 0 1 1 8 12 true
+node 1 Complete(0)
+receipt 9 0 commit 2 20/-
+OUTPUT
+            ;;
+    esac
+}
+
+# --- judging ---
+
+# wrong CALL RUN SPACES WANTED: counts an input whose output isn't the wanted one.
+wrong() {
+    count "$1 of $2 with $3 spaces" "not the wanted output (<) but: $(diff - "$room/outputs/$1.$2.$3" <<< "$4" | head -n 4)"
+}
+
+# is_refused WORD: a growth of this was refused, or `none` was.
+is_refused() {
+    met[$1]=1
+    if [ "$1" != none ]; then count "$1" ''; fi
+}
+
+# The number of the call of a store that was refused: one more than the calls that answered before it.
+refused_call() {
+    awk '/^refused / { print calls + 1; exit } /^(commit|took|gave)/ { calls++ }'
+}
+
+# judge_steps CALL RUN SPACES: judges what was written for an input of steps, a list, a run or a store.
+judge_steps() {
+    local got step word=none
+    got=$(cat "$room/outputs/$1.$2.$3")
+    case $1,$got in
+        run,'fault 222') is_refused header; return ;;
+        # Refused was a growth of what reads the input, which is no part of the call.
+        steps,starts | list,starts | vec,starts | block,starts) met[before]=1; return ;;
+    esac
+    if [ "$1" = list ] && [ "$(grep -n -x back <<< "$got")" = 3:back ]; then
+        is_refused back
+        word=
+        got=$(grep -v -x back <<< "$got")
+    fi
+    case $1 in
+        vec | block) step=$(refused_call <<< "$got") ;;
+        *) step=$(grep -n -m 1 -x 'refused 222' <<< "$got" | cut -d : -f 1 || true) ;;
+    esac
+    case $1 in steps | list) if [ -n "$step" ]; then step=$((step - 2)); fi ;; esac
+    if [ "$got" != "$(wanted "$1" "$2" "${step:-0}")" ]; then wrong "$1" "$2" "$3" "$(wanted "$1" "$2" "${step:-0}")"; return; fi
+    case $1,$step in
+        *,) ;;
+        vec,* | block,*) word=$(calls | sed -n "${step}s/|.*//p") ;;
+        *) word=$(grep -v -E '^(old|new|config|row) ' "$tests/cases/run/$2/input" | sed -n "${step}s/ .*//p") ;;
+    esac
+    if [ -n "$word" ]; then is_refused "$word"; fi
+}
+
+# judge_nodes CALL RUN SPACES: judges what was written for an input of nodes or of two stages.
+judge_nodes() {
+    local got whole refused
+    got=$(cat "$room/outputs/$1.$2.$3")
+    whole=$(of_nodes "$1")
+    # Refused was a growth of what isn't tried: of reading the header, of a job, of the list of jobs or of the text.
+    if [[ $got != "$whole" && $whole = "$got"* ]]; then
+        case ${got##*$'\n'} in
+            starts) met[before]=1; return ;;
+            opened | worked | gathered) return ;;
+        esac
+    fi
+    if [ "$(grep -v '^refused ' <<< "$got")" != "$whole" ]; then wrong "$1" "$2" "$3" "$whole"; return; fi
+    refused=$(sed -n 's/^refused //p' <<< "$got")
+    is_refused "${refused:-none}"
+}
+
+# judge_input CALL RUN SPACES: judges what was written for an input, and notes what was refused.
+judge_input() {
+    case $1 in
+        nodes | two_stages) judge_nodes "$@" ;;
+        *) judge_steps "$@" ;;
+    esac
+}
+
+# check CALL RUN FEWEST MOST WORDS..: judges all inputs of a call on a stored run; a growth of each of these was refused in
+# some input, and of nothing else; in the first none was, and in the last it was one before the call.
+check() {
+    local call=$1 run=$2 fewest=$3 most=$4 what spaces
+    shift 4
+    declare -A met=()
+    judge_input "$call" "$run" "$fewest"
+    if [ "${!met[*]}" != none ]; then count "$call of $run" "with $fewest spaces a growth was refused"; fi
+    for ((spaces = fewest + 1; spaces < most; spaces++)); do judge_input "$call" "$run" "$spaces"; done
+    unset 'met[before]'
+    judge_input "$call" "$run" "$most"
+    if [ "$call" = run ]; then met[before]=1; fi
+    for what in "$@" none before; do
+        if [ -z "${met[$what]:-}" ]; then count "$call of $run" "no growth of $what was refused"; fi
+        unset "met[$what]"
+    done
+    for what in "${!met[@]}"; do count "$call of $run" "$what takes no memory, and was refused some"; done
+}
+
+make_program
+while read -r call run fewest most _; do make_inputs "$call" "$run" "$fewest" "$most"; done < <(tries)
+run_inputs
+while read -r call run fewest most words; do
+    # shellcheck disable=SC2086
+    check "$call" "$run" "$fewest" "$most" $words
+done < <(tries)
+echo "$passed refused growths of calls passed, $failed failed"
+[ "$failed" = 0 ]
