@@ -39,7 +39,15 @@ failing=700
 # is resumed, and all operations.
 tries() {
     cat <<'TRIES'
-@TRIES@
+steps resumes_in_order 624 646 begin cut load resume txn
+steps operations_and_their_aborts 617 640 txn
+steps cuts_by_size 626 645 begin cut load txn
+list moves_four_keys 629 680 back begin cut load txn
+run moves_four_keys 632 699 header begin cut load txn
+vec store 679 698 apply take give
+block store 678 698 apply take give
+nodes none 535 679 tree link open job request cut load resume gather
+two_stages none 403 570 open job request cut load gather fold reopen
 TRIES
 }
 
