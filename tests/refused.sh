@@ -1,26 +1,19 @@
 #!/usr/bin/env bash
-# Refused growths: runs of `squall run` in each of which one allocation fails.
+# Refused growths: runs of `squall run`, in each of which one allocation fails, each one of the run in turn.
 #
 #   tests/refused.sh
 #
-# `rt try` builds the program once, without a proof, and gives it one input after another. In each run the allocation of
-# the same number fails. The inputs are alike but for a field of the old plan that no one reads: the more of its items
-# are texts and not numbers, the more allocations come before the steps. So it is another allocation that fails in each
-# run, and in turn each one of the steps, and most of the header's.
+# The program is the proved one, which `rt ci` leaves in crates/squall/out; SQUALL=PATH takes another. The C compiler (cc, or
+# the one that CC names) makes of tests/programs/refuse.c what lets an allocation fail.
 #
-# Where a growth in the header is refused, the fault 222 is all that is written. A step whose growth is refused answers
-# 222 and changes nothing: it goes when it is given again, and the other answers and the dump are as if it was given
-# once less.
+# Where a growth of the command line is refused, nothing is written, and the status is 2. Where a growth in the header is
+# refused, the fault 222 is all that is written. A step whose growth is refused answers 222 and changes nothing: it goes when
+# it is given again, and the other answers and the dump are as if it was given once less.
 set -eu
 . "$(dirname "$0")/lib.sh"
+squall=${SQUALL:-$top/crates/squall/out/squall}
 room=$(mktemp -d)
 trap 'rm -r "$room"' EXIT
-
-# How many items the unread field has, the allocation that fails, and how many texts the first and the last input have.
-items=256
-failing=262
-fewest=65
-most=200
 
 # The steps with their answers. Those that take memory are given twice: after the line stands the answer to the first
 # that goes, and then the answer to the second. The transactions that commit count in the dump.
@@ -43,15 +36,14 @@ cut 0 1|cut 1 0 1 6 8 last 1|refused 210
 STEPS
 }
 
-# input TEXTS: the input with this many texts among the items of the unread field.
+# The input: each step that takes memory is given twice.
 input() {
-    local list line again number
-    list=$(yes '"a"' | head -n "$1"; yes 123 | head -n $((items - $1)))
-    printf 'old {"unread":[%s],"version":1,"partitions":2,"ranges":[[0,4294967296,0]]}\n' "${list//$'\n'/,}"
+    local line again
+    echo 'old {"version":1,"partitions":2,"ranges":[[0,4294967296,0]]}'
     echo 'new {"version":1,"partitions":2,"ranges":[[0,4,0],[4,8,1],[8,4294967296,0]]}'
     echo 'config 1 64 1'
     printf 'row %s\n' '5 0 0 10 -' '5 1 7 3 6869' '9 0 0 1 -'
-    steps | while IFS='|' read -r line number again; do
+    steps | while IFS='|' read -r line _ again; do
         echo "$line"
         if [ -n "$again" ]; then echo "$line"; fi
     done
@@ -80,40 +72,50 @@ output() {
     printf '%s\n' 'way 0 1 1 0 1 6 8 last 1' "in 6 $puts 0.0=1/61"
 }
 
-# Gives the program the inputs, and leaves what it wrote for each in a file, which is empty where it wrote nothing.
-run_inputs() {
-    local texts
-    mkdir "$room/inputs" "$room/outputs"
-    for texts in $(seq "$fewest" "$most"); do input "$texts" > "$room/inputs/$texts"; done
-    (cd "$top/crates/squall" && rt try --steps 1 --cases "$room/inputs" --fail-alloc "$failing" -- run) \
-        > "$room/written" 2> "$room/told" || { cat "$room/told" >&2; exit 1; }
-    awk -v folder="$room/outputs/" '/^== / { close(file); file = folder $2; printf "" > file; next } { print > file }' \
-        "$room/written"
+# run_refused NUMBER: runs the program where the allocation of this number is refused. Leaves what it wrote, its status in
+# `ended`, and the file $room/refused where there was such an allocation.
+run_refused() {
+    rm -f "$room/refused"
+    ended=0
+    REFUSE=$1 REFUSED=$room/refused LD_PRELOAD=$room/refuse.so "$squall" run < "$room/input" > "$room/output" \
+        2> "$room/errors" || ended=$?
 }
 
-run_inputs
-declare -A met
-for texts in $(seq "$fewest" "$most"); do
-    got=$(cat "$room/outputs/$texts")
-    step=$(grep -n -m 1 -x 'refused 222' <<< "$got" | cut -d : -f 1 || true)
-    if [ "$got" = 'fault 222' ]; then
-        met[header]=1
-        passed=$((passed + 1))
-    elif [ "$got" = "$(output "${step:-0}")" ]; then
-        met[${step:-none}]=1
-        if [ -n "$step" ]; then passed=$((passed + 1)); fi
-    else
-        failed=$((failed + 1))
-        echo "with $texts texts, not the wanted output (<) but: $(diff <(output "${step:-0}") - <<< "$got" | head -n 4)"
+# judge_refused NUMBER: counts what was written where the allocation of this number was refused, and notes what it was for. A
+# growth that isn't needed changes nothing where it is refused.
+judge_refused() {
+    local got step why=
+    got=$(cat "$room/output")
+    step=$(grep -n -m 1 -x 'refused 222' "$room/output" | cut -d : -f 1 || true)
+    if [ -z "$got" ] && [ "$ended" = 2 ]; then
+        step=words
+    elif [ "$got" = 'fault 222' ] && [ "$ended" = 2 ]; then
+        step=header
+    elif [ "$got" != "$(output "${step:-0}")" ] || [ "$ended" != 0 ]; then
+        why="status $ended, and not the wanted output (<) but: $(diff <(output "${step:-0}") "$room/output" | head -n 4)"
     fi
+    met[${step:-none}]=1
+    count "allocation $1" "$why"
+}
+
+if [ ! -x "$squall" ]; then
+    echo "tests: no program at $squall: run 'rt ci' at the top first" >&2
+    exit 1
+fi
+"${CC:-cc}" -shared -fPIC -o "$room/refuse.so" "$tests/programs/refuse.c" -ldl
+input > "$room/input"
+declare -A met
+number=1
+run_refused "$number"
+while [ -e "$room/refused" ]; do
+    judge_refused "$number"
+    number=$((number + 1))
+    run_refused "$number"
 done
 
-# The steps that take memory: each was refused in some run.
-for step in header 1 2 3 4 9 11 12 13 17 19 20 21; do
-    if [ -z "${met[$step]:-}" ]; then
-        failed=$((failed + 1))
-        echo "no growth of step $step was refused"
-    fi
+# What takes memory: the command line, the header and these steps; a growth of each was refused in some run.
+for step in words header 1 2 3 4 9 11 12 13 17 19 20 21; do
+    if [ -z "${met[$step]:-}" ]; then count "step $step" 'no growth of it was refused'; fi
 done
 echo "$passed refused growths passed, $failed failed"
 [ "$failed" = 0 ]

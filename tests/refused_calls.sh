@@ -10,16 +10,15 @@
 #
 #   steps        each step by `World::step`; one that answers 222 is made once more
 #   list         all steps by `run_world`; an opening that comes back is used once more
-#   run          header and lines by `run`
 #   vec          `apply`, `take` and `give` of a `VecStore`, with all families after each; one that is refused is called once more
 #   block        the same of a `SlabStore`
 #   nodes        a tree and a link by themselves, and two pulls of a leaf, the second of which is under way at the end
 #   two_stages   a move in two stages with a fold between them
 #
-# All but `run` tell first that they start, so that an output that is empty is a run that died.
+# All tell first that they start, so that an output that is empty is a run that died.
 #
 # A step that answered 222 changed nothing: made once more it answers as it was to, and so do all later ones, with the same
-# dump. Of a list or a run at most one step is refused, and the rest is what the rules say of the script without it.
+# dump. Of a list at most one step is refused, and the rest is what the rules say of the script without it.
 #
 # The last two are the runs that crates/sq_thread_tests makes by hand. Where a growth of a tree, of a link, or of what a run
 # opens with (its trees, links, queues, nodes and pumps) is refused, it is opened once more. A step whose growth is refused
@@ -33,22 +32,27 @@ trap 'rm -r "$room"' EXIT
 # The allocation that fails.
 failing=700
 
-# The calls that are tried, each with the stored run that it is called on, with the fewest and the most spaces that its inputs
-# begin with, and with what takes memory in it. With the fewest none of its growths is refused. With the most one is that comes
-# before the call, but for `run`, which begins with its first. The stored runs are the shortest whole move, one that waits and
-# is resumed, and all operations.
+# The calls that are tried, each with the stored run that it is called on, with how many spaces its inputs begin with, and with
+# what takes memory in it. With the fewest none of its growths is refused, and with the most one is that comes before the call
+# or isn't tried. In between are those that refuse a growth which no other input refuses: one that is asked for by another chain
+# of calls. Growths of `run` are refused by tests/refused.sh.
 tries() {
     cat <<'TRIES'
-steps resumes_in_order 624 646 begin cut load resume txn
-steps operations_and_their_aborts 617 640 txn
-steps cuts_by_size 626 645 begin cut load txn
-list moves_four_keys 629 680 back begin cut load txn
-run moves_four_keys 632 699 header begin cut load txn
-vec store 679 698 apply take give
-block store 678 698 apply take give
-nodes none 535 679 tree link open job request cut load resume gather
-two_stages none 403 570 open job request cut load gather fold reopen
+steps resumes_in_order 625-643 begin cut load resume txn
+steps operations_and_their_aborts 618-637 txn
+steps cuts_by_size 626-626,629-631,645-645 txn
+list moves_four_keys 629-678 back begin cut load txn
+vec store 680-698 apply take give
+block store 679-698 apply take give
+nodes none 536-536,545-549,556-567,573-645,654-676,690-690 tree link open job request cut load resume gather
+two_stages none 356-356,404-448,455-461,468-507,543-547,551-566,690-690 open job fold reopen
 TRIES
+}
+
+# spaces_of RANGES: the numbers of spaces.
+spaces_of() {
+    local range
+    for range in ${1//,/ }; do seq "${range%-*}" "${range#*-}"; done
 }
 
 # A repository of the same crates and the program.
@@ -64,10 +68,10 @@ make_program() {
     cp "$top"/crates/sq_thread_tests/src/tests/{run,text}.rt "$room/crates/refused_calls/src/"
 }
 
-# make_inputs CALL RUN FEWEST MOST: makes the inputs of a call on a stored run, or on none.
+# make_inputs CALL RUN RANGES: makes the inputs of a call on a stored run, or on none.
 make_inputs() {
     local spaces
-    for ((spaces = $3; spaces <= $4; spaces++)); do
+    for spaces in $(spaces_of "$3"); do
         { printf '%*s%s' "$spaces" '' "${1:0:1}"; cat "$(stored "$tests/cases/run/$2/input")"; } > "$room/inputs/$1.$2.$spaces"
     done
 }
@@ -80,7 +84,7 @@ run_inputs() {
         "$room/written"
 }
 
-# --- what is wanted of steps, a list, a run and a store ---
+# --- what is wanted of steps, a list and a store ---
 
 # list_without STEP: what the shortest whole move comes to where this step of it is refused for want of memory.
 list_without() {
@@ -139,7 +143,6 @@ wanted() {
             if [ "$3" = 0 ]; then cat "$out"; else awk -v step="$3" 'NR == step { print "refused 222" } { print }' "$out"; fi
             ;;
         list) printf '%s\n' starts opened; if [ "$3" = 0 ]; then cat "$out"; else list_without "$3"; fi ;;
-        run) if [ "$3" = 0 ]; then cat "$out"; else list_without "$3"; fi ;;
         vec | block) of_store "$3" ;;
     esac
 }
@@ -218,12 +221,11 @@ refused_call() {
     awk '/^refused / { print calls + 1; exit } /^(commit|took|gave)/ { calls++ }'
 }
 
-# judge_steps CALL RUN SPACES: judges what was written for an input of steps, a list, a run or a store.
+# judge_steps CALL RUN SPACES: judges what was written for an input of steps, a list or a store.
 judge_steps() {
     local got step word=none
     got=$(cat "$room/outputs/$1.$2.$3")
     case $1,$got in
-        run,'fault 222') is_refused header; return ;;
         # Refused was a growth of what reads the input, which is no part of the call.
         steps,starts | list,starts | vec,starts | block,starts) met[before]=1; return ;;
     esac
@@ -271,31 +273,31 @@ judge_input() {
     esac
 }
 
-# check CALL RUN FEWEST MOST WORDS..: judges all inputs of a call on a stored run; a growth of each of these was refused in
-# some input, and of nothing else; in the first none was, and in the last it was one before the call.
+# check CALL RUN RANGES WORDS..: judges all inputs of a call on a stored run; a growth of each of these was refused in some
+# input, and of nothing else; in the first none was, and in the last none, or one before the call.
 check() {
-    local call=$1 run=$2 fewest=$3 most=$4 what spaces
-    shift 4
+    local call=$1 run=$2 numbers what at
+    mapfile -t numbers < <(spaces_of "$3")
+    shift 3
     declare -A met=()
-    judge_input "$call" "$run" "$fewest"
-    if [ "${!met[*]}" != none ]; then count "$call of $run" "with $fewest spaces a growth was refused"; fi
-    for ((spaces = fewest + 1; spaces < most; spaces++)); do judge_input "$call" "$run" "$spaces"; done
-    unset 'met[before]'
-    judge_input "$call" "$run" "$most"
-    if [ "$call" = run ]; then met[before]=1; fi
-    for what in "$@" none before; do
+    judge_input "$call" "$run" "${numbers[0]}"
+    if [ "${!met[*]}" != none ]; then count "$call of $run" "with the fewest spaces a growth was refused"; fi
+    for ((at = 1; at < ${#numbers[@]} - 1; at++)); do judge_input "$call" "$run" "${numbers[at]}"; done
+    for what in "$@"; do
         if [ -z "${met[$what]:-}" ]; then count "$call of $run" "no growth of $what was refused"; fi
         unset "met[$what]"
     done
-    for what in "${!met[@]}"; do count "$call of $run" "$what takes no memory, and was refused some"; done
+    judge_input "$call" "$run" "${numbers[at]}"
+    unset 'met[none]' 'met[before]'
+    for what in "${!met[@]}"; do count "$call of $run" "$what isn't to be refused memory, and was"; done
 }
 
 make_program
-while read -r call run fewest most _; do make_inputs "$call" "$run" "$fewest" "$most"; done < <(tries)
+while read -r call run ranges _; do make_inputs "$call" "$run" "$ranges"; done < <(tries)
 run_inputs
-while read -r call run fewest most words; do
+while read -r call run ranges words; do
     # shellcheck disable=SC2086
-    check "$call" "$run" "$fewest" "$most" $words
+    check "$call" "$run" "$ranges" $words
 done < <(tries)
 echo "$passed refused growths of calls passed, $failed failed"
 [ "$failed" = 0 ]
