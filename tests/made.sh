@@ -239,6 +239,16 @@ make_faults_in_parts() {
     parts "$case" run/moves_four_keys run
     head -c 65533 /dev/zero | tr '\0' ' ' > "$case/old.json"
     fault_in_parts "$case" 231 "$case/old.json" 'a line of the header has more than 65536 bytes'
+    case=parts/file_of_a_plan_without_end
+    parts "$case" run/moves_four_keys run
+    make "$case" run --old /dev/zero --new "$case/new.json"
+    fault_in_parts "$case" 231 /dev/zero 'a line of the header has more than 65536 bytes'
+    case=parts/sizes_without_a_line_end
+    parts "$case" run/moves_four_keys run
+    printf 'config 1 64 1' > "$case/input"
+    fault_in_parts "$case" 121 'standard input: line 1' "$(sed -n 's/^121 //p' "$tests/texts")" \
+        "it has no line end (the byte 0A)"
+    sed -i "1a squall: standard input: line 1 is to be $(form 3)" "$case/errors"
     case=parts/sizes_of_the_main_part
     parts "$case" run/moves_four_keys live
     sed -i 's/^config [0-9]*/config 0/' "$case/input"

@@ -71,6 +71,20 @@ try_numbers() {
     done < "$tests/texts"
 }
 
+# Texts of tests/plans, each behind the number of its fault, or behind 0 where it is a plan. Given as the only line of a
+# header, a plan is followed by the fault of the line that is missing.
+try_plans() {
+    local line number
+    while IFS= read -r line; do
+        number=${line%% *}
+        if [ "$number" = 0 ]; then number=121; fi
+        echo "old ${line#* }" > "$room/plan"
+        echo "fault $number" > "$room/wanted"
+        give "$room/plan" run
+        count "plan ${line#* }" "$(difference "$room/wanted" "$room/output"; if [ "$ended" != 2 ]; then echo "status $ended"; fi)"
+    done < "$tests/plans"
+}
+
 # Two ways to give an input that come to the same: a file with --echo, and plans in files where there are no rows.
 try_pairs() {
     local case=$room/cases/parts/moves_four_keys
@@ -108,6 +122,37 @@ write_nowhere() {
     timeout 120 "$squall" "$3" < "$2" > /dev/full 2> "$room/errors" || ended=$?
     : > "$room/output"
     judge "$1" 2 /dev/null "$room/said"
+}
+
+# After a failed write nothing more is written. The output is a pipe that no one reads when the program writes. Standard
+# error is a full pipe, so that the program waits there until someone reads its output again.
+try_late_write() {
+    local running state= looks=0
+    mkfifo "$room/answers" "$room/late"
+    exec 7<> "$room/answers" 8> "$room/answers" 9<> "$room/late" 6< "$room/late"
+    exec 7>&-
+    dd if=/dev/zero of="$room/late" bs=4096 oflag=nonblock 2> /dev/null || true
+    (trap '' PIPE; exec "$squall" run < "$tests/cases/run/empty_input/input" >&8 2>&9 6<&- 8>&- 9>&-) &
+    running=$!
+    while [ "$state" != S ] && [ "$looks" -lt 600 ]; do
+        sleep 0.1
+        if [ "/proc/$running/exe" -ef "$squall" ]; then
+            state=$(cut -d ' ' -f 3 "/proc/$running/stat" 2> /dev/null || true)
+        fi
+        looks=$((looks + 1))
+    done
+    exec 7< "$room/answers"
+    tr -d '\0' <&6 7>&- 8>&- 9>&- > "$room/errors" &
+    ended=0
+    wait "$running" || ended=$?
+    exec 8>&- 9>&-
+    wait "$!"
+    cat <&7 > "$room/output"
+    exec 6<&- 7<&-
+    rm "$room/answers" "$room/late"
+    if [ "$state" != S ]; then echo 'it has not waited' >> "$room/errors"; fi
+    said 124 > "$room/said"
+    judge output_that_is_written_no_more 2 /dev/null "$room/said"
 }
 
 # give_in_16_mib INPUT WORD: gives an input to a subcommand in a program that has no more than 16 MiB.
@@ -262,6 +307,36 @@ try_told() {
     give "$tests/cases/live/an_id_twice/input" live --summary --timeline "$room/fault.csv"
     judge 'live --summary of a fault' 2 "$tests/cases/live/an_id_twice/output" "$tests/cases/live/an_id_twice/errors"
     count no_moments_of_a_fault "$(ls "$room/fault.csv" 2> /dev/null || true)"
+}
+
+# most_threads PUMPS: the most threads that a live run of two partitions with so many pumps has at once, as far as it is
+# looked at.
+most_threads() {
+    local running most=0 threads
+    "$squall" live --pumps "$1" --turns 1000000000 < "$tests/cases/live/as_many_segments_as_there_may_be/input" > /dev/null &
+    running=$!
+    threads=("/proc/$running/task"/*)
+    while [ -e "${threads[0]}" ]; do
+        if [ "${#threads[@]}" -gt "$most" ]; then most=${#threads[@]}; fi
+        threads=("/proc/$running/task"/*)
+    done
+    wait "$running" || true
+    echo "$most"
+}
+
+# A live run has as many pumps as its option asks for: with two partitions some run of a hundred is seen to have a thread for
+# each of them and for each pump at once, and none has more.
+try_pumps() {
+    local pumps times most
+    for pumps in 1 3 16; do
+        times=0
+        most=0
+        while [ "$most" -lt $((pumps + 2)) ] && [ "$times" -lt 100 ]; do
+            most=$(most_threads "$pumps")
+            times=$((times + 1))
+        done
+        count "live --pumps $pumps" "$(if [ "$most" != $((pumps + 2)) ]; then echo "$most threads"; fi)"
+    done
 }
 
 # The longest live run in one stage a hundred times, since threads may go in another order each time.
