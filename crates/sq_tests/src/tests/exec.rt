@@ -16,14 +16,20 @@ fn destination_at(alloc: Global, next: u64) -> Result<PartCore<VecStore>, Fail> 
     Ok(part)
 }
 
+// The leaf that a transaction waits for, if it waits.
+fn leaf_of(outcome: Outcome) -> Option<u64> {
+    match outcome {
+        Outcome::Waits(_, leaf) => Some(leaf.number()),
+        _ => None,
+    }
+}
+
 // Whether a transaction waits for the leaf of this root key.
 fn waits(alloc: Global, part: &mut PartCore<VecStore>, root: u64) -> Result<bool, Fail> {
     let line = format!(in alloc; "txn 1 1 {root} get 0 0")?;
     let txn = transaction(alloc, line.as_str())?;
-    Ok(match part.submit(&txn) {
-        Ok(Outcome::Waits(_, leaf)) => leaf.number() + 4 == root,
-        _ => false,
-    })
+    let leaf = leaf_of(part.submit(&txn)?);
+    Ok(leaf.is_some() && leaf == root.checked_sub(4))
 }
 
 // Whether the first transactions that wait for the root keys 5 and 6 have these arrival numbers.

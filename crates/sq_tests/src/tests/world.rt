@@ -220,7 +220,8 @@ fn is_answered(alloc: Global, script: &[u8]) -> Result<bool, Fail> {
     let ended = script.iter().filter(|byte| **byte == b'\n').count();
     let input = input_of(alloc, script)?;
     let (output, ending) = run_failing(alloc, &input, 4096)?;
-    Ok(ending == failed_at(ended as u32) && output == answers_and_fault(alloc, ended)?)
+    let line = u32::try_from(ended).unwrap_or(u32::MAX);
+    Ok(ending == failed_at(line) && output == answers_and_fault(alloc, ended)?)
 }
 
 #[test]
