@@ -138,7 +138,7 @@ Exit status:
 pub const LIVE_ABOUT: &str = "Runs jobs in threads while rows move, and audits what is left";
 
 pub const TURNS: &str =
-    "How many turns each thread takes at most in a stage; in a turn a partition takes one new job";
+    "How many turns each thread takes at most in a stage; in a turn a partition takes one new job, or more where it moves rows";
 
 pub const PUMPS: &str = "How many threads claim rows in the background, up to 16";
 
@@ -159,10 +159,10 @@ places of the new plan: a job pulls the rows that it waits for, and pumps, each 
 thread too, claim the rest in the background. The plans and the rows may stand in
 files of their own, as for 'squall run'.
 
-In a turn a thread makes each of its steps once, and a partition takes at most one
-new job. So a partition needs as many turns as jobs are posted to it, or more where
-they wait for rows. Set --turns where a run stops before all is done, or where it
-is to stop soon.
+In a turn a partition takes one new job. Where it moves rows in that turn it goes on
+with jobs, so that these have three quarters of its time. So a partition needs at
+most as many turns as jobs are posted to it, or more where they wait for rows. Set
+--turns where a run stops before all is done, or where it is to stop soon.
 
 A move in several stages runs them one after another, each with all of its turns,
 and a stage whose rows haven't all moved then stops the run. With --fold what is

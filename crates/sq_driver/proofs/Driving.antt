@@ -10,7 +10,7 @@ use Rattle.sq_node.proofs.Stays.{job_stays, request_stays, cut_stays, send_stays
 use Rattle.sq_node.proofs.Keeps.{same_keeps, job_keeps, request_keeps, cut_keeps, send_keeps, recv_keeps, load_keeps, complete_keeps, resume_keeps, looks_keep}
 use Rattle.sq_driver.specs.declared.gate.NodeStep.{NodeStep}
 use Rattle.sq_driver.specs.declared.gate.NodeStep.TheVariants.{Job, Request, Cut, Send, Recv, Load, Complete, Resume, Pump, Answered, SegmentComplete}
-use Rattle.sq_driver.specs.Nodes.{MakesStep, StepsOrLooks, Driven}
+use Rattle.sq_driver.specs.Nodes.{MakesStep, Driven}
 use Rattle.sq_driver.proofs.Parts.{step_part}
 
 step_stays : (fabric : FabricValue) (step : NodeStep) (old : NodeState) (answer : Stepped) (new : NodeState) → MakesStep fabric step old answer new → IsNodeOf fabric old → IsNodeOf fabric new

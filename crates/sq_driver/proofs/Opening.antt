@@ -1,5 +1,5 @@
 -- The nodes and the pumps that a run, or a stage of it, opens with.
-use Rattle.std.proofs.Common.{◌≡◌, ℕ, List, length, get_or, Some}
+use Rattle.std.proofs.Common.{◌≡◌, ℕ, List, get_or, Some}
 use Rattle.std.specs.Prelude.{All, slice_get}
 use Rattle.std.proofs.lemmas.Option.{slice_get-get_or}
 use Rattle.sq_ranges.specs.OpeningValue.{OpeningValue}

@@ -28,7 +28,7 @@ pub enum NodeStep {
 }
 
 /// What all workers of a run ask before each of their steps, and tell of each receipt and of each segment that is complete.
-pub trait Gate: Sync {
+pub trait Gate {
     /// Whether a worker may go on. Where it may not, it ends. The node of partition p is number p, and a pump is its
     /// number behind the number of partitions. A call may keep the worker for a while, and has to return.
     fn pass(&self, who: u64, step: NodeStep) -> bool;

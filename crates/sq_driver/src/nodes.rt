@@ -3,15 +3,17 @@ ghost use Rattle.sq_node.specs.Prelude.{IsNodeOf};
 ghost use Rattle.sq_driver.specs.Nodes.{MakesStep, Driven};
 
 use crate::gate::{Gate, NodeStep};
-use crate::worker::{Worker, take_turns};
-use sq_node::{Fabric, Node, Stepped};
+use crate::worker::{Turn, Worker, take_turns};
+use sq_node::{Effort, Fabric, Node, Stepped};
 use std::sync::Wait;
-use std::thread;
 
-// The steps of a turn, in their order.
-const TURN: [NodeStep; 8] = [
+// The steps of a turn, in their order. A second chunk is cut and sent, so that a link fills, and who loads from it doesn't wait
+// for each chunk.
+const TURN: [NodeStep; 10] = [
     NodeStep::Job,
     NodeStep::Request,
+    NodeStep::Cut,
+    NodeStep::Send,
     NodeStep::Cut,
     NodeStep::Send,
     NodeStep::Recv,
@@ -19,6 +21,9 @@ const TURN: [NodeStep; 8] = [
     NodeStep::Complete,
     NodeStep::Resume,
 ];
+
+// How many times as much a node does for jobs as for chunks in a turn, if there are so many jobs.
+const JOBS_FOR_CHUNKS: u64 = 3;
 
 impl Worker for Node {
     ghost use Rattle.sq_node.specs.Prelude.{IsNodeOf};
@@ -29,30 +34,25 @@ impl Worker for Node {
 
     ghost Driven = { Driven };
 
-    // Sends what is pending, and makes each step once, as long as the gate lets the node pass.
-    fn take_turn<R: Wait, G: Gate>(&mut self, rt: &R, fabric: &Fabric, gate: &G) -> bool {
-        let who = u64::from(self.part().number());
-        let mut rests = true;
+    // Sends what is pending, and makes each step once. Where a chunk was cut or loaded, it goes on with jobs for a while.
+    fn take_turn<R: Wait, G: Gate>(&mut self, rt: &R, fabric: &Fabric, gate: &G) -> Turn {
+        let before = self.effort();
         self.send_pending(rt, fabric);
+        let mut turn = Turn::Rested;
         for step in TURN {
-            if !gate.pass(who, step) {
-                return false;
-            }
-            let receipts = self.receipts().len();
-            if make_step(rt, fabric, self, step) != Stepped::Did {
-                continue;
-            }
-            rests = false;
-            if let Some(told) = outcome(self, step, receipts) {
-                if !gate.pass(who, told) {
-                    return false;
-                }
+            match try_step(rt, fabric, self, step, gate) {
+                Turn::Worked => turn = Turn::Worked,
+                Turn::Rested => {}
+                Turn::Ended => return Turn::Ended,
             }
         }
-        if rests {
-            thread::yield_now();
+        if serve_on(rt, fabric, self, before, gate) == Turn::Ended {
+            return Turn::Ended;
         }
-        !self.idle(fabric)
+        if self.idle(fabric) {
+            return Turn::Ended;
+        }
+        turn
     }
 
     ghost no_turn = { node_no_turn };
@@ -62,14 +62,84 @@ impl Worker for Node {
     ghost further = { node_further };
 }
 
-/// Drives a node: it takes this many turns. It ends before where it is idle, and where the gate says so, which is asked
-/// before each step of a turn, and told of each receipt and of each segment that the node completes. After a turn in which
-/// there was nothing to do, other threads go first.
+/// Drives a node: it takes this many turns. In a turn it makes each step once, and cuts and sends a second chunk. Where it
+/// cut or loaded one, it goes on with jobs until it has done three times as much for them as for chunks, or finds none.
+///
+/// It ends before where it is idle, and where the gate says so, which is asked before each step, and told of each receipt
+/// and of each segment that the node completes. After a turn in which there was nothing to do other threads go first, and
+/// after many in a row the node sleeps for some microseconds.
 pub fn drive<R: Wait, G: Gate>(rt: &R, fabric: &Fabric, node: &mut Node, turns: u64, gate: &G)
     requires { IsNodeOf fabric.now node.old }
     ensures { Driven fabric.now node.old node.new }
 {
     take_turns(rt, fabric, node, turns, gate);
+}
+
+// Goes on with jobs, by as much as is owed for the chunks that were cut or loaded since a turn began.
+fn serve_on<R: Wait, G: Gate>(
+    rt: &R,
+    fabric: &Fabric,
+    node: &mut Node,
+    before: Effort,
+    gate: &G,
+) -> Turn
+    requires { IsNodeOf fabric.now node.old }
+    ensures { Driven fabric.now node.old node.new }
+{
+    let now = node.effort();
+    let owed = now
+        .chunks
+        .saturating_sub(before.chunks)
+        .saturating_mul(JOBS_FOR_CHUNKS);
+    let until = now.jobs.saturating_add(owed);
+    for _job in 0..owed {
+        if node.effort().jobs >= until {
+            break;
+        }
+        match serve(rt, fabric, node, gate) {
+            Turn::Worked => {}
+            ended => return ended,
+        }
+    }
+    Turn::Worked
+}
+
+// Takes up a transaction that waits, or else takes a job.
+fn serve<R: Wait, G: Gate>(rt: &R, fabric: &Fabric, node: &mut Node, gate: &G) -> Turn
+    requires { IsNodeOf fabric.now node.old }
+    ensures { Driven fabric.now node.old node.new }
+{
+    match try_step(rt, fabric, node, NodeStep::Resume, gate) {
+        Turn::Rested => try_step(rt, fabric, node, NodeStep::Job, gate),
+        turn => turn,
+    }
+}
+
+// Makes a step of a node, where the gate lets it pass, and tells the gate what came of it.
+fn try_step<R: Wait, G: Gate>(
+    rt: &R,
+    fabric: &Fabric,
+    node: &mut Node,
+    step: NodeStep,
+    gate: &G,
+) -> Turn
+    requires { IsNodeOf fabric.now node.old }
+    ensures { Driven fabric.now node.old node.new }
+{
+    let who = u64::from(node.part().number());
+    if !gate.pass(who, step) {
+        return Turn::Ended;
+    }
+    let receipts = node.receipts().len();
+    if make_step(rt, fabric, node, step) != Stepped::Did {
+        return Turn::Rested;
+    }
+    if let Some(told) = outcome(node, step, receipts) {
+        if !gate.pass(who, told) {
+            return Turn::Ended;
+        }
+    }
+    Turn::Worked
 }
 
 // What the gate is told of a step that a node made, which had this many receipts before: a receipt, or a segment that is

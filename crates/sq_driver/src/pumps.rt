@@ -3,11 +3,10 @@ ghost use Rattle.sq_pull.specs.Seats.{AreSeatsOf};
 ghost use Rattle.sq_driver.specs.Pumps.{PumpDriven};
 
 use crate::gate::{Gate, NodeStep};
-use crate::worker::{Worker, take_turns};
+use crate::worker::{Turn, Worker, take_turns};
 use sq_node::Fabric;
 use sq_pull::{Pump, PumpTurn};
 use std::sync::Wait;
-use std::thread;
 
 impl Worker for Pump {
     ghost use Rattle.sq_driver.specs.Pumps.{HasAllSeats, PumpDriven};
@@ -17,15 +16,16 @@ impl Worker for Pump {
 
     ghost Driven = { PumpDriven };
 
-    fn take_turn<R: Wait, G: Gate>(&mut self, rt: &R, fabric: &Fabric, gate: &G) -> bool {
+    fn take_turn<R: Wait, G: Gate>(&mut self, rt: &R, fabric: &Fabric, gate: &G) -> Turn {
         let who = u64::from(fabric.parts()) + u64::from(self.number());
         if self.is_done() || !gate.pass(who, NodeStep::Pump) {
-            return false;
+            return Turn::Ended;
         }
-        if !claims(rt, fabric, self) {
-            thread::yield_now();
+        if claims(rt, fabric, self) {
+            Turn::Worked
+        } else {
+            Turn::Rested
         }
-        true
     }
 
     ghost no_turn = { pump_no_turn };
@@ -37,7 +37,7 @@ impl Worker for Pump {
 
 /// Drives a pump: it takes this many turns. It ends before where it is done: there was nothing to claim in any segment of the
 /// running stage, and nothing is pending. And it ends where the gate says so, which is asked before each turn. After a turn
-/// in which nothing was claimed, other threads go first.
+/// in which nothing was claimed other threads go first, and after many in a row the pump sleeps for some microseconds.
 pub fn drive_pump<R: Wait, G: Gate>(rt: &R, fabric: &Fabric, pump: &mut Pump, turns: u64, gate: &G)
     requires { AreSeatsOf fabric.now.trees pump.old.seats }
     ensures { PumpDriven fabric.now pump.old pump.new }

@@ -4,6 +4,26 @@ ghost use Rattle.sq_node.specs.Prelude.{FabricValue};
 use crate::gate::Gate;
 use sq_node::Fabric;
 use std::sync::Wait;
+use std::sync::atomic::AtomicU64;
+use std::thread;
+use std::time::Duration;
+
+// After how many turns in a row without work a worker sleeps, where before it only let other threads go first.
+const TURNS_AWAKE: u64 = 256;
+
+// How many microseconds a worker sleeps where it finds no work.
+const SLEEP: u64 = 50;
+
+/// What became of a turn.
+#[derive(Clone, Copy, Debug, PartialEq, Eq)]
+pub(crate) enum Turn {
+    /// The worker did something.
+    Worked,
+    /// There was nothing to do.
+    Rested,
+    /// The worker ends.
+    Ended,
+}
 
 /// A node or a pump of a run, which takes its turns one after another.
 pub(crate) trait Worker {
@@ -13,8 +33,8 @@ pub(crate) trait Worker {
     /// What becomes of a worker in its turns.
     ghost Driven: { FabricValue → Self → Self → Type 0 };
 
-    /// A turn, and whether the worker goes on after it. The gate is asked before each step.
-    fn take_turn<R: Wait, G: Gate>(&mut self, rt: &R, fabric: &Fabric, gate: &G) -> bool
+    /// A turn. The gate is asked before each step.
+    fn take_turn<R: Wait, G: Gate>(&mut self, rt: &R, fabric: &Fabric, gate: &G) -> Turn
         requires { IsOf fabric.now self.old }
         ensures { Driven fabric.now self.old self.new };
 
@@ -29,7 +49,7 @@ pub(crate) trait Worker {
         → Driven fabric first old → Driven fabric old new → Driven fabric first new };
 }
 
-/// Drives a worker: it takes this many turns, or fewer where it doesn't go on.
+/// Drives a worker: it takes this many turns, or fewer where it doesn't go on. One that finds nothing to do rests.
 pub(crate) fn take_turns<W: Worker, R: Wait, G: Gate>(
     rt: &R,
     fabric: &Fabric,
@@ -40,9 +60,24 @@ pub(crate) fn take_turns<W: Worker, R: Wait, G: Gate>(
     requires { W.IsOf fabric.now worker.old }
     ensures { W.Driven fabric.now worker.old worker.new }
 {
+    let mut rested = 0;
     for _turn in 0..turns {
-        if !worker.take_turn(rt, fabric, gate) {
-            return;
+        match worker.take_turn(rt, fabric, gate) {
+            Turn::Worked => rested = 0,
+            Turn::Rested => {
+                rest(rt, rested);
+                rested = rested.saturating_add(1);
+            }
+            Turn::Ended => return,
         }
+    }
+}
+
+// Lets other threads go first, and sleeps after so many turns without work in a row.
+fn rest<R: Wait>(rt: &R, rested: u64) {
+    if rested < TURNS_AWAKE {
+        thread::yield_now();
+    } else {
+        AtomicU64::new(0).park_timeout(rt, 0, Duration::from_micros(SLEEP));
     }
 }

@@ -15,7 +15,7 @@ use std::thread::{Threads, join_mut};
 
 /// Drives each node and each pump in a thread of its own, with this many turns each. All of them have ended when it returns.
 /// Where a thread can't be made, workers go one after another.
-pub fn run_workers<R: Threads + Wait + Sync, G: Gate>(
+pub fn run_workers<R: Threads + Wait + Sync, G: Gate + Sync>(
     rt: &R,
     fabric: &Fabric,
     nodes: &mut [Node],
@@ -42,7 +42,7 @@ pub fn run_workers<R: Threads + Wait + Sync, G: Gate>(
 }
 
 // Drives each of these workers in a thread of its own.
-fn run_each<W: Worker + Send, R: Threads + Wait + Sync, G: Gate>(
+fn run_each<W: Worker + Send, R: Threads + Wait + Sync, G: Gate + Sync>(
     rt: &R,
     fabric: &Fabric,
     workers: &mut [W],

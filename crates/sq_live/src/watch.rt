@@ -5,7 +5,7 @@ use sq_node::Node;
 
 /// A gate of a live run, which is told besides how the run goes on: once its input is read, of each stage, and at its end. Where
 /// memory runs out, it may be told of nothing more but the end.
-pub trait Watch: Gate {
+pub trait Watch: Gate + Sync {
     /// It is told before the first thread is started, once the input is read: so many jobs are posted, and so many segments
     /// move.
     fn begins(&self, _jobs: u64, _segments: u64) {}

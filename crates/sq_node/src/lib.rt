@@ -3,6 +3,7 @@
 #![tactic(auto)]
 
 mod desk;
+mod effort;
 mod ends;
 mod fabric;
 mod node;
@@ -10,6 +11,7 @@ mod receipt;
 mod stepped;
 
 pub use desk::Post;
+pub use effort::Effort;
 pub use ends::{LinkEnd, PartEnd, Receiver, RecvEnd, SendEnd, Sender};
 pub use fabric::{Fabric, FabricParts, JOB_PLACES, Unresumed};
 pub use node::{Node, NodeParts};

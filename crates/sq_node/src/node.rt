@@ -4,6 +4,7 @@ ghost use Rattle.sq_exec.specs.Prelude.{loaded_at, is_whole};
 ghost use Rattle.sq_pull.specs.declared.numbers.TheConstants.{MAX_OWNERS};
 
 use crate::desk::{Desk, Post};
+use crate::effort::Effort;
 use crate::ends::{Receiver, Sender};
 use crate::receipt::Receipt;
 use sq_exec::{CoreParts, PartCore};
@@ -38,6 +39,7 @@ pub struct Node {
     complete: Vec<bool>,
     // Whether the tree node that was completed last was the last of its segment.
     completes_segment: bool,
+    effort: Effort,
 }
 
 impl Model for Node {
@@ -102,6 +104,7 @@ impl Node {
             to_complete: Vec::new(alloc),
             complete: place.complete,
             completes_segment: false,
+            effort: Effort::NONE,
         }
     }
 
@@ -122,6 +125,11 @@ impl Node {
     /// How many jobs it has to post on.
     pub fn pending_jobs(&self) -> usize {
         self.desk.pending()
+    }
+
+    /// What it has done since its stage began.
+    pub fn effort(&self) -> Effort {
+        self.effort
     }
 
     /// Its partition.

@@ -36,11 +36,16 @@ impl Node {
         };
         match outcome {
             Outcome::Done(reply) => {
+                self.effort.add_answer(job.ops().len());
                 self.desk.add(receipt(&self.core, job, reply));
                 fabric.count_answer();
             }
-            Outcome::Moved(to) => self.desk.post(rt, fabric, to, job),
+            Outcome::Moved(to) => {
+                self.effort.add_post();
+                self.desk.post(rt, fabric, to, job);
+            }
             Outcome::Waits(seg, leaf) => {
+                self.effort.add_wait(job.ops().len());
                 drop(job);
                 let shared = fabric.shared();
                 let _ = self
@@ -66,6 +71,7 @@ impl Node {
         };
         match outcome {
             Outcome::Done(reply) => {
+                self.effort.add_answer(txn.ops().len());
                 self.desk.add(receipt(&self.core, txn, reply));
                 fabric.count_answer();
             }

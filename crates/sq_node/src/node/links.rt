@@ -10,6 +10,7 @@ ghost use Rattle.sq_node.specs.Steps.{SendsChunk, Receives, HasNoneToCut, HasNon
 use super::Node;
 use crate::fabric::Fabric;
 use crate::stepped::Stepped;
+use sq_chunk::Chunk;
 use sq_plan::PartId;
 use std::sync::Wait;
 
@@ -24,9 +25,18 @@ impl Node {
             return Stepped::Nothing;
         };
         match self.core.cut(dst) {
-            Ok(_) => Stepped::Did,
+            Ok(_) => {
+                let families = self.families_cut(dst);
+                self.effort.add_chunk(families);
+                Stepped::Did
+            }
             Err(_) => Stepped::Memory,
         }
+    }
+
+    // How many families the chunk has that was cut for a partition and isn't sent.
+    fn families_cut(&self, dst: PartId) -> usize {
+        self.core.outbox(dst).map_or(0, Chunk::len)
     }
 
     // The first partition for which a chunk can be cut.
@@ -118,9 +128,11 @@ impl Node {
         if self.to_complete.reserve(1).is_err() {
             return Stepped::Memory;
         }
+        let families = self.core.inbox(src).map_or(0, Chunk::len);
         let Ok(note) = self.core.load(src) else {
             return Stepped::Memory;
         };
+        self.effort.add_chunk(families);
         if note.last {
             self.to_complete.push_reserved((note.seg, note.node));
         }

@@ -27,11 +27,11 @@ fn a_gate_is_asked_before_each_step(rt: HostRuntime) -> Result<(), Fail> {
     let mut run = two_jobs(&rt, alloc)?;
     let first = Recorder::new(None);
     run.work(&rt, 1, &first);
-    assert!(rt; first.told() == (0, 0x1a2345678));
+    assert!(rt; first.told() == (0, 0x1a234345678));
     // It is idle once the second job is answered.
     let second = Recorder::new(None);
     run.work(&rt, 1_000_000, &second);
-    assert!(rt; second.told() == (0, 0x1a2345678));
+    assert!(rt; second.told() == (0, 0x1a234345678));
     Ok(())
 }
 
@@ -41,7 +41,7 @@ fn a_gate_ends_a_node(rt: HostRuntime) -> Result<(), Fail> {
     for (end, asked, receipts) in [
         (NodeStep::Job, 0x1, 0),
         (NodeStep::Answered, 0x1a, 1),
-        (NodeStep::Load, 0x1a23456, 1),
+        (NodeStep::Load, 0x1a2343456, 1),
     ] {
         let mut run = two_jobs(&rt, alloc)?;
         let gate = Recorder::new(Some(end));
@@ -65,5 +65,22 @@ fn a_pump_takes_its_turns(rt: HostRuntime) -> Result<(), Fail> {
     assert!(rt; gate.told() == (2, 0x9) && !run.is_pump_done(0));
     run.drive_pump(&rt, 0, 1_000_000, &gate)?;
     assert!(rt; gate.told() == (2, 0x99) && run.is_pump_done(0));
+    Ok(())
+}
+
+// A partition with eight jobs cuts a chunk of one family, which counts as five operations. So it goes on with jobs of one
+// operation, which count as three, until they come to fifteen: five jobs more than the one that a turn takes.
+#[test]
+fn a_chunk_is_made_up_for_with_jobs(rt: HostRuntime) -> Result<(), Fail> {
+    let alloc = rt.alloc();
+    let mut run = TestRun::opened(alloc, PAIR, 1)?;
+    for _job in 0..8 {
+        run.post(&rt, alloc, "txn 0 1 9 get 0 0")?;
+    }
+    run.turn_pump(&rt, 0)?;
+    let gate = Recorder::new(None);
+    run.drive(&rt, 0, 1, &gate)?;
+    assert!(rt; gate.told() == (0, 0x881a_81a8_1a81_a81a));
+    assert!(rt; run.receipts() == 6);
     Ok(())
 }

@@ -6,7 +6,7 @@ ghost use Rattle.sq_gather.specs.Gathered.{AreAllOf};
 
 use super::text::{receipts_text, text_of};
 use sq_audit::Job;
-use sq_driver::{Gate, drive_pump, run_workers};
+use sq_driver::{Gate, drive, drive_pump, run_workers};
 use sq_gather::{Gathered, Ungathered, gather};
 use sq_lines::LineReader;
 use sq_model::Step;
@@ -132,6 +132,21 @@ impl TestRun {
         Ok(())
     }
 
+    /// Drives the node of a partition.
+    pub fn drive<R: Wait, G: Gate>(
+        &mut self,
+        rt: &R,
+        part: usize,
+        turns: u64,
+        gate: &G,
+    ) -> Result<(), Fail> {
+        if part >= self.nodes.len() {
+            return Err("no such partition")?;
+        }
+        drive(rt, &self.fabric, &mut self.nodes[part], turns, gate);
+        Ok(())
+    }
+
     /// What each step of the node of a partition comes to, in their order.
     pub fn steps<R: Wait>(&mut self, rt: &R, part: usize) -> Result<[Stepped; 8], Fail> {
         if part >= self.nodes.len() {
@@ -170,7 +185,7 @@ impl TestRun {
     }
 
     /// Runs all workers.
-    pub fn work<R: Threads + Wait + Sync, G: Gate>(&mut self, rt: &R, turns: u64, gate: &G) {
+    pub fn work<R: Threads + Wait + Sync, G: Gate + Sync>(&mut self, rt: &R, turns: u64, gate: &G) {
         run_workers(
             rt,
             &self.fabric,

@@ -1,0 +1,42 @@
+// What a node has done, by which a turn is shared out.
+
+/// What a node has done since its stage began, counted in operations of transactions. To cut or to load a family takes about
+/// as long as one operation does, so that both counts can be weighed against each other.
+#[derive(Clone, Copy, Debug, PartialEq, Eq)]
+pub struct Effort {
+    /// For jobs that it took or resumed.
+    pub jobs: u64,
+    /// For chunks that it cut or loaded.
+    pub chunks: u64,
+}
+
+impl Effort {
+    /// Nothing.
+    pub(crate) const NONE: Effort = Effort { jobs: 0, chunks: 0 };
+
+    /// Counts a job that was answered after so many operations, and two more, for its way there and its receipt.
+    pub(crate) fn add_answer(&mut self, operations: usize) {
+        self.add_jobs(2);
+        self.add_jobs(operations as u64);
+    }
+
+    /// Counts a job of so many operations that waits, by an eighth of them, for its copy, and two more.
+    pub(crate) fn add_wait(&mut self, operations: usize) {
+        self.add_jobs(2);
+        self.add_jobs(operations as u64 / 8);
+    }
+
+    /// Counts a job that is posted on, as two operations.
+    pub(crate) fn add_post(&mut self) {
+        self.add_jobs(2);
+    }
+
+    /// Counts a chunk of so many families that was cut or loaded, and four more, for the chunk itself.
+    pub(crate) fn add_chunk(&mut self, families: usize) {
+        self.chunks = self.chunks.saturating_add(families as u64).saturating_add(4);
+    }
+
+    fn add_jobs(&mut self, operations: u64) {
+        self.jobs = self.jobs.saturating_add(operations);
+    }
+}
