@@ -33,7 +33,10 @@ impl Effort {
 
     /// Counts a chunk of so many families that was cut or loaded, and four more, for the chunk itself.
     pub(crate) fn add_chunk(&mut self, families: usize) {
-        self.chunks = self.chunks.saturating_add(families as u64).saturating_add(4);
+        self.chunks = self
+            .chunks
+            .saturating_add(families as u64)
+            .saturating_add(4);
     }
 
     fn add_jobs(&mut self, operations: u64) {
