@@ -98,7 +98,7 @@ fn serve_on<R: Wait, G: Gate>(
         }
         match serve(rt, fabric, node, gate) {
             Turn::Worked => {}
-            ended => return ended,
+            turn => return turn,
         }
     }
     Turn::Worked
