@@ -101,6 +101,9 @@ impl JobList {
         if self.jobs.reserve(1).is_err() {
             return Err(JobFault::Memory);
         }
+        let Ok(txn) = txn.share() else {
+            return Err(JobFault::Memory);
+        };
         match self.ids.insert(txn.id()) {
             Ok(true) => {
                 let part = PartId::new(part as u8);

@@ -1,16 +1,20 @@
 // The operations of a transaction in memory.
-ghost use Rattle.std.specs.Prelude.{◌≡◌};
+ghost use Rattle.std.specs.Prelude.{◌≡◌, IfOk};
 ghost use Rattle.sq_schema.specs.OpList.{ops_of};
 
 use crate::txn::Op;
+use std::alloc::{AllocError, Global};
 use std::fmt::{self, Debug, Formatter, Write};
 use std::slice;
+use std::sync::ArcSlice;
 
-/// Operations, of which one alone takes no memory of its own: most transactions have one, and logs hold many.
+/// Operations, of which one alone takes no memory of its own: most transactions have one, and logs hold many. Copies of
+/// shared ones are the same in memory.
 #[derive(Clone, Drop)]
 pub(crate) enum OpList {
     One(Op),
     Many(Vec<Op>),
+    Shared(ArcSlice<Op, Global>),
 }
 
 impl OpList {
@@ -26,6 +30,16 @@ impl OpList {
         OpList::Many(ops)
     }
 
+    /// The same, which copies share if they are several.
+    pub(crate) fn share(self) -> Result<OpList, AllocError>
+        ensures { IfOk result (λ ops. ops_of ops ≡ ops_of self) }
+    {
+        match self {
+            OpList::Many(ops) => Ok(OpList::Shared(ArcSlice::from_vec(ops)?)),
+            ops => Ok(ops),
+        }
+    }
+
     /// The operations in their order.
     pub(crate) fn as_slice(&self) -> &[Op]
         ensures { result.now ≡ ops_of self.now }
@@ -33,6 +47,7 @@ impl OpList {
         match self {
             OpList::One(op) => slice::from_ref(op),
             OpList::Many(ops) => ops,
+            OpList::Shared(ops) => ops.as_slice(),
         }
     }
 }

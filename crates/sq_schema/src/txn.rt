@@ -220,6 +220,18 @@ impl Txn {
         self.root
     }
 
+    /// The same transaction, whose copies share its operations if they are several: so one that goes from hand to hand isn't
+    /// copied operation by operation. Where there is no memory for that it is dropped.
+    pub fn share(self) -> Result<Txn, AllocError>
+        ensures { IfOk result (λ txn. txn ≡ self) }
+    {
+        Ok(Txn {
+            id: self.id,
+            root: self.root,
+            ops: self.ops.share()?,
+        })
+    }
+
     /// Its operations: 1 to [`MAX_OPS`].
     pub fn ops(&self) -> &[Op]
         ensures ops { result.now ≡ self.now.ops }

@@ -16,7 +16,7 @@ unlike added true told e = sym told ∙ e
 pub invariant_of-self-in-Ok-true : goal.invariant_of-self-in-Ok-true
 invariant_of-self-in-Ok-true c =
     let was = c.self.inside.jobs.items in
-    let job : Job = record { part = c.new-part.result; txn = c.args.txn } in
+    let job : Job = record { part = c.new-part.result; txn = c.in-Ok.txn } in
     let grown : c.push_reserved.new.self.items ≡ was ++ job ∷ [] = c.push_reserved.ensures.items ∙ ap (λ (l : List Job). l ++ job ∷ []) c.reserve.ensures.items in
     let updates = subst (λ n. Updates nat_cmp c.self.inside.ids c.insert.new.self n true) c.id.ensures c.in-Ok-true.ensures.updates in
     let fresh = subst (λ n. contains nat_cmp c.self.inside.ids n ≡ false) c.id.ensures (unlike c.in-Ok-true.field-0 _ c.in-Ok-true.field-0-test c.in-Ok-true.ensures.added) in
