@@ -1,7 +1,7 @@
 -- Transactions and replies that are equal are one value.
-use Rattle.std.proofs.Common.{◌≡◌, ℕ, ℤ, Bool, ◌&&◌, ap, refl, List, Some, None}
+use Rattle.std.proofs.Common.{◌≡◌, ℕ, ap, refl, List, Some, None}
 use Rattle.std.specs.Bool.{Decides}
-use Rattle.std.proofs.lemmas.Bool.Decides.{Decides-and, Decides-like}
+use Rattle.std.proofs.lemmas.Bool.Decides.{Decides-like}
 use Rattle.std.specs.Cmp.{unsigned_Decides, signed_Decides}
 use Rattle.std.specs.Cmp.Lexicographic.{pointwise_decides}
 use Rattle.sq_schema.specs.declared.txn.Op.{Op}

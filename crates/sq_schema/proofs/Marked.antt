@@ -1,5 +1,5 @@
 -- A key without its mark wasn't written.
-use Rattle.std.proofs.Common.{◌≡◌, ◌%◌, Bool, true, false, cond, List, [], ◌∷◌, ◌++◌, Option, refl, sym, ap, ◌∙◌, arith}
+use Rattle.std.proofs.Common.{◌≡◌, Bool, true, false, cond, List, [], ◌∷◌, ◌++◌, Option, refl, sym, ap, ◌∙◌}
 use Rattle.std.specs.List.{All}
 use Rattle.std.proofs.lemmas.List.Elements.{All-head, All-tail, All-push, All-weaker}
 use Rattle.sq_rows.specs.declared.row.RowKey.{RowKey}

@@ -1,5 +1,5 @@
 -- Marks of keys that were written.
-use Rattle.std.specs.Prelude.{◌≡◌, Bool, true, false, ◌%◌, List, slice_index_or}
+use Rattle.std.specs.Prelude.{Bool, false, ◌%◌, List, slice_index_or}
 use Rattle.std.specs.List.{AllPass}
 use Rattle.sq_rows.specs.declared.row.RowKey.{RowKey}
 use Rattle.sq_schema.specs.declared.written_keys.TheConstants.{MARKS}
