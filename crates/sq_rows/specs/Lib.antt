@@ -7,5 +7,5 @@ pub mod Places
 pub mod EntryList
 pub mod EntryIter
 pub mod Writes
-pub mod WriteList
+pub mod ShortList
 pub mod Equal

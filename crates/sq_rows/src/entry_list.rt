@@ -7,13 +7,13 @@ ghost use Rattle.sq_rows.specs.declared.row.RowKey.{RowKey};
 ghost use Rattle.sq_rows.specs.RowList.{RowList, row_at, with_row};
 ghost use Rattle.sq_rows.specs.EntryList.{entries_of, HasRoom, IsListed, IsOne, StandsAlone};
 ghost use Rattle.sq_rows.specs.Writes.{with_write, with_writes};
-ghost use Rattle.sq_rows.specs.WriteList.{writes_of};
+ghost use Rattle.sq_rows.specs.ShortList.{short_items};
 
 use crate::entry_iter::RowIter;
 use crate::keyed_entries::{get, insert, map_of, moves_entries, place};
-use crate::row::{Row, RowKey};
+use crate::row::{Row, RowKey, RowWrite};
 use crate::row_map;
-use crate::write_list::{RowWrite, WriteList};
+use crate::short_list::ShortList;
 use std::alloc::{AllocError, AllocFailed, Global};
 use std::collections::BTreeMap;
 use std::fmt::{self, Debug, Formatter, Write};
@@ -110,14 +110,14 @@ impl EntryList {
     }
 
     /// Makes these writes in their order, or none where there is no memory.
-    pub(crate) fn write_all(&mut self, writes: WriteList) -> Result<(), AllocError>
+    pub(crate) fn write_all(&mut self, writes: ShortList<RowWrite>) -> Result<(), AllocError>
         requires { is_sorted key_cmp (entries_of self.old) ≡ true }
-        ensures ok { OnOk result (entries_of self.new ≡ with_writes (entries_of self.old) (writes_of writes)) }
+        ensures ok { OnOk result (entries_of self.new ≡ with_writes (entries_of self.old) (short_items writes)) }
         ensures err { OnErr result (entries_of self.new ≡ entries_of self.old) }
     {
         match writes {
-            WriteList::One((key, row)) => self.write_one(key, row),
-            WriteList::Many(writes) => self.write_many(writes),
+            ShortList::One((key, row)) => self.write_one(key, row),
+            ShortList::Many(writes) => self.write_many(writes),
         }
     }
 

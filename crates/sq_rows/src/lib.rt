@@ -7,8 +7,9 @@ pub mod keyed_entries;
 pub mod row;
 mod row_map;
 pub mod rows;
-pub mod write_list;
+pub mod short_list;
 
 pub use entry_iter::{EntryIter, RowIter};
-pub use row::{MAX_NOTE, Row, RowKey};
+pub use row::{MAX_NOTE, Row, RowKey, RowWrite};
 pub use rows::Rows;
+pub use short_list::ShortList;

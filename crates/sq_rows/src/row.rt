@@ -22,6 +22,9 @@ impl RowKey {
     pub const ROOT: RowKey = RowKey { table: 0, sub: 0 };
 }
 
+/// A row that a key is to have, or none.
+pub type RowWrite = (RowKey, Option<Row>);
+
 impl Ord for RowKey {
     ghost use Rattle.std.specs.Cmp.Rules.{comparing};
     ghost use Rattle.std.proofs.Common.{rules};

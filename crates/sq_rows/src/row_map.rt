@@ -5,8 +5,7 @@ ghost use Rattle.sq_rows.specs.RowList.{row_at};
 ghost use Rattle.sq_rows.specs.Keys.{key_cmp};
 ghost use Rattle.sq_rows.specs.Writes.{last_write, with_write, with_writes};
 
-use crate::row::{Row, RowKey};
-use crate::write_list::RowWrite;
+use crate::row::{Row, RowKey, RowWrite};
 use std::alloc::AllocError;
 use std::collections::BTreeMap;
 

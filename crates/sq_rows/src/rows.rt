@@ -8,12 +8,12 @@ ghost use Rattle.sq_rows.specs.RowList.{RowList, row_at, with_row};
 ghost use Rattle.sq_rows.specs.Sizes.{rows_size};
 ghost use Rattle.sq_rows.specs.Rows.{IsRowList};
 ghost use Rattle.sq_rows.specs.Writes.{count_of_row, size_of_row, is_write, with_write, with_writes};
-ghost use Rattle.sq_rows.specs.WriteList.{writes_of};
+ghost use Rattle.sq_rows.specs.ShortList.{short_items};
 
 use crate::entry_iter::{RowIter, are_equal};
 use crate::entry_list::EntryList;
-use crate::row::{Row, RowKey};
-use crate::write_list::WriteList;
+use crate::row::{Row, RowKey, RowWrite};
+use crate::short_list::ShortList;
 use std::alloc::{AllocError, AllocFailed, Global};
 use std::marker::Model;
 
@@ -111,10 +111,10 @@ impl Rows {
     }
 
     /// Makes these writes in their order, or none where there is no memory. The size is that of the rows afterwards.
-    pub fn write_all(&mut self, writes: WriteList, size: u64) -> Result<(), AllocError>
-        requires writes { AllPass is_write (writes_of writes) }
-        requires size { size ≡ rows_size (with_writes self.old (writes_of writes)) }
-        ensures ok { OnOk result (self.new ≡ with_writes self.old (writes_of writes)) }
+    pub fn write_all(&mut self, writes: ShortList<RowWrite>, size: u64) -> Result<(), AllocError>
+        requires writes { AllPass is_write (short_items writes) }
+        requires size { size ≡ rows_size (with_writes self.old (short_items writes)) }
+        ensures ok { OnOk result (self.new ≡ with_writes self.old (short_items writes)) }
         ensures err { OnErr result (self.new ≡ self.old) }
     {
         self.rows.write_all(writes)?;

@@ -10,7 +10,7 @@ use Rattle.sq_rows.specs.RowList.{RowList}
 use Rattle.sq_schema.specs.Effect.{OpOutcome, ops_outcome, reply_of, rows_after}
 use Rattle.sq_rows.specs.Sizes.{rows_size}
 use Rattle.sq_rows.specs.Writes.{is_write, with_writes}
-use Rattle.sq_rows.specs.WriteList.{writes_of}
+use Rattle.sq_rows.specs.ShortList.{short_items}
 
 -- an operation with this outcome ends so: with its answer and these rows after it, for its cause, or because memory ran out
 abbrev pub ComesTo : OpOutcome → RowList → Result OpAnswer Stop → Type 0
@@ -21,6 +21,6 @@ ComesTo outcome rows (Err Memory) = ⊤
 -- operations on these rows end so
 pub record EndsBy (rows : RowList) (ops : List Op) (outcome : RunOutcome) : Type 0 where
   pub reply : outcome.reply ≡ reply_of (ops_outcome 0 ops rows)
-  pub after : with_writes rows (writes_of outcome.writes) ≡ rows_after rows (ops_outcome 0 ops rows)
-  pub writes : AllPass is_write (writes_of outcome.writes)
-  pub size : outcome.size ≡ rows_size (with_writes rows (writes_of outcome.writes))
+  pub after : with_writes rows (short_items outcome.writes) ≡ rows_after rows (ops_outcome 0 ops rows)
+  pub writes : AllPass is_write (short_items outcome.writes)
+  pub size : outcome.size ≡ rows_size (with_writes rows (short_items outcome.writes))

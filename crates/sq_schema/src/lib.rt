@@ -19,6 +19,6 @@ pub use family::{Family, MAX_LOG};
 pub use fault::{ApplyFault, OUT_OF_MEMORY, RowFault, TxnFault};
 pub use root::{ROOT_END, Root};
 pub use schema::{MAX_TABLES, Schema};
-pub use sq_rows::{EntryIter, MAX_NOTE, Row, RowIter, RowKey, Rows};
+pub use sq_rows::{EntryIter, MAX_NOTE, Row, RowIter, RowKey, Rows, ShortList};
 pub use table::Table;
 pub use txn::{Cause, MAX_OPS, Op, OpAnswer, OpAnswers, Reply, Txn};

@@ -3,10 +3,9 @@ ghost use Rattle.std.specs.Prelude.{◌≡◌, OnOk, OnErr};
 ghost use Rattle.std.specs.List.{AllPass};
 ghost use Rattle.sq_rows.specs.Sizes.{rows_size};
 ghost use Rattle.sq_rows.specs.Writes.{is_write, with_writes};
-ghost use Rattle.sq_rows.specs.WriteList.{writes_of};
+ghost use Rattle.sq_rows.specs.ShortList.{short_items};
 
-use sq_rows::Rows;
-use sq_rows::write_list::WriteList;
+use sq_rows::{RowWrite, Rows, ShortList};
 use std::alloc::{AllocError, Global};
 use std::marker::Model;
 
@@ -63,13 +62,13 @@ impl LoggedRows {
     pub(crate) fn write_all(
         &mut self,
         alloc: Global,
-        writes: WriteList,
+        writes: ShortList<RowWrite>,
         size: u64,
     ) -> Result<(), AllocError>
-        requires writes { AllPass is_write (writes_of writes) }
-        requires size { size ≡ rows_size (with_writes self.old.rows (writes_of writes)) }
+        requires writes { AllPass is_write (short_items writes) }
+        requires size { size ≡ rows_size (with_writes self.old.rows (short_items writes)) }
         ensures base { self.new.base ≡ self.old.base }
-        ensures ok { OnOk result (self.new.rows ≡ with_writes self.old.rows (writes_of writes)) }
+        ensures ok { OnOk result (self.new.rows ≡ with_writes self.old.rows (short_items writes)) }
         ensures err { OnErr result (self.new.rows ≡ self.old.rows) }
     {
         if writes.as_slice().is_empty() {

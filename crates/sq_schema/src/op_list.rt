@@ -1,8 +1,10 @@
 // The operations of a transaction in memory.
 ghost use Rattle.std.specs.Prelude.{◌≡◌, IfOk};
+ghost use Rattle.sq_rows.specs.ShortList.{short_items};
 ghost use Rattle.sq_schema.specs.OpList.{ops_of};
 
 use crate::txn::Op;
+use sq_rows::ShortList;
 use std::alloc::{AllocError, Global};
 use std::fmt::{self, Debug, Formatter, Write};
 use std::slice;
@@ -19,15 +21,13 @@ pub(crate) enum OpList {
 
 impl OpList {
     /// These operations.
-    pub(crate) fn new(mut ops: Vec<Op>) -> OpList
-        ensures { ops_of result ≡ ops.items }
+    pub(crate) fn of(ops: ShortList<Op>) -> OpList
+        ensures { ops_of result ≡ short_items ops }
     {
-        if ops.len() == 1 {
-            if let Some(op) = ops.pop() {
-                return OpList::One(op);
-            }
+        match ops {
+            ShortList::One(op) => OpList::One(op),
+            ShortList::Many(ops) => OpList::Many(ops),
         }
-        OpList::Many(ops)
     }
 
     /// The same, which copies share if they are several.

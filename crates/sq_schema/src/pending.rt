@@ -9,8 +9,7 @@ ghost use Rattle.sq_schema.specs.Runs.{EndsBy};
 use crate::txn::{Cause, Op, OpAnswer, OpAnswers, Reply};
 use crate::written_keys::WrittenKeys;
 use sq_rows::rows::weight;
-use sq_rows::write_list::WriteList;
-use sq_rows::{Row, RowKey, Rows};
+use sq_rows::{Row, RowKey, RowWrite, Rows, ShortList};
 use std::alloc::{AllocError, Global};
 use std::marker::Model;
 
@@ -20,7 +19,7 @@ use std::marker::Model;
 pub(crate) struct PendingRows<'a> {
     alloc: Global,
     rows: &'a Rows,
-    writes: WriteList,
+    writes: ShortList<RowWrite>,
     most: usize,
     written: WrittenKeys,
     count: usize,
@@ -29,15 +28,15 @@ pub(crate) struct PendingRows<'a> {
 
 impl<'a> Model for PendingRows<'a> {
     ghost use Rattle.sq_schema.specs.Pending.{PendingValue, IsPending};
-    ghost use Rattle.sq_rows.specs.WriteList.{writes_of};
+    ghost use Rattle.sq_rows.specs.ShortList.{short_items};
     ghost use Rattle.sq_schema.specs.WrittenKeys.{AreMarked};
 
     ghost Value = { PendingValue };
 
-    ghost view = { λ d. record { base = d.rows.now; writes = writes_of d.writes } };
+    ghost view = { λ d. record { base = d.rows.now; writes = short_items d.writes } };
 
-    ghost invariant = { λ d. IsPending (record { base = d.rows.now; writes = writes_of d.writes }) d.count d.size
-        × AreMarked d.written.marks (writes_of d.writes) };
+    ghost invariant = { λ d. IsPending (record { base = d.rows.now; writes = short_items d.writes }) d.count d.size
+        × AreMarked d.written.marks (short_items d.writes) };
 }
 
 /// Why an operation has no answer.
@@ -53,7 +52,7 @@ pub(crate) struct RunOutcome {
     /// What their transaction is answered.
     pub(crate) reply: Reply,
     /// What is still to be written: nothing where one of them aborts.
-    pub(crate) writes: WriteList,
+    pub(crate) writes: ShortList<RowWrite>,
     /// The size in bytes of a family with the rows after these writes.
     pub(crate) size: u64,
 }
@@ -98,7 +97,7 @@ impl<'a> PendingRows<'a> {
             count: rows.len(),
             size: rows.size(),
             rows,
-            writes: WriteList::new(alloc),
+            writes: ShortList::new(alloc),
             most,
             written: WrittenKeys::new(),
         }
@@ -219,14 +218,14 @@ pub(crate) fn run(alloc: Global, rows: &Rows, ops: &[Op]) -> Result<RunOutcome, 
     ensures { IfOk result (EndsBy rows.now ops.now) }
 {
     let mut pending = PendingRows::new(alloc, rows, ops.len());
-    let mut answers = Vec::with_capacity(alloc, ops.len())?;
+    let mut answers = ShortList::new(alloc);
     for (at, op) in ops.iter().enumerate() {
         match pending.run(op) {
-            Ok(answer) => answers.push(answer)?,
+            Ok(answer) => answers.push(alloc, ops.len(), answer)?,
             Err(Stop::Abort(cause)) => {
                 return Ok(RunOutcome {
                     reply: Reply::Aborted { at, cause },
-                    writes: WriteList::new(alloc),
+                    writes: ShortList::new(alloc),
                     size: rows.size(),
                 });
             }
@@ -243,7 +242,7 @@ pub(crate) fn run(alloc: Global, rows: &Rows, ops: &[Op]) -> Result<RunOutcome, 
         size,
     } = pending;
     Ok(RunOutcome {
-        reply: Reply::Committed(OpAnswers::new(answers)),
+        reply: Reply::Committed(OpAnswers::of(answers)),
         writes,
         size,
     })

@@ -1,5 +1,5 @@
 // Transactions: what they ask, and what they are answered.
-ghost use Rattle.std.specs.Prelude.{◌≡◌, ◌≤◌, None, length, IfOk, IfErr};
+ghost use Rattle.std.specs.Prelude.{◌≡◌, ◌≤◌, None, length, IfOk, IfErr, OnOk};
 ghost use Rattle.std.specs.Option.{option_map};
 ghost use Rattle.std.specs.Result.{result_err};
 
@@ -7,8 +7,9 @@ use crate::fault::TxnFault;
 use crate::op_list::OpList;
 use crate::root::Root;
 use crate::schema::{Schema, check_key, check_row};
-use sq_rows::{Row, RowKey};
+use sq_rows::{Row, RowKey, ShortList};
 use std::alloc::AllocError;
+use std::fmt::{self, Debug, Formatter, Write};
 use std::marker::Model;
 
 /// The most operations that a transaction has.
@@ -73,23 +74,32 @@ pub enum Cause {
 }
 
 /// The answers of a transaction's operations, in their order. To a contract they are the list.
-#[derive(Debug, Drop)]
+#[derive(Drop)]
 pub struct OpAnswers {
-    answers: Vec<OpAnswer>,
+    answers: ShortList<OpAnswer>,
 }
 
 impl Model for OpAnswers {
     ghost use Rattle.std.specs.Prelude.{List};
+    ghost use Rattle.sq_rows.specs.ShortList.{short_items};
     ghost use Rattle.sq_schema.specs.declared.txn.OpAnswer.{OpAnswer};
 
     ghost Value = { List OpAnswer };
 
-    ghost view = { λ a. a.answers.items };
+    ghost view = { λ a. short_items a.answers };
 }
 
 impl OpAnswers {
+    ghost use Rattle.sq_rows.specs.ShortList.{short_items};
+
     pub fn new(answers: Vec<OpAnswer>) -> OpAnswers
         ensures { result ≡ answers.items }
+    {
+        OpAnswers::of(ShortList::of(answers))
+    }
+
+    pub(crate) fn of(answers: ShortList<OpAnswer>) -> OpAnswers
+        ensures { result ≡ short_items answers }
     {
         OpAnswers { answers }
     }
@@ -97,13 +107,13 @@ impl OpAnswers {
     pub fn as_slice(&self) -> &[OpAnswer]
         ensures { result.now ≡ self.now }
     {
-        &self.answers
+        self.answers.as_slice()
     }
+}
 
-    pub fn into_vec(self) -> Vec<OpAnswer>
-        ensures { result.items ≡ self }
-    {
-        self.answers
+impl Debug for OpAnswers {
+    fn fmt<W: Write>(&self, f: &mut Formatter<W>) -> fmt::Result {
+        f.debug_list().entries(self.as_slice()).finish()
     }
 }
 
@@ -117,7 +127,7 @@ impl PartialEq for OpAnswers {
     ghost laws = { lists_per answer.laws-law };
 
     fn eq(&self, other: &OpAnswers) -> bool {
-        self.answers == other.answers
+        self.as_slice() == other.as_slice()
     }
 }
 
@@ -174,6 +184,7 @@ impl Model for Txn {
 }
 
 impl Txn {
+    ghost use Rattle.sq_rows.specs.ShortList.{short_items};
     ghost use Rattle.sq_schema.specs.declared.schema.TheConstants.{MAX_TABLES};
     ghost use Rattle.sq_schema.specs.Refusals.{ops_fault, txn_fault};
 
@@ -189,23 +200,45 @@ impl Txn {
         ensures ok { IfOk result (λ txn. txn ≡ record { id = id; root = root; ops = ops.items }) }
         ensures ops_returned { IfErr result (λ refused. refused.1.items ≡ ops.items) }
     {
-        if ops.is_empty() || ops.len() > MAX_OPS {
-            return Err((TxnFault::BadOps, ops));
+        match Txn::check(schema, root, &ops) {
+            Ok(root) => Ok(Txn {
+                id,
+                root,
+                ops: OpList::of(ShortList::of(ops)),
+            }),
+            Err(fault) => Err((fault, ops)),
         }
-        let Some(root) = Root::new(root) else {
-            return Err((TxnFault::BadRoot, ops));
-        };
-        let tables = schema.tables();
-        for op in &ops {
-            if let Err(fault) = op.check(tables) {
-                return Err((fault, ops));
-            }
-        }
+    }
+
+    /// The same of operations that may be kept without a list, if there is one. They are dropped where it is refused.
+    pub fn of(schema: &Schema, id: u64, root: u64, ops: ShortList<Op>) -> Result<Txn, TxnFault>
+        ensures fault { result_err result ≡ txn_fault schema.now root (short_items ops) }
+        ensures ok { IfOk result (λ txn. txn ≡ record { id = id; root = root; ops = short_items ops }) }
+    {
         Ok(Txn {
             id,
-            root,
-            ops: OpList::new(ops),
+            root: Txn::check(schema, root, ops.as_slice())?,
+            ops: OpList::of(ops),
         })
+    }
+
+    // The root key of a transaction, if the schema has it.
+    fn check(schema: &Schema, root: u64, ops: &[Op]) -> Result<Root, TxnFault>
+        ensures fault { result_err result ≡ txn_fault schema.now root ops.now }
+        ensures ok { IfOk result (λ key. key ≡ root) }
+        ensures sound { OnOk result (txn_fault MAX_TABLES root ops.now ≡ None) }
+    {
+        if ops.is_empty() || ops.len() > MAX_OPS {
+            return Err(TxnFault::BadOps);
+        }
+        let Some(key) = Root::new(root) else {
+            return Err(TxnFault::BadRoot);
+        };
+        let tables = schema.tables();
+        for op in ops {
+            op.check(tables)?;
+        }
+        Ok(key)
     }
 
     pub fn id(&self) -> u64

@@ -1,4 +1,5 @@
 use Rattle.std.proofs.Common.{◌≡◌, drop}
+use Rattle.sq_rows.specs.ShortList.{short_items}
 use Rattle.sq_schema.specs.Effect.{ops_outcome}
 use Rattle.sq_schema.specs.Pending.{pending_rows}
 use Rattle.sq_schema.proofs.Runs.{with_answers}
@@ -8,5 +9,5 @@ use Rattle.sq_schema.proofs.pending.run.Given as goal
 abbrev pub invariant-loop-at : goal.invariant-loop-at
 invariant-loop-at l = record {
   base : l.pending.base ≡ l.fn.rows;
-  rest : ops_outcome 0 l.ops l.fn.rows ≡ with_answers l.answers.items (ops_outcome l.at (drop l.at l.ops) (pending_rows l.pending));
+  rest : ops_outcome 0 l.ops l.fn.rows ≡ with_answers (short_items l.answers) (ops_outcome l.at (drop l.at l.ops) (pending_rows l.pending));
 }

@@ -5,7 +5,7 @@ use Rattle.std.proofs.lemmas.Iterator.Adapters.{YieldsList-from_rev_slice}
 use Rattle.sq_rows.specs.RowList.{row_at}
 use Rattle.sq_rows.specs.declared.row.TheConstants.{MAX_NOTE}
 use Rattle.sq_schema.specs.Pending.{PendingValue, pending_rows}
-use Rattle.sq_rows.specs.WriteList.{writes_of}
+use Rattle.sq_rows.specs.ShortList.{short_items}
 use Rattle.sq_schema.specs.WrittenKeys.{has_its_mark}
 use Rattle.sq_rows.proofs.Latest.{is_key, row_or, latest, row_at-short, IfSome-copied}
 use Rattle.sq_schema.proofs.Marked.{row_at-unmarked}
@@ -16,7 +16,7 @@ use Rattle.sq_schema.proofs.pending.PendingRows.get.Goals.{After-find}
 found_row : (c : After-find) → row_or (option_copied c.find.result) (row_at c.self.inside.rows.now c.args.key) ≡ row_at (pending_rows c.args.self.now) c.args.key
 found_row c =
     let base = c.self.inside.rows.now in
-    let writes = writes_of c.self.inside.writes in
+    let writes = short_items c.self.inside.writes in
     let road = YieldsList-from_rev_slice writes cc in
     let found = find_from_yields_List (λ write. is_key write.0 c.args.key) _ _ c.find.result c.find.ensures.ran road (λ x b q k. search (rules, tests)) in
     ap (λ write. row_or write (row_at base c.args.key)) found ∙ sym (latest base c.args.key writes) ∙ ap (λ pending. row_at (pending_rows pending) c.args.key) c.self.view_is
@@ -24,14 +24,14 @@ found_row c =
 pub returns-then-not-may_have-clause-row : goal.returns-then-not-may_have-clause-row
 returns-then-not-may_have-clause-row c =
     let base = c.self.inside.rows.now in
-    let writes = writes_of c.self.inside.writes in
+    let writes = short_items c.self.inside.writes in
     let marks = c.self.inside.written.marks in
     let none : has_its_mark marks c.args.key ≡ false = search (rules, tests) in
     c.get.ensures ∙ sym (row_at-unmarked base marks c.args.key writes none c.self.invariant.1) ∙ ap (λ pending. row_at (pending_rows pending) c.args.key) c.self.view_is
 
 pub returns-then-not-may_have-clause-short : goal.returns-then-not-may_have-clause-short
 returns-then-not-may_have-clause-short c =
-    let pending : PendingValue = record { base = c.self.inside.rows.now; writes = writes_of c.self.inside.writes } in
+    let pending : PendingValue = record { base = c.self.inside.rows.now; writes = short_items c.self.inside.writes } in
     IfSome-copied (λ row. length row.note ≤ MAX_NOTE) c.get.result (row_at (pending_rows pending) c.args.key)
     (returns-then-not-may_have-clause-row c ∙ ap (λ d. row_at (pending_rows d) c.args.key) (sym c.self.view_is))
     (row_at-short (pending_rows pending) c.args.key c.self.invariant.0.rows.entries)
@@ -41,7 +41,7 @@ returns-in-Some-clause-row c = c.as_ref.ensures.value ∙ rw c.in-Some.is at (fo
 
 pub returns-in-Some-clause-short : goal.returns-in-Some-clause-short
 returns-in-Some-clause-short c =
-    let pending : PendingValue = record { base = c.self.inside.rows.now; writes = writes_of c.self.inside.writes } in
+    let pending : PendingValue = record { base = c.self.inside.rows.now; writes = short_items c.self.inside.writes } in
     IfSome-copied (λ row. length row.note ≤ MAX_NOTE) c.as_ref.result (row_at (pending_rows pending) c.args.key)
     (returns-in-Some-clause-row c ∙ ap (λ d. row_at (pending_rows d) c.args.key) (sym c.self.view_is))
     (row_at-short (pending_rows pending) c.args.key c.self.invariant.0.rows.entries)
@@ -51,7 +51,7 @@ returns-in-None-clause-row c = c.get-in-None.ensures ∙ rw c.in-None.is at (fou
 
 pub returns-in-None-clause-short : goal.returns-in-None-clause-short
 returns-in-None-clause-short c =
-    let pending : PendingValue = record { base = c.self.inside.rows.now; writes = writes_of c.self.inside.writes } in
+    let pending : PendingValue = record { base = c.self.inside.rows.now; writes = short_items c.self.inside.writes } in
     IfSome-copied (λ row. length row.note ≤ MAX_NOTE) c.get-in-None.result (row_at (pending_rows pending) c.args.key)
     (returns-in-None-clause-row c ∙ ap (λ d. row_at (pending_rows d) c.args.key) (sym c.self.view_is))
     (row_at-short (pending_rows pending) c.args.key c.self.invariant.0.rows.entries)
