@@ -5,6 +5,7 @@ pub mod Indexing
 pub mod Counting
 pub mod Jobs
 pub mod Lists
+pub mod InParts
 pub mod Walks
 pub mod Orders
 pub mod Knowing

@@ -5,6 +5,7 @@ pub mod Defects
 pub mod Located
 pub mod Index
 pub mod Told
+pub mod InThreads
 pub mod Fits
 pub mod Notes
 pub mod Statuses

@@ -23,12 +23,14 @@ use sq_schema::Table;
 use sq_store::{FamilyStore, SlabStore};
 use std::alloc::{AllocError, Global};
 use std::collections::BTreeMap;
+use std::thread::Threads;
 
 /// Folds what was gathered of a stage whose segments are complete: audits the jobs that have a receipt, whose ids differ
 /// as those of all jobs do, and where they are sound gives the families anew from their rows, the opening with these
 /// rows, no receipts, and the jobs without one. Else it tells the first defect; and where there is no memory for it all
 /// comes back as it was.
-pub fn fold(
+pub fn fold<R: Threads + Sync>(
+    rt: &R,
     alloc: Global,
     opening: Opening,
     gathered: Gathered,
@@ -41,7 +43,7 @@ pub fn fold(
 {
     // For the proof alone: it tells that the opening is set up.
     let _ = opening.recon();
-    match prepare(alloc, &opening, &gathered, &jobs) {
+    match prepare(rt, alloc, &opening, &gathered, &jobs) {
         Ok(Ok(ready)) => Ok(finish(alloc, opening, gathered, jobs, ready)),
         Ok(Err(defect)) => Err(Unfolded::Unsound(defect)),
         Err(_) => Err(Unfolded::Memory(Unchanged {
@@ -60,7 +62,8 @@ struct Ready {
 }
 
 // What a fold needs, where the jobs that have a receipt are sound, or else their first defect.
-fn prepare(
+fn prepare<R: Threads + Sync>(
+    rt: &R,
     alloc: Global,
     opening: &Opening,
     g: &Gathered,
@@ -72,7 +75,7 @@ fn prepare(
 {
     let counts = count(alloc, &g.receipts)?;
     let answered = copy_answered(alloc, &counts, jobs)?;
-    if let Verdict::Unsound(defect) = audit(opening, g, &answered)? {
+    if let Verdict::Unsound(defect) = audit(rt, opening, g, &answered)? {
         return Ok(Err(defect));
     }
     let table = table_of(alloc, &g.stores)?;

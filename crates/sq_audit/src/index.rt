@@ -1,13 +1,17 @@
 // What is told of root keys, where all families are listed by them: that each of a table has a family, that each has one
 // alone, and that its family starts from its opening rows.
-ghost use Rattle.std.specs.Prelude.{◌≡◌, nat_lt};
+ghost use Rattle.std.specs.Prelude.{◌≡◌, nat_lt, IfOk};
 ghost use Rattle.std.specs.Bool.{Decides};
 ghost use Rattle.sq_schema.specs.Prelude.{rows_in};
 ghost use Rattle.sq_audit.specs.Located.{entry_of, entries_in, AreByRoot};
 ghost use Rattle.sq_audit.specs.Index.{HasFamily, HaveFamilies, Agree, AgreeOnSpots, StartsFrom, StartFrom};
 
+use crate::in_threads::{all_hold, part_size};
 use crate::located::Located;
 use sq_schema::{Family, Root, Table};
+use std::alloc::{AllocError, Global};
+use std::thread;
+use std::thread::Threads;
 
 /// Whether each root key of a table has one of these families, which are by root key.
 pub(crate) fn have_families(table: &Table, all: &[Located]) -> bool
@@ -62,8 +66,30 @@ fn agree(one: &Located, other: &Located) -> bool
     }
 }
 
-/// Whether each family starts from the rows that the table has of its root key.
-pub(crate) fn start_from(table: &Table, all: &[Located]) -> bool
+/// Whether each family starts from the rows that the table has of its root key: parts of the families in threads of their own.
+pub(crate) fn all_start_from<R: Threads + Sync>(
+    rt: &R,
+    alloc: Global,
+    table: &Table,
+    all: &[Located],
+) -> Result<bool, AllocError>
+    ensures { IfOk result (λ from. Decides from (StartFrom (rows_in table.now) (entries_in all.now))) }
+{
+    let size = part_size(all.len());
+    let said = thread::map_chunks(
+        rt,
+        alloc,
+        all,
+        size,
+        &|_, part: &[Located]| -> Result<bool, AllocError>
+            ensures { IfOk result (λ from. Decides from (StartFrom (rows_in table.entry.now) (entries_in part.entry.now))) }
+        { Ok(start_from(table, part)) },
+    )?;
+    all_hold(&said)
+}
+
+// Whether each family starts from the rows that the table has of its root key.
+fn start_from(table: &Table, all: &[Located]) -> bool
     ensures { Decides result (StartFrom (rows_in table.now) (entries_in all.now)) }
 {
     for located in all {

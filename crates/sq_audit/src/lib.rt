@@ -7,6 +7,7 @@ mod by_id;
 mod fits;
 mod folded;
 mod folding;
+mod in_threads;
 mod index;
 mod job;
 pub mod laws;

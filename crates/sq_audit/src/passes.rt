@@ -7,7 +7,7 @@ ghost use Rattle.sq_audit.specs.Defects.{defect_number, Clears, ClearBelow, IsVe
 
 use crate::answered::are_answered;
 use crate::fits::fit;
-use crate::index::{have_families, stand_once, start_from};
+use crate::index::{all_start_from, have_families, stand_once};
 use crate::job::Job;
 use crate::located::{Located, locate};
 use crate::told::are_known;
@@ -15,17 +15,23 @@ use crate::verdict::{ALL_DEFECTS, Defect, Verdict};
 use sq_gather::Gathered;
 use sq_ranges::Opening;
 use std::alloc::{AllocError, Global};
+use std::thread::Threads;
 
-/// Whether what was gathered of a run of these jobs, whose ids differ, is sound, or else its first defect. It is refused
-/// only where there is no memory for it.
-pub fn audit(opening: &Opening, g: &Gathered, jobs: &[Job]) -> Result<Verdict, AllocError>
+/// Whether what was gathered of a run of these jobs, whose ids differ, is sound, or else its first defect. Where there are
+/// many families, parts of them are looked at in threads of their own. It is refused only where there is no memory for it.
+pub fn audit<R: Threads + Sync>(
+    rt: &R,
+    opening: &Opening,
+    g: &Gathered,
+    jobs: &[Job],
+) -> Result<Verdict, AllocError>
     requires { IdsDiffer jobs.now }
     ensures { IfOk result (IsVerdict opening.now g.now jobs.now) }
 {
     let alloc = *g.receipts.allocator();
     let all = locate(alloc, g)?;
     for defect in ALL_DEFECTS {
-        if !clears(alloc, opening, g, &all, jobs, defect)? {
+        if !clears(rt, alloc, opening, g, &all, jobs, defect)? {
             return Ok(Verdict::Unsound(defect));
         }
     }
@@ -34,7 +40,8 @@ pub fn audit(opening: &Opening, g: &Gathered, jobs: &[Job]) -> Result<Verdict, A
 
 // Whether what was gathered hasn't this defect, where it has none with a lower number and these are all families, by root
 // key.
-fn clears(
+fn clears<R: Threads + Sync>(
+    rt: &R,
     alloc: Global,
     opening: &Opening,
     g: &Gathered,
@@ -51,9 +58,9 @@ fn clears(
     match defect {
         Defect::RootMissing => Ok(have_families(opening.table(), all)),
         Defect::RootDoubled => Ok(stand_once(all)),
-        Defect::BaseChanged => Ok(start_from(opening.table(), all)),
+        Defect::BaseChanged => all_start_from(rt, alloc, opening.table(), all),
         Defect::WrongPlace => fit(alloc, opening, g, all),
-        Defect::ReceiptUnknown => are_known(alloc, all, jobs, &g.receipts),
+        Defect::ReceiptUnknown => are_known(rt, alloc, all, jobs, &g.receipts),
         Defect::Unanswered => are_answered(alloc, jobs, &g.receipts),
     }
 }

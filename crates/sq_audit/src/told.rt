@@ -9,6 +9,7 @@ ghost use Rattle.sq_audit.specs.Index.{IsIndexOf};
 ghost use Rattle.sq_audit.specs.Told.{values_of, id_of, receipt_key, key_order, IsAnswerOn, rows_then, AreInOrder, TellsLog, TellLogs, TellNoLog, KnowsAll};
 
 use crate::by_id::{by_id, job_of};
+use crate::in_threads::{all_hold, part_size};
 use crate::index::has_family;
 use crate::job::Job;
 use crate::located::Located;
@@ -16,10 +17,13 @@ use sq_node::Receipt;
 use sq_schema::{Family, Reply, Rows, Txn};
 use std::alloc::{AllocError, Global};
 use std::collections::BTreeMap;
+use std::thread;
+use std::thread::Threads;
 
 /// Whether each receipt is the answer to a job, and the committed ones name each position of each log once, where these are
 /// all families, by root key.
-pub(crate) fn are_known(
+pub(crate) fn are_known<R: Threads + Sync>(
+    rt: &R,
     alloc: Global,
     all: &[Located],
     jobs: &[Job],
@@ -31,10 +35,42 @@ pub(crate) fn are_known(
 {
     let ids = by_id(alloc, jobs)?;
     let sorted = sort(alloc, receipts)?;
-    if !tell_logs(alloc, all, jobs, &ids, &sorted)? {
+    if !tell_all_logs(rt, alloc, all, jobs, &ids, &sorted)? {
         return Ok(false);
     }
     tell_no_log(alloc, all, jobs, &ids, receipts)
+}
+
+// Whether receipts, in order, tell the logs of families that are by root key: parts of the families in threads of their own.
+fn tell_all_logs<R: Threads + Sync>(
+    rt: &R,
+    alloc: Global,
+    all: &[Located],
+    jobs: &[Job],
+    ids: &BTreeMap<u64, usize>,
+    sorted: &[&Receipt],
+) -> Result<bool, AllocError>
+    requires ids { IdsDiffer jobs.now }
+    requires index { IsIndexOf id_of jobs.now ids.now }
+    requires sorted { IsSortedByKey receipt_key key_order (values_of sorted.now) }
+    requires rise { AreByRoot (entries_in all.now) }
+    ensures { IfOk result (λ tell. Decides tell (TellLogs (entries_in all.now) jobs.now (values_of sorted.now))) }
+{
+    let size = part_size(all.len());
+    let said = thread::map_chunks(
+        rt,
+        alloc,
+        all,
+        size,
+        &|_, part: &[Located]| -> Result<bool, AllocError>
+            requires ids { IdsDiffer jobs.now }
+            requires index { IsIndexOf id_of jobs.now ids.now }
+            requires sorted { IsSortedByKey receipt_key key_order (values_of sorted.now) }
+            requires rise { AreByRoot (entries_in part.now) }
+            ensures { IfOk result (λ tell. Decides tell (TellLogs (entries_in part.entry.now) jobs.entry.now (values_of sorted.entry.now))) }
+        { tell_logs(alloc, part, jobs, ids, sorted) },
+    )?;
+    all_hold(&said)
 }
 
 // Whether receipts, in order, tell the logs of families that are by root key.

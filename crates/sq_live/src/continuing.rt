@@ -8,6 +8,7 @@ use crate::judging::count_commits;
 use sq_audit::{Defect, Unfolded, fold};
 use sq_gather::Gathered;
 use std::alloc::{AllocError, Global};
+use std::thread::Threads;
 
 /// What a run goes on with after a stage.
 #[derive(Drop)]
@@ -20,7 +21,8 @@ pub(crate) enum Continued {
 
 /// What a run goes on with after a stage whose segments are complete: with all as it is, or, if it folds logs, with what
 /// [`fold`] gives, once that is counted.
-pub(crate) fn continue_with(
+pub(crate) fn continue_with<R: Threads + Sync>(
+    rt: &R,
     alloc: Global,
     folds: bool,
     account: Account,
@@ -30,14 +32,19 @@ pub(crate) fn continue_with(
     ensures { IfOk result (Continues folds account gathered) }
 {
     if folds {
-        fold_logs(alloc, account, gathered)
+        fold_logs(rt, alloc, account, gathered)
     } else {
         Ok(Continued::With(account, gathered))
     }
 }
 
 // Folds the logs that were gathered, and counts the jobs that were answered and the receipts of commits.
-fn fold_logs(alloc: Global, account: Account, gathered: Gathered) -> Result<Continued, AllocError>
+fn fold_logs<R: Threads + Sync>(
+    rt: &R,
+    alloc: Global,
+    account: Account,
+    gathered: Gathered,
+) -> Result<Continued, AllocError>
     requires { IsStageDone account.opening gathered }
     ensures { IfOk result (Continues true account gathered) }
 {
@@ -49,7 +56,7 @@ fn fold_logs(alloc: Global, account: Account, gathered: Gathered) -> Result<Cont
     } = account;
     let posted = jobs.len();
     let commits = count_commits(&gathered.receipts);
-    match fold(alloc, opening, gathered, jobs) {
+    match fold(rt, alloc, opening, gathered, jobs) {
         Ok(folded) => {
             let account = Account {
                 opening: folded.opening,

@@ -21,13 +21,15 @@ use sq_store::SlabStore;
 use sq_tree::{NODES, NodeId, Status};
 use std::alloc::{AllocError, Global};
 use std::collections::BTreeSet;
+use std::thread::Threads;
 
 /// How many segments there are at most, as the length of an array.
 const SEGMENTS: usize = SEGMENT_LIMIT as usize;
 
 /// What a run came to whose last stage left this, where the leader ended the move. `moved` marks the segments that are
 /// complete. The run is audited only where each job is answered, and it is sound only where the audit found it so.
-pub(crate) fn judge_end(
+pub(crate) fn judge_end<R: Threads + Sync>(
+    rt: &R,
     alloc: Global,
     account: &Account,
     g: &Gathered,
@@ -45,7 +47,7 @@ pub(crate) fn judge_end(
     if answered < account.jobs.len() {
         return Ok(stopped(account, g, moved, answered));
     }
-    match audit(&account.opening, g, &account.jobs)? {
+    match audit(rt, &account.opening, g, &account.jobs)? {
         Verdict::Sound => Ok(LiveOutcome::Sound {
             families: count_families(&g.stores),
             committed: account.committed + count_commits(&g.receipts),

@@ -148,14 +148,15 @@ fn run_stage<R: Threads + Wait + Sync, G: Watch>(
     let gathered = drive_all(rt, alloc, fabric, nodes, pumps, manner.turns, watch)?;
     let moved = moved_segments(&gathered.statuses);
     match lead_on(moving, &account.opening, &moved) {
-        Led::Next(moving) => go_on(alloc, account, gathered, moving, manner),
-        Led::Ended => Ok(AfterStage::Ended(judge_end(alloc, &account, &gathered, &moved)?)),
+        Led::Next(moving) => go_on(rt, alloc, account, gathered, moving, manner),
+        Led::Ended => Ok(AfterStage::Ended(judge_end(rt, alloc, &account, &gathered, &moved)?)),
         Led::Missing => Ok(AfterStage::Ended(judge_stopped(alloc, &account, &gathered, &moved)?)),
     }
 }
 
 // What comes after a stage whose segments are complete where the leader goes on.
-fn go_on(
+fn go_on<R: Threads + Sync>(
+    rt: &R,
     alloc: Global,
     account: Account,
     gathered: Gathered,
@@ -168,7 +169,7 @@ fn go_on(
     requires led { moving ≡ leading account.opening (gathered.stage + 1) }
     ensures { IfOk result (GoesOnTo manner.folds account gathered) }
 {
-    match continue_with(alloc, manner.folds, account, gathered)? {
+    match continue_with(rt, alloc, manner.folds, account, gathered)? {
         Continued::With(account, gathered) => {
             let ready = next_ready(alloc, account, gathered, moving, manner.pumps)?;
             Ok(AfterStage::Next(ready))

@@ -53,7 +53,7 @@ pub fn run_jobs<R: Threads + Wait + Sync>(
     run_workers(rt, &fabric, &mut nodes, &mut pumps, TURNS, &OpenGate);
     match gather(rt, alloc, fabric, nodes, pumps) {
         Ok(gathered) => {
-            let verdict = audit(opening, &gathered, jobs)?;
+            let verdict = audit(rt, opening, &gathered, jobs)?;
             Ok(Ran { gathered, verdict })
         }
         Err(_) => Err(AllocError),

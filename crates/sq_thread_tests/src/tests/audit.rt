@@ -12,6 +12,7 @@ use sq_store::{FamilyStore, SlabStore, StoreAnswer, StoreCommand, run_store};
 use std::alloc::Global;
 use std::sync::Wait;
 use std::test::Fail;
+use std::thread::Threads;
 
 // The first commits, and the second aborts.
 const FIRST: &str = "txn 0 1 5 get 0 0";
@@ -128,11 +129,16 @@ fn make(alloc: Global, gathered: &mut Gathered, change: Change) -> Result<(), Fa
 }
 
 // The number of the defect that an audit finds, if it finds one.
-fn defect_of(alloc: Global, gathered: &Gathered, jobs: &[Job]) -> Result<Option<u16>, Fail>
+fn defect_of<R: Threads + Sync>(
+    rt: &R,
+    alloc: Global,
+    gathered: &Gathered,
+    jobs: &[Job],
+) -> Result<Option<u16>, Fail>
     requires { IdsDiffer jobs.now }
 {
     let opening = read_opening(alloc, PAIR)?;
-    match audit(&opening, gathered, jobs)? {
+    match audit(rt, &opening, gathered, jobs)? {
         Verdict::Sound => Ok(None),
         Verdict::Unsound(defect) => Ok(Some(defect.number())),
     }
@@ -152,11 +158,15 @@ const DEFECTS: [(Change, Option<u16>); 9] = [
 ];
 
 // The number of the defect that is found once this is changed.
-fn defect_after<R: Wait>(rt: &R, alloc: Global, change: Change) -> Result<Option<u16>, Fail> {
+fn defect_after<R: Threads + Wait + Sync>(
+    rt: &R,
+    alloc: Global,
+    change: Change,
+) -> Result<Option<u16>, Fail> {
     let jobs = jobs(alloc)?;
     let mut gathered = worked(rt, alloc)?;
     make(alloc, &mut gathered, change)?;
-    defect_of(alloc, &gathered, &jobs)
+    defect_of(rt, alloc, &gathered, &jobs)
 }
 
 #[test]

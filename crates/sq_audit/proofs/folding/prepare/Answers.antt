@@ -16,45 +16,46 @@ use Rattle.sq_audit.specs.Folding.{answered_jobs}
 use Rattle.sq_audit.proofs.Folds.{some_differ, answered_are}
 use Rattle.sq_audit.proofs.folding.prepare.Goals as goal
 use Rattle.sq_audit.proofs.folding.prepare.Goals.{In_ok-answered, In_ok-defect}
+use Rattle.sq_audit.proofs.folding.prepare.Given.{Over}
 
-counts : (c : In_ok-answered) → Counts c.args.g.now.receipts c.in_ok-counts.counts
-counts c = subst (λ (receipts : List ReceiptValue). Counts receipts c.in_ok-counts.counts) (c.deref.ensures.value ∙ ap (λ (g : GatheredValue). g.receipts) c.g.view_is) c.in_ok-counts.ensures
+counts : (g : Over) (c : In_ok-answered g) → Counts c.args.g.now.receipts c.in_ok-counts.counts
+counts g c = subst (λ (receipts : List ReceiptValue). Counts receipts c.in_ok-counts.counts) (c.deref.ensures.value ∙ ap (λ (g : GatheredValue). g.receipts) c.g.view_is) c.in_ok-counts.ensures
 
 -- the jobs that were copied are those that have a receipt
-answered : (c : In_ok-answered) → c.in_ok-answered.answered.items ≡ answered_jobs c.args.g.now.receipts c.args.jobs.now
-answered c = c.in_ok-answered.ensures ∙ answered_are c.args.g.now.receipts c.in_ok-counts.counts (counts c) c.args.jobs.now
+answered : (g : Over) (c : In_ok-answered g) → c.in_ok-answered.answered.items ≡ answered_jobs c.args.g.now.receipts c.args.jobs.now
+answered g c = c.in_ok-answered.ensures ∙ answered_are c.args.g.now.receipts c.in_ok-counts.counts (counts g c) c.args.jobs.now
 
 -- so the verdict is of them
-judged : (c : In_ok-defect) → c.deref-2.result.now ≡ answered_jobs c.args.g.now.receipts c.args.jobs.now → (verdict : Verdict) → c.in_ok-defect.field-0 ≡ verdict
+judged : (g : Over) (c : In_ok-defect g) → c.deref-2.result.now ≡ answered_jobs c.args.g.now.receipts c.args.jobs.now → (verdict : Verdict) → c.in_ok-defect.field-0 ≡ verdict
     → IsVerdict c.args.opening.now c.args.g.now (answered_jobs c.args.g.now.receipts c.args.jobs.now) verdict
-judged c same verdict is =
+judged g c same verdict is =
     subst (IsVerdict c.args.opening.now c.args.g.now (answered_jobs c.args.g.now.receipts c.args.jobs.now)) is
     (subst (λ (jobs : List Job). IsVerdict c.args.opening.now c.args.g.now jobs c.in_ok-defect.field-0) same c.in_ok-defect.ensures)
 
 -- and where it isn't a defect they are sound
-sound : (c : In_ok-defect) → c.deref-2.result.now ≡ answered_jobs c.args.g.now.receipts c.args.jobs.now → ((defect : Defect) → c.in_ok-defect.field-0 ≡ Unsound defect → ⊥)
+sound : (g : Over) (c : In_ok-defect g) → c.deref-2.result.now ≡ answered_jobs c.args.g.now.receipts c.args.jobs.now → ((defect : Defect) → c.in_ok-defect.field-0 ≡ Unsound defect → ⊥)
     → IsSoundRun c.args.opening.now c.args.g.now (answered_jobs c.args.g.now.receipts c.args.jobs.now)
-sound c same never = by c.in_ok-defect.field-0 refl
+sound g c same never = by c.in_ok-defect.field-0 refl
   where
     by : (verdict : Verdict) → c.in_ok-defect.field-0 ≡ verdict → IsSoundRun c.args.opening.now c.args.g.now (answered_jobs c.args.g.now.receipts c.args.jobs.now)
-    by Sound is = judged c same Sound is
+    by Sound is = judged g c same Sound is
     by (Unsound defect) is = absurd (never defect is)
 
 pub audit-requires : goal.audit-requires
-audit-requires c =
-    subst IdsDiffer (sym (c.deref-2.ensures.value ∙ c.in_ok-answered.ensures)) (some_differ (is_counted c.in_ok-counts.counts) c.args.jobs.now c.requires)
+audit-requires g c =
+    (c.type_bounds.sync-R, subst IdsDiffer (sym (c.deref-2.ensures.value ∙ c.in_ok-answered.ensures)) (some_differ (is_counted c.in_ok-counts.counts) c.args.jobs.now c.requires))
 
 pub returns-in-Unsound-clause-unsound : goal.returns-in-Unsound-clause-unsound
-returns-in-Unsound-clause-unsound c =
-    judged (goal.at.returns-in-Unsound-clause-unsound c).In_ok-defect (c.deref-2.ensures.value ∙ answered (goal.at.returns-in-Unsound-clause-unsound c).In_ok-answered) _ c.in-Unsound.is
+returns-in-Unsound-clause-unsound g c =
+    judged g (goal.at.returns-in-Unsound-clause-unsound g c).In_ok-defect (c.deref-2.ensures.value ∙ answered g (goal.at.returns-in-Unsound-clause-unsound g c).In_ok-answered) _ c.in-Unsound.is
 
 pub returns-clause-ready : goal.returns-clause-ready
-returns-clause-ready c =
-    let now = goal.at.returns-clause-ready c in
+returns-clause-ready g c =
+    let now = goal.at.returns-clause-ready g c in
     let stores = c.deref-3.ensures.value ∙ ap (λ (g : GatheredValue). g.stores) c.g.view_is in
     record {
-      sound = sound now.In_ok-defect (c.deref-2.ensures.value ∙ answered now.In_ok-answered) c.in_default.not-Unsound;
-      counts = counts now.In_ok-answered;
+      sound = sound g now.In_ok-defect (c.deref-2.ensures.value ∙ answered g now.In_ok-answered) c.in_default.not-Unsound;
+      counts = counts g now.In_ok-answered;
       rows = subst (λ (ss : List StoreValue). (root : ℕ) → rows_in c.in_ok-table.table root ≡ rows_among [] ss root) stores c.in_ok-table.ensures.rows;
       bound = c.in_ok-table.ensures.bound;
     }

@@ -6,30 +6,30 @@ use Rattle.sq_audit.proofs.Verdicts.{none_below, all_clear, lower_clear, first_f
 use Rattle.sq_audit.proofs.passes.audit.Goals as goal
 
 pub loop-defect-init : goal.loop-defect-init
-loop-defect-init c = none_below c.args.opening.now c.args.g.now c.args.jobs.now
+loop-defect-init g c = none_below c.args.opening.now c.args.g.now c.args.jobs.now
 
 pub clears-requires-clause-listed : goal.clears-requires-clause-listed
-clears-requires-clause-listed c = subst (λ (all : List Located). ListsAll c.args.g.now (entries_in all)) (sym c.deref.ensures.value) c.in_ok-all.ensures.all
+clears-requires-clause-listed g c κs region = subst (λ (all : List Located). ListsAll c.args.g.now (entries_in all)) (sym c.deref.ensures.value) c.in_ok-all.ensures.all
 
 pub clears-requires-clause-rise : goal.clears-requires-clause-rise
-clears-requires-clause-rise c = subst (λ (all : List Located). AreByRoot (entries_in all)) (sym c.deref.ensures.value) c.in_ok-all.ensures.rise
+clears-requires-clause-rise g c κs region = subst (λ (all : List Located). AreByRoot (entries_in all)) (sym c.deref.ensures.value) c.in_ok-all.ensures.rise
 
 pub clears-requires-clause-lower : goal.clears-requires-clause-lower
-clears-requires-clause-lower c =
+clears-requires-clause-lower g c κs region =
     lower_clear c.args.opening.now c.args.g.now c.args.jobs.now c.loop-defect.defect-index c.loop-defect-test.true c.loop-defect.invariant
 
 pub returns-then-not-branch : goal.returns-then-not-branch
-returns-then-not-branch c =
+returns-then-not-branch g c =
     first_found c.args.opening.now c.args.g.now c.args.jobs.now c.loop-defect.defect-index c.loop-defect-test.true c.loop-defect.invariant
     c.in_ok-clears.field-0 c.in_ok-clears.ensures c.if-not-branch.true
 
 pub loop-defect-preserved : goal.loop-defect-preserved
-loop-defect-preserved c =
+loop-defect-preserved g c =
     next_below c.args.opening.now c.args.g.now c.args.jobs.now c.loop-defect.defect-index c.loop-defect-test.true c.loop-defect.invariant
     c.in_ok-clears.field-0 c.in_ok-clears.ensures c.if-not-branch.false
 
 pub returns : goal.returns
-returns c =
+returns g c =
     let o = c.args.opening.now in
     let g = c.args.g.now in
     let jobs = c.args.jobs.now in

@@ -4,7 +4,7 @@ use Rattle.std.specs.Bool.{Decides}
 use Rattle.sq_schema.specs.Table.{TableValue, rows_in}
 use Rattle.sq_node_model.specs.NodeValue.{ReceiptValue}
 use Rattle.sq_node_model.specs.Gathered.{GatheredValue}
-use Rattle.sq_node_model.specs.Placed.{NameEach}
+use Rattle.sq_node_model.specs.Placed.{KeepBases, NameEach}
 use Rattle.sq_audit.specs.declared.verdict.Defect.{Defect}
 use Rattle.sq_audit.specs.declared.verdict.Defect.TheVariants.{RootDoubled}
 use Rattle.sq_audit.specs.Answers.{AreKnown, AreAnsweredBy}
@@ -17,28 +17,33 @@ use Rattle.sq_audit.proofs.Knowing.{ok_like}
 use Rattle.sq_audit.proofs.passes.clears.Goals as goal
 
 pub returns-in-RootMissing : goal.returns-in-RootMissing
-returns-in-RootMissing c =
+returns-in-RootMissing g c =
     let have = subst (λ (t : TableValue). Decides c.have_families.result (HaveFamilies t (entries_in c.args.all.now))) c.table.ensures.table c.have_families.ensures in
     subst (λ (d : Defect). Decides c.have_families.result (Clears c.args.opening.now c.args.g.now c.args.jobs.now d)) (sym c.in-RootMissing.is)
     (stand_is c.args.opening.now c.args.g.now (entries_in c.args.all.now) c.requires.listed c.have_families.result c.table.ensures.set_up.rising c.table.ensures.set_up.rows have)
 
 pub returns-in-RootDoubled : goal.returns-in-RootDoubled
-returns-in-RootDoubled c =
+returns-in-RootDoubled g c =
     subst (λ (d : Defect). Decides c.stand_once.result (Clears c.args.opening.now c.args.g.now c.args.jobs.now d)) (sym c.in-RootDoubled.is)
     (once_is c.args.opening.now c.args.g.now (entries_in c.args.all.now) c.requires.listed c.stand_once.result c.stand_once.ensures)
 
 pub returns-in-BaseChanged : goal.returns-in-BaseChanged
-returns-in-BaseChanged c =
-    let start = subst (λ (t : TableValue). Decides c.start_from.result (StartFrom (rows_in t) (entries_in c.args.all.now))) c.table-in-BaseChanged.ensures.table c.start_from.ensures in
-    subst (λ (d : Defect). Decides c.start_from.result (Clears c.args.opening.now c.args.g.now c.args.jobs.now d)) (sym c.in-BaseChanged.is)
-    (bases_are c.args.opening.now c.args.g.now (entries_in c.args.all.now) c.requires.listed c.start_from.result start)
+returns-in-BaseChanged g c =
+    let o = c.args.opening.now in
+    let g = c.args.g.now in
+    let entries = entries_in c.args.all.now in
+    let from = c.all_start_from.result in
+    subst (λ (d : Defect). IfOk from (λ clear. Decides clear (Clears o g c.args.jobs.now d))) (sym c.in-BaseChanged.is)
+    (ok_like {P = λ (b : Bool). Decides b (StartFrom (rows_in c.table-in-BaseChanged.result.now) entries)} {Q = λ (b : Bool). Decides b (KeepBases o g)} from
+    (λ b start. bases_are o g entries c.requires.listed b (subst (λ (t : TableValue). Decides b (StartFrom (rows_in t) entries)) c.table-in-BaseChanged.ensures.table start))
+    c.all_start_from.ensures)
 
 pub returns-in-WrongPlace : goal.returns-in-WrongPlace
-returns-in-WrongPlace c =
+returns-in-WrongPlace g c =
     subst (λ (d : Defect). IfOk c.fit.result (λ clear. Decides clear (Clears c.args.opening.now c.args.g.now c.args.jobs.now d))) (sym c.in-WrongPlace.is) c.fit.ensures
 
 pub returns-in-ReceiptUnknown : goal.returns-in-ReceiptUnknown
-returns-in-ReceiptUnknown c =
+returns-in-ReceiptUnknown g c =
     let o = c.args.opening.now in
     let g = c.args.g.now in
     let jobs = c.args.jobs.now in
@@ -53,7 +58,7 @@ returns-in-ReceiptUnknown c =
     c.are_known.ensures)
 
 pub returns-in-Unanswered : goal.returns-in-Unanswered
-returns-in-Unanswered c =
+returns-in-Unanswered g c =
     let g = c.args.g.now in
     let jobs = c.args.jobs.now in
     let answered = c.are_answered.result in

@@ -8,16 +8,16 @@ use Rattle.sq_live.proofs.Accounts.{no_more_left, account_then, has_folded}
 use Rattle.sq_live.proofs.continuing.fold_logs.Goals as goal
 
 pub fold-requires-clause-done : goal.fold-requires-clause-done
-fold-requires-clause-done c = subst (λ (a : AccountValue). IsStageDone a.opening c.args.gathered) (sym c.account.view_is) c.requires
+fold-requires-clause-done g c κs region = subst (λ (a : AccountValue). IsStageDone a.opening c.args.gathered) (sym c.account.view_is) c.requires
 
 pub overflow_sub-account : goal.overflow_sub-account
-overflow_sub-account c =
+overflow_sub-account g c =
     let inside = c.account.inside in
     let few = no_more_left (record { opening = inside.opening; jobs = inside.jobs.items; answered = inside.answered; committed = inside.committed }) c.args.gathered c.in-Ok.folded c.in-Ok.ensures.folded in
     omega (arith, few, c.len.ensures, c.len-posted.ensures)
 
 pub invariant_of-account : goal.invariant_of-account
-invariant_of-account c =
+invariant_of-account g c =
     let inside = c.account.inside in
     let posted : c.len-posted.result ≡ length inside.jobs.items = omega (arith, c.len-posted.ensures) in
     let left : c.len.result ≡ length c.in-Ok.folded.jobs.items = omega (arith, c.len.ensures) in
@@ -25,7 +25,7 @@ invariant_of-account c =
     account_then (record { opening = inside.opening; jobs = inside.jobs.items; answered = inside.answered; committed = inside.committed }) c.args.gathered c.in-Ok.folded c.in-Ok.ensures.folded c.len-posted.result c.len.result c.count_commits-commits.result posted left commits c.account.invariant
 
 pub returns-in-Ok : goal.returns-in-Ok
-returns-in-Ok c =
+returns-in-Ok g c =
     let inside = c.account.inside in
     let posted : c.len-posted.result ≡ length inside.jobs.items = omega (arith, c.len-posted.ensures) in
     let left : c.len.result ≡ length c.in-Ok.folded.jobs.items = omega (arith, c.len.ensures) in

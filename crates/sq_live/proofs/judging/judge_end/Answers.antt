@@ -13,9 +13,10 @@ use Rattle.sq_live.specs.Outcome.{IsDone, answered_count, commit_count}
 use Rattle.sq_live.proofs.Moved.{all_moved}
 use Rattle.sq_live.proofs.judging.judge_end.Goals as goal
 use Rattle.sq_live.proofs.judging.judge_end.Goals.{In_ok-audit}
+use Rattle.sq_live.proofs.judging.judge_end.Given.{Over}
 
-is_done : (c : In_ok-audit) → IsDone c.args.account.now c.args.g.now
-is_done c =
+is_done : (g : Over) (c : In_ok-audit g) → IsDone c.args.account.now c.args.g.now
+is_done g c =
     let account = c.args.account.now in
     let g = c.args.g.now in
     let o = account.opening in
@@ -33,13 +34,22 @@ is_done c =
       ended = c.requires.ended.1;
     }
 
+pub stopped-requires-clause-why : goal.stopped-requires-clause-why
+stopped-requires-clause-why g c =
+    let receipts = c.deref.ensures.value ∙ ap (λ (g : GatheredValue). g.receipts) c.g.view_is in
+    let jobs = c.deref-2.ensures.value ∙ ap (λ (a : AccountValue). a.jobs) c.account.view_is in
+    let counted = c.in_ok-answered.ensures.answered ∙ (λ i. answered_count (receipts i) (jobs i)) in
+    let len_is : c.len.result ≡ length c.account.inside.jobs.items = omega (arith, c.len.ensures) in
+    let all = len_is ∙ ap (λ (a : AccountValue). length a.jobs) c.account.view_is in
+    inr (c.requires.last, omega (arith, counted, all, c.if-answered-len.true))
+
 pub returns-in-Sound : goal.returns-in-Sound
-returns-in-Sound c = λ folds.
+returns-in-Sound g c = λ folds.
     let jobs = c.deref-3.ensures.value ∙ ap (λ (a : AccountValue). a.jobs) c.account.view_is in
     let stores = c.deref-in-Sound.ensures.value ∙ ap (λ (g : GatheredValue). g.stores) c.g.view_is in
     let commits = c.count_commits.ensures.commits ∙ ap commit_count (c.deref-in-Sound-2.ensures.value ∙ ap (λ (g : GatheredValue). g.receipts) c.g.view_is) in
     record {
-      is_done = is_done (goal.at.returns-in-Sound c).In_ok-audit;
+      is_done = is_done g (goal.at.returns-in-Sound g c).In_ok-audit;
       sound = subst (λ (p : OpeningValue × List Job). IsVerdict p.0 c.args.g.now p.1 Sound) (λ i. ((c.account.view_is i).opening, jobs i))
           (subst (IsVerdict c.account.inside.opening c.args.g.now c.deref-3.result.now) c.in-Sound.is c.in_ok-audit.ensures);
       families_are =
@@ -48,10 +58,10 @@ returns-in-Sound c = λ folds.
     }
 
 pub returns-in-Unsound : goal.returns-in-Unsound
-returns-in-Unsound c = λ folds.
+returns-in-Unsound g c = λ folds.
     let jobs = c.deref-3.ensures.value ∙ ap (λ (a : AccountValue). a.jobs) c.account.view_is in
     inr (
-      is_done (goal.at.returns-in-Unsound c).In_ok-audit,
+      is_done g (goal.at.returns-in-Unsound g c).In_ok-audit,
       subst (λ (p : OpeningValue × List Job). IsVerdict p.0 c.args.g.now p.1 (Unsound c.in-Unsound.defect)) (λ i. ((c.account.view_is i).opening, jobs i))
           (subst (IsVerdict c.account.inside.opening c.args.g.now c.deref-3.result.now) c.in-Unsound.is c.in_ok-audit.ensures),
     )

@@ -6,13 +6,13 @@ use Rattle.sq_live.proofs.Passing.{goes_on_with}
 use Rattle.sq_live.proofs.stages.go_on.Goals as goal
 
 pub next_ready-requires : goal.next_ready-requires
-next_ready-requires c =
+next_ready-requires g c =
     let continues = subst (Continues c.args.manner.folds c.args.account c.args.gathered) c.in-With.is c.in_ok-account.ensures in
     let goes = goes_on_with c.args.account c.args.gathered c.in-With.account c.in-With.gathered c.args.manner.folds continues c.requires.placed c.requires.done c.requires.left in
     record { pumps = search rules; placed = goes.placed; done = goes.done; left = goes.all_left; led = goes.led c.args.moving c.requires.led }
 
 pub returns-in_ok-ready-in-With : goal.returns-in_ok-ready-in-With
-returns-in_ok-ready-in-With c =
+returns-in_ok-ready-in-With g c =
     let continues = subst (Continues c.args.manner.folds c.args.account c.args.gathered) c.in-With.is c.in_ok-account.ensures in
     let next = c.in-With.gathered in
     let account = c.in_ok-ready-in-With.ensures.account in (
@@ -22,5 +22,5 @@ returns-in_ok-ready-in-With c =
     )
 
 pub returns-in-Unsound : goal.returns-in-Unsound
-returns-in-Unsound c =
+returns-in-Unsound g c =
     (c.in-Unsound.defect, refl, subst (Continues c.args.manner.folds c.args.account c.args.gathered) c.in-Unsound.is c.in_ok-account.ensures)

@@ -60,13 +60,19 @@ go_on-requires g c =
     let gathered = c.in_ok-gathered.gathered in
     let marks = c.moved_segments-moved.result in
     let told = told g (goal.at.go_on-requires g c).After-deref marks c.moved_segments-moved.ensures c.requires.ready.0 c.requires.ready.1 in
-    let led = led_next g (goal.at.go_on-requires g c).In-Next in
-    record {
-      placed = told.ran.placed;
-      done = done_before account moving c.requires.ready.0 gathered marks told c.in-Next.moving led;
-      left = told.ran.all_left;
-      led = leads_next account moving c.requires.ready.0 gathered marks told c.in-Next.moving led;
-    }
+    let led = led_next g (goal.at.go_on-requires g c).In-Next in (
+      c.type_bounds.sync-R,
+      (
+        told.ran.placed,
+        (
+          done_before account moving c.requires.ready.0 gathered marks told c.in-Next.moving led,
+          (
+            told.ran.all_left,
+            leads_next account moving c.requires.ready.0 gathered marks told c.in-Next.moving led,
+          ),
+        ),
+      ),
+    )
 
 pub judge_end-requires : goal.judge_end-requires
 judge_end-requires g c =
@@ -75,13 +81,19 @@ judge_end-requires g c =
     let gathered = c.in_ok-gathered.gathered in
     let marks = c.moved_segments-moved.result in
     let told = told g (goal.at.judge_end-requires g c).After-deref marks c.moved_segments-moved.ensures c.requires.ready.0 c.requires.ready.1 in
-    let led = led_end g (goal.at.judge_end-requires g c).In-Ended in
-    record {
-      moved = told.marks;
-      last = last_stage account moving c.requires.ready.0 gathered marks told led;
-      done = done_at_last account moving c.requires.ready.0 gathered marks told led;
-      ended = has_ended account moving c.requires.ready.0 gathered marks told led;
-    }
+    let led = led_end g (goal.at.judge_end-requires g c).In-Ended in (
+      c.type_bounds.sync-R,
+      (
+        told.marks,
+        (
+          last_stage account moving c.requires.ready.0 gathered marks told led,
+          (
+            done_at_last account moving c.requires.ready.0 gathered marks told led,
+            has_ended account moving c.requires.ready.0 gathered marks told led,
+          ),
+        ),
+      ),
+    )
 
 pub judge_stopped-requires : goal.judge_stopped-requires
 judge_stopped-requires g c =
