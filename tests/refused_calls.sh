@@ -45,7 +45,7 @@ list moves_four_keys 629-678 back begin cut load txn
 vec store 680-698 apply take give
 block store 679-698 apply take give
 nodes none 536-536,545-549,556-567,573-645,654-676,690-690 tree link open job request cut load resume gather
-two_stages none 356-356,404-448,455-461,468-507,544-546,551-566,690-690 open job fold reopen
+two_stages none 356-356,405-485,487-507,545-547,552-567,690-690 open job fold reopen
 TRIES
 }
 
