@@ -7,6 +7,7 @@ ghost use Rattle.sq_waiting.specs.Index.{is_between};
 ghost use Rattle.sq_waiting.specs.Waiting.{WaitingValue, numbers_of, is_on, is_numbered, is_due_from, txn_at, without, numbered_anew, no_number, with_a_number_left, with_last, with_due, IsMoreDue};
 
 use crate::index::{add_between, enter, first_of, strike};
+use crate::keys::{ArrivalNumber, IndexEntry};
 use sq_schema::{Root, Txn};
 use std::alloc::{AllocError, Global};
 use std::collections::{BTreeMap, BTreeSet};
@@ -18,10 +19,10 @@ use std::marker::Model;
 #[derive(Debug, Drop)]
 pub struct Waiting {
     alloc: Global,
-    txns: BTreeMap<u64, Txn>,
-    by_root: BTreeSet<(u64, u64)>,
+    txns: BTreeMap<ArrivalNumber, Txn>,
+    by_root: BTreeSet<IndexEntry>,
     due_below: u64,
-    due: BTreeSet<u64>,
+    due: BTreeSet<ArrivalNumber>,
     next: u64,
 }
 
@@ -88,14 +89,14 @@ impl Waiting {
         ensures rises { IsStrictlyIncreasing (numbers_of self.now.arrivals) }
     {
         if from < self.due_below {
-            let (first, txn) = self.txns.range(from..).next()?;
-            if *first < self.due_below {
-                return Some((*first, txn));
+            let (first, txn) = self.txns.range(ArrivalNumber(from)..).next()?;
+            if first.0 < self.due_below {
+                return Some((first.0, txn));
             }
         }
-        let number = self.due.range(from..).next()?;
+        let number = self.due.range(ArrivalNumber(from)..).next()?;
         match self.txns.get(number) {
-            Some(txn) => Some((*number, txn)),
+            Some(txn) => Some((number.0, txn)),
             None => None,
         }
     }
@@ -106,7 +107,7 @@ impl Waiting {
         ensures txn { Some result.now ≡ txn_at self.now.arrivals number }
         ensures rises { IsStrictlyIncreasing (numbers_of self.now.arrivals) }
     {
-        match self.txns.get(&number) {
+        match self.txns.get(&ArrivalNumber(number)) {
             Some(txn) => txn,
             None => unreachable!(),
         }
@@ -118,7 +119,7 @@ impl Waiting {
         ensures txn { Some result ≡ txn_at self.old.arrivals number }
         ensures rest { self.new ≡ record self.old { arrivals = without number self.old.arrivals } }
     {
-        let Some(txn) = self.txns.remove(&number) else {
+        let Some(txn) = self.txns.remove(&ArrivalNumber(number)) else {
             unreachable!()
         };
         let root = txn.root().number();
@@ -167,7 +168,7 @@ impl Waiting {
         let number = self.next;
         let root = txn.root().number();
         enter(&mut self.by_root, &mut self.due, root, number, is_due)?;
-        match self.txns.insert(number, txn) {
+        match self.txns.insert(ArrivalNumber(number), txn) {
             Ok(_) => {
                 self.next = number + 1;
                 Ok(())
@@ -186,7 +187,7 @@ impl Waiting {
     {
         let mut anew = Waiting::new(self.alloc, 0);
         for (number, txn) in &self.txns {
-            let is_due = *number < self.due_below || self.due.contains(number);
+            let is_due = number.0 < self.due_below || self.due.contains(number);
             anew.add(txn.clone()?, is_due)?;
         }
         Ok(anew)

@@ -1,4 +1,4 @@
-use Rattle.std.proofs.Common.{◌+◌, sym, subst}
+use Rattle.std.proofs.Common.{ℕ, ◌+◌, Some, sym, ap, subst}
 use Rattle.std.specs.BTreeSet.{IsKeyRangeOf}
 use Rattle.std.specs.declared.ops.Bound.TheVariants.{Included, Excluded}
 use Rattle.sq_waiting.specs.Index.{entry_cmp, FirstOf}
@@ -14,4 +14,5 @@ returns-in_err-entry c =
 pub returns : goal.returns
 returns c =
     let root = c.args.root in
-    first_in_range c.args.by_root.now root (c.in_ok-entry.entry).now c.next.new.self (subst (IsKeyRangeOf entry_cmp (Included (root, 0)) (Excluded (root + 1, 0)) c.args.by_root.now) c.in_ok-entry.ensures.steps (c.range.ensures.in_range tt))
+    subst (λ number. FirstOf c.args.by_root.now root (Some number)) (sym (ap (λ (e : ℕ × ℕ). e.1) c.entry.view_is))
+    (first_in_range c.args.by_root.now root (c.in_ok-entry.entry).now c.next.new.self (subst (IsKeyRangeOf entry_cmp (Included (root, 0)) (Excluded (root + 1, 0)) c.args.by_root.now) c.in_ok-entry.ensures.steps (c.range.ensures.in_range tt)))

@@ -1,5 +1,5 @@
-use Rattle.std.proofs.Common.{ℕ, arith, refl, Option, sym, ap, subst, ◌∙◌}
-use Rattle.std.specs.Prelude.{◌≤◌, find, is_some, IsSome, option_map}
+use Rattle.std.proofs.Common.{ℕ, arith, refl, Option, Some, sym, ap, subst, ◌∙◌}
+use Rattle.std.specs.Prelude.{◌<◌, ◌≤◌, find, is_some, IsSome, option_map}
 use Rattle.std.specs.Ordering.{nat_cmp}
 use Rattle.std.specs.List.Sorted.{IsStrictlyIncreasing}
 use Rattle.std.specs.BTreeMap as tree
@@ -18,6 +18,9 @@ use Rattle.sq_waiting.proofs.waiting.Waiting.next_due.Goals.{After-range-2, then
 abbrev found_of : Option Arrival → Option (ℕ × TxnValue)
 found_of read = option_map {U = ℕ × TxnValue} (λ a. (a.number, a.txn)) read
 
+abbrev found_at : TxnValue → ℕ → Option (ℕ × TxnValue)
+found_at txn number = Some (number, txn)
+
 pub returns-in_err-first-clause-due : goal.returns-in_err-first-clause-due
 returns-in_err-first-clause-due c =
     let from = c.args.from in
@@ -34,8 +37,10 @@ returns-then-first-self-clause-due c =
     let from = c.args.from in
     let number : ℕ = (c.in_ok-first.first).now in
     let some = subst (IsRangeOf nat_cmp (Included from) Unbounded c.self.inside.txns) c.in_ok-first.ensures.steps (c.range.ensures.in_range tt) in
-    sym (ap found_of (first_below c.self.inside.txns c.self.inside.by_root c.self.inside.due c.self.inside.due_below c.self.inside.next c.self.invariant from number (c.in_ok-first.txn).now
-    (le_from_not_gt from number some.1.0.0) c.if-first-self.true (λ q upto there. le_from_not_gt number q (some.2 q (upto_from_le from q upto, tt) there)) some.1.1))
+    let below : number < c.self.inside.due_below = omega (arith, c.if-first-self.true, c.first.view_is) in
+    ap (found_at (c.in_ok-first.txn).now) c.first.view_is
+    ∙ sym (ap found_of (first_below c.self.inside.txns c.self.inside.by_root c.self.inside.due c.self.inside.due_below c.self.inside.next c.self.invariant from number (c.in_ok-first.txn).now
+    (le_from_not_gt from number some.1.0.0) below (λ q upto there. le_from_not_gt number q (some.2 q (upto_from_le from q upto, tt) there)) some.1.1))
     ∙ ap (λ (w : WaitingValue). found_of (find (is_due_from from) w.arrivals)) c.self.view_is
 
 pub returns-then-first-self-clause-rises : goal.returns-then-first-self-clause-rises
@@ -70,7 +75,8 @@ returns-in-Some-clause-due c =
     let from = c.args.from in
     let number : ℕ = (c.in_ok-number.number).now in
     let some = subst (IsKeyRangeOf nat_cmp (Included from) Unbounded c.self.inside.due) c.in_ok-number.ensures.steps (c.range-2.ensures.in_range tt) in
-    sym (ap found_of (first_due c.self.inside.txns c.self.inside.by_root c.self.inside.due c.self.inside.due_below c.self.inside.next c.self.invariant from
+    ap (found_at (c.in-Some.txn).now) c.number.view_is
+    ∙ sym (ap found_of (first_due c.self.inside.txns c.self.inside.by_root c.self.inside.due c.self.inside.due_below c.self.inside.next c.self.invariant from
     (past (goal.at.returns-in-Some-clause-due c).After-range-2)
     number (c.in-Some.txn).now
     (le_from_not_gt from number some.1.0.0) some.1.1 (λ q upto here. le_from_not_gt number q (some.2 q (upto_from_le from q upto, tt) here)) (sym c.in-Some.ensures.value)))

@@ -1,4 +1,4 @@
-use Rattle.std.proofs.Common.{◌≡◌, ◌||◌, ℕ, Bor, ◌∷◌, [], map, length, sym, ap, ◌∙◌}
+use Rattle.std.proofs.Common.{◌≡◌, ◌||◌, ℕ, Bor, ◌∷◌, [], map, length, sym, ap, ◌∙◌, arith}
 use Rattle.std.specs.Ordering.{nat_cmp}
 use Rattle.std.specs.BTreeSet as set
 use Rattle.std.specs.Map.Iter.{deref_pair}
@@ -19,8 +19,8 @@ loop-number-preserved c =
     let item : Bor ℕ × Bor TxnValue = (c.in-Some.number, c.in-Some.txn) in
     let is_due : c.if-number-self.is_due ≡ is_due_in below due item.0.now =
     elim c.if-number-self.branch [
-      | then-number-self w ↦ let here = lt-ltb item.0.now below w.if-number-self.true in w.is_due-is ∙ here ∙ sym (ap (λ b. b || set.contains nat_cmp due item.0.now) here)
-      | else-number-self w ↦ w.is_due-is ∙ w.contains-is_due.ensures ∙ sym (ap (λ b. b || set.contains nat_cmp due item.0.now) (le-ltb item.0.now below w.if-number-self.false))
+      | then-number-self w ↦ w.is_due-is ∙ lt-ltb c.number.inside.0 below w.if-number-self.true ∙ sym (ap (λ b. b || set.contains nat_cmp due item.0.now) (lt-ltb item.0.now below (omega (arith, w.if-number-self.true, c.number.view_is))))
+      | else-number-self w ↦ w.is_due-is ∙ w.contains-is_due.ensures ∙ sym (ap (λ b. b || set.contains nat_cmp due item.0.now) (le-ltb item.0.now below (omega (arith, w.if-number-self.false, c.number.view_is))))
     ] in
     c.in_ok-add.ensures.ok ∙ (λ k. with_last (c.loop-number.invariant k) (c.in_ok-clone.ensures.cases k) (is_due k))
     ∙ numbered_more (map deref_pair yielded) (is_due_in below due) (deref_pair item) (length yielded) (sym (length-map yielded deref_pair))
