@@ -26,7 +26,7 @@ module _ (families : List FamilyValue) (rising : roots_rise families ≡ true) w
       let is : IsRootAt families (get_or families k d).root k = record { within = within; here = λ e. ap (λ f. f.root) (get_or_default families k e d within) } in
       get_at families (get_or families k d).root k d rising is
 
-  sized : (k : ℕ) (d : FamilyValue) → k < length families → stored_size (store_of families) (get_or families k d).root ≡ family_size (get_or families k d)
+  pub sized : (k : ℕ) (d : FamilyValue) → k < length families → stored_size (store_of families) (get_or families k d).root ≡ family_size (get_or families k d)
   sized k d within = ap (λ found. family_size (unwrap_or found (absent (get_or families k d).root))) (stands k d within)
 
 -- what a chunk takes of a store, where it ends, and the families that are left

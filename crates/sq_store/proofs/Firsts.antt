@@ -9,7 +9,6 @@ use Rattle.sq_schema.specs.Family.{FamilyValue}
 use Rattle.sq_store.specs.StoreValue.{StoreValue, family_in, families_between, without_between}
 use Rattle.sq_store.specs.InOrder.{families_in, family_from, HoldsByRoot}
 use Rattle.sq_store.specs.Listed.{roots_rise}
-use Rattle.sq_store.specs.Merging.{IsFirstTaken}
 use Rattle.sq_store.specs.First.{IsFirst}
 use Rattle.sq_store.proofs.Order.{is_below, first_rises, less_from_cmp}
 use Rattle.sq_store.proofs.Lists.{values-entries_of}
@@ -17,10 +16,11 @@ use Rattle.sq_store.proofs.Spans.{filter-entries_of}
 use Rattle.sq_store.proofs.Keys.{same_store, get-remove_same, get-remove_other}
 use Rattle.sq_store.proofs.Between.{rooted_by, entries-rooted, sorted_is, is_between, family_in-between, kept, entries_between, get-without}
 
-rising_in : (store : StoreValue) → HoldsByRoot store → roots_rise (families_in store) ≡ true
+-- the families of a store rise
+pub rising_in : (store : StoreValue) → HoldsByRoot store → roots_rise (families_in store) ≡ true
 rising_in store by = ap (is_sorted nat_cmp) (sym (entries-rooted store (rooted_by store by))) ∙ sorted_is store
 
-between_in : (store : StoreValue) (lo hi : ℕ) → HoldsByRoot store → families_between store lo hi ≡ filter (λ family. is_between lo hi family.root) (families_in store)
+pub between_in : (store : StoreValue) (lo hi : ℕ) → HoldsByRoot store → families_between store lo hi ≡ filter (λ family. is_between lo hi family.root) (families_in store)
 between_in store lo hi by =
     ap (λ es. map (λ entry. entry.1) (filter (λ entry. is_between lo hi entry.0) es)) (entries-rooted store (rooted_by store by))
     ∙ ap (map (λ entry. entry.1)) (filter-entries_of (is_between lo hi) (families_in store))
@@ -195,18 +195,13 @@ module _ (store : StoreValue) (lo hi : ℕ) (family : FamilyValue) (first : IsFi
       (cases_eq root family.root))
       (cases_lt root family.root)
 
-  left_between : families_between (remove store family.root) lo hi ≡ families_between store (family.root + 1) hi
+  pub left_between : families_between (remove store family.root) lo hi ≡ families_between store (family.root + 1) hi
   left_between =
       sym (entries_between lo hi (remove store family.root))
       ∙ ap (λ s. map (λ entry. entry.1) (entries s))
       (same_store (retain_keys (remove store family.root) (is_between lo hi)) (retain_keys store (is_between (family.root + 1) hi)) (λ root.
       kept lo hi (remove store family.root) root ∙ left_at root ∙ sym (kept (family.root + 1) hi store root)))
       ∙ entries_between (family.root + 1) hi store
-
-  pub popped_first : IsFirstTaken (families_between store lo hi) (get store family.root) (families_between (remove store family.root) lo hi)
-  popped_first =
-      let all = first.next hi first.below in
-      rw (all, first.stands) (refl, left_between)
 
   pub without_first : without_between (remove store family.root) lo hi ≡ without_between store lo hi
   without_first =
@@ -216,8 +211,3 @@ module _ (store : StoreValue) (lo hi : ℕ) (family : FamilyValue) (first : IsFi
       by_test : (root : ℕ) (b : Bool) → is_between lo hi root ≡ b → cond b None (get (remove store family.root) root) ≡ cond b None (get store root)
       by_test root true inside = refl
       by_test root false outside = get-remove_other store family.root root (λ same. true≢false (sym (ap (is_between lo hi) same ∙ between_from lo hi family.root first.from first.below) ∙ outside))
-
--- where none is taken none is left
-pub popped_none : (families after : List FamilyValue) → IsFirstTaken families None after → after ≡ []
-popped_none [] after popped = popped.1
-popped_none (family ∷ families) after popped = let both : None ≡ Some family = popped.0 in absurd (cc)

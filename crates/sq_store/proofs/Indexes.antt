@@ -1,31 +1,27 @@
 -- A slab of families with its index, and the store that they are.
-use Rattle.std.proofs.Common.{⊎_elim, ◌≡◌, ℕ, true, false, List, [], ◌∷◌, refl, sym, ap, subst, ◌∙◌, arith}
-use Rattle.std.specs.Prelude.{◌≢◌, ◌==◌, ◌<◌, ◌≤◌, ◌&&◌, All, nat_le, map, filter, find as find_in, slice_get, length, cond, unwrap_or, Option, Some, None, option_map}
-use Rattle.std.specs.Ordering.{nat_cmp, is_eq, is_lt, is_le}
+use Rattle.std.proofs.Common.{⊎_elim, ◌≡◌, ℕ, true, false, List, [], ◌∷◌, refl, sym, ap, subst, ◌∙◌}
+use Rattle.std.specs.Prelude.{◌≢◌, ◌<◌, All, map, length, cond, unwrap_or, Option, Some, None, option_map}
+use Rattle.std.specs.Ordering.{nat_cmp, is_eq, is_lt}
 use Rattle.std.specs.Cmp.{nat_cmp_total, unsigned_tied}
 use Rattle.std.specs.FinMap.{get, insert, remove, len, entries, from_entries, from_sorted, get-from_entries, get-from_sorted, entries-from_sorted, len-entries, is_sorted}
 use Rattle.std.specs.FinMap.Entries.{find, below_all}
 use Rattle.std.specs.List.{AllByRecursion}
 use Rattle.std.specs.List.Sorted.{IsStrictlySortedBy}
-use Rattle.std.specs.declared.cmp.Ordering.TheVariants.{Less, Equal, Greater}
-use Rattle.std.specs.declared.ops.Bound.TheVariants.{Included, Unbounded}
-use Rattle.std.specs.BTreeMap.Range.{range_contains}
+use Rattle.std.specs.declared.cmp.Ordering.TheVariants.{Less}
 use Rattle.std.specs.Map.{lookup, keys_of}
 use Rattle.std.specs.BTreeMap as tree
 use Rattle.std.specs.BTreeMap.{BTreeMap, IsOrdered, is_at}
-use Rattle.std.proofs.lemmas.Bool.{and_from, cases_eq, cases_lt, eq-eqb, ne_eqb, le-leb, lt-leb, le-ltb}
+use Rattle.std.proofs.lemmas.Bool.{and_from, cases_eq, eq-eqb, ne_eqb}
 use Rattle.std.proofs.lemmas.Float.{T_from_true}
 use Rattle.std.proofs.lemmas.List.{length-map}
-use Rattle.std.proofs.lemmas.List.Elements.{All-head, All-tail}
 use Rattle.std.proofs.lemmas.Map.Views.{All-found}
 use Rattle.slab.specs.Slab as slab
 use Rattle.slab.specs.Slab.{Slab, Updates}
 use Rattle.sq_schema.specs.declared.root.TheConstants.{ROOT_END}
 use Rattle.sq_schema.specs.Family.{FamilyValue}
 use Rattle.sq_store.specs.StoreValue.{StoreValue, absent}
-use Rattle.sq_store.specs.InOrder.{family_from, HoldsByRoot}
-use Rattle.sq_store.specs.Indexed.{family_under, indexed, IsLed, IsIndex}
-use Rattle.sq_store.proofs.Order.{cmp_less, cmp_greater}
+use Rattle.sq_store.specs.InOrder.{families_in, HoldsByRoot}
+use Rattle.sq_store.specs.Indexed.{family_under, families_under, indexed, IsLed, IsIndex}
 use Rattle.sq_store.proofs.Leading.{LeadsTo, leads_written, holds_written}
 use Rattle.sq_store.proofs.Keys.{same_store, at_key, get-remove_same, get-remove_other}
 
@@ -272,66 +268,12 @@ families_through : (f : ℕ → FamilyValue) (es : List (ℕ × ℕ)) → map (�
 families_through f [] = refl
 families_through f (e ∷ es) = ap (λ fs. f e.1 ∷ fs) (families_through f es)
 
-le_upto : (x y : ℕ) → x ≤ y → is_le (nat_cmp x y) ≡ true
-le_upto x y upto =
-    ⊎_elim
-    (λ (same : x ≡ y). ap (λ k. is_le (nat_cmp x k)) (sym same) ∙ ap (λ b. is_le (cond b Less (cond (x == x) Equal Greater))) (le-ltb x x (omega arith)) ∙ ap (λ b. is_le (cond b Equal Greater)) (eq-eqb x x refl))
-    (λ (apart : x ≢ y). ap is_le (cmp_less x y (omega (arith, upto, apart))))
-    (cases_eq x y)
+pub families_in-indexed : (families : Slab FamilyValue) (index : BTreeMap ℕ ℕ) → IsIndex families index → families_in (indexed families index) ≡ families_under families index.entries
+families_in-indexed families index is = ap (map (λ (entry : ℕ × FamilyValue). entry.1)) (entries-indexed families index is.ordered) ∙ families_through (family_under families) index.entries
 
--- the first family from a bound on is that of the first entry
-found_from : (f : ℕ → FamilyValue) (at : ℕ) (es : List (ℕ × ℕ)) → All (λ e. (f e.1).root ≡ e.0) es
-    → find_in (λ family. nat_le at family.root) (map (λ e. f e.1) es) ≡ option_map (λ e. f e.1) (slice_get (filter (λ e. range_contains nat_cmp (Included at) Unbounded e.0) es) 0)
-found_from f at [] rooted = refl
-found_from f at (e ∷ es) rooted =
-    let root : (f e.1).root ≡ e.0 = All-head (λ (x : ℕ × ℕ). (f x.1).root ≡ x.0) e es rooted in
-    let rest = found_from f at es (All-tail (λ (x : ℕ × ℕ). (f x.1).root ≡ x.0) e es rooted) in
-    let inside = filter (λ (x : ℕ × ℕ). range_contains nat_cmp (Included at) Unbounded x.0) es in
-    let later = find_in (λ (family : FamilyValue). nat_le at family.root) (map (λ x. f x.1) es) in
-    ⊎_elim
-    (λ (low : e.0 < at).
-    ap (λ b. cond b (Some (f e.1)) later) (lt-leb at (f e.1).root (omega (arith, root, low))) ∙ rest
-    ∙ sym (ap (λ b. option_map (λ (x : ℕ × ℕ). f x.1) (slice_get (cond (b && true) (e ∷ inside) inside) 0)) (ap is_le (cmp_greater at e.0 low))))
-    (λ (from : at ≤ e.0).
-    ap (λ b. cond b (Some (f e.1)) later) (le-leb at (f e.1).root (omega (arith, root, from)))
-    ∙ sym (ap (λ b. option_map (λ (x : ℕ × ℕ). f x.1) (slice_get (cond (b && true) (e ∷ inside) inside) 0)) (le_upto at e.0 from)))
-    (cases_lt e.0 at)
-
-module _ (families : Slab FamilyValue) (index : BTreeMap ℕ ℕ) (is : IsIndex families index) (at : ℕ) where
-  walked : family_from (indexed families index) at ≡ option_map (λ e. family_under families e.1) (slice_get (filter (λ e. range_contains nat_cmp (Included at) Unbounded e.0) index.entries) 0)
-  walked =
-      let rooted : All (λ e. (family_under families e.1).root ≡ e.0) index.entries = λ k d within.
-      let found = All-found nat_cmp_total index is.ordered k d within in
-      let led = is.leads _ _ found in
-      ap (λ o. (unwrap_or o (absent 0)).root) led.stands ∙ led.own in
-      ap (find_in (λ family. nat_le at family.root)) (ap (map (λ (entry : ℕ × FamilyValue). entry.1)) (entries-indexed families index is.ordered) ∙ families_through (family_under families) index.entries)
-      ∙ found_from (family_under families) at index.entries rooted
-
-  pub walked_some : (root key : ℕ) (rest : List (ℕ × ℕ)) → filter (λ e. range_contains nat_cmp (Included at) Unbounded e.0) index.entries ≡ (root, key) ∷ rest → tree.get nat_cmp index root ≡ Some key
-      → family_from (indexed families index) at ≡ slab.get families key
-  walked_some root key rest first found =
-      let led = is.leads root key found in
-      walked ∙ ap (λ es. option_map (λ (e : ℕ × ℕ). family_under families e.1) (slice_get es 0)) first
-      ∙ ap (λ o. Some (unwrap_or o (absent 0))) led.stands ∙ sym led.stands
-
-  pub walked_none : filter (λ e. range_contains nat_cmp (Included at) Unbounded e.0) index.entries ≡ [] → family_from (indexed families index) at ≡ None
-  walked_none none = walked ∙ ap (λ es. option_map (λ (e : ℕ × ℕ). family_under families e.1) (slice_get es 0)) none
-
--- no family is found from a root key on to which none leads
-found_none : (f : ℕ → FamilyValue) (at : ℕ) (es : List (ℕ × ℕ)) → All (λ e. (f e.1).root < at) es → find_in (λ family. nat_le at family.root) (map (λ e. f e.1) es) ≡ None
-found_none f at [] below = refl
-found_none f at (e ∷ es) below =
-    let low : (f e.1).root < at = All-head (λ (x : ℕ × ℕ). (f x.1).root < at) e es below in
-    let later = find_in (λ (family : FamilyValue). nat_le at family.root) (map (λ x. f x.1) es) in
-    ap (λ b. cond b (Some (f e.1)) later) (lt-leb at (f e.1).root low) ∙ found_none f at es (All-tail (λ (x : ℕ × ℕ). (f x.1).root < at) e es below)
-
--- no family is found from the end of the root keys on
-pub walked_beyond : (families : Slab FamilyValue) (index : BTreeMap ℕ ℕ) (is : IsIndex families index) (at : ℕ) → ROOT_END ≤ at → family_from (indexed families index) at ≡ None
-walked_beyond families index is at beyond =
-    let below : All (λ e. (family_under families e.1).root < at) index.entries = λ k d within.
+-- each entry's family has the entry's root key, which is one
+pub entry_roots : (families : Slab FamilyValue) (index : BTreeMap ℕ ℕ) → IsIndex families index → All (λ e. ((family_under families e.1).root ≡ e.0) × (e.0 < ROOT_END)) index.entries
+entry_roots families index is k d within =
     let found = All-found nat_cmp_total index is.ordered k d within in
     let led = is.leads _ _ found in
-    let own = ap (λ o. (unwrap_or o (absent 0)).root) led.stands ∙ led.own in
-    omega (arith, own, beyond, is.bound _ _ found) in
-    ap (find_in (λ family. nat_le at family.root)) (ap (map (λ (entry : ℕ × FamilyValue). entry.1)) (entries-indexed families index is.ordered) ∙ families_through (family_under families) index.entries)
-    ∙ found_none (family_under families) at index.entries below
+    (ap (λ o. (unwrap_or o (absent 0)).root) led.stands ∙ led.own, is.bound _ _ found)

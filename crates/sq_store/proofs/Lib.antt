@@ -16,8 +16,11 @@ pub mod Fullest
 pub mod Keys
 pub mod Firsts
 pub mod Walks
+pub mod Takes
+pub mod Chunks
 pub mod Leading
 pub mod Indexes
+pub mod Iterations
 pub mod Filled
 pub mod Suffixes
 pub mod Opened

@@ -71,7 +71,7 @@ filter-entries_of p (family ∷ families) =
     ]
 
 -- the store without the root keys that fail a test
-kept : (p : ℕ → Bool) (families : List FamilyValue) → roots_rise families ≡ true → IsListed (retain_keys (store_of families) p) (filter (λ family. p family.root) families)
+pub kept : (p : ℕ → Bool) (families : List FamilyValue) → roots_rise families ≡ true → IsListed (retain_keys (store_of families) p) (filter (λ family. p family.root) families)
 kept p families rising =
     let alike : (q x : ℕ) → nat_cmp q x ≡ Equal → p x ≡ p q = λ q x tied. ap p (sym (nat_cmp-IsAntisymmetric q x tied)) in
     let left = filter (λ family. p family.root) families in

@@ -1,5 +1,5 @@
 -- A store as a slab of families with an index from root keys to keys of the slab.
-use Rattle.std.specs.Prelude.{◌≡◌, ◌<◌, ℕ, map, unwrap_or, Some}
+use Rattle.std.specs.Prelude.{◌≡◌, ◌<◌, ℕ, List, map, unwrap_or, Some, All}
 use Rattle.std.specs.Ordering.{nat_cmp}
 use Rattle.std.specs.FinMap.{from_entries}
 use Rattle.std.specs.BTreeMap as tree
@@ -30,3 +30,11 @@ pub record IsIndex (families : Slab FamilyValue) (index : BTreeMap ℕ ℕ) : Ty
   pub has : (key : ℕ) (family : FamilyValue) → slab.get families key ≡ Some family → tree.get nat_cmp index family.root ≡ Some key
   pub bound : (root key : ℕ) → tree.get nat_cmp index root ≡ Some key → root < ROOT_END
   pub ordered : IsOrdered nat_cmp index
+
+-- the families that entries of an index lead to
+abbrev pub families_under : Slab FamilyValue → List (ℕ × ℕ) → List FamilyValue
+families_under families entries = map (λ entry. family_under families entry.1) entries
+
+-- each of the entries leads to a family of its root key
+abbrev pub AreLed : Slab FamilyValue → List (ℕ × ℕ) → Type 0
+AreLed families entries = All (λ entry. IsLed families entry.0 entry.1) entries

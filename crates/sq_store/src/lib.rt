@@ -2,6 +2,7 @@
 #![tactic(auto)]
 
 mod command;
+mod family_iter;
 pub mod laws;
 mod merge;
 mod owned;
@@ -12,6 +13,7 @@ mod store;
 mod vec_store;
 
 pub use command::{StoreAnswer, StoreCommand};
+pub use family_iter::FamilyIter;
 pub use run::run_store;
 pub use slab_store::SlabStore;
 pub use store::{Cut, FamilyStore};

@@ -1,17 +1,17 @@
 // Families in a slab, with an index by root key.
-ghost use Rattle.std.specs.Prelude.{◌≡◌, ◌==◌, ◌+◌, ◌++◌, ◌<◌, ◌≤◌, ℕ, List, [], length, map, vec_len, vec_capacity, Some, None, option_copied, IsTrue, IfOk, IfErr, OnOk, OnErr};
+ghost use Rattle.std.specs.Prelude.{◌≡◌, ◌==◌, ◌+◌, ◌-◌, ◌++◌, ◌||◌, ◌<◌, ◌≤◌, ℕ, List, [], nat_le, if◌then◌else◌, length, vec_len, vec_capacity, Some, None, unwrap_or, IsTrue, IfOk, IfErr, OnOk, OnErr};
 ghost use Rattle.std.specs.FinMap.{get, insert, remove, len, empty};
 ghost use Rattle.std.specs.Ordering.{nat_cmp};
 ghost use Rattle.std.specs.BTreeMap.{IsFromIterResult};
 ghost use Rattle.sq_schema.specs.Prelude.{FamilyValue, folded};
-ghost use Rattle.sq_schema.specs.declared.root.TheConstants.{ROOT_END};
-ghost use Rattle.sq_ranges.specs.Prelude.{end_within};
-ghost use Rattle.sq_store.specs.StoreValue.{StoreValue, store_reply, store_after, stored_size, take_end, families_between, without_between, with_families, folded_store, roots_differ, has_none_of};
-ghost use Rattle.sq_store.specs.InOrder.{AreKeyed, HoldsByRoot};
-ghost use Rattle.sq_store.specs.Merging.{IsFirstTaken};
-ghost use Rattle.sq_store.specs.First.{FirstIs};
+ghost use Rattle.sq_store.specs.StoreValue.{StoreValue, store_reply, store_after, families_between, without_between, with_families, folded_store, roots_differ, has_none_of};
+ghost use Rattle.sq_store.specs.InOrder.{families_in, families_from, AreKeyed, HoldsByRoot};
+ghost use Rattle.sq_store.specs.Listed.{roots_rise};
+ghost use Rattle.sq_store.specs.Counting.{IsChunkOfList};
+ghost use Rattle.sq_store.specs.Cut.{roots_between, IsChunkOfStore};
 ghost use Rattle.sq_store.specs.PutIn.{IsPutIn};
 
+use crate::family_iter::FamilyIter;
 use crate::sorted::put_last;
 use crate::store::{Cut, FamilyStore};
 use slab::Slab;
@@ -73,6 +73,25 @@ impl SlabStore {
         self.len() == 0
     }
 
+    /// The families by rising root key.
+    pub fn families(&self) -> FamilyIter<'_>
+        ensures families { result ≡ families_in self.now }
+        ensures rooted { HoldsByRoot self.now }
+    {
+        FamilyIter::new(&self.families, self.index.range(..))
+    }
+
+    // The families of the root keys from this number on, by rising root key; `None` from `ROOT_END` on.
+    fn families_from(&self, at: u64) -> Option<FamilyIter<'_>>
+        ensures families { unwrap_or result [] ≡ families_from self.now at }
+        ensures rise { IsTrue (roots_rise (unwrap_or result [])) }
+        ensures rooted { HoldsByRoot self.now }
+    {
+        let index = &self.index;
+        let from = Root::new(at)?;
+        Some(FamilyIter::new(&self.families, index.range(from..)))
+    }
+
     // Puts a family in. Where there is no memory it comes back.
     fn insert(&mut self, family: Family) -> Result<(), Family>
         requires { get self.old family.root ≡ None }
@@ -99,6 +118,7 @@ impl SlabStore {
     fn remove(&mut self, root: Root) -> Option<Family>
         ensures family { result ≡ get self.old root }
         ensures store { self.new ≡ remove self.old root }
+        ensures rooted { HoldsByRoot self.old }
     {
         match self.index.remove(&root) {
             Some(key) => Some(self.families.remove(key)),
@@ -140,80 +160,32 @@ impl SlabStore {
         }
     }
 
-    // The first family from one root key on and below another.
-    fn first(&self, lo: u64, hi: u64) -> Option<&Family>
-        ensures first { FirstIs self.now lo hi (option_copied result) }
+    // The root keys of the families of an extent that a chunk of this size takes, and where it ends.
+    fn cut(&self, extent: Extent, limit: u64) -> Result<(Vec<Root>, u64), AllocError>
+        ensures chunk { IfOk result (λ cut.
+            IsChunkOfStore self.now extent.lo extent.hi limit cut.0.items cut.1) }
         ensures rooted { HoldsByRoot self.now }
     {
-        let family = self.walk(lo)?;
-        if family.root().number() < hi {
-            Some(family)
-        } else {
-            None
+        match self.families_from(extent.lo) {
+            Some(families) => list_chunk(self.alloc, families, extent.hi, limit),
+            None => Ok((Vec::new(self.alloc), extent.hi)),
         }
     }
 
-    // How many families from one root key on and below another fit into this many bytes, and where they end.
-    fn fit(&self, lo: u64, hi: u64, room: u64) -> (usize, u64)
-        requires { lo ≤ hi }
-        ensures end { result.1
-            ≡ end_within (stored_size self.now) hi room (map (λ family. family.root) (families_between self.now lo hi)) }
-        ensures count { result.0 ≡ length (families_between self.now lo result.1) }
-        ensures bound { result.0 ≤ ROOT_END }
-        ensures from { lo ≤ result.1 }
-        ensures upto { result.1 ≤ hi }
-    {
-        let mut at = lo;
-        let mut left = room;
-        let mut count = 0;
-        while let Some(family) = self.first(at, hi) {
-            let root = family.root().number();
-            match left.checked_sub(family.size()) {
-                Some(rest) => left = rest,
-                None => return (count, root),
-            }
-            count += 1;
-            at = root + 1;
-        }
-        (count, hi)
-    }
-
-    // How many families of an extent a chunk of this size takes, and where it ends.
-    fn cut(&self, extent: Extent, limit: u64) -> (usize, u64)
-        ensures end { result.1 ≡ take_end self.now extent.lo extent.hi limit }
-        ensures count { result.0 ≡ length (families_between self.now extent.lo result.1) }
-        ensures from { extent.lo ≤ extent.hi → extent.lo ≤ result.1 }
-        ensures upto { result.1 ≤ extent.hi }
-        ensures rooted { HoldsByRoot self.now }
-    {
-        let Some(family) = self.first(extent.lo, extent.hi) else {
-            return (0, extent.hi);
-        };
-        let next = family.root().number() + 1;
-        let room = limit.saturating_sub(family.size());
-        let (count, end) = self.fit(next, extent.hi, room);
-        (count + 1, end)
-    }
-
-    // Takes the first family from one root key on and below another out.
-    fn take_first(&mut self, lo: u64, hi: u64) -> Option<Family>
-        ensures family { IsFirstTaken (families_between self.old lo hi) result (families_between self.new lo hi) }
-        ensures rest { without_between self.new lo hi ≡ without_between self.old lo hi }
-    {
-        let root = self.first(lo, hi)?.root();
-        self.remove(root)
-    }
-
-    // Takes the families from one root key on and below another out, and puts them after those that are there. There
-    // is room for them.
-    fn take_between(&mut self, lo: u64, hi: u64, taken: &mut Vec<Family>)
-        requires { vec_len taken.old + length (families_between self.old lo hi) ≤ vec_capacity taken.old }
-        ensures taken { taken.new.items ≡ taken.old.items ++ families_between self.old lo hi }
-        ensures store { self.new ≡ without_between self.old lo hi }
+    // Takes the families of these root keys out, which are all from one number on and below another, and puts them
+    // after those that are there. There is room for them.
+    fn take_listed(&mut self, roots: &[Root], taken: &mut Vec<Family>)
+        requires { vec_len taken.old + length roots.now ≤ vec_capacity taken.old }
+        ensures taken { (lo hi : ℕ) → roots.now ≡ roots_between self.old lo hi
+            → taken.new.items ≡ taken.old.items ++ families_between self.old lo hi }
+        ensures store { (lo hi : ℕ) → roots.now ≡ roots_between self.old lo hi
+            → self.new ≡ without_between self.old lo hi }
         ensures keyed { AreKeyed taken.old.items → AreKeyed taken.new.items }
     {
-        while let Some(family) = self.take_first(lo, hi) {
-            put_last(taken, family);
+        for root in roots {
+            if let Some(family) = self.remove(*root) {
+                put_last(taken, family);
+            }
         }
     }
 
@@ -255,6 +227,43 @@ impl SlabStore {
     }
 }
 
+// The root keys of the families below a bound that a chunk of this size takes, and where it ends.
+fn list_chunk(
+    alloc: Global,
+    families: FamilyIter<'_>,
+    hi: u64,
+    limit: u64,
+) -> Result<(Vec<Root>, u64), AllocError>
+    requires { IsTrue (roots_rise families) }
+    ensures { IfOk result (λ cut. IsChunkOfList hi limit families.entry cut.0.items cut.1) }
+{
+    let mut roots = Vec::new(alloc);
+    let mut room = limit;
+    for family in families {
+        let root = family.root();
+        if root.number() >= hi {
+            return Ok((roots, hi));
+        }
+        let Some(left) = room_left(room, family.size(), roots.is_empty()) else {
+            return Ok((roots, root.number()));
+        };
+        room = left;
+        roots.push(root)?;
+    }
+    Ok((roots, hi))
+}
+
+// The room that a family of this size leaves if it fits. The first fits into any room.
+fn room_left(room: u64, size: u64, is_first: bool) -> Option<u64>
+    ensures { result ≡ (if is_first || nat_le size room then Some (room - size) else None) }
+{
+    if is_first {
+        Some(room.saturating_sub(size))
+    } else {
+        room.checked_sub(size)
+    }
+}
+
 // The index of these entries.
 fn index_of(alloc: Global, keys: &[(Root, usize)]) -> Result<BTreeMap<Root, usize>, AllocError>
     ensures { IfOk result (IsFromIterResult nat_cmp keys.now) }
@@ -273,12 +282,8 @@ impl FamilyStore for SlabStore {
     }
 
     fn walk(&self, at: u64) -> Option<&Family> {
-        let index = &self.index;
-        let from = Root::new(at)?;
-        match index.range(from..).next() {
-            Some((_, key)) => self.families.get(*key),
-            None => None,
-        }
+        let mut families = self.families_from(at)?;
+        families.next()
     }
 
     fn apply(&mut self, txn: &Txn) -> Result<Reply, ApplyFault> {
@@ -289,9 +294,9 @@ impl FamilyStore for SlabStore {
     }
 
     fn take(&mut self, extent: Extent, limit: u64) -> Result<Cut, AllocError> {
-        let (count, end) = self.cut(extent, limit);
-        let mut families = Vec::with_capacity(self.alloc, count)?;
-        self.take_between(extent.lo, end, &mut families);
+        let (roots, end) = self.cut(extent, limit)?;
+        let mut families = Vec::with_capacity(self.alloc, roots.len())?;
+        self.take_listed(&roots, &mut families);
         Ok(Cut {
             families,
             end,

@@ -3,7 +3,8 @@ use Rattle.std.specs.Prelude.{None, IsSome}
 use Rattle.std.specs.Ordering.{nat_cmp}
 use Rattle.std.specs.FinMap.{get, remove}
 use Rattle.std.specs.BTreeMap as tree
-use Rattle.sq_store.proofs.Indexes.{Holds, get_led, get_unled, indexed_same, taken_out}
+use Rattle.sq_store.specs.InOrder.{HoldsByRoot}
+use Rattle.sq_store.proofs.Indexes.{Holds, get_led, get_unled, indexed_same, rooted-indexed, taken_out}
 use Rattle.sq_store.proofs.Keys.{remove_none}
 use Rattle.sq_store.proofs.slab_store.SlabStore.remove.Goals as goal
 use Rattle.sq_store.proofs.slab_store.SlabStore.remove.Goals.{After-remove-in-Some, In-None}
@@ -45,3 +46,9 @@ pub returns-in-None-clause-store : goal.returns-in-None-clause-store
 returns-in-None-clause-store c =
     indexed_same c.self.inside.families c.self.inside.families c.self.inside.index c.remove.new.self refl c.in-None.ensures.unchanged
     ∙ c.self.view_is ∙ sym (remove_none c.args.self.now c.args.root (none (goal.at.returns-in-None-clause-store c).In-None))
+
+pub returns-in-Some-clause-rooted : goal.returns-in-Some-clause-rooted
+returns-in-Some-clause-rooted c = subst HoldsByRoot c.self.view_is (rooted-indexed c.self.inside.families c.self.inside.index c.self.invariant)
+
+pub returns-in-None-clause-rooted : goal.returns-in-None-clause-rooted
+returns-in-None-clause-rooted c = subst HoldsByRoot c.self.view_is (rooted-indexed c.self.inside.families c.self.inside.index c.self.invariant)

@@ -6,8 +6,9 @@ use Rattle.sq_store.proofs.slab_store.SlabStoreFamilyStore.take.Goals as goal
 
 pub returns-clause-within : goal.returns-clause-within
 returns-clause-within c =
+    let store = c.args.self.now in
     let lo = c.args.extent.lo in
-    let end = c.cut-count.result.1 in
-    let between = families_between c.args.self.now lo end in
-    ap (are_within lo end) (c.take_between.ensures.taken ∙ ap (λ fs. fs ++ between) c.in_ok-families.ensures.items)
-    ∙ within-between lo end c.args.self.now (rooted_by c.args.self.now c.cut-count.ensures.rooted)
+    let end = c.in_ok-roots.end in
+    let taken = c.take_listed.ensures.taken lo end (c.deref.ensures.value ∙ c.in_ok-roots.ensures.chunk.listed) in
+    ap (are_within lo end) (taken ∙ ap (λ families. families ++ families_between store lo end) c.in_ok-families.ensures.items)
+    ∙ within-between lo end store (rooted_by store c.cut.ensures.rooted)
