@@ -88,7 +88,7 @@ pub(crate) fn run_stages<R: Threads + Wait + Sync, G: Watch>(
 }
 
 // The first stage, ready to run, with each job posted.
-fn first_ready<R: Wait>(
+fn first_ready<R: Threads + Wait + Sync>(
     rt: &R,
     alloc: Global,
     account: Account,
@@ -101,7 +101,7 @@ fn first_ready<R: Wait>(
     ensures account { IfOk result (λ ready. ready.account ≡ account) }
     ensures ready { IfOk result (IsReady (first_began account.opening)) }
 {
-    let (fabric, nodes, pumps) = Fabric::open(alloc, &account.opening, pumps)?;
+    let (fabric, nodes, pumps) = Fabric::open_in_threads(rt, alloc, &account.opening, pumps)?;
     // For the proof alone: what the account has is an opening.
     let _recon = account.opening.recon();
     post_all(rt, &fabric, &account.jobs)?;

@@ -11,6 +11,7 @@ pub mod Taken
 pub mod Shares
 pub mod NewLinks
 pub mod NewNodes
+pub mod NewStores
 pub mod Bridges
 pub mod Keeps
 pub mod Told

@@ -11,7 +11,7 @@ use Rattle.sq_status.specs.View.{fresh, gave}
 use Rattle.sq_status.specs.Seat.{SeatValue}
 use Rattle.sq_store.specs.StoreValue.{StoreValue}
 use Rattle.sq_exec.specs.CoreValue.{CoreValue}
-use Rattle.sq_exec.specs.Opened.{opened_part}
+use Rattle.sq_exec.specs.Opened.{opened_part, HasOwned}
 use Rattle.sq_pull.specs.Seats.{AreSeatsOf}
 use Rattle.sq_pull.specs.Wins.{no_wins}
 use Rattle.sq_pull.specs.Pump.{PumpValue, stage_round}
@@ -30,6 +30,15 @@ running_core o stage part store = record (staged_core o stage part store) { star
 -- the families of each partition before the move
 abbrev pub opened_stores : OpeningValue → List StoreValue
 opened_stores o = map (λ part. (opened_part o part).store) (range_with_len 0 o.old.parts)
+
+-- each partition then has the families of the root keys that it owns
+abbrev pub HaveOwned : OpeningValue → Type 0
+HaveOwned o = (part : ℕ) → part < o.old.parts → HasOwned o part (opened_part o part).store
+
+-- these are the families of a partition before the move, those of the root keys that it owns
+pub record IsOpenStore (o : OpeningValue) (part : ℕ) (store : StoreValue) : Type 0 where
+  pub is : store ≡ (opened_part o part).store
+  pub owned : HasOwned o part store
 
 -- the view of a tree's first seat, which has given out this many seats
 abbrev pub first_view : ℕ → View

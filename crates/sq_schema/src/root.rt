@@ -2,14 +2,13 @@
 ghost use Rattle.std.specs.Prelude.{◌≡◌, ◌<◌, ◌^◌};
 ghost use Rattle.std.specs.Option.{SomeIff};
 
-use std::cmp::Ordering;
 use std::marker::Model;
 
 /// Root keys are the whole numbers below this.
 pub const ROOT_END: u64 = 4_294_967_296;
 
 /// A root key. To a contract it is the number.
-#[derive(Clone, Copy, Debug, PartialEq, Eq, PartialOrd)]
+#[derive(Clone, Copy, Debug, PartialEq, Eq, PartialOrd, Ord)]
 pub struct Root(u32);
 
 impl Model for Root {
@@ -20,31 +19,6 @@ impl Model for Root {
     ghost view = { λ r. r.0 };
 
     ghost inverse = { λ n. record { 0 = n } };
-}
-
-impl Ord for Root {
-    ghost use Rattle.std.specs.Cmp.Rules.{comparing};
-    ghost use Rattle.std.specs.Ordering.{nat_cmp};
-    ghost use Rattle.std.proofs.Common.{rules};
-
-    ghost cmp = { nat_cmp };
-
-    ghost total = { Prim.search (comparing, rules) };
-
-    ghost matches_partial_cmp = { Prim.search (comparing, rules) };
-
-    ghost matches_eq = { Prim.search (comparing, rules) };
-
-    // Asks first whether it comes later, as a search does at most keys: a derive compiles to more tests.
-    fn cmp(&self, other: &Root) -> Ordering {
-        if self.0 > other.0 {
-            Ordering::Greater
-        } else if self.0 == other.0 {
-            Ordering::Equal
-        } else {
-            Ordering::Less
-        }
-    }
 }
 
 impl Root {

@@ -7,7 +7,6 @@ pub mod Guards
 pub mod Leading
 pub mod LinkSteps
 pub mod Opened
-pub mod Said
 pub mod Serves
 pub mod Steps
 pub mod Trees

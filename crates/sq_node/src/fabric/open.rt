@@ -1,10 +1,9 @@
 // Opening a run, and a stage of it.
-ghost use Rattle.std.specs.Prelude.{◌≡◌, ℕ, ◌<◌, ◌==◌, ◌≤◌, [], length, map, filter, IfOk, IfErr, OnOk};
-ghost use Rattle.sq_exec.specs.Prelude.{opened_part, HasOwned};
+ghost use Rattle.std.specs.Prelude.{◌≡◌, ◌<◌, ◌==◌, ◌≤◌, [], length, map, filter, Ok, IfOk, IfErr, OnOk};
 ghost use Rattle.sq_ranges.specs.Prelude.{stage_on};
 ghost use Rattle.sq_pull.specs.declared.numbers.TheConstants.{MAX_PUMPS};
 ghost use Rattle.sq_node.specs.FabricValue.{ends_of};
-ghost use Rattle.sq_node.specs.Opened.{AreFirstSeats, HaveCapacity, HasAllEnds, IsFabricOf, IsReopened, IsOpened, opened_stores};
+ghost use Rattle.sq_node.specs.Opened.{AreFirstSeats, HaveCapacity, HasAllEnds, IsFabricOf, IsReopened, IsOpened, IsOpenStore, opened_stores, HaveOwned};
 
 use super::workers::{LooseEnds, open_nodes, open_pumps};
 use super::{Fabric, JOB_PLACES, REQUEST_PLACES};
@@ -20,6 +19,8 @@ use sq_status::{StatusTree, TreeSeat};
 use sq_store::SlabStore;
 use std::alloc::{AllocError, Global};
 use std::sync::atomic::AtomicU64;
+use std::thread;
+use std::thread::Threads;
 
 // The stage in which a run opens.
 const FIRST_STAGE: u64 = 0;
@@ -35,25 +36,98 @@ impl Fabric {
         ensures { IfOk result (λ opened. IsOpened opening.now pumps opened.0 opened.1.items opened.2.items) }
     {
         let stores = open_stores(alloc, opening)?;
-        match open_run(alloc, opening, FIRST_STAGE, stores, pumps) {
-            Ok((fabric, nodes, pumps)) => Ok((fabric, nodes, pumps)),
-            Err(_) => Err(AllocError),
-        }
+        open_with(alloc, opening, stores, pumps)
+    }
+
+    /// The same as [`Fabric::open`]. The families of each partition are made in a thread of its own, where one can be had.
+    pub fn open_in_threads<R: Threads + Sync>(
+        rt: &R,
+        alloc: Global,
+        opening: &Opening,
+        pumps: u32,
+    ) -> Result<(Fabric, Vec<Node>, Vec<Pump>), AllocError>
+        requires { pumps ≤ MAX_PUMPS }
+        ensures { IfOk result (λ opened. IsOpened opening.now pumps opened.0 opened.1.items opened.2.items) }
+    {
+        let stores = open_stores_in_threads(rt, alloc, opening)?;
+        open_with(alloc, opening, stores, pumps)
     }
 }
 
 // The families of each partition before the move.
 fn open_stores(alloc: Global, opening: &Opening) -> Result<Vec<SlabStore>, AllocError>
     ensures stores { IfOk result (λ stores. stores.items ≡ opened_stores opening.now) }
-    ensures owned { OnOk result ((part : ℕ) → part < opening.now.old.parts
-        → HasOwned opening.now part (opened_part opening.now part).store) }
+    ensures owned { OnOk result (HaveOwned opening.now) }
 {
     let mut stores = Vec::new(alloc);
     for number in 0..opening.old_plan().parts() {
-        let core = open_partition(alloc, opening, PartId::new(number))?;
-        stores.push(core.close().store)?;
+        let store = open_store(alloc, opening, PartId::new(number))?;
+        stores.push(store)?;
     }
     Ok(stores)
+}
+
+// The same, each partition in a thread of its own, where one can be had.
+fn open_stores_in_threads<R: Threads + Sync>(
+    rt: &R,
+    alloc: Global,
+    opening: &Opening,
+) -> Result<Vec<SlabStore>, AllocError>
+    ensures stores { IfOk result (λ stores. stores.items ≡ opened_stores opening.now) }
+    ensures owned { OnOk result (HaveOwned opening.now) }
+{
+    let parts = usize::from(opening.old_plan().parts());
+    let opened = thread::map_indices(
+        rt,
+        alloc,
+        parts,
+        &|part: usize| -> Result<SlabStore, AllocError>
+            requires { part < 256 }
+            ensures { IfOk result (IsOpenStore opening.entry.now part) }
+        { open_store(alloc, opening, PartId::new(part as u8)) },
+    )?;
+    let stores = all_opened(alloc, opened)?;
+    Ok(stores)
+}
+
+// The families of a partition before the move.
+fn open_store(alloc: Global, opening: &Opening, part: PartId) -> Result<SlabStore, AllocError>
+    ensures { IfOk result (IsOpenStore opening.now part) }
+{
+    let core = open_partition(alloc, opening, part)?;
+    Ok(core.close().store)
+}
+
+// What was opened, where all was.
+fn all_opened(
+    alloc: Global,
+    opened: Vec<Result<SlabStore, AllocError>>,
+) -> Result<Vec<SlabStore>, AllocError>
+    ensures { IfOk result (λ stores. map Ok stores.items ≡ opened.items) }
+{
+    let mut stores = Vec::with_capacity(alloc, opened.len())?;
+    for one in opened {
+        stores.push(one?)?;
+    }
+    Ok(stores)
+}
+
+// What a run shares in the first stage, the nodes of partitions that have these families, and this many pumps.
+fn open_with(
+    alloc: Global,
+    opening: &Opening,
+    stores: Vec<SlabStore>,
+    pumps: u32,
+) -> Result<(Fabric, Vec<Node>, Vec<Pump>), AllocError>
+    requires stores { stores.items ≡ opened_stores opening.now }
+    requires owned { HaveOwned opening.now }
+    requires pumps { pumps ≤ MAX_PUMPS }
+    ensures { IfOk result (λ opened. IsOpened opening.now pumps opened.0 opened.1.items opened.2.items) }
+{
+    match open_run(alloc, opening, FIRST_STAGE, stores, pumps) {
+        Ok((fabric, nodes, pumps)) => Ok((fabric, nodes, pumps)),
+        Err(_) => Err(AllocError),
+    }
 }
 
 // What a stage of a run shares, the nodes of partitions that have these families, and this many pumps. Where there is no

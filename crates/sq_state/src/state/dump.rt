@@ -13,7 +13,7 @@ use crate::queue::Queue;
 use crate::state::State;
 use sq_chunk::Chunk;
 use sq_plan::PartId;
-use sq_store::{FamilyStore, SlabStore};
+use sq_store::SlabStore;
 use sq_text::{write_at, write_end, write_way};
 use std::io;
 use std::io::Write;
@@ -89,10 +89,8 @@ impl State {
 fn write_families<W: Write>(writer: &mut W, part: PartId, store: &SlabStore) -> io::Result<()>
     ensures { OnOk result (Appends (W.contents writer.old) (W.contents writer.new) (flat_map (at_line part) (families_in store.now))) }
 {
-    let mut at = 0;
-    while let Some(family) = store.walk(at) {
+    for family in store.families() {
         write_at(writer, part, family)?;
-        at = family.root().number() + 1;
     }
     Ok(())
 }

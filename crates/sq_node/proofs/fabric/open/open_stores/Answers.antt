@@ -2,7 +2,6 @@ use Rattle.std.proofs.Common.{sym, ap, ◌∙◌, arith, subst, ⊎_elim, ◌≡
 use Rattle.std.proofs.lemmas.Bool.{cases_lt}
 use Rattle.std.proofs.lemmas.List.FromFn.{map-range_with_len_more}
 use Rattle.sq_store.specs.StoreValue.{StoreValue}
-use Rattle.sq_exec.specs.CoreValue.{CoreValue}
 use Rattle.sq_exec.specs.Opened.{opened_part, HasOwned}
 use Rattle.sq_node.proofs.fabric.open.open_stores.Goals as goal
 
@@ -11,17 +10,14 @@ loop-number-preserved c =
     let o = c.args.opening.now in
     let n = c.loop-number.number in
     let opened : ℕ → StoreValue = λ part. (opened_part o part).store in
-    let core = c.in_ok-core.core.core in
-    let is : core ≡ opened_part o n = c.in_ok-core.ensures.core ∙ ap (opened_part o) c.new.ensures in
-    let store : core.store ≡ opened n = ap (λ (one : CoreValue). one.store) is in
+    let store = c.in_ok-store.store in
+    let is : store ≡ opened n = c.in_ok-store.ensures.is ∙ ap opened c.new.ensures in
+    let has : HasOwned o n store = subst (λ p. HasOwned o p store) c.new.ensures c.in_ok-store.ensures.owned in
     record {
-      stores =
-          c.in_ok-push.ensures.items
-          ∙ (λ k. c.loop-number.invariant.stores k ++ (c.close.ensures.store ∙ store) k ∷ [])
-          ∙ sym (map-range_with_len_more opened 0 n n (omega arith));
+      stores = c.in_ok-push.ensures.items ∙ (λ k. c.loop-number.invariant.stores k ++ is k ∷ []) ∙ sym (map-range_with_len_more opened 0 n n (omega arith));
       owned = λ part lt. ⊎_elim (λ (earlier : part < n). c.loop-number.invariant.owned part earlier)
           (λ (past : n ≤ part).
           let here : n ≡ part = omega arith in
-          subst (λ p. HasOwned o p (opened p)) here (subst (HasOwned o n) store (subst (λ p. HasOwned o p core.store) c.new.ensures c.in_ok-core.ensures.families)))
+          subst (λ p. HasOwned o p (opened p)) here (subst (HasOwned o n) is has))
           (cases_lt part n);
     }
