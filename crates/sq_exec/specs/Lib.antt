@@ -1,3 +1,4 @@
+pub mod Fault
 pub mod Runs
 pub mod GivenUp
 pub mod Work

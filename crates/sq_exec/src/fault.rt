@@ -1,6 +1,7 @@
 // Why a call was refused, in the order in which the causes are looked at. The number of a variant is that of the step's
 // refusal.
 ghost use Rattle.std.specs.Prelude.{◌≡◌};
+ghost use Rattle.sq_exec.specs.Fault.{submit_fault_number, resume_fault_number, cut_fault_number, load_fault_number};
 
 use sq_explain::meaning;
 use sq_schema::OUT_OF_MEMORY;
@@ -9,7 +10,7 @@ use thiserror::Error;
 
 /// Why a transaction wasn't taken.
 #[derive(Clone, Copy, Debug, PartialEq, Eq, Error)]
-#[error("{}", meaning(*self as u16))]
+#[error("{}", meaning(self.number()))]
 pub enum SubmitFault {
     /// As many transactions wait as can.
     WaitFull = 220,
@@ -18,9 +19,18 @@ pub enum SubmitFault {
     Memory = OUT_OF_MEMORY as isize,
 }
 
+impl SubmitFault {
+    /// The number that a user sees.
+    pub fn number(self) -> u16
+        ensures { result ≡ submit_fault_number self }
+    {
+        self as u16
+    }
+}
+
 /// Why no waiting transaction was taken up.
 #[derive(Clone, Copy, Debug, PartialEq, Eq, Error)]
-#[error("{}", meaning(*self as u16))]
+#[error("{}", meaning(self.number()))]
 pub enum ResumeFault {
     /// The rows of all that wait are on their way.
     NoneReady = 223,
@@ -29,9 +39,18 @@ pub enum ResumeFault {
     Memory = OUT_OF_MEMORY as isize,
 }
 
+impl ResumeFault {
+    /// The number that a user sees.
+    pub fn number(self) -> u16
+        ensures { result ≡ resume_fault_number self }
+    {
+        self as u16
+    }
+}
+
 /// Why no chunk was cut.
 #[derive(Clone, Copy, Debug, PartialEq, Eq, Error)]
-#[error("{}", meaning(*self as u16))]
+#[error("{}", meaning(self.number()))]
 pub enum CutFault {
     /// The last chunk isn't sent.
     OutboxFull = 210,
@@ -40,13 +59,31 @@ pub enum CutFault {
     Memory = OUT_OF_MEMORY as isize,
 }
 
+impl CutFault {
+    /// The number that a user sees.
+    pub fn number(self) -> u16
+        ensures { result ≡ cut_fault_number self }
+    {
+        self as u16
+    }
+}
+
 /// Why no chunk was loaded.
 #[derive(Clone, Copy, Debug, PartialEq, Eq, Error)]
-#[error("{}", meaning(*self as u16))]
+#[error("{}", meaning(self.number()))]
 pub enum LoadFault {
     /// No chunk came.
     InboxEmpty = 215,
     Memory = OUT_OF_MEMORY as isize,
+}
+
+impl LoadFault {
+    /// The number that a user sees.
+    pub fn number(self) -> u16
+        ensures { result ≡ load_fault_number self }
+    {
+        self as u16
+    }
 }
 
 impl From<AllocError> for CutFault {

@@ -1,3 +1,4 @@
+pub mod Fault
 pub mod LeaderValue
 pub mod Marks
 pub mod Segments

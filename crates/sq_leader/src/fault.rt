@@ -1,51 +1,108 @@
 // Why a call was refused, in the order in which the causes are looked at.
+ghost use Rattle.std.specs.Prelude.{◌≡◌};
+ghost use Rattle.sq_leader.specs.Fault.{prepare_fault_number, start_fault_number, report_fault_number, stage_fault_number, next_fault_number, finish_fault_number};
+
 use sq_explain::meaning;
 use thiserror::Error;
 
 /// Why a partition didn't prepare. The number of a variant, here and below, is that of the step's refusal.
 #[derive(Clone, Copy, Debug, PartialEq, Eq, Error)]
-#[error("{}", meaning(*self as u16))]
+#[error("{}", meaning(self.number()))]
 pub enum PrepareFault {
     NoSuchPartition = 219,
 }
 
+impl PrepareFault {
+    /// The number that a user sees.
+    pub fn number(self) -> u16
+        ensures { result ≡ prepare_fault_number self }
+    {
+        self as u16
+    }
+}
+
 /// Why the move didn't start.
 #[derive(Clone, Copy, Debug, PartialEq, Eq, Error)]
-#[error("{}", meaning(*self as u16))]
+#[error("{}", meaning(self.number()))]
 pub enum StartFault {
     NotPrepared = 228,
 }
 
+impl StartFault {
+    /// The number that a user sees.
+    pub fn number(self) -> u16
+        ensures { result ≡ start_fault_number self }
+    {
+        self as u16
+    }
+}
+
 /// Why there is no report.
 #[derive(Clone, Copy, Debug, PartialEq, Eq, Error)]
-#[error("{}", meaning(*self as u16))]
+#[error("{}", meaning(self.number()))]
 pub enum ReportFault {
     NoSuchPartition = 219,
     /// A segment that moves into the partition in the stage isn't whole.
     NotFinished = 218,
 }
 
+impl ReportFault {
+    /// The number that a user sees.
+    pub fn number(self) -> u16
+        ensures { result ≡ report_fault_number self }
+    {
+        self as u16
+    }
+}
+
 /// Why a report doesn't count.
 #[derive(Clone, Copy, Debug, PartialEq, Eq, Error)]
-#[error("{}", meaning(*self as u16))]
+#[error("{}", meaning(self.number()))]
 pub enum StageFault {
     /// The report is of another stage than the running one.
     OtherStage = 218,
 }
 
+impl StageFault {
+    /// The number that a user sees.
+    pub fn number(self) -> u16
+        ensures { result ≡ stage_fault_number self }
+    {
+        self as u16
+    }
+}
+
 /// Why the next stage doesn't run.
 #[derive(Clone, Copy, Debug, PartialEq, Eq, Error)]
-#[error("{}", meaning(*self as u16))]
+#[error("{}", meaning(self.number()))]
 pub enum NextFault {
     LastStage = 225,
     /// A partition into which a segment of the running stage moves hasn't reported.
     NotFinished = 218,
 }
 
+impl NextFault {
+    /// The number that a user sees.
+    pub fn number(self) -> u16
+        ensures { result ≡ next_fault_number self }
+    {
+        self as u16
+    }
+}
+
 /// Why the move didn't end.
 #[derive(Clone, Copy, Debug, PartialEq, Eq, Error)]
-#[error("{}", meaning(*self as u16))]
+#[error("{}", meaning(self.number()))]
 pub enum FinishFault {
     /// A stage follows, or a partition into which a segment moves hasn't reported.
     NotFinished = 218,
+}
+
+impl FinishFault {
+    /// The number that a user sees.
+    pub fn number(self) -> u16
+        ensures { result ≡ finish_fault_number self }
+    {
+        self as u16
+    }
 }

@@ -42,3 +42,4 @@ pub mod Placed
 pub mod Next
 pub mod Folded
 mod Empty
+pub mod Onward

@@ -28,3 +28,7 @@ next_began o g = record {
   families = λ root. family_at_spot g (Store (owner_in o (g.stage + 1) root)) root;
   receipts = g.receipts;
 }
+
+-- a move that follows begins with the families where they are now, and with all receipts so far
+abbrev pub onward_began : OpeningValue → GatheredValue → BeganWith
+onward_began o g = record (next_began o g) { stage = 0 }

@@ -110,6 +110,7 @@ impl Model for Opening {
 
 impl Opening {
     ghost use Rattle.sq_ranges.specs.SetUp.{IsSetUp};
+    ghost use Rattle.sq_ranges.specs.Between.{recon_of};
     ghost use Rattle.sq_ranges.specs.Given.{IsOpeningOf, value_of, with_one};
     ghost use Rattle.sq_ranges.specs.Refused.{config_fault, given_fault, opening_fault, early_fault, MayRefuse};
 
@@ -267,6 +268,33 @@ impl Opening {
                 table,
                 ..self.parts
             },
+        }
+    }
+
+    /// The opening of the next move: from the plan after this one to another plan, with the same sizes and rows. Otherwise
+    /// this one comes back, with the first fault of the plans, as [`Recon::fault`] has it, or that memory ran out.
+    pub fn onward(self, alloc: Global, new: Plan) -> Result<Opening, (OpeningFault, Opening)>
+        ensures fault { let fault = config_fault self.new new self.config in
+            MatchResult result (λ _. fault ≡ None) (λ refused. MayRefuse fault fault refused.0) }
+        ensures ok { IfOk result (λ next. next ≡ record self {
+          old = self.new;
+          new = new;
+          recon = recon_of self.new new self.config.width;
+        }) }
+        ensures returned { IfErr result (λ refused. refused.1 ≡ self) }
+    {
+        // For the proof alone: a table is by rising root key, and each has some rows.
+        let _rows = self.parts.table.iter();
+        match moves(alloc, &self.parts.new, &new, self.parts.config) {
+            Ok(recon) => Ok(Opening {
+                parts: OpeningParts {
+                    old: self.parts.new,
+                    new,
+                    recon,
+                    ..self.parts
+                },
+            }),
+            Err(fault) => Err((fault, self)),
         }
     }
 

@@ -1,7 +1,7 @@
 // Why something was refused, in the order in which the causes are looked at. The number of a variant is what a user
 // sees of it; what it means stands in the table of `sq_explain`.
 ghost use Rattle.std.specs.Prelude.{◌≡◌};
-ghost use Rattle.sq_schema.specs.Fault.{txn_fault_number, row_fault_number};
+ghost use Rattle.sq_schema.specs.Fault.{txn_fault_number, apply_fault_number, row_fault_number};
 
 use sq_explain::meaning;
 use std::alloc::AllocError;
@@ -32,10 +32,19 @@ impl TxnFault {
 
 /// Why a family didn't run a transaction.
 #[derive(Clone, Copy, Debug, PartialEq, Eq, Error)]
-#[error("{}", meaning(*self as u16))]
+#[error("{}", meaning(self.number()))]
 pub enum ApplyFault {
     LogFull = 221,
     Memory = OUT_OF_MEMORY as isize,
+}
+
+impl ApplyFault {
+    /// The number that a user sees.
+    pub fn number(self) -> u16
+        ensures { result ≡ apply_fault_number self }
+    {
+        self as u16
+    }
 }
 
 impl From<AllocError> for ApplyFault {

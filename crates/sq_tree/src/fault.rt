@@ -1,4 +1,8 @@
-// Why a step of a tree was refused, in the order in which the causes are looked at.
+// Why a step of a tree was refused, in the order in which the causes are looked at. Their numbers are those of the steps'
+// refusals.
+ghost use Rattle.std.specs.Prelude.{◌≡◌};
+ghost use Rattle.sq_tree.specs.Fault.{split_fault_number, claim_fault_number, begin_fault_number, complete_fault_number};
+
 use crate::status::Status;
 
 /// Why a node wasn't split.
@@ -12,6 +16,19 @@ pub enum SplitFault {
     NotFree(Status),
 }
 
+impl SplitFault {
+    /// The number that a user sees.
+    pub fn number(self) -> u16
+        ensures { result ≡ split_fault_number self }
+    {
+        match self {
+            SplitFault::IsLeaf => 206,
+            SplitFault::NotLive => 205,
+            SplitFault::NotFree(_) => 204,
+        }
+    }
+}
+
 /// Why a node wasn't claimed.
 #[derive(Clone, Copy, Debug, PartialEq, Eq)]
 pub enum ClaimFault {
@@ -19,6 +36,18 @@ pub enum ClaimFault {
     NotLive,
     /// It isn't free. This is what was found.
     NotFree(Status),
+}
+
+impl ClaimFault {
+    /// The number that a user sees.
+    pub fn number(self) -> u16
+        ensures { result ≡ claim_fault_number self }
+    {
+        match self {
+            ClaimFault::NotLive => 205,
+            ClaimFault::NotFree(_) => 204,
+        }
+    }
 }
 
 /// Why a node wasn't begun.
@@ -30,6 +59,18 @@ pub enum BeginFault {
     WrongPull,
 }
 
+impl BeginFault {
+    /// The number that a user sees.
+    pub fn number(self) -> u16
+        ensures { result ≡ begin_fault_number self }
+    {
+        match self {
+            BeginFault::NotClaimed(_) => 207,
+            BeginFault::WrongPull => 208,
+        }
+    }
+}
+
 /// Why a node wasn't completed.
 #[derive(Clone, Copy, Debug, PartialEq, Eq)]
 pub enum CompleteFault {
@@ -37,4 +78,16 @@ pub enum CompleteFault {
     NotPartial(Status),
     /// Another pull began it.
     WrongPull,
+}
+
+impl CompleteFault {
+    /// The number that a user sees.
+    pub fn number(self) -> u16
+        ensures { result ≡ complete_fault_number self }
+    {
+        match self {
+            CompleteFault::NotPartial(_) => 227,
+            CompleteFault::WrongPull => 208,
+        }
+    }
 }
