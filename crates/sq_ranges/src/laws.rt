@@ -10,7 +10,7 @@ ghost use Rattle.sq_ranges.specs.declared.recon.TheConstants.{MAX_WIDTH};
 ghost use Rattle.sq_ranges.specs.declared.segment.TheConstants.{SEGMENT_LIMIT};
 ghost use Rattle.sq_ranges.specs.declared.opening.TheConstants.{MIN_LIMIT, MAX_LIMIT, MAX_CAPACITY, MAX_WAITING};
 ghost use Rattle.sq_ranges.specs.Between.{segment_limit};
-ghost use Rattle.sq_tree.specs.declared.node.TheConstants.{LEAVES};
+ghost use Rattle.sq_tree.specs.declared.node.TheConstants.{NODES, LEAVES};
 ghost use Rattle.sq_tree.specs.Prelude.{is_node, is_leaf, is_above, is_under};
 ghost use Rattle.sq_ranges.specs.declared.recon.Range.{Range};
 ghost use Rattle.sq_ranges.specs.ReconValue.{ReconValue, IsRecon, segment_of, leaf_of, extent};
@@ -18,13 +18,13 @@ ghost use Rattle.sq_ranges.specs.Moves.{AreTheMoves, moves_of};
 ghost use Rattle.sq_ranges.specs.Between.{IsReconOf};
 ghost use Rattle.sq_ranges.specs.Laws.{IsHoldingSegment, IsSegmentOf, Covers, LiesIn, AreHalves};
 
-/// The limits, in digits.
+/// The limits of plans, of what moves and of what waits, in digits.
 pub fn the_limits()
     ensures parts { (parts_limit First ≡ 16) × ((stages : Stages) → parts_limit (Second stages) ≡ 64) × (MAX_PARTS ≡ 64) }
     ensures ranges { MAX_RANGES ≡ 256 }
     ensures segments { (segment_limit First ≡ 256) × ((stages : Stages) → segment_limit (Second stages) ≡ 1024)
         × (SEGMENT_LIMIT ≡ 1024) }
-    ensures leaves { (LEAVES ≡ 32) × (MAX_WIDTH ≡ 65536) }
+    ensures trees { (NODES ≡ 63) × (LEAVES ≡ 32) × (MAX_WIDTH ≡ 65536) }
     ensures chunks { (MIN_LIMIT ≡ 64) × (MAX_LIMIT ≡ 1048576) × (MAX_CAPACITY ≡ 64) }
     ensures waiting { MAX_WAITING ≡ 1024 }
 {}

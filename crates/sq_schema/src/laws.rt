@@ -5,12 +5,23 @@ ghost use Rattle.sq_schema.specs.declared.txn.Cause.TheVariants.{Absent, Small, 
 ghost use Rattle.sq_schema.specs.declared.txn.Reply.TheVariants.{Committed, Aborted};
 ghost use Rattle.sq_schema.specs.declared.txn.Reply.{Reply};
 ghost use Rattle.sq_rows.specs.Equal.{rows_eq};
+ghost use Rattle.sq_rows.specs.declared.row.TheConstants.{MAX_NOTE};
+ghost use Rattle.sq_schema.specs.declared.schema.TheConstants.{MAX_TABLES};
+ghost use Rattle.sq_schema.specs.declared.root.TheConstants.{ROOT_END};
+ghost use Rattle.sq_schema.specs.declared.txn.TheConstants.{MAX_OPS};
+ghost use Rattle.sq_schema.specs.declared.family.TheConstants.{MAX_LOG};
 ghost use Rattle.sq_schema.specs.Equal.Txns.{txn_eq};
 ghost use Rattle.sq_schema.specs.Equal.Replies.{reply_eq};
 ghost use Rattle.sq_schema.specs.TxnValue.{TxnValue};
 ghost use Rattle.sq_rows.specs.RowList.{RowList, root_key};
 ghost use Rattle.sq_schema.specs.Effect.{RowTable, reply, effect, replay, replay_rows, only};
 ghost use Rattle.sq_schema.specs.Examples.{ten, plain, hi, key, adds_largest, deletes_parent, puts_child, checks, deletes_absent, puts_and_adds, adds_one, gets_and_deletes, gets};
+
+/// The limits of rows and transactions, in digits.
+pub fn the_limits()
+    ensures rows { (MAX_TABLES ≡ 8) × (MAX_NOTE ≡ 255) × (ROOT_END ≡ 4294967296) }
+    ensures transactions { (MAX_OPS ≡ 64) × (MAX_LOG ≡ 4096) }
+{}
 
 /// Replies of transactions on a root row of 10 and on no rows, each worked out by hand.
 pub fn worked_replies()

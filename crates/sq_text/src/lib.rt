@@ -7,6 +7,7 @@ mod fault;
 mod field;
 mod header;
 mod input_fault;
+pub mod laws;
 mod located;
 mod moves_text;
 mod note;
