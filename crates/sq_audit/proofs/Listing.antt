@@ -1,17 +1,21 @@
--- That all families of what was gathered are listed: those of a store by a walk, those of a chunk in their order.
+-- That all families of what was gathered are listed: those of a store by rising root key, those of a chunk in their order.
 use Rattle.std.proofs.Common.{IsPermutation, ◌≡◌, ⊎_elim, ℕ, ◌+◌, ◌<◌, ◌≤◌, ◌==◌, get_or, true, nat_le, nat_lt, if◌then◌else◌, List, [], ◌∷◌, ◌++◌, map, length, slice_get, Contains, Some, None, sym, ap, ◌∙◌, subst, arith, append_assoc, eqb-true, eq-eqb}
 use Rattle.std.proofs.lemmas.List.Sorted.{IsPermutation-sym, Contains-permutation}
 use Rattle.std.specs.Prelude.{option_and_then, All}
-use Rattle.std.specs.FinMap.{get}
-use Rattle.std.proofs.lemmas.Bool.{cases_lt, and_from, le-leb, lt-ltb, ne_eqb}
-use Rattle.std.proofs.lemmas.List.{map-append, length-map}
+use Rattle.std.specs.FinMap.{get, entries, get-entries}
+use Rattle.std.specs.Ordering.{nat_cmp, is_lt}
+use Rattle.std.proofs.lemmas.Bool.{cases_lt, and_parts, ne_eqb}
+use Rattle.std.proofs.lemmas.List.{append-nil, map-append, length-map}
 use Rattle.std.proofs.lemmas.List.Elements.{All-contains, Contains-append_left, Contains-append_right, Contains-append_cases, Contains-push}
 use Rattle.std.proofs.lemmas.Option.{slice_get_within, slice_get-get_or}
 use Rattle.sq_schema.specs.Family.{FamilyValue}
 use Rattle.sq_store.specs.StoreValue.{StoreValue, family_in}
-use Rattle.sq_store.specs.InOrder.{family_from, HoldsByRoot, are_within, AreKeyed}
+use Rattle.sq_store.specs.InOrder.{families_in, HoldsByRoot, are_within, AreKeyed}
+use Rattle.sq_store.specs.Listed.{roots_rise}
+use Rattle.sq_store.proofs.Order.{is_below, first_rises, less_from_cmp}
+use Rattle.sq_store.proofs.Between.{family_in-entries, sorted_is}
 use Rattle.sq_store.proofs.Rising.{rises}
-use Rattle.sq_store.proofs.Firsts.{first_is, first_none, none_between}
+use Rattle.sq_store.proofs.Firsts.{rising_in}
 use Rattle.sq_chunk.specs.ChunkValue.{ChunkValue}
 use Rattle.sq_model.proofs.Lists.{Contains-nothing, Contains-cases, found_in, map_in}
 use Rattle.sq_node_model.specs.declared.spot.Spot.{Spot}
@@ -60,67 +64,77 @@ pushed all one before families spot family so_far is =
     ∙ append_assoc before (map pair families) (pair family ∷ [])
     ∙ ap (λ (es : List Entry). before ++ es) (sym (map-append pair families (family ∷ [])))
 
--- the families of a store below a root key
-pub record WalkedTo (store : StoreValue) (at : ℕ) (families : List FamilyValue) : Type 0 where
-  pub here : (family : FamilyValue) → Contains families family → get store family.root ≡ Some family
-  pub each : (root : ℕ) (family : FamilyValue) → root < at → get store root ≡ Some family → Contains families family
+-- of the families of a store some were added, and these are left
+pub record SomeAdded (spot : Spot) (store : StoreValue) (before : List Entry) (left : List FamilyValue) (now : List Entry) : Type 0 where
+  pub families : List FamilyValue
+  pub added : now ≡ before ++ map (λ family. (spot, family)) families
+  pub rest : families ++ left ≡ families_in store
   pub own : (family : FamilyValue) → Contains families family → All (λ txn. txn.root ≡ family.root) family.log
 
-pub walked_none : (store : StoreValue) → WalkedTo store 0 []
-walked_none store = record { here = λ family has. absurd (Contains-nothing family has); each = λ root family below at. absurd (omega (arith, below)); own = λ family has. absurd (Contains-nothing family has) }
+pub none_added : (spot : Spot) (store : StoreValue) (before : List Entry) (left : List FamilyValue) → left ≡ families_in store → SomeAdded spot store before left before
+none_added spot store before left whole = record { families = []; added = sym (append-nil before); rest = whole; own = λ family has. absurd (Contains-nothing family has) }
 
-module _ (store : StoreValue) (at : ℕ) (families : List FamilyValue) (by : HoldsByRoot store) (so_far : WalkedTo store at families) where
-  pub walked_next : (next : ℕ) (family : FamilyValue) → family_from store at ≡ Some family → next ≡ family.root + 1 → All (λ txn. txn.root ≡ family.root) family.log → WalkedTo store next (families ++ family ∷ [])
-  walked_next next family found next_is own =
-      let first = first_is store at by (family.root + 1) family found (omega arith) in
-      record {
-        here = λ other has.
-            ⊎_elim (so_far.here other)
-            (λ last. ⊎_elim
-            (λ same. subst (λ (f : FamilyValue). get store f.root ≡ Some f) same first.stands)
-            (λ none. absurd (Contains-nothing other none))
-            (Contains-cases family [] other last))
-            (Contains-append_cases families (family ∷ []) other has);
-        each = λ root other below stands.
-            ⊎_elim
-            (λ low. Contains-append_left families (family ∷ []) other (so_far.each root other low stands))
-            (λ upto. ⊎_elim
-            (λ under.
-            let between = and_from (nat_le at root) (nat_lt root family.root) (le-leb at root upto) (lt-ltb root family.root under) in
-            absurd (no_some other (sym (none_between store at family.root root (first.before family.root (omega arith)) between) ∙ stands)))
-            (λ from.
-            let same_root : root ≡ family.root = omega (arith, next_is, below, from) in
-            let here : get store family.root ≡ Some other = ap (get store) (sym same_root) ∙ stands in
-            let stands_first = first.stands in
-            let same : family ≡ other = cc in
-            subst (Contains (families ++ family ∷ [])) same (Contains-push families family))
-            (cases_lt root family.root))
-            (cases_lt root at);
-        own = λ other has.
-            ⊎_elim (so_far.own other)
-            (λ last. ⊎_elim
-            (λ same. subst (λ (f : FamilyValue). All (λ txn. txn.root ≡ f.root) f.log) same own)
-            (λ none. absurd (Contains-nothing other none))
-            (Contains-cases family [] other last))
-            (Contains-append_cases families (family ∷ []) other has);
-      }
+pub more_added : (spot : Spot) (store : StoreValue) (before : List Entry) (left rest : List FamilyValue) (all : List Located) (one : Located) (family : FamilyValue)
+    → SomeAdded spot store before left (entries_in all) → left ≡ family ∷ rest → entry_of one ≡ (spot, family) → All (λ txn. txn.root ≡ family.root) family.log → SomeAdded spot store before rest (entries_in (all ++ one ∷ []))
+more_added spot store before left rest all one family so_far next is own =
+    record {
+      families = so_far.families ++ family ∷ [];
+      added = pushed all one before so_far.families spot family so_far.added is;
+      rest = append_assoc so_far.families (family ∷ []) rest ∙ sym (ap (λ (fs : List FamilyValue). so_far.families ++ fs) next) ∙ so_far.rest;
+      own = λ other has.
+          ⊎_elim (so_far.own other)
+          (λ last. ⊎_elim
+          (λ same. subst (λ (f : FamilyValue). All (λ txn. txn.root ≡ f.root) f.log) same own)
+          (λ none. absurd (Contains-nothing other none))
+          (Contains-cases family [] other last))
+          (Contains-append_cases so_far.families (family ∷ []) other has);
+    }
 
-  pub walked_all : family_from store at ≡ None → AreAllFamilies (get store) families
-  walked_all none =
-      record {
-        here = so_far.here;
-        each = each;
-        keyed = λ root family stands. of_root root family (by root family stands) (so_far.own family (each root family stands));
-      }
-    where
-      each : (root : ℕ) (family : FamilyValue) → get store root ≡ Some family → Contains families family
-      each root family stands =
-          ⊎_elim
-          (λ low. so_far.each root family low stands)
-          (λ upto.
-          let between = and_from (nat_le at root) (nat_lt root (root + 1)) (le-leb at root upto) (lt-ltb root (root + 1) (omega arith)) in
-          absurd (no_some family (sym (none_between store at (root + 1) root (first_none store at by (root + 1) none) between) ∙ stands)))
-          (cases_lt root at)
+-- families that rise are found by their root keys
+above : (key : ℕ) (families : List FamilyValue) (family : FamilyValue) → is_below key families ≡ true → Contains families family → key < family.root
+above key [] family below has = absurd (Contains-nothing family has)
+above key (first ∷ families) family below has =
+    let parts = and_parts (is_lt (nat_cmp key first.root)) (is_below key families) below in
+    ⊎_elim
+    (λ same. let low = less_from_cmp key first.root parts.0 in let root : first.root ≡ family.root = ap (λ (f : FamilyValue). f.root) same in omega (arith, low, root))
+    (λ later. above key families family parts.1 later)
+    (Contains-cases first families family has)
+
+found_among : (families : List FamilyValue) (family : FamilyValue) → roots_rise families ≡ true → Contains families family → family_in families family.root ≡ Some family
+found_among [] family rising has = absurd (Contains-nothing family has)
+found_among (first ∷ families) family rising has =
+    let parts = first_rises first families rising in
+    ⊎_elim
+    (λ same. ap (λ b. if b then Some first else family_in families family.root) (eq-eqb first.root family.root (ap (λ (f : FamilyValue). f.root) same)) ∙ ap Some same)
+    (λ later.
+    let low = above first.root families family parts.below later in
+    ap (λ b. if b then Some first else family_in families family.root) (ne_eqb first.root family.root (λ same. absurd (omega (arith, low, same))))
+    ∙ found_among families family parts.rest later)
+    (Contains-cases first families family has)
+
+-- a family is found in a store as it is among its families
+found_stored : (store : StoreValue) (key : ℕ) → HoldsByRoot store → family_in (families_in store) key ≡ get store key
+found_stored store key by = family_in-entries (entries store) key (sorted_is store) (λ key family e. by key family (get-entries store key ∙ e)) ∙ sym (get-entries store key)
+
+pub all_added : (spot : Spot) (store : StoreValue) (before : List Entry) (left : List FamilyValue) (now : List Entry) → HoldsByRoot store → left ≡ [] → SomeAdded spot store before left now → AddsAll spot (get store) before now
+all_added spot store before left now by none so_far =
+    let whole : so_far.families ≡ families_in store = sym (append-nil so_far.families) ∙ sym (ap (λ (fs : List FamilyValue). so_far.families ++ fs) none) ∙ so_far.rest in
+    record {
+      families = so_far.families;
+      all = record {
+        here = λ family has.
+            sym (found_stored store family.root by)
+            ∙ found_among (families_in store) family (rising_in store by) (subst (λ (fs : List FamilyValue). Contains fs family) whole has);
+        each = each whole;
+        keyed = λ root family stands. of_root root family (by root family stands) (so_far.own family (each whole root family stands));
+      };
+      added = so_far.added;
+    }
+  where
+    each : so_far.families ≡ families_in store → (root : ℕ) (family : FamilyValue) → get store root ≡ Some family → Contains so_far.families family
+    each whole root family stands =
+        subst (λ (fs : List FamilyValue). Contains fs family) (sym whole)
+        (found_in (λ f. f.root == root) (families_in store) family (found_stored store root by ∙ stands)).0
 
 -- families that rise are found by their root keys
 lowest : (lo hi : ℕ) (families : List FamilyValue) (family : FamilyValue) → are_within lo hi families ≡ true → Contains families family → lo ≤ family.root

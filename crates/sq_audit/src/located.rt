@@ -5,7 +5,6 @@ ghost use Rattle.sq_schema.specs.Prelude.{FamilyValue};
 ghost use Rattle.sq_store.specs.Prelude.{family_in};
 ghost use Rattle.sq_audit.specs.Located.{spot_of, entries_in, ListsAll, ListsStored, AreByRoot, AddsAll, AddsLink};
 
-use crate::stored::next_family;
 use sq_chunk::Chunk;
 use sq_gather::{ClosedLink, Gathered};
 use sq_schema::Family;
@@ -66,10 +65,10 @@ fn add_stored<'a>(
 ) -> Result<(), AllocError>
     ensures { OnOk result (AddsAll (spot_of site) (get store.now) (entries_in all.old.items) (entries_in all.new.items)) }
 {
-    let mut at = 0;
-    while let Some((family, next)) = next_family(store, at) {
+    for family in store.families() {
+        // For the proof alone: it tells that the log is of the family's own root key, as that of each family is.
+        family.log();
         all.push(Located { site, family })?;
-        at = next;
     }
     Ok(())
 }

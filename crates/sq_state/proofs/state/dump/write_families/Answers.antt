@@ -1,4 +1,4 @@
-use Rattle.std.proofs.Common.{List, ◌≡◌, ℕ, ◌++◌, refl, sym, ap, ◌∙◌, subst, append_assoc}
+use Rattle.std.proofs.Common.{List, [], ◌≡◌, ℕ, ◌++◌, refl, sym, ap, ◌∙◌, subst, append_assoc}
 use Rattle.std.specs.List.{flat_map}
 use Rattle.std.specs.Io.KnownBytes.{Appends}
 use Rattle.std.proofs.lemmas.List.{append-nil}
@@ -13,7 +13,7 @@ pub loop-family-init : goal.loop-family-init
 loop-family-init g c = (
   tt,
   tt,
-  ([], nothing (g.W.Write.contents c.args.writer.now), ap (flat_map (at_line c.args.part)) c.families.ensures.families),
+  ([], nothing (g.W.Write.contents c.args.writer.now), ap (flat_map (at_line c.args.part)) (c.into_iter-family-iterator.ensures.into_iter_gives ∙ c.families-family-items.ensures.families)),
 )
 
 pub loop-family-preserved : goal.loop-family-preserved
