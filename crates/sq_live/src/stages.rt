@@ -23,8 +23,10 @@ use sq_gather::{Gathered, gather, reopen};
 use sq_leader::Moving;
 use sq_node::{Fabric, Node};
 use sq_pull::Pump;
+use sq_store::SlabStore;
 use std::alloc::{AllocError, Global};
 use std::sync::Wait;
+use std::thread;
 use std::thread::Threads;
 
 /// How a run is run.
@@ -149,9 +151,18 @@ fn run_stage<R: Threads + Wait + Sync, G: Watch>(
     let moved = moved_segments(&gathered.statuses);
     match lead_on(moving, &account.opening, &moved) {
         Led::Next(moving) => go_on(rt, alloc, account, gathered, moving, manner),
-        Led::Ended => Ok(AfterStage::Ended(judge_end(rt, alloc, &account, &gathered, &moved)?)),
+        Led::Ended => {
+            let outcome = judge_end(rt, alloc, &account, &gathered, &moved)?;
+            free_families(rt, gathered.stores);
+            Ok(AfterStage::Ended(outcome))
+        }
         Led::Missing => Ok(AfterStage::Ended(judge_stopped(alloc, &account, &gathered, &moved)?)),
     }
+}
+
+// Frees families, those of each partition in a thread of its own, where one can be had.
+fn free_families<R: Threads + Sync>(rt: &R, stores: Vec<SlabStore>) {
+    drop(thread::map_vec(rt, stores, &|store: SlabStore| drop(store)));
 }
 
 // What comes after a stage whose segments are complete where the leader goes on.

@@ -21,6 +21,6 @@ returns-clause-ready g c =
     let is = subst (λ (a : AccountValue). IsOpening a.opening) c.account.view_is c.recon-recon.ensures.set_up.opening in
     let opened = subst (λ (a : AccountValue). IsOpened a.opening c.args.pumps fabric c.in_ok-fabric.nodes.items c.in_ok-fabric.pumps.items) c.account.view_is c.in_ok-fabric.ensures in
     record {
-      run = run_begins o c.args.pumps fabric c.in_ok-fabric.nodes.items c.in_ok-fabric.pumps.items is (subst IsFabric c.fabric.view_is c.fabric.invariant) opened;
+      run = run_begins o c.args.pumps fabric c.in_ok-fabric.nodes.items c.in_ok-fabric.pumps.items is (subst IsFabric c.fabric.view_is c.fabric.invariant.0) opened;
       led = c.requires.led;
     }

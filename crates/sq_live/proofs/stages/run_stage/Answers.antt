@@ -120,9 +120,9 @@ returns-in-Next g c =
     (done_before account moving began gathered marks told c.in-Next.moving led) after goes)
     c.go_on.ensures
 
-pub returns-in_ok-judge_end-in-Ended : goal.returns-in_ok-judge_end-in-Ended
-returns-in_ok-judge_end-in-Ended g c = λ began ready.
-    (c.in_ok-gathered.gathered, ran g (goal.at.returns-in_ok-judge_end-in-Ended g c).After-deref began ready, c.in_ok-judge_end-in-Ended.ensures c.args.manner.folds)
+pub returns-in_ok-outcome-in-Ended : goal.returns-in_ok-outcome-in-Ended
+returns-in_ok-outcome-in-Ended g c = λ began ready.
+    (c.in_ok-gathered.gathered, ran g (goal.at.returns-in_ok-outcome-in-Ended g c).After-deref began ready, c.in_ok-outcome-in-Ended.ensures c.args.manner.folds)
 
 pub returns-in_ok-judge_stopped-in-Missing : goal.returns-in_ok-judge_stopped-in-Missing
 returns-in_ok-judge_stopped-in-Missing g c = λ began ready.
