@@ -1,8 +1,9 @@
-// The stage after the one that was gathered.
-ghost use Rattle.std.specs.Prelude.{◌≡◌, ◌+◌, ◌<◌, ◌≤◌, length, IfOk, IfErr};
-ghost use Rattle.sq_ranges.specs.Prelude.{stages};
+// Going on with what was gathered: in the next stage of a move, or in another move.
+ghost use Rattle.std.specs.Prelude.{◌≡◌, ◌+◌, ◌<◌, ◌≤◌, length, IfOk, IfErr, OnOk};
+ghost use Rattle.sq_ranges.specs.Prelude.{OpeningValue, IsOpening, stages};
 ghost use Rattle.sq_pull.specs.declared.numbers.TheConstants.{MAX_PUMPS};
-ghost use Rattle.sq_node_model.specs.Prelude.{IsPlaced, IsStageDone, next_began};
+ghost use Rattle.sq_node_model.specs.Prelude.{IsPlaced, IsStageDone, IsNextMove, next_began, onward_began};
+ghost use Rattle.sq_node.specs.Prelude.{IsFabric, IsReopened, AllHoldAsBegun};
 ghost use Rattle.sq_gather.specs.Reopened.{IsRunInStage};
 
 use crate::gathered::Gathered;
@@ -10,6 +11,9 @@ use sq_node::{Fabric, Node, Unresumed};
 use sq_pull::Pump;
 use sq_ranges::Opening;
 use std::alloc::Global;
+
+// The stage in which a move begins.
+const FIRST_STAGE: u64 = 0;
 
 /// Opens the stage after the one of which this was gathered, whose segments are complete: what a run shares in that stage, its
 /// nodes with the families and the jobs that were gathered, and this many pumps. The receipts so far go along.
@@ -33,7 +37,50 @@ pub fn reopen(
     // For the proof alone: there are no more stages than a number counts, and what was handed in is an opening.
     let _stages = opening.recon().stages();
     let next = g.stage + 1;
-    match Fabric::resumed(alloc, opening, next, g.stores, g.left, g.receipts, pumps) {
+    let (fabric, nodes, pumps) = resume(alloc, opening, next, g, pumps)?;
+    Ok((fabric, nodes, pumps))
+}
+
+/// Opens the first stage of another move, with what was gathered of the last stage of one, whose segments are complete: what a
+/// run shares in it, its nodes with the families and the jobs that were gathered, and this many pumps. The receipts so far go
+/// along.
+///
+/// Where `next` is of another number of partitions, and where there is no memory, what was gathered comes back as it was.
+pub fn move_on(
+    alloc: Global,
+    next: &Opening,
+    g: Gathered,
+    pumps: u32,
+) -> Result<(Fabric, Vec<Node>, Vec<Pump>), Gathered>
+    requires { pumps ≤ MAX_PUMPS }
+    ensures run { IfOk result (λ run. (o : OpeningValue) → IsOpening o → IsPlaced o g → IsStageDone o g → IsNextMove o g next.now
+        → IsRunInStage next.now (onward_began o g) run.0 run.1.items run.2.items) }
+    ensures pumps { IfOk result (λ run. length run.2.items ≡ pumps) }
+    ensures returned { IfErr result (λ back. back ≡ g) }
+{
+    // For the proof alone: what was handed in is an opening.
+    let _recon = next.recon();
+    let (fabric, nodes, pumps) = resume(alloc, next, FIRST_STAGE, g, pumps)?;
+    Ok((fabric, nodes, pumps))
+}
+
+// What a run shares in a stage of a move, its nodes with what was gathered, and this many pumps. Where that isn't of as many
+// partitions, where there is no such stage, and where there is no memory, what was gathered comes back.
+fn resume(
+    alloc: Global,
+    opening: &Opening,
+    stage: u64,
+    g: Gathered,
+    pumps: u32,
+) -> Result<(Fabric, Vec<Node>, Vec<Pump>), Gathered>
+    requires { pumps ≤ MAX_PUMPS }
+    ensures run { IfOk result (λ run. IsReopened opening.now stage g.stores g.receipts pumps run.0 run.1.items run.2.items) }
+    ensures holds { IfOk result (λ run. AllHoldAsBegun opening.now run.0 g.stores run.1.items) }
+    ensures stores { OnOk result (length g.stores ≡ opening.now.old.parts) }
+    ensures fabric { IfOk result (λ run. IsFabric run.0) }
+    ensures returned { IfErr result (λ back. back ≡ g) }
+{
+    match Fabric::resumed(alloc, opening, stage, g.stores, g.left, g.receipts, pumps) {
         Ok((fabric, nodes, pumps)) => {
             // For the proof alone: it is a fabric.
             let _trees = fabric.trees();

@@ -3,7 +3,7 @@ use Rattle.std.specs.Prelude.{◌≡◌, ℕ, ◌+◌, Bool, true, slice_get, So
 use Rattle.sq_tree.specs.Status.{reading}
 use Rattle.sq_tree.specs.Reading.{is_complete_reading}
 use Rattle.sq_ranges.specs.declared.recon.Range.{Range}
-use Rattle.sq_ranges.specs.ReconValue.{stage_in}
+use Rattle.sq_ranges.specs.ReconValue.{stage_in, stages}
 use Rattle.sq_ranges.specs.OpeningValue.{OpeningValue}
 use Rattle.sq_model.specs.Staged.{owner_in}
 use Rattle.sq_node_model.specs.BeganWith.{BeganWith}
@@ -32,3 +32,9 @@ next_began o g = record {
 -- a move that follows begins with the families where they are now, and with all receipts so far
 abbrev pub onward_began : OpeningValue → GatheredValue → BeganWith
 onward_began o g = record (next_began o g) { stage = 0 }
+
+-- another move follows a stage that is the last of its own: it goes from the plan that was reached, and has the same rows
+pub record IsNextMove (o : OpeningValue) (g : GatheredValue) (next : OpeningValue) : Type 0 where
+  pub last : g.stage + 1 ≡ stages o.recon
+  pub plan : next.old ≡ o.new
+  pub rows : next.table ≡ o.table

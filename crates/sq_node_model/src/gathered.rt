@@ -2,13 +2,13 @@
 ghost use Rattle.std.specs.Prelude.{◌≡◌, ℕ, ◌+◌, List, slice_get, Some, Contains};
 ghost use Rattle.sq_store.specs.Prelude.{StoreValue};
 ghost use Rattle.sq_chunk.specs.ChunkValue.{ChunkValue};
-ghost use Rattle.sq_ranges.specs.Prelude.{OpeningValue, IsOpening, stages};
+ghost use Rattle.sq_ranges.specs.Prelude.{OpeningValue, IsOpening};
 ghost use Rattle.sq_node_model.specs.NodeValue.{NodeAtWork, NodeValue};
 ghost use Rattle.sq_node_model.specs.Cores.{staged_core, OpensWith};
 ghost use Rattle.sq_node_model.specs.AtWork.{AllHolds, IsFreshWith};
 ghost use Rattle.sq_schema.specs.Prelude.{TableValue};
 ghost use Rattle.sq_node_model.specs.Folded.{folded_opening, folded_gathered, IsFolded};
-ghost use Rattle.sq_node_model.specs.Next.{IsStageDone, next_began, onward_began};
+ghost use Rattle.sq_node_model.specs.Next.{IsStageDone, IsNextMove, next_began, onward_began};
 ghost use Rattle.sq_node_model.specs.BeganWith.{BeganWith, CanBegin};
 ghost use Rattle.sq_node_model.specs.Gathered.{GatheredLink, GatheredValue, Gathers};
 ghost use Rattle.sq_node_model.specs.Placed.{IsPlaced, GoOn};
@@ -34,14 +34,14 @@ pub fn the_next_stage_begins()
         → AllHolds o (next_began o g) node }
 {}
 
-/// Where what was gathered of the last stage is placed and its segments are complete, another move can begin with it, from the
-/// plan that was reached, under an opening with the same rows: each partition opens with its store.
+/// Where what was gathered of the last stage of a move is placed, and its segments are complete, a move that follows can begin
+/// with it: each partition opens with its store.
 pub fn the_next_move_begins()
-    ensures can { (o next : OpeningValue) (g : GatheredValue)
-        → IsOpening o → IsPlaced o g → IsStageDone o g → next.table ≡ o.table → CanBegin next (onward_began o g) }
-    ensures opens { (o next : OpeningValue) (g : GatheredValue) (q : ℕ) (store : StoreValue)
-        → IsOpening o → IsPlaced o g → IsStageDone o g → g.stage + 1 ≡ stages o.recon → next.old ≡ o.new
-        → slice_get g.stores q ≡ Some store → OpensWith next (onward_began o g) q store }
+    ensures can { (o next : OpeningValue) (g : GatheredValue) → IsOpening o → IsPlaced o g → IsStageDone o g
+        → IsNextMove o g next → CanBegin next (onward_began o g) }
+    ensures opens { (o next : OpeningValue) (g : GatheredValue) (q : ℕ) (store : StoreValue) → IsOpening o → IsPlaced o g
+        → IsStageDone o g → IsNextMove o g next → slice_get g.stores q ≡ Some store
+        → OpensWith next (onward_began o g) q store }
 {}
 
 /// What was gathered of a stage whose segments are complete is placed again, with its segments complete, once the logs of

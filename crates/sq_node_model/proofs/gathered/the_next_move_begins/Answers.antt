@@ -3,6 +3,6 @@ use Rattle.sq_node_model.proofs.gathered.the_next_move_begins.Goals as goal
 
 pub returns : goal.returns
 returns c = record {
-  can = λ o next g is placed done rows. can_onward o next g is placed done rows;
-  opens = λ o next g q store is placed done last onward there. opens_onward o next g q store is placed done last onward there;
+  can = λ o next g is placed done follows. can_onward o next g is placed done follows.rows;
+  opens = λ o next g q store is placed done follows there. opens_onward o next g q store is placed done follows.last follows.plan there;
 }

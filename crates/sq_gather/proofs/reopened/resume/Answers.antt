@@ -1,0 +1,14 @@
+use Rattle.std.proofs.Common.{subst}
+use Rattle.sq_node_model.specs.BeganWith.{BeganWith, CanBegin}
+use Rattle.sq_node_model.specs.Gathered.{GatheredValue}
+use Rattle.sq_node.specs.FabricValue.{HasBegun}
+use Rattle.sq_node.specs.Opened.{IsReopened, AllOpenWith, AllHoldUnder, AllHoldAsBegun}
+use Rattle.sq_gather.proofs.reopened.resume.Goals as goal
+
+pub returns-in-Ok-clause-run : goal.returns-in-Ok-clause-run
+returns-in-Ok-clause-run c =
+    subst (λ (g : GatheredValue). IsReopened c.args.opening.now c.args.stage g.stores g.receipts c.args.pumps c.in-Ok.fabric c.in-Ok.nodes.items c.in-Ok.pumps.items) c.g.view_is c.in-Ok.ensures.run
+
+pub returns-in-Ok-clause-holds : goal.returns-in-Ok-clause-holds
+returns-in-Ok-clause-holds c =
+    subst (λ (g : GatheredValue). AllHoldAsBegun c.args.opening.now c.in-Ok.fabric g.stores c.in-Ok.nodes.items) c.g.view_is c.in-Ok.ensures.holds
