@@ -120,7 +120,7 @@ fn given(alloc: Global, mut words: Words<'_>) -> Result<GivenRow, ReadFault>
     let root = words.number()?;
     let RowKey { table, sub } = words.key()?;
     let number = words.signed()?;
-    let word = words.next().ok_or(Malformed)?;
+    let word = words.next_long().ok_or(Malformed)?;
     let note = note(alloc, word)?;
     match words.next() {
         Some(_) => Err(ReadFault::Malformed),
