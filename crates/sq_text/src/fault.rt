@@ -4,7 +4,7 @@ ghost use Rattle.sq_text.specs.Faults.{line_fault_number};
 
 use sq_explain::meaning;
 use sq_schema::{OUT_OF_MEMORY, TxnFault};
-use std::alloc::{AllocError, AllocFailed};
+use std::alloc::AllocError;
 use thiserror::Error;
 
 /// Why a line of the script is no step.
@@ -64,16 +64,6 @@ impl From<AllocError> for ReadFault {
     ghost from_gives = { λ _ fault. fault ≡ faults.Memory };
 
     fn from(_error: AllocError) -> ReadFault {
-        ReadFault::Memory
-    }
-}
-
-impl<T: Drop> From<AllocFailed<T>> for ReadFault {
-    ghost use Rattle.sq_text.specs.declared.fault.ReadFault.TheVariants as faults;
-
-    ghost from_gives = { λ _ fault. fault ≡ faults.Memory };
-
-    fn from(_error: AllocFailed<T>) -> ReadFault {
         ReadFault::Memory
     }
 }

@@ -1,11 +1,12 @@
 // The operations of a transaction.
+ghost use Rattle.sq_rows.specs.ShortList.{short_items};
 ghost use Rattle.sq_text.specs.Ops.{op_with, ops_in};
 ghost use Rattle.sq_text.specs.Faults.{IsParsedGivenMemory};
 
 use crate::fault::{Malformed, ReadFault};
 use crate::verb::OpName;
 use crate::words::Words;
-use sq_schema::Op;
+use sq_schema::{Op, ShortList};
 use std::alloc::Global;
 
 // The operation of this name.
@@ -23,14 +24,17 @@ fn op(alloc: Global, name: OpName, words: &mut Words<'_>) -> Result<Op, ReadFaul
     }
 }
 
+// How many operations a list has room for when it gets its second one. It grows for more.
+const SEVERAL: usize = 4;
+
 // The operations up to the end of the words.
-pub(crate) fn ops(alloc: Global, mut words: Words<'_>) -> Result<Vec<Op>, ReadFault>
-    ensures { IsParsedGivenMemory (λ ops. ops.items) result (ops_in words.entry) }
+pub(crate) fn ops(alloc: Global, mut words: Words<'_>) -> Result<ShortList<Op>, ReadFault>
+    ensures { IsParsedGivenMemory short_items result (ops_in words.entry) }
 {
-    let mut ops = Vec::new(alloc);
+    let mut ops = ShortList::new(alloc);
     while let Some(word) = words.next() {
         let name = OpName::of(word).ok_or(Malformed)?;
-        ops.push(op(alloc, name, &mut words)?)?;
+        ops.push(alloc, SEVERAL, op(alloc, name, &mut words)?)?;
     }
     Ok(ops)
 }

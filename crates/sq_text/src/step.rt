@@ -1,5 +1,6 @@
 // The steps that lines of the script spell.
 ghost use Rattle.std.specs.Prelude.{◌≡◌, true, Err, ok_or};
+ghost use Rattle.sq_rows.specs.ShortList.{short_items};
 ghost use Rattle.sq_text.specs.Fields.{value_at_end};
 ghost use Rattle.sq_text.specs.Steps.{pair_field, pull_field, step_with, verb_step, spelled, txn_in, txn_step, step_in, step_of, begins_txn};
 ghost use Rattle.sq_text.specs.Words.{words_of};
@@ -10,7 +11,7 @@ use crate::op::ops;
 use crate::verb::Verb;
 use crate::words::Words;
 use sq_model::Step;
-use sq_schema::{Op, Schema, Txn};
+use sq_schema::{Op, Schema, ShortList, Txn};
 use std::alloc::Global;
 
 /// The most bytes that a line has, without its end.
@@ -71,8 +72,12 @@ fn verb_step(verb: Verb, mut words: Words<'_>) -> Result<Step, LineFault>
 
 // A transaction as its line spells it: a partition, an id, a root key, and operations.
 #[tactic(auto, unfolding(crate::specs::Steps::txn_in))]
-fn txn_line(alloc: Global, mut words: Words<'_>) -> Result<(u64, u64, u64, Vec<Op>), ReadFault>
-    ensures { IsParsedGivenMemory (λ txn. spelled txn.0 txn.1 txn.2 txn.3.items) result (txn_in words.entry) }
+fn txn_line(
+    alloc: Global,
+    mut words: Words<'_>,
+) -> Result<(u64, u64, u64, ShortList<Op>), ReadFault>
+    ensures { IsParsedGivenMemory (λ txn. spelled txn.0 txn.1 txn.2 (short_items txn.3)) result
+        (txn_in words.entry) }
 {
     let part = words.number()?;
     let id = words.number()?;
@@ -89,9 +94,9 @@ fn submit(alloc: Global, schema: &Schema, words: Words<'_>) -> Result<Step, Line
         Err(ReadFault::Malformed) => return Err(LineFault::NotAStep),
         Err(ReadFault::Memory) => return Err(LineFault::Memory),
     };
-    match Txn::new(schema, id, root, ops) {
+    match Txn::of(schema, id, root, ops) {
         Ok(txn) => Ok(Step::Submit(part, txn)),
-        Err((fault, _)) => Err(LineFault::Txn(fault)),
+        Err(fault) => Err(LineFault::Txn(fault)),
     }
 }
 
