@@ -21,7 +21,6 @@ use sq_ranges::Opening;
 use sq_schema::{MAX_TABLES, Schema};
 use sq_text::{WriteFault, read_header, write_fault};
 use std::alloc::{AllocError, Global};
-use std::io;
 use std::io::{Read, Write};
 use std::sync::Wait;
 use std::thread::Threads;
@@ -62,11 +61,11 @@ pub fn live<T: Threads + Wait + Sync, R: Read, W: Write, G: Watch>(
 }
 
 // Writes the line of an ending.
-fn write_ending<W: Write>(writer: &mut W, ending: LiveEnding) -> io::Result<()>
+fn write_ending<W: Write>(writer: &mut W, ending: LiveEnding) -> Result<(), WriteFault>
     ensures { OnOk result (Appends (W.contents writer.old) (W.contents writer.new) (ending_line ending)) }
 {
     match ending {
-        LiveEnding::Done(outcome) => write_outcome(writer, outcome),
+        LiveEnding::Done(outcome) => Ok(write_outcome(writer, outcome)?),
         LiveEnding::Fault(fault) => write_fault(writer, fault.number()),
     }
 }

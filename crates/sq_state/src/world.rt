@@ -12,9 +12,9 @@ use sq_plan::Plan;
 use sq_ranges::{Config, GivenRow, Opening, RefusedOpening};
 use sq_schema::Schema;
 use sq_store::SlabStore;
+use sq_text::WriteFault;
 use sq_tree::Status;
 use std::alloc::Global;
-use std::io;
 use std::io::Write;
 use std::marker::Model;
 
@@ -152,7 +152,7 @@ impl World {
     }
 
     /// Writes the phase, each partition with its families, and each link with what is under way on it.
-    pub fn write_dump<W: Write>(&self, writer: &mut W) -> io::Result<()>
+    pub fn write_dump<W: Write>(&self, writer: &mut W) -> Result<(), WriteFault>
         ensures { OnOk result (Appends (W.contents writer.old) (W.contents writer.new) (dump self.now)) }
     {
         self.state.write_dump(writer)

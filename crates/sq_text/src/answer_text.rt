@@ -6,6 +6,7 @@ ghost use Rattle.sq_schema.specs.declared.txn.Reply.TheVariants.{Aborted};
 ghost use Rattle.sq_model.specs.declared.answer.Answer.TheVariants.{Moved, Waits};
 ghost use Rattle.sq_text.specs.Texts.{line, op_answer_text, has_note, cause_text, mark_text, commit_words, reply_words, note_words, status_text, reading_text, node_words, answer_line, refused_line, fault_line};
 
+use crate::output_fault::{WriteFault, write_bytes};
 use crate::row_text::{has_note, put_op_answer, write_op_answer};
 use crate::text::{Text, TextOf};
 use sq_chunk::Note;
@@ -31,7 +32,7 @@ fn cause_text(cause: Cause) -> &'static [u8]
 }
 
 // Writes what operations are answered, each behind a space.
-fn write_op_answers<W: Write>(writer: &mut W, answers: &[OpAnswer]) -> io::Result<()>
+fn write_op_answers<W: Write>(writer: &mut W, answers: &[OpAnswer]) -> Result<(), WriteFault>
     ensures { OnOk result (Appends (W.contents writer.old) (W.contents writer.new)
         (flat_map (λ answer. 32 ∷ op_answer_text answer) answers.now)) }
 {
@@ -42,7 +43,11 @@ fn write_op_answers<W: Write>(writer: &mut W, answers: &[OpAnswer]) -> io::Resul
 }
 
 // Writes the line of a commit of one operation, whose answer has no note.
-fn write_short_commit<W: Write>(writer: &mut W, id: u64, answer: &OpAnswer) -> io::Result<()>
+fn write_short_commit<W: Write>(
+    writer: &mut W,
+    id: u64,
+    answer: &OpAnswer,
+) -> Result<(), WriteFault>
     requires { has_note answer.now ≡ false }
     ensures { OnOk result (Appends (W.contents writer.old) (W.contents writer.new) (line (commit_words id (answer.now ∷ [])))) }
 {
@@ -52,11 +57,11 @@ fn write_short_commit<W: Write>(writer: &mut W, id: u64, answer: &OpAnswer) -> i
     text.put_byte(b' ');
     text.put_number(id);
     text.put(b"commit ");
-    writer.write_all(text.as_bytes())
+    write_bytes(writer, text.as_bytes())
 }
 
 // Writes the line of a commit.
-fn write_commit<W: Write>(writer: &mut W, id: u64, answers: &[OpAnswer]) -> io::Result<()>
+fn write_commit<W: Write>(writer: &mut W, id: u64, answers: &[OpAnswer]) -> Result<(), WriteFault>
     ensures { OnOk result (Appends (W.contents writer.old) (W.contents writer.new) (line (commit_words id answers.now))) }
 {
     match answers {
@@ -65,15 +70,15 @@ fn write_commit<W: Write>(writer: &mut W, id: u64, answers: &[OpAnswer]) -> io::
             let mut text = Text::new();
             text.put_number(id);
             text.put(b"commit ");
-            writer.write_all(text.as_bytes())?;
+            write_bytes(writer, text.as_bytes())?;
             write_op_answers(writer, answers)?;
-            writer.write_all(b"\n")
+            write_bytes(writer, b"\n")
         }
     }
 }
 
 // Writes the line of an abort.
-fn write_abort<W: Write>(writer: &mut W, id: u64, at: usize, cause: Cause) -> io::Result<()>
+fn write_abort<W: Write>(writer: &mut W, id: u64, at: usize, cause: Cause) -> Result<(), WriteFault>
     ensures { OnOk result (Appends (W.contents writer.old) (W.contents writer.new) (line (reply_words id (Aborted at cause)))) }
 {
     let mut text = TextOf::<64>::new();
@@ -84,11 +89,11 @@ fn write_abort<W: Write>(writer: &mut W, id: u64, at: usize, cause: Cause) -> io
     text.put_byte(b' ');
     text.put_number(id);
     text.put(b"abort ");
-    writer.write_all(text.as_bytes())
+    write_bytes(writer, text.as_bytes())
 }
 
 // Writes the line of what a transaction is answered.
-fn write_reply<W: Write>(writer: &mut W, id: u64, reply: &Reply) -> io::Result<()>
+fn write_reply<W: Write>(writer: &mut W, id: u64, reply: &Reply) -> Result<(), WriteFault>
     ensures { OnOk result (Appends (W.contents writer.old) (W.contents writer.new) (line (reply_words id reply.now))) }
 {
     match reply {
@@ -126,14 +131,19 @@ pub(crate) fn put_note(text: &mut Text, note: &Note, families: u64)
 }
 
 // Writes what a note says behind a first word, which comes with its space.
-fn write_note<W: Write>(writer: &mut W, front: &[u8], note: &Note, families: u64) -> io::Result<()>
+fn write_note<W: Write>(
+    writer: &mut W,
+    front: &[u8],
+    note: &Note,
+    families: u64,
+) -> Result<(), WriteFault>
     requires { length front.now ≤ 5 }
     ensures { OnOk result (Appends (W.contents writer.old) (W.contents writer.new) (front.now ++ line (note_words note.now families))) }
 {
     let mut text = Text::new();
     put_note(&mut text, note, families);
     text.put(front);
-    writer.write_all(text.as_bytes())
+    write_bytes(writer, text.as_bytes())
 }
 
 // Writes the status of a node.
@@ -160,17 +170,18 @@ fn reading_text(reading: Reading) -> &'static str
 }
 
 // Writes the line of a node's status and of what the node reads as.
-fn write_node<W: Write>(writer: &mut W, status: Status, reading: Reading) -> io::Result<()>
+fn write_node<W: Write>(writer: &mut W, status: Status, reading: Reading) -> Result<(), WriteFault>
     ensures { OnOk result (Appends (W.contents writer.old) (W.contents writer.new) (line (node_words status reading))) }
 {
     let reading = reading_text(reading);
     write!(writer, "is ")?;
     write_status(writer, status)?;
-    writeln!(writer, " {reading}")
+    writeln!(writer, " {reading}")?;
+    Ok(())
 }
 
 // Writes the line of a transaction that is sent on.
-fn write_moved<W: Write>(writer: &mut W, id: u64, to: PartId) -> io::Result<()>
+fn write_moved<W: Write>(writer: &mut W, id: u64, to: PartId) -> Result<(), WriteFault>
     ensures { OnOk result (Appends (W.contents writer.old) (W.contents writer.new) (answer_line (Moved id to))) }
 {
     let mut text = TextOf::<64>::new();
@@ -179,11 +190,11 @@ fn write_moved<W: Write>(writer: &mut W, id: u64, to: PartId) -> io::Result<()>
     text.put_byte(b' ');
     text.put_number(id);
     text.put(b"moved ");
-    writer.write_all(text.as_bytes())
+    write_bytes(writer, text.as_bytes())
 }
 
 // Writes the line of a transaction that waits.
-fn write_waits<W: Write>(writer: &mut W, id: u64, seg: SegId, leaf: Leaf) -> io::Result<()>
+fn write_waits<W: Write>(writer: &mut W, id: u64, seg: SegId, leaf: Leaf) -> Result<(), WriteFault>
     ensures { OnOk result (Appends (W.contents writer.old) (W.contents writer.new) (answer_line (Waits id seg leaf))) }
 {
     let mut text = TextOf::<80>::new();
@@ -194,15 +205,15 @@ fn write_waits<W: Write>(writer: &mut W, id: u64, seg: SegId, leaf: Leaf) -> io:
     text.put_byte(b' ');
     text.put_number(id);
     text.put(b"waits ");
-    writer.write_all(text.as_bytes())
+    write_bytes(writer, text.as_bytes())
 }
 
-/// Writes the line that a step is answered. An error is the writer's.
-pub fn write_answer<W: Write>(writer: &mut W, answer: &Answer) -> io::Result<()>
+/// Writes the line that a step is answered. An error is a write that failed.
+pub fn write_answer<W: Write>(writer: &mut W, answer: &Answer) -> Result<(), WriteFault>
     ensures { OnOk result (Appends (W.contents writer.old) (W.contents writer.new) (answer_line answer.now)) }
 {
     match answer {
-        Answer::Done => writer.write_all(b"ok\n"),
+        Answer::Done => write_bytes(writer, b"ok\n"),
         Answer::Replied { id, reply } => write_reply(writer, *id, reply),
         Answer::Moved { id, to } => write_moved(writer, *id, *to),
         Answer::Waits { id, seg, leaf } => write_waits(writer, *id, *seg, *leaf),
@@ -214,20 +225,21 @@ pub fn write_answer<W: Write>(writer: &mut W, answer: &Answer) -> io::Result<()>
     }
 }
 
-/// Writes the line of a refusal with this number. An error is the writer's.
-pub fn write_refused<W: Write>(writer: &mut W, number: u16) -> io::Result<()>
+/// Writes the line of a refusal with this number. An error is a write that failed.
+pub fn write_refused<W: Write>(writer: &mut W, number: u16) -> Result<(), WriteFault>
     ensures { OnOk result (Appends (W.contents writer.old) (W.contents writer.new) (refused_line number)) }
 {
     let mut text = TextOf::<32>::new();
     text.put_byte(b'\n');
     text.put_number(u64::from(number));
     text.put(b"refused ");
-    writer.write_all(text.as_bytes())
+    write_bytes(writer, text.as_bytes())
 }
 
-/// Writes the line of a fault with this number. An error is the writer's.
-pub fn write_fault<W: Write>(writer: &mut W, number: u16) -> io::Result<()>
+/// Writes the line of a fault with this number. An error is a write that failed.
+pub fn write_fault<W: Write>(writer: &mut W, number: u16) -> Result<(), WriteFault>
     ensures { OnOk result (Appends (W.contents writer.old) (W.contents writer.new) (fault_line number)) }
 {
-    writeln!(writer, "fault {number}")
+    writeln!(writer, "fault {number}")?;
+    Ok(())
 }

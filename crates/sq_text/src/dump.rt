@@ -6,13 +6,13 @@ ghost use Rattle.sq_schema.specs.Prelude.{rows_of};
 ghost use Rattle.sq_text.specs.Texts.{entry_text, phase_text, end_line, at_line, in_line, way_lines};
 
 use crate::answer_text::put_note;
+use crate::output_fault::{WriteFault, write_bytes};
 use crate::row_text::write_entry;
 use crate::text::Text;
 use sq_chunk::Note;
 use sq_model::Phase;
 use sq_plan::PartId;
 use sq_schema::{Family, RowIter};
-use std::io;
 use std::io::Write;
 
 fn phase_text(phase: Phase) -> &'static str
@@ -26,16 +26,17 @@ fn phase_text(phase: Phase) -> &'static str
     }
 }
 
-/// Writes the first line of a dump. An error is the writer's.
-pub fn write_end<W: Write>(writer: &mut W, phase: Phase) -> io::Result<()>
+/// Writes the first line of a dump. An error is a write that failed.
+pub fn write_end<W: Write>(writer: &mut W, phase: Phase) -> Result<(), WriteFault>
     ensures { OnOk result (Appends (W.contents writer.old) (W.contents writer.new) (end_line phase)) }
 {
     let phase = phase_text(phase);
-    writeln!(writer, "end {phase}")
+    writeln!(writer, "end {phase}")?;
+    Ok(())
 }
 
 // Writes rows with their keys, each behind a space.
-fn write_entries<W: Write>(writer: &mut W, entries: RowIter<'_>) -> io::Result<()>
+fn write_entries<W: Write>(writer: &mut W, entries: RowIter<'_>) -> Result<(), WriteFault>
     ensures { OnOk result (Appends (W.contents writer.old) (W.contents writer.new)
         (flat_map (λ entry. 32 ∷ entry_text entry) entries.entry)) }
 {
@@ -57,17 +58,21 @@ fn put_family(text: &mut Text, family: &Family)
 }
 
 // Writes a text, and then the rows of a family up to the end of the line.
-fn write_before_rows<W: Write>(writer: &mut W, text: &Text, family: &Family) -> io::Result<()>
+fn write_before_rows<W: Write>(
+    writer: &mut W,
+    text: &Text,
+    family: &Family,
+) -> Result<(), WriteFault>
     ensures { OnOk result (Appends (W.contents writer.old) (W.contents writer.new)
         (text.now ++ (flat_map (λ entry. 32 ∷ entry_text entry) (rows_of family.now) ++ (10 ∷ [])))) }
 {
-    writer.write_all(text.as_bytes())?;
+    write_bytes(writer, text.as_bytes())?;
     write_entries(writer, family.rows().iter())?;
-    writer.write_all(b"\n")
+    write_bytes(writer, b"\n")
 }
 
-/// Writes the line of a family in the store of a partition. An error is the writer's.
-pub fn write_at<W: Write>(writer: &mut W, part: PartId, family: &Family) -> io::Result<()>
+/// Writes the line of a family in the store of a partition. An error is a write that failed.
+pub fn write_at<W: Write>(writer: &mut W, part: PartId, family: &Family) -> Result<(), WriteFault>
     ensures { OnOk result (Appends (W.contents writer.old) (W.contents writer.new) (at_line part family.now)) }
 {
     let mut text = Text::new();
@@ -79,7 +84,7 @@ pub fn write_at<W: Write>(writer: &mut W, part: PartId, family: &Family) -> io::
 }
 
 // Writes the line of a family in a chunk.
-fn write_in<W: Write>(writer: &mut W, family: &Family) -> io::Result<()>
+fn write_in<W: Write>(writer: &mut W, family: &Family) -> Result<(), WriteFault>
     ensures { OnOk result (Appends (W.contents writer.old) (W.contents writer.new) (in_line family.now)) }
 {
     let mut text = Text::new();
@@ -88,9 +93,13 @@ fn write_in<W: Write>(writer: &mut W, family: &Family) -> io::Result<()>
     write_before_rows(writer, &text, family)
 }
 
-/// Writes the lines of a chunk that was cut and isn't loaded: its note, and then each of its families. An error is
-/// the writer's.
-pub fn write_way<W: Write>(writer: &mut W, note: &Note, families: &[Family]) -> io::Result<()>
+/// Writes the lines of a chunk that was cut and isn't loaded: its note, and then each of its families. An error is a
+/// write that failed.
+pub fn write_way<W: Write>(
+    writer: &mut W,
+    note: &Note,
+    families: &[Family],
+) -> Result<(), WriteFault>
     ensures { OnOk result (Appends (W.contents writer.old) (W.contents writer.new)
         (way_lines (record { note = note.now; families = families.now }))) }
 {
@@ -101,7 +110,7 @@ pub fn write_way<W: Write>(writer: &mut W, note: &Note, families: &[Family]) -> 
     text.put_byte(b' ');
     text.put_number(u64::from(note.src.number()));
     text.put(b"way ");
-    writer.write_all(text.as_bytes())?;
+    write_bytes(writer, text.as_bytes())?;
     for family in families {
         write_in(writer, family)?;
     }

@@ -5,9 +5,9 @@ ghost use Rattle.std.specs.List.{flat_map};
 ghost use Rattle.std.specs.Io.KnownBytes.{Appends};
 ghost use Rattle.sq_text.specs.Texts.{hex_byte_text, row_text, op_answer_text, has_note, entry_text};
 
+use crate::output_fault::{WriteFault, write_bytes};
 use crate::text::{Text, TextOf};
 use sq_schema::{OpAnswer, Row, RowKey};
-use std::io;
 use std::io::Write;
 
 // The lower-case digit of this value.
@@ -37,7 +37,7 @@ fn put_hex(bytes: &[u8], text: &mut [u8; 2 * PART])
 }
 
 // Writes the digits of bytes, two a byte.
-fn write_hex<W: Write>(writer: &mut W, bytes: &[u8]) -> io::Result<()>
+fn write_hex<W: Write>(writer: &mut W, bytes: &[u8]) -> Result<(), WriteFault>
     ensures { OnOk result (Appends (W.contents writer.old) (W.contents writer.new) (flat_map hex_byte_text bytes.now)) }
 {
     let mut text = [0; 2 * PART];
@@ -45,7 +45,7 @@ fn write_hex<W: Write>(writer: &mut W, bytes: &[u8]) -> io::Result<()>
     while !rest.is_empty() {
         let (part, after) = rest.split_at(rest.len().min(PART));
         put_hex(part, &mut text);
-        writer.write_all(&text[..2 * part.len()])?;
+        write_bytes(writer, &text[..2 * part.len()])?;
         rest = after;
     }
     Ok(())
@@ -66,15 +66,15 @@ fn put_row<const ROOM: usize>(text: &mut TextOf<ROOM>, row: &Row)
 }
 
 // Writes a text, and then the digits of a note.
-fn write_before_note<W: Write>(writer: &mut W, text: &Text, note: &[u8]) -> io::Result<()>
+fn write_before_note<W: Write>(writer: &mut W, text: &Text, note: &[u8]) -> Result<(), WriteFault>
     ensures { OnOk result (Appends (W.contents writer.old) (W.contents writer.new) (text.now ++ flat_map hex_byte_text note.now)) }
 {
-    writer.write_all(text.as_bytes())?;
+    write_bytes(writer, text.as_bytes())?;
     write_hex(writer, note)
 }
 
 // Writes a row behind a space.
-fn write_row<W: Write>(writer: &mut W, row: &Row) -> io::Result<()>
+fn write_row<W: Write>(writer: &mut W, row: &Row) -> Result<(), WriteFault>
     ensures { OnOk result (Appends (W.contents writer.old) (W.contents writer.new) (32 ∷ row_text row.now)) }
 {
     let mut text = Text::new();
@@ -84,24 +84,24 @@ fn write_row<W: Write>(writer: &mut W, row: &Row) -> io::Result<()>
 }
 
 // Writes a number behind a space.
-fn write_signed<W: Write>(writer: &mut W, number: i64) -> io::Result<()>
+fn write_signed<W: Write>(writer: &mut W, number: i64) -> Result<(), WriteFault>
     ensures { OnOk result (Appends (W.contents writer.old) (W.contents writer.new) (32 ∷ signed_decimal number)) }
 {
     let mut text = Text::new();
     text.put_signed(number);
     text.put_byte(b' ');
-    writer.write_all(text.as_bytes())
+    write_bytes(writer, text.as_bytes())
 }
 
 // Writes what an operation is answered, behind a space.
-pub(crate) fn write_op_answer<W: Write>(writer: &mut W, answer: &OpAnswer) -> io::Result<()>
+pub(crate) fn write_op_answer<W: Write>(writer: &mut W, answer: &OpAnswer) -> Result<(), WriteFault>
     ensures { OnOk result (Appends (W.contents writer.old) (W.contents writer.new) (32 ∷ op_answer_text answer.now)) }
 {
     match answer {
-        OpAnswer::Found(None) => writer.write_all(b" none"),
+        OpAnswer::Found(None) => write_bytes(writer, b" none"),
         OpAnswer::Found(Some(row)) => write_row(writer, row),
         OpAnswer::Number(number) => write_signed(writer, *number),
-        OpAnswer::Done => writer.write_all(b" ok"),
+        OpAnswer::Done => write_bytes(writer, b" ok"),
     }
 }
 
@@ -131,7 +131,11 @@ pub(crate) fn put_op_answer<const ROOM: usize>(text: &mut TextOf<ROOM>, answer: 
 }
 
 // Writes a row with its key, behind a space.
-pub(crate) fn write_entry<W: Write>(writer: &mut W, key: RowKey, row: &Row) -> io::Result<()>
+pub(crate) fn write_entry<W: Write>(
+    writer: &mut W,
+    key: RowKey,
+    row: &Row,
+) -> Result<(), WriteFault>
     ensures { OnOk result (Appends (W.contents writer.old) (W.contents writer.new) (32 ∷ entry_text (key, row.now))) }
 {
     let mut text = Text::new();

@@ -6,20 +6,19 @@ ghost use Rattle.sq_world.specs.Echo.{reason_line, refused_text, answer_text};
 
 use sq_explain::entry;
 use sq_model::Answer;
-use sq_text::{write_answer, write_refused};
-use std::io;
+use sq_text::{WriteFault, write_answer, write_refused};
 use std::io::Write;
 
 // What stands between a line and its answer.
 const ARROW: &[u8] = b" -> ";
 
-/// Writes what a line is answered, behind the line where it echoes. An error is the writer's.
+/// Writes what a line is answered, behind the line where it echoes. An error is a write that failed.
 pub(crate) fn write_told<W: Write>(
     writer: &mut W,
     line: &[u8],
     answer: &Answer,
     echoes: bool,
-) -> io::Result<()>
+) -> Result<(), WriteFault>
     ensures { OnOk result (Appends (W.contents writer.old) (W.contents writer.new) (answer_text echoes line.now answer.now)) }
 {
     if let Answer::Refused(refusal) = answer {
@@ -33,13 +32,13 @@ pub(crate) fn write_told<W: Write>(
 }
 
 /// Writes the refusal of a line with this number, behind the line and with what the number means where it echoes. An error
-/// is the writer's.
+/// is a write that failed.
 pub(crate) fn write_refusal<W: Write>(
     writer: &mut W,
     line: &[u8],
     number: u16,
     echoes: bool,
-) -> io::Result<()>
+) -> Result<(), WriteFault>
     ensures { OnOk result (Appends (W.contents writer.old) (W.contents writer.new) (refused_text echoes line.now number)) }
 {
     if !echoes {
@@ -50,14 +49,15 @@ pub(crate) fn write_refusal<W: Write>(
     write_reason(writer, number)
 }
 
-// Writes a refusal with what its number means. An error is the writer's.
-fn write_reason<W: Write>(writer: &mut W, number: u16) -> io::Result<()>
+// Writes a refusal with what its number means. An error is a write that failed.
+fn write_reason<W: Write>(writer: &mut W, number: u16) -> Result<(), WriteFault>
     ensures { OnOk result (Appends (W.contents writer.old) (W.contents writer.new) (reason_line number (meaning_of number))) }
 {
     match entry(number) {
         Some(entry) => {
             let meaning = entry.meaning;
-            writeln!(writer, "refused {number}: {meaning}")
+            writeln!(writer, "refused {number}: {meaning}")?;
+            Ok(())
         }
         None => write_refused(writer, number),
     }

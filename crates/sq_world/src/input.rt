@@ -10,7 +10,6 @@ use sq_schema::{MAX_TABLES, Schema};
 use sq_state::World;
 use sq_text::{InputFault, LocatedFault, WriteFault, read_header};
 use std::alloc::Global;
-use std::io;
 use std::io::{Read, Write};
 
 /// Reads an input line by line, runs it, and writes what its lines are answered.
@@ -67,7 +66,7 @@ fn run_unflushed<R: Read, W: Write>(
     writer: &mut W,
     echoes: bool,
     kept: &mut Option<World>,
-) -> io::Result<Ending>
+) -> Result<Ending, WriteFault>
     ensures { IfOk result (Runs echoes MAX_TABLES (R.remaining reader.old) (W.contents writer.old) (W.contents writer.new)) }
 {
     match LineReader::new(alloc, reader) {
@@ -83,7 +82,7 @@ fn run_lines<R: Read, W: Write>(
     writer: &mut W,
     echoes: bool,
     kept: &mut Option<World>,
-) -> io::Result<Ending>
+) -> Result<Ending, WriteFault>
     ensures { IfOk result (RunsLines echoes MAX_TABLES lines.old (W.contents writer.old) (W.contents writer.new)) }
 {
     let Some(schema) = Schema::new(MAX_TABLES) else {

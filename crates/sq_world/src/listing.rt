@@ -64,7 +64,7 @@ fn list_unflushed<R: Read, W: Write, T: Telling>(
     reader: &mut R,
     writer: &mut W,
     telling: &T,
-) -> io::Result<Ending>
+) -> Result<Ending, WriteFault>
     ensures { IfOk result
         (Tells (T.tells telling.now) MAX_TABLES (R.remaining reader.old) (W.contents writer.old) (W.contents writer.new)) }
 {
@@ -80,7 +80,7 @@ fn list_moves<R: Read, W: Write, T: Telling>(
     lines: &mut LineReader<R>,
     writer: &mut W,
     telling: &T,
-) -> io::Result<Ending>
+) -> Result<Ending, WriteFault>
     ensures { IfOk result
         (TellsLines (T.tells telling.now) MAX_TABLES lines.old (W.contents writer.old) (W.contents writer.new)) }
 {
@@ -99,7 +99,7 @@ fn tell<W: Write, T: Telling>(
     writer: &mut W,
     telling: &T,
     recon: &Recon,
-) -> io::Result<Ending>
+) -> Result<Ending, WriteFault>
     ensures { IfOk result
         (TellsOrRefuses (T.tells telling.now) recon.now (W.contents writer.old) (W.contents writer.new)) }
 {

@@ -11,9 +11,8 @@ use crate::ending::Ending;
 use sq_lines::{LineReader, MAX_UNENDED, Next};
 use sq_schema::Schema;
 use sq_state::World;
-use sq_text::{InputFault, InputLine, LineFault, LocatedFault, read_step, write_fault};
+use sq_text::{InputFault, InputLine, LineFault, LocatedFault, WriteFault, read_step, write_fault};
 use std::alloc::Global;
-use std::io;
 use std::io::{Read, Write};
 
 // Writes what the lines of a script are answered, each answer behind its line where it echoes, and then the dump. What is
@@ -25,7 +24,7 @@ pub(crate) fn run_script<R: Read, W: Write>(
     lines: &mut LineReader<R>,
     writer: &mut W,
     echoes: bool,
-) -> io::Result<Ending>
+) -> Result<Ending, WriteFault>
     ensures { IfOk result
         (RunsScript echoes schema.now world.old lines.old (W.contents writer.old) (W.contents writer.new)) }
 {
@@ -59,7 +58,7 @@ fn line_of<R: Read>(lines: &LineReader<R>) -> InputLine
 }
 
 // Writes the dump, which ends the run.
-fn end<W: Write>(world: &World, writer: &mut W) -> io::Result<Ending>
+fn end<W: Write>(world: &World, writer: &mut W) -> Result<Ending, WriteFault>
     ensures done { IfOk result (λ ending. ending ≡ Ending.Done) }
     ensures dumped { OnOk result (Appends (W.contents writer.old) (W.contents writer.new) (dump world.now)) }
 {
@@ -75,7 +74,7 @@ fn write_line<W: Write>(
     line: &[u8],
     writer: &mut W,
     echoes: bool,
-) -> io::Result<()>
+) -> Result<(), WriteFault>
     ensures { OnOk result
         (AnswersWorld echoes schema.now line.now world.old world.new (W.contents writer.old) (W.contents writer.new)) }
 {
@@ -89,7 +88,7 @@ fn write_line<W: Write>(
 }
 
 // Writes the number of a fault, which ends the run.
-pub(crate) fn end_by<W: Write>(writer: &mut W, located: LocatedFault) -> io::Result<Ending>
+pub(crate) fn end_by<W: Write>(writer: &mut W, located: LocatedFault) -> Result<Ending, WriteFault>
     ensures { IfOk result (EndsAtFault located (W.contents writer.old) (W.contents writer.new)) }
 {
     write_fault(writer, located.fault.number())?;

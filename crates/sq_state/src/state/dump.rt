@@ -14,13 +14,12 @@ use crate::state::State;
 use sq_chunk::Chunk;
 use sq_plan::PartId;
 use sq_store::SlabStore;
-use sq_text::{write_at, write_end, write_way};
-use std::io;
+use sq_text::{WriteFault, write_at, write_end, write_way};
 use std::io::Write;
 
 impl State {
     /// Writes the phase, each partition with its families, and each link with what is under way on it.
-    pub fn write_dump<W: Write>(&self, writer: &mut W) -> io::Result<()>
+    pub fn write_dump<W: Write>(&self, writer: &mut W) -> Result<(), WriteFault>
         requires { IsSound self.now }
         ensures { OnOk result (Appends (W.contents writer.old) (W.contents writer.new) (dump self.now)) }
     {
@@ -30,7 +29,7 @@ impl State {
     }
 
     // Writes the families of each partition.
-    fn write_parts<W: Write>(&self, writer: &mut W) -> io::Result<()>
+    fn write_parts<W: Write>(&self, writer: &mut W) -> Result<(), WriteFault>
         requires { IsSound self.now }
         ensures { OnOk result (Appends (W.contents writer.old) (W.contents writer.new)
             (flat_map (part_lines self.now) (range_with_len 0 self.now.old.parts))) }
@@ -43,7 +42,7 @@ impl State {
     }
 
     // Writes what is under way from each partition.
-    fn write_links<W: Write>(&self, writer: &mut W) -> io::Result<()>
+    fn write_links<W: Write>(&self, writer: &mut W) -> Result<(), WriteFault>
         ensures { OnOk result (Appends (W.contents writer.old) (W.contents writer.new)
             (flat_map (source_lines self.now) (range_with_len 0 self.now.old.parts))) }
     {
@@ -54,7 +53,7 @@ impl State {
     }
 
     // Writes what is under way from a partition to each.
-    fn write_source<W: Write>(&self, writer: &mut W, src: u64) -> io::Result<()>
+    fn write_source<W: Write>(&self, writer: &mut W, src: u64) -> Result<(), WriteFault>
         ensures { OnOk result (Appends (W.contents writer.old) (W.contents writer.new) (source_lines self.now src)) }
     {
         for dst in 0..self.old_plan.parts() {
@@ -64,7 +63,7 @@ impl State {
     }
 
     // Writes what is under way from one partition to another.
-    fn write_link<W: Write>(&self, writer: &mut W, src: u64, dst: u64) -> io::Result<()>
+    fn write_link<W: Write>(&self, writer: &mut W, src: u64, dst: u64) -> Result<(), WriteFault>
         ensures { OnOk result (Appends (W.contents writer.old) (W.contents writer.new)
             (link_lines self.now (link_index self.now src dst))) }
     {
@@ -75,7 +74,7 @@ impl State {
     }
 
     // Writes the chunks of a queue's link that were cut and aren't loaded, the oldest first.
-    fn write_under_way<W: Write>(&self, writer: &mut W, queue: &Queue) -> io::Result<()>
+    fn write_under_way<W: Write>(&self, writer: &mut W, queue: &Queue) -> Result<(), WriteFault>
         ensures { OnOk result (Appends (W.contents writer.old) (W.contents writer.new)
             (flat_map way_lines (under_way (link_of self.now queue.now)))) }
     {
@@ -86,7 +85,11 @@ impl State {
 }
 
 // Writes the families in the store of a partition, by rising root key.
-fn write_families<W: Write>(writer: &mut W, part: PartId, store: &SlabStore) -> io::Result<()>
+fn write_families<W: Write>(
+    writer: &mut W,
+    part: PartId,
+    store: &SlabStore,
+) -> Result<(), WriteFault>
     ensures { OnOk result (Appends (W.contents writer.old) (W.contents writer.new) (flat_map (at_line part) (families_in store.now))) }
 {
     for family in store.families() {
@@ -96,7 +99,7 @@ fn write_families<W: Write>(writer: &mut W, part: PartId, store: &SlabStore) -> 
 }
 
 // Writes a chunk, if there is one.
-fn write_slot<W: Write>(writer: &mut W, slot: Option<&Chunk>) -> io::Result<()>
+fn write_slot<W: Write>(writer: &mut W, slot: Option<&Chunk>) -> Result<(), WriteFault>
     ensures { OnOk result (Appends (W.contents writer.old) (W.contents writer.new)
         (flat_map way_lines (option_list (option_copied slot.entry)))) }
 {
@@ -107,7 +110,7 @@ fn write_slot<W: Write>(writer: &mut W, slot: Option<&Chunk>) -> io::Result<()>
 }
 
 // Writes the chunks of a queue, the oldest first.
-fn write_queue<W: Write>(writer: &mut W, queue: &Queue) -> io::Result<()>
+fn write_queue<W: Write>(writer: &mut W, queue: &Queue) -> Result<(), WriteFault>
     ensures { OnOk result (Appends (W.contents writer.old) (W.contents writer.new) (flat_map way_lines queue.now.chunks)) }
 {
     let (front, back) = queue.as_slices();
@@ -116,7 +119,7 @@ fn write_queue<W: Write>(writer: &mut W, queue: &Queue) -> io::Result<()>
 }
 
 // Writes chunks, the first one first.
-fn write_chunks<W: Write>(writer: &mut W, chunks: &[Chunk]) -> io::Result<()>
+fn write_chunks<W: Write>(writer: &mut W, chunks: &[Chunk]) -> Result<(), WriteFault>
     ensures { OnOk result (Appends (W.contents writer.old) (W.contents writer.new) (flat_map way_lines chunks.now)) }
 {
     for chunk in chunks {

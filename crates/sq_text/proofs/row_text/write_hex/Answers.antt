@@ -11,5 +11,5 @@ loop-rest-preserved g c =
     let written = before.0 in (
       written ++ c.split_at.result.0.now,
       before.1 ∙ ap (λ (t : List ℕ). written ++ t) c.split_at.ensures.by_index.0 ∙ sym (append_assoc written c.split_at.result.0.now c.split_at.result.1.now),
-      both _ _ _ _ _ _ before.2 c.in_ok-write_all.ensures.bytes (rw flat_map-append (ap (λ (t : List ℕ). flat_map hex_byte_text written ++ t) c.put_hex.ensures)),
+      both _ _ _ _ _ _ before.2 c.in_ok-write_bytes.ensures (rw flat_map-append (ap (λ (t : List ℕ). flat_map hex_byte_text written ++ t) c.put_hex.ensures)),
     )
