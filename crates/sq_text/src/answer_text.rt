@@ -226,6 +226,7 @@ pub fn write_answer<W: Write>(writer: &mut W, answer: &Answer) -> Result<(), Wri
 }
 
 /// Writes the line of a refusal with this number. An error is a write that failed.
+#[inline(always)]
 pub fn write_refused<W: Write>(writer: &mut W, number: u16) -> Result<(), WriteFault>
     ensures { OnOk result (Appends (W.contents writer.old) (W.contents writer.new) (refused_line number)) }
 {

@@ -33,6 +33,7 @@ pub(crate) fn write_told<W: Write>(
 
 /// Writes the refusal of a line with this number, behind the line and with what the number means where it echoes. An error
 /// is a write that failed.
+#[inline(always)]
 pub(crate) fn write_refusal<W: Write>(
     writer: &mut W,
     line: &[u8],
