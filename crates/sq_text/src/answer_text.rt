@@ -1,5 +1,5 @@
 // The lines that steps are answered.
-ghost use Rattle.std.specs.Prelude.{◌≡◌, ◌≤◌, ◌∷◌, ◌++◌, [], false, length, OnOk};
+ghost use Rattle.std.specs.Prelude.{◌≡◌, ◌≤◌, ◌+◌, ◌∷◌, ◌++◌, [], false, length, decimal, OnOk};
 ghost use Rattle.std.specs.List.{flat_map, join_with_byte};
 ghost use Rattle.std.specs.Io.KnownBytes.{Appends};
 ghost use Rattle.sq_schema.specs.declared.txn.Reply.TheVariants.{Aborted};
@@ -15,7 +15,6 @@ use sq_plan::PartId;
 use sq_ranges::SegId;
 use sq_schema::{Cause, OpAnswer, Reply};
 use sq_tree::{Leaf, Reading, Status};
-use std::io;
 use std::io::Write;
 
 fn cause_text(cause: Cause) -> &'static [u8]
@@ -146,26 +145,39 @@ fn write_note<W: Write>(
     write_bytes(writer, text.as_bytes())
 }
 
-// Writes the status of a node.
-fn write_status<W: Write>(writer: &mut W, status: Status) -> io::Result<()>
-    ensures { OnOk result (Appends (W.contents writer.old) (W.contents writer.new) (status_text status)) }
+// Puts a word, which comes with its space, and the number of a pull at the front of a text.
+fn put_pull(text: &mut TextOf<64>, front: &[u8], pull: u32)
+    requires { length front.now + length text.old ≤ 44 }
+    ensures text { text.new ≡ front.now ++ (decimal pull ++ text.old) }
+    ensures size { length text.new ≤ length front.now + length text.old + 20 }
+{
+    text.put_number(u64::from(pull));
+    text.put(front);
+}
+
+// Puts the status of a node at the front of a text.
+fn put_status(text: &mut TextOf<64>, status: Status)
+    requires { length text.old ≤ 35 }
+    ensures text { text.new ≡ status_text status ++ text.old }
+    ensures size { length text.new ≤ length text.old + 29 }
 {
     match status {
-        Status::Free => write!(writer, "free"),
-        Status::Split => write!(writer, "split"),
-        Status::Claimed(pull) => write!(writer, "claimed {pull}"),
-        Status::Partial(pull) => write!(writer, "partial {pull}"),
-        Status::Complete(pull) => write!(writer, "complete {pull}"),
+        Status::Free => text.put(b"free"),
+        Status::Split => text.put(b"split"),
+        Status::Claimed(pull) => put_pull(text, b"claimed ", pull),
+        Status::Partial(pull) => put_pull(text, b"partial ", pull),
+        Status::Complete(pull) => put_pull(text, b"complete ", pull),
     }
 }
 
-fn reading_text(reading: Reading) -> &'static str
-    ensures { result.now ≡ reading_text reading }
+fn reading_text(reading: Reading) -> &'static [u8]
+    ensures text { result.now ≡ reading_text reading }
+    ensures size { length result.now ≤ 11 }
 {
     match reading {
-        Reading::NotStarted => "not-started",
-        Reading::Partial => "partial",
-        Reading::Complete => "complete",
+        Reading::NotStarted => b"not-started",
+        Reading::Partial => b"partial",
+        Reading::Complete => b"complete",
     }
 }
 
@@ -173,11 +185,13 @@ fn reading_text(reading: Reading) -> &'static str
 fn write_node<W: Write>(writer: &mut W, status: Status, reading: Reading) -> Result<(), WriteFault>
     ensures { OnOk result (Appends (W.contents writer.old) (W.contents writer.new) (line (node_words status reading))) }
 {
-    let reading = reading_text(reading);
-    write!(writer, "is ")?;
-    write_status(writer, status)?;
-    writeln!(writer, " {reading}")?;
-    Ok(())
+    let mut text = TextOf::<64>::new();
+    text.put_byte(b'\n');
+    text.put(reading_text(reading));
+    text.put_byte(b' ');
+    put_status(&mut text, status);
+    text.put(b"is ");
+    write_bytes(writer, text.as_bytes())
 }
 
 // Writes the line of a transaction that is sent on.
