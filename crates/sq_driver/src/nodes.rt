@@ -46,7 +46,7 @@ impl Worker for Node {
                 Turn::Ended => return Turn::Ended,
             }
         }
-        if serve_on(rt, fabric, self, before, gate) == Turn::Ended {
+        if !serve_on(rt, fabric, self, before, gate) {
             return Turn::Ended;
         }
         if self.idle(fabric) {
@@ -75,14 +75,15 @@ pub fn drive<R: Wait, G: Gate>(rt: &R, fabric: &Fabric, node: &mut Node, turns: 
     take_turns(rt, fabric, node, turns, gate);
 }
 
-// Goes on with jobs, by as much as is owed for the chunks that were cut or loaded since a turn began.
+// Goes on with jobs, by as much as is owed for the chunks that were cut or loaded since a turn began. Whether the gate lets
+// the node go on.
 fn serve_on<R: Wait, G: Gate>(
     rt: &R,
     fabric: &Fabric,
     node: &mut Node,
     before: Effort,
     gate: &G,
-) -> Turn
+) -> bool
     requires { IsNodeOf fabric.now node.old }
     ensures { Driven fabric.now node.old node.new }
 {
@@ -98,10 +99,11 @@ fn serve_on<R: Wait, G: Gate>(
         }
         match serve(rt, fabric, node, gate) {
             Turn::Worked => {}
-            turn => return turn,
+            Turn::Rested => return true,
+            Turn::Ended => return false,
         }
     }
-    Turn::Worked
+    true
 }
 
 // Takes up a transaction that waits, or else takes a job.

@@ -19,8 +19,8 @@ pub loop-step-preserved : goal.loop-step-preserved
 loop-step-preserved g c =
     node_further c.args.fabric.now c.args.self.now c.loop-step.self c.try_step.new.node c.loop-step.invariant c.try_step.ensures
 
-pub returns-then-eq : goal.returns-then-eq
-returns-then-eq g c =
+pub returns-then-not-serve_on : goal.returns-then-not-serve_on
+returns-then-not-serve_on g c =
     node_further c.args.fabric.now c.args.self.now c.loop-step.self c.serve_on.new.node c.loop-step.invariant c.serve_on.ensures
 
 pub returns-then-idle : goal.returns-then-idle
