@@ -75,7 +75,10 @@ impl Node {
                 self.desk.add(receipt(&self.core, txn, reply));
                 fabric.count_answer();
             }
-            Outcome::Moved(to) => self.desk.post(rt, fabric, to, txn),
+            Outcome::Moved(to) => {
+                self.effort.add_post();
+                self.desk.post(rt, fabric, to, txn);
+            }
             Outcome::Waits(_, _) => drop(txn),
         }
         Stepped::Did
