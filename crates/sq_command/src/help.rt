@@ -160,9 +160,10 @@ thread too, claim the rest in the background. The plans and the rows may stand i
 files of their own, as for 'squall run'.
 
 In a turn a partition takes one new job. Where it moves rows in that turn it goes on
-with jobs, so that these have three quarters of its time. So a partition needs at
-most as many turns as jobs are posted to it, or more where they wait for rows. Set
---turns where a run stops before all is done, or where it is to stop soon.
+with jobs until it has done three times as much for them as for the chunks of the
+turn, or finds none. So a partition needs at most as many turns as jobs are posted
+to it, or more where they wait for rows. Set --turns where a run stops before all is
+done, or where it is to stop soon.
 
 A move in several stages runs them one after another, each with all of its turns,
 and a stage whose rows haven't all moved then stops the run. With --fold what is
