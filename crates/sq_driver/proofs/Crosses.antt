@@ -54,14 +54,17 @@ fabric_sync =
         (
           search sendable,
           (
-            vec_sync StatusTree.the_row tree.the_sync,
+            search sendable,
             (
-              vec_sync TreeSeat.the_row tree_seat,
+              vec_sync StatusTree.the_row tree.the_sync,
               (
-                vec_sync SharedLink.the_row link.the_sync,
+                vec_sync TreeSeat.the_row tree_seat,
                 (
-                  vec_sync Receipt.the_row receipt.the_sync,
-                  (vec_sync _ (queue_sync Request.the_row request.the_send), (vec_sync _ (queue_sync Txn.the_row txn.the_send), (atomic.the_sync, (atomic.the_sync, tt)))),
+                  vec_sync SharedLink.the_row link.the_sync,
+                  (
+                    vec_sync Receipt.the_row receipt.the_sync,
+                    (vec_sync _ (queue_sync Request.the_row request.the_send), (vec_sync _ (queue_sync Txn.the_row txn.the_send), (atomic.the_sync, (atomic.the_sync, tt)))),
+                  ),
                 ),
               ),
             ),

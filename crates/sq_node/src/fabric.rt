@@ -34,6 +34,7 @@ pub const JOB_PLACES: usize = 4096;
 pub struct Fabric {
     recon: Recon,
     stage: u64,
+    is_last_stage: bool,
     parts: u8,
     trees: Vec<StatusTree>,
     seats: Vec<TreeSeat>,
@@ -46,6 +47,8 @@ pub struct Fabric {
 }
 
 impl Model for Fabric {
+    ghost use Rattle.std.specs.Prelude.{◌↔◌, ◌+◌, ◌≤◌, IsTrue};
+    ghost use Rattle.sq_ranges.specs.Prelude.{stages};
     ghost use Rattle.sq_node.specs.FabricValue.{FabricValue, IsFabric};
 
     ghost Value = { FabricValue };
@@ -54,7 +57,8 @@ impl Model for Fabric {
 
     ghost view = { fabric_of };
 
-    ghost invariant = { λ f. IsFabric (fabric_of f) };
+    ghost invariant = { λ f. IsFabric (fabric_of f)
+        × (IsTrue f.is_last_stage ↔ (stages f.recon ≤ f.stage + 1)) };
 }
 
 /// What a run shared, once its threads are joined.
@@ -173,7 +177,7 @@ impl Fabric {
     pub(crate) fn is_last_stage(&self) -> bool
         ensures { IsTrue result ↔ (stages self.now.recon ≤ self.now.stage + 1) }
     {
-        self.stage >= self.recon.stages() - 1
+        self.is_last_stage
     }
 
     /// What was shared.

@@ -1,6 +1,6 @@
 // Opening a run, and a stage of it.
-ghost use Rattle.std.specs.Prelude.{◌≡◌, ◌<◌, ◌==◌, ◌≤◌, [], length, map, filter, Ok, IfOk, IfErr, OnOk};
-ghost use Rattle.sq_ranges.specs.Prelude.{stage_on};
+ghost use Rattle.std.specs.Prelude.{◌≡◌, ◌↔◌, ◌+◌, ◌<◌, ◌==◌, ◌≤◌, [], length, map, filter, Ok, IfOk, IfErr, OnOk, IsTrue};
+ghost use Rattle.sq_ranges.specs.Prelude.{stage_on, stages};
 ghost use Rattle.sq_pull.specs.declared.numbers.TheConstants.{MAX_PUMPS};
 ghost use Rattle.sq_node.specs.FabricValue.{ends_of};
 ghost use Rattle.sq_node.specs.Opened.{AreFirstSeats, HaveCapacity, HasAllEnds, IsFabricOf, IsReopened, IsOpened, IsOpenStore, opened_stores, HaveOwned};
@@ -177,6 +177,7 @@ fn open_fabric(
     let fabric = Fabric {
         recon: recon.clone()?,
         stage,
+        is_last_stage: is_last(recon, stage),
         parts,
         trees,
         seats,
@@ -188,6 +189,13 @@ fn open_fabric(
         answered: AtomicU64::new(0),
     };
     Ok((fabric, ends))
+}
+
+// Whether a stage is the last one of a move.
+fn is_last(recon: &Recon, stage: u64) -> bool
+    ensures { IsTrue result ↔ (stages recon.now ≤ stage + 1) }
+{
+    stage >= recon.stages() - 1
 }
 
 // This many trees, whose nodes are all free, with their first seats.
