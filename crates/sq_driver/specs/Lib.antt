@@ -1,4 +1,5 @@
 pub mod Ways
 pub mod Nodes
+pub mod Told
 pub mod Pumps
 pub mod Laws

@@ -1,12 +1,16 @@
 //! What holds of the workers of a run. The functions do nothing: each states a law, which the checker proves.
-ghost use Rattle.std.specs.Prelude.{ℕ, List, All};
+ghost use Rattle.std.specs.Prelude.{◌≡◌, ℕ, Bool, true, List, [], ◌∷◌, ◌++◌, All};
 ghost use Rattle.sq_ranges.specs.Prelude.{OpeningValue, IsOpening};
 ghost use Rattle.sq_pull.specs.Pump.{PumpValue};
 ghost use Rattle.sq_store.specs.Prelude.{StoreValue};
 ghost use Rattle.sq_node_model.specs.Prelude.{ReceiptValue, BeganWith, first_began};
 ghost use Rattle.sq_node.specs.Prelude.{FabricValue, NodeState, IsNodeOf, HoldsUnder, IsOpened, IsReopened};
 ghost use Rattle.sq_driver.specs.Nodes.{AllDriven};
+ghost use Rattle.sq_driver.specs.declared.teller.TellingNode.{TellingNode};
+ghost use Rattle.sq_driver.specs.Told.{HasTold, AllDrivenTelling, nodes_of};
 ghost use Rattle.sq_driver.specs.Pumps.{HasAllSeats, AllPumpsDriven};
+
+use crate::teller::Teller;
 
 /// The nodes and the pumps that a run opens with can be driven, and what a node keeps holds of each node, as
 /// the first stage begins.
@@ -40,4 +44,22 @@ pub fn driven_nodes_hold()
 pub fn driven_workers_stay()
     ensures nodes { (fabric : FabricValue) (old new : List NodeState) → AllDriven fabric old new → All (IsNodeOf fabric) new }
     ensures pumps { (fabric : FabricValue) (old new : List PumpValue) → AllPumpsDriven fabric old new → All (HasAllSeats fabric) new }
+{}
+
+/// Nodes that were driven with their tellers were driven, so what holds of such holds of them.
+pub fn nodes_with_tellers_are_driven<T: Teller>()
+    ensures { (fabric : FabricValue) (old new : List (TellingNode T))
+        → AllDrivenTelling T.Tells fabric old new → AllDriven fabric (nodes_of old) (nodes_of new) }
+{}
+
+/// What a teller that didn't break off told has grown by just the receipts that its node wrote, each once, in their order.
+/// `told` says what it told, and `goes_on` whether it didn't break off: of one that never does that is always so.
+pub fn what_is_told_is_what_is_written<T: Teller>()
+    ensures { (told : T → List ReceiptValue) (goes_on : T → Bool)
+        → ((before after : T) (receipt : ReceiptValue)
+        → T.Tells before receipt after → goes_on after ≡ true
+        → (goes_on before ≡ true) × (told after ≡ told before ++ receipt ∷ []))
+        → (old new : List ReceiptValue) (before after : T)
+        → HasTold T.Tells old before new after → goes_on after ≡ true
+        → (more : List ReceiptValue) × (new ≡ old ++ more) × (told after ≡ told before ++ more) }
 {}

@@ -1,15 +1,17 @@
 //! Workers: each node and each pump of a run in a thread of its own, which takes its turns one after another. A gate is
-//! asked before each step, and may end a worker.
+//! asked before each step, and may end a worker. A node may have a teller, who is told of each receipt that it writes.
 #![tactic(auto)]
 
 mod gate;
 pub mod laws;
 mod nodes;
 mod pumps;
+mod teller;
 mod worker;
 mod workers;
 
 pub use gate::{Gate, NodeStep, OpenGate};
-pub use nodes::drive;
+pub use nodes::{drive, drive_telling};
 pub use pumps::drive_pump;
-pub use workers::run_workers;
+pub use teller::{NoTeller, Teller, TellingNode};
+pub use workers::{run_telling, run_workers};

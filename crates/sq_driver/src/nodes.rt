@@ -1,8 +1,10 @@
 // Nodes that are driven.
 ghost use Rattle.sq_node.specs.Prelude.{IsNodeOf};
 ghost use Rattle.sq_driver.specs.Nodes.{MakesStep, Driven};
+ghost use Rattle.sq_driver.specs.Told.{HasTold, DrivenAndTold, DrivenTelling};
 
 use crate::gate::{Gate, NodeStep};
+use crate::teller::{NoTeller, Teller, TellingNode};
 use crate::worker::{Turn, Worker, take_turns};
 use sq_node::{Effort, Fabric, Node, Stepped};
 use std::sync::Wait;
@@ -34,25 +36,8 @@ impl Worker for Node {
 
     ghost Driven = { Driven };
 
-    // Sends what is pending, and makes each step once. Where a chunk was cut or loaded, it goes on with jobs for a while.
     fn take_turn<R: Wait, G: Gate>(&mut self, rt: &R, fabric: &Fabric, gate: &G) -> Turn {
-        let before = self.effort();
-        self.send_pending(rt, fabric);
-        let mut turn = Turn::Rested;
-        for step in TURN {
-            match try_step(rt, fabric, self, step, gate) {
-                Turn::Worked => turn = Turn::Worked,
-                Turn::Rested => {}
-                Turn::Ended => return Turn::Ended,
-            }
-        }
-        if !serve_on(rt, fabric, self, before, gate) {
-            return Turn::Ended;
-        }
-        if self.idle(fabric) {
-            return Turn::Ended;
-        }
-        turn
+        take_node_turn(rt, fabric, self, &mut NoTeller, gate)
     }
 
     ghost no_turn = { node_no_turn };
@@ -60,6 +45,28 @@ impl Worker for Node {
     ghost stays = { node_stays };
 
     ghost further = { node_further };
+}
+
+impl<T: Teller> Worker for TellingNode<T> {
+    ghost use Rattle.sq_node.specs.Prelude.{IsNodeOf};
+    ghost use Rattle.sq_driver.specs.Told.{DrivenTelling};
+    ghost use Rattle.sq_driver.specs.Laws.{telling_no_turn, telling_further};
+
+    ghost IsOf = { λ fabric pair. IsNodeOf fabric pair.node };
+
+    ghost Driven = { λ fabric old new. DrivenTelling T.Tells fabric old new };
+
+    fn take_turn<R: Wait, G: Gate>(&mut self, rt: &R, fabric: &Fabric, gate: &G) -> Turn {
+        take_node_turn(rt, fabric, &mut self.node, &mut self.teller, gate)
+    }
+
+    ghost no_turn = { λ fabric pair of. telling_no_turn T.Tells fabric pair.node pair.teller of };
+
+    ghost stays = { λ fabric old new was. was.driven.stays };
+
+    ghost further = { λ fabric first old new was more.
+        telling_further T.Tells fabric
+        first.node first.teller old.node old.teller new.node new.teller was more };
 }
 
 /// Drives a node: it takes this many turns. In a turn it makes each step once, and cuts and sends a second chunk. Where it
@@ -75,17 +82,63 @@ pub fn drive<R: Wait, G: Gate>(rt: &R, fabric: &Fabric, node: &mut Node, turns: 
     take_turns(rt, fabric, node, turns, gate);
 }
 
-// Goes on with jobs, by as much as is owed for the chunks that were cut or loaded since a turn began. Whether the gate lets
-// the node go on.
-fn serve_on<R: Wait, G: Gate>(
+/// Drives a node with its teller, as [`drive`] does. The teller is told of each receipt that the node writes, once, in their
+/// order, and of nothing else. It is told as soon as the step is made that wrote the receipt, before the gate is.
+pub fn drive_telling<T: Teller, R: Wait, G: Gate>(
+    rt: &R,
+    fabric: &Fabric,
+    pair: &mut TellingNode<T>,
+    turns: u64,
+    gate: &G,
+)
+    requires { IsNodeOf fabric.now pair.old.node }
+    ensures { DrivenTelling T.Tells fabric.now pair.old pair.new }
+{
+    take_turns(rt, fabric, pair, turns, gate);
+}
+
+// Sends what is pending, and makes each step once. Where a chunk was cut or loaded, it goes on with jobs for a while.
+fn take_node_turn<T: Teller, R: Wait, G: Gate>(
     rt: &R,
     fabric: &Fabric,
     node: &mut Node,
+    teller: &mut T,
+    gate: &G,
+) -> Turn
+    requires { IsNodeOf fabric.now node.old }
+    ensures { DrivenAndTold T.Tells fabric.now node.old teller.old node.new teller.new }
+{
+    let before = node.effort();
+    node.send_pending(rt, fabric);
+    let mut turn = Turn::Rested;
+    for step in TURN {
+        match try_step(rt, fabric, node, teller, step, gate) {
+            Turn::Worked => turn = Turn::Worked,
+            Turn::Rested => {}
+            Turn::Ended => return Turn::Ended,
+        }
+    }
+    if !serve_on(rt, fabric, node, teller, before, gate) {
+        return Turn::Ended;
+    }
+    if node.idle(fabric) {
+        return Turn::Ended;
+    }
+    turn
+}
+
+// Goes on with jobs, by as much as is owed for the chunks that were cut or loaded since a turn began. Whether the gate lets
+// the node go on.
+fn serve_on<T: Teller, R: Wait, G: Gate>(
+    rt: &R,
+    fabric: &Fabric,
+    node: &mut Node,
+    teller: &mut T,
     before: Effort,
     gate: &G,
 ) -> bool
     requires { IsNodeOf fabric.now node.old }
-    ensures { Driven fabric.now node.old node.new }
+    ensures { DrivenAndTold T.Tells fabric.now node.old teller.old node.new teller.new }
 {
     let now = node.effort();
     let owed = now
@@ -97,7 +150,7 @@ fn serve_on<R: Wait, G: Gate>(
         if node.effort().jobs >= until {
             break;
         }
-        match serve(rt, fabric, node, gate) {
+        match serve(rt, fabric, node, teller, gate) {
             Turn::Worked => {}
             Turn::Rested => return true,
             Turn::Ended => return false,
@@ -107,33 +160,40 @@ fn serve_on<R: Wait, G: Gate>(
 }
 
 // Takes up a transaction that waits, or else takes a job.
-fn serve<R: Wait, G: Gate>(rt: &R, fabric: &Fabric, node: &mut Node, gate: &G) -> Turn
+fn serve<T: Teller, R: Wait, G: Gate>(
+    rt: &R,
+    fabric: &Fabric,
+    node: &mut Node,
+    teller: &mut T,
+    gate: &G,
+) -> Turn
     requires { IsNodeOf fabric.now node.old }
-    ensures { Driven fabric.now node.old node.new }
+    ensures { DrivenAndTold T.Tells fabric.now node.old teller.old node.new teller.new }
 {
-    match try_step(rt, fabric, node, NodeStep::Resume, gate) {
-        Turn::Rested => try_step(rt, fabric, node, NodeStep::Job, gate),
+    match try_step(rt, fabric, node, teller, NodeStep::Resume, gate) {
+        Turn::Rested => try_step(rt, fabric, node, teller, NodeStep::Job, gate),
         turn => turn,
     }
 }
 
-// Makes a step of a node, where the gate lets it pass, and tells the gate what came of it.
-fn try_step<R: Wait, G: Gate>(
+// Makes a step of a node, where the gate lets it pass, tells its receipt, and tells the gate what came of it.
+fn try_step<T: Teller, R: Wait, G: Gate>(
     rt: &R,
     fabric: &Fabric,
     node: &mut Node,
+    teller: &mut T,
     step: NodeStep,
     gate: &G,
 ) -> Turn
     requires { IsNodeOf fabric.now node.old }
-    ensures { Driven fabric.now node.old node.new }
+    ensures { DrivenAndTold T.Tells fabric.now node.old teller.old node.new teller.new }
 {
     let who = u64::from(node.part().number());
     if !gate.pass(who, step) {
         return Turn::Ended;
     }
     let receipts = node.receipts().len();
-    if make_step(rt, fabric, node, step) != Stepped::Did {
+    if step_and_tell(rt, fabric, node, teller, step) != Stepped::Did {
         return Turn::Rested;
     }
     if let Some(told) = outcome(node, step, receipts) {
@@ -142,6 +202,26 @@ fn try_step<R: Wait, G: Gate>(
         }
     }
     Turn::Worked
+}
+
+// Makes a step of a node, and tells the receipt that it wrote, if it wrote one.
+fn step_and_tell<T: Teller, R: Wait>(
+    rt: &R,
+    fabric: &Fabric,
+    node: &mut Node,
+    teller: &mut T,
+    step: NodeStep,
+) -> Stepped
+    requires { IsNodeOf fabric.now node.old }
+    ensures made { MakesStep fabric.now step node.old result node.new }
+    ensures told { HasTold T.Tells node.old.receipts teller.old node.new.receipts teller.new }
+{
+    let receipts = node.receipts().len();
+    let stepped = make_step(rt, fabric, node, step);
+    if let Some(receipt) = node.receipts().get(receipts) {
+        teller.tell(rt, receipt);
+    }
+    stepped
 }
 
 // What the gate is told of a step that a node made, which had this many receipts before: a receipt, or a segment that is

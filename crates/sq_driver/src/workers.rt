@@ -3,9 +3,11 @@ ghost use Rattle.std.specs.Prelude.{All};
 ghost use Rattle.sq_node.specs.Prelude.{IsNodeOf};
 ghost use Rattle.sq_driver.specs.Ways.{EachDriven};
 ghost use Rattle.sq_driver.specs.Nodes.{AllDriven};
+ghost use Rattle.sq_driver.specs.Told.{AllDrivenTelling};
 ghost use Rattle.sq_driver.specs.Pumps.{HasAllSeats, AllPumpsDriven};
 
 use crate::gate::Gate;
+use crate::teller::{Teller, TellingNode};
 use crate::worker::{Worker, take_turns};
 use sq_node::{Fabric, Node};
 use sq_pull::Pump;
@@ -28,12 +30,47 @@ pub fn run_workers<R: Threads + Wait + Sync, G: Gate + Sync>(
     ensures nodes { AllDriven fabric.now nodes.old nodes.new }
     ensures pumps { AllPumpsDriven fabric.now pumps.old pumps.new }
 {
+    run_all(rt, fabric, nodes, pumps, turns, gate);
+}
+
+/// Drives each node, with its teller, and each pump, as [`run_workers`] does. A teller is told of each receipt that its node
+/// writes, once, in their order, and of nothing else, by the thread that drives the node.
+pub fn run_telling<T: Teller + Send, R: Threads + Wait + Sync, G: Gate + Sync>(
+    rt: &R,
+    fabric: &Fabric,
+    pairs: &mut [TellingNode<T>],
+    pumps: &mut [Pump],
+    turns: u64,
+    gate: &G,
+)
+    requires nodes { All (λ pair. IsNodeOf fabric.now pair.node) pairs.old }
+    requires pumps { All (HasAllSeats fabric.now) pumps.old }
+    ensures nodes { AllDrivenTelling T.Tells fabric.now pairs.old pairs.new }
+    ensures pumps { AllPumpsDriven fabric.now pumps.old pumps.new }
+{
+    run_all(rt, fabric, pairs, pumps, turns, gate);
+}
+
+// Drives each of these workers, and each pump, in a thread of its own.
+fn run_all<W: Worker + Send, R: Threads + Wait + Sync, G: Gate + Sync>(
+    rt: &R,
+    fabric: &Fabric,
+    workers: &mut [W],
+    pumps: &mut [Pump],
+    turns: u64,
+    gate: &G,
+)
+    requires workers { All (W.IsOf fabric.now) workers.old }
+    requires pumps { All (HasAllSeats fabric.now) pumps.old }
+    ensures workers { EachDriven (W.Driven fabric.now) workers.old workers.new }
+    ensures pumps { AllPumpsDriven fabric.now pumps.old pumps.new }
+{
     join_mut(
         rt,
         &mut ||
-            requires { All (IsNodeOf fabric.now) nodes.now }
-            ensures { AllDriven fabric.entry.now nodes.entry.now nodes.exit.now }
-        { run_each(rt, fabric, nodes, turns, gate) },
+            requires { All (W.IsOf fabric.now) workers.now }
+            ensures { EachDriven (W.Driven fabric.entry.now) workers.entry.now workers.exit.now }
+        { run_each(rt, fabric, workers, turns, gate) },
         &mut ||
             requires { All (HasAllSeats fabric.now) pumps.now }
             ensures { AllPumpsDriven fabric.entry.now pumps.entry.now pumps.exit.now }

@@ -1,24 +1,27 @@
-use Rattle.sq_driver.specs.Nodes.{Driven}
-use Rattle.sq_driver.specs.Laws.{node_no_turn}
-use Rattle.sq_driver.proofs.Driving.{then_step}
+use Rattle.sq_driver.specs.Told.{DrivenAndTold}
+use Rattle.sq_driver.specs.Laws.{telling_no_turn}
+use Rattle.sq_driver.proofs.Told.{telling_step}
 use Rattle.sq_driver.proofs.nodes.try_step.Goals as goal
 use Rattle.sq_driver.proofs.nodes.try_step.Given.{Over}
-use Rattle.sq_driver.proofs.nodes.try_step.Goals.{After-make_step}
+use Rattle.sq_driver.proofs.nodes.try_step.Goals.{After-step_and_tell}
 
--- the node made the step
-made : (g : Over) (c : After-make_step g) → Driven c.args.fabric.now c.args.node.now c.make_step.new.node
+-- the node made the step, and what it wrote was told
+made : (g : Over) (c : After-step_and_tell g) → DrivenAndTold g.T.Teller.Tells c.args.fabric.now c.args.node.now c.args.teller.now c.step_and_tell.new.node c.step_and_tell.new.teller
 made g c =
-    let node = c.args.node.now in
-    then_step c.args.fabric.now node node c.args.step c.make_step.result c.make_step.new.node (node_no_turn c.args.fabric.now node c.requires) c.make_step.ensures
+    telling_step g.T.Teller.Tells c.args.fabric.now c.args.step c.args.node.now c.args.teller.now c.step_and_tell.result
+    c.step_and_tell.new.node c.step_and_tell.new.teller c.requires c.step_and_tell.ensures.made c.step_and_tell.ensures.told
+
+pub returns-then-not-pass : goal.returns-then-not-pass
+returns-then-not-pass g c = telling_no_turn g.T.Teller.Tells c.args.fabric.now c.args.node.now c.args.teller.now c.requires
 
 pub returns-then-ne : goal.returns-then-ne
-returns-then-ne g c = made g (goal.at.returns-then-ne g c).After-make_step
+returns-then-ne g c = made g (goal.at.returns-then-ne g c).After-step_and_tell
 
 pub returns-then-not-pass-2 : goal.returns-then-not-pass-2
-returns-then-not-pass-2 g c = made g (goal.at.returns-then-not-pass-2 g c).After-make_step
+returns-then-not-pass-2 g c = made g (goal.at.returns-then-not-pass-2 g c).After-step_and_tell
 
 pub returns-else-not-pass-2 : goal.returns-else-not-pass-2
-returns-else-not-pass-2 g c = made g (goal.at.returns-else-not-pass-2 g c).After-make_step
+returns-else-not-pass-2 g c = made g (goal.at.returns-else-not-pass-2 g c).After-step_and_tell
 
 pub returns-in_default : goal.returns-in_default
-returns-in_default g c = made g (goal.at.returns-in_default g c).After-make_step
+returns-in_default g c = made g (goal.at.returns-in_default g c).After-step_and_tell

@@ -1,0 +1,7 @@
+use denote.Param.Send.{sendable}
+use Rattle.sq_driver.proofs.Crosses.{fabric_sync}
+use Rattle.sq_driver.proofs.workers.run_all.Goals as goal
+
+pub join_mut-requires-send-F : goal.join_mut-requires-send-F
+join_mut-requires-send-F g c κs within =
+    let w = c.type_bounds.send-W in let r = c.type_bounds.sync-R in let a = c.type_bounds.sync-G in search (sendable, fabric_sync) depth 30

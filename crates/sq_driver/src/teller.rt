@@ -1,0 +1,36 @@
+// Who is told of the receipts of a node.
+ghost use Rattle.sq_node_model.specs.Prelude.{ReceiptValue};
+
+use sq_node::{Node, Receipt};
+use std::sync::Wait;
+
+/// Who is told of the receipts of one node, by the thread that drives it.
+pub trait Teller {
+    /// What telling a receipt makes of a teller.
+    ghost Tells: { Self → ReceiptValue → Self → Type 0 };
+
+    /// Tells a receipt of its node, as soon as that is written. It may wait.
+    fn tell<R: Wait>(&mut self, rt: &R, receipt: &Receipt)
+        ensures { Tells self.old receipt.now self.new };
+}
+
+/// A node, and who is told of its receipts.
+#[derive(Drop)]
+pub struct TellingNode<T> {
+    /// The node.
+    pub node: Node,
+    /// Who is told of each receipt that it writes.
+    pub teller: T,
+}
+
+/// A teller that tells nobody.
+#[derive(Clone, Copy, Debug)]
+pub struct NoTeller;
+
+impl Teller for NoTeller {
+    ghost use Rattle.std.specs.Prelude.{◌≡◌};
+
+    ghost Tells = { λ old receipt new. new ≡ old };
+
+    fn tell<R: Wait>(&mut self, _rt: &R, _receipt: &Receipt) {}
+}
