@@ -38,14 +38,14 @@ failing=700
 # of calls. Growths of `run` are refused by tests/refused.sh.
 tries() {
     cat <<'TRIES'
-steps resumes_in_order 627-645 begin cut load resume txn
-steps operations_and_their_aborts 622-641 txn
-steps cuts_by_size 628-628,631-633,647-647 txn
-list moves_four_keys 630-679 back begin cut load txn
-vec store 683-698 apply take give
-block store 682-698 apply take give
-nodes none 536-536,545-549,556-567,573-645,654-676,690-690 tree link open job request cut load resume gather
-two_stages none 356-356,405-485,487-507,545-547,552-567,690-690 open job fold reopen
+steps resumes_in_order 629-643 begin cut load resume txn
+steps operations_and_their_aborts 628-639 txn
+steps cuts_by_size 628-631,643-643 txn
+list moves_four_keys 631-674 back begin cut load txn
+vec store 687-698 apply take give
+block store 685-698 apply take give
+nodes none 538-538,546-550,556-569,575-645,654-676,690-690 tree link open job request cut load resume gather
+two_stages none 350-350,408-488,490-510,546-550,552-567,690-690 open job fold reopen
 TRIES
 }
 
