@@ -12,6 +12,7 @@
 #   list         all steps by `run_world`; an opening that comes back is used once more
 #   vec          `apply`, `take` and `give` of a `VecStore`, with all families after each; one that is refused is called once more
 #   block        the same of a `SlabStore`
+#   runs         the same of a `RunStore`
 #   nodes        a tree and a link by themselves, and two pulls of a leaf, the second of which is under way at the end
 #   two_stages   a move in two stages with a fold between them
 #
@@ -38,12 +39,13 @@ failing=700
 # of calls. Growths of `run` are refused by tests/refused.sh.
 tries() {
     cat <<'TRIES'
-steps resumes_in_order 629-643 begin cut load resume txn
-steps operations_and_their_aborts 628-639 txn
-steps cuts_by_size 628-631,643-643 txn
+steps resumes_in_order 633-646 begin cut load resume txn
+steps operations_and_their_aborts 631-642 txn
+steps cuts_by_size 633-636,646-646 txn
 list moves_four_keys 631-674 back begin cut load txn
 vec store 687-698 apply take give
 block store 685-698 apply take give
+runs store 686-698 apply take give
 nodes none 538-538,546-550,556-569,575-645,654-676,690-690 tree link open job request cut load resume gather
 two_stages none 350-350,408-488,490-510,546-550,552-567,690-690 open job fold reopen
 TRIES
@@ -143,7 +145,7 @@ wanted() {
             if [ "$3" = 0 ]; then cat "$out"; else awk -v step="$3" 'NR == step { print "refused 222" } { print }' "$out"; fi
             ;;
         list) printf '%s\n' starts opened; if [ "$3" = 0 ]; then cat "$out"; else list_without "$3"; fi ;;
-        vec | block) of_store "$3" ;;
+        vec | block | runs) of_store "$3" ;;
     esac
 }
 
@@ -227,7 +229,7 @@ judge_steps() {
     got=$(cat "$room/outputs/$1.$2.$3")
     case $1,$got in
         # Refused was a growth of what reads the input, which is no part of the call.
-        steps,starts | list,starts | vec,starts | block,starts) met[before]=1; return ;;
+        steps,starts | list,starts | vec,starts | block,starts | runs,starts) met[before]=1; return ;;
     esac
     if [ "$1" = list ] && [ "$(grep -n -x back <<< "$got")" = 3:back ]; then
         is_refused back
@@ -235,14 +237,14 @@ judge_steps() {
         got=$(grep -v -x back <<< "$got")
     fi
     case $1 in
-        vec | block) step=$(refused_call <<< "$got") ;;
+        vec | block | runs) step=$(refused_call <<< "$got") ;;
         *) step=$(grep -n -m 1 -x 'refused 222' <<< "$got" | cut -d : -f 1 || true) ;;
     esac
     case $1 in steps | list) if [ -n "$step" ]; then step=$((step - 2)); fi ;; esac
     if [ "$got" != "$(wanted "$1" "$2" "${step:-0}")" ]; then wrong "$1" "$2" "$3" "$(wanted "$1" "$2" "${step:-0}")"; return; fi
     case $1,$step in
         *,) ;;
-        vec,* | block,*) word=$(calls | sed -n "${step}s/|.*//p") ;;
+        vec,* | block,* | runs,*) word=$(calls | sed -n "${step}s/|.*//p") ;;
         *) word=$(grep -v -E '^(old|new|config|row) ' "$tests/cases/run/$2/input" | sed -n "${step}s/ .*//p") ;;
     esac
     if [ -n "$word" ]; then is_refused "$word"; fi

@@ -19,8 +19,9 @@ use crate::table::table_of;
 use crate::verdict::{Defect, Verdict};
 use sq_gather::Gathered;
 use sq_ranges::Opening;
+use sq_runs::RunStore;
 use sq_schema::Table;
-use sq_store::{FamilyStore, SlabStore};
+use sq_store::FamilyStore;
 use std::alloc::{AllocError, Global};
 use std::collections::BTreeMap;
 use std::thread::Threads;
@@ -127,7 +128,7 @@ fn with_logs_folded(alloc: Global, gathered: Gathered) -> Gathered
 }
 
 // Folds the logs of the families of each store.
-fn fold_stores(stores: &mut [SlabStore])
+fn fold_stores(stores: &mut [RunStore])
     ensures { stores.new ≡ map folded_store stores.old }
 {
     for store in stores.iter_mut() {

@@ -7,8 +7,8 @@ ghost use Rattle.sq_audit.specs.Located.{spot_of, entries_in, ListsAll, ListsSto
 
 use sq_chunk::Chunk;
 use sq_gather::{ClosedLink, Gathered};
+use sq_runs::RunStore;
 use sq_schema::Family;
-use sq_store::SlabStore;
 use std::alloc::{AllocError, Global};
 
 /// Where a family is: in a store or in a chunk, by their places from 0.
@@ -61,7 +61,7 @@ fn list_stored(alloc: Global, g: &Gathered) -> Result<Vec<Located<'_>>, AllocErr
 fn add_stored<'a>(
     all: &mut Vec<Located<'a>>,
     site: Site,
-    store: &'a SlabStore,
+    store: &'a RunStore,
 ) -> Result<(), AllocError>
     ensures { OnOk result (AddsAll (spot_of site) (get store.now) (entries_in all.old.items) (entries_in all.new.items)) }
 {

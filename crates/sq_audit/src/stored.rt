@@ -3,11 +3,12 @@ ghost use Rattle.std.specs.Prelude.{◌≡◌, None, IfSome, IfNone};
 ghost use Rattle.sq_store.specs.Prelude.{HoldsByRoot, family_from};
 ghost use Rattle.sq_audit.specs.Located.{IsNextFamily};
 
+use sq_runs::RunStore;
 use sq_schema::Family;
-use sq_store::{FamilyStore, SlabStore};
+use sq_store::FamilyStore;
 
 /// The family of a store with the least root key from this number on, and the number behind its root key.
-pub(crate) fn next_family(store: &SlabStore, at: u64) -> Option<(&Family, u64)>
+pub(crate) fn next_family(store: &RunStore, at: u64) -> Option<(&Family, u64)>
     ensures some { IfSome result (λ found. IsNextFamily store.now at found.0.now found.1) }
     ensures none { IfNone result (family_from store.now at ≡ None) }
     ensures rooted { HoldsByRoot store.now }

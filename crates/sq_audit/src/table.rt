@@ -6,12 +6,12 @@ ghost use Rattle.sq_schema.specs.Prelude.{rows_in};
 ghost use Rattle.sq_audit.specs.Rows.{rows_with, rows_beside, rows_among};
 
 use crate::stored::next_family;
+use sq_runs::RunStore;
 use sq_schema::{Family, Table};
-use sq_store::SlabStore;
 use std::alloc::{AllocError, Global};
 
 /// The table of the rows that the families of these stores have.
-pub(crate) fn table_of(alloc: Global, stores: &[SlabStore]) -> Result<Table, AllocError>
+pub(crate) fn table_of(alloc: Global, stores: &[RunStore]) -> Result<Table, AllocError>
     ensures rows { IfOk result (λ table. (root : ℕ) → rows_in table root ≡ rows_among [] stores.now root) }
     ensures bound { IfOk result (λ table. (root : ℕ) → ROOT_END ≤ root → rows_in table root ≡ []) }
 {
@@ -23,7 +23,7 @@ pub(crate) fn table_of(alloc: Global, stores: &[SlabStore]) -> Result<Table, All
 }
 
 // Adds the rows of the families of a store.
-fn add_store(table: &mut Table, store: &SlabStore) -> Result<(), AllocError>
+fn add_store(table: &mut Table, store: &RunStore) -> Result<(), AllocError>
     ensures rows { OnOk result ((root : ℕ) → rows_in table.new root ≡ rows_with (rows_in table.old root) (get store.now root)) }
     ensures bound { OnOk result ((root : ℕ) → ROOT_END ≤ root → rows_in table.new root ≡ rows_in table.old root) }
 {

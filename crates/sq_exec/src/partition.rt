@@ -6,14 +6,14 @@ ghost use Rattle.sq_exec.specs.Opened.{opened_part, HasOwned};
 use crate::part_core::PartCore;
 use sq_plan::PartId;
 use sq_ranges::Opening;
-use sq_store::SlabStore;
+use sq_runs::RunStore;
 use std::alloc::{AllocError, Global};
 
 /// The partitions of the plan before the move, which hasn't started.
 pub fn open_partitions(
     alloc: Global,
     opening: &Opening,
-) -> Result<Vec<PartCore<SlabStore>>, AllocError>
+) -> Result<Vec<PartCore<RunStore>>, AllocError>
     ensures { IfOk result (λ cores. map (λ part. part.core) cores.items
         ≡ map (opened_part opening.now) (range_with_len 0 opening.now.old.parts)) }
 {
@@ -29,11 +29,11 @@ pub fn open_partition(
     alloc: Global,
     opening: &Opening,
     part: PartId,
-) -> Result<PartCore<SlabStore>, AllocError>
+) -> Result<PartCore<RunStore>, AllocError>
     ensures core { IfOk result (λ opened. opened.core ≡ opened_part opening.now part) }
     ensures families { IfOk result (λ opened. HasOwned opening.now part opened.core.store) }
 {
-    let store = SlabStore::opened(alloc, opening.old_plan(), part, opening.table())?;
+    let store = RunStore::opened(alloc, opening.old_plan(), part, opening.table())?;
     match PartCore::open(alloc, opening, part, store) {
         Ok(core) => Ok(core),
         Err(_) => Err(AllocError),

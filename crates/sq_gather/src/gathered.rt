@@ -6,8 +6,8 @@ ghost use Rattle.sq_node_model.specs.Prelude.{GatheredValue};
 
 use crate::links::ClosedLink;
 use sq_node::Receipt;
+use sq_runs::RunStore;
 use sq_schema::Txn;
-use sq_store::SlabStore;
 use sq_tree::{NODES, Status};
 use std::marker::Model;
 
@@ -17,7 +17,7 @@ pub struct Gathered {
     /// The stage that ran.
     pub stage: u64,
     /// For each partition its families.
-    pub stores: Vec<SlabStore>,
+    pub stores: Vec<RunStore>,
     /// The links, by source and then by destination.
     pub links: Vec<ClosedLink>,
     /// For each segment the statuses of its tree's nodes, that of node 1 first.

@@ -16,9 +16,9 @@ use sq_exec::CoreParts;
 use sq_link::SharedLink;
 use sq_node::{Fabric, Node, NodeParts, Receipt};
 use sq_pull::Pump;
+use sq_runs::RunStore;
 use sq_schema::Txn;
 use sq_status::{StatusTree, TreeSeat};
-use sq_store::SlabStore;
 use sq_tree::{NODES, Status};
 use std::alloc::{AllocError, Global};
 use std::marker::Model;
@@ -27,7 +27,7 @@ use std::sync::Wait;
 // What is gathered so far, with the room for the rest. To a contract it is a `GatheringValue`.
 #[derive(Drop)]
 pub(crate) struct Gathering {
-    stores: Vec<SlabStore>,
+    stores: Vec<RunStore>,
     receipts: Vec<Receipt>,
     owners: Vec<Vec<TreeSeat>>,
     ends: Vec<LinkEnds>,

@@ -16,8 +16,8 @@ use sq_audit::{Job, Verdict, audit};
 use sq_gather::{Gathered, reads_complete};
 use sq_node::Receipt;
 use sq_ranges::{Recon, SEGMENT_LIMIT, SegId};
+use sq_runs::RunStore;
 use sq_schema::Reply;
-use sq_store::SlabStore;
 use sq_tree::{NODES, NodeId, Status};
 use std::alloc::{AllocError, Global};
 use std::collections::BTreeSet;
@@ -150,7 +150,7 @@ fn is_counted(recon: &Recon, stage: u64, moved: &[bool], seg: SegId) -> bool
 }
 
 // How many families all stores have.
-fn count_families(stores: &[SlabStore]) -> u64
+fn count_families(stores: &[RunStore]) -> u64
     ensures { sum_by (λ store. len store) stores.now < 2 ^ 64 → result ≡ sum_by (λ store. len store) stores.now }
 {
     let mut count: u64 = 0;

@@ -23,7 +23,7 @@ use sq_gather::{Gathered, gather, reopen};
 use sq_leader::Moving;
 use sq_node::{Fabric, Node};
 use sq_pull::Pump;
-use sq_store::SlabStore;
+use sq_runs::RunStore;
 use std::alloc::{AllocError, Global};
 use std::sync::Wait;
 use std::thread;
@@ -161,8 +161,8 @@ fn run_stage<R: Threads + Wait + Sync, G: Watch>(
 }
 
 // Frees families, those of each partition in a thread of its own, where one can be had.
-fn free_families<R: Threads + Sync>(rt: &R, stores: Vec<SlabStore>) {
-    drop(thread::map_vec(rt, stores, &|store: SlabStore| drop(store)));
+fn free_families<R: Threads + Sync>(rt: &R, stores: Vec<RunStore>) {
+    drop(thread::map_vec(rt, stores, &|store: RunStore| drop(store)));
 }
 
 // What comes after a stage whose segments are complete where the leader goes on.

@@ -11,8 +11,8 @@ use sq_exec::{CoreParts, PartCore};
 use sq_plan::PartId;
 use sq_pull::Puller;
 use sq_ranges::SegId;
+use sq_runs::RunStore;
 use sq_status::TreeSeat;
-use sq_store::SlabStore;
 use sq_tree::NodeId;
 use std::alloc::Global;
 use std::collections::VecDeque;
@@ -27,7 +27,7 @@ mod turn;
 /// receipts of the jobs that it answered. To a contract it is a `NodeState`.
 #[derive(Drop)]
 pub struct Node {
-    core: PartCore<SlabStore>,
+    core: PartCore<RunStore>,
     seats: Vec<TreeSeat>,
     sends: Vec<Sender>,
     recvs: Vec<Receiver>,
@@ -81,7 +81,7 @@ pub(crate) struct SeatsAndEnds {
 
 impl Node {
     /// The node of a partition at this place of a run. Its move has started.
-    pub(crate) fn open(alloc: Global, mut core: PartCore<SlabStore>, place: SeatsAndEnds) -> Node
+    pub(crate) fn open(alloc: Global, mut core: PartCore<RunStore>, place: SeatsAndEnds) -> Node
         requires part { core.core.part < MAX_OWNERS }
         requires fresh { (seg n : ℕ) → is_whole (loaded_at core.core seg) n ≡ false }
         requires flags { place.complete.items ≡ replicate (length core.core.recon.segments) false }
@@ -146,7 +146,7 @@ pub struct NodeParts {
     /// The partition.
     pub part: PartId,
     /// What the partition held.
-    pub core: CoreParts<SlabStore>,
+    pub core: CoreParts<RunStore>,
     /// For each segment the seat at its tree.
     pub seats: Vec<TreeSeat>,
     /// For each partition the end of the link to it.

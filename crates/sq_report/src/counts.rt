@@ -8,7 +8,7 @@ use sq_gather::ClosedLink;
 use sq_live::count_commits;
 use sq_node::Receipt;
 use sq_plan::PartId;
-use sq_store::SlabStore;
+use sq_runs::RunStore;
 
 /// What moved along a link.
 #[derive(Clone, Copy, Debug, PartialEq, Eq)]
@@ -55,7 +55,7 @@ impl PartCount {
 }
 
 /// What moved along a link, where the partitions have these stores. A count that no number holds stays at the greatest.
-pub(crate) fn count_link(stores: &[SlabStore], link: &ClosedLink) -> LinkCount
+pub(crate) fn count_link(stores: &[RunStore], link: &ClosedLink) -> LinkCount
     ensures { result ≡ link_count stores.now link.now }
 {
     LinkCount {
@@ -68,7 +68,7 @@ pub(crate) fn count_link(stores: &[SlabStore], link: &ClosedLink) -> LinkCount
 }
 
 // How many families the destination of a link has of the root keys that its notes cover.
-fn count_loaded(stores: &[SlabStore], link: &ClosedLink) -> u64
+fn count_loaded(stores: &[RunStore], link: &ClosedLink) -> u64
     ensures { result ≡ told (families_covered stores.now link.now) }
 {
     match stores.get(usize::from(link.dst.number())) {

@@ -4,8 +4,9 @@ ghost use Rattle.sq_store.specs.Prelude.{families_between, FirstIs};
 ghost use Rattle.sq_report.specs.Notes.{told, covered_keys, stored_in};
 
 use sq_chunk::{Chunk, Note};
+use sq_runs::RunStore;
 use sq_schema::Family;
-use sq_store::{FamilyStore, SlabStore};
+use sq_store::FamilyStore;
 
 /// How many root keys notes cover. A count that no number holds stays at the greatest, as in each of these.
 pub(crate) fn count_keys(notes: &[Note]) -> u64
@@ -19,7 +20,7 @@ pub(crate) fn count_keys(notes: &[Note]) -> u64
 }
 
 /// How many families a store has of the root keys that notes cover.
-pub(crate) fn count_stored(store: &SlabStore, notes: &[Note]) -> u64
+pub(crate) fn count_stored(store: &RunStore, notes: &[Note]) -> u64
     ensures { result ≡ told (sum_by (stored_in store.now) notes.now) }
 {
     let mut count: u64 = 0;
@@ -30,7 +31,7 @@ pub(crate) fn count_stored(store: &SlabStore, notes: &[Note]) -> u64
 }
 
 // How many families a store has from one root key on and below another.
-fn count_between(store: &SlabStore, lo: u64, hi: u64) -> u64
+fn count_between(store: &RunStore, lo: u64, hi: u64) -> u64
     ensures { result ≡ length (families_between store.now lo hi) }
 {
     let mut at = lo;
@@ -43,7 +44,7 @@ fn count_between(store: &SlabStore, lo: u64, hi: u64) -> u64
 }
 
 // The first family of a store from one root key on and below another.
-fn first(store: &SlabStore, lo: u64, hi: u64) -> Option<&Family>
+fn first(store: &RunStore, lo: u64, hi: u64) -> Option<&Family>
     ensures { FirstIs store.now lo hi (option_copied result) }
 {
     let family = store.walk(lo)?;

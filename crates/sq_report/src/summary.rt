@@ -7,7 +7,7 @@ ghost use Rattle.sq_report.specs.SummaryValue.{count_after, counts_after};
 use crate::counts::{LinkCount, PartCount, count_link};
 use sq_gather::{ClosedLink, Gathered};
 use sq_node::Node;
-use sq_store::SlabStore;
+use sq_runs::RunStore;
 use std::alloc::{AllocError, Global};
 use std::marker::Model;
 
@@ -95,7 +95,7 @@ fn count_part(parts: &[PartCount], nodes: &[Node], part: usize) -> PartCount
 }
 
 // What moved along each link, where the partitions have these stores.
-fn count_links(stores: &[SlabStore], links: &Vec<ClosedLink>) -> Result<Vec<LinkCount>, AllocError>
+fn count_links(stores: &[RunStore], links: &Vec<ClosedLink>) -> Result<Vec<LinkCount>, AllocError>
     ensures { IfOk result (λ counts. counts.items ≡ map (link_count stores.now) links.now.items) }
 {
     let mut counts = Vec::new(*links.allocator());

@@ -14,7 +14,7 @@ use sq_leader::Leader;
 use sq_model::Refusal;
 use sq_plan::Plan;
 use sq_ranges::{Config, Recon, SegId};
-use sq_store::SlabStore;
+use sq_runs::RunStore;
 use sq_tree::{NodeId, PlainTree};
 use std::alloc::Global;
 use std::marker::Model;
@@ -39,7 +39,7 @@ pub struct State {
     recon: Recon,
     config: Config,
     leader: Leader,
-    cores: Vec<PartCore<SlabStore>>,
+    cores: Vec<PartCore<RunStore>>,
     trees: Vec<PlainTree>,
     queues: Vec<Queue>,
 }

@@ -10,8 +10,8 @@ use sq_chunk::Chunk;
 use sq_model::{Answer, Phase, Step};
 use sq_plan::Plan;
 use sq_ranges::{Config, GivenRow, Opening, RefusedOpening};
+use sq_runs::RunStore;
 use sq_schema::Schema;
-use sq_store::SlabStore;
 use sq_text::WriteFault;
 use sq_tree::Status;
 use std::alloc::Global;
@@ -126,7 +126,7 @@ impl World {
 
     /// The families of a partition, which are exactly those that are there by the history; `None` where there is no such
     /// partition.
-    pub fn store(&self, part: u64) -> Option<&SlabStore>
+    pub fn store(&self, part: u64) -> Option<&RunStore>
         ensures store { option_copied result ≡ store_at self.now part }
         ensures by_history { (o : OpeningValue) (t : Trace) → Holds o t self.now → IsStoreAfter o t part (option_copied result) }
     {

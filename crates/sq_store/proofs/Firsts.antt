@@ -39,13 +39,13 @@ none_kept : (families : List FamilyValue) → filter (λ family. false) families
 none_kept [] = refl
 none_kept (family ∷ families) = none_kept families
 
-not_between_low : (lo hi root : ℕ) → root < lo → is_between lo hi root ≡ false
+pub not_between_low : (lo hi root : ℕ) → root < lo → is_between lo hi root ≡ false
 not_between_low lo hi root low = and_left (nat_le lo root) (nat_lt root hi) (lt-leb lo root low)
 
-not_between_high : (lo hi root : ℕ) → hi ≤ root → is_between lo hi root ≡ false
+pub not_between_high : (lo hi root : ℕ) → hi ≤ root → is_between lo hi root ≡ false
 not_between_high lo hi root high = and_right (nat_le lo root) (nat_lt root hi) (le-ltb root hi high)
 
-between_from : (lo hi root : ℕ) → lo ≤ root → root < hi → is_between lo hi root ≡ true
+pub between_from : (lo hi root : ℕ) → lo ≤ root → root < hi → is_between lo hi root ≡ true
 between_from lo hi root low high = and_from (nat_le lo root) (nat_lt root hi) (le-leb lo root low) (lt-ltb root hi high)
 
 -- above a family's root key the same are kept from there on as from below it

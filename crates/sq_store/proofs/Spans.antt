@@ -104,7 +104,7 @@ module _ (families : List FamilyValue) (lo hi first last : ℕ) (rising : roots_
       ∙ values-entries_of (filter (λ family. nat_le lo family.root && nat_lt family.root hi) families)
       ∙ filter_inside families first last rise high.within (λ family. nat_le lo family.root && nat_lt family.root hi) before_first between_them after_last
 
-  outside : filter (λ family. not (nat_le lo family.root && nat_lt family.root hi)) families ≡ take first families ++ drop last families
+  pub outside : filter (λ family. not (nat_le lo family.root && nat_lt family.root hi)) families ≡ take first families ++ drop last families
   outside =
       filter_outside families first last rise high.within (λ family. not (nat_le lo family.root && nat_lt family.root hi))
       (λ k d from inside. ap not (before_first k d from inside)) (λ k d from inside. ap not (between_them k d from inside)) (λ k d from inside. ap not (after_last k d from inside))

@@ -16,7 +16,7 @@ use std::marker::Model;
 /// Going over the root keys of a table that a partition owns, in rising order. One search goes past all keys of a range of
 /// another partition. To a contract it is the list of those that are left, with their rows.
 #[derive(Drop)]
-pub(crate) struct OwnedEntries<'a> {
+pub struct OwnedEntries<'a> {
     plan: &'a Plan,
     part: PartId,
     table: &'a Table,
@@ -43,7 +43,7 @@ impl<'a> Model for OwnedEntries<'a> {
 
 impl<'a> OwnedEntries<'a> {
     /// The root keys of a table that a partition owns.
-    pub(crate) fn new(plan: &'a Plan, part: PartId, table: &'a Table) -> OwnedEntries<'a>
+    pub fn new(plan: &'a Plan, part: PartId, table: &'a Table) -> OwnedEntries<'a>
         ensures all { result ≡ owned_entries plan.now part table.now }
         ensures rising { is_sorted nat_cmp table.now ≡ true }
         ensures opening { AllPass (λ entry. is_opening entry.1) table.now }

@@ -1,4 +1,4 @@
-// Families in a slice, by rising root key.
+//! Families in a slice, by rising root key.
 ghost use Rattle.std.specs.Prelude.{◌≡◌, ◌+◌, ◌++◌, ◌∷◌, ◌<◌, ◌≤◌, [], nat_lt, vec_len, vec_capacity, slice_range, take, drop, IsTrue, IfOk, OnOk, OnErr, All};
 ghost use Rattle.std.specs.List.Sorted.{IsPermutation, IsNonDecreasingBy};
 ghost use Rattle.sq_store.specs.InOrder.{AreKeyed};
@@ -8,16 +8,16 @@ ghost use Rattle.sq_store.specs.Counting.{chunk_count as count_of, root_after};
 use sq_schema::{Family, ROOT_END, Root};
 use std::alloc::AllocError;
 
-// Where the family of a root key is, or where it would go.
-pub(crate) fn place(families: &[Family], root: Root) -> Result<usize, usize>
+/// Where the family of a root key is, or where it would go.
+pub fn place(families: &[Family], root: Root) -> Result<usize, usize>
     requires { IsTrue (roots_rise families.now) }
     ensures { IsRootPlace families.now root result }
 {
     families.binary_search_by_key(&root, |family| family.root())
 }
 
-// How many families have a root key below this one.
-pub(crate) fn start(families: &[Family], key: u64) -> usize
+/// How many families have a root key below this one.
+pub fn start(families: &[Family], key: u64) -> usize
     requires { IsTrue (roots_rise families.now) }
     ensures { IsStart families.now key result }
 {
@@ -74,8 +74,8 @@ pub(crate) fn take_out(
     Ok(taken)
 }
 
-// Puts a family, whose log is of its own root key, after those that are there. There is room for it.
-pub(crate) fn put_last(families: &mut Vec<Family>, family: Family)
+/// Puts a family, whose log is of its own root key, after those that are there. There is room for it.
+pub fn put_last(families: &mut Vec<Family>, family: Family)
     requires { vec_len families.old < vec_capacity families.old }
     ensures items { families.new.items ≡ families.old.items ++ family ∷ [] }
     ensures capacity { vec_capacity families.new ≡ vec_capacity families.old }

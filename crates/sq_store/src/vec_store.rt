@@ -107,8 +107,8 @@ impl FamilyStore for VecStore {
     }
 }
 
-// Folds the logs of families: each starts anew from its rows, and those without rows go.
-fn fold_all(families: &mut Vec<Family>)
+/// Folds the logs of families: each starts anew from its rows, and those without rows go.
+pub fn fold_all(families: &mut Vec<Family>)
     ensures { families.new.items ≡ folded_families families.old.items }
 {
     keep_rowed(families);

@@ -138,13 +138,18 @@ module _ (echoes : Bool) where
   refused o t tables line faults.TooLong number same read memory says = no_step o t tables line faults.TooLong number same read says
   refused o t tables line (faults.Txn fault) number same read memory says = no_step o t tables line (faults.Txn fault) number same read says
 
-  -- a step was answered
-  pub on_step : {T E : Type 0} (r : Result T E) (tables : ℕ) (line : List ℕ) (step : Step) (given : Answer) (before now : Option (List ℕ)) (w new : WorldValue) → Ok step ≡ step_of tables line
+  -- a step was answered, whatever tables its line was read by
+  pub on_step : {T E : Type 0} (r : Result T E) (line : List ℕ) (step : Step) (given : Answer) (before now : Option (List ℕ)) (w new : WorldValue)
       → ((o : OpeningValue) (t : Trace) → IsOpening o → IsLegal o t → Holds o t w → KeepsHeadline o ((step, given) ∷ t) new)
-      → OnOk r (Appends before now (answer_text echoes line given)) → OnOk r (AnswersWorld echoes tables line w new before now)
-  on_step (Err e) tables line step given before now w new spelled goes written = tt
-  on_step (Ok x) tables line step given before now w new spelled goes written =
-      λ o t leads same. stepped o t tables line step given before now w new leads same spelled (goes o t leads.is_opening leads.legal leads.holds) written
+      → OnOk r (Appends before now (answer_text echoes line given)) → OnOk r ((tables : ℕ) → Ok step ≡ step_of tables line → AnswersWorld echoes tables line w new before now)
+  on_step (Err e) line step given before now w new goes written = tt
+  on_step (Ok x) line step given before now w new goes written =
+      λ tables spelled o t leads same. stepped o t tables line step given before now w new leads same spelled (goes o t leads.is_opening leads.legal leads.holds) written
+
+  pub on_spelled : {T E : Type 0} (r : Result T E) (tables : ℕ) (line : List ℕ) (step : Step) (before now : Option (List ℕ)) (w new : WorldValue) → Ok step ≡ step_of tables line
+      → OnOk r ((tables : ℕ) → Ok step ≡ step_of tables line → AnswersWorld echoes tables line w new before now) → OnOk r (AnswersWorld echoes tables line w new before now)
+  on_spelled (Err e) tables line step before now w new spelled made = tt
+  on_spelled (Ok x) tables line step before now w new spelled made = made tables spelled
 
   -- a line that spells no step was refused, or no memory was left to read it
   pub on_refusal : {T E : Type 0} (r : Result T E) (tables : ℕ) (line : List ℕ) (fault : LineFault) (number : ℕ) (before now : Option (List ℕ)) (w : WorldValue) → IsStep {A = Step} (Err fault) (step_of tables line)

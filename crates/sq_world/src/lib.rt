@@ -17,11 +17,12 @@ pub use sq_chunk::{Chunk, Note};
 pub use sq_model::{Answer, Phase, Refusal, Step};
 pub use sq_plan::{PartId, Plan, PlanFault, PlanRange};
 pub use sq_ranges::{Config, GivenRow, Opening, OpeningFault, OpeningParts, RefusedOpening, SegId};
+pub use sq_runs::RunStore;
 pub use sq_schema::{
     Cause, Family, Op, OpAnswer, OpAnswers, Reply, Root, Row, RowKey, Rows, Schema, Txn, TxnFault,
 };
 pub use sq_state::{NotOpened, World, run_world};
-pub use sq_store::{FamilyStore, SlabStore};
+pub use sq_store::FamilyStore;
 pub use sq_text::WriteFault;
 pub use sq_tree::{Leaf, NodeId, Reading, Status};
 pub use telling::{Telling, Told};

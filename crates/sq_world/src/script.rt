@@ -1,7 +1,8 @@
 // Scripts.
-ghost use Rattle.std.specs.Prelude.{◌≡◌, OnOk, IfOk};
+ghost use Rattle.std.specs.Prelude.{◌≡◌, ℕ, Ok, OnOk, IfOk};
 ghost use Rattle.std.specs.Io.KnownBytes.{Appends};
 ghost use Rattle.sq_lines.specs.Pieces.{next_line_number};
+ghost use Rattle.sq_text.specs.Steps.{step_of};
 ghost use Rattle.sq_state.specs.Dump.{dump};
 ghost use Rattle.sq_world.specs.Run.{EndsAtFault};
 ghost use Rattle.sq_world.specs.Script.{AnswersWorld, RunsScript};
@@ -9,6 +10,7 @@ ghost use Rattle.sq_world.specs.Script.{AnswersWorld, RunsScript};
 use crate::echo::{write_refusal, write_told};
 use crate::ending::Ending;
 use sq_lines::{LineReader, MAX_UNENDED, Next};
+use sq_model::Step;
 use sq_schema::Schema;
 use sq_state::World;
 use sq_text::{InputFault, InputLine, LineFault, LocatedFault, WriteFault, read_step, write_fault};
@@ -79,12 +81,26 @@ fn write_line<W: Write>(
         (AnswersWorld echoes schema.now line.now world.old world.new (W.contents writer.old) (W.contents writer.new)) }
 {
     match read_step(alloc, schema, line) {
-        Ok(step) => {
-            let answer = world.step(&step);
-            write_told(writer, line, &answer, echoes)
-        }
+        Ok(step) => make_step(world, &step, line, writer, echoes),
         Err(fault) => write_refusal(writer, line, fault.number(), echoes),
     }
+}
+
+// Makes the step that a line spells, and writes its answer. It stays out of line: a refused line needs none of its values.
+#[inline(never)]
+fn make_step<W: Write>(
+    world: &mut World,
+    step: &Step,
+    line: &[u8],
+    writer: &mut W,
+    echoes: bool,
+) -> Result<(), WriteFault>
+    ensures { OnOk result ((tables : ℕ) → Ok step.now ≡ step_of tables line.now
+        → AnswersWorld echoes tables line.now world.old world.new
+        (W.contents writer.old) (W.contents writer.new)) }
+{
+    let answer = world.step(step);
+    write_told(writer, line, &answer, echoes)
 }
 
 // Writes the number of a fault, which ends the run.

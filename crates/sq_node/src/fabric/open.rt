@@ -15,8 +15,8 @@ use sq_link::SharedLink;
 use sq_plan::PartId;
 use sq_pull::Pump;
 use sq_ranges::{Link, Opening, Recon};
+use sq_runs::RunStore;
 use sq_status::{StatusTree, TreeSeat};
-use sq_store::SlabStore;
 use std::alloc::{AllocError, Global};
 use std::sync::atomic::AtomicU64;
 use std::thread;
@@ -55,7 +55,7 @@ impl Fabric {
 }
 
 // The families of each partition before the move.
-fn open_stores(alloc: Global, opening: &Opening) -> Result<Vec<SlabStore>, AllocError>
+fn open_stores(alloc: Global, opening: &Opening) -> Result<Vec<RunStore>, AllocError>
     ensures stores { IfOk result (λ stores. stores.items ≡ opened_stores opening.now) }
     ensures owned { OnOk result (HaveOwned opening.now) }
 {
@@ -72,7 +72,7 @@ fn open_stores_in_threads<R: Threads + Sync>(
     rt: &R,
     alloc: Global,
     opening: &Opening,
-) -> Result<Vec<SlabStore>, AllocError>
+) -> Result<Vec<RunStore>, AllocError>
     ensures stores { IfOk result (λ stores. stores.items ≡ opened_stores opening.now) }
     ensures owned { OnOk result (HaveOwned opening.now) }
 {
@@ -81,7 +81,7 @@ fn open_stores_in_threads<R: Threads + Sync>(
         rt,
         alloc,
         parts,
-        &|part: usize| -> Result<SlabStore, AllocError>
+        &|part: usize| -> Result<RunStore, AllocError>
             requires { part < 256 }
             ensures { IfOk result (IsOpenStore opening.entry.now part) }
         { open_store(alloc, opening, PartId::new(part as u8)) },
@@ -91,7 +91,7 @@ fn open_stores_in_threads<R: Threads + Sync>(
 }
 
 // The families of a partition before the move.
-fn open_store(alloc: Global, opening: &Opening, part: PartId) -> Result<SlabStore, AllocError>
+fn open_store(alloc: Global, opening: &Opening, part: PartId) -> Result<RunStore, AllocError>
     ensures { IfOk result (IsOpenStore opening.now part) }
 {
     let core = open_partition(alloc, opening, part)?;
@@ -101,8 +101,8 @@ fn open_store(alloc: Global, opening: &Opening, part: PartId) -> Result<SlabStor
 // What was opened, where all was.
 fn all_opened(
     alloc: Global,
-    opened: Vec<Result<SlabStore, AllocError>>,
-) -> Result<Vec<SlabStore>, AllocError>
+    opened: Vec<Result<RunStore, AllocError>>,
+) -> Result<Vec<RunStore>, AllocError>
     ensures { IfOk result (λ stores. map Ok stores.items ≡ opened.items) }
 {
     let mut stores = Vec::with_capacity(alloc, opened.len())?;
@@ -116,7 +116,7 @@ fn all_opened(
 fn open_with(
     alloc: Global,
     opening: &Opening,
-    stores: Vec<SlabStore>,
+    stores: Vec<RunStore>,
     pumps: u32,
 ) -> Result<(Fabric, Vec<Node>, Vec<Pump>), AllocError>
     requires stores { stores.items ≡ opened_stores opening.now }
@@ -136,9 +136,9 @@ pub(super) fn open_run(
     alloc: Global,
     opening: &Opening,
     stage: u64,
-    mut stores: Vec<SlabStore>,
+    mut stores: Vec<RunStore>,
     pumps: u32,
-) -> Result<(Fabric, Vec<Node>, Vec<Pump>), Vec<SlabStore>>
+) -> Result<(Fabric, Vec<Node>, Vec<Pump>), Vec<RunStore>>
     requires stores { length stores.items ≡ opening.now.old.parts }
     requires pumps { pumps ≤ MAX_PUMPS }
     ensures run { IfOk result (λ run. IsReopened opening.now stage stores.items [] pumps run.0 run.1.items run.2.items) }

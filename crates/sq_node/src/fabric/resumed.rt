@@ -10,15 +10,15 @@ use crate::node::Node;
 use crate::receipt::Receipt;
 use sq_pull::Pump;
 use sq_ranges::Opening;
+use sq_runs::RunStore;
 use sq_schema::Txn;
-use sq_store::SlabStore;
 use std::alloc::Global;
 
 /// What was handed in for a stage that doesn't begin.
 #[derive(Debug, Drop)]
 pub struct Unresumed {
     /// The families of each partition.
-    pub stores: Vec<SlabStore>,
+    pub stores: Vec<RunStore>,
     /// For each partition the jobs that were left at it.
     pub left: Vec<Vec<Txn>>,
     /// The receipts of earlier stages.
@@ -36,7 +36,7 @@ impl Fabric {
         alloc: Global,
         opening: &Opening,
         stage: u64,
-        stores: Vec<SlabStore>,
+        stores: Vec<RunStore>,
         left: Vec<Vec<Txn>>,
         receipts: Vec<Receipt>,
         pumps: u32,

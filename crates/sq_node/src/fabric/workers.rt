@@ -14,8 +14,8 @@ use sq_link::{SharedLink, Side};
 use sq_plan::PartId;
 use sq_pull::Pump;
 use sq_ranges::Opening;
+use sq_runs::RunStore;
 use sq_status::{StatusTree, TreeSeat};
-use sq_store::SlabStore;
 use std::alloc::{AllocError, Global};
 
 // The ends of links that aren't handed out, each where its link stands.
@@ -64,7 +64,7 @@ pub(super) fn open_nodes(
     opening: &Opening,
     fabric: &mut Fabric,
     ends: &mut LooseEnds,
-    stores: &mut Vec<SlabStore>,
+    stores: &mut Vec<RunStore>,
 ) -> Result<Vec<Node>, AllocError>
     requires fabric { IsFabricOf opening.now fabric.old }
     requires stores { length stores.old.items ≤ opening.now.old.parts }
@@ -108,8 +108,8 @@ fn open_node(
     fabric: &mut Fabric,
     ends: &mut LooseEnds,
     part: PartId,
-    store: SlabStore,
-) -> Result<Node, SlabStore>
+    store: RunStore,
+) -> Result<Node, RunStore>
     requires fabric { IsFabricOf opening.now fabric.old }
     requires part { part < opening.now.old.parts }
     requires sends { HasEnds src_of fabric.old.links ends.old.sends.items part }

@@ -10,8 +10,8 @@ use crate::fabric::Fabric;
 use crate::receipt::Receipt;
 use crate::stepped::Stepped;
 use sq_exec::{Outcome, PartCore, ResumeFault, Resumed, SubmitFault};
+use sq_runs::RunStore;
 use sq_schema::{Reply, Txn};
-use sq_store::SlabStore;
 use std::sync::Wait;
 
 impl Node {
@@ -96,7 +96,7 @@ fn refusal(fault: SubmitFault) -> Stepped
 }
 
 // The receipt of a transaction that a partition has just answered so.
-fn receipt(core: &PartCore<SlabStore>, txn: Txn, reply: Reply) -> Receipt
+fn receipt(core: &PartCore<RunStore>, txn: Txn, reply: Reply) -> Receipt
     ensures { result ≡ record {
       id = txn.id;
       root = txn.root;

@@ -17,8 +17,8 @@ use crate::stepped::Stepped;
 use sq_exec::PartCore;
 use sq_pull::Request;
 use sq_ranges::SegId;
+use sq_runs::RunStore;
 use sq_status::{StatusTree, TreeSeat};
-use sq_store::SlabStore;
 use sq_tree::{NodeId, Status};
 use std::sync::Wait;
 
@@ -104,7 +104,7 @@ struct TreeNode {
 
 // Begins a node that is claimed for the pull, and gives its keys up.
 fn begin(
-    core: &mut PartCore<SlabStore>,
+    core: &mut PartCore<RunStore>,
     trees: &[StatusTree],
     seats: &mut Vec<TreeSeat>,
     at: TreeNode,

@@ -13,7 +13,7 @@ use crate::queue::Queue;
 use crate::state::State;
 use sq_chunk::Chunk;
 use sq_plan::PartId;
-use sq_store::SlabStore;
+use sq_runs::RunStore;
 use sq_text::{WriteFault, write_at, write_end, write_way};
 use std::io::Write;
 
@@ -88,7 +88,7 @@ impl State {
 fn write_families<W: Write>(
     writer: &mut W,
     part: PartId,
-    store: &SlabStore,
+    store: &RunStore,
 ) -> Result<(), WriteFault>
     ensures { OnOk result (Appends (W.contents writer.old) (W.contents writer.new) (flat_map (at_line part) (families_in store.now))) }
 {

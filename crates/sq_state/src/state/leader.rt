@@ -15,7 +15,7 @@ use sq_exec::PartCore;
 use sq_leader::{Idle, Leader, NextFault, Report, ReportFault};
 use sq_model::{Answer, Phase, Refusal};
 use sq_ranges::{Recon, SEGMENT_LIMIT};
-use sq_store::SlabStore;
+use sq_runs::RunStore;
 use sq_tree::PlainTree;
 use std::mem;
 
@@ -164,7 +164,7 @@ impl State {
 }
 
 // Tells each partition that the move has started.
-fn start_all(cores: &mut [PartCore<SlabStore>])
+fn start_all(cores: &mut [PartCore<RunStore>])
     ensures { map (λ part. part.core) cores.new ≡ map started_core (map (λ part. part.core) cores.old) }
 {
     for core in cores.iter_mut() {
@@ -173,7 +173,7 @@ fn start_all(cores: &mut [PartCore<SlabStore>])
 }
 
 // Tells each partition which stage runs.
-fn enter_all(cores: &mut [PartCore<SlabStore>], stage: u64)
+fn enter_all(cores: &mut [PartCore<RunStore>], stage: u64)
     ensures { map (λ part. part.core) cores.new ≡ map (entered_core stage) (map (λ part. part.core) cores.old) }
 {
     for core in cores.iter_mut() {

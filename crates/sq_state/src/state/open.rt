@@ -11,7 +11,7 @@ use crate::state::State;
 use sq_exec::{PartCore, open_partitions};
 use sq_leader::{Idle, Leader};
 use sq_ranges::{Opening, Range, Recon};
-use sq_store::SlabStore;
+use sq_runs::RunStore;
 use sq_tree::PlainTree;
 use std::alloc::{AllocError, Global};
 
@@ -19,7 +19,7 @@ use std::alloc::{AllocError, Global};
 #[derive(Drop)]
 struct Fresh {
     moves: Recon,
-    cores: Vec<PartCore<SlabStore>>,
+    cores: Vec<PartCore<RunStore>>,
     trees: Vec<PlainTree>,
     queues: Vec<Queue>,
 }

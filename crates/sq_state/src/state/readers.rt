@@ -9,7 +9,7 @@ use crate::state::State;
 use sq_chunk::Chunk;
 use sq_leader::Leader;
 use sq_model::Phase;
-use sq_store::SlabStore;
+use sq_runs::RunStore;
 use sq_tree::{NodeId, Status};
 
 impl State {
@@ -37,7 +37,7 @@ impl State {
     }
 
     /// The families of a partition; `None` where there is no such partition.
-    pub fn store(&self, part: u64) -> Option<&SlabStore>
+    pub fn store(&self, part: u64) -> Option<&RunStore>
         ensures { option_copied result ≡ store_at self.now part }
     {
         let core = self.cores.get(part as usize)?;

@@ -7,8 +7,9 @@ use super::run::{TestRun, job, read_opening};
 use sq_audit::{Job, Verdict, audit};
 use sq_gather::Gathered;
 use sq_ranges::Extent;
+use sq_runs::RunStore;
 use sq_schema::{Family, Root, Row, RowKey, Rows};
-use sq_store::{FamilyStore, SlabStore, StoreAnswer, StoreCommand, run_store};
+use sq_store::{FamilyStore, StoreAnswer, StoreCommand, run_store};
 use std::alloc::Global;
 use std::sync::Wait;
 use std::test::Fail;
@@ -72,7 +73,7 @@ fn opened(alloc: Global, number: i64) -> Result<Family, Fail> {
 }
 
 // Takes the family of root key 5 out of the store of partition 0.
-fn take_family(stores: &mut [SlabStore]) -> Result<Family, Fail> {
+fn take_family(stores: &mut [RunStore]) -> Result<Family, Fail> {
     let Some(store) = stores.first_mut() else {
         return Err("no store")?;
     };
@@ -83,7 +84,7 @@ fn take_family(stores: &mut [SlabStore]) -> Result<Family, Fail> {
 // Puts a family into the store of a partition.
 fn put_family(
     alloc: Global,
-    stores: &mut [SlabStore],
+    stores: &mut [RunStore],
     part: usize,
     family: Family,
 ) -> Result<(), Fail> {

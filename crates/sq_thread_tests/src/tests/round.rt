@@ -1,8 +1,9 @@
 // Four partitions, each of which gives its five root keys to the next one, with all workers at once.
 use super::run::TestRun;
 use sq_driver::OpenGate;
+use sq_runs::RunStore;
 use sq_schema::{Root, Row, RowKey};
-use sq_store::{FamilyStore, SlabStore};
+use sq_store::FamilyStore;
 use std::alloc::Global;
 use std::sync::Wait;
 use std::test::Fail;
@@ -48,7 +49,7 @@ fn worked<R: Threads + Wait + Sync>(rt: &R, alloc: Global) -> Result<TestRun, Fa
 }
 
 // Whether a store has a root key with ten transactions in its log, and with the number 10.
-fn has_ten(store: &SlabStore, key: u64) -> bool {
+fn has_ten(store: &RunStore, key: u64) -> bool {
     let family = Root::new(key).and_then(|root| store.get(root));
     family.is_some_and(|family| {
         family.log().len() == 10 && family.rows().get(RowKey::ROOT).map(Row::number) == Some(10)
@@ -56,7 +57,7 @@ fn has_ten(store: &SlabStore, key: u64) -> bool {
 }
 
 // How many root keys are so at their new owner, the partition behind the old one.
-fn count_moved(stores: &[SlabStore]) -> usize {
+fn count_moved(stores: &[RunStore]) -> usize {
     let mut count = 0_usize;
     for key in 0..20_u64 {
         let home = (key as usize / 5 + 1) % 4;

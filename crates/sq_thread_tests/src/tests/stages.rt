@@ -10,8 +10,8 @@ use sq_driver::laws::resumed_workers_can_be_driven;
 use sq_driver::{OpenGate, run_workers};
 use sq_node::{Fabric, Node};
 use sq_pull::Pump;
+use sq_runs::RunStore;
 use sq_schema::Txn;
-use sq_store::SlabStore;
 use std::alloc::Global;
 use std::test::Fail;
 
@@ -25,8 +25,8 @@ fn many_left(alloc: Global) -> Result<Vec<Vec<Txn>>, Fail> {
 }
 
 // The families of each of two partitions, which have none.
-fn no_families(alloc: Global) -> Result<Vec<SlabStore>, Fail> {
-    Ok(vec![in alloc; SlabStore::new(alloc), SlabStore::new(alloc)]?)
+fn no_families(alloc: Global) -> Result<Vec<RunStore>, Fail> {
+    Ok(vec![in alloc; RunStore::new(alloc), RunStore::new(alloc)]?)
 }
 
 // A stage that goes on with these, with this many pumps.

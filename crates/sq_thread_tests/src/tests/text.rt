@@ -3,7 +3,8 @@ use sq_gather::{ClosedLink, Gathered};
 use sq_model::Answer;
 use sq_node::Receipt;
 use sq_plan::PartId;
-use sq_store::{FamilyStore, SlabStore};
+use sq_runs::RunStore;
+use sq_store::FamilyStore;
 use sq_text::{write_answer, write_at, write_way};
 use sq_tree::{NODES, NodeId, Status};
 use std::alloc::Global;
@@ -28,7 +29,7 @@ pub fn text_of(alloc: Global, gathered: &Gathered) -> Result<String, Fail> {
 }
 
 // The families of a partition, as a dump has them.
-fn write_store(text: &mut Vec<u8>, part: PartId, store: &SlabStore) -> Result<(), Fail> {
+fn write_store(text: &mut Vec<u8>, part: PartId, store: &RunStore) -> Result<(), Fail> {
     let mut at = 0;
     for _family in 0..store.len() {
         let family = store.walk(at).ok_or("fewer families than are counted")?;
