@@ -1,6 +1,25 @@
-// What a worker asks before each of its steps.
+// What a worker asks before each of its steps, and what it tells of them.
+use std::sync::Wait;
+use std::sync::atomic::AtomicU64;
+use std::thread;
+use std::time::Duration;
 
-/// What a worker asks for, or tells.
+// After how many turns in a row without work a worker sleeps, where before it only let other threads go first.
+const TURNS_AWAKE: u64 = 256;
+
+// How many microseconds a worker sleeps where it finds no work.
+const SLEEP: u64 = 50;
+
+/// A worker of a run.
+#[derive(Clone, Copy, Debug, PartialEq, Eq)]
+pub enum WorkerId {
+    /// The node of the partition of a number.
+    Node(u8),
+    /// The pump of a number.
+    Pump(u32),
+}
+
+/// A step for which a worker asks.
 #[derive(Clone, Copy, Debug, PartialEq, Eq)]
 pub enum NodeStep {
     /// A node takes a job, and submits it.
@@ -21,17 +40,40 @@ pub enum NodeStep {
     Resume,
     /// A pump takes a turn.
     Pump,
-    /// A node has written a receipt.
-    Answered,
-    /// A segment is complete: the partition that it moves to has completed the last of its tree nodes.
-    SegmentComplete,
 }
 
-/// What all workers of a run ask before each of their steps, and tell of each receipt and of each segment that is complete.
+/// What a worker tells of a step in which there was something to do.
+#[derive(Clone, Copy, Debug, PartialEq, Eq)]
+pub enum WorkerEvent {
+    /// A node has written a receipt in this step.
+    Answered(NodeStep),
+    /// A segment is complete: the partition that it moves to has completed the last of its tree nodes.
+    SegmentComplete,
+    /// The worker has made this step, in which it did neither of these.
+    Made(NodeStep),
+}
+
+/// What all workers of a run ask before each of their steps, and tell of each step in which they did something.
 pub trait Gate {
-    /// Whether a worker may go on. Where it may not, it ends. The node of partition p is number p, and a pump is its
-    /// number behind the number of partitions. A call may keep the worker for a while, and has to return.
-    fn pass(&self, who: u64, step: NodeStep) -> bool;
+    /// Whether a worker may make a step. Where it may not, it ends. A call may keep the worker for a while, and has to
+    /// return.
+    fn pass(&self, who: WorkerId, step: NodeStep) -> bool;
+
+    /// It is told of each step in which there was something to do, once that is made. A gate that ends the worker for what
+    /// it is told says so where it is asked next.
+    fn did(&self, _who: WorkerId, _event: WorkerEvent) {}
+
+    /// It is told that a worker has taken a turn without work, and how many it has taken in a row. A call may keep the worker
+    /// for a while. By default other threads go first, and after many turns in a row the worker sleeps for some microseconds.
+    fn rests<R: Wait>(&self, rt: &R, _who: WorkerId, turns: u64) {
+        rest(rt, turns);
+    }
+
+    /// Whether a node ends where it is idle. One that doesn't goes on until it may not pass, since more may come. It is asked
+    /// after each turn of a node. A pump that is done ends in any case: for it nothing more comes in a stage.
+    fn ends_idle(&self) -> bool {
+        true
+    }
 }
 
 /// A gate that lets each worker pass.
@@ -39,7 +81,16 @@ pub trait Gate {
 pub struct OpenGate;
 
 impl Gate for OpenGate {
-    fn pass(&self, _who: u64, _step: NodeStep) -> bool {
+    fn pass(&self, _who: WorkerId, _step: NodeStep) -> bool {
         true
+    }
+}
+
+// Lets other threads go first, and sleeps after so many turns without work in a row.
+fn rest<R: Wait>(rt: &R, turns: u64) {
+    if turns <= TURNS_AWAKE {
+        thread::yield_now();
+    } else {
+        AtomicU64::new(0).park_timeout(rt, 0, Duration::from_micros(SLEEP));
     }
 }

@@ -10,7 +10,7 @@ mod teller;
 mod worker;
 mod workers;
 
-pub use gate::{Gate, NodeStep, OpenGate};
+pub use gate::{Gate, NodeStep, OpenGate, WorkerEvent, WorkerId};
 pub use nodes::{drive, drive_telling};
 pub use pumps::drive_pump;
 pub use teller::{NoTeller, Teller, TellingNode};

@@ -3,7 +3,7 @@ ghost use Rattle.sq_node.specs.Prelude.{IsNodeOf};
 ghost use Rattle.sq_driver.specs.Nodes.{MakesStep, Driven};
 ghost use Rattle.sq_driver.specs.Told.{HasTold, DrivenAndTold, DrivenTelling};
 
-use crate::gate::{Gate, NodeStep};
+use crate::gate::{Gate, NodeStep, WorkerEvent, WorkerId};
 use crate::teller::{NoTeller, Teller, TellingNode};
 use crate::worker::{Turn, Worker, take_turns};
 use sq_node::{Effort, Fabric, Node, Stepped};
@@ -36,6 +36,10 @@ impl Worker for Node {
 
     ghost Driven = { Driven };
 
+    fn id(&self) -> WorkerId {
+        WorkerId::Node(self.part().number())
+    }
+
     fn take_turn<R: Wait, G: Gate>(&mut self, rt: &R, fabric: &Fabric, gate: &G) -> Turn {
         take_node_turn(rt, fabric, self, &mut NoTeller, gate)
     }
@@ -56,6 +60,10 @@ impl<T: Teller> Worker for TellingNode<T> {
 
     ghost Driven = { λ fabric old new. DrivenTelling T.Tells fabric old new };
 
+    fn id(&self) -> WorkerId {
+        self.node.id()
+    }
+
     fn take_turn<R: Wait, G: Gate>(&mut self, rt: &R, fabric: &Fabric, gate: &G) -> Turn {
         take_node_turn(rt, fabric, &mut self.node, &mut self.teller, gate)
     }
@@ -72,9 +80,9 @@ impl<T: Teller> Worker for TellingNode<T> {
 /// Drives a node: it takes this many turns. In a turn it makes each step once, and cuts and sends a second chunk. Where it
 /// cut or loaded one, it goes on with jobs until it has done three times as much for them as for chunks, or finds none.
 ///
-/// It ends before where it is idle, and where the gate says so, which is asked before each step, and told of each receipt
-/// and of each segment that the node completes. After a turn in which there was nothing to do other threads go first, and
-/// after many in a row the node sleeps for some microseconds.
+/// It ends before where it is idle, unless the gate says that it goes on then. And it ends where the gate says so, which is
+/// asked before each step. The gate is told of each step in which there was something to do, and where the node rests after a
+/// turn without work, which it may do by keeping it for a while.
 pub fn drive<R: Wait, G: Gate>(rt: &R, fabric: &Fabric, node: &mut Node, turns: u64, gate: &G)
     requires { IsNodeOf fabric.now node.old }
     ensures { Driven fabric.now node.old node.new }
@@ -120,6 +128,9 @@ fn take_node_turn<T: Teller, R: Wait, G: Gate>(
     }
     if !serve_on(rt, fabric, node, teller, before, gate) {
         return Turn::Ended;
+    }
+    if !gate.ends_idle() {
+        return turn;
     }
     if node.idle(fabric) {
         return Turn::Ended;
@@ -176,7 +187,7 @@ fn serve<T: Teller, R: Wait, G: Gate>(
     }
 }
 
-// Makes a step of a node, where the gate lets it pass, tells its receipt, and tells the gate what came of it.
+// Makes a step of a node, where the gate lets it pass, tells its receipt, and tells the gate what it did.
 fn try_step<T: Teller, R: Wait, G: Gate>(
     rt: &R,
     fabric: &Fabric,
@@ -188,7 +199,7 @@ fn try_step<T: Teller, R: Wait, G: Gate>(
     requires { IsNodeOf fabric.now node.old }
     ensures { DrivenAndTold T.Tells fabric.now node.old teller.old node.new teller.new }
 {
-    let who = u64::from(node.part().number());
+    let who = node.id();
     if !gate.pass(who, step) {
         return Turn::Ended;
     }
@@ -196,11 +207,7 @@ fn try_step<T: Teller, R: Wait, G: Gate>(
     if step_and_tell(rt, fabric, node, teller, step) != Stepped::Did {
         return Turn::Rested;
     }
-    if let Some(told) = outcome(node, step, receipts) {
-        if !gate.pass(who, told) {
-            return Turn::Ended;
-        }
-    }
+    gate.did(who, event_of(node, step, receipts));
     Turn::Worked
 }
 
@@ -224,19 +231,18 @@ fn step_and_tell<T: Teller, R: Wait>(
     stepped
 }
 
-// What the gate is told of a step that a node made, which had this many receipts before: a receipt, or a segment that is
-// complete.
-fn outcome(node: &Node, step: NodeStep, receipts: usize) -> Option<NodeStep> {
+// What the gate is told of a step in which a node did something, which had this many receipts before.
+fn event_of(node: &Node, step: NodeStep, receipts: usize) -> WorkerEvent {
     if node.receipts().len() != receipts {
-        return Some(NodeStep::Answered);
+        return WorkerEvent::Answered(step);
     }
     if step == NodeStep::Complete && node.completes_segment() {
-        return Some(NodeStep::SegmentComplete);
+        return WorkerEvent::SegmentComplete;
     }
-    None
+    WorkerEvent::Made(step)
 }
 
-// Makes a step of a node. What is no step of a node does nothing.
+// Makes a step of a node. A node takes no turn of a pump.
 fn make_step<R: Wait>(rt: &R, fabric: &Fabric, node: &mut Node, step: NodeStep) -> Stepped
     requires { IsNodeOf fabric.now node.old }
     ensures { MakesStep fabric.now step node.old result node.new }
@@ -250,6 +256,6 @@ fn make_step<R: Wait>(rt: &R, fabric: &Fabric, node: &mut Node, step: NodeStep) 
         NodeStep::Load => node.step_load(fabric),
         NodeStep::Complete => node.step_complete(fabric),
         NodeStep::Resume => node.step_resume(rt, fabric),
-        NodeStep::Pump | NodeStep::Answered | NodeStep::SegmentComplete => Stepped::Nothing,
+        NodeStep::Pump => Stepped::Nothing,
     }
 }

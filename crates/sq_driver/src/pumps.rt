@@ -2,7 +2,7 @@
 ghost use Rattle.sq_pull.specs.Seats.{AreSeatsOf};
 ghost use Rattle.sq_driver.specs.Pumps.{PumpDriven};
 
-use crate::gate::{Gate, NodeStep};
+use crate::gate::{Gate, NodeStep, WorkerEvent, WorkerId};
 use crate::worker::{Turn, Worker, take_turns};
 use sq_node::Fabric;
 use sq_pull::{Pump, PumpTurn};
@@ -16,12 +16,17 @@ impl Worker for Pump {
 
     ghost Driven = { PumpDriven };
 
+    fn id(&self) -> WorkerId {
+        WorkerId::Pump(self.number())
+    }
+
     fn take_turn<R: Wait, G: Gate>(&mut self, rt: &R, fabric: &Fabric, gate: &G) -> Turn {
-        let who = u64::from(fabric.parts()) + u64::from(self.number());
+        let who = self.id();
         if self.is_done() || !gate.pass(who, NodeStep::Pump) {
             return Turn::Ended;
         }
         if claims(rt, fabric, self) {
+            gate.did(who, WorkerEvent::Made(NodeStep::Pump));
             Turn::Worked
         } else {
             Turn::Rested
@@ -36,8 +41,8 @@ impl Worker for Pump {
 }
 
 /// Drives a pump: it takes this many turns. It ends before where it is done: there was nothing to claim in any segment of the
-/// running stage, and nothing is pending. And it ends where the gate says so, which is asked before each turn. After a turn
-/// in which nothing was claimed other threads go first, and after many in a row the pump sleeps for some microseconds.
+/// running stage, and nothing is pending. And it ends where the gate says so, which is asked before each turn. The gate is
+/// told of each claim, and where the pump rests, which it may do by keeping it for a while.
 pub fn drive_pump<R: Wait, G: Gate>(rt: &R, fabric: &Fabric, pump: &mut Pump, turns: u64, gate: &G)
     requires { AreSeatsOf fabric.now.trees pump.old.seats }
     ensures { PumpDriven fabric.now pump.old pump.new }

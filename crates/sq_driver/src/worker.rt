@@ -1,18 +1,9 @@
 // Workers, and how they are driven.
 ghost use Rattle.sq_node.specs.Prelude.{FabricValue};
 
-use crate::gate::Gate;
+use crate::gate::{Gate, WorkerId};
 use sq_node::Fabric;
 use std::sync::Wait;
-use std::sync::atomic::AtomicU64;
-use std::thread;
-use std::time::Duration;
-
-// After how many turns in a row without work a worker sleeps, where before it only let other threads go first.
-const TURNS_AWAKE: u64 = 256;
-
-// How many microseconds a worker sleeps where it finds no work.
-const SLEEP: u64 = 50;
 
 /// What became of a turn.
 #[derive(Clone, Copy, Debug, PartialEq, Eq)]
@@ -33,6 +24,9 @@ pub(crate) trait Worker {
     /// What becomes of a worker in its turns.
     ghost Driven: { FabricValue → Self → Self → Type 0 };
 
+    /// Who it is to a gate.
+    fn id(&self) -> WorkerId;
+
     /// A turn. The gate is asked before each step.
     fn take_turn<R: Wait, G: Gate>(&mut self, rt: &R, fabric: &Fabric, gate: &G) -> Turn
         requires { IsOf fabric.now self.old }
@@ -49,7 +43,7 @@ pub(crate) trait Worker {
         → Driven fabric first old → Driven fabric old new → Driven fabric first new };
 }
 
-/// Drives a worker: it takes this many turns, or fewer where it doesn't go on. One that finds nothing to do rests.
+/// Drives a worker: it takes this many turns, or fewer where it doesn't go on. The gate is told where it rests.
 pub(crate) fn take_turns<W: Worker, R: Wait, G: Gate>(
     rt: &R,
     fabric: &Fabric,
@@ -60,24 +54,16 @@ pub(crate) fn take_turns<W: Worker, R: Wait, G: Gate>(
     requires { W.IsOf fabric.now worker.old }
     ensures { W.Driven fabric.now worker.old worker.new }
 {
-    let mut rested = 0;
+    let who = worker.id();
+    let mut rested = 0u64;
     for _turn in 0..turns {
         match worker.take_turn(rt, fabric, gate) {
             Turn::Worked => rested = 0,
             Turn::Rested => {
-                rest(rt, rested);
                 rested = rested.saturating_add(1);
+                gate.rests(rt, who, rested);
             }
             Turn::Ended => return,
         }
-    }
-}
-
-// Lets other threads go first, and sleeps after so many turns without work in a row.
-fn rest<R: Wait>(rt: &R, rested: u64) {
-    if rested < TURNS_AWAKE {
-        thread::yield_now();
-    } else {
-        AtomicU64::new(0).park_timeout(rt, 0, Duration::from_micros(SLEEP));
     }
 }

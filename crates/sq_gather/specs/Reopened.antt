@@ -1,9 +1,13 @@
 -- Runs, and how they go on from one stage to the next.
 use Rattle.std.specs.Prelude.{◌≡◌, ℕ, List, length, slice_get, Some}
 use Rattle.sq_ranges.specs.OpeningValue.{OpeningValue}
+use Rattle.sq_ranges.specs.Opening.{IsOpening}
 use Rattle.sq_pull.specs.Seats.{AreSeatsOf, OnlyClaimed}
 use Rattle.sq_pull.specs.Pump.{PumpValue}
 use Rattle.sq_node_model.specs.BeganWith.{BeganWith, CanBegin}
+use Rattle.sq_node_model.specs.Gathered.{GatheredValue}
+use Rattle.sq_node_model.specs.Placed.{IsPlaced}
+use Rattle.sq_node_model.specs.Next.{IsStageDone, IsNextMove, next_began, onward_began}
 use Rattle.sq_node.specs.FabricValue.{FabricValue, HasBegun}
 use Rattle.sq_node.specs.NodeState.{NodeState, IsNodeOf}
 use Rattle.sq_node.specs.Holds.{KeepsAll}
@@ -19,6 +23,18 @@ pub record IsRunInStage (o : OpeningValue) (began : BeganWith) (fabric : FabricV
   pub can : CanBegin o began
   pub all : AreAllOf fabric nodes pumps
   pub hold : AllHoldUnder o began nodes
+
+-- this is a run in the stage after the one that was gathered, if that is placed and its segments are complete
+abbrev pub IsNextStageOf : OpeningValue → GatheredValue → FabricValue → List NodeState → List PumpValue → Type 0
+IsNextStageOf o g fabric nodes pumps =
+    IsPlaced o g → IsStageDone o g → IsRunInStage o (next_began o g) fabric nodes pumps
+
+-- this is a run in the first stage of a move that follows the one that was gathered, if that is placed and its segments are
+-- complete
+abbrev pub IsFirstStageAfter : OpeningValue → GatheredValue → FabricValue → List NodeState → List PumpValue → Type 0
+IsFirstStageAfter next g fabric nodes pumps =
+    (o : OpeningValue) → IsOpening o → IsPlaced o g → IsStageDone o g → IsNextMove o g next
+    → IsRunInStage next (onward_began o g) fabric nodes pumps
 
 -- a node is that of the same partition and of the run still, and what a node keeps holds of it still
 pub record Stays (fabric : FabricValue) (old new : NodeState) : Type 0 where

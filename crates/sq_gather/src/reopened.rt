@@ -1,10 +1,11 @@
 // Going on with what was gathered: in the next stage of a move, or in another move.
 ghost use Rattle.std.specs.Prelude.{◌≡◌, ◌+◌, ◌<◌, ◌≤◌, length, IfOk, IfErr, OnOk};
-ghost use Rattle.sq_ranges.specs.Prelude.{OpeningValue, IsOpening, stages};
+ghost use Rattle.sq_schema.specs.Prelude.{TableValue};
+ghost use Rattle.sq_ranges.specs.Prelude.{stages};
 ghost use Rattle.sq_pull.specs.declared.numbers.TheConstants.{MAX_PUMPS};
-ghost use Rattle.sq_node_model.specs.Prelude.{IsPlaced, IsStageDone, IsNextMove, next_began, onward_began};
+ghost use Rattle.sq_node_model.specs.Prelude.{folded_opening};
 ghost use Rattle.sq_node.specs.Prelude.{IsFabric, IsReopened, AllHoldAsBegun};
-ghost use Rattle.sq_gather.specs.Reopened.{IsRunInStage};
+ghost use Rattle.sq_gather.specs.Reopened.{IsNextStageOf, IsFirstStageAfter};
 
 use crate::gathered::Gathered;
 use sq_node::{Fabric, Node, Unresumed};
@@ -15,10 +16,12 @@ use std::alloc::Global;
 // The stage in which a move begins.
 const FIRST_STAGE: u64 = 0;
 
-/// Opens the stage after the one of which this was gathered, whose segments are complete: what a run shares in that stage, its
-/// nodes with the families and the jobs that were gathered, and this many pumps. The receipts so far go along.
+/// Opens the stage after the one of which this was gathered: what a run shares in that stage, its nodes with the families and the
+/// jobs that were gathered, and this many pumps. The receipts so far go along. Where what was gathered is placed and its segments
+/// are complete, under this opening or one that differs from it in its rows alone, this is a run of that opening.
 ///
-/// Where there is no memory, what was gathered comes back as it was.
+/// Where it doesn't have the families of as many partitions, and where there is no memory, what was gathered comes back as it
+/// was.
 pub fn reopen(
     alloc: Global,
     opening: &Opening,
@@ -26,11 +29,10 @@ pub fn reopen(
     pumps: u32,
 ) -> Result<(Fabric, Vec<Node>, Vec<Pump>), Gathered>
     requires pumps { pumps ≤ MAX_PUMPS }
-    requires placed { IsPlaced opening.now g }
-    requires done { IsStageDone opening.now g }
     requires more { g.stage + 1 < stages opening.now.recon }
     requires left { length g.left ≡ opening.now.old.parts }
-    ensures run { IfOk result (λ run. IsRunInStage opening.now (next_began opening.now g) run.0 run.1.items run.2.items) }
+    ensures run { IfOk result (λ run. (table : TableValue)
+        → IsNextStageOf (folded_opening opening.now table) g run.0 run.1.items run.2.items) }
     ensures pumps { IfOk result (λ run. length run.2.items ≡ pumps) }
     ensures returned { IfErr result (λ back. back ≡ g) }
 {
@@ -41,9 +43,10 @@ pub fn reopen(
     Ok((fabric, nodes, pumps))
 }
 
-/// Opens the first stage of another move, with what was gathered of the last stage of one, whose segments are complete: what a
-/// run shares in it, its nodes with the families and the jobs that were gathered, and this many pumps. The receipts so far go
-/// along.
+/// Opens the first stage of another move, with what was gathered of the last stage of one: what a run shares in it, its nodes with
+/// the families and the jobs that were gathered, and this many pumps. The receipts so far go along. Where what was gathered is
+/// placed and its segments are complete, and `next`, or an opening that differs from it in its rows alone, is of a move that
+/// follows, this is a run of that opening.
 ///
 /// Where `next` is of another number of partitions, and where there is no memory, what was gathered comes back as it was.
 pub fn move_on(
@@ -53,8 +56,8 @@ pub fn move_on(
     pumps: u32,
 ) -> Result<(Fabric, Vec<Node>, Vec<Pump>), Gathered>
     requires { pumps ≤ MAX_PUMPS }
-    ensures run { IfOk result (λ run. (o : OpeningValue) → IsOpening o → IsPlaced o g → IsStageDone o g → IsNextMove o g next.now
-        → IsRunInStage next.now (onward_began o g) run.0 run.1.items run.2.items) }
+    ensures run { IfOk result (λ run. (table : TableValue)
+        → IsFirstStageAfter (folded_opening next.now table) g run.0 run.1.items run.2.items) }
     ensures pumps { IfOk result (λ run. length run.2.items ≡ pumps) }
     ensures returned { IfErr result (λ back. back ≡ g) }
 {
@@ -75,7 +78,8 @@ fn resume(
 ) -> Result<(Fabric, Vec<Node>, Vec<Pump>), Gathered>
     requires { pumps ≤ MAX_PUMPS }
     ensures run { IfOk result (λ run. IsReopened opening.now stage g.stores g.receipts pumps run.0 run.1.items run.2.items) }
-    ensures holds { IfOk result (λ run. AllHoldAsBegun opening.now run.0 g.stores run.1.items) }
+    ensures holds { IfOk result (λ run. (table : TableValue)
+        → AllHoldAsBegun (folded_opening opening.now table) run.0 g.stores run.1.items) }
     ensures stores { OnOk result (length g.stores ≡ opening.now.old.parts) }
     ensures fabric { IfOk result (λ run. IsFabric run.0) }
     ensures returned { IfErr result (λ back. back ≡ g) }

@@ -131,7 +131,6 @@ fn run_input<T: Threads + Wait + Sync, G: Watch>(
     manner: RunManner,
     watch: &G,
 ) -> Result<LiveOutcome, AllocError>
-    requires partitions { HavePartitions opening.old.parts jobs }
     ensures { IfOk result (WereRun manner.folds opening jobs) }
 {
     let moving = start_move(&opening)?;

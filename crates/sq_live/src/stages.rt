@@ -6,7 +6,6 @@ ghost use Rattle.sq_node_model.specs.Prelude.{BeganWith, first_began, IsPlaced, 
 ghost use Rattle.sq_gather.specs.Gathered.{AreAllOf};
 ghost use Rattle.sq_gather.specs.Reopened.{IsRunInStage};
 ghost use Rattle.sq_live.specs.Account.{first_account};
-ghost use Rattle.sq_live.specs.Jobs.{HavePartitions};
 ghost use Rattle.sq_live.specs.Leading.{leading};
 ghost use Rattle.sq_live.specs.Stages.{RanFrom, IsReady, ComesAfterStage, GoesOnTo};
 ghost use Rattle.sq_live.specs.Live.{WereRun};
@@ -73,7 +72,6 @@ pub(crate) fn run_stages<R: Threads + Wait + Sync, G: Watch>(
 ) -> Result<LiveOutcome, AllocError>
     requires first { account ≡ first_account account.opening account.jobs }
     requires led { moving ≡ leading account.opening 0 }
-    requires partitions { HavePartitions account.opening.old.parts account.jobs }
     ensures { IfOk result (WereRun manner.folds account.opening account.jobs) }
 {
     let stages = account.opening.recon().stages();
@@ -99,7 +97,6 @@ fn first_ready<R: Threads + Wait + Sync>(
 ) -> Result<Ready, AllocError>
     requires pumps { pumps ≤ MAX_PUMPS }
     requires led { moving ≡ leading account.opening 0 }
-    requires partitions { HavePartitions account.opening.old.parts account.jobs }
     ensures account { IfOk result (λ ready. ready.account ≡ account) }
     ensures ready { IfOk result (IsReady (first_began account.opening)) }
 {
@@ -118,9 +115,7 @@ fn first_ready<R: Threads + Wait + Sync>(
 
 // Posts each job to its partition. One that its queue doesn't take is dropped, and so not answered: but a queue has as many
 // places as there are jobs at most.
-fn post_all<R: Wait>(rt: &R, fabric: &Fabric, jobs: &[Job]) -> Result<(), AllocError>
-    requires { HavePartitions fabric.now.parts jobs.now }
-{
+fn post_all<R: Wait>(rt: &R, fabric: &Fabric, jobs: &[Job]) -> Result<(), AllocError> {
     for job in jobs {
         drop(fabric.post(rt, job.part, job.txn.clone()?));
     }

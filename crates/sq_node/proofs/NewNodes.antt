@@ -7,6 +7,7 @@ use Rattle.std.proofs.lemmas.List.{length-replicate}
 use Rattle.std.proofs.lemmas.List.FromFn.{length-map-range_with_len, get_or-map-range_with_len}
 use Rattle.std.proofs.lemmas.Option.{same_Some, slice_get_within, slice_get-get_or}
 use Rattle.atomic_table.specs.Seated.{TableId}
+use Rattle.sq_schema.specs.Table.{TableValue}
 use Rattle.sq_ranges.specs.OpeningValue.{OpeningValue}
 use Rattle.sq_link.specs.Values.{LinkValue}
 use Rattle.sq_status.specs.declared.view.View.{View}
@@ -24,6 +25,7 @@ use Rattle.sq_node_model.proofs.Staged.{key_stage, unmoved_source}
 use Rattle.sq_node_model.specs.NodeValue.{ReceiptValue}
 use Rattle.sq_node_model.specs.BeganWith.{BeganWith, CanBegin, is_opened, opening_family, first_began}
 use Rattle.sq_node_model.specs.Cores.{staged_core, OpensWith, IsUnused}
+use Rattle.sq_node_model.specs.Folded.{folded_opening}
 use Rattle.sq_node_model.proofs.CoreNew.{core_new, get_or-same}
 use Rattle.sq_node_model.proofs.Members.{push_stood}
 use Rattle.sq_node.specs.Ends.{EndValue, src_of, dst_of, end_at}
@@ -261,4 +263,20 @@ told_run o stage stores receipts count fabric nodes pumps run =
       seats = run.seats;
       each_node = same_nodes o fabric now stores nodes refl run.each_node;
       each_pump = same_pumps fabric now count pumps refl run.each_pump;
+    }
+
+-- nothing that a stage begins with has to do with the opening's rows
+pub rowless_nodes : (o : OpeningValue) (table : TableValue) (fabric : FabricValue) (stores : List StoreValue) (nodes : List NodeState) → AreNewNodes o fabric stores nodes → AreNewNodes (folded_opening o table) fabric stores nodes
+rowless_nodes o table fabric stores nodes are = record { all = are.all; each = are.each }
+
+pub rowless_run : (o : OpeningValue) (table : TableValue) (stage : ℕ) (stores : List StoreValue) (receipts : List ReceiptValue) (count : ℕ) (fabric : FabricValue) (nodes : List NodeState) (pumps : List PumpValue) → IsReopened o stage stores receipts count fabric nodes pumps
+    → IsReopened (folded_opening o table) stage stores receipts count fabric nodes pumps
+rowless_run o table stage stores receipts count fabric nodes pumps run =
+    record {
+      shared = record { recon = run.shared.recon; parts = run.shared.parts; capacity = run.shared.capacity };
+      stage = run.stage;
+      receipts = run.receipts;
+      seats = run.seats;
+      each_node = rowless_nodes o table fabric stores nodes run.each_node;
+      each_pump = run.each_pump;
     }

@@ -1,5 +1,5 @@
 // What the nodes of a run share.
-ghost use Rattle.std.specs.Prelude.{◌≡◌, ◌↔◌, ◌+◌, ◌<◌, ◌≤◌, IsTrue, IfErr};
+ghost use Rattle.std.specs.Prelude.{◌≡◌, ◌↔◌, ◌+◌, ◌<◌, ◌≤◌, IsTrue, IfErr, OnOk};
 ghost use Rattle.sq_ranges.specs.Prelude.{stages};
 ghost use Rattle.sq_node.specs.FabricValue.{IsFabric};
 
@@ -133,12 +133,15 @@ impl Fabric {
         }
     }
 
-    /// Posts a job to a partition. It comes back where that queue was full at one moment of the call. That there is such
-    /// a partition is a condition and no refusal, since a caller has its numbers from the plan.
+    /// Posts a job to a partition. It comes back where there is no such partition, and where that queue was full at one moment
+    /// of the call.
     pub fn post<R: Wait>(&self, rt: &R, part: PartId, job: Txn) -> Result<(), Txn>
-        requires { part < self.now.parts }
-        ensures { IfErr result (λ back. back ≡ job) }
+        ensures there { OnOk result (part < self.now.parts) }
+        ensures back { IfErr result (λ back. back ≡ job) }
     {
+        if part.number() >= self.parts {
+            return Err(job);
+        }
         // It counts before it can be taken: nobody sees all jobs answered while this one isn't.
         self.posted.fetch_add(1, Ordering::SeqCst);
         let put = self.put_job(rt, part, job);
@@ -148,12 +151,15 @@ impl Fabric {
         put
     }
 
-    /// Asks a partition to begin a node. The request comes back where that queue was full at one moment of the call. That
-    /// there is such a partition is a condition and no refusal, since a caller has its numbers from the plan.
+    /// Asks a partition to begin a node. The request comes back where there is no such partition, and where that queue was full
+    /// at one moment of the call.
     pub fn request<R: Wait>(&self, rt: &R, part: PartId, request: Request) -> Result<(), Request>
-        requires { part < self.now.parts }
-        ensures { IfErr result (λ back. back ≡ request) }
+        ensures there { OnOk result (part < self.now.parts) }
+        ensures back { IfErr result (λ back. back ≡ request) }
     {
+        if part.number() >= self.parts {
+            return Err(request);
+        }
         match self.requests.get(usize::from(part.number())) {
             Some(queue) => queue.push(rt, request),
             None => Err(request),

@@ -8,7 +8,7 @@ use crate::table::write_times;
 use crate::timeline::Timeline;
 use crate::waits::Waits;
 use sq_chart::{moments_of, write_csv, write_svg};
-use sq_driver::{Gate, NodeStep};
+use sq_driver::{Gate, NodeStep, WorkerEvent, WorkerId};
 use sq_gather::Gathered;
 use sq_live::{MAX_JOBS, Watch};
 use sq_node::Node;
@@ -20,8 +20,8 @@ use std::sync::Wait;
 use std::sync::atomic::{AtomicU64, Ordering};
 use std::time::Clock;
 
-/// A watch that tells another one all that it is told, and keeps count for a summary and, if it is to, for a timeline. What the
-/// other one says of a step is what it says.
+/// A watch that tells another one all that it is told, and keeps count for a summary and, if it is to, for a timeline. Whether
+/// a worker goes on is as the other one says.
 #[derive(Drop)]
 pub struct RecordingWatch<'a, R, W> {
     rt: &'a R,
@@ -120,12 +120,24 @@ impl<'a, R: Wait + Clock, W: Watch> RecordingWatch<'a, R, W> {
 }
 
 impl<R: Wait + Clock + Sync, W: Watch> Gate for RecordingWatch<'_, R, W> {
-    fn pass(&self, who: u64, step: NodeStep) -> bool {
-        self.waits.hear(who, step);
-        if let Some(timeline) = &self.timeline {
-            timeline.record(step);
-        }
+    fn pass(&self, who: WorkerId, step: NodeStep) -> bool {
         self.watch.pass(who, step)
+    }
+
+    fn did(&self, who: WorkerId, event: WorkerEvent) {
+        self.waits.hear(who, event);
+        if let Some(timeline) = &self.timeline {
+            timeline.record(event);
+        }
+        self.watch.did(who, event);
+    }
+
+    fn rests<S: Wait>(&self, rt: &S, who: WorkerId, turns: u64) {
+        self.watch.rests(rt, who, turns);
+    }
+
+    fn ends_idle(&self) -> bool {
+        self.watch.ends_idle()
     }
 }
 

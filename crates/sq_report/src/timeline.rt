@@ -1,7 +1,7 @@
 // When jobs are answered and segments complete.
 use crate::clock::Stopwatch;
 use sq_chart::{Event, Happened, Moment};
-use sq_driver::NodeStep;
+use sq_driver::WorkerEvent;
 use std::alloc::{AllocError, Global};
 use std::sync::atomic::{AtomicU64, Ordering};
 use std::time::Clock;
@@ -53,12 +53,12 @@ impl<'a, C: Clock> Timeline<'a, C> {
         self.ended.store(self.clock.micros(), Ordering::SeqCst);
     }
 
-    /// Marks a job that was answered, or a segment that is complete. Any other step is none of these.
-    pub fn record(&self, step: NodeStep) {
-        match step {
-            NodeStep::Answered => self.answered.mark(self.clock.micros()),
-            NodeStep::SegmentComplete => self.complete.mark(self.clock.micros()),
-            _ => {}
+    /// Marks a job that was answered, or a segment that is complete. What else a worker tells is none of these.
+    pub fn record(&self, event: WorkerEvent) {
+        match event {
+            WorkerEvent::Answered(_) => self.answered.mark(self.clock.micros()),
+            WorkerEvent::SegmentComplete => self.complete.mark(self.clock.micros()),
+            WorkerEvent::Made(_) => {}
         }
     }
 

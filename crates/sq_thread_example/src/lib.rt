@@ -2,7 +2,7 @@
 //! audits what they left.
 #![tactic(auto)]
 
-ghost use Rattle.std.specs.Prelude.{◌<◌, All, IfOk};
+ghost use Rattle.std.specs.Prelude.{IfOk};
 ghost use Rattle.sq_node_model.specs.Prelude.{IsPlaced};
 ghost use Rattle.sq_audit.specs.Answers.{IdsDiffer};
 ghost use Rattle.sq_audit.specs.Defects.{IsVerdict};
@@ -39,8 +39,7 @@ pub fn run_jobs<R: Threads + Wait + Sync>(
     opening: &Opening,
     jobs: &[Job],
 ) -> Result<Ran, AllocError>
-    requires partitions { All (λ job. job.part < opening.now.old.parts) jobs.now }
-    requires ids { IdsDiffer jobs.now }
+    requires { IdsDiffer jobs.now }
     ensures placed { IfOk result (λ ran. IsPlaced opening.now ran.gathered) }
     ensures verdict { IfOk result (λ ran. IsVerdict opening.now ran.gathered jobs.now ran.verdict) }
 {
@@ -60,10 +59,9 @@ pub fn run_jobs<R: Threads + Wait + Sync>(
     }
 }
 
-// Posts each job to its partition. One that its queue has no room for isn't answered, which the audit tells then.
-fn post_all<R: Wait>(rt: &R, fabric: &Fabric, jobs: &[Job]) -> Result<(), AllocError>
-    requires { All (λ job. job.part < fabric.now.parts) jobs.now }
-{
+// Posts each job to its partition. One that has none, or that its queue has no room for, isn't answered, which the audit tells
+// then.
+fn post_all<R: Wait>(rt: &R, fabric: &Fabric, jobs: &[Job]) -> Result<(), AllocError> {
     for job in jobs {
         drop(fabric.post(rt, job.part, job.txn.clone()?));
     }

@@ -1,5 +1,5 @@
 // How far a live run is, said while it goes on.
-use sq_driver::{Gate, NodeStep};
+use sq_driver::{Gate, NodeStep, WorkerEvent, WorkerId};
 use sq_live::Watch;
 use std::sync::atomic::{AtomicBool, AtomicU64, Ordering};
 
@@ -78,13 +78,16 @@ impl<'a, E: Eprint> Progress<'a, E> {
 }
 
 impl<E: Eprint + Sync> Gate for Progress<'_, E> {
-    fn pass(&self, _who: u64, step: NodeStep) -> bool {
-        match step {
-            NodeStep::Answered => self.count(&self.answered),
-            NodeStep::SegmentComplete => self.count(&self.complete),
-            _ => {}
-        }
+    fn pass(&self, _who: WorkerId, _step: NodeStep) -> bool {
         true
+    }
+
+    fn did(&self, _who: WorkerId, event: WorkerEvent) {
+        match event {
+            WorkerEvent::Answered(_) => self.count(&self.answered),
+            WorkerEvent::SegmentComplete => self.count(&self.complete),
+            WorkerEvent::Made(_) => {}
+        }
     }
 }
 

@@ -1,6 +1,8 @@
 // Going on with a run in a stage.
 ghost use Rattle.std.specs.Prelude.{◌≡◌, ◌↔◌, ◌≤◌, length, IfOk, IfErr, OnOk, IsTrue};
+ghost use Rattle.sq_schema.specs.Prelude.{TableValue};
 ghost use Rattle.sq_pull.specs.declared.numbers.TheConstants.{MAX_PUMPS};
+ghost use Rattle.sq_node_model.specs.Prelude.{folded_opening};
 ghost use Rattle.sq_node.specs.Opened.{IsReopened, AllHoldAsBegun, HasStageFor};
 
 use super::Fabric;
@@ -30,6 +32,9 @@ impl Fabric {
     /// started. The jobs that were left count as posted, and not as answered: they are in the queue of their partition in
     /// their order, and those for which it has no place are its node's to post.
     ///
+    /// Nothing of this has to do with the opening's rows: what holds of the nodes holds under each opening that differs from this
+    /// one in its rows alone.
+    ///
     /// Everything comes back where the families or the jobs aren't those of as many partitions as there are, where there
     /// is no such stage, and where there is no memory.
     pub fn resumed(
@@ -43,7 +48,8 @@ impl Fabric {
     ) -> Result<(Fabric, Vec<Node>, Vec<Pump>), Unresumed>
         requires { pumps ≤ MAX_PUMPS }
         ensures run { IfOk result (λ run. IsReopened opening.now stage stores.items receipts.items pumps run.0 run.1.items run.2.items) }
-        ensures holds { IfOk result (λ run. AllHoldAsBegun opening.now run.0 stores.items run.1.items) }
+        ensures holds { IfOk result (λ run. (table : TableValue)
+            → AllHoldAsBegun (folded_opening opening.now table) run.0 stores.items run.1.items) }
         ensures fits { OnOk result (HasStageFor opening.now stage (length stores.items) (length left.items)) }
         ensures stores { IfErr result (λ back. back.stores.items ≡ stores.items) }
         ensures left { IfErr result (λ back. back.left.items ≡ left.items) }

@@ -1,7 +1,6 @@
-use Rattle.std.proofs.Common.{◌<◌, ℕ, List, sym, subst, arith}
+use Rattle.std.proofs.Common.{List, sym, subst, arith}
 use Rattle.std.specs.Prelude.{All}
 use Rattle.sq_pull.specs.Pump.{PumpValue}
-use Rattle.sq_audit.specs.declared.job.Job.{Job}
 use Rattle.sq_node_model.specs.BeganWith.{first_began}
 use Rattle.sq_node.specs.NodeState.{NodeState, IsNodeOf}
 use Rattle.sq_driver.specs.Pumps.{HasAllSeats}
@@ -10,10 +9,6 @@ use Rattle.sq_gather.proofs.AllOf.{all_of_opened}
 use Rattle.sq_gather.proofs.Workers.{nodes_of, pumps_of, written}
 use Rattle.sq_thread_example.proofs.Running.{driven_run, placed}
 use Rattle.sq_thread_example.proofs.run_jobs.Goals as goal
-
-pub post_all-requires : goal.post_all-requires
-post_all-requires g c =
-    subst (λ (parts : ℕ). All (λ (job : Job). job.part < parts) c.args.jobs.now) (sym c.in_ok-fabric.ensures.shared.parts) c.requires.partitions
 
 pub run_workers-requires-clause-nodes : goal.run_workers-requires-clause-nodes
 run_workers-requires-clause-nodes g c = λ κs within.

@@ -1,5 +1,5 @@
 // Workers one by one: what they ask before each step.
-use super::gates::Recorder;
+use super::gates::{FIRST_PUMP, Lasting, Recorder, RecorderEnd};
 use super::node::PAIR;
 use super::run::TestRun;
 use sq_driver::NodeStep;
@@ -38,17 +38,28 @@ fn a_gate_is_asked_before_each_step(rt: HostRuntime) -> Result<(), Fail> {
 #[test]
 fn a_gate_ends_a_node(rt: HostRuntime) -> Result<(), Fail> {
     let alloc = rt.alloc();
-    for (end, asked, receipts) in [
-        (NodeStep::Job, 0x1, 0),
-        (NodeStep::Answered, 0x1a, 1),
-        (NodeStep::Load, 0x1a2343456, 1),
+    for (end, heard, receipts) in [
+        (RecorderEnd::Asked(NodeStep::Job), 0x1, 0),
+        (RecorderEnd::Answered, 0x1a, 1),
+        (RecorderEnd::Asked(NodeStep::Load), 0x1a2343456, 1),
     ] {
         let mut run = two_jobs(&rt, alloc)?;
         let gate = Recorder::new(Some(end));
         run.work(&rt, 1_000_000, &gate);
-        assert!(rt; gate.told() == (0, asked));
+        assert!(rt; gate.told() == (0, heard));
         assert!(rt; run.receipts() == receipts);
     }
+    Ok(())
+}
+
+// It has answered both jobs and found nothing to do for so many turns.
+#[test]
+fn a_gate_keeps_an_idle_node(rt: HostRuntime) -> Result<(), Fail> {
+    let alloc = rt.alloc();
+    let mut run = two_jobs(&rt, alloc)?;
+    let gate = Lasting::new(5);
+    run.work(&rt, 1_000_000, &gate);
+    assert!(rt; gate.rested() == 5 && run.receipts() == 2);
     Ok(())
 }
 
@@ -57,14 +68,14 @@ fn a_gate_ends_a_node(rt: HostRuntime) -> Result<(), Fail> {
 fn a_pump_takes_its_turns(rt: HostRuntime) -> Result<(), Fail> {
     let alloc = rt.alloc();
     let mut run = TestRun::opened(alloc, PAIR, 1)?;
-    let closed = Recorder::new(Some(NodeStep::Pump));
+    let closed = Recorder::new(Some(RecorderEnd::Asked(NodeStep::Pump)));
     run.drive_pump(&rt, 0, 1_000_000, &closed)?;
-    assert!(rt; closed.told() == (2, 0x9));
+    assert!(rt; closed.told() == (FIRST_PUMP, 0x9));
     let gate = Recorder::new(None);
     run.drive_pump(&rt, 0, 1, &gate)?;
-    assert!(rt; gate.told() == (2, 0x9) && !run.is_pump_done(0));
+    assert!(rt; gate.told() == (FIRST_PUMP, 0x9) && !run.is_pump_done(0));
     run.drive_pump(&rt, 0, 1_000_000, &gate)?;
-    assert!(rt; gate.told() == (2, 0x99) && run.is_pump_done(0));
+    assert!(rt; gate.told() == (FIRST_PUMP, 0x99) && run.is_pump_done(0));
     Ok(())
 }
 

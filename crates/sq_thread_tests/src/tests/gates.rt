@@ -1,7 +1,8 @@
 // Gates that tell what they are asked and told, that end a worker, and that keep one until others run beside it.
-use sq_driver::{Gate, NodeStep};
+use sq_driver::{Gate, NodeStep, WorkerEvent, WorkerId};
 use sq_live::Watch;
 use std::alloc::Global;
+use std::sync::Wait;
 use std::sync::atomic::{AtomicBool, AtomicU64, Ordering};
 use std::test::Fail;
 use std::thread;
@@ -18,44 +19,90 @@ fn digit(step: NodeStep) -> u64 {
         NodeStep::Complete => 7,
         NodeStep::Resume => 8,
         NodeStep::Pump => 9,
-        NodeStep::Answered => 10,
-        NodeStep::SegmentComplete => 11,
     }
 }
 
-/// Tells what one worker asks: a hexadecimal digit for each step, the latest last. It ends the worker at a step.
+// The digit of a receipt, and of a segment that is complete.
+const RECEIPT: u64 = 10;
+
+const SEGMENT: u64 = 11;
+
+/// The number of the first pump among the workers. That of a partition's node is the partition's.
+pub const FIRST_PUMP: u64 = 1_000;
+
+// The number of a worker.
+fn number(who: WorkerId) -> u64 {
+    match who {
+        WorkerId::Node(part) => u64::from(part),
+        WorkerId::Pump(number) => FIRST_PUMP + u64::from(number),
+    }
+}
+
+/// At what a recorder ends its worker.
+#[derive(Clone, Copy, Debug, PartialEq, Eq)]
+pub enum RecorderEnd {
+    /// Where it asks for this step.
+    Asked(NodeStep),
+    /// Once it has written a receipt.
+    Answered,
+}
+
+/// Tells what one worker asks and tells: a hexadecimal digit for each step, each receipt and each segment, the latest last. It
+/// may end the worker.
 #[derive(Drop)]
 pub struct Recorder {
     who: AtomicU64,
-    asked: AtomicU64,
-    end: Option<NodeStep>,
+    heard: AtomicU64,
+    end: Option<RecorderEnd>,
+    ended: AtomicBool,
 }
 
 impl Recorder {
-    /// It ends the worker at this step, if there is one.
-    pub fn new(end: Option<NodeStep>) -> Recorder {
+    /// It ends the worker there, if it is to.
+    pub fn new(end: Option<RecorderEnd>) -> Recorder {
         Recorder {
             who: AtomicU64::new(99),
-            asked: AtomicU64::new(0),
+            heard: AtomicU64::new(0),
             end,
+            ended: AtomicBool::new(false),
         }
     }
 
-    /// Which worker asked last, and what was asked.
+    /// Which worker asked last, and what was asked and told.
     pub fn told(&self) -> (u64, u64) {
         (
             self.who.load(Ordering::SeqCst),
-            self.asked.load(Ordering::SeqCst),
+            self.heard.load(Ordering::SeqCst),
         )
+    }
+
+    fn hear(&self, who: WorkerId, digit: u64) {
+        self.who.store(number(who), Ordering::SeqCst);
+        let heard = self.heard.load(Ordering::SeqCst);
+        self.heard.store(heard << 4 | digit, Ordering::SeqCst);
     }
 }
 
 impl Gate for Recorder {
-    fn pass(&self, who: u64, step: NodeStep) -> bool {
-        self.who.store(who, Ordering::SeqCst);
-        let asked = self.asked.load(Ordering::SeqCst);
-        self.asked.store(asked << 4 | digit(step), Ordering::SeqCst);
-        self.end != Some(step)
+    fn pass(&self, who: WorkerId, step: NodeStep) -> bool {
+        if self.ended.load(Ordering::SeqCst) {
+            return false;
+        }
+        self.hear(who, digit(step));
+        self.end != Some(RecorderEnd::Asked(step))
+    }
+
+    fn did(&self, who: WorkerId, event: WorkerEvent) {
+        match event {
+            WorkerEvent::Answered(_) => {
+                self.hear(who, RECEIPT);
+                if self.end == Some(RecorderEnd::Answered) {
+                    self.ended.store(true, Ordering::SeqCst);
+                }
+            }
+            WorkerEvent::SegmentComplete => self.hear(who, SEGMENT),
+            WorkerEvent::Made(_) => {}
+        }
     }
 }
 
@@ -64,6 +111,7 @@ impl Watch for Recorder {}
 /// Keeps each worker at its first step until all have come there. One that waits too long has missed the others.
 #[derive(Drop)]
 pub struct Meeting {
+    nodes: u64,
     came: Vec<AtomicBool>,
     count: AtomicU64,
     missed: AtomicU64,
@@ -72,13 +120,15 @@ pub struct Meeting {
 const LOOKS: u32 = 20_000_000;
 
 impl Meeting {
-    /// Of this many workers.
-    pub fn new(alloc: Global, workers: u64) -> Result<Meeting, Fail> {
+    /// Of this many nodes and pumps.
+    pub fn new(alloc: Global, nodes: u8, pumps: u8) -> Result<Meeting, Fail> {
+        let nodes = u64::from(nodes);
         let mut came = Vec::new(alloc);
-        for _worker in 0..workers {
+        for _worker in 0..nodes + u64::from(pumps) {
             came.push(AtomicBool::new(false))?;
         }
         Ok(Meeting {
+            nodes,
             came,
             count: AtomicU64::new(0),
             missed: AtomicU64::new(0),
@@ -93,8 +143,12 @@ impl Meeting {
 }
 
 impl Gate for Meeting {
-    fn pass(&self, who: u64, _step: NodeStep) -> bool {
-        let Some(came) = self.came.get(who as usize) else {
+    fn pass(&self, who: WorkerId, _step: NodeStep) -> bool {
+        let place = match who {
+            WorkerId::Node(part) => u64::from(part),
+            WorkerId::Pump(number) => self.nodes.saturating_add(u64::from(number)),
+        };
+        let Some(came) = self.came.get(place as usize) else {
             return false;
         };
         if !came.swap(true, Ordering::SeqCst) {
@@ -116,14 +170,14 @@ impl Watch for Meeting {}
 /// Keeps one partition at its first job until another has answered one.
 #[derive(Drop)]
 pub struct After {
-    kept: u64,
-    other: u64,
+    kept: u8,
+    other: u8,
     answered: AtomicBool,
 }
 
 impl After {
     /// Keeps the first of these partitions until the second has answered one.
-    pub fn new(kept: u64, other: u64) -> After {
+    pub fn new(kept: u8, other: u8) -> After {
         After {
             kept,
             other,
@@ -133,11 +187,8 @@ impl After {
 }
 
 impl Gate for After {
-    fn pass(&self, who: u64, step: NodeStep) -> bool {
-        if who == self.other && step == NodeStep::Answered {
-            self.answered.store(true, Ordering::SeqCst);
-        }
-        if who != self.kept || step != NodeStep::Job {
+    fn pass(&self, who: WorkerId, step: NodeStep) -> bool {
+        if who != WorkerId::Node(self.kept) || step != NodeStep::Job {
             return true;
         }
         for _look in 0..200_000_000 {
@@ -146,6 +197,12 @@ impl Gate for After {
             }
         }
         false
+    }
+
+    fn did(&self, who: WorkerId, event: WorkerEvent) {
+        if who == WorkerId::Node(self.other) && matches!(event, WorkerEvent::Answered(_)) {
+            self.answered.store(true, Ordering::SeqCst);
+        }
     }
 }
 
@@ -169,11 +226,14 @@ impl Enough {
 }
 
 impl Gate for Enough {
-    fn pass(&self, _who: u64, step: NodeStep) -> bool {
-        if step == NodeStep::SegmentComplete {
+    fn pass(&self, _who: WorkerId, _step: NodeStep) -> bool {
+        self.complete.load(Ordering::SeqCst) < self.segments
+    }
+
+    fn did(&self, _who: WorkerId, event: WorkerEvent) {
+        if event == WorkerEvent::SegmentComplete {
             self.complete.fetch_add(1, Ordering::SeqCst);
         }
-        self.complete.load(Ordering::SeqCst) < self.segments
     }
 }
 
@@ -228,17 +288,23 @@ impl Counter {
 }
 
 impl Gate for Counter {
-    fn pass(&self, _who: u64, step: NodeStep) -> bool {
+    fn pass(&self, _who: WorkerId, _step: NodeStep) -> bool {
         if !self.runs.load(Ordering::SeqCst) {
             self.asked_beside.store(true, Ordering::SeqCst);
         }
-        if step == NodeStep::Answered {
-            self.answered.fetch_add(1, Ordering::SeqCst);
-        }
-        if step == NodeStep::SegmentComplete {
-            self.complete.fetch_add(1, Ordering::SeqCst);
-        }
         true
+    }
+
+    fn did(&self, _who: WorkerId, event: WorkerEvent) {
+        match event {
+            WorkerEvent::Answered(_) => {
+                self.answered.fetch_add(1, Ordering::SeqCst);
+            }
+            WorkerEvent::SegmentComplete => {
+                self.complete.fetch_add(1, Ordering::SeqCst);
+            }
+            WorkerEvent::Made(_) => {}
+        }
     }
 }
 
@@ -252,5 +318,41 @@ impl Watch for Counter {
     fn ends(&self) {
         self.runs.store(false, Ordering::SeqCst);
         self.ends.fetch_add(1, Ordering::SeqCst);
+    }
+}
+
+/// Lets a node that is idle go on, and ends it once it has rested so many times in a row.
+#[derive(Drop)]
+pub struct Lasting {
+    turns: u64,
+    rested: AtomicU64,
+}
+
+impl Lasting {
+    /// Ends it after so many.
+    pub fn new(turns: u64) -> Lasting {
+        Lasting {
+            turns,
+            rested: AtomicU64::new(0),
+        }
+    }
+
+    /// How many turns it rested in a row, the last time.
+    pub fn rested(&self) -> u64 {
+        self.rested.load(Ordering::SeqCst)
+    }
+}
+
+impl Gate for Lasting {
+    fn pass(&self, _who: WorkerId, _step: NodeStep) -> bool {
+        self.rested() < self.turns
+    }
+
+    fn rests<R: Wait>(&self, _rt: &R, _who: WorkerId, turns: u64) {
+        self.rested.store(turns, Ordering::SeqCst);
+    }
+
+    fn ends_idle(&self) -> bool {
+        false
     }
 }

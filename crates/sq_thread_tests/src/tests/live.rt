@@ -3,7 +3,7 @@ ghost use Rattle.std.specs.Prelude.{◌≤◌};
 ghost use Rattle.sq_pull.specs.declared.numbers.TheConstants.{MAX_PUMPS};
 
 use super::driver::ALONE;
-use super::gates::{After, Counter, Enough, Meeting, Recorder};
+use super::gates::{After, Counter, Enough, Meeting, Recorder, RecorderEnd};
 use sq_driver::NodeStep;
 use sq_live::{Watch, live};
 use std::alloc::Global;
@@ -83,7 +83,10 @@ fn ended<R: Threads + Wait + Sync, G: Watch>(
 fn a_gate_stops_a_run(rt: HostRuntime) -> Result<(), Fail> {
     let alloc = rt.alloc();
     let input = format!(in alloc; "{ALONE}txn 0 1 5 put 0 0 1 -\ntxn 0 2 5 get 0 0\n")?;
-    for (end, answered) in [(NodeStep::Job, 0), (NodeStep::Answered, 1)] {
+    for (end, answered) in [
+        (RecorderEnd::Asked(NodeStep::Job), 0),
+        (RecorderEnd::Answered, 1),
+    ] {
         let gate = Recorder::new(Some(end));
         let (line, status) = ended(&rt, alloc, &input, 1, false, &gate)?;
         let want = format!(in alloc; "stopped {answered} of 2 jobs, 0 of 0 segments\n")?;
@@ -96,7 +99,7 @@ fn a_gate_stops_a_run(rt: HostRuntime) -> Result<(), Fail> {
 #[test]
 fn each_worker_has_a_thread(rt: HostRuntime) -> Result<(), Fail> {
     let alloc = rt.alloc();
-    let gate = Meeting::new(alloc, 32)?;
+    let gate = Meeting::new(alloc, 16, 16)?;
     let (line, status) = ended(&rt, alloc, SIXTEEN, 16, false, &gate)?;
     assert_eq!(rt; line.as_str(), "sound 0 families 0 committed\n");
     assert!(rt; status == 0 && gate.was_full());

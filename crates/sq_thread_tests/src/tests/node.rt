@@ -132,6 +132,17 @@ fn jobs_that_find_a_full_queue_are_kept(rt: HostRuntime) -> Result<(), Fail> {
     Ok(())
 }
 
+// What goes to a partition that isn't there comes back, and isn't counted.
+#[test]
+fn what_goes_to_no_partition_comes_back(rt: HostRuntime) -> Result<(), Fail> {
+    let alloc = rt.alloc();
+    let run = TestRun::opened(alloc, PAIR, 0)?;
+    assert!(rt; !run.has_posted(&rt, alloc, "txn 2 1 9 get 0 0")?);
+    assert!(rt; !run.has_requested(&rt, 2, NO_SEGMENT)?);
+    assert!(rt; run.is_answered());
+    Ok(())
+}
+
 // A request that names no segment.
 const NO_SEGMENT: Request = Request {
     seg: 9,

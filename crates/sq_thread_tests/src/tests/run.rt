@@ -88,16 +88,13 @@ impl TestRun {
         if self.has_posted(rt, alloc, line)? {
             Ok(())
         } else {
-            Err("the queue is full")?
+            Err("no such partition, or its queue is full")?
         }
     }
 
-    /// The same, and whether the queue had room for it.
+    /// The same, and whether there is such a partition, whose queue had room for it.
     pub fn has_posted<R: Wait>(&self, rt: &R, alloc: Global, line: &str) -> Result<bool, Fail> {
         let Job { part, txn } = job(alloc, line)?;
-        if part.number() >= self.fabric.parts() {
-            return Err("no such partition")?;
-        }
         Ok(self.fabric.post(rt, part, txn).is_ok())
     }
 
@@ -106,15 +103,12 @@ impl TestRun {
         if self.has_requested(rt, part, request)? {
             Ok(())
         } else {
-            Err("the queue is full")?
+            Err("no such partition, or its queue is full")?
         }
     }
 
-    /// The same, and whether the queue had room for it.
+    /// The same, and whether there is such a partition, whose queue had room for it.
     pub fn has_requested<R: Wait>(&self, rt: &R, part: u8, request: Request) -> Result<bool, Fail> {
-        if part >= self.fabric.parts() {
-            return Err("no such partition")?;
-        }
         Ok(self.fabric.request(rt, PartId::new(part), request).is_ok())
     }
 

@@ -34,6 +34,9 @@ loop-step-preserved g c = tried g (goal.at.loop-step-preserved g c).After-try_st
 pub returns-then-not-serve_on : goal.returns-then-not-serve_on
 returns-then-not-serve_on g c = served g (goal.at.returns-then-not-serve_on g c).After-serve_on
 
+pub returns-then-not-ends_idle : goal.returns-then-not-ends_idle
+returns-then-not-ends_idle g c = served g (goal.at.returns-then-not-ends_idle g c).After-serve_on
+
 pub returns-then-idle : goal.returns-then-idle
 returns-then-idle g c = looked g (goal.at.returns-then-idle g c).After-idle
 

@@ -17,11 +17,5 @@ returns-then-not-pass g c = telling_no_turn g.T.Teller.Tells c.args.fabric.now c
 pub returns-then-ne : goal.returns-then-ne
 returns-then-ne g c = made g (goal.at.returns-then-ne g c).After-step_and_tell
 
-pub returns-then-not-pass-2 : goal.returns-then-not-pass-2
-returns-then-not-pass-2 g c = made g (goal.at.returns-then-not-pass-2 g c).After-step_and_tell
-
-pub returns-else-not-pass-2 : goal.returns-else-not-pass-2
-returns-else-not-pass-2 g c = made g (goal.at.returns-else-not-pass-2 g c).After-step_and_tell
-
-pub returns-in_default : goal.returns-in_default
-returns-in_default g c = made g (goal.at.returns-in_default g c).After-step_and_tell
+pub returns : goal.returns
+returns g c = made g (goal.at.returns g c).After-step_and_tell

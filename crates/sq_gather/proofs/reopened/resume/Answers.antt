@@ -1,6 +1,8 @@
 use Rattle.std.proofs.Common.{subst}
+use Rattle.sq_schema.specs.Table.{TableValue}
 use Rattle.sq_node_model.specs.BeganWith.{BeganWith, CanBegin}
 use Rattle.sq_node_model.specs.Gathered.{GatheredValue}
+use Rattle.sq_node_model.specs.Folded.{folded_opening}
 use Rattle.sq_node.specs.FabricValue.{HasBegun}
 use Rattle.sq_node.specs.Opened.{IsReopened, AllOpenWith, AllHoldUnder, AllHoldAsBegun}
 use Rattle.sq_gather.proofs.reopened.resume.Goals as goal
@@ -11,4 +13,4 @@ returns-in-Ok-clause-run c =
 
 pub returns-in-Ok-clause-holds : goal.returns-in-Ok-clause-holds
 returns-in-Ok-clause-holds c =
-    subst (λ (g : GatheredValue). AllHoldAsBegun c.args.opening.now c.in-Ok.fabric g.stores c.in-Ok.nodes.items) c.g.view_is c.in-Ok.ensures.holds
+    subst (λ (g : GatheredValue). (table : TableValue) → AllHoldAsBegun (folded_opening c.args.opening.now table) c.in-Ok.fabric g.stores c.in-Ok.nodes.items) c.g.view_is c.in-Ok.ensures.holds

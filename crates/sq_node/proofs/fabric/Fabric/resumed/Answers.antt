@@ -1,8 +1,9 @@
 use Rattle.std.proofs.Common.{rules, ◌≡◌, List, ap, sym, subst, ◌∙◌, length}
+use Rattle.sq_node_model.specs.Folded.{folded_opening}
 use Rattle.sq_node.specs.FabricValue.{FabricValue}
 use Rattle.sq_node.specs.NodeState.{NodeState}
 use Rattle.sq_node.specs.Opened.{IsReopened}
-use Rattle.sq_node.proofs.NewNodes.{told_run, new_nodes_hold}
+use Rattle.sq_node.proofs.NewNodes.{told_run, new_nodes_hold, rowless_nodes}
 use Rattle.sq_node.proofs.fabric.Fabric.resumed.Goals as goal
 
 pub returns-in-Ok-open_run-clause-run : goal.returns-in-Ok-open_run-clause-run
@@ -19,8 +20,11 @@ returns-in-Ok-open_run-clause-run c =
     (told_run o c.args.stage stores told c.args.pumps fabric nodes pumps c.in-Ok-open_run.ensures.run))
 
 pub returns-in-Ok-open_run-clause-holds : goal.returns-in-Ok-open_run-clause-holds
-returns-in-Ok-open_run-clause-holds c = λ began begun can opens.
+returns-in-Ok-open_run-clause-holds c = λ table began begun can opens.
     let o = c.args.opening.now in
     let stores = c.args.stores.items in
+    let fabric = c.post_left.new.fabric in
+    let nodes = c.post_left.new.nodes.items in
     let count : length stores ≡ o.old.parts = search rules in
-    new_nodes_hold o began c.post_left.new.fabric stores c.post_left.new.nodes.items count begun can opens (returns-in-Ok-open_run-clause-run c).each_node
+    new_nodes_hold (folded_opening o table) began fabric stores nodes count begun can opens
+    (rowless_nodes o table fabric stores nodes (returns-in-Ok-open_run-clause-run c).each_node)
