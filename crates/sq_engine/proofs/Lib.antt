@@ -1,0 +1,2 @@
+pub mod PostedIds
+pub mod Epochs

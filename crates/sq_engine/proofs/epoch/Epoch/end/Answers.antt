@@ -1,0 +1,36 @@
+use Rattle.std.proofs.Common.{sym, subst}
+use Rattle.sq_engine.specs.Values.{EpochValue}
+use Rattle.sq_engine.specs.History.{RunsAfter}
+use Rattle.sq_engine.proofs.Epochs.{gathered_comes}
+use Rattle.sq_engine.proofs.epoch.Epoch.end.Goals as goal
+
+pub gather-requires : goal.gather-requires
+gather-requires g c = let run = c.self.invariant.2.3.run in run.all
+
+pub invariant_of-result : goal.invariant_of-result
+invariant_of-result g c =
+    let inside = c.self.inside in
+    let was = c.self.invariant in
+    let epoch : EpochValue = record {
+      opening = inside.opening;
+      jobs = inside.jobs;
+      fabric = inside.fabric;
+      nodes = inside.nodes.items;
+      pumps = inside.pumps.items;
+    } in
+    let left = c.in-Ok.ensures in
+    (was.0, was.1, gathered_comes was.0 was.1 epoch c.in-Ok.gathered c.recon-recon.ensures.set_up.opening was.2 left.gathered left.placed left.grows)
+
+pub returns-in-Ok-clause-ended : goal.returns-in-Ok-clause-ended
+returns-in-Ok-clause-ended g c = λ o past runs.
+    let inside = c.self.inside in
+    let epoch : EpochValue = record {
+      opening = inside.opening;
+      jobs = inside.jobs;
+      fabric = inside.fabric;
+      nodes = inside.nodes.items;
+      pumps = inside.pumps.items;
+    } in
+    let left = c.in-Ok.ensures in
+    gathered_comes o past epoch c.in-Ok.gathered c.recon-recon.ensures.set_up.opening
+    (subst (λ (e : EpochValue). RunsAfter o past e) (sym c.self.view_is) runs) left.gathered left.placed left.grows

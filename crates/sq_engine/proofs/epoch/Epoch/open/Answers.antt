@@ -1,0 +1,29 @@
+use Rattle.std.proofs.Common.{List, [], sym, subst}
+use Rattle.sq_audit.specs.declared.job.Job.{Job}
+use Rattle.sq_gather.proofs.Running.{run_begins}
+use Rattle.sq_engine.specs.History.{RunsAfter}
+use Rattle.sq_engine.proofs.Epochs.{opened_runs}
+use Rattle.sq_engine.proofs.epoch.Epoch.open.Goals as goal
+
+pub returns-clause-opened : goal.returns-clause-opened
+returns-clause-opened g c =
+    let o = c.args.opening in
+    let fabric = c.in-Ok.fabric in
+    let nodes = c.in-Ok.nodes.items in
+    let pumps = c.in-Ok.pumps.items in
+    subst (λ (jobs : List Job). RunsAfter o [] (record { opening = o; jobs = jobs; fabric = fabric; nodes = nodes; pumps = pumps })) (sym c.new.ensures)
+    (opened_runs o fabric nodes pumps
+    (run_begins o c.args.pumps fabric nodes pumps c.recon-recon.ensures.set_up.opening c.trees-trees.ensures.fabric c.in-Ok.ensures))
+
+pub invariant_of-result : goal.invariant_of-result
+invariant_of-result g c =
+    let o = c.args.opening in
+    let fabric = c.in-Ok.fabric in
+    let nodes = c.in-Ok.nodes.items in
+    let pumps = c.in-Ok.pumps.items in (
+      o,
+      [],
+      subst (λ (jobs : List Job). RunsAfter o [] (record { opening = o; jobs = jobs; fabric = fabric; nodes = nodes; pumps = pumps })) (sym c.new.ensures)
+          (opened_runs o fabric nodes pumps
+          (run_begins o c.args.pumps fabric nodes pumps c.recon-recon.ensures.set_up.opening c.trees-trees.ensures.fabric c.in-Ok.ensures)),
+    )

@@ -1,0 +1,4 @@
+pub mod Posted
+pub mod Values
+pub mod History
+pub mod Outcomes

@@ -1,0 +1,22 @@
+-- An engine as a value: in an epoch, and between two.
+use Rattle.std.specs.Prelude.{List}
+use Rattle.sq_ranges.specs.OpeningValue.{OpeningValue}
+use Rattle.sq_pull.specs.Pump.{PumpValue}
+use Rattle.sq_node_model.specs.Gathered.{GatheredValue}
+use Rattle.sq_node.specs.FabricValue.{FabricValue}
+use Rattle.sq_node.specs.NodeState.{NodeState}
+use Rattle.sq_audit.specs.declared.job.Job.{Job}
+
+-- in an epoch: the opening in force, the jobs that were posted and not folded, what the workers share, the nodes and the pumps
+pub record EpochValue : Type 0 where
+  pub opening : OpeningValue
+  pub jobs : List Job
+  pub fabric : FabricValue
+  pub nodes : List NodeState
+  pub pumps : List PumpValue
+
+-- between two epochs: an opening, the jobs that were posted and not folded, and what was gathered of the last epoch
+pub record PauseValue : Type 0 where
+  pub opening : OpeningValue
+  pub jobs : List Job
+  pub gathered : GatheredValue

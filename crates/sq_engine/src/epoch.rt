@@ -1,0 +1,213 @@
+// An epoch of an engine.
+ghost use Rattle.std.specs.Prelude.{◌≡◌, ◌≤◌, ◌∷◌, [], ◌++◌, List, length, IfOk, IfErr, OnOk, OnErr};
+ghost use Rattle.sq_pull.specs.declared.numbers.TheConstants.{MAX_PUMPS};
+ghost use Rattle.sq_ranges.specs.Prelude.{OpeningValue, IsSetUp};
+ghost use Rattle.sq_node.specs.Prelude.{IsNodeOf};
+ghost use Rattle.sq_driver.specs.Nodes.{AllDriven};
+ghost use Rattle.sq_driver.specs.Pumps.{AllPumpsDriven};
+ghost use Rattle.sq_audit.specs.Answers.{IdsDiffer};
+ghost use Rattle.sq_engine.specs.Values.{PauseValue};
+ghost use Rattle.sq_engine.specs.History.{RunsAfter, HaveCome, OnlyDriven};
+
+use crate::pause::Pause;
+use crate::posted::{PostFault, PostedJobs};
+use sq_audit::Job;
+use sq_driver::{Gate, run_workers};
+use sq_gather::{Ungathered, gather};
+use sq_node::{Fabric, Node};
+use sq_plan::PartId;
+use sq_pull::Pump;
+use sq_ranges::Opening;
+use sq_schema::Txn;
+use std::alloc::{AllocError, Global};
+use std::marker::Model;
+use std::sync::Wait;
+use std::thread::Threads;
+
+/// An epoch of an engine: a stage of a move, or rest. Jobs are posted to it, and its workers run. To a contract it is an
+/// `EpochValue`, to which some epochs lead.
+#[derive(Drop)]
+pub struct Epoch {
+    pub(crate) opening: Opening,
+    pub(crate) jobs: PostedJobs,
+    pub(crate) fabric: Fabric,
+    pub(crate) nodes: Vec<Node>,
+    pub(crate) pumps: Vec<Pump>,
+}
+
+impl Model for Epoch {
+    ghost use Rattle.std.specs.Coded.{codes};
+    ghost use Rattle.sq_store.specs.Prelude.{store_coded};
+    ghost use Rattle.sq_engine.specs.Values.{EpochValue};
+    ghost use Rattle.sq_engine.specs.History.{IsReachedEpoch};
+
+    ghost Value = { EpochValue };
+
+    ghost coded = { Prim.hlevel (codes, store_coded) };
+
+    ghost view = { λ e. record {
+      opening = e.opening;
+      jobs = e.jobs;
+      fabric = e.fabric;
+      nodes = e.nodes.items;
+      pumps = e.pumps.items;
+    } };
+
+    ghost invariant = { λ e. IsReachedEpoch (record {
+      opening = e.opening;
+      jobs = e.jobs;
+      fabric = e.fabric;
+      nodes = e.nodes.items;
+      pumps = e.pumps.items;
+    }) };
+}
+
+impl Epoch {
+    /// The first epoch of an engine, which has the families of the opening's rows: the first stage of its move, with this
+    /// many pumps. The families of each partition are made in a thread of its own, where one can be had. Where there is no
+    /// memory the opening comes back as it was.
+    pub fn open<R: Threads + Sync>(
+        rt: &R,
+        alloc: Global,
+        opening: Opening,
+        pumps: u32,
+    ) -> Result<Epoch, Opening>
+        requires { pumps ≤ MAX_PUMPS }
+        ensures opened { IfOk result (λ epoch. RunsAfter opening [] epoch) }
+        ensures none_posted { IfOk result (λ epoch. epoch.jobs ≡ []) }
+        ensures returned { IfErr result (λ back. back ≡ opening) }
+    {
+        let Ok((fabric, nodes, pumps)) = Fabric::open_in_threads(rt, alloc, &opening, pumps) else {
+            return Err(opening);
+        };
+        // For the proof alone: what was handed in is an opening, and this is a fabric.
+        let _recon = opening.recon();
+        let _trees = fabric.trees();
+        Ok(Epoch {
+            opening,
+            jobs: PostedJobs::new(alloc),
+            fabric,
+            nodes,
+            pumps,
+        })
+    }
+
+    /// The opening in force.
+    pub fn opening(&self) -> &Opening
+        ensures opening { result.now ≡ self.now.opening }
+        ensures set_up { IsSetUp result.now }
+    {
+        // For the proof alone: it is an opening.
+        let _recon = self.opening.recon();
+        &self.opening
+    }
+
+    /// The jobs that were posted and not folded, in the order in which they were posted.
+    pub fn jobs(&self) -> &[Job]
+        ensures jobs { result.now ≡ self.now.jobs }
+        ensures differ { IdsDiffer result.now }
+    {
+        self.jobs.as_slice()
+    }
+
+    /// Posts a job to a partition: a copy of this transaction. It is refused where there is no such partition, where a job
+    /// that was posted before and isn't folded has its id, where the partition's queue was full at one moment of the call,
+    /// and where there is no memory; and then nothing changes. The id of a job that was folded may be refused too.
+    pub fn post<R: Wait>(&mut self, rt: &R, part: PartId, txn: &Txn) -> Result<(), PostFault>
+        ensures ok { OnOk result (self.new
+            ≡ record self.old { jobs = self.old.jobs ++ record { part = part; txn = txn.now } ∷ [] }) }
+        ensures err { OnErr result (self.new ≡ self.old) }
+        ensures history { (o : OpeningValue) (past : List PauseValue) → RunsAfter o past self.old → RunsAfter o past self.new }
+    {
+        if part.number() >= self.fabric.parts() {
+            return Err(PostFault::NoSuchPartition);
+        }
+        let Ok((kept, sent)) = copy_twice(txn) else {
+            return Err(PostFault::Memory);
+        };
+        self.jobs.add(part, kept)?;
+        if self.fabric.post(rt, part, sent).is_err() {
+            self.jobs.remove_last();
+            return Err(PostFault::QueueFull);
+        }
+        Ok(())
+    }
+
+    /// Runs the workers: each partition and each pump in a thread of its own, for this many turns at most. All of them have
+    /// ended when it returns. A node ends before where it is idle, and each worker where the gate says so. Jobs may be posted
+    /// after that, and the workers run again.
+    pub fn run<R: Threads + Wait + Sync, G: Gate + Sync>(
+        self,
+        rt: &R,
+        turns: u64,
+        gate: &G,
+    ) -> Epoch
+        ensures driven { OnlyDriven self result }
+        ensures history { (o : OpeningValue) (past : List PauseValue) → RunsAfter o past self → RunsAfter o past result }
+    {
+        let Epoch {
+            opening,
+            jobs,
+            fabric,
+            mut nodes,
+            mut pumps,
+        } = self;
+        // For the proof alone: what was handed in is an opening.
+        let _recon = opening.recon();
+        run_workers(rt, &fabric, &mut nodes, &mut pumps, turns, gate);
+        Epoch {
+            opening,
+            jobs,
+            fabric,
+            nodes,
+            pumps,
+        }
+    }
+
+    /// Ends the epoch: what its workers left is gathered. It is placed, whatever they did. Where there is no memory the epoch
+    /// comes back as it was.
+    pub fn end<R: Wait>(self, rt: &R, alloc: Global) -> Result<Pause, Epoch>
+        ensures ended { IfOk result (λ pause. (o : OpeningValue) (past : List PauseValue) → RunsAfter o past self → HaveCome o (pause ∷ past)) }
+        ensures opening { IfOk result (λ pause. pause.opening ≡ self.opening) }
+        ensures jobs { IfOk result (λ pause. pause.jobs ≡ self.jobs) }
+        ensures returned { IfErr result (λ back. back ≡ self) }
+    {
+        let Epoch {
+            opening,
+            jobs,
+            fabric,
+            nodes,
+            pumps,
+        } = self;
+        // For the proof alone: what was handed in is an opening.
+        let _recon = opening.recon();
+        match gather(rt, alloc, fabric, nodes, pumps) {
+            Ok(gathered) => Ok(Pause {
+                opening,
+                jobs,
+                gathered,
+            }),
+            Err(
+                Ungathered {
+                    fabric,
+                    nodes,
+                    pumps,
+                },
+            ) => Err(Epoch {
+                opening,
+                jobs,
+                fabric,
+                nodes,
+                pumps,
+            }),
+        }
+    }
+}
+
+// Two copies of a transaction.
+fn copy_twice(txn: &Txn) -> Result<(Txn, Txn), AllocError>
+    ensures { IfOk result (λ copies. (copies.0 ≡ txn.now) × (copies.1 ≡ txn.now)) }
+{
+    let first = txn.clone()?;
+    Ok((first, txn.clone()?))
+}

@@ -1,0 +1,78 @@
+// A move that is due.
+ghost use Rattle.std.specs.Prelude.{◌≡◌, ◌≤◌, List, IfOk, IfErr};
+ghost use Rattle.sq_pull.specs.declared.numbers.TheConstants.{MAX_PUMPS};
+ghost use Rattle.sq_ranges.specs.Prelude.{OpeningValue, IsSetUp};
+ghost use Rattle.sq_engine.specs.Values.{PauseValue};
+ghost use Rattle.sq_engine.specs.History.{IsDueAfter, RunsAfter};
+
+use crate::epoch::Epoch;
+use crate::posted::PostedJobs;
+use sq_gather::{Gathered, move_on};
+use sq_ranges::Opening;
+use std::alloc::Global;
+use std::marker::Model;
+
+/// An engine that goes on to another plan: a move is due, with what was gathered of the last stage of the one before. To a
+/// contract it is a `PauseValue`.
+#[derive(Drop)]
+pub struct NextMove {
+    pub(crate) opening: Opening,
+    pub(crate) jobs: PostedJobs,
+    pub(crate) gathered: Gathered,
+}
+
+impl Model for NextMove {
+    ghost use Rattle.std.specs.Coded.{codes};
+    ghost use Rattle.sq_store.specs.Prelude.{store_coded};
+    ghost use Rattle.sq_engine.specs.Values.{PauseValue};
+    ghost use Rattle.sq_engine.specs.History.{IsReachedMove};
+
+    ghost Value = { PauseValue };
+
+    ghost coded = { Prim.hlevel (codes, store_coded) };
+
+    ghost view = { λ m. record { opening = m.opening; jobs = m.jobs; gathered = m.gathered } };
+
+    ghost invariant = { λ m. IsReachedMove (record { opening = m.opening; jobs = m.jobs; gathered = m.gathered }) };
+}
+
+impl NextMove {
+    /// The opening of the move.
+    pub fn opening(&self) -> &Opening
+        ensures opening { result.now ≡ self.now.opening }
+        ensures set_up { IsSetUp result.now }
+    {
+        // For the proof alone: it is an opening.
+        let _recon = self.opening.recon();
+        &self.opening
+    }
+
+    /// StartsAfter the first stage of the move, with this many pumps. Where there is no memory all comes back as it was.
+    pub fn begin(self, alloc: Global, pumps: u32) -> Result<Epoch, NextMove>
+        requires { pumps ≤ MAX_PUMPS }
+        ensures begun { IfOk result (λ epoch. (o : OpeningValue) (past : List PauseValue) → IsDueAfter o past self → RunsAfter o past epoch) }
+        ensures opening { IfOk result (λ epoch. epoch.opening ≡ self.opening) }
+        ensures jobs { IfOk result (λ epoch. epoch.jobs ≡ self.jobs) }
+        ensures returned { IfErr result (λ back. back ≡ self) }
+    {
+        let NextMove {
+            opening,
+            jobs,
+            gathered,
+        } = self;
+        match move_on(alloc, &opening, gathered, pumps) {
+            Ok((fabric, nodes, pumps)) => Ok(Epoch {
+                opening,
+                jobs,
+                fabric,
+                nodes,
+                pumps,
+            }),
+            Err(gathered) => Err(NextMove {
+                opening,
+                jobs,
+                gathered,
+            }),
+        }
+    }
+}

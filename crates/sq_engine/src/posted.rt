@@ -1,0 +1,115 @@
+// The jobs that were posted.
+ghost use Rattle.std.specs.Prelude.{◌≡◌, ◌-◌, [], ◌∷◌, ◌++◌, length, take, OnOk, OnErr};
+ghost use Rattle.sq_audit.specs.Answers.{IdsDiffer};
+ghost use Rattle.sq_engine.specs.Posted.{HaveIdsAmong};
+
+use sq_audit::Job;
+use sq_plan::PartId;
+use sq_schema::Txn;
+use std::alloc::{AllocError, Global};
+use std::collections::BTreeSet;
+use std::marker::Model;
+use thiserror::Error;
+
+/// Why a job isn't posted.
+#[derive(Clone, Copy, Debug, PartialEq, Eq, Error)]
+pub enum PostFault {
+    #[error("there is no such partition")]
+    NoSuchPartition,
+    #[error("a job that was posted before has this id")]
+    RepeatedId,
+    #[error("the queue of the partition is full")]
+    QueueFull,
+    #[error("out of memory")]
+    Memory,
+}
+
+/// The jobs that were posted and not folded, whose ids differ. To a contract they are a list.
+#[derive(Drop)]
+pub(crate) struct PostedJobs {
+    jobs: Vec<Job>,
+    ids: BTreeSet<u64>,
+}
+
+impl Model for PostedJobs {
+    ghost use Rattle.std.specs.Prelude.{List};
+    ghost use Rattle.sq_audit.specs.declared.job.Job as job;
+    ghost use Rattle.sq_engine.specs.Posted.{HaveIdsAmong};
+
+    ghost Value = { List job.Job };
+
+    ghost view = { λ p. p.jobs.items };
+
+    ghost invariant = { λ p. HaveIdsAmong p.jobs.items p.ids };
+}
+
+impl PostedJobs {
+    /// No jobs.
+    pub(crate) fn new(alloc: Global) -> PostedJobs
+        ensures { result ≡ [] }
+    {
+        PostedJobs {
+            jobs: Vec::new(alloc),
+            ids: BTreeSet::new(alloc),
+        }
+    }
+
+    /// These jobs, whose ids are among these.
+    pub(crate) fn from_parts(jobs: Vec<Job>, ids: BTreeSet<u64>) -> PostedJobs
+        requires { HaveIdsAmong jobs.items ids }
+        ensures { result ≡ jobs.items }
+    {
+        PostedJobs { jobs, ids }
+    }
+
+    /// The jobs, in the order in which they were posted, and their ids.
+    pub(crate) fn into_parts(self) -> (Vec<Job>, BTreeSet<u64>)
+        ensures jobs { result.0.items ≡ self }
+        ensures ids { HaveIdsAmong result.0.items result.1 }
+    {
+        (self.jobs, self.ids)
+    }
+
+    /// The jobs, in the order in which they were posted.
+    pub(crate) fn as_slice(&self) -> &[Job]
+        ensures jobs { result.now ≡ self.now }
+        ensures differ { IdsDiffer result.now }
+    {
+        &self.jobs
+    }
+
+    /// Adds a job whose id none of them has.
+    pub(crate) fn add(&mut self, part: PartId, txn: Txn) -> Result<(), PostFault>
+        ensures ok { OnOk result (self.new ≡ self.old ++ record { part = part; txn = txn } ∷ []) }
+        ensures err { OnErr result (self.new ≡ self.old) }
+    {
+        if self.jobs.reserve(1).is_err() {
+            return Err(PostFault::Memory);
+        }
+        match self.ids.insert(txn.id()) {
+            Ok(true) => {
+                self.jobs.push_reserved(Job { part, txn });
+                Ok(())
+            }
+            Ok(false) => Err(PostFault::RepeatedId),
+            Err(_) => Err(PostFault::Memory),
+        }
+    }
+
+    /// Takes the last job out, if there is one.
+    pub(crate) fn remove_last(&mut self)
+        ensures { self.new ≡ take (length self.old - 1) self.old }
+    {
+        if let Some(job) = self.jobs.pop() {
+            let id = id_of(job);
+            self.ids.remove(&id);
+        }
+    }
+}
+
+// The id of a job, which is given up.
+fn id_of(job: Job) -> u64
+    ensures { result ≡ job.txn.id }
+{
+    job.txn.id()
+}
