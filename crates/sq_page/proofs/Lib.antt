@@ -1,0 +1,10 @@
+pub mod Last
+pub mod Still
+pub mod Pages
+pub mod Leaving
+pub mod Parting
+pub mod Copying
+pub mod Paging
+pub mod Basing
+pub mod Resting
+pub mod Mapping

@@ -1,0 +1,101 @@
+-- That the copies of families that receipts name are a page.
+use Rattle.std.proofs.Common.{◌≡◌, ⊎_elim, ℕ, ◌+◌, ◌<◌, ◌≤◌, ◌==◌, Bool, true, false, if◌then◌else◌, List, [], length, slice_get, Contains, Some, None, refl, sym, ap, ◌∙◌, subst, arith}
+use Rattle.std.specs.Prelude.{◌||◌, cond, not, option_and_then}
+use Rattle.std.specs.Ordering.{nat_cmp}
+use Rattle.std.specs.FinMap.{get}
+use Rattle.std.specs.BTreeSet.{BTreeSet, contains, Updates}
+use Rattle.std.specs.BTreeMap.{is_at}
+use Rattle.std.specs.Cmp.{unsigned_tied}
+use Rattle.std.proofs.lemmas.Bool.{cases_eq, eq-eqb}
+use Rattle.std.proofs.lemmas.Option.{slice_get_within}
+use Rattle.sq_schema.specs.Family.{FamilyValue}
+use Rattle.sq_store.specs.StoreValue.{StoreValue}
+use Rattle.sq_model.proofs.Lists.{slice_get-Contains}
+use Rattle.sq_node_model.specs.NodeValue.{ReceiptValue}
+use Rattle.sq_node_model.specs.declared.spot.Spot.{Spot}
+use Rattle.sq_node_model.specs.declared.spot.Spot.TheVariants.{Store, Chunk}
+use Rattle.sq_node_model.specs.Gathered.{GatheredLink, GatheredValue}
+use Rattle.sq_node_model.specs.Spots.{StandsAt}
+use Rattle.sq_node_model.proofs.Stands.{of_some}
+use Rattle.sq_page.specs.Pages.{AllStored, IsStill, IsPageOf}
+use Rattle.sq_page.specs.Copies.{is_wanted, wanted_of, AreCopiesOf}
+use Rattle.sq_page.specs.Named.{AreNamed, stored, AreCopies}
+use Rattle.sq_page.proofs.Copying.{at_within, wanted_is}
+
+or_true : (b : Bool) → (b || true) ≡ true
+or_true true = refl
+or_true false = refl
+
+-- the copies of all stores
+module _ (receipts : List ReceiptValue) (named : BTreeSet ℕ) (has : AreNamed receipts named) (stores copies : List StoreValue) (are : AreCopiesOf named stores copies) where
+  same : (part root : ℕ) (family : FamilyValue) → stored copies part root ≡ Some family → stored stores part root ≡ Some family
+  same part root family stands =
+      let copy = of_some (λ (s : StoreValue). get s root) (slice_get copies part) family stands in
+      let low = slice_get_within copies part copy.0 copy.1 in
+      let count = are.count in
+      let store = at_within stores part (omega (arith, low, count)) in
+      let is = are.each part copy.0 copy.1 store.0 store.1 in
+      ap (option_and_then (λ (s : StoreValue). get s root)) store.1
+      ∙ wanted_is named (get store.0 root) family (sym (is.each root) ∙ copy.2)
+
+  copied : (receipt : ReceiptValue) (part : ℕ) (family : FamilyValue) → Contains receipts receipt → stored stores part receipt.root ≡ Some family → stored copies part receipt.root ≡ Some family
+  copied receipt part family there stands =
+      let store = of_some (λ (s : StoreValue). get s receipt.root) (slice_get stores part) family stands in
+      let low = slice_get_within stores part store.0 store.1 in
+      let count = are.count in
+      let copy = at_within copies part (omega (arith, low, count)) in
+      let is = are.each part copy.0 copy.1 store.0 store.1 in
+      let own = is.rooted receipt.root family store.2 in
+      let wanted : is_wanted named family ≡ true =
+      ap (λ b. not (length family.log == 0) || b) (ap (contains nat_cmp named) own ∙ has receipt there) ∙ or_true (not (length family.log == 0)) in
+      ap (option_and_then (λ (s : StoreValue). get s receipt.root)) copy.1
+      ∙ is.each receipt.root
+      ∙ ap (wanted_of named) store.2
+      ∙ ap (λ b. if b then Some family else None) wanted
+
+  pub are_copies : AreCopies receipts stores copies
+  are_copies = record { count = are.count; same = same; copied = copied }
+
+-- the copies are a page
+module _ (g page : GatheredValue) (all : AllStored g) (still : IsStill (length g.stores) page) (receipts : page.receipts ≡ g.receipts) (are : AreCopies g.receipts g.stores page.stores) where
+  none_there : (link chunk root : ℕ) (family : FamilyValue) → StandsAt page (Chunk link chunk) root family → ⊥
+  none_there link chunk root family stands =
+      let e = subst (λ (ls : List GatheredLink). StandsAt (record page { links = ls }) (Chunk link chunk) root family) still.links stands in
+      cc
+
+  pub page_is : IsPageOf g page
+  page_is = record { still = still; receipts = receipts; taken = taken; named = named }
+    where
+      taken : (spot : Spot) (root : ℕ) (family : FamilyValue) → StandsAt page spot root family → StandsAt g spot root family
+      taken (Store part) root family stands = are.same part root family stands
+      taken (Chunk link chunk) root family stands = absurd (none_there link chunk root family stands)
+
+      named : (receipt : ReceiptValue) (spot : Spot) (family : FamilyValue) → Contains g.receipts receipt → StandsAt g spot receipt.root family → StandsAt page spot receipt.root family
+      named receipt (Store part) family has stands = are.copied receipt part family has stands
+      named receipt (Chunk link chunk) family has stands = absurd (all link chunk receipt.root family stands)
+
+-- the root keys of the receipts before this place are there
+abbrev pub AreNamedTo : List ReceiptValue → ℕ → BTreeSet ℕ → Type 0
+AreNamedTo receipts i named = (k : ℕ) (receipt : ReceiptValue) → k < i → slice_get receipts k ≡ Some receipt → contains nat_cmp named receipt.root ≡ true
+
+pub named_next : (receipts : List ReceiptValue) (i : ℕ) (old new : BTreeSet ℕ) (here : ReceiptValue) → AreNamedTo receipts i old → slice_get receipts i ≡ Some here
+    → Updates nat_cmp old new here.root true → AreNamedTo receipts (i + 1) new
+named_next receipts i old new here so_far at updates k receipt low there =
+    updates.0 receipt.root
+    ∙ ⊎_elim
+    (λ (same : k ≡ i).
+    let both : Some here ≡ Some receipt = sym at ∙ ap (slice_get receipts) (sym same) ∙ there in
+    let is : here ≡ receipt = cc in
+    ap (λ b. cond b true (contains nat_cmp old receipt.root)) (unsigned_tied here.root receipt.root ∙ eq-eqb here.root receipt.root (ap (λ (r : ReceiptValue). r.root) is)))
+    (λ apart. either (is_at (nat_cmp here.root) receipt.root) (so_far k receipt (omega (arith, low, apart)) there))
+    (cases_eq k i)
+  where
+    either : (b : Bool) → contains nat_cmp old receipt.root ≡ true → cond b true (contains nat_cmp old receipt.root) ≡ true
+    either true was = refl
+    either false was = was
+
+pub named_all : (receipts : List ReceiptValue) (i : ℕ) (named : BTreeSet ℕ) → length receipts ≤ i → AreNamedTo receipts i named → AreNamed receipts named
+named_all receipts i named past all receipt has =
+    let at = slice_get-Contains receipts receipt has in
+    let low = slice_get_within receipts has.0 receipt at in
+    all has.0 receipt (omega (arith, past, low)) at

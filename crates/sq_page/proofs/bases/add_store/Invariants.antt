@@ -1,0 +1,13 @@
+use Rattle.std.proofs.Common.{◌≡◌, ℕ, ◌≤◌}
+use Rattle.sq_schema.specs.declared.root.TheConstants.{ROOT_END}
+use Rattle.sq_schema.specs.Table.{rows_in}
+use Rattle.sq_page.proofs.Basing.{AreBasedTo}
+use Rattle.sq_page.proofs.bases.add_store.Given as goal
+
+-- the bases of some families are added, and the others are left
+abbrev pub invariant-loop-family : goal.invariant-loop-family
+invariant-loop-family l =
+    (goal.iterator-loop-family).can_next l.family-iterator
+    × (goal.iterator-loop-family).is_finite l.family-iterator
+    × AreBasedTo (rows_in l.initial.table) l.store l.family-iterator (rows_in l.table)
+    × ((root : ℕ) → ROOT_END ≤ root → rows_in l.table root ≡ rows_in l.initial.table root)

@@ -1,0 +1,30 @@
+-- The rows that the logs of the families of stores start from, by root key, and the opening with these rows.
+use Rattle.std.specs.Prelude.{◌≡◌, ℕ, ◌==◌, if◌then◌else◌, List, [], length, fold, Option, Some, None}
+use Rattle.std.specs.FinMap.{get}
+use Rattle.sq_schema.specs.Effect.{RowList, RowTable}
+use Rattle.sq_schema.specs.Family.{FamilyValue}
+use Rattle.sq_schema.specs.Table.{rows_in}
+use Rattle.sq_plan.specs.PlanValue.{PlanValue}
+use Rattle.sq_store.specs.StoreValue.{StoreValue}
+use Rattle.sq_ranges.specs.OpeningValue.{OpeningValue}
+use Rattle.sq_ranges.specs.Opening.{IsOpening}
+
+-- these rows, or the family's base in their place where there is one with a base
+abbrev pub base_or : RowList → Option FamilyValue → RowList
+base_or rows None = rows
+base_or rows (Some family) = if length family.base == 0 then rows else family.base
+
+-- the rows of a root key, with the family's base in their place where it is the root key's and has one
+abbrev pub base_beside : RowTable → FamilyValue → RowTable
+base_beside table family root = if family.root == root then base_or (table root) (Some family) else table root
+
+-- these rows, or in their place the base of the root key's family in the last of the stores that has one with a base
+abbrev pub bases_among : RowList → List StoreValue → ℕ → RowList
+bases_among rows stores root = fold (λ so_far store. base_or so_far (get store root)) rows stores
+
+-- an opening with this plan before and after, whose rows are the bases of the families of stores
+pub record IsOpeningOfBases (plan : PlanValue) (stores : List StoreValue) (rest : OpeningValue) : Type 0 where
+  pub opening : IsOpening rest
+  pub old : rest.old ≡ plan
+  pub new : rest.new ≡ plan
+  pub rows : (root : ℕ) → rows_in rest.table root ≡ bases_among [] stores root

@@ -1,0 +1,31 @@
+-- The families of stores that a page has copies of.
+use Rattle.std.specs.Prelude.{◌≡◌, ℕ, Bool, ◌==◌, ◌||◌, not, if◌then◌else◌, List, length, slice_get, Option, None, Some}
+use Rattle.std.specs.Ordering.{nat_cmp}
+use Rattle.std.specs.FinMap.{get}
+use Rattle.std.specs.BTreeSet.{BTreeSet, contains}
+use Rattle.sq_schema.specs.Family.{FamilyValue}
+use Rattle.sq_store.specs.StoreValue.{StoreValue}
+use Rattle.sq_store.specs.InOrder.{HoldsByRoot}
+
+-- the family has a log, or its root key is among these
+abbrev pub is_wanted : BTreeSet ℕ → FamilyValue → Bool
+is_wanted named family = not (length family.log == 0) || contains nat_cmp named family.root
+
+-- the family, where it has a log or its root key is among these
+abbrev pub wanted_of : BTreeSet ℕ → Option FamilyValue → Option FamilyValue
+wanted_of named None = None
+wanted_of named (Some family) = if is_wanted named family then Some family else None
+
+-- the copy has the families of a store that have a log or whose root keys are among these
+pub record IsCopyOf (named : BTreeSet ℕ) (store copy : StoreValue) : Type 0 where
+  pub each : (root : ℕ) → get copy root ≡ wanted_of named (get store root)
+  pub rooted : HoldsByRoot store
+
+-- it is so of the store at this place
+abbrev pub IsCopyAt : BTreeSet ℕ → List StoreValue → ℕ → StoreValue → Type 0
+IsCopyAt named stores part copy = (store : StoreValue) → slice_get stores part ≡ Some store → IsCopyOf named store copy
+
+-- there is such a copy of each store
+pub record AreCopiesOf (named : BTreeSet ℕ) (stores copies : List StoreValue) : Type 0 where
+  pub count : length copies ≡ length stores
+  pub each : (part : ℕ) (copy : StoreValue) → slice_get copies part ≡ Some copy → IsCopyAt named stores part copy

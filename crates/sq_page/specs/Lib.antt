@@ -1,0 +1,5 @@
+pub mod Pages
+pub mod Parts
+pub mod Copies
+pub mod Named
+pub mod Bases

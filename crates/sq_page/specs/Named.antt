@@ -1,0 +1,25 @@
+-- The root keys that receipts name, and copies of the families of stores that are theirs.
+use Rattle.std.specs.Prelude.{◌≡◌, ℕ, true, List, length, slice_get, Option, Some, Contains, option_and_then}
+use Rattle.std.specs.Ordering.{nat_cmp}
+use Rattle.std.specs.FinMap.{get}
+use Rattle.std.specs.BTreeSet.{BTreeSet, contains}
+use Rattle.sq_schema.specs.Family.{FamilyValue}
+use Rattle.sq_store.specs.StoreValue.{StoreValue}
+use Rattle.sq_node_model.specs.NodeValue.{ReceiptValue}
+
+-- these are the root keys of receipts, and maybe others
+abbrev pub AreNamed : List ReceiptValue → BTreeSet ℕ → Type 0
+AreNamed receipts named =
+    (receipt : ReceiptValue) → Contains receipts receipt → contains nat_cmp named receipt.root ≡ true
+
+-- the family that a root key has in the store at a place
+abbrev pub stored : List StoreValue → ℕ → ℕ → Option FamilyValue
+stored stores part root = option_and_then (λ store. get store root) (slice_get stores part)
+
+-- there is a store of copies for each store: they are of its families, and among them are all that receipts name
+pub record AreCopies (receipts : List ReceiptValue) (stores copies : List StoreValue) : Type 0 where
+  pub count : length copies ≡ length stores
+  pub same : (part root : ℕ) (family : FamilyValue)
+      → stored copies part root ≡ Some family → stored stores part root ≡ Some family
+  pub copied : (receipt : ReceiptValue) (part : ℕ) (family : FamilyValue) → Contains receipts receipt
+      → stored stores part receipt.root ≡ Some family → stored copies part receipt.root ≡ Some family

@@ -1,0 +1,48 @@
+-- A run, or a page of one, in parts, each of which is audited by itself.
+use Rattle.std.specs.Prelude.{◌≡◌, ◌<◌, ◌≤◌, ℕ, Bool, true, List, filter}
+use Rattle.sq_schema.specs.Family.{FamilyValue}
+use Rattle.sq_ranges.specs.OpeningValue.{OpeningValue}
+use Rattle.sq_node_model.specs.declared.spot.Spot.{Spot}
+use Rattle.sq_node_model.specs.Gathered.{GatheredValue}
+use Rattle.sq_node_model.specs.Spots.{StandsAt}
+use Rattle.sq_node_model.specs.Placed.{IsPlaced}
+use Rattle.sq_audit.specs.declared.job.Job.{Job}
+use Rattle.sq_audit.specs.declared.verdict.Defect.{Defect}
+use Rattle.sq_audit.specs.declared.verdict.Verdict.{Verdict}
+use Rattle.sq_audit.specs.declared.verdict.Verdict.TheVariants.{Sound, Unsound}
+use Rattle.sq_audit.specs.Defects.{defect_number, IsVerdict}
+use Rattle.sq_page.specs.Pages.{StandIn, NamedStandIn}
+
+-- the part has families of root keys that pass a test alone
+abbrev pub AreOurs : (ℕ → Bool) → GatheredValue → Type 0
+AreOurs ours part = (spot : Spot) (root : ℕ) (family : FamilyValue) → StandsAt part spot root family → ours root ≡ true
+
+-- a part of a run: the receipts of the root keys that pass a test, and families of the run of such root
+-- keys, as and where they stand: among them each that one of these receipts names
+pub record IsPartOf (ours : ℕ → Bool) (g part : GatheredValue) : Type 0 where
+  pub receipts : part.receipts ≡ filter (λ receipt. ours receipt.root) g.receipts
+  pub own : AreOurs ours part
+  pub taken : StandIn part g
+  pub named : NamedStandIn part.receipts g part
+
+-- the jobs of the root keys that pass a test
+abbrev pub jobs_of : (ℕ → Bool) → List Job → List Job
+jobs_of ours jobs = filter (λ job. ours job.txn.root) jobs
+
+-- this is the verdict on what is placed under an opening
+pub record IsJudged (part : GatheredValue) (jobs : List Job) (told : Verdict) : Type 0 where
+  pub rest : OpeningValue
+  pub placed : IsPlaced rest part
+  pub verdict : IsVerdict rest part jobs told
+
+-- one of so many verdicts tells the defect, and none tells one with a lower number
+pub record IsLeastDefect (count : ℕ) (verdicts : ℕ → Verdict) (defect : Defect) : Type 0 where
+  pub part : ℕ
+  pub there : part < count
+  pub told : verdicts part ≡ Unsound defect
+  pub least : (n : ℕ) (other : Defect) → n < count → verdicts n ≡ Unsound other → defect_number defect ≤ defect_number other
+
+-- all of so many verdicts are sound, or this is the least defect that one tells
+abbrev pub IsLeastVerdict : ℕ → (ℕ → Verdict) → Verdict → Type 0
+IsLeastVerdict count verdicts Sound = (n : ℕ) → n < count → verdicts n ≡ Sound
+IsLeastVerdict count verdicts (Unsound defect) = IsLeastDefect count verdicts defect

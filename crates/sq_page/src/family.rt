@@ -1,0 +1,32 @@
+// Copies of families.
+ghost use Rattle.std.specs.Prelude.{◌≡◌, IfOk, OnOk};
+ghost use Rattle.sq_schema.specs.Family.{logged};
+
+use sq_schema::{Family, Reply, Txn};
+use std::alloc::{AllocError, Global};
+
+/// A copy of a family with its log, which is run again on a copy of the base. A log whose transactions don't all commit isn't
+/// copied.
+pub(crate) fn copy_family(alloc: Global, family: &Family) -> Result<Family, AllocError>
+    ensures { IfOk result (λ copy. copy ≡ family.now) }
+{
+    let Ok(mut copy) = Family::opened(alloc, family.root(), family.base().clone()?) else {
+        return Err(AllocError);
+    };
+    let log = family.log();
+    for txn in log {
+        run_again(&mut copy, txn)?;
+    }
+    Ok(copy)
+}
+
+// Runs a transaction that commits.
+fn run_again(copy: &mut Family, txn: &Txn) -> Result<(), AllocError>
+    requires { txn.now.root ≡ copy.old.root }
+    ensures { OnOk result (copy.new ≡ logged copy.old txn.now) }
+{
+    match copy.apply(txn) {
+        Ok(Reply::Committed(_)) => Ok(()),
+        _ => Err(AllocError),
+    }
+}

@@ -1,0 +1,23 @@
+// Folding stores in threads.
+ghost use Rattle.std.specs.Prelude.{◌≡◌, map};
+ghost use Rattle.sq_store.specs.Prelude.{folded_store};
+
+use sq_runs::RunStore;
+use sq_store::FamilyStore;
+use std::thread;
+use std::thread::Threads;
+
+/// Folds the logs of the families of each store, in a thread of its own where one can be had. It takes no memory.
+pub(crate) fn fold_each<R: Threads + Sync>(rt: &R, stores: &mut [RunStore])
+    ensures { stores.new ≡ map folded_store stores.old }
+{
+    let threads = stores.len().max(1);
+    thread::for_each_mut(
+        rt,
+        stores,
+        threads,
+        &|_, store: &mut RunStore|
+            ensures { store.exit.now ≡ folded_store store.entry.now }
+        { store.fold() },
+    );
+}

@@ -1,0 +1,16 @@
+//! Pages: what is taken of a run whose stage is done, so that it is audited by itself while the run goes on.
+#![tactic(auto)]
+
+mod bases;
+mod copies;
+mod family;
+mod folding;
+mod judging;
+pub mod laws;
+mod named;
+mod page;
+mod taking;
+
+pub use judging::audit_page;
+pub use page::{Page, Paged, Untaken};
+pub use taking::take_page;

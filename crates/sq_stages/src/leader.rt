@@ -1,0 +1,101 @@
+// The leader of a run in threads.
+ghost use Rattle.std.specs.Prelude.{◌≡◌, length, true, IfOk};
+ghost use Rattle.sq_leader.specs.Marks.{all_marked};
+ghost use Rattle.sq_leader.specs.Segments.{is_told_whole};
+ghost use Rattle.sq_leader.specs.Leader.{is_last};
+ghost use Rattle.sq_stages.specs.Leading.{leading, HaveReported, Leads};
+
+use sq_leader::{Idle, Moving, NextFault, Preparing, Report};
+use sq_plan::Plan;
+use sq_ranges::{Opening, Recon};
+use std::alloc::AllocError;
+
+/// What the leader does after a stage.
+#[derive(Drop)]
+pub enum Led {
+    /// It goes on to the next stage.
+    Next(Moving),
+    /// It ended the move: the stage was the last.
+    Ended,
+    /// It waits: a segment of the stage isn't complete.
+    Missing,
+}
+
+/// Starts the move of an opening, for which each partition has prepared. None has reported then.
+pub fn start_move(opening: &Opening) -> Result<Moving, AllocError>
+    ensures { IfOk result (λ moving. moving ≡ leading opening.now 0) }
+{
+    let recon = opening.recon().clone()?;
+    match prepare_all(opening.old_plan(), recon).start() {
+        Ok(moving) => Ok(moving),
+        Err(_) => unreachable!(),
+    }
+}
+
+// The leader of a move from a plan once each of its partitions has prepared.
+fn prepare_all(plan: &Plan, recon: Recon) -> Preparing
+    ensures parts { length result.prepared ≡ plan.now.parts }
+    ensures all { all_marked result.prepared ≡ true }
+    ensures recon { result.recon ≡ recon }
+{
+    let parts = plan.parts();
+    let Ok(mut preparing) = Idle::new(plan, recon).prepare(0) else {
+        unreachable!()
+    };
+    for part in 1..u64::from(parts) {
+        preparing = match preparing.prepare(part) {
+            Ok(preparing) => preparing,
+            Err(_) => unreachable!(),
+        };
+    }
+    preparing
+}
+
+/// Goes on after the running stage where each segment of it is whole: to the next stage, or to the end of the move after the
+/// last one. `whole` tells it of each segment by its number, and a segment of which it tells nothing isn't whole. Each
+/// partition reports first that may.
+pub fn lead_on(moving: Moving, opening: &Opening, whole: &[bool]) -> Led
+    requires { moving ≡ leading opening.now moving.stage }
+    ensures { Leads opening.now moving.stage (is_told_whole whole.now) result }
+{
+    // For the proof alone: what was handed in is an opening.
+    let _recon = opening.recon();
+    match hear_reports(moving, opening, whole).next() {
+        Ok(moving) => Led::Next(moving),
+        Err(refused) => match refused.fault {
+            NextFault::NotFinished => Led::Missing,
+            NextFault::LastStage => end_move(refused.leader, opening, whole),
+        },
+    }
+}
+
+// Ends the move in its last stage, where each segment of it is whole.
+fn end_move(moving: Moving, opening: &Opening, whole: &[bool]) -> Led
+    requires reported { HaveReported opening.now moving.stage whole.now moving }
+    requires last { is_last moving ≡ true }
+    ensures { Leads opening.now moving.stage (is_told_whole whole.now) result }
+{
+    // For the proof alone: what was handed in is an opening.
+    let _recon = opening.recon();
+    match moving.finish() {
+        Ok(_) => Led::Ended,
+        Err(_) => Led::Missing,
+    }
+}
+
+// The leader once each partition has reported that may.
+fn hear_reports(mut moving: Moving, opening: &Opening, whole: &[bool]) -> Moving
+    requires { moving ≡ leading opening.now moving.stage }
+    ensures { HaveReported opening.now moving.stage whole.now result }
+{
+    for part in 0..u64::from(opening.old_plan().parts()) {
+        let stage = moving.stage();
+        if let Ok(report) = Report::made(part, opening.old_plan(), opening.recon(), stage, whole) {
+            moving = match moving.report(report) {
+                Ok(moving) => moving,
+                Err(_) => unreachable!(),
+            };
+        }
+    }
+    moving
+}

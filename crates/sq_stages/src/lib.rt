@@ -1,0 +1,7 @@
+//! The leader of a run in threads, led by whoever gathers what each stage left: it starts the move, and after a stage it hears
+//! the reports that the partitions may make, and goes on to the next stage or ends the move.
+#![tactic(auto)]
+
+mod leader;
+
+pub use leader::{Led, lead_on, start_move};
