@@ -47,7 +47,7 @@ vec store 687-698 apply take give
 block store 685-698 apply take give
 runs store 686-698 apply take give
 nodes none 538-538,546-550,556-569,575-645,654-676,690-690 tree link open job request cut load resume gather
-two_stages none 350-350,408-488,490-510,546-550,552-567,690-690 open job fold reopen
+two_stages none 350-350,412-492,494-514,549-553,555-570,690-690 open job fold reopen
 TRIES
 }
 

@@ -4,8 +4,10 @@ pub mod Driven
 mod ReceiptIds
 mod Counts
 mod LiveRuns
-mod Leading
 mod Moved
 mod Commits
 mod Accounts
 mod Passing
+mod StageAdds
+mod WholeRun
+mod Planned

@@ -5,19 +5,17 @@ use Rattle.std.specs.List.{list_all, range_with_len}
 use Rattle.std.proofs.lemmas.Bool.{cases_Bool, cases_lt, and_parts, lt-ltb, ltb-true, or_left, or_right, or_cases}
 use Rattle.std.proofs.lemmas.List.FromFn.{length-range_with_len, get_or-range_with_len}
 use Rattle.std.proofs.lemmas.List.Sums.{count_by-le-length, AllPass-from_list_all}
-use Rattle.std.proofs.lemmas.Option.{slice_get-get_or, slice_get_within, slice_get_past}
+use Rattle.std.proofs.lemmas.Option.{slice_get-get_or, slice_get_within}
 use Rattle.sq_ranges.specs.declared.recon.Range.{Range}
-use Rattle.sq_ranges.specs.ReconValue.{stage_in, stage_at, stage_found, stages, of_stage, goes_into, moves_into}
+use Rattle.sq_ranges.specs.ReconValue.{stage_in, stage_at, stage_found, stages}
 use Rattle.sq_ranges.specs.OpeningValue.{OpeningValue}
 use Rattle.sq_ranges.specs.Opening.{IsOpening}
 use Rattle.sq_ranges.proofs.Stages.{stage_below}
 use Rattle.sq_leader.proofs.Wholes.{all_pass}
-use Rattle.sq_leader.specs.LeaderValue.{StageValue}
 use Rattle.sq_model.proofs.Keys.{linked}
 use Rattle.sq_node_model.specs.Gathered.{GatheredValue}
 use Rattle.sq_node_model.specs.Next.{is_whole_in, IsStageDone}
 use Rattle.sq_audit.proofs.Knowing.{count_first}
-use Rattle.sq_live.specs.Leading.{AreComplete, HasHeard, HasGoneOn, HasEnded}
 use Rattle.sq_live.specs.Outcome.{segment_has_moved, moved_count}
 use Rattle.sq_live.specs.Judged.{MarksMoved, marked_count}
 
@@ -115,30 +113,3 @@ module _ (o : OpeningValue) (g : GatheredValue) (is : IsOpening o) where
                 absurd (omega (arith, under, same))
             | inr whole ↦ whole
           ]
-
--- ---- what the leader heard of marks, it heard of what is complete
-
-module _ (o : OpeningValue) (stage : ℕ) (by is_complete : ℕ → Bool) (same : (seg : ℕ) → seg < length o.recon.segments → by seg ≡ is_complete seg) where
-  pub complete_by : AreComplete o stage by → AreComplete o stage is_complete
-  complete_by all seg segment there is = sym (same seg (slice_get_within o.recon.segments seg segment there)) ∙ all seg segment there is
-
-  pub marked_by : AreComplete o stage is_complete → AreComplete o stage by
-  marked_by all seg segment there is = same seg (slice_get_within o.recon.segments seg segment there) ∙ all seg segment there is
-
-  heard_by : (at : StageValue) → HasHeard o stage by at → HasHeard o stage is_complete at
-  heard_by at has = record {
-    leads = has.leads;
-    heard = λ part seg marked into. sym (same seg (goes_within part seg into)) ∙ has.heard part seg marked into;
-  }
-    where
-      goes_within : (part seg : ℕ) → moves_into o.recon stage part seg ≡ true → seg < length o.recon.segments
-      goes_within part seg goes = elim (cases_lt seg (length o.recon.segments)) [
-        | inl lt ↦ lt
-        | inr past ↦ absurd (true≢false (sym goes ∙ ap (λ found. goes_into (of_stage o.recon stage found) part) (slice_get_past o.recon.segments seg past)))
-      ]
-
-  pub gone_on_by : (at : StageValue) → HasGoneOn o stage by at → HasGoneOn o stage is_complete at
-  gone_on_by at has = record { hears = heard_by at has.hears; next = has.next }
-
-  pub ended_by : (at : StageValue) → HasEnded o stage by at → HasEnded o stage is_complete at
-  ended_by at has = record { hears = heard_by at has.hears; ended = has.ended }

@@ -11,17 +11,18 @@ use Rattle.sq_node_model.specs.Gathered.{GatheredValue}
 use Rattle.sq_node_model.specs.Placed.{IsPlaced}
 use Rattle.sq_node_model.specs.Next.{is_whole_in, IsStageDone, next_began}
 use Rattle.sq_audit.specs.declared.job.Job.{Job}
+use Rattle.sq_audit.specs.Answers.{IdsDiffer}
 use Rattle.sq_live.specs.declared.outcome.LiveOutcome.{LiveOutcome}
 use Rattle.sq_live.specs.declared.stages.Ready.{Ready}
 use Rattle.sq_live.specs.declared.stages.AfterStage.{AfterStage}
 use Rattle.sq_live.specs.declared.stages.AfterStage.TheVariants as after
 use Rattle.sq_live.specs.Account.{AccountValue, first_account}
-use Rattle.sq_live.specs.declared.leader.Led.TheVariants.{Next, Ended, Missing}
-use Rattle.sq_live.specs.Leading.{leading, AreComplete, HasGoneOn, HasEnded, Leads}
+use Rattle.sq_stages.specs.declared.leader.Led.TheVariants.{Next, Ended, Missing}
+use Rattle.sq_stages.specs.Leading.{leading, AreComplete, HasGoneOn, HasEnded, Leads}
 use Rattle.sq_live.specs.Judged.{MarksMoved}
 use Rattle.sq_live.specs.Stages.{RanFrom, ContinuesWith, HavePassed, IsReady, ComesAfterStage, GoesOnTo}
 use Rattle.sq_live.specs.Live.{WereRun}
-use Rattle.sq_live.proofs.Moved.{complete_by, marked_by, gone_on_by, ended_by}
+use Rattle.sq_stages.proofs.Complete.{complete_by, marked_by, gone_on_by, ended_by}
 
 -- ---- what the leader was told of marks, in the stage that was gathered
 
@@ -143,6 +144,8 @@ module _ (folds : Bool) (old : AccountValue) (began : BeganWith) (g : GatheredVa
 
 -- stages passed, and the one of this number is ready
 pub record IsAt (folds : Bool) (o : OpeningValue) (jobs : List Job) (stage : ℕ) (ready : Ready) : Type 0 where
+  pub set_up : IsOpening o
+  pub differ : IdsDiffer jobs
   pub earlier : List GatheredValue
   pub began : BeganWith
   pub passed : HavePassed folds o jobs earlier ready.account began
@@ -151,8 +154,10 @@ pub record IsAt (folds : Bool) (o : OpeningValue) (jobs : List Job) (stage : ℕ
   pub moves : ready.account.opening.recon ≡ o.recon
 
 module _ (folds : Bool) (o : OpeningValue) (jobs : List Job) where
-  pub at_first : (ready : Ready) → ready.account ≡ first_account o jobs → IsReady (first_began o) ready → IsAt folds o jobs 0 ready
-  at_first ready account is = record {
+  pub at_first : (ready : Ready) → IsOpening o → IdsDiffer jobs → ready.account ≡ first_account o jobs → IsReady (first_began o) ready → IsAt folds o jobs 0 ready
+  at_first ready set_up differ account is = record {
+    set_up = set_up;
+    differ = differ;
     earlier = [];
     began = first_began o;
     passed = (account, refl);
@@ -167,6 +172,8 @@ module _ (folds : Bool) (o : OpeningValue) (jobs : List Job) where
         let (g, later, passed, is) = comes in
         let gone = stays_in_stage ready.account g next.account passed.next folds passed.continues in
         record {
+          set_up = at.set_up;
+          differ = at.differ;
           earlier = g ∷ at.earlier;
           began = later;
           passed = (ready.account, at.began, at.passed, passed);
@@ -176,7 +183,7 @@ module _ (folds : Bool) (o : OpeningValue) (jobs : List Job) where
         }
 
     pub were_run : (ending : LiveOutcome) → ComesAfterStage folds ready.account at.began (after.Ended ending) → WereRun folds o jobs ending
-    were_run ending comes = record { earlier = at.earlier; account = ready.account; began = at.began; passed = at.passed; gathered = comes.0; ran = comes.1; came = comes.2 }
+    were_run ending comes = record { set_up = at.set_up; differ = at.differ; earlier = at.earlier; account = ready.account; began = at.began; passed = at.passed; gathered = comes.0; ran = comes.1; came = comes.2 }
 
     -- there is such a stage
     pub is_a_stage : ready.moving.stage < stages ready.moving.recon → stage < stages o.recon

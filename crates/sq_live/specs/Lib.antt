@@ -2,8 +2,8 @@ pub mod Faults
 pub mod Jobs
 pub mod JobLines
 pub mod Account
-pub mod Leading
 pub mod Outcome
 pub mod Stages
 pub mod Judged
 pub mod Live
+pub mod WholeRun

@@ -2,6 +2,7 @@
 use Rattle.std.specs.Prelude.{◌≡◌, ◌≢◌, ◌⊎◌, ℕ, Bool, List, [], Option, Ok, Err}
 use Rattle.std.specs.Io.KnownBytes.{Appends}
 use Rattle.sq_ranges.specs.OpeningValue.{OpeningValue}
+use Rattle.sq_ranges.specs.Opening.{IsOpening}
 use Rattle.sq_lines.specs.Pieces.{PieceValue}
 use Rattle.sq_lines.specs.Coming.{LinesValue, CanCome}
 use Rattle.sq_lines.specs.Given.{IsGiven}
@@ -11,6 +12,7 @@ use Rattle.sq_text.specs.Texts.{fault_line}
 use Rattle.sq_node_model.specs.Gathered.{GatheredValue}
 use Rattle.sq_node_model.specs.BeganWith.{BeganWith}
 use Rattle.sq_audit.specs.declared.job.Job.{Job}
+use Rattle.sq_audit.specs.Answers.{IdsDiffer}
 use Rattle.sq_live.specs.declared.fault.LiveFault.{LiveFault}
 use Rattle.sq_live.specs.declared.fault.LiveFault.TheVariants.{Input}
 use Rattle.sq_live.specs.declared.outcome.LiveOutcome.{LiveOutcome}
@@ -49,6 +51,8 @@ HaveFault tables given fault = HasHeaderFault tables given fault ⊎ HasJobFault
 -- jobs were run from an opening, stage by stage, with or without folds between them.
 -- Whatever the threads did, what each stage left is placed and goes on from what it began with, and this is what the last one came to
 pub record WereRun (folds : Bool) (o : OpeningValue) (jobs : List Job) (outcome : LiveOutcome) : Type 0 where
+  pub set_up : IsOpening o
+  pub differ : IdsDiffer jobs
   -- what the stages before the last one left, the latest first
   pub earlier : List GatheredValue
   pub account : AccountValue

@@ -20,7 +20,7 @@ use Rattle.sq_live.specs.declared.stages.Ready.{Ready}
 use Rattle.sq_live.specs.declared.stages.AfterStage.{AfterStage}
 use Rattle.sq_live.specs.declared.stages.AfterStage.TheVariants as after
 use Rattle.sq_live.specs.Account.{AccountValue, first_account}
-use Rattle.sq_live.specs.Leading.{leading, HasGoneOn}
+use Rattle.sq_stages.specs.Leading.{leading, HasGoneOn}
 use Rattle.sq_live.specs.Outcome.{commit_count, CameTo}
 
 -- a stage that began so ran, and left this:

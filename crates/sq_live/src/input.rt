@@ -12,13 +12,13 @@ use crate::account::Account;
 use crate::ending::LiveEnding;
 use crate::fault::LiveFault;
 use crate::job_list::{JobList, read_jobs};
-use crate::leader::start_move;
 use crate::outcome::{LiveOutcome, write_outcome};
 use crate::stages::{RunManner, run_stages};
 use crate::watch::Watch;
 use sq_lines::LineReader;
 use sq_ranges::Opening;
 use sq_schema::{MAX_TABLES, Schema};
+use sq_stages::start_move;
 use sq_text::{WriteFault, read_header, write_fault};
 use std::alloc::{AllocError, Global};
 use std::io::{Read, Write};
@@ -35,7 +35,8 @@ use std::thread::Threads;
 ///
 /// An error is a write or a flush that failed.
 ///
-/// Whatever the threads do, what they leave is placed, and the line says `sound` only where each audit found it so.
+/// Whatever the threads do, what they leave is placed, and the line says `sound` only where each audit found it so. Then the
+/// run ended as [`a_sound_run_ends_where_planned`](crate::laws::a_sound_run_ends_where_planned) has it.
 pub fn live<T: Threads + Wait + Sync, R: Read, W: Write, G: Watch>(
     rt: &T,
     alloc: Global,

@@ -1,9 +1,16 @@
-//! What holds of live runs. The function does nothing: it states a law, which the checker proves.
-ghost use Rattle.std.specs.Prelude.{◌≡◌};
+//! What holds of live runs. The functions do nothing: each states a law, which the checker proves.
+ghost use Rattle.std.specs.Prelude.{◌≡◌, ℕ, Bool, List};
+ghost use Rattle.sq_lines.specs.Pieces.{PieceValue};
+ghost use Rattle.sq_ranges.specs.Prelude.{OpeningValue};
 ghost use Rattle.sq_pull.specs.declared.numbers.TheConstants.{MAX_OWNERS, MAX_PUMPS, MAX_CLAIMS};
 ghost use Rattle.sq_pull.specs.Numbers.{reactive_pull};
 ghost use Rattle.sq_node.specs.declared.fabric.TheConstants.{REQUEST_PLACES, JOB_PLACES};
+ghost use Rattle.sq_audit.specs.declared.job.Job.{Job};
 ghost use Rattle.sq_live.specs.declared.job_list.TheConstants.{MAX_JOBS};
+ghost use Rattle.sq_live.specs.declared.outcome.LiveOutcome.{LiveOutcome};
+ghost use Rattle.sq_live.specs.declared.ending.LiveEnding.{LiveEnding};
+ghost use Rattle.sq_live.specs.Live.{WereRun, EndsLive};
+ghost use Rattle.sq_live.specs.WholeRun.{telling_stages, EndsAsPlanned, AreRunAsPlanned};
 
 /// The limits of live runs, in digits, beside those that the laws of this name of `sq_schema`, `sq_ranges` and `sq_text` have.
 pub fn the_limits()
@@ -12,4 +19,17 @@ pub fn the_limits()
     ensures last { reactive_pull 63 0 ≡ 127 }
     ensures queues { (JOB_PLACES ≡ 4096) × (REQUEST_PLACES ≡ 256) }
     ensures jobs { MAX_JOBS ≡ 4096 }
+{}
+
+/// A sound run ends where it was planned: each family is in the store of its owner by the new plan; the rows of each root key
+/// are those of the input, with the jobs on it that committed replayed in the order of its whole log; and each job has one
+/// receipt, which tells what that log gave it. With folds the receipts and logs of all stages count.
+pub fn a_sound_run_ends_where_planned()
+    ensures run { (folds : Bool) (o : OpeningValue) (jobs : List Job) (families committed : ℕ)
+        → (run : WereRun folds o jobs (LiveOutcome.Sound families committed))
+        → EndsAsPlanned o jobs (telling_stages folds run.earlier run.gathered) run.gathered
+        families committed }
+    ensures input { (folds : Bool) (tables : ℕ) (given : List PieceValue) (families committed : ℕ)
+        → EndsLive folds tables given (LiveEnding.Done (LiveOutcome.Sound families committed))
+        → AreRunAsPlanned folds tables given families committed }
 {}

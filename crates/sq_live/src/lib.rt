@@ -10,7 +10,6 @@ mod input;
 mod job_list;
 mod judging;
 pub mod laws;
-mod leader;
 mod outcome;
 mod stages;
 mod watch;

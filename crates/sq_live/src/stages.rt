@@ -6,14 +6,13 @@ ghost use Rattle.sq_node_model.specs.Prelude.{BeganWith, first_began, IsPlaced, 
 ghost use Rattle.sq_gather.specs.Gathered.{AreAllOf};
 ghost use Rattle.sq_gather.specs.Reopened.{IsRunInStage};
 ghost use Rattle.sq_live.specs.Account.{first_account};
-ghost use Rattle.sq_live.specs.Leading.{leading};
+ghost use Rattle.sq_stages.specs.Leading.{leading};
 ghost use Rattle.sq_live.specs.Stages.{RanFrom, IsReady, ComesAfterStage, GoesOnTo};
 ghost use Rattle.sq_live.specs.Live.{WereRun};
 
 use crate::account::Account;
 use crate::continuing::{Continued, continue_with};
 use crate::judging::{judge_end, judge_stopped, moved_segments};
-use crate::leader::{Led, lead_on};
 use crate::outcome::LiveOutcome;
 use crate::watch::Watch;
 use sq_audit::Job;
@@ -23,6 +22,7 @@ use sq_leader::Moving;
 use sq_node::{Fabric, Node};
 use sq_pull::Pump;
 use sq_runs::RunStore;
+use sq_stages::{Led, lead_on};
 use std::alloc::{AllocError, Global};
 use std::sync::Wait;
 use std::thread;

@@ -7,9 +7,9 @@ use Rattle.sq_leader.specs.Segments.{is_told_whole}
 use Rattle.sq_node_model.specs.BeganWith.{BeganWith}
 use Rattle.sq_node_model.specs.Gathered.{GatheredValue}
 use Rattle.sq_node_model.specs.Spots.{AllGrown}
-use Rattle.sq_live.specs.declared.leader.Led.TheVariants.{Next, Ended, Missing}
+use Rattle.sq_stages.specs.declared.leader.Led.TheVariants.{Next, Ended, Missing}
 use Rattle.sq_live.specs.Account.{AccountValue}
-use Rattle.sq_live.specs.Leading.{Leads}
+use Rattle.sq_stages.specs.Leading.{Leads}
 use Rattle.sq_live.specs.Judged.{MarksMoved}
 use Rattle.sq_live.specs.Stages.{RanFrom, IsReady, GoesOnTo}
 use Rattle.sq_live.proofs.Passing.{WasTold, done_before, went_on, leads_next, last_stage, done_at_last, has_ended, not_done, goes_on_comes}

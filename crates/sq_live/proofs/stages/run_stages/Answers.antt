@@ -1,11 +1,15 @@
 use Rattle.std.proofs.Common.{◌∙◌, subst}
+use Rattle.sq_ranges.specs.Opening.{IsOpening}
+use Rattle.sq_live.specs.Account.{AccountValue, IsAccount}
 use Rattle.sq_live.specs.Stages.{ComesAfterStage}
 use Rattle.sq_live.proofs.Passing.{at_first, at_next, were_run}
 use Rattle.sq_live.proofs.stages.run_stages.Goals as goal
 
 pub loop-stage-init : goal.loop-stage-init
 loop-stage-init g c =
-    at_first c.args.manner.folds c.args.account.opening c.args.account.jobs c.in_ok-ready.ready (c.in_ok-ready.ensures.account ∙ c.requires.first) c.in_ok-ready.ensures.ready
+    let set_up = subst (λ (a : AccountValue). IsOpening a.opening) c.account.view_is c.recon.ensures.set_up.opening in
+    let differ = (subst IsAccount c.account.view_is c.account.invariant).differ in
+    at_first c.args.manner.folds c.args.account.opening c.args.account.jobs c.in_ok-ready.ready set_up differ (c.in_ok-ready.ensures.account ∙ c.requires.first) c.in_ok-ready.ensures.ready
 
 pub run_stage-requires-clause-ready : goal.run_stage-requires-clause-ready
 run_stage-requires-clause-ready g c = λ κs within. let at = c.loop-stage.invariant in (at.began, at.is_ready)
