@@ -15,8 +15,8 @@ use std::sync::Wait;
 use std::thread;
 use std::thread::{Threads, join_mut};
 
-/// Drives each node and each pump in a thread of its own, with this many turns each. All of them have ended when it returns.
-/// Where a thread can't be made, workers go one after another.
+/// Drives each node and each pump in a thread of its own, with this many turns each. All of them have ended when it returns,
+/// and the run takes no more jobs until [`Fabric::open_jobs`]. Where a thread can't be made, workers go one after another.
 pub fn run_workers<R: Threads + Wait + Sync, G: Gate + Sync>(
     rt: &R,
     fabric: &Fabric,
@@ -76,6 +76,7 @@ fn run_all<W: Worker + Send, R: Threads + Wait + Sync, G: Gate + Sync>(
             ensures { AllPumpsDriven fabric.entry.now pumps.entry.now pumps.exit.now }
         { run_each(rt, fabric, pumps, turns, gate) },
     );
+    fabric.close_jobs(rt);
 }
 
 // Drives each of these workers in a thread of its own.

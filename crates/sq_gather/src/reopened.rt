@@ -5,6 +5,7 @@ ghost use Rattle.sq_ranges.specs.Prelude.{stages};
 ghost use Rattle.sq_pull.specs.declared.numbers.TheConstants.{MAX_PUMPS};
 ghost use Rattle.sq_node_model.specs.Prelude.{folded_opening};
 ghost use Rattle.sq_node.specs.Prelude.{IsFabric, IsReopened, AllHoldAsBegun};
+ghost use Rattle.sq_gather.specs.Gathered.{AreAllOf};
 ghost use Rattle.sq_gather.specs.Reopened.{IsNextStageOf, IsFirstStageAfter};
 
 use crate::gathered::Gathered;
@@ -33,6 +34,7 @@ pub fn reopen(
     requires left { length g.left ≡ opening.now.old.parts }
     ensures run { IfOk result (λ run. (table : TableValue)
         → IsNextStageOf (folded_opening opening.now table) g run.0 run.1.items run.2.items) }
+    ensures all { IfOk result (λ run. AreAllOf run.0 run.1.items run.2.items) }
     ensures pumps { IfOk result (λ run. length run.2.items ≡ pumps) }
     ensures returned { IfErr result (λ back. back ≡ g) }
 {
@@ -58,6 +60,7 @@ pub fn move_on(
     requires { pumps ≤ MAX_PUMPS }
     ensures run { IfOk result (λ run. (table : TableValue)
         → IsFirstStageAfter (folded_opening next.now table) g run.0 run.1.items run.2.items) }
+    ensures all { IfOk result (λ run. AreAllOf run.0 run.1.items run.2.items) }
     ensures pumps { IfOk result (λ run. length run.2.items ≡ pumps) }
     ensures returned { IfErr result (λ back. back ≡ g) }
 {
@@ -80,13 +83,15 @@ fn resume(
     ensures run { IfOk result (λ run. IsReopened opening.now stage g.stores g.receipts pumps run.0 run.1.items run.2.items) }
     ensures holds { IfOk result (λ run. (table : TableValue)
         → AllHoldAsBegun (folded_opening opening.now table) run.0 g.stores run.1.items) }
+    ensures all { IfOk result (λ run. AreAllOf run.0 run.1.items run.2.items) }
     ensures stores { OnOk result (length g.stores ≡ opening.now.old.parts) }
     ensures fabric { IfOk result (λ run. IsFabric run.0) }
     ensures returned { IfErr result (λ back. back ≡ g) }
 {
     match Fabric::resumed(alloc, opening, stage, g.stores, g.left, g.receipts, pumps) {
         Ok((fabric, nodes, pumps)) => {
-            // For the proof alone: it is a fabric.
+            // For the proof alone: what was handed in is an opening, and this is a fabric.
+            let _recon = opening.recon();
             let _trees = fabric.trees();
             Ok((fabric, nodes, pumps))
         }

@@ -1,6 +1,5 @@
 mod JobIds
 mod JobRuns
-pub mod Driven
 mod ReceiptIds
 mod Counts
 mod LiveRuns

@@ -1,6 +1,8 @@
 -- A run that comes from stage to stage.
-use Rattle.std.proofs.Common.{◌≡◌, inl, ℕ, ◌+◌, ◌<◌, Bool, true, false, List, [], ◌∷◌, length, refl, sym, ap, ◌∙◌, subst, arith}
-use Rattle.sq_ranges.specs.ReconValue.{ReconValue, stages}
+use Rattle.std.proofs.Common.{◌≡◌, inl, ℕ, ◌+◌, ◌-◌, ◌<◌, Bool, true, false, List, [], ◌∷◌, length, refl, sym, ap, ◌∙◌, subst, arith}
+use Rattle.std.specs.declared.ops.ControlFlow.{ControlFlow}
+use Rattle.std.specs.declared.ops.ControlFlow.TheVariants.{Continue, Break}
+use Rattle.sq_ranges.specs.ReconValue.{stages}
 use Rattle.sq_ranges.specs.OpeningValue.{OpeningValue}
 use Rattle.sq_ranges.specs.Opening.{IsOpening}
 use Rattle.sq_leader.specs.LeaderValue.{StageValue}
@@ -14,13 +16,12 @@ use Rattle.sq_audit.specs.declared.job.Job.{Job}
 use Rattle.sq_audit.specs.Answers.{IdsDiffer}
 use Rattle.sq_live.specs.declared.outcome.LiveOutcome.{LiveOutcome}
 use Rattle.sq_live.specs.declared.stages.Ready.{Ready}
-use Rattle.sq_live.specs.declared.stages.AfterStage.{AfterStage}
-use Rattle.sq_live.specs.declared.stages.AfterStage.TheVariants as after
 use Rattle.sq_live.specs.Account.{AccountValue, first_account}
 use Rattle.sq_stages.specs.declared.leader.Led.TheVariants.{Next, Ended, Missing}
 use Rattle.sq_stages.specs.Leading.{leading, AreComplete, HasGoneOn, HasEnded, Leads}
 use Rattle.sq_live.specs.Judged.{MarksMoved}
-use Rattle.sq_live.specs.Stages.{RanFrom, ContinuesWith, HavePassed, IsReady, ComesAfterStage, GoesOnTo}
+use Rattle.sq_run.specs.StageRunValue.{RanFrom}
+use Rattle.sq_live.specs.Stages.{ContinuesWith, HavePassed, IsReady, ComesAfterStage, GoesOnTo}
 use Rattle.sq_live.specs.Live.{WereRun}
 use Rattle.sq_stages.proofs.Complete.{complete_by, marked_by, gone_on_by, ended_by}
 
@@ -130,31 +131,33 @@ module _ (old : AccountValue) (g : GatheredValue) (new : AccountValue) (next : G
 
 module _ (folds : Bool) (old : AccountValue) (began : BeganWith) (g : GatheredValue) (ran : RanFrom old.opening began g) (at : StageValue) (led : HasGoneOn old.opening g.stage (is_whole_in g) at) where
   -- the next stage, or the end at the defect that the fold between the stages found
-  pub goes_on_comes : IsStageDone old.opening g → (next : AfterStage) → GoesOnTo folds old g next → ComesAfterStage folds old began next
-  goes_on_comes done (after.Next ready) goes = (
+  pub goes_on_comes : IsStageDone old.opening g → (next : ControlFlow LiveOutcome Ready) → GoesOnTo folds old g next → ComesAfterStage folds old began next
+  goes_on_comes done (Continue ready) goes = (
     g,
     next_began ready.account.opening goes.0,
     record { ran = ran; done = done; leader = at; led = led; next = goes.0; continues = goes.1; later_is = refl },
     goes.2,
   )
-  goes_on_comes done (after.Ended ended) goes =
-      subst (λ (o : LiveOutcome). ComesAfterStage folds old began (after.Ended o)) (sym goes.1) (g, ran, inl (goes.2.0, at, led, goes.2.1))
+  goes_on_comes done (Break ended) goes =
+      subst (λ (o : LiveOutcome). ComesAfterStage folds old began (Break o)) (sym goes.1) (g, ran, inl (goes.2.0, at, led, goes.2.1))
 
 -- ---- stage by stage
 
--- stages passed, and the one of this number is ready
-pub record IsAt (folds : Bool) (o : OpeningValue) (jobs : List Job) (stage : ℕ) (ready : Ready) : Type 0 where
+-- stages passed, and the next one is ready
+pub record IsAt (folds : Bool) (o : OpeningValue) (jobs : List Job) (ready : Ready) : Type 0 where
   pub set_up : IsOpening o
   pub differ : IdsDiffer jobs
   pub earlier : List GatheredValue
   pub began : BeganWith
   pub passed : HavePassed folds o jobs earlier ready.account began
   pub is_ready : IsReady began ready
-  pub stage_is : began.stage ≡ stage
-  pub moves : ready.account.opening.recon ≡ o.recon
+
+-- how many stages are left, with the one that is ready
+abbrev pub stages_left : Ready → ℕ
+stages_left ready = stages ready.moving.recon - ready.moving.stage
 
 module _ (folds : Bool) (o : OpeningValue) (jobs : List Job) where
-  pub at_first : (ready : Ready) → IsOpening o → IdsDiffer jobs → ready.account ≡ first_account o jobs → IsReady (first_began o) ready → IsAt folds o jobs 0 ready
+  pub at_first : (ready : Ready) → IsOpening o → IdsDiffer jobs → ready.account ≡ first_account o jobs → IsReady (first_began o) ready → IsAt folds o jobs ready
   at_first ready set_up differ account is = record {
     set_up = set_up;
     differ = differ;
@@ -162,15 +165,12 @@ module _ (folds : Bool) (o : OpeningValue) (jobs : List Job) where
     began = first_began o;
     passed = (account, refl);
     is_ready = is;
-    stage_is = refl;
-    moves = ap (λ (a : AccountValue). a.opening.recon) account;
   }
 
-  module _ (stage : ℕ) (ready : Ready) (at : IsAt folds o jobs stage ready) where
-    pub at_next : (next : Ready) → ComesAfterStage folds ready.account at.began (after.Next next) → IsAt folds o jobs (stage + 1) next
+  module _ (ready : Ready) (at : IsAt folds o jobs ready) where
+    pub at_next : (next : Ready) → ComesAfterStage folds ready.account at.began (Continue next) → IsAt folds o jobs next
     at_next next comes =
         let (g, later, passed, is) = comes in
-        let gone = stays_in_stage ready.account g next.account passed.next folds passed.continues in
         record {
           set_up = at.set_up;
           differ = at.differ;
@@ -178,14 +178,22 @@ module _ (folds : Bool) (o : OpeningValue) (jobs : List Job) where
           began = later;
           passed = (ready.account, at.began, at.passed, passed);
           is_ready = is;
-          stage_is = ap (λ (b : BeganWith). b.stage) passed.later_is ∙ ap (λ n. n + 1) (gone ∙ passed.ran.stage ∙ at.stage_is);
-          moves = moves_alike ready.account g next.account passed.next folds passed.continues ∙ at.moves;
         }
 
-    pub were_run : (ending : LiveOutcome) → ComesAfterStage folds ready.account at.began (after.Ended ending) → WereRun folds o jobs ending
-    were_run ending comes = record { set_up = at.set_up; differ = at.differ; earlier = at.earlier; account = ready.account; began = at.began; passed = at.passed; gathered = comes.0; ran = comes.1; came = comes.2 }
+    pub were_run : (ending : LiveOutcome) → ComesAfterStage folds ready.account at.began (Break ending) → WereRun folds o jobs ending
+    were_run ending comes =
+        record { set_up = at.set_up; differ = at.differ; earlier = at.earlier; account = ready.account; began = at.began; passed = at.passed; gathered = comes.0; ran = comes.1; came = comes.2 }
 
-    -- there is such a stage
-    pub is_a_stage : ready.moving.stage < stages ready.moving.recon → stage < stages o.recon
-    is_a_stage within =
-        subst (λ (p : ℕ × ReconValue). p.0 < stages p.1) (λ i. (at.stage_is i, at.moves i)) (one_of_the_stages ready.account.opening ready.moving at.began.stage at.is_ready.led within)
+    -- fewer are left then
+    pub fewer_left : (next : Ready) → ComesAfterStage folds ready.account at.began (Continue next) → ready.moving.stage < stages ready.moving.recon → stages_left next < stages_left ready
+    fewer_left next comes within =
+        let (g, later, passed, is) = comes in
+        let led : ready.moving.stage ≡ at.began.stage = ap (λ (s : StageValue). s.stage) at.is_ready.led in
+        let gone = stays_in_stage ready.account g next.account passed.next folds passed.continues in
+        let stage : next.moving.stage ≡ ready.moving.stage + 1 =
+        ap (λ (s : StageValue). s.stage) is.led ∙ ap (λ (b : BeganWith). b.stage) passed.later_is ∙ ap (λ (n : ℕ). n + 1) (gone ∙ passed.ran.stage ∙ sym led) in
+        let moves : next.moving.recon ≡ ready.moving.recon =
+        ap (λ (s : StageValue). s.recon) is.led ∙ moves_alike ready.account g next.account passed.next folds passed.continues ∙ sym (ap (λ (s : StageValue). s.recon) at.is_ready.led) in
+        let as_many : stages next.moving.recon ≡ stages ready.moving.recon = ap stages moves in
+        let e : stages next.moving.recon - next.moving.stage < stages ready.moving.recon - ready.moving.stage = omega (arith, stage, as_many, within) in
+        e

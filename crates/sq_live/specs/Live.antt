@@ -22,7 +22,8 @@ use Rattle.sq_live.specs.Faults.{live_fault_number, out_of_memory}
 use Rattle.sq_live.specs.JobLines.{jobs_in}
 use Rattle.sq_live.specs.Account.{AccountValue}
 use Rattle.sq_live.specs.Outcome.{outcome_line, outcome_status, CameTo}
-use Rattle.sq_live.specs.Stages.{RanFrom, HavePassed}
+use Rattle.sq_run.specs.StageRunValue.{RanFrom}
+use Rattle.sq_live.specs.Stages.{HavePassed}
 
 -- the pieces spell a header with this opening, and then these jobs of its partitions
 pub record SpellJobs (tables : ℕ) (given : List PieceValue) (o : OpeningValue) (jobs : List Job) : Type 0 where

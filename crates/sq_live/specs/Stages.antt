@@ -1,37 +1,24 @@
 -- From one stage of a live run to the next.
-use Rattle.std.specs.Prelude.{◌≡◌, ◌+◌, ◌++◌, Bool, true, false, List, [], ◌∷◌, length}
+use Rattle.std.specs.Prelude.{◌≡◌, ◌+◌, Bool, true, false, List, [], ◌∷◌, length}
+use Rattle.std.specs.declared.ops.ControlFlow.{ControlFlow}
+use Rattle.std.specs.declared.ops.ControlFlow.TheVariants.{Continue, Break}
 use Rattle.sq_ranges.specs.OpeningValue.{OpeningValue}
 use Rattle.sq_leader.specs.LeaderValue.{StageValue}
-use Rattle.sq_node_model.specs.NodeValue.{ReceiptValue}
 use Rattle.sq_node_model.specs.BeganWith.{BeganWith, first_began}
 use Rattle.sq_node_model.specs.Gathered.{GatheredValue}
-use Rattle.sq_node_model.specs.Placed.{IsPlaced, GoOn}
 use Rattle.sq_node_model.specs.Next.{is_whole_in, IsStageDone, next_began}
-use Rattle.sq_gather.specs.Reopened.{IsRunInStage}
 use Rattle.sq_audit.specs.declared.job.Job.{Job}
 use Rattle.sq_audit.specs.declared.folded.Folded.{Folded}
 use Rattle.sq_audit.specs.declared.verdict.Defect.{Defect}
 use Rattle.sq_audit.specs.Defects.{IsFirstDefect}
 use Rattle.sq_audit.specs.Folding.{IsFold, answered_jobs}
-use Rattle.sq_live.specs.declared.continuing.Continued.{Continued}
-use Rattle.sq_live.specs.declared.continuing.Continued.TheVariants as continued
+use Rattle.sq_run.specs.StageRunValue.{BeganFrom, RanFrom}
+use Rattle.sq_live.specs.declared.outcome.LiveOutcome.{LiveOutcome}
 use Rattle.sq_live.specs.declared.outcome.LiveOutcome.TheVariants as outcome
 use Rattle.sq_live.specs.declared.stages.Ready.{Ready}
-use Rattle.sq_live.specs.declared.stages.AfterStage.{AfterStage}
-use Rattle.sq_live.specs.declared.stages.AfterStage.TheVariants as after
 use Rattle.sq_live.specs.Account.{AccountValue, first_account}
 use Rattle.sq_stages.specs.Leading.{leading, HasGoneOn}
 use Rattle.sq_live.specs.Outcome.{commit_count, CameTo}
-
--- a stage that began so ran, and left this:
--- it is placed, each family goes on from the one that its root key was given, and the receipts so far stand before those of the stage
-pub record RanFrom (o : OpeningValue) (began : BeganWith) (g : GatheredValue) : Type 0 where
-  pub stage : g.stage ≡ began.stage
-  pub placed : IsPlaced o g
-  pub goes_on : GoOn began g
-  pub written : List ReceiptValue
-  pub receipts : g.receipts ≡ began.receipts ++ written
-  pub all_left : length g.left ≡ o.old.parts
 
 -- the jobs with receipts were audited and the logs are folded: both are counted, and what is gone on with is what the fold gave
 pub record HasFolded (old : AccountValue) (g : GatheredValue) (new : AccountValue) (next : GatheredValue) : Type 0 where
@@ -49,9 +36,9 @@ ContinuesWith true old g new next = HasFolded old g new next
 ContinuesWith false old g new next = (new ≡ old) × (next ≡ g)
 
 -- a run goes on so, or the fold's audit found a defect
-abbrev pub Continues : Bool → AccountValue → GatheredValue → Continued → Type 0
-Continues folds old g (continued.With account gathered) = ContinuesWith folds old g account gathered
-Continues folds old g (continued.Unsound defect) = (folds ≡ true) × IsFirstDefect old.opening g (answered_jobs g.receipts old.jobs) defect
+abbrev pub Continues : Bool → AccountValue → GatheredValue → ControlFlow Defect (AccountValue × GatheredValue) → Type 0
+Continues folds old g (Continue now) = ContinuesWith folds old g now.0 now.1
+Continues folds old g (Break defect) = (folds ≡ true) × IsFirstDefect old.opening g (answered_jobs g.receipts old.jobs) defect
 
 -- a stage that began so left this, with all of its segments complete, the leader went on,
 -- and the next stage began with what the run goes on with
@@ -73,19 +60,19 @@ HavePassed folds o jobs (g ∷ earlier) account began =
 
 -- a stage that began so is ready to run, and the leader leads it
 pub record IsReady (began : BeganWith) (ready : Ready) : Type 0 where
-  pub run : IsRunInStage ready.account.opening began ready.fabric ready.nodes.items ready.pumps.items
+  pub run : BeganFrom ready.account.opening began ready.run
   pub led : ready.moving ≡ leading ready.account.opening began.stage
 
 -- what comes after a stage that began so: the run ends, or the next stage is ready
-abbrev pub ComesAfterStage : Bool → AccountValue → BeganWith → AfterStage → Type 0
-ComesAfterStage folds account began (after.Ended outcome) =
+abbrev pub ComesAfterStage : Bool → AccountValue → BeganWith → ControlFlow LiveOutcome Ready → Type 0
+ComesAfterStage folds account began (Break outcome) =
     (g : GatheredValue) × RanFrom account.opening began g × CameTo folds account g outcome
-ComesAfterStage folds account began (after.Next ready) =
+ComesAfterStage folds account began (Continue ready) =
     (g : GatheredValue) × (later : BeganWith) × HasPassed folds account began g ready.account later × IsReady later ready
 
 -- what a run goes on to where the leader goes on: the next stage is ready, or the fold's audit ended the run at a defect
-abbrev pub GoesOnTo : Bool → AccountValue → GatheredValue → AfterStage → Type 0
-GoesOnTo folds old g (after.Ended ended) =
-    (defect : Defect) × (ended ≡ outcome.Unsound defect) × Continues folds old g (continued.Unsound defect)
-GoesOnTo folds old g (after.Next ready) =
+abbrev pub GoesOnTo : Bool → AccountValue → GatheredValue → ControlFlow LiveOutcome Ready → Type 0
+GoesOnTo folds old g (Break ended) =
+    (defect : Defect) × (ended ≡ outcome.Unsound defect) × Continues folds old g (Break defect)
+GoesOnTo folds old g (Continue ready) =
     (next : GatheredValue) × ContinuesWith folds old g ready.account next × IsReady (next_began ready.account.opening next) ready

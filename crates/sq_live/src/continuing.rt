@@ -8,33 +8,25 @@ use crate::judging::count_commits;
 use sq_audit::{Defect, Unfolded, fold};
 use sq_gather::Gathered;
 use std::alloc::{AllocError, Global};
+use std::ops::ControlFlow;
 use std::thread::Threads;
 
-/// What a run goes on with after a stage.
-#[derive(Drop)]
-pub(crate) enum Continued {
-    /// With this account, and with what was gathered.
-    With(Account, Gathered),
-    /// With nothing: this is the first defect of what was gathered.
-    Unsound(Defect),
-}
-
 /// What a run goes on with after a stage whose segments are complete: with all as it is, or, if it folds logs, with what
-/// [`fold`] gives, once that is counted.
+/// [`fold`] gives, once that is counted. It breaks off at the first defect of what was gathered.
 pub(crate) fn continue_with<R: Threads + Sync>(
     rt: &R,
     alloc: Global,
     folds: bool,
     account: Account,
     gathered: Gathered,
-) -> Result<Continued, AllocError>
+) -> Result<ControlFlow<Defect, (Account, Gathered)>, AllocError>
     requires { IsStageDone account.opening gathered }
     ensures { IfOk result (Continues folds account gathered) }
 {
     if folds {
         fold_logs(rt, alloc, account, gathered)
     } else {
-        Ok(Continued::With(account, gathered))
+        Ok(ControlFlow::Continue((account, gathered)))
     }
 }
 
@@ -44,7 +36,7 @@ fn fold_logs<R: Threads + Sync>(
     alloc: Global,
     account: Account,
     gathered: Gathered,
-) -> Result<Continued, AllocError>
+) -> Result<ControlFlow<Defect, (Account, Gathered)>, AllocError>
     requires { IsStageDone account.opening gathered }
     ensures { IfOk result (Continues true account gathered) }
 {
@@ -64,9 +56,9 @@ fn fold_logs<R: Threads + Sync>(
                 jobs: folded.jobs,
                 committed: committed + commits,
             };
-            Ok(Continued::With(account, folded.gathered))
+            Ok(ControlFlow::Continue((account, folded.gathered)))
         }
-        Err(Unfolded::Unsound(defect)) => Ok(Continued::Unsound(defect)),
+        Err(Unfolded::Unsound(defect)) => Ok(ControlFlow::Break(defect)),
         Err(Unfolded::Memory(_)) => Err(AllocError),
     }
 }

@@ -3,27 +3,26 @@ ghost use Rattle.std.specs.Prelude.{◌≡◌, ◌≤◌, ◌+◌, length, IfOk}
 ghost use Rattle.sq_pull.specs.declared.numbers.TheConstants.{MAX_PUMPS};
 ghost use Rattle.sq_ranges.specs.Prelude.{OpeningValue, IsOpening};
 ghost use Rattle.sq_node_model.specs.Prelude.{BeganWith, first_began, IsPlaced, IsStageDone, next_began};
-ghost use Rattle.sq_gather.specs.Gathered.{AreAllOf};
-ghost use Rattle.sq_gather.specs.Reopened.{IsRunInStage};
+ghost use Rattle.sq_run.specs.StageRunValue.{BeganFrom, RanFrom};
 ghost use Rattle.sq_live.specs.Account.{first_account};
 ghost use Rattle.sq_stages.specs.Leading.{leading};
-ghost use Rattle.sq_live.specs.Stages.{RanFrom, IsReady, ComesAfterStage, GoesOnTo};
+ghost use Rattle.sq_live.specs.Stages.{IsReady, ComesAfterStage, GoesOnTo};
 ghost use Rattle.sq_live.specs.Live.{WereRun};
 
 use crate::account::Account;
-use crate::continuing::{Continued, continue_with};
+use crate::continuing::continue_with;
 use crate::judging::{judge_end, judge_stopped, moved_segments};
 use crate::outcome::LiveOutcome;
 use crate::watch::Watch;
 use sq_audit::Job;
-use sq_driver::run_workers;
-use sq_gather::{Gathered, gather, reopen};
+use sq_gather::Gathered;
 use sq_leader::Moving;
-use sq_node::{Fabric, Node};
-use sq_pull::Pump;
+use sq_node::Fabric;
+use sq_run::StageRun;
 use sq_runs::RunStore;
 use sq_stages::{Led, lead_on};
 use std::alloc::{AllocError, Global};
+use std::ops::ControlFlow;
 use std::sync::Wait;
 use std::thread;
 use std::thread::Threads;
@@ -45,18 +44,7 @@ pub(crate) struct RunManner {
 pub(crate) struct Ready {
     pub(crate) account: Account,
     pub(crate) moving: Moving,
-    pub(crate) fabric: Fabric,
-    pub(crate) nodes: Vec<Node>,
-    pub(crate) pumps: Vec<Pump>,
-}
-
-/// What comes after a stage.
-#[derive(Drop)]
-pub(crate) enum AfterStage {
-    /// The run ends, and comes to this.
-    Ended(LiveOutcome),
-    /// The next stage is ready.
-    Next(Ready),
+    pub(crate) run: StageRun,
 }
 
 /// Runs the jobs of an account stage by stage, from the first to the last one or to the first that stops it: each partition
@@ -74,17 +62,17 @@ pub(crate) fn run_stages<R: Threads + Wait + Sync, G: Watch>(
     requires led { moving ≡ leading account.opening 0 }
     ensures { IfOk result (WereRun manner.folds account.opening account.jobs) }
 {
-    let stages = account.opening.recon().stages();
+    // For the proof alone: what the account has is an opening.
+    let _recon = account.opening.recon();
     let mut ready = first_ready(rt, alloc, account, moving, manner.pumps)?;
-    for _stage in 0..stages {
-        ready = match run_stage(rt, alloc, ready, manner, watch)? {
-            AfterStage::Ended(outcome) => return Ok(outcome),
-            AfterStage::Next(next) => next,
-        };
+    loop {
+        // For the proof alone: the leader is in one of the stages.
+        let _stage = ready.moving.stage();
+        match run_stage(rt, alloc, ready, manner, watch)? {
+            ControlFlow::Break(outcome) => return Ok(outcome),
+            ControlFlow::Continue(next) => ready = next,
+        }
     }
-    // For the proof alone: the leader is in one of the stages.
-    let _last = ready.moving.stage();
-    unreachable!()
 }
 
 // The first stage, ready to run, with each job posted.
@@ -100,16 +88,12 @@ fn first_ready<R: Threads + Wait + Sync>(
     ensures account { IfOk result (λ ready. ready.account ≡ account) }
     ensures ready { IfOk result (IsReady (first_began account.opening)) }
 {
-    let (fabric, nodes, pumps) = Fabric::open_in_threads(rt, alloc, &account.opening, pumps)?;
-    // For the proof alone: what the account has is an opening.
-    let _recon = account.opening.recon();
-    post_all(rt, &fabric, &account.jobs)?;
+    let run = StageRun::open_in_threads(rt, alloc, &account.opening, pumps)?;
+    post_all(rt, run.fabric(), &account.jobs)?;
     Ok(Ready {
         account,
         moving,
-        fabric,
-        nodes,
-        pumps,
+        run,
     })
 }
 
@@ -129,29 +113,30 @@ fn run_stage<R: Threads + Wait + Sync, G: Watch>(
     ready: Ready,
     manner: RunManner,
     watch: &G,
-) -> Result<AfterStage, AllocError>
+) -> Result<ControlFlow<LiveOutcome, Ready>, AllocError>
     requires ready { (began : BeganWith) × IsReady began ready }
     ensures { IfOk result (λ after. (began : BeganWith) → IsReady began ready → ComesAfterStage manner.folds ready.account began after) }
 {
     let Ready {
         account,
         moving,
-        fabric,
-        nodes,
-        pumps,
+        run,
     } = ready;
     // For the proof alone: what the account has is an opening.
     let _recon = account.opening.recon();
-    let gathered = drive_all(rt, alloc, fabric, nodes, pumps, manner.turns, watch)?;
+    let gathered = drive_all(rt, alloc, run, manner.turns, watch)?;
     let moved = moved_segments(&gathered.statuses);
     match lead_on(moving, &account.opening, &moved) {
         Led::Next(moving) => go_on(rt, alloc, account, gathered, moving, manner),
         Led::Ended => {
             let outcome = judge_end(rt, alloc, &account, &gathered, &moved)?;
             free_families(rt, gathered.stores);
-            Ok(AfterStage::Ended(outcome))
+            Ok(ControlFlow::Break(outcome))
         }
-        Led::Missing => Ok(AfterStage::Ended(judge_stopped(alloc, &account, &gathered, &moved)?)),
+        Led::Missing => {
+            let outcome = judge_stopped(alloc, &account, &gathered, &moved)?;
+            Ok(ControlFlow::Break(outcome))
+        }
     }
 }
 
@@ -168,7 +153,7 @@ fn go_on<R: Threads + Sync>(
     gathered: Gathered,
     moving: Moving,
     manner: RunManner,
-) -> Result<AfterStage, AllocError>
+) -> Result<ControlFlow<LiveOutcome, Ready>, AllocError>
     requires placed { IsPlaced account.opening gathered }
     requires done { IsStageDone account.opening gathered }
     requires left { length gathered.left ≡ account.opening.old.parts }
@@ -176,11 +161,11 @@ fn go_on<R: Threads + Sync>(
     ensures { IfOk result (GoesOnTo manner.folds account gathered) }
 {
     match continue_with(rt, alloc, manner.folds, account, gathered)? {
-        Continued::With(account, gathered) => {
+        ControlFlow::Continue((account, gathered)) => {
             let ready = next_ready(alloc, account, gathered, moving, manner.pumps)?;
-            Ok(AfterStage::Next(ready))
+            Ok(ControlFlow::Continue(ready))
         }
-        Continued::Unsound(defect) => Ok(AfterStage::Ended(LiveOutcome::Unsound(defect))),
+        ControlFlow::Break(defect) => Ok(ControlFlow::Break(LiveOutcome::Unsound(defect))),
     }
 }
 
@@ -189,20 +174,17 @@ fn go_on<R: Threads + Sync>(
 fn drive_all<R: Threads + Wait + Sync, G: Watch>(
     rt: &R,
     alloc: Global,
-    fabric: Fabric,
-    mut nodes: Vec<Node>,
-    mut pumps: Vec<Pump>,
+    mut run: StageRun,
     turns: u64,
     watch: &G,
 ) -> Result<Gathered, AllocError>
-    requires { AreAllOf fabric nodes.items pumps.items }
-    ensures { IfOk result (λ g. (o : OpeningValue) (began : BeganWith) → IsOpening o
-        → IsRunInStage o began fabric nodes.items pumps.items → RanFrom o began g) }
+    ensures { IfOk result (λ g. (o : OpeningValue) (began : BeganWith)
+        → IsOpening o → BeganFrom o began run → RanFrom o began g) }
 {
     watch.stage_begins();
-    run_workers(rt, &fabric, &mut nodes, &mut pumps, turns, watch);
-    watch.stage_ends(&nodes);
-    match gather(rt, alloc, fabric, nodes, pumps) {
+    run.drive(rt, turns, watch);
+    watch.stage_ends(run.nodes());
+    match run.gather(rt, alloc) {
         Ok(gathered) => {
             watch.gathers(&gathered);
             Ok(gathered)
@@ -229,13 +211,11 @@ fn next_ready(
 {
     // For the proof alone: the leader is in one of the stages.
     let _stage = moving.stage();
-    match reopen(alloc, &account.opening, gathered, pumps) {
-        Ok((fabric, nodes, pumps)) => Ok(Ready {
+    match StageRun::next_stage(alloc, &account.opening, gathered, pumps) {
+        Ok(run) => Ok(Ready {
             account,
             moving,
-            fabric,
-            nodes,
-            pumps,
+            run,
         }),
         Err(_) => Err(AllocError),
     }

@@ -216,21 +216,3 @@ abbrev pub ResumeStep : NodeState → Stepped → NodeState → Type 0
 ResumeStep old Did new = Resumes old new
 ResumeStep old Nothing new = (new ≡ old) × IsSome (resume_refusal old.core)
 ResumeStep old Memory new = new ≡ old
-
--- a turn: each step in turn, whatever it comes to
-pub record Turns (fabric : FabricValue) (old new : NodeState) : Type 0 where
-  pub jobbed : NodeState
-  pub asked : NodeState
-  pub cut : NodeState
-  pub sent : NodeState
-  pub received : NodeState
-  pub loaded : NodeState
-  pub completed : NodeState
-  pub job : (answer : Stepped) × JobStep old answer jobbed
-  pub request : (answer : Stepped) × RequestStep jobbed answer asked
-  pub cutting : (answer : Stepped) × CutStep asked answer cut
-  pub sending : (answer : Stepped) × SendStep fabric cut answer sent
-  pub receiving : (answer : Stepped) × RecvStep sent answer received
-  pub loading : (answer : Stepped) × LoadStep received answer loaded
-  pub completing : (answer : Stepped) × CompleteStep loaded answer completed
-  pub resuming : (answer : Stepped) × ResumeStep completed answer new

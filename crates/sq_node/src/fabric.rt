@@ -28,6 +28,9 @@ pub const REQUEST_PLACES: usize = 256;
 /// How many jobs the queue of a partition holds.
 pub const JOB_PLACES: usize = 4096;
 
+// What `posted` has besides, once the run takes no more jobs.
+const CLOSED: u64 = 0x8000_0000_0000_0000;
+
 /// What the nodes of a run share by `&`: the split trees, the links, for each partition a queue of requests to begin
 /// nodes and a queue of jobs, and the receipts of earlier stages. To a contract it is a `FabricValue`.
 #[derive(Drop)]
@@ -133,8 +136,9 @@ impl Fabric {
         }
     }
 
-    /// Posts a job to a partition. It comes back where there is no such partition, and where that queue was full at one moment
-    /// of the call.
+    /// Posts a job to a partition. It comes back where there is no such partition, where that queue was full at one moment of
+    /// the call, and where the run takes no more jobs: since [`Fabric::close_jobs`], or since a node has ended idle in the last
+    /// stage. A job that was taken is answered, or what is gathered of the run hands it out.
     pub fn post<R: Wait>(&self, rt: &R, part: PartId, job: Txn) -> Result<(), Txn>
         ensures there { OnOk result (part < self.now.parts) }
         ensures back { IfErr result (λ back. back ≡ job) }
@@ -143,12 +147,36 @@ impl Fabric {
             return Err(job);
         }
         // It counts before it can be taken: nobody sees all jobs answered while this one isn't.
-        self.posted.fetch_add(1, Ordering::SeqCst);
-        let put = self.put_job(rt, part, job);
+        let posted = self.posted.fetch_add(1, Ordering::SeqCst);
+        let put = if posted >= CLOSED {
+            Err(job)
+        } else {
+            self.put_job(rt, part, job)
+        };
         if put.is_err() {
             self.posted.fetch_sub(1, Ordering::SeqCst);
         }
         put
+    }
+
+    /// The run takes no more jobs.
+    pub fn close_jobs<R: Wait>(&self, rt: &R) {
+        for _ in rt.forever() {
+            let posted = self.posted.load(Ordering::SeqCst);
+            if self.change_posted(posted, posted | CLOSED) {
+                return;
+            }
+        }
+    }
+
+    /// The run takes jobs again.
+    pub fn open_jobs<R: Wait>(&self, rt: &R) {
+        for _ in rt.forever() {
+            let posted = self.posted.load(Ordering::SeqCst);
+            if self.change_posted(posted, posted & !CLOSED) {
+                return;
+            }
+        }
     }
 
     /// Asks a partition to begin a node. The request comes back where there is no such partition, and where that queue was full
@@ -169,7 +197,7 @@ impl Fabric {
     /// Whether as many jobs were answered as were posted. This is a hint: it is told of no moment.
     pub fn is_answered(&self) -> bool {
         let answered = self.answered.load(Ordering::SeqCst);
-        answered == self.posted.load(Ordering::SeqCst)
+        answered == self.posted.load(Ordering::SeqCst) & !CLOSED
     }
 
     /// The receipts of earlier stages.
@@ -231,5 +259,20 @@ impl Fabric {
     /// Counts an answer.
     pub(crate) fn count_answer(&self) {
         self.answered.fetch_add(1, Ordering::SeqCst);
+    }
+
+    /// The run takes no more jobs if as many were answered as were posted, and whether it takes none now. A job that is posted
+    /// meanwhile either counts before, or comes back.
+    pub(crate) fn close_answered(&self) -> bool {
+        let answered = self.answered.load(Ordering::SeqCst);
+        self.change_posted(answered, answered | CLOSED)
+            || (self.posted.load(Ordering::SeqCst) >= CLOSED && self.is_answered())
+    }
+
+    // Writes how many jobs were posted, where that is still what it was.
+    fn change_posted(&self, old: u64, new: u64) -> bool {
+        self.posted
+            .compare_exchange(old, new, Ordering::SeqCst, Ordering::SeqCst)
+            .is_ok()
     }
 }

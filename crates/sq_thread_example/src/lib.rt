@@ -8,10 +8,11 @@ ghost use Rattle.sq_audit.specs.Answers.{IdsDiffer};
 ghost use Rattle.sq_audit.specs.Defects.{IsVerdict};
 
 use sq_audit::{Job, Verdict, audit};
-use sq_driver::{OpenGate, run_workers};
-use sq_gather::{Gathered, gather};
+use sq_driver::OpenGate;
+use sq_gather::Gathered;
 use sq_node::Fabric;
 use sq_ranges::Opening;
+use sq_run::StageRun;
 use std::alloc::{AllocError, Global};
 use std::sync::Wait;
 use std::thread::Threads;
@@ -44,13 +45,12 @@ pub fn run_jobs<R: Threads + Wait + Sync>(
     ensures verdict { IfOk result (λ ran. IsVerdict opening.now ran.gathered jobs.now ran.verdict) }
 {
     // What the threads share, a node for each partition, and the pumps.
-    let (fabric, mut nodes, mut pumps) = Fabric::open(alloc, opening, PUMPS)?;
-    // For the proof alone: what was handed in is an opening, and this is a fabric.
+    let mut run = StageRun::open(alloc, opening, PUMPS)?;
+    // For the proof alone: what was handed in is an opening.
     let _recon = opening.recon();
-    let _trees = fabric.trees();
-    post_all(rt, &fabric, jobs)?;
-    run_workers(rt, &fabric, &mut nodes, &mut pumps, TURNS, &OpenGate);
-    match gather(rt, alloc, fabric, nodes, pumps) {
+    post_all(rt, run.fabric(), jobs)?;
+    run.drive(rt, TURNS, &OpenGate);
+    match run.gather(rt, alloc) {
         Ok(gathered) => {
             let verdict = audit(rt, opening, &gathered, jobs)?;
             Ok(Ran { gathered, verdict })

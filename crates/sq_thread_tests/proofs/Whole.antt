@@ -9,23 +9,8 @@ use Rattle.sq_node_model.proofs.Members.{set_stood}
 use Rattle.sq_node.specs.FabricValue.{FabricValue}
 use Rattle.sq_node.specs.NodeState.{NodeState, IsNodeOf}
 use Rattle.sq_node.specs.Opened.{AreFirstSeats}
-use Rattle.sq_node.specs.Steps.{Turns}
-use Rattle.sq_driver.specs.declared.gate.NodeStep.TheVariants.{Job, Request, Cut, Send, Recv, Load, Complete, Resume}
-use Rattle.sq_driver.proofs.Parts.{step_part}
 use Rattle.sq_gather.specs.Gathered.{AreAllOf, IsPumpOf}
 use Rattle.sq_gather.proofs.AllOf.{pump_claimed}
-
--- a turn leaves a node the same partition's
-pub turn_part : (fabric : FabricValue) (old new : NodeState) → Turns fabric old new → new.core.part ≡ old.core.part
-turn_part fabric old new turns =
-    step_part fabric Resume turns.completed turns.resuming.0 new turns.resuming.1
-    ∙ step_part fabric Complete turns.loaded turns.completing.0 turns.completed turns.completing.1
-    ∙ step_part fabric Load turns.received turns.loading.0 turns.loaded turns.loading.1
-    ∙ step_part fabric Recv turns.sent turns.receiving.0 turns.received turns.receiving.1
-    ∙ step_part fabric Send turns.cut turns.sending.0 turns.sent turns.sending.1
-    ∙ step_part fabric Cut turns.asked turns.cutting.0 turns.cut turns.cutting.1
-    ∙ step_part fabric Request turns.jobbed turns.request.0 turns.asked turns.request.1
-    ∙ step_part fabric Job old turns.job.0 turns.jobbed turns.job.1
 
 -- the node of a place is one of the run
 pub node_at : (fabric : FabricValue) (nodes : List NodeState) (pumps : List PumpValue) (i : ℕ) (node : NodeState) → AreAllOf fabric nodes pumps → i < length nodes → node ≡ get_or nodes i node → IsNodeOf fabric node

@@ -10,7 +10,7 @@ ghost use Rattle.sq_node.specs.NodeState.{IsNodeOf};
 ghost use Rattle.sq_node.specs.Holds.{KeepsAll};
 ghost use Rattle.sq_node.specs.Looks.{OnlyLooked, SeatsLooked};
 ghost use Rattle.sq_node.specs.Settled.{HasSettled, AllSettled, SawComplete, SawSegmentComplete, AreSeen};
-ghost use Rattle.sq_node.specs.Steps.{Turns, Looks};
+ghost use Rattle.sq_node.specs.Steps.{Looks};
 ghost use Rattle.sq_node.specs.Idle.{IsQuiet, IsIdle, takes_part, AreFlagged};
 
 use super::{Node, NodeParts};
@@ -22,24 +22,6 @@ use sq_tree::{NodeId, Status};
 use std::sync::Wait;
 
 impl Node {
-    /// Sends what is pending, and then makes each step once.
-    pub fn turn<R: Wait>(&mut self, rt: &R, fabric: &Fabric)
-        requires { IsNodeOf fabric.now self.old }
-        ensures steps { Turns fabric.now self.old self.new }
-        ensures of { IsNodeOf fabric.now self.new }
-        ensures holds { KeepsAll self.old self.new }
-    {
-        self.send_pending(rt, fabric);
-        self.step_job(rt, fabric);
-        self.step_request(rt, fabric);
-        self.step_cut();
-        self.step_send(rt, fabric);
-        self.step_recv(rt, fabric);
-        self.step_load(fabric);
-        self.step_complete(fabric);
-        self.step_resume(rt, fabric);
-    }
-
     /// Sends the jobs and the requests that are pending, as far as their queues have room.
     pub fn send_pending<R: Wait>(&mut self, rt: &R, fabric: &Fabric)
         ensures { self.new ≡ self.old }
@@ -50,7 +32,8 @@ impl Node {
 
     /// Whether nothing is pending or under way here, and each segment of the running stage that leaves or comes here is
     /// complete. At the last stage it asks besides that no transaction waits and that each job that was posted is
-    /// answered. It looks at the words of a segment until node 1 reads complete, and never again.
+    /// answered, and the run takes no more jobs once a node is idle. It looks at the words of a segment until node 1 reads
+    /// complete, and never again.
     pub fn idle(&mut self, fabric: &Fabric) -> bool
         requires { IsNodeOf fabric.now self.old }
         ensures looks { Looks self.old self.new }
@@ -62,7 +45,10 @@ impl Node {
             return false;
         }
         let part = self.core.part();
-        see_all_complete(fabric, &mut self.seats, &mut self.complete, part)
+        if !see_all_complete(fabric, &mut self.seats, &mut self.complete, part) {
+            return false;
+        }
+        !fabric.is_last_stage() || fabric.close_answered()
     }
 
     /// What it had.

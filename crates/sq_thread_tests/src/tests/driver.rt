@@ -2,7 +2,7 @@
 use super::gates::{FIRST_PUMP, Lasting, Recorder, RecorderEnd};
 use super::node::PAIR;
 use super::run::TestRun;
-use sq_driver::NodeStep;
+use sq_driver::{NodeStep, OpenGate};
 use std::alloc::Global;
 use std::sync::Wait;
 use std::test::Fail;
@@ -93,5 +93,39 @@ fn a_chunk_is_made_up_for_with_jobs(rt: HostRuntime) -> Result<(), Fail> {
     run.drive(&rt, 0, 1, &gate)?;
     assert!(rt; gate.told() == (0, 0x881a_81a8_1a81_a81a));
     assert!(rt; run.receipts() == 6);
+    Ok(())
+}
+
+/// Two partitions, between which nothing moves.
+const APART: &str = r#"old {"version":1,"partitions":2,"ranges":[[0,8,0],[8,4294967296,1]]}
+new {"version":1,"partitions":2,"ranges":[[0,8,0],[8,4294967296,1]]}
+config 1 64 1
+"#;
+
+// A node goes on while a job of the other one isn't answered, and jobs are taken meanwhile. Once it is idle none is.
+#[test]
+fn a_run_with_an_idle_node_takes_no_jobs(rt: HostRuntime) -> Result<(), Fail> {
+    let alloc = rt.alloc();
+    let mut run = TestRun::opened(alloc, APART, 0)?;
+    run.post(&rt, alloc, "txn 0 1 5 get 0 0")?;
+    run.post(&rt, alloc, "txn 1 2 9 get 0 0")?;
+    run.drive(&rt, 0, 3, &OpenGate)?;
+    run.post(&rt, alloc, "txn 0 3 5 get 0 0")?;
+    run.drive(&rt, 1, 3, &OpenGate)?;
+    run.drive(&rt, 0, 3, &OpenGate)?;
+    assert!(rt; run.receipts() == 3);
+    assert!(rt; !run.has_posted(&rt, alloc, "txn 1 4 9 get 0 0")?);
+    Ok(())
+}
+
+// None is once all workers have ended, whether or not they were idle.
+#[test]
+fn a_run_whose_workers_have_ended_takes_no_jobs(rt: HostRuntime) -> Result<(), Fail> {
+    let alloc = rt.alloc();
+    let mut run = TestRun::opened(alloc, APART, 0)?;
+    run.post(&rt, alloc, "txn 0 1 5 get 0 0")?;
+    run.work(&rt, 0, &OpenGate);
+    assert!(rt; run.receipts() == 0);
+    assert!(rt; !run.has_posted(&rt, alloc, "txn 1 2 9 get 0 0")?);
     Ok(())
 }

@@ -117,12 +117,12 @@ impl TestRun {
         self.fabric.is_answered()
     }
 
-    /// A turn of the node of a partition.
+    /// Sends what is pending at the node of a partition, and makes each of its steps once.
     pub fn turn<R: Wait>(&mut self, rt: &R, part: usize) -> Result<(), Fail> {
         if part >= self.nodes.len() {
             return Err("no such partition")?;
         }
-        self.nodes[part].turn(rt, &self.fabric);
+        turn_once(rt, &self.fabric, &mut self.nodes[part]);
         Ok(())
     }
 
@@ -250,6 +250,16 @@ impl TestRun {
         let gathered = self.gathered(rt, alloc)?;
         text_of(alloc, &gathered)
     }
+}
+
+// Sends what is pending at a node, and makes each of its steps once.
+fn turn_once<R: Wait>(rt: &R, fabric: &Fabric, node: &mut Node)
+    requires { IsNodeOf fabric.now node.old }
+    ensures of { IsNodeOf fabric.now node.new }
+    ensures part { node.new.core.part ≡ node.old.core.part }
+{
+    node.send_pending(rt, fabric);
+    make_steps(rt, fabric, node);
 }
 
 // Makes each step of a node once.

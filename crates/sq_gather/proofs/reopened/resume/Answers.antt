@@ -5,6 +5,7 @@ use Rattle.sq_node_model.specs.Gathered.{GatheredValue}
 use Rattle.sq_node_model.specs.Folded.{folded_opening}
 use Rattle.sq_node.specs.FabricValue.{HasBegun}
 use Rattle.sq_node.specs.Opened.{IsReopened, AllOpenWith, AllHoldUnder, AllHoldAsBegun}
+use Rattle.sq_gather.proofs.AllOf.{all_of_new}
 use Rattle.sq_gather.proofs.reopened.resume.Goals as goal
 
 pub returns-in-Ok-clause-run : goal.returns-in-Ok-clause-run
@@ -14,3 +15,9 @@ returns-in-Ok-clause-run c =
 pub returns-in-Ok-clause-holds : goal.returns-in-Ok-clause-holds
 returns-in-Ok-clause-holds c =
     subst (λ (g : GatheredValue). (table : TableValue) → AllHoldAsBegun (folded_opening c.args.opening.now table) c.in-Ok.fabric g.stores c.in-Ok.nodes.items) c.g.view_is c.in-Ok.ensures.holds
+
+pub returns-in-Ok-clause-all : goal.returns-in-Ok-clause-all
+returns-in-Ok-clause-all c =
+    let run = c.in-Ok.ensures.run in
+    all_of_new c.args.opening.now c.args.pumps _ c.in-Ok.fabric c.in-Ok.nodes.items c.in-Ok.pumps.items c.recon-recon.ensures.set_up.opening c.trees-trees.ensures.fabric run.shared
+    c.in-Ok.ensures.fits.0 run.seats run.each_node run.each_pump

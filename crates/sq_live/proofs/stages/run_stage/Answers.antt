@@ -11,7 +11,8 @@ use Rattle.sq_stages.specs.declared.leader.Led.TheVariants.{Next, Ended, Missing
 use Rattle.sq_live.specs.Account.{AccountValue}
 use Rattle.sq_stages.specs.Leading.{Leads}
 use Rattle.sq_live.specs.Judged.{MarksMoved}
-use Rattle.sq_live.specs.Stages.{RanFrom, IsReady, GoesOnTo}
+use Rattle.sq_run.specs.StageRunValue.{RanFrom}
+use Rattle.sq_live.specs.Stages.{IsReady, GoesOnTo}
 use Rattle.sq_live.proofs.Passing.{WasTold, done_before, went_on, leads_next, last_stage, done_at_last, has_ended, not_done, goes_on_comes}
 use Rattle.sq_live.proofs.stages.run_stage.Goals as goal
 use Rattle.sq_live.proofs.stages.run_stage.Goals.{After-deref, In-Next, In-Ended, In-Missing}
@@ -124,6 +125,6 @@ pub returns-in_ok-outcome-in-Ended : goal.returns-in_ok-outcome-in-Ended
 returns-in_ok-outcome-in-Ended g c = λ began ready.
     (c.in_ok-gathered.gathered, ran g (goal.at.returns-in_ok-outcome-in-Ended g c).After-deref began ready, c.in_ok-outcome-in-Ended.ensures c.args.manner.folds)
 
-pub returns-in_ok-judge_stopped-in-Missing : goal.returns-in_ok-judge_stopped-in-Missing
-returns-in_ok-judge_stopped-in-Missing g c = λ began ready.
-    (c.in_ok-gathered.gathered, ran g (goal.at.returns-in_ok-judge_stopped-in-Missing g c).After-deref began ready, c.in_ok-judge_stopped-in-Missing.ensures c.args.manner.folds)
+pub returns-in_ok-outcome-in-Missing : goal.returns-in_ok-outcome-in-Missing
+returns-in_ok-outcome-in-Missing g c = λ began ready.
+    (c.in_ok-gathered.gathered, ran g (goal.at.returns-in_ok-outcome-in-Missing g c).After-deref began ready, c.in_ok-outcome-in-Missing.ensures c.args.manner.folds)

@@ -6,7 +6,8 @@ use Rattle.sq_pull.specs.Seats.{AreSeatsOf}
 use Rattle.sq_gather.specs.Gathered.{AreAllOf}
 use Rattle.sq_driver.specs.Nodes.{AllDriven}
 use Rattle.sq_driver.specs.Pumps.{AllPumpsDriven}
-use Rattle.sq_live.proofs.Driven.{written, whole_driven}
+use Rattle.sq_gather.proofs.Workers.{written}
+use Rattle.sq_run.proofs.Driven.{whole_driven}
 use Rattle.sq_thread_tests.proofs.Whole.{all_nodes, all_pumps}
 use Rattle.sq_thread_tests.proofs.tests.run.TestRun.work.Goals as goal
 
@@ -32,5 +33,5 @@ invariant_of-self g c =
     let all_nodes_are = written run.nodes.items nodes run.nodes.len (omega (arith, run.nodes.ok.0, by_nodes.count)) in
     let all_pumps_are = written run.pumps.items pumps run.pumps.len (omega (arith, run.pumps.ok.0, by_pumps.count)) in
     record {
-      whole = subst₂ (AreAllOf run.fabric) (sym all_nodes_are) (sym all_pumps_are) (whole_driven run.fabric run.nodes.items nodes run.pumps.items pumps run.whole by_nodes by_pumps);
+      whole = subst₂ (AreAllOf run.fabric) (sym all_nodes_are) (sym all_pumps_are) (whole_driven run.fabric run.nodes.items nodes run.pumps.items pumps by_nodes by_pumps run.whole);
     }

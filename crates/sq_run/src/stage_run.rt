@@ -1,0 +1,182 @@
+// A stage of a run.
+ghost use Rattle.std.specs.Prelude.{◌≡◌, ◌+◌, ◌<◌, ◌≤◌, length, IfOk, IfErr};
+ghost use Rattle.sq_schema.specs.Prelude.{TableValue};
+ghost use Rattle.sq_ranges.specs.Prelude.{OpeningValue, IsOpening, stages};
+ghost use Rattle.sq_pull.specs.declared.numbers.TheConstants.{MAX_PUMPS};
+ghost use Rattle.sq_node_model.specs.Prelude.{BeganWith, first_began, folded_opening};
+ghost use Rattle.sq_driver.specs.Nodes.{AllDriven};
+ghost use Rattle.sq_driver.specs.Pumps.{AllPumpsDriven};
+ghost use Rattle.sq_gather.specs.Reopened.{IsNextStageOf, IsFirstStageAfter};
+ghost use Rattle.sq_run.specs.StageRunValue.{BeganFrom, StaysBegun, RanFrom};
+
+use sq_driver::{Gate, run_workers};
+use sq_gather::{Gathered, Ungathered, gather, move_on, reopen};
+use sq_node::{Fabric, Node};
+use sq_pull::Pump;
+use sq_ranges::Opening;
+use std::alloc::{AllocError, Global};
+use std::marker::Model;
+use std::sync::Wait;
+use std::thread::Threads;
+
+/// A stage of a run: what its workers share, a node for each partition, and its pumps. To a contract it is a `StageRunValue`.
+#[derive(Drop)]
+pub struct StageRun {
+    fabric: Fabric,
+    nodes: Vec<Node>,
+    pumps: Vec<Pump>,
+}
+
+impl Model for StageRun {
+    ghost use Rattle.std.specs.Coded.{codes};
+    ghost use Rattle.sq_store.specs.Prelude.{store_coded};
+    ghost use Rattle.sq_gather.specs.Gathered.{AreAllOf};
+    ghost use Rattle.sq_run.specs.StageRunValue.{StageRunValue, stage_run_of};
+
+    ghost Value = { StageRunValue };
+
+    ghost coded = { Prim.hlevel (codes, store_coded) };
+
+    ghost view = { λ run. stage_run_of run.fabric run.nodes.items run.pumps.items };
+
+    ghost invariant = { λ run. AreAllOf run.fabric run.nodes.items run.pumps.items };
+}
+
+impl StageRun {
+    /// The first stage of the move of an opening, with this many pumps.
+    pub fn open(alloc: Global, opening: &Opening, pumps: u32) -> Result<StageRun, AllocError>
+        requires { pumps ≤ MAX_PUMPS }
+        ensures { IfOk result (BeganFrom opening.now (first_began opening.now)) }
+    {
+        let (fabric, nodes, pumps) = Fabric::open(alloc, opening, pumps)?;
+        // For the proof alone: what was handed in is an opening, and this is a fabric.
+        let _recon = opening.recon();
+        let _trees = fabric.trees();
+        Ok(StageRun {
+            fabric,
+            nodes,
+            pumps,
+        })
+    }
+
+    /// The same as [`StageRun::open`]. The families of each partition are made in a thread of its own, where one can be had.
+    pub fn open_in_threads<R: Threads + Sync>(
+        rt: &R,
+        alloc: Global,
+        opening: &Opening,
+        pumps: u32,
+    ) -> Result<StageRun, AllocError>
+        requires { pumps ≤ MAX_PUMPS }
+        ensures { IfOk result (BeganFrom opening.now (first_began opening.now)) }
+    {
+        let (fabric, nodes, pumps) = Fabric::open_in_threads(rt, alloc, opening, pumps)?;
+        // For the proof alone: what was handed in is an opening, and this is a fabric.
+        let _recon = opening.recon();
+        let _trees = fabric.trees();
+        Ok(StageRun {
+            fabric,
+            nodes,
+            pumps,
+        })
+    }
+
+    /// The stage after the one of which this was gathered, as [`reopen`] opens it.
+    ///
+    /// Where it doesn't have the families of as many partitions, and where there is no memory, what was gathered comes back
+    /// as it was.
+    pub fn next_stage(
+        alloc: Global,
+        opening: &Opening,
+        g: Gathered,
+        pumps: u32,
+    ) -> Result<StageRun, Gathered>
+        requires pumps { pumps ≤ MAX_PUMPS }
+        requires more { g.stage + 1 < stages opening.now.recon }
+        requires left { length g.left ≡ opening.now.old.parts }
+        ensures run { IfOk result (λ run. (table : TableValue)
+            → IsNextStageOf (folded_opening opening.now table) g run.fabric run.nodes run.pumps) }
+        ensures returned { IfErr result (λ back. back ≡ g) }
+    {
+        let (fabric, nodes, pumps) = reopen(alloc, opening, g, pumps)?;
+        Ok(StageRun {
+            fabric,
+            nodes,
+            pumps,
+        })
+    }
+
+    /// The first stage of another move, with what was gathered of the last stage of one, as [`move_on`] opens it.
+    ///
+    /// Where `next` is of another number of partitions, and where there is no memory, what was gathered comes back as it was.
+    pub fn next_move(
+        alloc: Global,
+        next: &Opening,
+        g: Gathered,
+        pumps: u32,
+    ) -> Result<StageRun, Gathered>
+        requires { pumps ≤ MAX_PUMPS }
+        ensures run { IfOk result (λ run. (table : TableValue)
+            → IsFirstStageAfter (folded_opening next.now table) g run.fabric run.nodes run.pumps) }
+        ensures returned { IfErr result (λ back. back ≡ g) }
+    {
+        let (fabric, nodes, pumps) = move_on(alloc, next, g, pumps)?;
+        Ok(StageRun {
+            fabric,
+            nodes,
+            pumps,
+        })
+    }
+
+    /// What its workers share.
+    pub fn fabric(&self) -> &Fabric
+        ensures { result.now ≡ self.now.fabric }
+    {
+        &self.fabric
+    }
+
+    /// Its nodes, in the order of their partitions.
+    pub fn nodes(&self) -> &[Node]
+        ensures { result.now ≡ self.now.nodes }
+    {
+        &self.nodes
+    }
+
+    /// Drives each node and each pump in a thread of its own, as [`run_workers`] does.
+    pub fn drive<R: Threads + Wait + Sync, G: Gate + Sync>(&mut self, rt: &R, turns: u64, gate: &G)
+        ensures fabric { self.new.fabric ≡ self.old.fabric }
+        ensures nodes { AllDriven self.old.fabric self.old.nodes self.new.nodes }
+        ensures pumps { AllPumpsDriven self.old.fabric self.old.pumps self.new.pumps }
+        ensures stays { StaysBegun self.old self.new }
+    {
+        run_workers(
+            rt,
+            &self.fabric,
+            &mut self.nodes,
+            &mut self.pumps,
+            turns,
+            gate,
+        );
+    }
+
+    /// Gathers what it left, once its threads are done, as [`gather`] does. Where there is no memory, it comes back as it was.
+    pub fn gather<R: Wait>(self, rt: &R, alloc: Global) -> Result<Gathered, StageRun>
+        ensures ran { IfOk result (λ g. (o : OpeningValue) (began : BeganWith)
+            → IsOpening o → BeganFrom o began self → RanFrom o began g) }
+        ensures returned { IfErr result (λ back. back ≡ self) }
+    {
+        match gather(rt, alloc, self.fabric, self.nodes, self.pumps) {
+            Ok(gathered) => Ok(gathered),
+            Err(
+                Ungathered {
+                    fabric,
+                    nodes,
+                    pumps,
+                },
+            ) => Err(StageRun {
+                fabric,
+                nodes,
+                pumps,
+            }),
+        }
+    }
+}
