@@ -8,3 +8,6 @@ pub mod Paging
 pub mod Basing
 pub mod Resting
 pub mod Mapping
+pub mod Divided
+pub mod Lesser
+pub mod Together

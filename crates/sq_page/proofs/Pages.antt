@@ -1,5 +1,5 @@
 -- What the audit says of a page by itself it says of the run that the page was taken of.
-use Rattle.std.proofs.Common.{◌≡◌, inl, inr, ◌+◌, ◌≤◌, lit≤, List, Contains, sym, ap, ◌∙◌, subst}
+use Rattle.std.proofs.Common.{◌≡◌, inl, inr, ◌+◌, lit≤, List, Contains, sym, ap, ◌∙◌, subst}
 use Rattle.sq_schema.specs.Family.{FamilyValue}
 use Rattle.sq_plan.specs.PlanValue.{PlanValue}
 use Rattle.sq_ranges.specs.ReconValue.{stages}
@@ -18,7 +18,7 @@ use Rattle.sq_audit.specs.declared.verdict.Verdict.TheVariants.{Sound, Unsound}
 use Rattle.sq_audit.specs.Answers.{AreAnsweredBy, AreKnown, AreAnswered, IsFamilyOf}
 use Rattle.sq_audit.specs.Sound.{IsSoundRun}
 use Rattle.sq_audit.specs.Defects.{Clears, IsFirstDefect, IsVerdict}
-use Rattle.sq_page.specs.Pages.{IsPageOf, IsAtRest, IsPlanAfter, IsAboutReceipts, SpeaksForRuns}
+use Rattle.sq_page.specs.Pages.{IsPageOf, IsAtRest, IsPlanAfter, IsAboutReceipts}
 use Rattle.sq_page.proofs.Still.{placed_within}
 use Rattle.sq_page.proofs.Last.{owner_last}
 
@@ -108,13 +108,6 @@ errs_in_receipts o g jobs (Unsound defect) p first = by defect first
     by WrongPlace first = absurd (first.found p.fit)
     by ReceiptUnknown first = lit≤ tt
     by Unanswered first = lit≤ tt
-
--- the verdict on a page at rest is that on each run that it is a page of
-pub speaks : (rest : OpeningValue) (page : GatheredValue) (plan : PlanValue) (jobs : List Job) (verdict : Verdict)
-    → ((o : OpeningValue) (g : GatheredValue) → IsPlaced o g → IsPageOf g page → IsAtRest plan page rest) → IsVerdict rest page jobs verdict → SpeaksForRuns plan page jobs verdict
-speaks rest page plan jobs verdict at_rest judged o g opening p done is after =
-    let verdict_is = verdict_in_run o rest opening g page plan p done is after (at_rest o g p is) jobs verdict judged in
-    (verdict_is, errs_in_receipts o g jobs verdict p verdict_is)
 
 -- the last stage of a move leads to its new plan
 pub plan_after_last : (o : OpeningValue) (g : GatheredValue) → IsOpening o → g.stage + 1 ≡ stages o.recon → IsPlanAfter o g o.new

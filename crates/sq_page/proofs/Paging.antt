@@ -1,5 +1,5 @@
 -- That the copies of families that receipts name are a page.
-use Rattle.std.proofs.Common.{◌≡◌, ⊎_elim, ℕ, ◌+◌, ◌<◌, ◌≤◌, ◌==◌, Bool, true, false, if◌then◌else◌, List, [], length, slice_get, Contains, Some, None, refl, sym, ap, ◌∙◌, subst, arith}
+use Rattle.std.proofs.Common.{◌≡◌, ⊎_elim, ℕ, ◌+◌, ◌<◌, ◌≤◌, ◌==◌, Bool, true, false, if◌then◌else◌, List, length, slice_get, Contains, Some, None, refl, sym, ap, ◌∙◌, subst, arith}
 use Rattle.std.specs.Prelude.{◌||◌, cond, not, option_and_then}
 use Rattle.std.specs.Ordering.{nat_cmp}
 use Rattle.std.specs.FinMap.{get}
@@ -18,13 +18,26 @@ use Rattle.sq_node_model.specs.Gathered.{GatheredLink, GatheredValue}
 use Rattle.sq_node_model.specs.Spots.{StandsAt}
 use Rattle.sq_node_model.proofs.Stands.{of_some}
 use Rattle.sq_page.specs.Pages.{AllStored, IsStill, IsPageOf}
-use Rattle.sq_page.specs.Copies.{is_wanted, wanted_of, AreCopiesOf}
+use Rattle.sq_page.specs.Copies.{is_wanted, wanted_of, IsCopyOf, AreCopiesOf}
 use Rattle.sq_page.specs.Named.{AreNamed, stored, AreCopies}
 use Rattle.sq_page.proofs.Copying.{at_within, wanted_is}
 
 or_true : (b : Bool) → (b || true) ≡ true
 or_true true = refl
 or_true false = refl
+
+-- a copy of a store, whose root keys that receipts name are among those that are wanted
+module _ (receipts : List ReceiptValue) (named : BTreeSet ℕ) (has : AreNamed receipts named) (store copy : StoreValue) (is : IsCopyOf named store copy) where
+  pub copy_same : (root : ℕ) (family : FamilyValue) → get copy root ≡ Some family → get store root ≡ Some family
+  copy_same root family stands = wanted_is named (get store root) family (sym (is.each root) ∙ stands)
+
+  pub copy_has : (receipt : ReceiptValue) (family : FamilyValue) → Contains receipts receipt → get store receipt.root ≡ Some family → get copy receipt.root ≡ Some family
+  copy_has receipt family there stands = is.each receipt.root ∙ ap (wanted_of named) stands ∙ ap (λ b. if b then Some family else None) wanted
+    where
+      wanted : is_wanted named family ≡ true
+      wanted =
+          ap (λ b. not (length family.log == 0) || b) (ap (contains nat_cmp named) (is.rooted receipt.root family stands) ∙ has receipt there)
+          ∙ or_true (not (length family.log == 0))
 
 -- the copies of all stores
 module _ (receipts : List ReceiptValue) (named : BTreeSet ℕ) (has : AreNamed receipts named) (stores copies : List StoreValue) (are : AreCopiesOf named stores copies) where
@@ -34,9 +47,8 @@ module _ (receipts : List ReceiptValue) (named : BTreeSet ℕ) (has : AreNamed r
       let low = slice_get_within copies part copy.0 copy.1 in
       let count = are.count in
       let store = at_within stores part (omega (arith, low, count)) in
-      let is = are.each part copy.0 copy.1 store.0 store.1 in
       ap (option_and_then (λ (s : StoreValue). get s root)) store.1
-      ∙ wanted_is named (get store.0 root) family (sym (is.each root) ∙ copy.2)
+      ∙ copy_same receipts named has store.0 copy.0 (are.each part copy.0 copy.1 store.0 store.1) root family copy.2
 
   copied : (receipt : ReceiptValue) (part : ℕ) (family : FamilyValue) → Contains receipts receipt → stored stores part receipt.root ≡ Some family → stored copies part receipt.root ≡ Some family
   copied receipt part family there stands =
@@ -44,14 +56,8 @@ module _ (receipts : List ReceiptValue) (named : BTreeSet ℕ) (has : AreNamed r
       let low = slice_get_within stores part store.0 store.1 in
       let count = are.count in
       let copy = at_within copies part (omega (arith, low, count)) in
-      let is = are.each part copy.0 copy.1 store.0 store.1 in
-      let own = is.rooted receipt.root family store.2 in
-      let wanted : is_wanted named family ≡ true =
-      ap (λ b. not (length family.log == 0) || b) (ap (contains nat_cmp named) own ∙ has receipt there) ∙ or_true (not (length family.log == 0)) in
       ap (option_and_then (λ (s : StoreValue). get s receipt.root)) copy.1
-      ∙ is.each receipt.root
-      ∙ ap (wanted_of named) store.2
-      ∙ ap (λ b. if b then Some family else None) wanted
+      ∙ copy_has receipts named has store.0 copy.0 (are.each part copy.0 copy.1 store.0 store.1) receipt family there store.2
 
   pub are_copies : AreCopies receipts stores copies
   are_copies = record { count = are.count; same = same; copied = copied }

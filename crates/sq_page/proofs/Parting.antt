@@ -1,5 +1,5 @@
 -- What the audits of the parts of a page say together.
-use Rattle.std.proofs.Common.{◌≡◌, inl, inr, ℕ, ◌<◌, ◌≤◌, lit<, arith, ◌==◌, Bool, true, false, List, [], ◌∷◌, filter, length, Contains, refl, sym, ap, ◌∙◌, subst, true≢false}
+use Rattle.std.proofs.Common.{◌≡◌, inl, inr, ℕ, ◌<◌, ◌≤◌, arith, ◌==◌, Bool, true, false, List, [], ◌∷◌, filter, length, Contains, refl, sym, ap, ◌∙◌, subst, true≢false}
 use Rattle.std.specs.Prelude.{◌&&◌, count_by}
 use Rattle.std.proofs.lemmas.Bool.{and_parts, eqb-true, eq-eqb}
 use Rattle.sq_schema.specs.Family.{FamilyValue}

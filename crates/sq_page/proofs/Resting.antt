@@ -1,4 +1,4 @@
--- The opening of the bases of a page's families is the page's.
+-- The opening of the bases of families of a run, where nothing moves, is theirs.
 use Rattle.std.proofs.Common.{◌≡◌, ⊎_elim, ℕ, ◌==◌, true, List, [], length, sym, ap, ◌∙◌, subst, true≢false}
 use Rattle.std.specs.Prelude.{not}
 use Rattle.sq_schema.specs.Effect.{RowList}
@@ -12,7 +12,7 @@ use Rattle.sq_node_model.specs.declared.spot.Spot.TheVariants.{Store, Chunk}
 use Rattle.sq_node_model.specs.Gathered.{GatheredLink, GatheredValue}
 use Rattle.sq_node_model.specs.Spots.{StandsAt}
 use Rattle.sq_node_model.specs.Placed.{StandOnce}
-use Rattle.sq_page.specs.Pages.{IsPageOf, IsAtRest}
+use Rattle.sq_page.specs.Pages.{IsStill, StandIn, IsAtRest}
 use Rattle.sq_page.specs.Bases.{IsOpeningOfBases}
 use Rattle.sq_page.proofs.Basing.{base_alone, bases_stand, bases_come}
 
@@ -20,16 +20,16 @@ use Rattle.sq_page.proofs.Basing.{base_alone, bases_stand, bases_come}
 none_opened : (rows : RowList) → rows ≡ [] → not (length rows == 0) ≡ true → ⊥
 none_opened rows none opened = true≢false (sym opened ∙ ap (λ (rs : RowList). not (length rs == 0)) none)
 
--- the opening of the bases of a page's families is that of the page
-module _ (plan : PlanValue) (g page : GatheredValue) (rest : OpeningValue) (is : IsPageOf g page) (once : StandOnce g) (of : IsOpeningOfBases plan page.stores rest) where
+-- of these families each stands in the run, at its spot
+module _ (plan : PlanValue) (parts : ℕ) (g page : GatheredValue) (rest : OpeningValue) (still : IsStill parts page) (within : StandIn page g) (once : StandOnce g) (of : IsOpeningOfBases plan page.stores rest) where
   bases : (spot : Spot) (root : ℕ) (family : FamilyValue) → StandsAt page spot root family → family.base ≡ opening_rows rest root
   bases (Store part) root family stands =
       sym (of.rows root
       ∙ bases_stand page.stores root part family [] stands (λ other again at.
-      let same = once (Store other) (Store part) root again family (is.taken (Store other) root again at) (is.taken (Store part) root family stands) in cc)
+      let same = once (Store other) (Store part) root again family (within (Store other) root again at) (within (Store part) root family stands) in cc)
       ∙ base_alone family)
   bases (Chunk link chunk) root family stands =
-      let e = subst (λ (ls : List GatheredLink). StandsAt (record page { links = ls }) (Chunk link chunk) root family) is.still.links stands in
+      let e = subst (λ (ls : List GatheredLink). StandsAt (record page { links = ls }) (Chunk link chunk) root family) still.links stands in
       absurd cc
 
   opened : (root : ℕ) → is_opened rest root ≡ true → (spot : Spot) × (family : FamilyValue) × StandsAt page spot root family

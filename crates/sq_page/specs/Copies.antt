@@ -1,7 +1,7 @@
 -- The families of stores that a page has copies of.
-use Rattle.std.specs.Prelude.{◌≡◌, ℕ, Bool, ◌==◌, ◌||◌, not, if◌then◌else◌, List, length, slice_get, Option, None, Some}
+use Rattle.std.specs.Prelude.{◌≡◌, ℕ, Bool, true, false, ◌==◌, ◌||◌, not, if◌then◌else◌, List, length, slice_get, Option, None, Some}
 use Rattle.std.specs.Ordering.{nat_cmp}
-use Rattle.std.specs.FinMap.{get}
+use Rattle.std.specs.FinMap.{get, empty}
 use Rattle.std.specs.BTreeSet.{BTreeSet, contains}
 use Rattle.sq_schema.specs.Family.{FamilyValue}
 use Rattle.sq_store.specs.StoreValue.{StoreValue}
@@ -29,3 +29,19 @@ IsCopyAt named stores part copy = (store : StoreValue) → slice_get stores part
 pub record AreCopiesOf (named : BTreeSet ℕ) (stores copies : List StoreValue) : Type 0 where
   pub count : length copies ≡ length stores
   pub each : (part : ℕ) (copy : StoreValue) → slice_get copies part ≡ Some copy → IsCopyAt named stores part copy
+
+-- it is a copy of the store where the store is the one, and else it is empty
+abbrev pub IsCopyOrEmpty : Bool → BTreeSet ℕ → StoreValue → StoreValue → Type 0
+IsCopyOrEmpty true named store copy = IsCopyOf named store copy
+IsCopyOrEmpty false named store copy = copy ≡ empty
+
+-- it is so of each of these and the store at its place, of which the one is at this place
+abbrev pub AreCopiesOrEmpty : BTreeSet ℕ → List StoreValue → ℕ → List StoreValue → Type 0
+AreCopiesOrEmpty named stores part copies =
+    (place : ℕ) (store copy : StoreValue)
+    → slice_get stores place ≡ Some store → slice_get copies place ≡ Some copy → IsCopyOrEmpty (place == part) named store copy
+
+-- there is a copy of the store at this place, and an empty store for each other one
+pub record AreCopiesAlone (named : BTreeSet ℕ) (stores : List StoreValue) (part : ℕ) (copies : List StoreValue) : Type 0 where
+  pub count : length copies ≡ length stores
+  pub each : AreCopiesOrEmpty named stores part copies

@@ -3,3 +3,4 @@ pub mod Parts
 pub mod Copies
 pub mod Named
 pub mod Bases
+pub mod Divided

@@ -1,7 +1,7 @@
 // Copies of families of stores.
 ghost use Rattle.std.specs.Prelude.{◌≡◌, ◌<◌, filter, map, length, Ok, IfOk};
 ghost use Rattle.sq_store.specs.Prelude.{families_in, HoldsByRoot};
-ghost use Rattle.sq_page.specs.Copies.{is_wanted, IsCopyOf, IsCopyAt, AreCopiesOf};
+ghost use Rattle.sq_page.specs.Copies.{is_wanted, IsCopyOf, IsCopyAt, AreCopiesOf, IsCopyOrEmpty, AreCopiesAlone};
 
 use crate::family::copy_family;
 use sq_runs::RunStore;
@@ -33,6 +33,39 @@ pub(crate) fn copy_each<R: Threads + Sync>(
     )?;
     let copies = all_copied(alloc, copied)?;
     Ok(copies)
+}
+
+/// Copies of the families of one of the stores that have a log or one of these root keys, in its place among empty stores.
+pub(crate) fn copy_alone(
+    alloc: Global,
+    named: &BTreeSet<Root>,
+    stores: &[RunStore],
+    part: usize,
+) -> Result<Vec<RunStore>, AllocError>
+    ensures { IfOk result (λ copies. AreCopiesAlone named.now stores.now part copies.items) }
+{
+    let mut copies = Vec::with_capacity(alloc, stores.len())?;
+    for (place, store) in stores.iter().enumerate() {
+        let copy = copy_or_empty(alloc, named, store, place == part)?;
+        copies.push(copy)?;
+    }
+    Ok(copies)
+}
+
+// The same of this store where it is the one, and else an empty store.
+fn copy_or_empty(
+    alloc: Global,
+    named: &BTreeSet<Root>,
+    store: &RunStore,
+    is_one: bool,
+) -> Result<RunStore, AllocError>
+    ensures { IfOk result (IsCopyOrEmpty is_one named.now store.now) }
+{
+    if is_one {
+        copy_store(alloc, named, store)
+    } else {
+        Ok(RunStore::new(alloc))
+    }
 }
 
 // What was copied, where all was.

@@ -2,19 +2,24 @@
 ghost use Rattle.std.specs.Prelude.{IfOk};
 ghost use Rattle.sq_audit.specs.Answers.{IdsDiffer};
 ghost use Rattle.sq_page.specs.Pages.{SpeaksForRuns};
+ghost use Rattle.sq_page.specs.Divided.{IsAudited, IsAuditedAt};
 
 use crate::bases::opening_of_bases;
+use crate::dividing::part_of;
+use crate::least::least_of;
 use crate::page::Page;
 use sq_audit::{Verdict, audit};
 use sq_plan::Plan;
 use sq_ranges::{Config, OpeningFault};
 use sq_schema::Schema;
 use std::alloc::Global;
+use std::thread;
 use std::thread::Threads;
 
 /// Whether a page of jobs whose ids differ is sound, or else its first defect, where the stage of the run that it was taken of
 /// led to this plan. That is the verdict on the run: each family of a run is where it has to be, so a defect is one of receipts
-/// or of jobs. It is refused for a fault of the sizes, and where there is no memory for it.
+/// or of jobs. Each partition's part of the page is audited in a thread of its own, where one can be had. It is refused for a
+/// fault of the sizes, and where there is no memory for it.
 pub fn audit_page<R: Threads + Sync>(
     rt: &R,
     alloc: Global,
@@ -25,6 +30,54 @@ pub fn audit_page<R: Threads + Sync>(
 ) -> Result<Verdict, OpeningFault>
     requires { IdsDiffer page.now.jobs.items }
     ensures { IfOk result (SpeaksForRuns plan.now page.now.run page.now.jobs.items) }
+{
+    let said = thread::map_indices(
+        rt,
+        alloc,
+        page.run.stores.len(),
+        &|part: usize| -> Result<Verdict, OpeningFault>
+            requires { IdsDiffer page.now.jobs.items }
+            ensures { IfOk result (IsAuditedAt plan.entry.now page.entry.now part) }
+        { audit_part(rt, alloc, schema, plan, config, page, part) },
+    );
+    let Ok(said) = said else {
+        return Err(OpeningFault::Memory);
+    };
+    let verdict = least_of(&said)?;
+    Ok(verdict)
+}
+
+// The verdict on the part of a page that is a partition's.
+fn audit_part<R: Threads + Sync>(
+    rt: &R,
+    alloc: Global,
+    schema: Schema,
+    plan: &Plan,
+    config: Config,
+    page: &Page,
+    part: usize,
+) -> Result<Verdict, OpeningFault>
+    requires { IdsDiffer page.now.jobs.items }
+    ensures { IfOk result (IsAuditedAt plan.now page.now part) }
+{
+    let Ok(ours) = part_of(alloc, plan, page, part) else {
+        return Err(OpeningFault::Memory);
+    };
+    let verdict = judge(rt, alloc, schema, plan, config, &ours)?;
+    Ok(verdict)
+}
+
+// The verdict on a page of jobs whose ids differ, under the opening of the bases of its families.
+fn judge<R: Threads + Sync>(
+    rt: &R,
+    alloc: Global,
+    schema: Schema,
+    plan: &Plan,
+    config: Config,
+    page: &Page,
+) -> Result<Verdict, OpeningFault>
+    requires { IdsDiffer page.now.jobs.items }
+    ensures { IfOk result (IsAudited plan.now page.now) }
 {
     let rest = opening_of_bases(alloc, schema, plan, config, &page.run.stores)?;
     match audit(rt, &rest, &page.run, &page.jobs) {

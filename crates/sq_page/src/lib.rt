@@ -3,10 +3,12 @@
 
 mod bases;
 mod copies;
+mod dividing;
 mod family;
 mod folding;
 mod judging;
 pub mod laws;
+mod least;
 mod named;
 mod page;
 mod taking;

@@ -25,8 +25,8 @@ pub(crate) fn copy_named<R: Threads + Sync>(
     Ok(copies)
 }
 
-// The root keys that receipts name.
-fn named_roots(alloc: Global, receipts: &[Receipt]) -> Result<BTreeSet<Root>, AllocError>
+/// The root keys that receipts name.
+pub(crate) fn named_roots(alloc: Global, receipts: &[Receipt]) -> Result<BTreeSet<Root>, AllocError>
     ensures { IfOk result (AreNamed receipts.now) }
 {
     let mut named = BTreeSet::new(alloc);

@@ -1,25 +1,18 @@
-use Rattle.std.proofs.Common.{List, sym, ap, ◌∙◌, subst}
-use Rattle.sq_store.specs.StoreValue.{StoreValue}
-use Rattle.sq_audit.specs.declared.job.Job.{Job}
-use Rattle.sq_audit.specs.Answers.{IdsDiffer}
-use Rattle.sq_audit.specs.Defects.{IsVerdict}
+use Rattle.std.proofs.Common.{List, Result, length, sym, ap, ◌∙◌, subst, arith}
+use Rattle.sq_ranges.specs.declared.fault.OpeningFault.{OpeningFault}
+use Rattle.sq_audit.specs.declared.verdict.Verdict.{Verdict}
 use Rattle.sq_page.specs.declared.page.Page.{Page}
-use Rattle.sq_page.specs.Bases.{IsOpeningOfBases}
-use Rattle.sq_page.proofs.Resting.{at_rest}
-use Rattle.sq_page.proofs.Pages.{speaks}
+use Rattle.sq_page.specs.Divided.{IsLeastOf}
+use Rattle.sq_page.proofs.Together.{are_audited, speak_together}
 use Rattle.sq_page.proofs.judging.audit_page.Goals as goal
 
-pub audit-requires-after_bounds : goal.audit-requires-after_bounds
-audit-requires-after_bounds g c κs within = subst IdsDiffer (sym (c.deref-2.ensures.value ∙ ap (λ (v : Page). v.jobs.items) c.page.view_is)) c.requires
-
-pub returns-in-Ok : goal.returns-in-Ok
-returns-in-Ok g c =
+pub returns : goal.returns
+returns g c =
     let plan = c.args.plan.now in
-    let page = c.args.page.now.run in
-    let rest = c.in_ok-rest.rest in
-    let stores = c.deref.ensures.value ∙ ap (λ (v : Page). v.run.stores) c.page.view_is in
-    let jobs = c.deref-2.ensures.value ∙ ap (λ (v : Page). v.jobs.items) c.page.view_is in
-    let opening = subst (λ (ss : List StoreValue). IsOpeningOfBases plan ss rest) stores c.in_ok-rest.ensures in
-    speaks rest page plan c.args.page.now.jobs.items c.in-Ok.verdict
-    (λ o g placed is. at_rest plan g page rest is placed.once opening)
-    (subst (λ (js : List Job). IsVerdict rest page js c.in-Ok.verdict) jobs c.in-Ok.ensures)
+    let page = c.args.page.now in
+    let said = c.in-Ok.said.items in
+    let stores = c.len.ensures ∙ c.page.inside.0.0.stores.ok.0 ∙ ap (λ (v : Page). length v.run.stores) c.page.view_is in
+    let count = sym c.in-Ok.said.ok.0 ∙ c.in-Ok.ensures.len ∙ stores in
+    speak_together plan page said c.in_ok-verdict.verdict
+    (are_audited plan page said count (λ n d low. let one = (c.in-Ok.ensures.each n d (omega (arith, low, count))).1 in one.met))
+    (subst (λ (all : List (Result Verdict OpeningFault)). IsLeastOf all c.in_ok-verdict.verdict) c.deref.ensures.value c.in_ok-verdict.ensures)
