@@ -1,0 +1,3 @@
+mod Sets
+mod Longer
+mod Interleavings
