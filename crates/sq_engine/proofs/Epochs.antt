@@ -2,6 +2,8 @@
 use Rattle.std.proofs.Common.{◌≡◌, inl, inr, ℕ, ◌+◌, ◌<◌, List, [], ◌∷◌, ◌++◌, length, refl, sym, ap, ◌∙◌, subst, append_assoc}
 use Rattle.std.proofs.lemmas.List.{append-nil}
 use Rattle.std.specs.List.{flat_map}
+use Rattle.sq_schema.specs.Table.{TableValue}
+use Rattle.sq_plan.specs.PlanValue.{PlanValue}
 use Rattle.sq_ranges.specs.ReconValue.{ReconValue, stages}
 use Rattle.sq_ranges.specs.OpeningValue.{OpeningValue}
 use Rattle.sq_ranges.specs.Opening.{IsOpening}
@@ -11,21 +13,23 @@ use Rattle.sq_node_model.specs.NodeValue.{ReceiptValue}
 use Rattle.sq_node_model.specs.BeganWith.{BeganWith, first_began, CanBegin}
 use Rattle.sq_node_model.specs.Gathered.{GatheredValue}
 use Rattle.sq_node_model.specs.Placed.{IsPlaced, GoOn}
-use Rattle.sq_node_model.specs.Next.{IsStageDone, IsNextMove, next_began, onward_began}
+use Rattle.sq_node_model.specs.Next.{IsStageDone, onward_began}
+use Rattle.sq_node_model.specs.Folded.{folded_opening}
 use Rattle.sq_node.specs.FabricValue.{FabricValue, HasBegun}
 use Rattle.sq_node.specs.NodeState.{NodeState}
 use Rattle.sq_node.specs.Opened.{IsFabricOf}
 use Rattle.sq_driver.specs.Nodes.{AllDriven}
 use Rattle.sq_driver.specs.Pumps.{AllPumpsDriven}
 use Rattle.sq_gather.specs.Gathered.{AllHold, IsGathered}
-use Rattle.sq_gather.specs.Reopened.{IsRunInStage}
-use Rattle.sq_gather.proofs.Running.{run_goes_on, all_hold}
+use Rattle.sq_gather.specs.Reopened.{IsRunInStage, IsNextStageOf, IsFirstStageAfter}
+use Rattle.sq_gather.proofs.Running.{run_goes_on, all_hold, rowless_opening}
 use Rattle.sq_gather.proofs.Workers.{each_stays, each_pump_stays}
 use Rattle.sq_audit.specs.declared.job.Job.{Job}
-use Rattle.sq_audit.specs.declared.folded.Folded.{Folded}
-use Rattle.sq_audit.specs.Folding.{IsFold}
+use Rattle.sq_audit.specs.Folding.{jobs_left}
+use Rattle.sq_page.specs.Pages.{left_opening, left_gathered}
+use Rattle.sq_page.proofs.Leaving.{left_placed}
 use Rattle.sq_engine.specs.Values.{EpochValue, PauseValue}
-use Rattle.sq_engine.specs.History.{StartValue, first_start, stage_start, onward_opening, move_start, HasMoreStages, HasDoneStage, HaveGrown, IsRunning, HasLeft, OnlyDriven, FoldsTo, StartsAfter, HaveCome, RunsAfter, IsDueAfter}
+use Rattle.sq_engine.specs.History.{StartValue, first_start, stage_start, onward_opening, move_start, HasMoreStages, IsLastStage, HasDoneStage, HaveGrown, IsRunning, HasLeft, OnlyDriven, Episode, EpochEnded, PageTaken, pause_after, Follows, IsInForce, with_other_rows, IsLeftByPage, StartsAfter, HaveCome, EndsEpochAfter, RunsAfter, PausesAfter, GoesOnAfterPage, IsDueFrom, IsDueAfter}
 
 -- workers were handed out as they were, driven, and put back
 pub only_driven : (old : EpochValue) (given after nodes : List NodeState) (handed then pumps : List PumpValue)
@@ -46,80 +50,99 @@ none_posted : (jobs : List Job) → HaveGrown jobs jobs
 none_posted jobs = ([], sym (append-nil jobs))
 
 -- what an epoch left is placed under the opening in force, and has jobs for each partition
-left_placed : (start : StartValue) (pause : PauseValue) → HasLeft start pause → IsPlaced pause.opening pause.gathered
-left_placed start pause left = subst (λ (o : OpeningValue). IsPlaced o pause.gathered) (sym left.opening) left.placed
+ran_placed : (start : StartValue) (pause : PauseValue) → HasLeft start pause → IsPlaced pause.opening pause.gathered
+ran_placed start pause left = subst (λ (o : OpeningValue). IsPlaced o pause.gathered) (sym left.opening) left.placed
 
 left_whole : (start : StartValue) (pause : PauseValue) → HasLeft start pause → length pause.gathered.left ≡ pause.opening.old.parts
 left_whole start pause left = left.all_left ∙ ap (λ (o : OpeningValue). o.old.parts) (sym left.opening)
 
--- what a fold gave is gone on with
-pub folds_to : (old new : PauseValue) (folded : Folded) (jobs : List Job) → IsFold old.opening old.gathered jobs folded → jobs ≡ old.jobs
-    → new.opening ≡ folded.opening → new.jobs ≡ folded.jobs.items → new.gathered ≡ folded.gathered → FoldsTo old new
-folds_to old new folded jobs is same opening left gathered = record {
-  folded = folded;
-  is = subst (λ (list : List Job). IsFold old.opening old.gathered list folded) same is;
-  opening = opening;
-  jobs = left;
-  gathered = gathered;
-}
+-- the opening in force is one, since that in memory is
+pub force_is : (kept o : OpeningValue) → IsInForce kept o → IsOpening kept → IsOpening o
+force_is kept o same is = subst IsOpening (sym same) (rowless_opening kept o.table is)
 
-module _ (old new : PauseValue) (folds : FoldsTo old new) where
-  folded_placed : IsPlaced new.opening new.gathered
-  folded_placed =
-      subst (λ (p : OpeningValue × GatheredValue). IsPlaced p.0 p.1) (λ i. (sym folds.opening i, sym folds.gathered i)) folds.is.placed
+module _ (old new : PauseValue) (page : IsLeftByPage old new) where
+  page_placed : IsPlaced old.opening old.gathered → IsPlaced new.opening new.gathered
+  page_placed placed =
+      subst (λ (p : OpeningValue × GatheredValue). IsPlaced p.0 p.1)
+      (λ i. (sym page.opening i, sym page.gathered i)) (left_placed old.opening page.was old.gathered placed page.done)
 
   -- the plans, what moves and the stage stay, and so do the jobs that are left
-  folded_recon : new.opening.recon ≡ old.opening.recon
-  folded_recon = ap (λ (o : OpeningValue). o.recon) folds.opening ∙ ap (λ (o : OpeningValue). o.recon) folds.is.opening
+  page_recon : new.opening.recon ≡ old.opening.recon
+  page_recon = ap (λ (o : OpeningValue). o.recon) page.opening
 
-  folded_parts : new.opening.old.parts ≡ old.opening.old.parts
-  folded_parts = ap (λ (o : OpeningValue). o.old.parts) folds.opening ∙ ap (λ (o : OpeningValue). o.old.parts) folds.is.opening
+  page_parts : new.opening.old.parts ≡ old.opening.old.parts
+  page_parts = ap (λ (o : OpeningValue). o.old.parts) page.opening
 
-  folded_stage : new.gathered.stage ≡ old.gathered.stage
-  folded_stage = ap (λ (g : GatheredValue). g.stage) folds.gathered ∙ ap (λ (g : GatheredValue). g.stage) folds.is.gathered
+  page_stage : new.gathered.stage ≡ old.gathered.stage
+  page_stage = ap (λ (g : GatheredValue). g.stage) page.gathered
 
-  folded_left : length new.gathered.left ≡ length old.gathered.left
-  folded_left = ap (λ (g : GatheredValue). length g.left) folds.gathered ∙ ap (λ (g : GatheredValue). length g.left) folds.is.gathered
+  page_left : length new.gathered.left ≡ length old.gathered.left
+  page_left = ap (λ (g : GatheredValue). length g.left) page.gathered
 
 module _ (o : OpeningValue) where
-  -- what was gathered is placed under the opening in force
-  pub placed_there : (past : List PauseValue) (pause : PauseValue) → HaveCome o (pause ∷ past) → IsPlaced pause.opening pause.gathered
-  placed_there [] pause come = elim come.1 [ inl ran ↦ left_placed ran.0 pause ran.2 | inr none ↦ absurd none ]
-  placed_there (before ∷ earlier) pause come = elim come.1 [ inl ran ↦ left_placed ran.0 pause ran.2 | inr folds ↦ folded_placed before pause folds ]
+  -- after each episode what was gathered is placed under the opening in force
+  pub placed_there : (earlier : List Episode) (episode : Episode) → HaveCome o (episode ∷ earlier)
+      → IsPlaced (pause_after episode).opening (pause_after episode).gathered
+  placed_there [] (EpochEnded pause) come = ran_placed come.1.0 pause come.1.2
+  placed_there [] (PageTaken pause) come = absurd come.1
+  placed_there (before ∷ earlier) (EpochEnded pause) come = ran_placed come.1.0 pause come.1.2
+  placed_there (before ∷ earlier) (PageTaken pause) come =
+      page_placed (pause_after before) pause come.1 (placed_there earlier before come.0)
 
-  -- for each partition there are the jobs that are left
-  pub all_left : (past : List PauseValue) (pause : PauseValue) → HaveCome o (pause ∷ past) → length pause.gathered.left ≡ pause.opening.old.parts
-  all_left [] pause come = elim come.1 [ inl ran ↦ left_whole ran.0 pause ran.2 | inr none ↦ absurd none ]
-  all_left (before ∷ earlier) pause come =
-      elim come.1 [
-        | inl ran ↦ left_whole ran.0 pause ran.2
-        | inr folds ↦ folded_left before pause folds ∙ all_left earlier before come.0 ∙ sym (folded_parts before pause folds)
-      ]
+  -- and for each partition there are the jobs that are left
+  left_there : (earlier : List Episode) (episode : Episode) → HaveCome o (episode ∷ earlier)
+      → length (pause_after episode).gathered.left ≡ (pause_after episode).opening.old.parts
+  left_there [] (EpochEnded pause) come = left_whole come.1.0 pause come.1.2
+  left_there [] (PageTaken pause) come = absurd come.1
+  left_there (before ∷ earlier) (EpochEnded pause) come = left_whole come.1.0 pause come.1.2
+  left_there (before ∷ earlier) (PageTaken pause) come =
+      page_left (pause_after before) pause come.1 ∙ left_there earlier before come.0 ∙ sym (page_parts (pause_after before) pause come.1)
 
   -- an epoch begins in one of the stages
-  begins_within : (past : List PauseValue) (start : StartValue) → StartsAfter o past start → start.began.stage < stages start.opening.recon
+  begins_within : (past : List Episode) (start : StartValue) → StartsAfter o past start → start.began.stage < stages start.opening.recon
   begins_within [] start begins = subst (λ (s : StartValue). s.began.stage < stages s.opening.recon) (sym begins) (some_stage o.recon)
-  begins_within (pause ∷ earlier) start follows =
+  begins_within (episode ∷ earlier) start follows =
       elim follows.1 [
         | inl next ↦ subst (λ (s : StartValue). s.began.stage < stages s.opening.recon) (sym next.1) next.0
-        | inr move ↦ subst (λ (s : StartValue). s.began.stage < stages s.opening.recon) (sym move.2) (some_stage (onward_opening pause.opening move.1).recon)
+        | inr move ↦
+            subst (λ (s : StartValue). s.began.stage < stages s.opening.recon) (sym move.2)
+            (some_stage (onward_opening (pause_after episode).opening move.1).recon)
       ]
 
-  left_within : (past : List PauseValue) (start : StartValue) (pause : PauseValue) → StartsAfter o past start → HasLeft start pause → pause.gathered.stage < stages pause.opening.recon
+  left_within : (past : List Episode) (start : StartValue) (pause : PauseValue) → StartsAfter o past start → HasLeft start pause → pause.gathered.stage < stages pause.opening.recon
   left_within past start pause begins left =
       subst (λ (p : ℕ × ReconValue). p.0 < stages p.1)
       (λ i. (sym left.stage i, ap (λ (a : OpeningValue). a.recon) (sym left.opening) i)) (begins_within past start begins)
 
-  -- it was gathered in one of the stages
-  pub stage_within : (past : List PauseValue) (pause : PauseValue) → HaveCome o (pause ∷ past) → pause.gathered.stage < stages pause.opening.recon
-  stage_within [] pause come = elim come.1 [ inl ran ↦ left_within [] ran.0 pause ran.1 ran.2 | inr none ↦ absurd none ]
-  stage_within (before ∷ earlier) pause come =
-      elim come.1 [
-        | inl ran ↦ left_within (before ∷ earlier) ran.0 pause ran.1 ran.2
-        | inr folds ↦
-            subst (λ (p : ℕ × ReconValue). p.0 < stages p.1)
-            (λ i. (sym (folded_stage before pause folds) i, sym (folded_recon before pause folds) i)) (stage_within earlier before come.0)
-      ]
+  -- what was gathered is of one of the stages
+  stage_there : (earlier : List Episode) (episode : Episode) → HaveCome o (episode ∷ earlier)
+      → (pause_after episode).gathered.stage < stages (pause_after episode).opening.recon
+  stage_there [] (EpochEnded pause) come = left_within [] come.1.0 pause come.1.1 come.1.2
+  stage_there [] (PageTaken pause) come = absurd come.1
+  stage_there (before ∷ earlier) (EpochEnded pause) come = left_within (before ∷ earlier) come.1.0 pause come.1.1 come.1.2
+  stage_there (before ∷ earlier) (PageTaken pause) come =
+      let was = pause_after before in
+      subst (λ (p : ℕ × ReconValue). p.0 < stages p.1)
+      (λ i. (sym (page_stage was pause come.1) i, sym (page_recon was pause come.1) i)) (stage_there earlier before come.0)
+
+  -- so it is at a pause, whatever rows the opening in memory has
+  pub pause_placed : (past : List Episode) (pause : PauseValue) → PausesAfter o past pause
+      → (table : TableValue) × IsPlaced (folded_opening pause.opening table) pause.gathered
+  pause_placed [] pause at = absurd at.1
+  pause_placed (episode ∷ earlier) pause at = (
+    (pause_after episode).opening.table,
+    subst (λ (p : PauseValue). IsPlaced p.opening p.gathered) at.1 (placed_there earlier episode at.0),
+  )
+
+  pub all_left : (past : List Episode) (pause : PauseValue) → PausesAfter o past pause → length pause.gathered.left ≡ pause.opening.old.parts
+  all_left [] pause at = absurd at.1
+  all_left (episode ∷ earlier) pause at =
+      subst (λ (p : PauseValue). length p.gathered.left ≡ p.opening.old.parts) at.1 (left_there earlier episode at.0)
+
+  pub stage_within : (past : List Episode) (pause : PauseValue) → PausesAfter o past pause → pause.gathered.stage < stages pause.opening.recon
+  stage_within [] pause at = absurd at.1
+  stage_within (episode ∷ earlier) pause at =
+      subst (λ (p : PauseValue). p.gathered.stage < stages p.opening.recon) at.1 (stage_there earlier episode at.0)
 
   -- the first epoch
   pub opened_runs : (fabric : FabricValue) (nodes : List NodeState) (pumps : List PumpValue) → IsRunInStage o (first_began o) fabric nodes pumps
@@ -127,7 +150,7 @@ module _ (o : OpeningValue) where
   opened_runs fabric nodes pumps run =
       (tt, first_start o, refl, record { opening = refl; jobs = none_posted []; run = run })
 
-  module _ (past : List PauseValue) where
+  module _ (past : List Episode) where
     -- an epoch runs still once one more job was posted
     pub posted_runs : (old new : EpochValue) (job : Job) → new ≡ record old { jobs = old.jobs ++ job ∷ [] } → RunsAfter o past old → RunsAfter o past new
     posted_runs old new job is runs =
@@ -151,12 +174,12 @@ module _ (o : OpeningValue) where
     pub driven_runs : (old new : EpochValue) → IsOpening old.opening → OnlyDriven old new → RunsAfter o past old → RunsAfter o past new
     driven_runs old new is driven runs =
         let running = runs.3 in
-        let opening = subst IsOpening running.opening is in (
+        let opening = force_is old.opening runs.1.opening running.opening is in (
           runs.0,
           runs.1,
           runs.2,
           record {
-            opening = driven.opening ∙ running.opening;
+            opening = subst (λ (kept : OpeningValue). IsInForce kept runs.1.opening) (sym driven.opening) running.opening;
             jobs = (running.jobs.0, driven.jobs ∙ running.jobs.1);
             run = subst (λ (fabric : FabricValue). IsRunInStage runs.1.opening runs.1.began fabric new.nodes new.pumps) (sym driven.fabric)
                 (run_goes_on runs.1.opening runs.1.began old.fabric old.nodes new.nodes old.pumps new.pumps opening running.run
@@ -169,54 +192,89 @@ module _ (o : OpeningValue) where
     pub gathered_comes : (epoch : EpochValue) (g : GatheredValue) → IsOpening epoch.opening → RunsAfter o past epoch → IsGathered epoch.fabric epoch.nodes epoch.pumps g
         → ((o : OpeningValue) (began : BeganWith) → IsOpening o → IsFabricOf o epoch.fabric → HasBegun began epoch.fabric → CanBegin o began → AllHold o began epoch.nodes → IsPlaced o g)
         → ((o : OpeningValue) (began : BeganWith) → IsOpening o → IsFabricOf o epoch.fabric → HasBegun began epoch.fabric → CanBegin o began → AllHold o began epoch.nodes → GoOn began g)
-        → HaveCome o (record { opening = epoch.opening; jobs = epoch.jobs; gathered = g } ∷ past)
+        → EndsEpochAfter o past (record { opening = epoch.opening; jobs = epoch.jobs; gathered = g })
     gathered_comes epoch g is runs gathered placed grows =
         let start = runs.1 in
         let running = runs.3 in
         let run = running.run in
-        let opening = subst IsOpening running.opening is in
+        let opening = force_is epoch.opening start.opening running.opening is in
         let hold = all_hold start.opening start.began epoch.nodes run.hold in (
-          runs.0,
-          inl (
-            start,
-            runs.2,
-            record {
-              opening = running.opening;
-              jobs = running.jobs;
-              stage = gathered.stage ∙ sym run.begun.stage;
-              placed = placed start.opening start.began opening run.shared run.begun run.can hold;
-              goes_on = grows start.opening start.began opening run.shared run.begun run.can hold;
-              written = flat_map (λ (node : NodeState). node.receipts) epoch.nodes;
-              receipts = gathered.receipts ∙ ap (λ (list : List ReceiptValue). list ++ flat_map (λ (node : NodeState). node.receipts) epoch.nodes) (sym run.begun.receipts);
-              all_left = gathered.left ∙ run.shared.parts;
-            },
+          start.opening.table,
+          (
+            (
+              runs.0,
+              (
+                start,
+                runs.2,
+                record {
+                  opening = sym running.opening;
+                  jobs = running.jobs;
+                  stage = gathered.stage ∙ sym run.begun.stage;
+                  placed = placed start.opening start.began opening run.shared run.begun run.can hold;
+                  goes_on = grows start.opening start.began opening run.shared run.begun run.can hold;
+                  written = flat_map (λ (node : NodeState). node.receipts) epoch.nodes;
+                  receipts = gathered.receipts ∙ ap (λ (list : List ReceiptValue). list ++ flat_map (λ (node : NodeState). node.receipts) epoch.nodes) (sym run.begun.receipts);
+                  all_left = gathered.left ∙ run.shared.parts;
+                },
+              ),
+            ),
+            refl,
           ),
         )
 
-    -- the next stage runs
-    pub stage_runs : (pause : PauseValue) (fabric : FabricValue) (nodes : List NodeState) (pumps : List PumpValue) → HaveCome o (pause ∷ past) → HasDoneStage pause → HasMoreStages pause
-        → IsRunInStage pause.opening (next_began pause.opening pause.gathered) fabric nodes pumps
-        → RunsAfter o (pause ∷ past) (record { opening = pause.opening; jobs = pause.jobs; fabric = fabric; nodes = nodes; pumps = pumps })
-    stage_runs pause fabric nodes pumps come done more run =
-        (come, stage_start pause, (done, inl (more, refl)), record { opening = refl; jobs = none_posted pause.jobs; run = run })
+  -- the next stage runs
+  pub stage_runs : (past : List Episode) (pause : PauseValue) (fabric : FabricValue) (nodes : List NodeState) (pumps : List PumpValue)
+      → PausesAfter o past pause → HasDoneStage pause → HasMoreStages pause
+      → ((rows : TableValue) → IsNextStageOf (folded_opening pause.opening rows) pause.gathered fabric nodes pumps)
+      → RunsAfter o past (record { opening = pause.opening; jobs = pause.jobs; fabric = fabric; nodes = nodes; pumps = pumps })
+  stage_runs [] pause fabric nodes pumps at done more runs = absurd at.1
+  stage_runs (episode ∷ earlier) pause fabric nodes pumps at done more runs =
+      let table = (pause_after episode).opening.table in
+      let here = with_other_rows pause table in
+      let placed = subst (λ (p : PauseValue). IsPlaced p.opening p.gathered) at.1 (placed_there earlier episode at.0) in (
+        at.0,
+        stage_start here,
+        subst (λ (p : PauseValue). Follows p (stage_start here)) (sym at.1) (done, inl (more, refl)),
+        record { opening = refl; jobs = none_posted pause.jobs; run = runs table placed done },
+      )
+
+  -- a move to a plan is due after a pause
+  pub is_due : (past : List Episode) (pause due : PauseValue) (plan : PlanValue) → IsOpening pause.opening → HasDoneStage pause → IsLastStage pause
+      → due.opening ≡ onward_opening pause.opening plan → due.jobs ≡ pause.jobs → due.gathered ≡ pause.gathered
+      → PausesAfter o past pause → IsDueAfter o past due
+  is_due [] pause due plan is done last opening jobs gathered at = absurd at.1
+  is_due (episode ∷ earlier) pause due plan is done last opening jobs gathered at =
+      let table = (pause_after episode).opening.table in (
+        at.0,
+        subst (λ (p : PauseValue). IsDueFrom p due) (sym at.1)
+            (record {
+              was = rowless_opening pause.opening table is;
+              done = done;
+              last = last;
+              plan = plan;
+              opening = ap (λ (a : OpeningValue). folded_opening a table) (sym opening);
+              jobs = jobs;
+              gathered = gathered;
+            }),
+      )
 
   -- the first stage of a move that was due runs
-  pub move_runs : (past : List PauseValue) (due : PauseValue) (fabric : FabricValue) (nodes : List NodeState) (pumps : List PumpValue) → IsDueAfter o past due
-      → ((was : OpeningValue) → IsOpening was → IsPlaced was due.gathered → IsStageDone was due.gathered → IsNextMove was due.gathered due.opening
-      → IsRunInStage due.opening (onward_began was due.gathered) fabric nodes pumps)
+  pub move_runs : (past : List Episode) (due : PauseValue) (fabric : FabricValue) (nodes : List NodeState) (pumps : List PumpValue) → IsDueAfter o past due
+      → ((rows : TableValue) → IsFirstStageAfter (folded_opening due.opening rows) due.gathered fabric nodes pumps)
       → RunsAfter o past (record { opening = due.opening; jobs = due.jobs; fabric = fabric; nodes = nodes; pumps = pumps })
   move_runs [] due fabric nodes pumps none runs = absurd none
-  move_runs (pause ∷ past) due fabric nodes pumps follows runs =
+  move_runs (episode ∷ earlier) due fabric nodes pumps follows runs =
+      let pause = pause_after episode in
       let come = follows.0 in
       let is = follows.1 in
       let plan = is.plan in
-      let run = runs pause.opening is.was
-      (subst (λ (g : GatheredValue). IsPlaced pause.opening g) (sym is.gathered) (placed_there past pause come))
+      let run = runs pause.opening.table pause.opening is.was
+      (subst (λ (g : GatheredValue). IsPlaced pause.opening g) (sym is.gathered) (placed_there earlier episode come))
       (subst (λ (g : GatheredValue). IsStageDone pause.opening g) (sym is.gathered) is.done)
       (record {
         last = ap (λ (g : GatheredValue). g.stage + 1) is.gathered ∙ is.last;
-        plan = ap (λ (a : OpeningValue). a.old) is.opening;
-        rows = ap (λ (a : OpeningValue). a.table) is.opening;
+        plan = ap (λ (a : OpeningValue). a.old) (sym is.opening);
+        rows = refl;
       }) in (
         come,
         move_start pause plan,
@@ -224,6 +282,31 @@ module _ (o : OpeningValue) where
         record {
           opening = is.opening;
           jobs = ([], is.jobs ∙ sym (append-nil pause.jobs));
-          run = subst (λ (p : OpeningValue × GatheredValue). IsRunInStage p.0 (onward_began pause.opening p.1) fabric nodes pumps) (λ i. (is.opening i, is.gathered i)) run;
+          run = subst (λ (p : OpeningValue × GatheredValue). IsRunInStage p.0 (onward_began pause.opening p.1) fabric nodes pumps) (λ i. (sym is.opening i, is.gathered i)) run;
         },
+      )
+
+  -- a page was taken of a pause, and what it left goes on
+  pub page_follows : (past : List Episode) (pause left : PauseValue) → IsOpening pause.opening → HasDoneStage pause
+      → left.opening ≡ pause.opening → left.jobs ≡ jobs_left pause.gathered.receipts pause.jobs → left.gathered ≡ left_gathered pause.gathered
+      → PausesAfter o past pause → GoesOnAfterPage o past left
+  page_follows [] pause left is done opening jobs gathered at = absurd at.1
+  page_follows (episode ∷ earlier) pause left is done opening jobs gathered at =
+      let table = (pause_after episode).opening.table in
+      let rows = (left_opening pause.opening pause.gathered).table in (
+        rows,
+        (
+          (
+            at.0,
+            subst (λ (p : PauseValue). IsLeftByPage p (with_other_rows left rows)) (sym at.1)
+                (record {
+                  was = rowless_opening pause.opening table is;
+                  done = done;
+                  opening = ap (λ (a : OpeningValue). folded_opening a rows) opening;
+                  jobs = jobs;
+                  gathered = gathered;
+                }),
+          ),
+          refl,
+        ),
       )

@@ -1,2 +1,10 @@
 pub mod PostedIds
 pub mod Epochs
+pub mod Goings
+pub mod Endings
+pub mod Passing
+pub mod Tellers
+pub mod Resting
+pub mod Sending
+pub mod AllGiven
+pub mod ServedRuns

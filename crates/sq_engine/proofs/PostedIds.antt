@@ -3,15 +3,14 @@ use Rattle.std.proofs.Common.{◌≡◌, ⊎_elim, ◌⊎◌, inl, inr, ℕ, zer
 use Rattle.std.specs.Ordering.{nat_cmp}
 use Rattle.std.specs.BTreeSet.{BTreeSet, contains, Updates}
 use Rattle.std.specs.Cmp.{unsigned_tied}
-use Rattle.std.specs.Prelude.{not}
+use Rattle.std.specs.Prelude.{not, filter}
 use Rattle.std.proofs.lemmas.Bool.{cases_eq, ne_eqb}
 use Rattle.std.proofs.lemmas.List.Elements.{Contains-append_cases, Contains-append_left}
 use Rattle.sq_model.proofs.Lists.{Contains-cases, Contains-nothing, Contains-slice_get, slice_get-Contains, kept_in}
 use Rattle.sq_audit.specs.declared.job.Job.{Job}
 use Rattle.sq_audit.specs.Answers.{IdsDiffer}
-use Rattle.sq_node_model.specs.NodeValue.{ReceiptValue}
-use Rattle.sq_audit.specs.Folding.{has_receipt, jobs_left}
-use Rattle.sq_engine.specs.Posted.{HaveIdsAmong}
+use Rattle.sq_audit.proofs.Folds.{some_differ}
+use Rattle.sq_engine.specs.Posted.{HaveIdsAmong, KeepsOtherIds}
 
 -- what stands in a list behind which one more was put
 last_or : {X : Type 0} (xs : List X) (x y : X) (i : ℕ) → slice_get (xs ++ x ∷ []) i ≡ Some y → (slice_get xs i ≡ Some y) ⊎ ((i ≡ length xs) × (y ≡ x))
@@ -83,10 +82,30 @@ module _ (jobs : List Job) (job : Job) (old new : BTreeSet ℕ) where
         kept other.txn.id (ne_eqb job.txn.id other.txn.id apart) ∙ have.among other (Contains-append_left jobs (job ∷ []) other has);
   }
 
--- the jobs that are left have their ids among those of all
-pub ids_left : (jobs left : List Job) (receipts : List ReceiptValue) (ids : BTreeSet ℕ) → HaveIdsAmong jobs ids → left ≡ jobs_left receipts jobs → IdsDiffer left → HaveIdsAmong left ids
-ids_left jobs left receipts ids have is differ = record {
-  differ = differ;
-  among = λ job has.
-      have.among job (kept_in (λ (j : Job). not (has_receipt receipts j)) jobs job (subst (λ (list : List Job). Contains list job) is has)).0;
-}
+fails : (b : Bool) → not b ≡ true → b ≡ false
+fails false told = refl
+fails true told = sym told
+
+-- the jobs that fail a test have their ids among those of all, also without those of the jobs that pass it
+pub ids_left : (p : Job → Bool) (jobs left passed : List Job) (ids after : BTreeSet ℕ) → HaveIdsAmong jobs ids → passed ≡ filter p jobs
+    → left ≡ filter (λ job. not (p job)) jobs → KeepsOtherIds passed ids after → HaveIdsAmong left after
+ids_left p jobs left passed ids after have told is kept = subst (λ (list : List Job). HaveIdsAmong list after) (sym is) there
+  where
+    apart : (job other : Job) → Contains (filter (λ (j : Job). not (p j)) jobs) job → Contains passed other → other.txn.id ≡ job.txn.id → ⊥
+    apart job other has among same =
+        let one = kept_in (λ (j : Job). not (p j)) jobs job has in
+        let two = kept_in p jobs other (subst (λ (list : List Job). Contains list other) told among) in
+        let at = slice_get-Contains jobs job one.0 in
+        let also = slice_get-Contains jobs other two.0 in
+        let place = have.differ two.0.0 one.0.0 other job also at same in
+        let alike : Some other ≡ Some job = sym also ∙ ap (slice_get jobs) place ∙ at in
+        let equal : other ≡ job = cc in
+        true≢false (sym two.1 ∙ ap p equal ∙ fails (p job) one.1)
+
+    there : HaveIdsAmong (filter (λ (j : Job). not (p j)) jobs) after
+    there = record {
+      differ = some_differ (λ (j : Job). not (p j)) jobs have.differ;
+      among = λ job has.
+          kept job.txn.id (λ other among same. apart job other has among same)
+          ∙ have.among job (kept_in (λ (j : Job). not (p j)) jobs job has).0;
+    }

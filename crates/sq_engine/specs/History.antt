@@ -1,5 +1,7 @@
--- The epochs of an engine, one after another.
+-- The epochs of an engine, one after another. The opening in force has the rows that the logs of the families start from; the
+-- one in memory may have other rows, and is the same besides.
 use Rattle.std.specs.Prelude.{◌≡◌, ◌+◌, ◌<◌, ◌⊎◌, List, [], ◌∷◌, ◌++◌, length}
+use Rattle.sq_schema.specs.Table.{TableValue}
 use Rattle.sq_plan.specs.PlanValue.{PlanValue}
 use Rattle.sq_ranges.specs.ReconValue.{stages}
 use Rattle.sq_ranges.specs.Between.{recon_of}
@@ -9,15 +11,34 @@ use Rattle.sq_node_model.specs.NodeValue.{ReceiptValue}
 use Rattle.sq_node_model.specs.BeganWith.{BeganWith, first_began}
 use Rattle.sq_node_model.specs.Placed.{IsPlaced, GoOn}
 use Rattle.sq_node_model.specs.Next.{IsStageDone, next_began, onward_began}
+use Rattle.sq_node_model.specs.Folded.{folded_opening}
 use Rattle.sq_driver.specs.Nodes.{AllDriven}
 use Rattle.sq_driver.specs.Pumps.{AllPumpsDriven}
 use Rattle.sq_gather.specs.Reopened.{IsRunInStage}
 use Rattle.sq_audit.specs.declared.job.Job.{Job}
-use Rattle.sq_audit.specs.declared.folded.Folded.{Folded}
-use Rattle.sq_audit.specs.Folding.{IsFold}
+use Rattle.sq_audit.specs.Folding.{jobs_left}
+use Rattle.sq_page.specs.Pages.{left_opening, left_gathered}
 use Rattle.sq_engine.specs.Values.{EpochValue, PauseValue}
 
--- what an epoch begins with: the opening in force, the jobs that were posted before and not folded, and the families and receipts
+-- the opening in force, where this one is in memory
+abbrev pub IsInForce : OpeningValue → OpeningValue → Type 0
+IsInForce kept o = o ≡ folded_opening kept o.table
+
+-- a pause whose opening has these rows
+abbrev pub with_other_rows : PauseValue → TableValue → PauseValue
+with_other_rows pause table = record pause { opening = folded_opening pause.opening table }
+
+-- what becomes of an engine: an epoch ends, or a page is taken; and the pause after that, with the opening in force
+pub data Episode : Type 0 where
+  EpochEnded : (pause : PauseValue) → Episode
+  PageTaken : (pause : PauseValue) → Episode
+
+abbrev pub pause_after : Episode → PauseValue
+pause_after (EpochEnded pause) = pause
+pause_after (PageTaken pause) = pause
+
+-- what an epoch begins with: the opening in force, the jobs that were posted before and are on no page, and the families and
+-- receipts
 pub record StartValue : Type 0 where
   pub opening : OpeningValue
   pub jobs : List Job
@@ -30,7 +51,11 @@ first_start o = record { opening = o; jobs = []; began = first_began o }
 -- the next stage of the move, with what was gathered of the one before
 abbrev pub stage_start : PauseValue → StartValue
 stage_start pause =
-    record { opening = pause.opening; jobs = pause.jobs; began = next_began pause.opening pause.gathered }
+    record {
+      opening = pause.opening;
+      jobs = pause.jobs;
+      began = next_began pause.opening pause.gathered;
+    }
 
 -- the opening of a move that follows another one, to this plan: it has the same sizes and rows
 abbrev pub onward_opening : OpeningValue → PlanValue → OpeningValue
@@ -71,7 +96,7 @@ HaveGrown old new = (posted : List Job) × (new ≡ old ++ posted)
 
 -- an epoch that began so runs: its workers and what they share are a run in its stage
 pub record IsRunning (start : StartValue) (epoch : EpochValue) : Type 0 where
-  pub opening : epoch.opening ≡ start.opening
+  pub opening : IsInForce epoch.opening start.opening
   pub jobs : HaveGrown start.jobs epoch.jobs
   pub run : IsRunInStage start.opening start.began epoch.fabric epoch.nodes epoch.pumps
 
@@ -95,38 +120,59 @@ pub record OnlyDriven (old new : EpochValue) : Type 0 where
   pub nodes : AllDriven old.fabric old.nodes new.nodes
   pub pumps : AllPumpsDriven old.fabric old.pumps new.pumps
 
--- the jobs with receipts were audited and found sound, and the logs are folded: what is gone on with is what the fold gave
-pub record FoldsTo (old new : PauseValue) : Type 0 where
-  pub folded : Folded
-  pub is : IsFold old.opening old.gathered old.jobs folded
-  pub opening : new.opening ≡ folded.opening
-  pub jobs : new.jobs ≡ folded.jobs.items
-  pub gathered : new.gathered ≡ folded.gathered
+-- a page was taken of a pause whose stage is done, and this was left: the logs are folded, so that the opening in force has the rows
+-- that the families have, and the jobs without a receipt are left
+pub record IsLeftByPage (old new : PauseValue) : Type 0 where
+  pub was : IsOpening old.opening
+  pub done : HasDoneStage old
+  pub opening : new.opening ≡ left_opening old.opening old.gathered
+  pub jobs : new.jobs ≡ jobs_left old.gathered.receipts old.jobs
+  pub gathered : new.gathered ≡ left_gathered old.gathered
 
--- an epoch begins so after these pauses, the latest of which is the first of them
-abbrev pub StartsAfter : OpeningValue → List PauseValue → StartValue → Type 0
+-- an epoch begins so after these episodes, the latest of which is the first of them
+abbrev pub StartsAfter : OpeningValue → List Episode → StartValue → Type 0
 StartsAfter o [] start = start ≡ first_start o
-StartsAfter o (pause ∷ earlier) start = Follows pause start
+StartsAfter o (episode ∷ earlier) start = Follows (pause_after episode) start
 
--- the latest of these pauses was folded
-abbrev pub FoldsLatest : List PauseValue → PauseValue → Type 0
-FoldsLatest [] new = ⊥
-FoldsLatest (pause ∷ earlier) new = FoldsTo pause new
+-- an epoch began after these episodes, and left this
+abbrev pub LeftAfter : OpeningValue → List Episode → PauseValue → Type 0
+LeftAfter o past pause = (start : StartValue) × StartsAfter o past start × HasLeft start pause
 
--- an epoch began after these pauses and left this, or the latest of them was folded
-abbrev pub PausesAfter : OpeningValue → List PauseValue → PauseValue → Type 0
-PausesAfter o past pause =
-    ((start : StartValue) × StartsAfter o past start × HasLeft start pause) ⊎ FoldsLatest past pause
+-- a page was taken after the latest of these episodes, and this was left
+abbrev pub PagedAfter : List Episode → PauseValue → Type 0
+PagedAfter [] new = ⊥
+PagedAfter (episode ∷ earlier) new = IsLeftByPage (pause_after episode) new
 
--- an engine that opened with this has come by these pauses, the latest of which is the first of them
-abbrev pub HaveCome : OpeningValue → List PauseValue → Type 0
+-- an engine that opened with this has come by these episodes, the latest of which is the first of them
+abbrev pub HaveCome : OpeningValue → List Episode → Type 0
 HaveCome o [] = Unit {0}
-HaveCome o (pause ∷ earlier) = HaveCome o earlier × PausesAfter o earlier pause
+HaveCome o (EpochEnded pause ∷ earlier) = HaveCome o earlier × LeftAfter o earlier pause
+HaveCome o (PageTaken pause ∷ earlier) = HaveCome o earlier × PagedAfter earlier pause
 
--- an epoch began after these pauses, and runs
-abbrev pub RunsAfter : OpeningValue → List PauseValue → EpochValue → Type 0
+-- an epoch began after these episodes, and runs
+abbrev pub RunsAfter : OpeningValue → List Episode → EpochValue → Type 0
 RunsAfter o past epoch =
     HaveCome o past × (start : StartValue) × StartsAfter o past start × IsRunning start epoch
+
+-- the latest of these episodes ended with this pause, whatever rows its opening has
+abbrev pub LatestEndsWith : List Episode → PauseValue → Type 0
+LatestEndsWith [] pause = ⊥
+LatestEndsWith (episode ∷ earlier) pause =
+    pause_after episode ≡ with_other_rows pause (pause_after episode).opening.table
+
+-- an engine that opened with this has come by these episodes, and is at this pause
+abbrev pub PausesAfter : OpeningValue → List Episode → PauseValue → Type 0
+PausesAfter o past pause = HaveCome o past × LatestEndsWith past pause
+
+-- an epoch ended after these episodes, with this pause
+abbrev pub EndsEpochAfter : OpeningValue → List Episode → PauseValue → Type 0
+EndsEpochAfter o past pause =
+    (table : TableValue) × PausesAfter o (EpochEnded (with_other_rows pause table) ∷ past) pause
+
+-- a page was taken after these episodes, and this pause goes on
+abbrev pub GoesOnAfterPage : OpeningValue → List Episode → PauseValue → Type 0
+GoesOnAfterPage o past pause =
+    (table : TableValue) × PausesAfter o (PageTaken (with_other_rows pause table) ∷ past) pause
 
 -- a move to a plan is due after a pause, of which it has the jobs and what was gathered
 pub record IsDueFrom (pause due : PauseValue) : Type 0 where
@@ -134,21 +180,22 @@ pub record IsDueFrom (pause due : PauseValue) : Type 0 where
   pub done : HasDoneStage pause
   pub last : IsLastStage pause
   pub plan : PlanValue
-  pub opening : due.opening ≡ onward_opening pause.opening plan
+  pub opening : IsInForce due.opening (onward_opening pause.opening plan)
   pub jobs : due.jobs ≡ pause.jobs
   pub gathered : due.gathered ≡ pause.gathered
 
--- a move is due after these pauses
-abbrev pub IsDueAfter : OpeningValue → List PauseValue → PauseValue → Type 0
+-- a move is due after these episodes
+abbrev pub IsDueAfter : OpeningValue → List Episode → PauseValue → Type 0
 IsDueAfter o [] due = ⊥
-IsDueAfter o (pause ∷ earlier) due = HaveCome o (pause ∷ earlier) × IsDueFrom pause due
+IsDueAfter o (episode ∷ earlier) due =
+    HaveCome o (episode ∷ earlier) × IsDueFrom (pause_after episode) due
 
--- some epochs lead here
+-- some episodes lead here
 abbrev pub IsReachedEpoch : EpochValue → Type 0
-IsReachedEpoch epoch = (o : OpeningValue) × (past : List PauseValue) × RunsAfter o past epoch
+IsReachedEpoch epoch = (o : OpeningValue) × (past : List Episode) × RunsAfter o past epoch
 
 abbrev pub IsReachedPause : PauseValue → Type 0
-IsReachedPause pause = (o : OpeningValue) × (past : List PauseValue) × HaveCome o (pause ∷ past)
+IsReachedPause pause = (o : OpeningValue) × (past : List Episode) × PausesAfter o past pause
 
 abbrev pub IsReachedMove : PauseValue → Type 0
-IsReachedMove due = (o : OpeningValue) × (past : List PauseValue) × IsDueAfter o past due
+IsReachedMove due = (o : OpeningValue) × (past : List Episode) × IsDueAfter o past due

@@ -2,3 +2,12 @@ pub mod Posted
 pub mod Values
 pub mod History
 pub mod Outcomes
+pub mod Engine
+pub mod Taken
+pub mod Ending
+pub mod Exchanges
+pub mod Rings
+pub mod Telling
+pub mod Crew
+pub mod Serving
+pub mod Served

@@ -1,12 +1,12 @@
--- How far a move is, what is refused, and what a closed engine had.
+-- How far a move is, what a page has, and what a closed engine had.
 use Rattle.std.specs.Prelude.{◌≡◌}
-use Rattle.sq_audit.specs.Defects.{IsFirstDefect, IsVerdict}
+use Rattle.sq_audit.specs.Answers.{IdsDiffer}
 use Rattle.sq_audit.specs.Folding.{answered_jobs}
+use Rattle.sq_page.specs.declared.page.Page.{Page}
+use Rattle.sq_page.specs.Pages.{IsPageOf, left_gathered}
 use Rattle.sq_engine.specs.declared.closed.Closed.{Closed}
 use Rattle.sq_engine.specs.declared.pause.StageEnd.{StageEnd}
 use Rattle.sq_engine.specs.declared.pause.StageEnd.TheVariants.{Missing, StageDone, MoveDone}
-use Rattle.sq_engine.specs.declared.pause.NotFolded.{NotFolded}
-use Rattle.sq_engine.specs.declared.pause.NotFolded.TheVariants.{Unsound, Memory}
 use Rattle.sq_engine.specs.Values.{PauseValue}
 use Rattle.sq_engine.specs.History.{HasMoreStages, IsLastStage, HasDoneStage}
 
@@ -16,15 +16,16 @@ EndsStage pause Missing = HasDoneStage pause → ⊥
 EndsStage pause StageDone = HasDoneStage pause × HasMoreStages pause
 EndsStage pause MoveDone = HasDoneStage pause × IsLastStage pause
 
--- the jobs with receipts have this defect first, or there was no memory and all is as it was
-abbrev pub IsNotFolded : PauseValue → NotFolded → Type 0
-IsNotFolded pause (Unsound defect) =
-    IsFirstDefect pause.opening pause.gathered (answered_jobs pause.gathered.receipts pause.jobs) defect
-IsNotFolded pause (Memory back) = back ≡ pause
+-- the page is of a pause, for the jobs that have a receipt, whose ids differ
+pub record IsPageFrom (pause : PauseValue) (page : Page) : Type 0 where
+  pub run : IsPageOf pause.gathered page.run
+  pub jobs : page.jobs.items ≡ answered_jobs pause.gathered.receipts pause.jobs
+  pub differ : IdsDiffer page.jobs.items
 
--- a closed engine had what the last epoch left, and the verdict on that is the audit's
+-- a closed engine had what the last epoch left: its last page is of that, for all jobs that are on no other page
 pub record HasClosed (pause : PauseValue) (closed : Closed) : Type 0 where
   pub opening : closed.opening ≡ pause.opening
-  pub gathered : closed.gathered ≡ pause.gathered
-  pub jobs : closed.jobs.items ≡ pause.jobs
-  pub verdict : IsVerdict pause.opening pause.gathered pause.jobs closed.verdict
+  pub run : IsPageOf pause.gathered closed.page.run
+  pub jobs : closed.page.jobs.items ≡ pause.jobs
+  pub differ : IdsDiffer closed.page.jobs.items
+  pub gathered : closed.gathered ≡ left_gathered pause.gathered

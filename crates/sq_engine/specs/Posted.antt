@@ -9,3 +9,9 @@ use Rattle.sq_audit.specs.Answers.{IdsDiffer}
 pub record HaveIdsAmong (jobs : List Job) (ids : BTreeSet ℕ) : Type 0 where
   pub differ : IdsDiffer jobs
   pub among : (job : Job) → Contains jobs job → contains nat_cmp ids job.txn.id ≡ true
+
+-- the ids stay but for those of these jobs
+abbrev pub KeepsOtherIds : List Job → BTreeSet ℕ → BTreeSet ℕ → Type 0
+KeepsOtherIds jobs old new =
+    (id : ℕ) → ((job : Job) → Contains jobs job → job.txn.id ≡ id → ⊥)
+    → contains nat_cmp new id ≡ contains nat_cmp old id

@@ -1,5 +1,6 @@
 -- An engine as a value: in an epoch, and between two.
-use Rattle.std.specs.Prelude.{List}
+use Rattle.std.specs.Prelude.{ℕ, ◌==◌, List, count_by}
+use Rattle.sq_ranges.specs.ReconValue.{ReconValue, stage_in}
 use Rattle.sq_ranges.specs.OpeningValue.{OpeningValue}
 use Rattle.sq_pull.specs.Pump.{PumpValue}
 use Rattle.sq_node_model.specs.Gathered.{GatheredValue}
@@ -7,7 +8,7 @@ use Rattle.sq_node.specs.FabricValue.{FabricValue}
 use Rattle.sq_node.specs.NodeState.{NodeState}
 use Rattle.sq_audit.specs.declared.job.Job.{Job}
 
--- in an epoch: the opening in force, the jobs that were posted and not folded, what the workers share, the nodes and the pumps
+-- in an epoch: the opening in force, the jobs that were posted and are on no page, what the workers share, the nodes and the pumps
 pub record EpochValue : Type 0 where
   pub opening : OpeningValue
   pub jobs : List Job
@@ -15,8 +16,12 @@ pub record EpochValue : Type 0 where
   pub nodes : List NodeState
   pub pumps : List PumpValue
 
--- between two epochs: an opening, the jobs that were posted and not folded, and what was gathered of the last epoch
+-- between two epochs: an opening, the jobs that were posted and are on no page, and what was gathered of the last epoch
 pub record PauseValue : Type 0 where
   pub opening : OpeningValue
   pub jobs : List Job
   pub gathered : GatheredValue
+
+-- how many segments move in a stage
+abbrev pub stage_segments : ReconValue → ℕ → ℕ
+stage_segments recon stage = count_by (λ segment. stage_in recon segment == stage) recon.segments

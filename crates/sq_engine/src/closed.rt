@@ -1,17 +1,15 @@
 // A closed engine.
-use sq_audit::{Job, Verdict};
 use sq_gather::Gathered;
+use sq_page::Page;
 use sq_ranges::Opening;
 
-/// What an engine had, and what the audit says of it.
+/// What an engine had, and its last page.
 #[derive(Drop)]
 pub struct Closed {
-    /// The opening that was in force.
+    /// The opening that was in force. After a page it may have other rows than these.
     pub opening: Opening,
-    /// The families, the receipts since the logs were folded, and the jobs that weren't answered.
+    /// The last page: the receipts since the page before, and all jobs that are on no other page.
+    pub page: Page,
+    /// What the page left: the families with their logs folded, and no receipts.
     pub gathered: Gathered,
-    /// The jobs that were posted and not folded.
-    pub jobs: Vec<Job>,
-    /// Whether that is sound for these jobs, or else its first defect.
-    pub verdict: Verdict,
 }

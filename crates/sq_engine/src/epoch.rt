@@ -6,20 +6,21 @@ ghost use Rattle.sq_node.specs.Prelude.{IsNodeOf};
 ghost use Rattle.sq_driver.specs.Nodes.{AllDriven};
 ghost use Rattle.sq_driver.specs.Pumps.{AllPumpsDriven};
 ghost use Rattle.sq_audit.specs.Answers.{IdsDiffer};
-ghost use Rattle.sq_engine.specs.Values.{PauseValue};
-ghost use Rattle.sq_engine.specs.History.{RunsAfter, HaveCome, OnlyDriven};
+ghost use Rattle.sq_engine.specs.Values.{stage_segments};
+ghost use Rattle.sq_engine.specs.History.{Episode, RunsAfter, EndsEpochAfter, OnlyDriven};
 
 use crate::pause::Pause;
 use crate::posted::{PostFault, PostedJobs};
+use crate::posting::post_job;
 use sq_audit::Job;
 use sq_driver::{Gate, run_workers};
 use sq_gather::{Ungathered, gather};
 use sq_node::{Fabric, Node};
 use sq_plan::PartId;
 use sq_pull::Pump;
-use sq_ranges::Opening;
+use sq_ranges::{Opening, Recon};
 use sq_schema::Txn;
-use std::alloc::{AllocError, Global};
+use std::alloc::Global;
 use std::marker::Model;
 use std::sync::Wait;
 use std::thread::Threads;
@@ -92,7 +93,7 @@ impl Epoch {
         })
     }
 
-    /// The opening in force.
+    /// The opening in force. After a page it may have other rows than these.
     pub fn opening(&self) -> &Opening
         ensures opening { result.now ≡ self.now.opening }
         ensures set_up { IsSetUp result.now }
@@ -102,7 +103,7 @@ impl Epoch {
         &self.opening
     }
 
-    /// The jobs that were posted and not folded, in the order in which they were posted.
+    /// The jobs that were posted and are on no page, in the order in which they were posted.
     pub fn jobs(&self) -> &[Job]
         ensures jobs { result.now ≡ self.now.jobs }
         ensures differ { IdsDiffer result.now }
@@ -110,27 +111,25 @@ impl Epoch {
         self.jobs.as_slice()
     }
 
-    /// Posts a job to a partition: a copy of this transaction. It is refused where there is no such partition, where a job
-    /// that was posted before and isn't folded has its id, where the partition's queue was full at one moment of the call,
-    /// and where there is no memory; and then nothing changes. The id of a job that was folded may be refused too.
-    pub fn post<R: Wait>(&mut self, rt: &R, part: PartId, txn: &Txn) -> Result<(), PostFault>
-        ensures ok { OnOk result (self.new
-            ≡ record self.old { jobs = self.old.jobs ++ record { part = part; txn = txn.now } ∷ [] }) }
-        ensures err { OnErr result (self.new ≡ self.old) }
-        ensures history { (o : OpeningValue) (past : List PauseValue) → RunsAfter o past self.old → RunsAfter o past self.new }
+    /// How many segments move in the stage.
+    pub fn segments(&self) -> u64
+        ensures { result ≡ stage_segments self.now.opening.recon self.now.fabric.stage }
     {
-        if part.number() >= self.fabric.parts() {
-            return Err(PostFault::NoSuchPartition);
-        }
-        let Ok((kept, sent)) = copy_twice(txn) else {
-            return Err(PostFault::Memory);
-        };
-        self.jobs.add(part, kept)?;
-        if self.fabric.post(rt, part, sent).is_err() {
-            self.jobs.remove_last();
-            return Err(PostFault::QueueFull);
-        }
-        Ok(())
+        stage_segments(self.opening.recon(), self.fabric.stage())
+    }
+
+    /// Posts a job to a partition: a copy of this transaction. It is refused where there is no such partition, where a job
+    /// that was posted before and is on no page has its id, where the partition's queue was full at one moment of the call,
+    /// and where there is no memory; and then nothing changes.
+    pub fn post<R: Wait>(&mut self, rt: &R, part: PartId, txn: &Txn) -> Result<(), PostFault>
+        ensures ok { OnOk result (self.new ≡ record self.old {
+          jobs = self.old.jobs ++ record { part = part; txn = txn.now } ∷ [];
+        }) }
+        ensures err { OnErr result (self.new ≡ self.old) }
+        ensures history { (o : OpeningValue) (past : List Episode)
+            → RunsAfter o past self.old → RunsAfter o past self.new }
+    {
+        post_job(rt, &self.fabric, &mut self.jobs, part, txn)
     }
 
     /// Runs the workers: each partition and each pump in a thread of its own, for this many turns at most. All of them have
@@ -143,7 +142,8 @@ impl Epoch {
         gate: &G,
     ) -> Epoch
         ensures driven { OnlyDriven self result }
-        ensures history { (o : OpeningValue) (past : List PauseValue) → RunsAfter o past self → RunsAfter o past result }
+        ensures history { (o : OpeningValue) (past : List Episode)
+            → RunsAfter o past self → RunsAfter o past result }
     {
         let Epoch {
             opening,
@@ -155,6 +155,7 @@ impl Epoch {
         // For the proof alone: what was handed in is an opening.
         let _recon = opening.recon();
         run_workers(rt, &fabric, &mut nodes, &mut pumps, turns, gate);
+        fabric.open_jobs(rt);
         Epoch {
             opening,
             jobs,
@@ -167,7 +168,8 @@ impl Epoch {
     /// Ends the epoch: what its workers left is gathered. It is placed, whatever they did. Where there is no memory the epoch
     /// comes back as it was.
     pub fn end<R: Wait>(self, rt: &R, alloc: Global) -> Result<Pause, Epoch>
-        ensures ended { IfOk result (λ pause. (o : OpeningValue) (past : List PauseValue) → RunsAfter o past self → HaveCome o (pause ∷ past)) }
+        ensures ended { IfOk result (λ pause. (o : OpeningValue) (past : List Episode)
+            → RunsAfter o past self → EndsEpochAfter o past pause) }
         ensures opening { IfOk result (λ pause. pause.opening ≡ self.opening) }
         ensures jobs { IfOk result (λ pause. pause.jobs ≡ self.jobs) }
         ensures returned { IfErr result (λ back. back ≡ self) }
@@ -204,10 +206,16 @@ impl Epoch {
     }
 }
 
-// Two copies of a transaction.
-fn copy_twice(txn: &Txn) -> Result<(Txn, Txn), AllocError>
-    ensures { IfOk result (λ copies. (copies.0 ≡ txn.now) × (copies.1 ≡ txn.now)) }
+// How many segments move in a stage.
+fn stage_segments(recon: &Recon, stage: u64) -> u64
+    ensures { result ≡ stage_segments recon.now stage }
 {
-    let first = txn.clone()?;
-    Ok((first, txn.clone()?))
+    let segments = recon.segments();
+    let mut count: usize = 0;
+    for segment in segments {
+        if recon.stage_on(segment.src, segment.dst) == stage {
+            count += 1;
+        }
+    }
+    count as u64
 }

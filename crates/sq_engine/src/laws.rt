@@ -1,13 +1,43 @@
-//! What holds of engines. The function does nothing: it states a law, which the checker proves.
+//! What holds of engines. The functions do nothing: each states a law, which the checker proves.
 ghost use Rattle.std.specs.Prelude.{◌∷◌, List};
-ghost use Rattle.sq_ranges.specs.Prelude.{OpeningValue};
-ghost use Rattle.sq_node_model.specs.Prelude.{IsPlaced};
-ghost use Rattle.sq_engine.specs.Values.{PauseValue};
-ghost use Rattle.sq_engine.specs.History.{HaveCome};
+ghost use Rattle.sq_ranges.specs.Prelude.{OpeningValue, IsOpening};
+ghost use Rattle.sq_node_model.specs.Prelude.{GatheredValue, IsPlaced};
+ghost use Rattle.sq_audit.specs.declared.job.Job.{Job};
+ghost use Rattle.sq_audit.specs.declared.verdict.Verdict.{Verdict};
+ghost use Rattle.sq_audit.specs.Sound.{IsSoundRun};
+ghost use Rattle.sq_audit.specs.Defects.{IsVerdict};
+ghost use Rattle.sq_page.specs.Pages.{IsPageOf, SpeaksForRuns};
+ghost use Rattle.sq_engine.specs.History.{Episode, pause_after, HaveCome, IsLastStage, HasDoneStage};
+ghost use Rattle.sq_engine.specs.Ending.{paged, AllSound, EngineEndsAsPlanned};
 
 /// What an engine has come by is placed under the opening that was in force: after each epoch, whatever its threads did, and
-/// after each fold.
+/// after each page.
 pub fn what_an_engine_comes_by_is_placed()
-    ensures { (o : OpeningValue) (past : List PauseValue) (pause : PauseValue) → HaveCome o (pause ∷ past)
-        → IsPlaced pause.opening pause.gathered }
+    ensures { (o : OpeningValue) (past : List Episode) (episode : Episode)
+        → HaveCome o (episode ∷ past)
+        → IsPlaced (pause_after episode).opening (pause_after episode).gathered }
+{}
+
+/// The audit of a page that was taken after the last stage of a move speaks for what the engine had then.
+pub fn a_page_speaks_for_an_engine()
+    ensures { (o : OpeningValue) (past : List Episode) (episode : Episode)
+        (page : GatheredValue) (jobs : List Job) (verdict : Verdict)
+        → HaveCome o (episode ∷ past) → IsOpening (pause_after episode).opening
+        → HasDoneStage (pause_after episode) → IsLastStage (pause_after episode)
+        → IsPageOf (pause_after episode).gathered page
+        → SpeaksForRuns (pause_after episode).opening.new page jobs verdict
+        → IsVerdict (pause_after episode).opening (pause_after episode).gathered jobs verdict }
+{}
+
+/// A sound engine ends where it was planned: where each page was found sound, and what is left after the last stage of a move
+/// is, for all jobs that are on no page, each family is in the store of its owner by the new plan, each receipt is the answer to
+/// a job, and each job that was posted has one receipt.
+pub fn a_sound_engine_ends_where_planned()
+    ensures { (o : OpeningValue) (past : List Episode) (episode : Episode)
+        → HaveCome o (episode ∷ past) → IsOpening (pause_after episode).opening
+        → HasDoneStage (pause_after episode) → IsLastStage (pause_after episode)
+        → AllSound (paged (episode ∷ past))
+        → IsSoundRun (pause_after episode).opening (pause_after episode).gathered
+        (pause_after episode).jobs
+        → EngineEndsAsPlanned (episode ∷ past) (pause_after episode) }
 {}

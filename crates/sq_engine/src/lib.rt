@@ -1,19 +1,39 @@
 //! An engine that lasts: jobs are posted and answered while rows move, and one move follows another.
 //!
 //! It goes by epochs. An [`Epoch`] is one stage of a move, or rest, which is a move that moves nothing: jobs are posted to it,
-//! and its workers run. Once it ends, what it left is a [`Pause`]: the next stage begins with it, its logs are folded, or it is
+//! and its workers run. Once it ends, what it left is a [`Pause`]: the next stage begins with it, a page is taken of it, or it is
 //! closed. After the last stage a [`NextMove`] goes on to another plan.
+//!
+//! An [`Engine`] goes over them by itself: from stage to stage, and after the last one to rest.
 #![tactic(auto)]
 
+mod answered;
+mod client;
 mod closed;
+mod crew;
+mod engine;
 mod epoch;
+mod epoch_gate;
+mod front;
+mod gate;
 pub mod laws;
 mod next_move;
 mod pause;
 mod posted;
+mod posting;
+mod rest_page;
+mod rings;
+mod serving;
+mod standing;
+mod telling;
 
+pub use client::{Client, Command};
 pub use closed::Closed;
+pub use engine::{Engine, NotMoved, NotTaken};
 pub use epoch::Epoch;
 pub use next_move::NextMove;
-pub use pause::{NotFolded, Pause, StageEnd};
+pub use pause::{Pause, StageEnd};
 pub use posted::PostFault;
+pub use rest_page::RestPage;
+pub use serving::Served;
+pub use standing::Standing;

@@ -2,8 +2,7 @@
 ghost use Rattle.std.specs.Prelude.{◌≡◌, ◌≤◌, List, IfOk, IfErr};
 ghost use Rattle.sq_pull.specs.declared.numbers.TheConstants.{MAX_PUMPS};
 ghost use Rattle.sq_ranges.specs.Prelude.{OpeningValue, IsSetUp};
-ghost use Rattle.sq_engine.specs.Values.{PauseValue};
-ghost use Rattle.sq_engine.specs.History.{IsDueAfter, RunsAfter};
+ghost use Rattle.sq_engine.specs.History.{Episode, IsDueAfter, RunsAfter};
 
 use crate::epoch::Epoch;
 use crate::posted::PostedJobs;
@@ -33,11 +32,15 @@ impl Model for NextMove {
 
     ghost view = { λ m. record { opening = m.opening; jobs = m.jobs; gathered = m.gathered } };
 
-    ghost invariant = { λ m. IsReachedMove (record { opening = m.opening; jobs = m.jobs; gathered = m.gathered }) };
+    ghost invariant = { λ m. IsReachedMove (record {
+      opening = m.opening;
+      jobs = m.jobs;
+      gathered = m.gathered;
+    }) };
 }
 
 impl NextMove {
-    /// The opening of the move.
+    /// The opening of the move. After a page it may have other rows than these.
     pub fn opening(&self) -> &Opening
         ensures opening { result.now ≡ self.now.opening }
         ensures set_up { IsSetUp result.now }
@@ -47,10 +50,11 @@ impl NextMove {
         &self.opening
     }
 
-    /// StartsAfter the first stage of the move, with this many pumps. Where there is no memory all comes back as it was.
+    /// Begins the first stage of the move, with this many pumps. Where there is no memory all comes back as it was.
     pub fn begin(self, alloc: Global, pumps: u32) -> Result<Epoch, NextMove>
         requires { pumps ≤ MAX_PUMPS }
-        ensures begun { IfOk result (λ epoch. (o : OpeningValue) (past : List PauseValue) → IsDueAfter o past self → RunsAfter o past epoch) }
+        ensures begun { IfOk result (λ epoch. (o : OpeningValue) (past : List Episode)
+            → IsDueAfter o past self → RunsAfter o past epoch) }
         ensures opening { IfOk result (λ epoch. epoch.opening ≡ self.opening) }
         ensures jobs { IfOk result (λ epoch. epoch.jobs ≡ self.jobs) }
         ensures returned { IfErr result (λ back. back ≡ self) }

@@ -1,23 +1,27 @@
 // What an epoch left.
-ghost use Rattle.std.specs.Prelude.{◌≡◌, ◌+◌, ◌<◌, ◌≤◌, ◌∷◌, true, false, List, None, MatchResult, IfOk, IfErr};
+ghost use Rattle.std.specs.Prelude.{◌≡◌, ◌+◌, ◌<◌, ◌≤◌, true, false, List, filter, None, MatchResult, IfOk, IfErr};
+ghost use Rattle.sq_schema.specs.Prelude.{TableValue};
 ghost use Rattle.sq_pull.specs.declared.numbers.TheConstants.{MAX_PUMPS};
 ghost use Rattle.sq_ranges.specs.Prelude.{OpeningValue, IsSetUp, stages};
 ghost use Rattle.sq_ranges.specs.Refused.{config_fault, MayRefuse};
-ghost use Rattle.sq_node_model.specs.Prelude.{IsPlaced};
+ghost use Rattle.sq_node_model.specs.Prelude.{IsPlaced, folded_opening};
 ghost use Rattle.sq_audit.specs.Answers.{IdsDiffer};
-ghost use Rattle.sq_engine.specs.Values.{PauseValue};
-ghost use Rattle.sq_engine.specs.History.{HasMoreStages, IsLastStage, HasDoneStage, FoldsTo, HaveCome, RunsAfter, IsDueAfter, onward_opening};
-ghost use Rattle.sq_engine.specs.Outcomes.{EndsStage, IsNotFolded, HasClosed};
+ghost use Rattle.sq_audit.specs.Counts.{Counts, is_counted};
+ghost use Rattle.sq_engine.specs.History.{Episode, HasMoreStages, IsLastStage, HasDoneStage, RunsAfter, PausesAfter, GoesOnAfterPage, IsDueAfter, onward_opening};
+ghost use Rattle.sq_engine.specs.Outcomes.{EndsStage, IsPageFrom, HasClosed};
 
+use crate::answered::{copy_answered, count};
 use crate::closed::Closed;
 use crate::epoch::Epoch;
 use crate::next_move::NextMove;
 use crate::posted::PostedJobs;
-use sq_audit::{Defect, Job, Unfolded, audit, fold};
+use sq_audit::Job;
 use sq_gather::{Gathered, reopen};
+use sq_page::{Page, take_page};
 use sq_plan::Plan;
 use sq_ranges::{Opening, OpeningFault};
 use std::alloc::{AllocError, Global};
+use std::collections::BTreeMap;
 use std::marker::Model;
 use std::thread::Threads;
 
@@ -32,17 +36,8 @@ pub enum StageEnd {
     MoveDone,
 }
 
-/// Why nothing is folded.
-#[derive(Drop)]
-pub enum NotFolded {
-    /// The jobs that have a receipt have this defect first. What was gathered is given up.
-    Unsound(Defect),
-    /// There was no memory, and all is as it was.
-    Memory(Pause),
-}
-
 /// An engine between two epochs: what the last one left, which is placed. To a contract it is a `PauseValue`, to which some
-/// epochs lead.
+/// epochs lead, whatever rows the opening in force has.
 #[derive(Drop)]
 pub struct Pause {
     pub(crate) opening: Opening,
@@ -62,11 +57,15 @@ impl Model for Pause {
 
     ghost view = { λ p. record { opening = p.opening; jobs = p.jobs; gathered = p.gathered } };
 
-    ghost invariant = { λ p. IsReachedPause (record { opening = p.opening; jobs = p.jobs; gathered = p.gathered }) };
+    ghost invariant = { λ p. IsReachedPause (record {
+      opening = p.opening;
+      jobs = p.jobs;
+      gathered = p.gathered;
+    }) };
 }
 
 impl Pause {
-    /// The opening in force.
+    /// The opening in force. After a page it may have other rows than these.
     pub fn opening(&self) -> &Opening
         ensures opening { result.now ≡ self.now.opening }
         ensures set_up { IsSetUp result.now }
@@ -76,7 +75,7 @@ impl Pause {
         &self.opening
     }
 
-    /// The jobs that were posted and not folded, in the order in which they were posted.
+    /// The jobs that were posted and are on no page, in the order in which they were posted.
     pub fn jobs(&self) -> &[Job]
         ensures jobs { result.now ≡ self.now.jobs }
         ensures differ { IdsDiffer result.now }
@@ -87,7 +86,8 @@ impl Pause {
     /// What the last epoch left.
     pub fn gathered(&self) -> &Gathered
         ensures gathered { result.now ≡ self.now.gathered }
-        ensures placed { IsPlaced self.now.opening result.now }
+        ensures placed { (table : TableValue)
+            × IsPlaced (folded_opening self.now.opening table) result.now }
     {
         &self.gathered
     }
@@ -107,12 +107,13 @@ impl Pause {
         }
     }
 
-    /// StartsAfter the next stage of the move, with this many pumps. Where there is no memory all comes back as it was.
+    /// Begins the next stage of the move, with this many pumps. Where there is no memory all comes back as it was.
     pub fn next_stage(self, alloc: Global, pumps: u32) -> Result<Epoch, Pause>
         requires pumps { pumps ≤ MAX_PUMPS }
         requires done { HasDoneStage self }
         requires more { HasMoreStages self }
-        ensures begun { IfOk result (λ epoch. (o : OpeningValue) (past : List PauseValue) → HaveCome o (self ∷ past) → RunsAfter o (self ∷ past) epoch) }
+        ensures begun { IfOk result (λ epoch. (o : OpeningValue) (past : List Episode)
+            → PausesAfter o past self → RunsAfter o past epoch) }
         ensures opening { IfOk result (λ epoch. epoch.opening ≡ self.opening) }
         ensures jobs { IfOk result (λ epoch. epoch.jobs ≡ self.jobs) }
         ensures returned { IfErr result (λ back. back ≡ self) }
@@ -143,7 +144,8 @@ impl Pause {
     pub fn move_to(self, alloc: Global, plan: Plan) -> Result<NextMove, (OpeningFault, Pause)>
         requires done { HasDoneStage self }
         requires last { IsLastStage self }
-        ensures due { IfOk result (λ due. (o : OpeningValue) (past : List PauseValue) → HaveCome o (self ∷ past) → IsDueAfter o (self ∷ past) due) }
+        ensures due { IfOk result (λ due. (o : OpeningValue) (past : List Episode)
+            → PausesAfter o past self → IsDueAfter o past due) }
         ensures opening { IfOk result (λ due. due.opening ≡ onward_opening self.opening plan) }
         ensures jobs { IfOk result (λ due. due.jobs ≡ self.jobs) }
         ensures fault { let fault = config_fault self.opening.new plan self.opening.config in
@@ -174,54 +176,94 @@ impl Pause {
         }
     }
 
-    /// Folds the logs once the jobs that have a receipt are found sound: each family starts anew from its rows, and the jobs
-    /// without a receipt are left.
-    pub fn fold<R: Threads + Sync>(self, rt: &R, alloc: Global) -> Result<Pause, NotFolded>
+    /// Takes a page for the jobs that have a receipt: the receipts go with it, and families with their logs, as [`take_page`]
+    /// does. What goes on has the logs folded and the jobs without a receipt; the ids of the others may come again. Where there
+    /// is no memory all comes back as it was.
+    pub fn take_page<R: Threads + Sync>(self, rt: &R, alloc: Global) -> Result<(Page, Pause), Pause>
         requires { HasDoneStage self }
-        ensures folded { IfOk result (FoldsTo self) }
-        ensures history { IfOk result (λ new. (o : OpeningValue) (past : List PauseValue) → HaveCome o (self ∷ past) → HaveCome o (new ∷ self ∷ past)) }
-        ensures not_folded { IfErr result (IsNotFolded self) }
+        ensures page { IfOk result (λ taken. IsPageFrom self taken.0) }
+        ensures opening { IfOk result (λ taken. taken.1.opening ≡ self.opening) }
+        ensures history { IfOk result (λ taken. (o : OpeningValue) (past : List Episode)
+            → PausesAfter o past self → GoesOnAfterPage o past taken.1) }
+        ensures returned { IfErr result (λ back. back ≡ self) }
     {
         let Pause {
             opening,
             jobs,
             gathered,
         } = self;
-        let (jobs, ids) = jobs.into_parts();
-        match fold(rt, alloc, opening, gathered, jobs) {
-            Ok(folded) => Ok(Pause {
-                opening: folded.opening,
-                jobs: PostedJobs::from_parts(folded.jobs, ids),
-                gathered: folded.gathered,
+        // For the proof alone: what was handed in is an opening.
+        let _recon = opening.recon();
+        let Ok((counts, answered)) = answered_of(alloc, &gathered, jobs.as_slice()) else {
+            return Err(Pause {
+                opening,
+                jobs,
+                gathered,
+            });
+        };
+        match take_page(rt, alloc, gathered, answered) {
+            Ok(paged) => {
+                let jobs = jobs.without_answered(&counts, &paged.page.jobs);
+                let gathered = paged.left;
+                Ok((
+                    paged.page,
+                    Pause {
+                        opening,
+                        jobs,
+                        gathered,
+                    },
+                ))
+            }
+            Err(untaken) => Err(Pause {
+                opening,
+                jobs,
+                gathered: untaken.gathered,
             }),
-            Err(Unfolded::Unsound(defect)) => Err(NotFolded::Unsound(defect)),
-            Err(Unfolded::Memory(back)) => Err(NotFolded::Memory(Pause {
-                opening: back.opening,
-                jobs: PostedJobs::from_parts(back.jobs, ids),
-                gathered: back.gathered,
-            })),
         }
     }
 
-    /// Closes the engine: audits what the last epoch left, for all jobs that aren't folded. Where there is no memory all comes
-    /// back as it was.
-    pub fn close<R: Threads + Sync>(self, rt: &R) -> Result<Closed, Pause>
+    /// Closes the engine: takes its last page, for all jobs that are on no other one. Where there is no memory all comes back
+    /// as it was.
+    pub fn close<R: Threads + Sync>(self, rt: &R, alloc: Global) -> Result<Closed, Pause>
+        requires { HasDoneStage self }
         ensures closed { IfOk result (HasClosed self) }
         ensures returned { IfErr result (λ back. back ≡ self) }
     {
-        match audit(rt, &self.opening, &self.gathered, self.jobs.as_slice()) {
-            Ok(verdict) => {
-                let (jobs, _ids) = self.jobs.into_parts();
-                Ok(Closed {
-                    opening: self.opening,
-                    gathered: self.gathered,
-                    jobs,
-                    verdict,
-                })
-            }
-            Err(_) => Err(self),
+        let Pause {
+            opening,
+            jobs,
+            gathered,
+        } = self;
+        // For the proof alone: what was handed in is an opening.
+        let _recon = opening.recon();
+        let (jobs, ids) = jobs.into_parts();
+        match take_page(rt, alloc, gathered, jobs) {
+            Ok(paged) => Ok(Closed {
+                opening,
+                page: paged.page,
+                gathered: paged.left,
+            }),
+            Err(untaken) => Err(Pause {
+                opening,
+                jobs: PostedJobs::from_parts(untaken.jobs, ids),
+                gathered: untaken.gathered,
+            }),
         }
     }
+}
+
+// How many receipts there are of each job, and copies of the jobs that have one.
+fn answered_of(
+    alloc: Global,
+    g: &Gathered,
+    jobs: &[Job],
+) -> Result<(BTreeMap<(u64, u64), u64>, Vec<Job>), AllocError>
+    ensures counts { IfOk result (λ told. Counts g.now.receipts told.0) }
+    ensures answered { IfOk result (λ told. told.1.items ≡ filter (is_counted told.0) jobs.now) }
+{
+    let counts = count(alloc, &g.receipts)?;
+    let answered = copy_answered(alloc, &counts, jobs)?;
+    Ok((counts, answered))
 }
 
 // Whether the stage that was gathered is the last one.

@@ -1,13 +1,15 @@
 // The jobs that were posted.
-ghost use Rattle.std.specs.Prelude.{◌≡◌, ◌-◌, [], ◌∷◌, ◌++◌, length, take, OnOk, OnErr};
+ghost use Rattle.std.specs.Prelude.{◌≡◌, ◌-◌, [], ◌∷◌, ◌++◌, length, take, filter, not, OnOk, OnErr};
 ghost use Rattle.sq_audit.specs.Answers.{IdsDiffer};
+ghost use Rattle.sq_audit.specs.Counts.{is_counted};
 ghost use Rattle.sq_engine.specs.Posted.{HaveIdsAmong};
 
+use crate::answered::{forget_ids, leave_unanswered};
 use sq_audit::Job;
 use sq_plan::PartId;
 use sq_schema::Txn;
 use std::alloc::{AllocError, Global};
-use std::collections::BTreeSet;
+use std::collections::{BTreeMap, BTreeSet};
 use std::marker::Model;
 use thiserror::Error;
 
@@ -24,7 +26,7 @@ pub enum PostFault {
     Memory,
 }
 
-/// The jobs that were posted and not folded, whose ids differ. To a contract they are a list.
+/// The jobs that were posted and are on no page, whose ids differ. To a contract they are a list.
 #[derive(Drop)]
 pub(crate) struct PostedJobs {
     jobs: Vec<Job>,
@@ -52,6 +54,21 @@ impl PostedJobs {
             jobs: Vec::new(alloc),
             ids: BTreeSet::new(alloc),
         }
+    }
+
+    /// These jobs without those that have a receipt by these counts, of which these are copies. Their ids may come again.
+    pub(crate) fn without_answered(
+        self,
+        counts: &BTreeMap<(u64, u64), u64>,
+        answered: &[Job],
+    ) -> PostedJobs
+        requires { answered.now ≡ filter (is_counted counts.now) self }
+        ensures { result ≡ filter (λ job. not (is_counted counts.now job)) self }
+    {
+        let PostedJobs { mut jobs, mut ids } = self;
+        leave_unanswered(counts, &mut jobs);
+        forget_ids(&mut ids, answered);
+        PostedJobs { jobs, ids }
     }
 
     /// These jobs, whose ids are among these.

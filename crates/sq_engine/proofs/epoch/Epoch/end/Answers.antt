@@ -1,6 +1,6 @@
-use Rattle.std.proofs.Common.{sym, subst}
-use Rattle.sq_engine.specs.Values.{EpochValue}
-use Rattle.sq_engine.specs.History.{RunsAfter}
+use Rattle.std.proofs.Common.{◌∷◌, sym, subst}
+use Rattle.sq_engine.specs.Values.{EpochValue, PauseValue}
+use Rattle.sq_engine.specs.History.{EpochEnded, with_other_rows, RunsAfter}
 use Rattle.sq_engine.proofs.Epochs.{gathered_comes}
 use Rattle.sq_engine.proofs.epoch.Epoch.end.Goals as goal
 
@@ -19,7 +19,9 @@ invariant_of-result g c =
       pumps = inside.pumps.items;
     } in
     let left = c.in-Ok.ensures in
-    (was.0, was.1, gathered_comes was.0 was.1 epoch c.in-Ok.gathered c.recon-recon.ensures.set_up.opening was.2 left.gathered left.placed left.grows)
+    let came = gathered_comes was.0 was.1 epoch c.in-Ok.gathered c.recon-recon.ensures.set_up.opening was.2 left.gathered left.placed left.grows in
+    let pause : PauseValue = record { opening = inside.opening; jobs = inside.jobs; gathered = c.in-Ok.gathered } in
+    (was.0, EpochEnded (with_other_rows pause came.0) ∷ was.1, came.1)
 
 pub returns-in-Ok-clause-ended : goal.returns-in-Ok-clause-ended
 returns-in-Ok-clause-ended g c = λ o past runs.

@@ -9,11 +9,11 @@ invariant_of-result c =
     let inside = c.self.inside in
     let was = c.self.invariant in
     let due : PauseValue = record { opening = inside.opening; jobs = inside.jobs; gathered = inside.gathered } in
-    (was.0, was.1, move_runs was.0 was.1 due c.in-Ok.fabric c.in-Ok.nodes.items c.in-Ok.pumps.items was.2 (c.in-Ok.ensures.run inside.opening.table))
+    (was.0, was.1, move_runs was.0 was.1 due c.in-Ok.fabric c.in-Ok.nodes.items c.in-Ok.pumps.items was.2 c.in-Ok.ensures.run)
 
 pub returns-in-Ok-clause-begun : goal.returns-in-Ok-clause-begun
 returns-in-Ok-clause-begun c = λ o past follows.
     let inside = c.self.inside in
     let due : PauseValue = record { opening = inside.opening; jobs = inside.jobs; gathered = inside.gathered } in
     move_runs o past due c.in-Ok.fabric c.in-Ok.nodes.items c.in-Ok.pumps.items
-    (subst (λ (d : PauseValue). IsDueAfter o past d) (sym c.self.view_is) follows) (c.in-Ok.ensures.run inside.opening.table)
+    (subst (λ (d : PauseValue). IsDueAfter o past d) (sym c.self.view_is) follows) c.in-Ok.ensures.run

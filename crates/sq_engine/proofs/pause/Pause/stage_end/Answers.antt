@@ -1,7 +1,13 @@
 use Rattle.std.proofs.Common.{sym, subst, ◌∙◌, true≢false}
 use Rattle.sq_engine.specs.History.{HasMoreStages, IsLastStage, HasDoneStage}
-use Rattle.sq_engine.proofs.Epochs.{stage_within}
+use Rattle.sq_engine.proofs.Epochs.{pause_placed, stage_within}
 use Rattle.sq_engine.proofs.pause.Pause.stage_end.Goals as goal
+
+pub is_stage_done-requires : goal.is_stage_done-requires
+is_stage_done-requires c =
+    let inside = c.self.inside in
+    let was = c.self.invariant in
+    (pause_placed was.0 was.1 (record { opening = inside.opening; jobs = inside.jobs; gathered = inside.gathered }) was.2).1.fit.grown
 
 pub is_last-requires : goal.is_last-requires
 is_last-requires c =

@@ -1,0 +1,58 @@
+-- An epoch that was served runs still.
+use Rattle.std.proofs.Common.{◌≡◌, Bool, List, ◌++◌, refl, ap, ◌∙◌, subst, append_assoc}
+use Rattle.sq_ranges.specs.OpeningValue.{OpeningValue}
+use Rattle.sq_ranges.specs.Opening.{IsOpening}
+use Rattle.sq_node.specs.NodeState.{NodeState}
+use Rattle.sq_driver.specs.Nodes.{AllDriven}
+use Rattle.sq_audit.specs.declared.job.Job.{Job}
+use Rattle.sq_engine.specs.declared.serving.ServedParts.{ServedParts}
+use Rattle.sq_engine.specs.Values.{EpochValue}
+use Rattle.sq_engine.specs.History.{Episode, RunsAfter}
+use Rattle.sq_engine.specs.Exchanges.{ClientCall, posted_in}
+use Rattle.sq_engine.specs.Serving.{AllAreGiven, IsServedWith}
+use Rattle.sq_engine.specs.Served.{EpochIsServed}
+use Rattle.sq_engine.proofs.Epochs.{driven_runs}
+
+-- what becomes of the parts of an epoch becomes of the epoch
+pub epoch_served : {X : Type 0} (becomes : X → ClientCall → X → Type 0) (old : EpochValue) (nodes : List NodeState) (before : X) (parts : ServedParts) (after : X)
+    → nodes ≡ old.nodes → IsServedWith becomes old.fabric nodes old.pumps old.jobs before parts after
+    → EpochIsServed becomes old before (record old { jobs = parts.jobs; nodes = parts.nodes.items; pumps = parts.pumps.items }) after parts.is_whole
+epoch_served becomes old nodes before parts after same served = record {
+  exchanges = served.exchanges;
+  client = served.client;
+  driven = record {
+    opening = refl;
+    jobs = served.jobs_posted;
+    fabric = refl;
+    nodes = subst (λ (list : List NodeState). AllDriven old.fabric list parts.nodes.items) same served.nodes_driven;
+    pumps = served.pumps_driven;
+  };
+  given = subst (λ (list : List NodeState). AllAreGiven parts.is_whole served.exchanges list parts.nodes.items) same served.given;
+}
+
+-- an epoch runs still once more jobs were posted
+grown_runs : (o : OpeningValue) (past : List Episode) (old : EpochValue) (more : List Job)
+    → RunsAfter o past old → RunsAfter o past (record old { jobs = old.jobs ++ more })
+grown_runs o past old more runs =
+    let running = runs.3 in
+    let jobs = running.jobs in (
+      runs.0,
+      runs.1,
+      runs.2,
+      record {
+        opening = running.opening;
+        jobs = (
+          jobs.0 ++ more,
+          ap (λ (list : List Job). list ++ more) jobs.1 ∙ append_assoc runs.1.jobs jobs.0 more,
+        );
+        run = running.run;
+      },
+    )
+
+-- and once it was served
+pub served_runs : {X : Type 0} (becomes : X → ClientCall → X → Type 0) (o : OpeningValue) (past : List Episode)
+    (old : EpochValue) (before : X) (new : EpochValue) (after : X) (is_whole : Bool)
+    → IsOpening old.opening → EpochIsServed becomes old before new after is_whole → RunsAfter o past old → RunsAfter o past new
+served_runs becomes o past old before new after is_whole is served runs =
+    driven_runs o past (record old { jobs = old.jobs ++ posted_in served.exchanges }) new is served.driven
+    (grown_runs o past old (posted_in served.exchanges) runs)

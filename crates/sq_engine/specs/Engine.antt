@@ -1,0 +1,51 @@
+-- An engine, and how it goes on.
+use Rattle.std.specs.Prelude.{◌≡◌, List, [], ◌++◌, map, Some}
+use Rattle.sq_plan.specs.PlanValue.{PlanValue}
+use Rattle.sq_ranges.specs.OpeningValue.{OpeningValue}
+use Rattle.sq_ranges.specs.Between.{recon_fault}
+use Rattle.sq_audit.specs.declared.job.Job.{Job}
+use Rattle.sq_engine.specs.declared.standing.Standing.{Standing}
+use Rattle.sq_engine.specs.declared.standing.Standing.TheVariants.{Running, Paused, Due}
+use Rattle.sq_engine.specs.declared.engine.NotMoved.{NotMoved}
+use Rattle.sq_engine.specs.declared.engine.NotMoved.TheVariants.{Moving, Plans, Memory}
+use Rattle.sq_engine.specs.Values.{PauseValue}
+use Rattle.sq_engine.specs.History.{Episode, EpochEnded, RunsAfter, PausesAfter, IsDueAfter}
+
+-- the opening in force, which may have other rows than this one has
+abbrev pub opening_in : Standing → OpeningValue
+opening_in (Running epoch) = epoch.opening
+opening_in (Paused pause) = pause.opening
+opening_in (Due due) = due.opening
+
+-- the jobs that were posted and are on no page
+abbrev pub posted_jobs : Standing → List Job
+posted_jobs (Running epoch) = epoch.jobs
+posted_jobs (Paused pause) = pause.jobs
+posted_jobs (Due due) = due.jobs
+
+-- nothing moves
+abbrev pub EngineRests : Standing → Type 0
+EngineRests standing = (opening_in standing).recon.ranges ≡ []
+
+-- an engine that opened with this stands so after these episodes
+abbrev pub Stands : OpeningValue → List Episode → Standing → Type 0
+Stands o past (Running epoch) = RunsAfter o past epoch
+Stands o past (Paused pause) = PausesAfter o past pause
+Stands o past (Due due) = IsDueAfter o past due
+
+-- an engine went on: whatever episodes it had come by, it has come by them and perhaps by more, in which epochs ended
+abbrev pub KeepsHistory : Standing → Standing → Type 0
+KeepsHistory old new =
+    (o : OpeningValue) (past : List Episode) → Stands o past old
+    → (more : List PauseValue) × Stands o (map EpochEnded more ++ past) new
+
+-- an engine went on, and no job was posted or went onto a page
+abbrev pub KeepsHistoryAndJobs : Standing → Standing → Type 0
+KeepsHistoryAndJobs old new = KeepsHistory old new × (posted_jobs new ≡ posted_jobs old)
+
+-- why an engine doesn't go to another plan: where rows move or the plans have a fault it is as it was
+abbrev pub IsNotMoved : Standing → PlanValue → NotMoved → Standing → Type 0
+IsNotMoved old plan Moving new = (new ≡ old) × (EngineRests old → ⊥)
+IsNotMoved old plan (Plans fault) new =
+    (new ≡ old) × (recon_fault (opening_in old).new plan (opening_in old).config.width ≡ Some fault)
+IsNotMoved old plan Memory new = KeepsHistoryAndJobs old new

@@ -1,0 +1,51 @@
+-- Pages that are taken of an engine, the last of them when it is closed.
+use Rattle.std.specs.Prelude.{◌≡◌, List}
+use Rattle.sq_ranges.specs.OpeningValue.{OpeningValue}
+use Rattle.sq_page.specs.declared.page.Page.{Page}
+use Rattle.sq_engine.specs.declared.closed.Closed.{Closed}
+use Rattle.sq_engine.specs.declared.standing.Standing.{Standing}
+use Rattle.sq_engine.specs.declared.standing.Standing.TheVariants.{Paused}
+use Rattle.sq_engine.specs.declared.engine.NotTaken.{NotTaken}
+use Rattle.sq_engine.specs.declared.engine.NotTaken.TheVariants.{Moving, Memory}
+use Rattle.sq_engine.specs.declared.rest_page.RestPage.{RestPage}
+use Rattle.sq_engine.specs.Values.{PauseValue}
+use Rattle.sq_engine.specs.History.{Episode, IsLastStage, HasDoneStage, PausesAfter, GoesOnAfterPage}
+use Rattle.sq_engine.specs.Outcomes.{IsPageFrom, HasClosed}
+use Rattle.sq_engine.specs.Engine.{opening_in, EngineRests, KeepsHistoryAndJobs}
+
+-- a page was taken of a pause, and left this: whatever the engine had come by, it has come by this then
+abbrev pub LeavesPage : PauseValue → PauseValue → Type 0
+LeavesPage pause left =
+    (o : OpeningValue) (past : List Episode)
+    → PausesAfter o past pause → GoesOnAfterPage o past left
+
+-- a page was taken of an engine once it had gone on to a pause at which the last stage of a move was done, and it went on from
+-- what that left
+pub record TakesItsPage (old : Standing) (page : Page) (new : Standing) : Type 0 where
+  pub pause : PauseValue
+  pub comes : KeepsHistoryAndJobs old (Paused pause)
+  pub opening : pause.opening ≡ opening_in old
+  pub done : HasDoneStage pause
+  pub last : IsLastStage pause
+  pub is : IsPageFrom pause page
+  pub left : PauseValue
+  pub leaves : LeavesPage pause left
+  pub goes_on : KeepsHistoryAndJobs (Paused left) new
+
+-- and the page has the plan that was reached
+pub record TakesPage (old : Standing) (page : RestPage) (new : Standing) : Type 0 where
+  pub taken : TakesItsPage old page.page new
+  pub plan : page.plan ≡ (opening_in old).new
+
+-- why nothing is taken: where rows move the engine is as it was
+abbrev pub IsNotTaken : Standing → NotTaken → Standing → Type 0
+IsNotTaken old Moving new = (new ≡ old) × (EngineRests old → ⊥)
+IsNotTaken old Memory new = KeepsHistoryAndJobs old new
+
+-- an engine was closed once it had gone on to a pause at which the last stage of a move was done
+pub record HasClosedAfter (standing : Standing) (closed : Closed) : Type 0 where
+  pub pause : PauseValue
+  pub comes : KeepsHistoryAndJobs standing (Paused pause)
+  pub done : HasDoneStage pause
+  pub last : IsLastStage pause
+  pub has : HasClosed pause closed

@@ -1,0 +1,381 @@
+// An engine that lasts.
+ghost use Rattle.std.specs.Prelude.{◌≡◌, ◌≤◌, ◌↔◌, ◌∷◌, [], ◌++◌, IsTrue, IfOk, IfErr, OnOk, OnErr};
+ghost use Rattle.sq_pull.specs.declared.numbers.TheConstants.{MAX_PUMPS};
+ghost use Rattle.sq_ranges.specs.Prelude.{IsSetUp};
+ghost use Rattle.sq_ranges.specs.Between.{recon_fault};
+ghost use Rattle.sq_engine.specs.History.{onward_opening};
+ghost use Rattle.sq_engine.specs.Engine.{opening_in, posted_jobs, EngineRests, Stands, KeepsHistory, KeepsHistoryAndJobs, IsNotMoved};
+ghost use Rattle.sq_engine.specs.Taken.{TakesItsPage, TakesPage, IsNotTaken, HasClosedAfter};
+
+use crate::closed::Closed;
+use crate::epoch::Epoch;
+use crate::gate::CountingGate;
+use crate::posted::PostFault;
+use crate::rest_page::RestPage;
+use crate::standing::{Standing, done_pause_of, go_on, move_from, pause_of, resume};
+use sq_driver::Gate;
+use sq_page::Page;
+use sq_plan::{PartId, Plan};
+use sq_ranges::{Opening, Recon, ReconFault};
+use sq_schema::Txn;
+use std::alloc::Global;
+use std::marker::Model;
+use std::sync::Wait;
+use std::thread::Threads;
+use thiserror::Error;
+
+/// Why an engine doesn't go to another plan.
+#[derive(Clone, Copy, Debug, PartialEq, Eq, Error)]
+pub enum NotMoved {
+    #[error("rows move")]
+    Moving,
+    #[error("{0}")]
+    Plans(ReconFault),
+    #[error("out of memory")]
+    Memory,
+}
+
+/// Why no page is taken of an engine.
+#[derive(Clone, Copy, Debug, PartialEq, Eq, Error)]
+pub enum NotTaken {
+    #[error("rows move")]
+    Moving,
+    #[error("out of memory")]
+    Memory,
+}
+
+/// An engine that lasts: jobs are posted and answered while rows move, and one move follows another. To a contract it is its
+/// `Standing`.
+#[derive(Drop)]
+pub struct Engine {
+    standing: Standing,
+    pumps: u32,
+    // How many segments of the running stage are complete.
+    complete: u64,
+}
+
+impl Model for Engine {
+    ghost use Rattle.std.specs.Prelude.{◌≤◌};
+    ghost use Rattle.std.specs.Coded.{codes};
+    ghost use Rattle.sq_pull.specs.declared.numbers.TheConstants.{MAX_PUMPS};
+    ghost use Rattle.sq_store.specs.Prelude.{store_coded};
+    ghost use Rattle.sq_engine.specs.declared.standing.Standing as kind;
+
+    ghost Value = { kind.Standing };
+
+    ghost coded = { Prim.hlevel (codes, store_coded) };
+
+    ghost view = { λ e. e.standing };
+
+    ghost invariant = { λ e. e.pumps ≤ MAX_PUMPS };
+}
+
+impl Engine {
+    /// An engine in the first stage of an opening, with the families of its rows and this many pumps. It is at rest where
+    /// both plans are the same. Where there is no memory the opening comes back as it was.
+    pub fn open<R: Threads + Sync>(
+        rt: &R,
+        alloc: Global,
+        opening: Opening,
+        pumps: u32,
+    ) -> Result<Engine, Opening>
+        requires { pumps ≤ MAX_PUMPS }
+        ensures opened { IfOk result (Stands opening []) }
+        ensures none_posted { IfOk result (λ engine. posted_jobs engine ≡ []) }
+        ensures returned { IfErr result (λ back. back ≡ opening) }
+    {
+        let epoch = Epoch::open(rt, alloc, opening, pumps)?;
+        Ok(Engine {
+            standing: Standing::Running(epoch),
+            pumps,
+            complete: 0,
+        })
+    }
+
+    /// The opening in force.
+    pub fn opening(&self) -> &Opening
+        ensures opening { result.now ≡ opening_in self.now }
+        ensures set_up { IsSetUp result.now }
+    {
+        match &self.standing {
+            Standing::Running(epoch) => epoch.opening(),
+            Standing::Paused(pause) => pause.opening(),
+            Standing::Due(due) => due.opening(),
+        }
+    }
+
+    /// Whether nothing moves.
+    pub fn is_at_rest(&self) -> bool
+        ensures { IsTrue result ↔ EngineRests self.now }
+    {
+        self.opening().recon().ranges().is_empty()
+    }
+
+    /// Posts a job to a partition, as [`Epoch::post`] does. It is refused too where the engine waits for memory.
+    pub fn post<R: Wait>(&mut self, rt: &R, part: PartId, txn: &Txn) -> Result<(), PostFault>
+        ensures ok { OnOk result (posted_jobs self.new
+            ≡ posted_jobs self.old ++ record { part = part; txn = txn.now } ∷ []) }
+        ensures err { OnErr result (self.new ≡ self.old) }
+        ensures history { KeepsHistory self.old self.new }
+    {
+        match &mut self.standing {
+            Standing::Running(epoch) => epoch.post(rt, part, txn),
+            Standing::Paused(_) | Standing::Due(_) => Err(PostFault::Memory),
+        }
+    }
+
+    /// Runs the workers of the epoch, as [`Epoch::run`] does, and then goes on where it can: once each segment of the stage is
+    /// complete to the next stage, and after the last one to rest. Workers that go on where they are idle end then too. Where
+    /// there is no memory to go on it waits, and the next call tries it first.
+    pub fn run_epoch<R: Threads + Wait + Sync, G: Gate + Sync>(
+        self,
+        rt: &R,
+        alloc: Global,
+        turns: u64,
+        gate: &G,
+    ) -> Engine
+        ensures { KeepsHistoryAndJobs self result }
+    {
+        let Engine {
+            standing,
+            pumps,
+            complete,
+        } = self;
+        match resume(alloc, standing, pumps) {
+            Standing::Running(epoch) => {
+                let segments = epoch.segments();
+                let counting = CountingGate::new(gate, segments, complete);
+                let epoch = epoch.run(rt, turns, &counting);
+                end_stage(rt, alloc, epoch, pumps, segments, counting.complete())
+            }
+            standing => Engine {
+                standing,
+                pumps,
+                complete: 0,
+            },
+        }
+    }
+
+    /// Goes to another plan: the move begins in its first stage. Otherwise the engine comes back, as it was where rows move or
+    /// the plans have a fault; where there is no memory an epoch may have ended.
+    pub fn move_to<R: Wait>(
+        self,
+        rt: &R,
+        alloc: Global,
+        plan: Plan,
+    ) -> Result<Engine, (NotMoved, Engine)>
+        ensures at_rest { OnOk result (EngineRests self) }
+        ensures moved { IfOk result (KeepsHistoryAndJobs self) }
+        ensures opening { IfOk result (λ engine.
+            opening_in engine ≡ onward_opening (opening_in self) plan) }
+        ensures not_moved { IfErr result (λ refused. IsNotMoved self plan refused.0 refused.1) }
+    {
+        if !self.is_at_rest() {
+            return Err((NotMoved::Moving, self));
+        }
+        if let Some(fault) = plan_fault(self.opening(), &plan) {
+            return Err((NotMoved::Plans(fault), self));
+        }
+        let Engine {
+            standing,
+            pumps,
+            complete,
+        } = self;
+        match go_to(rt, alloc, standing, plan, pumps) {
+            Ok(standing) => Ok(Engine {
+                standing,
+                pumps,
+                complete: 0,
+            }),
+            Err(standing) => Err((
+                NotMoved::Memory,
+                Engine {
+                    standing,
+                    pumps,
+                    complete,
+                },
+            )),
+        }
+    }
+
+    /// Takes a page of an engine at rest, for the jobs that have a receipt, as [`Pause::take_page`] does, and goes on without
+    /// it. Where there is no memory for it an epoch may have ended.
+    pub fn take_page<R: Threads + Wait + Sync>(
+        self,
+        rt: &R,
+        alloc: Global,
+    ) -> Result<(RestPage, Engine), (NotTaken, Engine)>
+        ensures at_rest { OnOk result (EngineRests self) }
+        ensures taken { IfOk result (λ taken. TakesPage self taken.0 taken.1) }
+        ensures not_taken { IfErr result (λ refused. IsNotTaken self refused.0 refused.1) }
+    {
+        if !self.is_at_rest() {
+            return Err((NotTaken::Moving, self));
+        }
+        let Ok(plan) = self.opening().new_plan().clone() else {
+            return Err((NotTaken::Memory, self));
+        };
+        let schema = self.opening().schema();
+        let config = self.opening().config();
+        let Engine {
+            standing,
+            pumps,
+            complete,
+        } = self;
+        match page_of(rt, alloc, standing, pumps) {
+            Ok((page, standing)) => Ok((
+                RestPage {
+                    page,
+                    schema,
+                    plan,
+                    config,
+                },
+                Engine {
+                    standing,
+                    pumps,
+                    complete: 0,
+                },
+            )),
+            Err(standing) => Err((
+                NotTaken::Memory,
+                Engine {
+                    standing,
+                    pumps,
+                    complete,
+                },
+            )),
+        }
+    }
+
+    /// Closes an engine at rest: the epoch ends, and the last page is taken of what it left, as [`Pause::close`] does. Where
+    /// there is no memory for it an epoch may have ended.
+    pub fn close<R: Threads + Wait + Sync>(
+        self,
+        rt: &R,
+        alloc: Global,
+    ) -> Result<Closed, (NotTaken, Engine)>
+        ensures at_rest { OnOk result (EngineRests self) }
+        ensures closed { IfOk result (HasClosedAfter self) }
+        ensures not_closed { IfErr result (λ refused. IsNotTaken self refused.0 refused.1) }
+    {
+        if !self.is_at_rest() {
+            return Err((NotTaken::Moving, self));
+        }
+        let Engine {
+            standing,
+            pumps,
+            complete,
+        } = self;
+        match close_standing(rt, alloc, standing) {
+            Ok(closed) => Ok(closed),
+            Err(standing) => Err((
+                NotTaken::Memory,
+                Engine {
+                    standing,
+                    pumps,
+                    complete,
+                },
+            )),
+        }
+    }
+}
+
+// An engine whose epoch ran, with so many segments in its stage, of which so many were told to be complete: it goes on where
+// those are all.
+fn end_stage<R: Wait>(
+    rt: &R,
+    alloc: Global,
+    epoch: Epoch,
+    pumps: u32,
+    segments: u64,
+    complete: u64,
+) -> Engine
+    requires { pumps ≤ MAX_PUMPS }
+    ensures { KeepsHistoryAndJobs (Standing.Running epoch) result }
+{
+    if segments == 0 || complete < segments {
+        return Engine {
+            standing: Standing::Running(epoch),
+            pumps,
+            complete,
+        };
+    }
+    let pause = match pause_of(rt, alloc, Standing::Running(epoch)) {
+        Ok(pause) => pause,
+        Err(standing) => {
+            return Engine {
+                standing,
+                pumps,
+                complete,
+            };
+        }
+    };
+    let standing = go_on(alloc, pause, pumps);
+    Engine {
+        standing,
+        pumps,
+        complete: 0,
+    }
+}
+
+// Goes to another plan from rest. Where there is no memory for it, the engine may be paused.
+fn go_to<R: Wait>(
+    rt: &R,
+    alloc: Global,
+    standing: Standing,
+    plan: Plan,
+    pumps: u32,
+) -> Result<Standing, Standing>
+    requires { pumps ≤ MAX_PUMPS }
+    ensures goes { IfOk result (KeepsHistoryAndJobs standing) }
+    ensures opening { IfOk result (λ new.
+        opening_in new ≡ onward_opening (opening_in standing) plan) }
+    ensures stays { IfErr result (KeepsHistoryAndJobs standing) }
+{
+    let pause = pause_of(rt, alloc, standing)?;
+    match move_from(alloc, pause, plan, pumps) {
+        Ok(standing) => Ok(standing),
+        Err(pause) => Err(Standing::Paused(pause)),
+    }
+}
+
+// The first fault of a move from the plan that was reached to another one.
+fn plan_fault(opening: &Opening, plan: &Plan) -> Option<ReconFault>
+    ensures { result ≡ recon_fault opening.now.new plan.now opening.now.config.width }
+{
+    Recon::fault(opening.new_plan(), plan, opening.config().width)
+}
+
+// Takes a page of an engine at rest, and goes on. Where there is no memory for it, the engine may be paused.
+fn page_of<R: Threads + Wait + Sync>(
+    rt: &R,
+    alloc: Global,
+    standing: Standing,
+    pumps: u32,
+) -> Result<(Page, Standing), Standing>
+    requires { pumps ≤ MAX_PUMPS }
+    ensures taken { IfOk result (λ taken. TakesItsPage standing taken.0 taken.1) }
+    ensures stays { IfErr result (KeepsHistoryAndJobs standing) }
+{
+    let pause = done_pause_of(rt, alloc, standing)?;
+    match pause.take_page(rt, alloc) {
+        Ok((page, left)) => Ok((page, go_on(alloc, left, pumps))),
+        Err(pause) => Err(Standing::Paused(pause)),
+    }
+}
+
+// Closes an engine at rest. Where there is no memory for it, the engine may be paused.
+fn close_standing<R: Threads + Wait + Sync>(
+    rt: &R,
+    alloc: Global,
+    standing: Standing,
+) -> Result<Closed, Standing>
+    ensures closed { IfOk result (HasClosedAfter standing) }
+    ensures stays { IfErr result (KeepsHistoryAndJobs standing) }
+{
+    let pause = done_pause_of(rt, alloc, standing)?;
+    match pause.close(rt, alloc) {
+        Ok(closed) => Ok(closed),
+        Err(pause) => Err(Standing::Paused(pause)),
+    }
+}

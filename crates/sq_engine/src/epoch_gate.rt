@@ -1,0 +1,86 @@
+// When an epoch that is served ends.
+use sq_driver::{Gate, NodeStep, WorkerEvent, WorkerId};
+use std::sync::atomic::{AtomicBool, AtomicU64, Ordering};
+
+/// The gate of an epoch that is served: it lets each worker pass until the epoch ends. It ends where its client wants that,
+/// where each segment of its stage is complete, and where an answer is missing.
+#[derive(Drop)]
+pub(crate) struct EpochGate {
+    is_over: AtomicBool,
+    have_begun: AtomicBool,
+    have_ended: AtomicBool,
+    segments_left: AtomicU64,
+    answers: AtomicU64,
+}
+
+impl EpochGate {
+    /// For an epoch in which this many segments move, and whose workers haven't begun.
+    pub(crate) fn new(segments: u64) -> EpochGate {
+        EpochGate {
+            is_over: AtomicBool::new(false),
+            have_begun: AtomicBool::new(false),
+            have_ended: AtomicBool::new(false),
+            segments_left: AtomicU64::new(segments),
+            answers: AtomicU64::new(0),
+        }
+    }
+
+    /// Ends the epoch: no worker makes a step any more.
+    pub(crate) fn end(&self) {
+        self.is_over.store(true, Ordering::SeqCst);
+    }
+
+    /// Whether the epoch ends.
+    pub(crate) fn is_over(&self) -> bool {
+        self.is_over.load(Ordering::SeqCst)
+    }
+
+    /// Tells that the workers begin.
+    pub(crate) fn workers_begin(&self) {
+        self.have_begun.store(true, Ordering::SeqCst);
+    }
+
+    /// Tells that the workers have ended.
+    pub(crate) fn workers_end(&self) {
+        self.have_ended.store(true, Ordering::SeqCst);
+    }
+
+    /// Whether the workers have begun.
+    pub(crate) fn have_begun(&self) -> bool {
+        self.have_begun.load(Ordering::SeqCst)
+    }
+
+    /// Whether the workers have ended.
+    pub(crate) fn have_ended(&self) -> bool {
+        self.have_ended.load(Ordering::SeqCst)
+    }
+
+    /// How many answers were written. The teller of each had been told of it before.
+    pub(crate) fn answers(&self) -> u64 {
+        self.answers.load(Ordering::SeqCst)
+    }
+}
+
+impl Gate for EpochGate {
+    fn pass(&self, _who: WorkerId, _step: NodeStep) -> bool {
+        !self.is_over()
+    }
+
+    fn did(&self, _who: WorkerId, event: WorkerEvent) {
+        match event {
+            WorkerEvent::Answered(_) => {
+                self.answers.fetch_add(1, Ordering::SeqCst);
+            }
+            WorkerEvent::SegmentComplete => {
+                if self.segments_left.fetch_sub(1, Ordering::SeqCst) == 1 {
+                    self.end();
+                }
+            }
+            WorkerEvent::Made(_) => {}
+        }
+    }
+
+    fn ends_idle(&self) -> bool {
+        false
+    }
+}

@@ -1,0 +1,164 @@
+// Where an epoch and its client meet.
+ghost use Rattle.std.specs.Prelude.{◌≡◌, length};
+ghost use Rattle.sq_engine.specs.Rings.{Serves};
+ghost use Rattle.sq_engine.specs.Exchanges.{IsOffered, DoesWish};
+
+use crate::client::{Client, Command};
+use crate::epoch_gate::EpochGate;
+use crate::posted::PostedJobs;
+use crate::posting::post_job;
+use crate::rings::give_come;
+use rtrb::Consumer;
+use sq_audit::Job;
+use sq_node::{Fabric, Receipt};
+use std::sync::Wait;
+use std::sync::atomic::AtomicU64;
+use std::thread;
+use std::time::Duration;
+
+// How often others go first, in turns in a row without work, before a turn is followed by a sleep.
+const TURNS_AWAKE: u64 = 256;
+
+// How many microseconds it sleeps after a turn without work.
+const SLEEP: u64 = 50;
+
+// After how many turns it is taken for granted that the workers have no thread.
+const TURNS_ALONE: u64 = 100_000;
+
+/// Where an epoch and its client meet: the jobs that were posted and not folded, and for each partition the end of the ring
+/// over which its answers come.
+#[derive(Drop)]
+pub(crate) struct Front {
+    pub(crate) jobs: PostedJobs,
+    pub(crate) rings: Vec<Consumer<Receipt>>,
+    pub(crate) given: u64,
+}
+
+impl Front {
+    /// With these jobs, and these rings, over which nothing has come.
+    pub(crate) fn new(jobs: PostedJobs, rings: Vec<Consumer<Receipt>>) -> Front
+        ensures { (result.jobs ≡ jobs) × (result.rings ≡ rings) }
+    {
+        Front {
+            jobs,
+            rings,
+            given: 0,
+        }
+    }
+
+    /// Serves a client until the workers have ended: gives it each answer that comes, and does what it wants. Where the
+    /// workers don't begin the epoch is over.
+    pub(crate) fn serve<C: Client, R: Wait>(
+        &mut self,
+        rt: &R,
+        fabric: &Fabric,
+        gate: &EpochGate,
+        client: &mut C,
+    )
+        requires { length self.old.rings.items ≡ fabric.now.parts }
+        ensures { Serves C.Becomes self.old.jobs self.old.rings.items client.old
+            self.new.jobs self.new.rings.items client.new }
+    {
+        if !workers_begin(rt, gate) {
+            return;
+        }
+        let mut rested = 0u64;
+        for _ in rt.forever() {
+            if gate.have_ended() {
+                return;
+            }
+            if self.take_turn(rt, fabric, gate, client) {
+                rested = 0;
+            } else {
+                rested = rested.saturating_add(1);
+                rest(rt, rested);
+            }
+        }
+        unreachable!()
+    }
+
+    // Gives a client what has come, and does what it wants next, unless the epoch is over. It is over where an answer that was
+    // told hasn't come, since its teller broke off then. Whether there was something to do.
+    fn take_turn<C: Client, R: Wait>(
+        &mut self,
+        rt: &R,
+        fabric: &Fabric,
+        gate: &EpochGate,
+        client: &mut C,
+    ) -> bool
+        requires { length self.old.rings.items ≡ fabric.now.parts }
+        ensures { Serves C.Becomes self.old.jobs self.old.rings.items client.old
+            self.new.jobs self.new.rings.items client.new }
+    {
+        let told = gate.answers();
+        let came = give_come(fabric.parts(), &mut self.rings, client);
+        self.given = self.given.saturating_add(came);
+        if self.given < told {
+            gate.end();
+        }
+        if gate.is_over() {
+            return came > 0;
+        }
+        ask(rt, fabric, gate, &mut self.jobs, client) | (came > 0)
+    }
+}
+
+// Does what a client wants next. Whether it wants something.
+fn ask<C: Client, R: Wait>(
+    rt: &R,
+    fabric: &Fabric,
+    gate: &EpochGate,
+    jobs: &mut PostedJobs,
+    client: &mut C,
+) -> bool
+    ensures { DoesWish C.Becomes jobs.old client.old jobs.new client.new }
+{
+    match client.next() {
+        Command::Post(job) => {
+            offer(rt, fabric, jobs, job, client);
+            true
+        }
+        Command::Rest => false,
+        Command::End => {
+            gate.end();
+            true
+        }
+    }
+}
+
+// Posts a job, or gives it back to its client.
+fn offer<C: Client, R: Wait>(
+    rt: &R,
+    fabric: &Fabric,
+    jobs: &mut PostedJobs,
+    job: Job,
+    client: &mut C,
+)
+    ensures { IsOffered C.Becomes job jobs.old client.old jobs.new client.new }
+{
+    if let Err(fault) = post_job(rt, fabric, jobs, job.part, &job.txn) {
+        client.take_back(job, fault);
+    }
+}
+
+// Waits until the workers have begun. Where they don't, the epoch is over: who begins then makes no step. Whether they have
+// begun.
+fn workers_begin<R: Wait>(rt: &R, gate: &EpochGate) -> bool {
+    for turn in 0..TURNS_ALONE {
+        if gate.have_begun() {
+            return true;
+        }
+        rest(rt, turn);
+    }
+    gate.end();
+    gate.have_begun()
+}
+
+// Lets other threads go first, and sleeps after so many turns without work in a row.
+fn rest<R: Wait>(rt: &R, turns: u64) {
+    if turns <= TURNS_AWAKE {
+        thread::yield_now();
+    } else {
+        AtomicU64::new(0).park_timeout(rt, 0, Duration::from_micros(SLEEP));
+    }
+}

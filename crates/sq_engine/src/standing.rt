@@ -1,0 +1,140 @@
+// How far an engine is.
+ghost use Rattle.std.specs.Prelude.{◌≡◌, ◌≤◌, IfOk, IfErr};
+ghost use Rattle.sq_pull.specs.declared.numbers.TheConstants.{MAX_PUMPS};
+ghost use Rattle.sq_engine.specs.History.{IsLastStage, HasDoneStage, onward_opening};
+ghost use Rattle.sq_engine.specs.Engine.{opening_in, KeepsHistoryAndJobs};
+
+use crate::epoch::Epoch;
+use crate::next_move::NextMove;
+use crate::pause::{Pause, StageEnd};
+use sq_plan::Plan;
+use std::alloc::Global;
+use std::sync::Wait;
+
+/// How far an engine is.
+#[derive(Drop)]
+pub enum Standing {
+    /// An epoch runs.
+    Running(Epoch),
+    /// An epoch has ended, and none has begun after it.
+    Paused(Pause),
+    /// A move is to begin.
+    Due(NextMove),
+}
+
+/// Goes on from where an engine waits for memory, where there is memory for it.
+pub(crate) fn resume(alloc: Global, standing: Standing, pumps: u32) -> Standing
+    requires { pumps ≤ MAX_PUMPS }
+    ensures { KeepsHistoryAndJobs standing result }
+{
+    match standing {
+        Standing::Running(epoch) => Standing::Running(epoch),
+        Standing::Paused(pause) => go_on(alloc, pause, pumps),
+        Standing::Due(due) => begin(alloc, due, pumps),
+    }
+}
+
+/// The pause of an engine: the epoch that runs ends. Where a move is due, and where there is no memory, all comes back as it
+/// was.
+pub(crate) fn pause_of<R: Wait>(
+    rt: &R,
+    alloc: Global,
+    standing: Standing,
+) -> Result<Pause, Standing>
+    ensures paused { IfOk result (λ pause. KeepsHistoryAndJobs standing (Standing.Paused pause)) }
+    ensures opening { IfOk result (λ pause. pause.opening ≡ opening_in standing) }
+    ensures returned { IfErr result (λ back. back ≡ standing) }
+{
+    match standing {
+        Standing::Running(epoch) => match epoch.end(rt, alloc) {
+            Ok(pause) => Ok(pause),
+            Err(epoch) => Err(Standing::Running(epoch)),
+        },
+        Standing::Paused(pause) => Ok(pause),
+        Standing::Due(due) => Err(Standing::Due(due)),
+    }
+}
+
+/// The pause of an engine at which the last stage of a move is done. Otherwise the engine comes back, perhaps paused.
+pub(crate) fn done_pause_of<R: Wait>(
+    rt: &R,
+    alloc: Global,
+    standing: Standing,
+) -> Result<Pause, Standing>
+    ensures paused { IfOk result (λ pause. KeepsHistoryAndJobs standing (Standing.Paused pause)) }
+    ensures opening { IfOk result (λ pause. pause.opening ≡ opening_in standing) }
+    ensures done { IfOk result HasDoneStage }
+    ensures last { IfOk result IsLastStage }
+    ensures stays { IfErr result (KeepsHistoryAndJobs standing) }
+{
+    let pause = pause_of(rt, alloc, standing)?;
+    match pause.stage_end() {
+        StageEnd::MoveDone => Ok(pause),
+        StageEnd::Missing | StageEnd::StageDone => Err(Standing::Paused(pause)),
+    }
+}
+
+/// Goes to another plan after a pause, where the move before is done. Otherwise the pause comes back: there is no memory.
+pub(crate) fn move_from(
+    alloc: Global,
+    pause: Pause,
+    plan: Plan,
+    pumps: u32,
+) -> Result<Standing, Pause>
+    requires { pumps ≤ MAX_PUMPS }
+    ensures goes { IfOk result (KeepsHistoryAndJobs (Standing.Paused pause)) }
+    ensures opening { IfOk result (λ new. opening_in new ≡ onward_opening pause.opening plan) }
+    ensures returned { IfErr result (λ back. back ≡ pause) }
+{
+    match pause.stage_end() {
+        StageEnd::Missing | StageEnd::StageDone => Err(pause),
+        StageEnd::MoveDone => match pause.move_to(alloc, plan) {
+            Ok(due) => Ok(begin(alloc, due, pumps)),
+            Err((_, pause)) => Err(pause),
+        },
+    }
+}
+
+/// Goes on after a pause, where there is memory for it: to the next stage, or after the last one to rest. Where a segment of
+/// the stage isn't complete nothing changes.
+pub(crate) fn go_on(alloc: Global, pause: Pause, pumps: u32) -> Standing
+    requires { pumps ≤ MAX_PUMPS }
+    ensures { KeepsHistoryAndJobs (Standing.Paused pause) result }
+{
+    match pause.stage_end() {
+        StageEnd::Missing => Standing::Paused(pause),
+        StageEnd::StageDone => match pause.next_stage(alloc, pumps) {
+            Ok(epoch) => Standing::Running(epoch),
+            Err(pause) => Standing::Paused(pause),
+        },
+        StageEnd::MoveDone => rest(alloc, pause, pumps),
+    }
+}
+
+// Rests after the last stage of a move: a move to the plan that was reached moves nothing.
+fn rest(alloc: Global, pause: Pause, pumps: u32) -> Standing
+    requires pumps { pumps ≤ MAX_PUMPS }
+    requires done { HasDoneStage pause }
+    requires last { IsLastStage pause }
+    ensures { KeepsHistoryAndJobs (Standing.Paused pause) result }
+{
+    let Ok(plan) = pause.opening().new_plan().clone() else {
+        return Standing::Paused(pause);
+    };
+    match pause.move_to(alloc, plan) {
+        Ok(due) => begin(alloc, due, pumps),
+        Err((_, pause)) => Standing::Paused(pause),
+    }
+}
+
+// Begins a move that is due, where there is memory for it.
+fn begin(alloc: Global, due: NextMove, pumps: u32) -> Standing
+    requires { pumps ≤ MAX_PUMPS }
+    ensures goes { KeepsHistoryAndJobs (Standing.Due due) result }
+    ensures opening { opening_in result ≡ due.opening }
+{
+    match due.begin(alloc, pumps) {
+        Ok(epoch) => Standing::Running(epoch),
+        Err(due) => Standing::Due(due),
+    }
+}
