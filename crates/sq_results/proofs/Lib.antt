@@ -1,0 +1,3 @@
+mod Lent
+mod Ranging
+mod Rising
