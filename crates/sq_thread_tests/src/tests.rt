@@ -4,6 +4,7 @@ mod driver;
 mod gates;
 mod live;
 mod node;
+mod page;
 mod round;
 mod run;
 mod stages;

@@ -1,9 +1,8 @@
 // The audit of a run, and of what was gathered of it with one thing changed.
-ghost use Rattle.std.specs.Prelude.{IfOk};
 ghost use Rattle.sq_audit.specs.Answers.{IdsDiffer};
 
 use super::node::PAIR;
-use super::run::{TestRun, job, read_opening};
+use super::run::{TestRun, read_opening, two_jobs};
 use sq_audit::{Job, Verdict, audit};
 use sq_gather::Gathered;
 use sq_ranges::Extent;
@@ -19,21 +18,6 @@ use std::thread::Threads;
 const FIRST: &str = "txn 0 1 5 get 0 0";
 
 const SECOND: &str = "txn 0 2 9 check 0 0 99";
-
-// These two jobs.
-fn jobs(alloc: Global) -> Result<Vec<Job>, Fail>
-    ensures { IfOk result (λ jobs. IdsDiffer jobs.items) }
-{
-    let first = job(alloc, FIRST)?;
-    let second = job(alloc, SECOND)?;
-    if first.txn.id() == second.txn.id() {
-        return Err("two jobs have one id")?;
-    }
-    let mut jobs = Vec::with_capacity(alloc, 2)?;
-    jobs.push_reserved(first);
-    jobs.push_reserved(second);
-    Ok(jobs)
-}
 
 // What is gathered of the run, in which partition 0 answers both.
 fn worked<R: Wait>(rt: &R, alloc: Global) -> Result<Gathered, Fail> {
@@ -164,7 +148,7 @@ fn defect_after<R: Threads + Wait + Sync>(
     alloc: Global,
     change: Change,
 ) -> Result<Option<u16>, Fail> {
-    let jobs = jobs(alloc)?;
+    let jobs = two_jobs(alloc, FIRST, SECOND)?;
     let mut gathered = worked(rt, alloc)?;
     make(alloc, &mut gathered, change)?;
     defect_of(rt, alloc, &gathered, &jobs)

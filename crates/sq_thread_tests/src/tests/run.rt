@@ -1,8 +1,9 @@
 // Runs, made by hand or by their workers.
-ghost use Rattle.std.specs.Prelude.{◌≡◌, ◌≤◌};
+ghost use Rattle.std.specs.Prelude.{◌≡◌, ◌≤◌, IfOk};
 ghost use Rattle.sq_pull.specs.declared.numbers.TheConstants.{MAX_PUMPS};
 ghost use Rattle.sq_node.specs.Prelude.{IsNodeOf};
 ghost use Rattle.sq_gather.specs.Gathered.{AreAllOf};
+ghost use Rattle.sq_audit.specs.Answers.{IdsDiffer};
 
 use super::text::{receipts_text, text_of};
 use sq_audit::Job;
@@ -41,6 +42,21 @@ pub fn job(alloc: Global, line: &str) -> Result<Job, Fail> {
         }),
         _ => Err("no transaction")?,
     }
+}
+
+/// The jobs of two lines, whose ids differ.
+pub fn two_jobs(alloc: Global, first: &str, second: &str) -> Result<Vec<Job>, Fail>
+    ensures { IfOk result (λ jobs. IdsDiffer jobs.items) }
+{
+    let first = job(alloc, first)?;
+    let second = job(alloc, second)?;
+    if first.txn.id() == second.txn.id() {
+        return Err("two jobs have one id")?;
+    }
+    let mut jobs = Vec::with_capacity(alloc, 2)?;
+    jobs.push_reserved(first);
+    jobs.push_reserved(second);
+    Ok(jobs)
 }
 
 /// A run: what its nodes share, all nodes and all pumps.

@@ -1,0 +1,156 @@
+// Pages of a run at rest, and pages that are made unsound.
+ghost use Rattle.std.specs.Prelude.{IfOk};
+ghost use Rattle.sq_audit.specs.Answers.{IdsDiffer};
+
+use super::run::{TestRun, read_opening, two_jobs};
+use super::text::text_of;
+use sq_audit::Verdict;
+use sq_gather::Gathered;
+use sq_node::Receipt;
+use sq_page::{Page, Paged, audit_page, take_page};
+use std::alloc::Global;
+use std::sync::Wait;
+use std::test::Fail;
+use std::thread::Threads;
+
+// Two partitions, between which nothing moves.
+const AT_REST: &str = r#"old {"version":1,"partitions":2,"ranges":[[0,10,0],[10,4294967296,1]]}
+new {"version":1,"partitions":2,"ranges":[[0,10,0],[10,4294967296,1]]}
+config 1 64 1
+row 5 0 0 10 -
+row 6 0 0 7 -
+row 12 0 0 3 -
+"#;
+
+// The first aborts, and the second commits.
+const ABORT: &str = "txn 0 1 5 check 0 0 99";
+
+const COMMIT: &str = "txn 1 2 12 add 0 0 1";
+
+// What is gathered of the run, in which each partition answers a job.
+fn worked<R: Wait>(rt: &R, alloc: Global) -> Result<Gathered, Fail> {
+    let mut run = TestRun::opened(alloc, AT_REST, 0)?;
+    run.post(rt, alloc, ABORT)?;
+    run.post(rt, alloc, COMMIT)?;
+    run.turn(rt, 0)?;
+    run.turn(rt, 1)?;
+    run.gathered(rt, alloc)
+}
+
+// A page of it, and what the page leaves.
+fn paged<R: Threads + Wait + Sync>(rt: &R, alloc: Global) -> Result<Paged, Fail>
+    ensures { IfOk result (λ paged. IdsDiffer paged.page.jobs.items) }
+{
+    let jobs = two_jobs(alloc, ABORT, COMMIT)?;
+    let gathered = worked(rt, alloc)?;
+    if !gathered.links.is_empty() {
+        return Err("something moves")?;
+    }
+    match take_page(rt, alloc, gathered, jobs) {
+        Ok(paged) => Ok(paged),
+        Err(_) => Err("no memory")?,
+    }
+}
+
+// The number of the defect that the audit of a page finds, if it finds one.
+fn defect_of<R: Threads + Sync>(rt: &R, alloc: Global, page: &Page) -> Result<Option<u16>, Fail>
+    requires { IdsDiffer page.now.jobs.items }
+{
+    let opening = read_opening(alloc, AT_REST)?;
+    let (schema, plan, config) = (opening.schema(), opening.new_plan(), opening.config());
+    match audit_page(rt, alloc, schema, plan, config, page)? {
+        Verdict::Sound => Ok(None),
+        Verdict::Unsound(defect) => Ok(Some(defect.number())),
+    }
+}
+
+// The page has the family with a log and the one that the abort names, as they stood, and both receipts.
+const PAGE: &str = "at 0 5 0 0.0=10/-
+at 1 12 1 0.0=4/-
+receipt 5 0 abort 1 0 small
+receipt 12 0 commit 2 4
+";
+
+// All families are left, without logs.
+const LEFT: &str = "at 0 5 0 0.0=10/-
+at 0 6 0 0.0=7/-
+at 1 12 0 0.0=4/-
+";
+
+#[test]
+fn a_page_has_what_receipts_name(rt: HostRuntime) -> Result<(), Fail> {
+    let alloc = rt.alloc();
+    let Paged { page, left } = paged(&rt, alloc)?;
+    assert_eq!(rt; text_of(alloc, &page.run)?.as_str(), PAGE);
+    assert_eq!(rt; text_of(alloc, &left)?.as_str(), LEFT);
+    assert_eq!(rt; page.jobs.len(), 2);
+    Ok(())
+}
+
+// What is changed of a page: whether the receipt of the abort is taken out, and which id that of the commit has.
+#[derive(Clone, Copy, Debug)]
+struct Change {
+    abort_out: bool,
+    commit_id: u64,
+}
+
+// Makes a change.
+fn make(receipts: &mut Vec<Receipt>, change: Change) -> Result<(), Fail> {
+    receipts.last_mut().ok_or("no receipt")?.id = change.commit_id;
+    if change.abort_out && !receipts.is_empty() {
+        drop(receipts.remove(0));
+    }
+    Ok(())
+}
+
+// The number of the defect that is found once this is changed.
+fn defect_after<R: Threads + Wait + Sync>(
+    rt: &R,
+    alloc: Global,
+    change: Change,
+) -> Result<Option<u16>, Fail> {
+    let Page { mut run, jobs } = paged(rt, alloc)?.page;
+    make(&mut run.receipts, change)?;
+    defect_of(rt, alloc, &Page { run, jobs })
+}
+
+// Each change, and the number of the defect that is found. In the last one the first partition has 306, and the second 305.
+const DEFECTS: [(Change, Option<u16>); 4] = [
+    (
+        Change {
+            abort_out: false,
+            commit_id: 2,
+        },
+        None,
+    ),
+    (
+        Change {
+            abort_out: false,
+            commit_id: 3,
+        },
+        Some(305),
+    ),
+    (
+        Change {
+            abort_out: true,
+            commit_id: 2,
+        },
+        Some(306),
+    ),
+    (
+        Change {
+            abort_out: true,
+            commit_id: 3,
+        },
+        Some(305),
+    ),
+];
+
+#[test]
+fn the_least_defect_of_a_page_is_told(rt: HostRuntime) -> Result<(), Fail> {
+    for (change, want) in DEFECTS {
+        let found = defect_after(&rt, rt.alloc(), change)?;
+        assert!(rt; found == want, "{change:?}");
+    }
+    Ok(())
+}
