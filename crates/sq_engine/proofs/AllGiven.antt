@@ -1,6 +1,8 @@
 -- What a client was given of an epoch that was served.
-use Rattle.std.proofs.Common.{◌≡◌, ℕ, ◌<◌, ◌≤◌, Bool, true, List, [], ◌∷◌, ◌++◌, length, get_or, take, drop, Option, sym, ap, ◌∙◌, subst, append_assoc, arith}
+use Rattle.std.proofs.Common.{◌≡◌, inl, inr, ℕ, ◌<◌, ◌≤◌, Bool, true, false, true≢false, zero, suc, List, [], ◌∷◌, ◌++◌, length, get_or, take, drop, Option, sym, ap, ◌∙◌, subst, append_assoc, arith}
 use Rattle.std.specs.Prelude.{All}
+use Rattle.std.proofs.lemmas.Bool.{cases_Bool, and_parts, not-true}
+use Rattle.std.specs.Prelude.{◌&&◌, not}
 use Rattle.std.specs.Option.{option_map_or}
 use Rattle.std.proofs.lemmas.List.{get_or-map, length-map}
 use Rattle.std.proofs.lemmas.Option.{slice_get-get_or, slice_get_past}
@@ -18,10 +20,10 @@ use Rattle.sq_teller.specs.declared.ring.RingTeller.{RingTeller}
 use Rattle.sq_engine.specs.Exchanges.{ClientCall, Exchange, given_from}
 use Rattle.sq_engine.specs.Rings.{received_at, AreSameRings, Passes, GivesCome, Serves}
 use Rattle.sq_driver.specs.Told.{nodes_of}
-use Rattle.sq_engine.specs.Telling.{Ring, tellers_of, IsNewRing, AreNewRings, ArePaired, HasAllSent, NoneBrokeOff}
+use Rattle.sq_engine.specs.Telling.{Ring, tellers_of, IsNewRing, AreNewRings, ArePaired, HasAllSent, are_whole}
 use Rattle.sq_engine.specs.declared.serving.ServedParts.{ServedParts}
 use Rattle.sq_audit.specs.declared.job.Job.{Job}
-use Rattle.sq_engine.specs.Serving.{AreGiven, AllAreGiven, IsServedWith}
+use Rattle.sq_engine.specs.Serving.{AreGiven, LacksAnswer, AllAreGiven, IsServedWith}
 use Rattle.sq_engine.proofs.Passing.{received_there, written, come_serves, serves_on}
 use Rattle.sq_engine.proofs.Resting.{Pair}
 use Rattle.sq_engine.proofs.Sending.{SendsMost, sends_most}
@@ -29,6 +31,23 @@ use Rattle.sq_engine.proofs.Sending.{SendsMost, sends_most}
 some_of : {X : Type 0} (xs : List X) → 0 < length xs → X
 some_of [] lt = absurd (omega (arith, lt))
 some_of (x ∷ xs) lt = x
+
+-- where no teller broke off none did
+none_off : (pairs : List Pair) → are_whole pairs ≡ true → (i : ℕ) (p : Pair) → i < length pairs → (get_or pairs i p).teller.broke_off ≡ false
+none_off [] whole i p lt = absurd (omega (arith, lt))
+none_off (pair ∷ pairs) whole zero p lt = not-true pair.teller.broke_off (and_parts (not pair.teller.broke_off) (are_whole pairs) whole).0
+none_off (pair ∷ pairs) whole (suc i) p lt = none_off pairs (and_parts (not pair.teller.broke_off) (are_whole pairs) whole).1 i p (omega (arith, lt))
+
+-- and otherwise one did
+one_off : (pairs : List Pair) → are_whole pairs ≡ false → (i : ℕ) × (i < length pairs) × ((p : Pair) → (get_or pairs i p).teller.broke_off ≡ true)
+one_off [] whole = absurd (true≢false whole)
+one_off (pair ∷ pairs) whole =
+    elim (cases_Bool pair.teller.broke_off) [
+      | inl off ↦ (zero, omega arith, λ p. off)
+      | inr on ↦
+          let rest = one_off pairs (ap (λ (b : Bool). not b && are_whole pairs) (sym on) ∙ whole) in
+          (suc rest.0, omega (arith, rest.1), rest.2)
+    ]
 
 -- the nodes of pairs that were lent as a slice of a vector are as they were
 pub nodes_back : (old lent new : List Pair) (len : ℕ) → lent ≡ old → length lent ≡ len → nodes_of new ≡ nodes_of lent
@@ -76,10 +95,11 @@ module _ (fabric : FabricValue) (parts : ℕ) (old new : List Pair) (rings : Lis
 
   module _ {X : Type 0} (becomes : X → ClientCall → X → Type 0) (exchanges : List Exchange) (before : X) (now : List Ring) (after : X)
       (passes : Passes becomes exchanges rings before now after) (all_sent : HasAllSent new now)
-      (is_whole : Bool) (none_off : is_whole ≡ true → NoneBrokeOff new) where
-    given_at : (i : ℕ) (some : Pair) (ring : Ring) (d : NodeState) → i < length old
-        → AreGiven is_whole (given_from i exchanges) (get_or (nodes_of old) i d) (get_or (nodes_of new) i d)
-    given_at i some ring d within =
+      (is_whole : Bool) (whole_is : is_whole ≡ are_whole new) where
+    written_at : (i : ℕ) (some : Pair) (ring : Ring) (d : NodeState) (within : i < length old)
+        → (get_or (nodes_of new) i d).receipts
+        ≡ (get_or (nodes_of old) i d).receipts ++ given_from i exchanges ++ (most_at i some within).missing
+    written_at i some ring d within =
         let node : Pair → NodeState = λ pair. pair.node in
         let there : i < length rings = omega (arith, within, old_count, are.all_rings) in
         let later : i < length now = omega (arith, there, passes.rings.count) in
@@ -97,14 +117,40 @@ module _ (fabric : FabricValue) (parts : ℕ) (old new : List Pair) (rings : Lis
         ap (λ (list : List ReceiptValue). list ++ told.more) (sym fresh.none_sent) ∙ most.sends
         ∙ ap (λ (list : List ReceiptValue). list ++ most.missing) all in
         let was = (get_or old i some).node.receipts in
+        ap (λ (n : NodeState). n.receipts) (get_or-map node new i some d still) ∙ told.written
+        ∙ ap (λ (list : List ReceiptValue). was ++ list) more
+        ∙ sym (append_assoc was given most.missing)
+        ∙ ap (λ (n : NodeState). n.receipts ++ given ++ most.missing) (sym (get_or-map node old i some d within))
+
+    given_at : (i : ℕ) (some : Pair) (ring : Ring) (d : NodeState) → i < length old
+        → AreGiven is_whole (given_from i exchanges) (get_or (nodes_of old) i d) (get_or (nodes_of new) i d)
+    given_at i some ring d within =
+        let still : i < length new = omega (arith, within, driven.count) in
         record {
-          missing = most.missing;
-          written = ap (λ (n : NodeState). n.receipts) (get_or-map node new i some d still) ∙ told.written
-              ∙ ap (λ (list : List ReceiptValue). was ++ list) more
-              ∙ sym (append_assoc was given most.missing)
-              ∙ ap (λ (n : NodeState). n.receipts ++ given ++ most.missing) (sym (get_or-map node old i some d within));
-          whole = λ is. most.whole (none_off is i some still);
+          missing = (most_at i some within).missing;
+          written = written_at i some ring d within;
+          whole = λ is. (most_at i some within).whole (none_off new (sym whole_is ∙ is) i some still);
         }
+
+    lacks_at : (i : ℕ) (some : Pair) (ring : Ring) (d : NodeState) → i < length old → (get_or new i some).teller.broke_off ≡ true
+        → LacksAnswer (given_from i exchanges) (get_or (nodes_of old) i d) (get_or (nodes_of new) i d)
+    lacks_at i some ring d within off = record {
+      missing = (most_at i some within).missing;
+      written = written_at i some ring d within;
+      some = (most_at i some within).broken (new_at i some ring within).goes_on off;
+    }
+
+    lacks_one : is_whole ≡ false → (i : ℕ) × (i < length (nodes_of old))
+        × ((d : NodeState) → LacksAnswer (given_from i exchanges) (get_or (nodes_of old) i d) (get_or (nodes_of new) i d))
+    lacks_one is =
+        let off = one_off new (sym whole_is ∙ is) in
+        let i = off.0 in
+        let still = off.1 in
+        let within : i < length old = omega (arith, still, driven.count) in
+        let there : i < length (nodes_of old) = omega (arith, within, length-map old (λ (pair : Pair). pair.node)) in
+        let some = some_of old (omega (arith, within)) in
+        let ring = some_of rings (omega (arith, within, old_count, are.all_rings)) in
+        (i, there, λ d. lacks_at i some ring d within (off.2 some))
 
     given_none : (i : ℕ) → length (nodes_of old) ≤ i → given_from i exchanges ≡ []
     given_none i past =
@@ -123,7 +169,7 @@ module _ (fabric : FabricValue) (parts : ℕ) (old new : List Pair) (rings : Lis
         given_at i some ring d within
 
     pub all_given : AllAreGiven is_whole exchanges (nodes_of old) (nodes_of new)
-    all_given = record { each = given_each; no_other = given_none }
+    all_given = record { each = given_each; no_other = given_none; not_whole = lacks_one }
 
 -- the epoch was served
 pub all_served : {X : Type 0} (becomes : X → ClientCall → X → Type 0) (fabric : FabricValue) (parts : ℕ)
@@ -132,10 +178,10 @@ pub all_served : {X : Type 0} (becomes : X → ClientCall → X → Type 0) (fab
     → AreNewRings parts (tellers_of old) rings
     → AllDrivenTelling SendsOrBreaksOff fabric old new → AllPumpsDriven fabric pumps served.pumps.items
     → Serves becomes jobs rings before new_jobs now between → GivesCome becomes now between last after
-    → HasAllSent new last → (served.is_whole ≡ true → NoneBrokeOff new)
+    → HasAllSent new last → served.is_whole ≡ are_whole new
     → served.nodes.items ≡ nodes_of new → served.jobs ≡ new_jobs
     → IsServedWith becomes fabric (nodes_of old) pumps jobs before served after
-all_served becomes fabric parts old new pumps jobs new_jobs rings now last before between served after are driven pumped serves come all_sent none_off nodes posted =
+all_served becomes fabric parts old new pumps jobs new_jobs rings now last before between served after are driven pumped serves come all_sent whole_is nodes posted =
     let whole = serves_on becomes jobs rings before new_jobs now between new_jobs last after serves
     (come_serves becomes new_jobs now between last after come) in
     record {
@@ -145,5 +191,5 @@ all_served becomes fabric parts old new pumps jobs new_jobs rings now last befor
       nodes_driven = subst (AllDriven fabric (nodes_of old)) (sym nodes) (all_were_driven SendsOrBreaksOff fabric old new driven);
       pumps_driven = pumped;
       given = subst (AllAreGiven served.is_whole whole.exchanges (nodes_of old)) (sym nodes)
-          (all_given fabric parts old new rings are driven becomes whole.exchanges before last after whole.passes all_sent served.is_whole none_off);
+          (all_given fabric parts old new rings are driven becomes whole.exchanges before last after whole.passes all_sent served.is_whole whole_is);
     }

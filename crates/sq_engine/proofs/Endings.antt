@@ -19,6 +19,7 @@ use Rattle.sq_engine.specs.Values.{PauseValue}
 use Rattle.sq_engine.specs.History.{StartValue, Episode, EpochEnded, PageTaken, pause_after, IsLastStage, HasDoneStage, Follows, HasLeft, IsLeftByPage, HaveCome}
 use Rattle.sq_engine.specs.Ending.{paged, page_jobs, AllSound, EngineEndsAsPlanned}
 use Rattle.sq_engine.proofs.Epochs.{placed_there}
+use Rattle.sq_engine.proofs.Logs.{IsDone, rows_with, rows_so_far, paged_done, commits_name}
 
 -- the job is on the page of one of these pauses
 abbrev HasPage : List PauseValue → Job → Type 0
@@ -79,14 +80,22 @@ module _ (o : OpeningValue) where
       (done : HasDoneStage (pause_after episode)) (last : IsLastStage (pause_after episode)) where
     -- where each page is sound and what is left is, the engine ends as planned
     pub ends_as_planned : AllSound (paged (episode ∷ earlier))
-        → IsSoundRun (pause_after episode).opening (pause_after episode).gathered (pause_after episode).jobs → EngineEndsAsPlanned (episode ∷ earlier) (pause_after episode)
+        → IsSoundRun (pause_after episode).opening (pause_after episode).gathered (pause_after episode).jobs → EngineEndsAsPlanned o (episode ∷ earlier) (pause_after episode)
     ends_as_planned pages sound =
         let here = pause_after episode in
         let g = here.gathered in
+        let at : IsDone here = record { is = is; placed = sound.placed; done = done } in
         record {
           owned = λ spot root family stands.
               stands_next here.opening is g sound.placed done spot root family stands
               ∙ ap (λ part. Store part) (owner_last here.opening is (g.stage + 1) root last);
+          rows = λ root. rows_with o here (paged (episode ∷ earlier)) root at (rows_so_far o earlier episode come root);
+          commits = λ pause has root position. commits_name pause
+              (⊎_elim
+              (λ same. subst IsDone same at)
+              (λ later. paged_done o earlier episode come pause later)
+              (Contains-cases here (paged (episode ∷ earlier)) pause has))
+              root position;
           known = λ pause has. (pages pause has).known;
           last_known = sound.known;
           answered = λ other job there has.

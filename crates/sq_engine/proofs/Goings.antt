@@ -5,7 +5,7 @@ use Rattle.sq_engine.specs.declared.standing.Standing.{Standing}
 use Rattle.sq_engine.specs.declared.standing.Standing.TheVariants.{Running, Paused, Due}
 use Rattle.sq_engine.specs.Values.{EpochValue, PauseValue}
 use Rattle.sq_engine.specs.History.{Episode, EpochEnded, with_other_rows, EndsEpochAfter, RunsAfter, PausesAfter, IsDueAfter}
-use Rattle.sq_engine.specs.Engine.{Stands, KeepsHistoryAndJobs}
+use Rattle.sq_engine.specs.Engine.{Stands, KeepsHistory, KeepsHistoryAndJobs}
 
 -- an engine that stays as it is goes on
 pub stays : (old new : Standing) → new ≡ old → KeepsHistoryAndJobs old new
@@ -30,6 +30,11 @@ pub runs_on : (old new : EpochValue)
     → ((o : OpeningValue) (past : List Episode) → RunsAfter o past old → RunsAfter o past new) → new.jobs ≡ old.jobs
     → KeepsHistoryAndJobs (Running old) (Running new)
 runs_on old new runs jobs = ((λ o past at. ([], runs o past at)), jobs)
+
+-- an epoch runs still, perhaps with more jobs
+pub runs_still : (old new : EpochValue)
+    → ((o : OpeningValue) (past : List Episode) → RunsAfter o past old → RunsAfter o past new) → KeepsHistory (Running old) (Running new)
+runs_still old new runs = λ o past at. ([], runs o past at)
 
 -- an epoch ends
 pub ends : (epoch : EpochValue) (pause : PauseValue)

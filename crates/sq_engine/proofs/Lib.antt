@@ -1,7 +1,9 @@
 pub mod PostedIds
 pub mod Epochs
 pub mod Goings
+pub mod Logs
 pub mod Endings
+pub mod LongLogs
 pub mod Passing
 pub mod Tellers
 pub mod Resting

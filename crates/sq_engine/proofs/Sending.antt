@@ -12,6 +12,7 @@ pub record SendsMost (first : RingTeller) (told : List ReceiptValue) (last : Rin
   pub missing : List ReceiptValue
   pub sends : sent first.producer ++ told ≡ sent last.producer ++ missing
   pub whole : last.broke_off ≡ false → missing ≡ []
+  pub broken : first.broke_off ≡ false → last.broke_off ≡ true → missing ≡ [] → ⊥
 
 same_ring : (teller : RingTeller) → SameProducer teller.producer teller.producer
 same_ring teller = ((refl, refl, refl, refl), refl)
@@ -45,6 +46,7 @@ one_more first receipt next more last tells all rest true off =
       missing = receipt ∷ more;
       sends = ap (λ (list : List ReceiptValue). list ++ receipt ∷ more) (sym (none.1 ∙ tells.breaks_off off));
       whole = λ goes_on. absurd (true≢false (sym none.0 ∙ goes_on));
+      broken = λ on off none_missing. let e : receipt ∷ more ≡ [] = none_missing in cc;
     }
 one_more first receipt next more last tells all rest false on = record {
   ring = ring_through first next last tells.ring rest.ring;
@@ -52,6 +54,7 @@ one_more first receipt next more last tells all rest false on = record {
   sends = sym (append_assoc (sent first.producer) (receipt ∷ []) more)
       ∙ ap (λ (list : List ReceiptValue). list ++ more) (sym (tells.sends on).1) ∙ rest.sends;
   whole = rest.whole;
+  broken = λ _ off none_missing. rest.broken on off none_missing;
 }
 
 pub sends_most : (first : RingTeller) (told : List ReceiptValue) (last : RingTeller) → TellsEach SendsOrBreaksOff first told last
@@ -61,6 +64,7 @@ sends_most first [] last same = record {
   missing = [];
   sends = ap (λ (t : RingTeller). sent t.producer ++ []) (sym same);
   whole = λ goes_on. refl;
+  broken = λ on off none_missing. true≢false (sym off ∙ ap (λ (t : RingTeller). t.broke_off) same ∙ on);
 }
 sends_most first (receipt ∷ more) last all =
     one_more first receipt all.0 more last all.1 all.2 (sends_most all.0 more last all.2) all.0.broke_off refl

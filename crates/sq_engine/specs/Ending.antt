@@ -1,11 +1,18 @@
 -- What the pages of an engine say together, once the last of them is taken.
-use Rattle.std.specs.Prelude.{◌≡◌, ◌⊎◌, ℕ, List, [], ◌∷◌, ◌++◌, Contains, count_by}
-use Rattle.sq_schema.specs.Family.{FamilyValue}
+use Rattle.std.specs.Prelude.{◌≡◌, ◌⊎◌, ℕ, ◌+◌, nat_lt, if◌then◌else◌, List, [], ◌∷◌, ◌++◌, length, Contains, count_by, unwrap_or}
+use Rattle.sq_schema.specs.TxnValue.{TxnValue}
+use Rattle.sq_schema.specs.Effect.{replay_rows}
+use Rattle.sq_schema.specs.Family.{FamilyValue, rows_of}
+use Rattle.sq_store.specs.StoreValue.{absent}
+use Rattle.sq_ranges.specs.OpeningValue.{OpeningValue}
 use Rattle.sq_model.specs.Place.{destination}
+use Rattle.sq_model.specs.Staged.{owner_in}
+use Rattle.sq_model.specs.Tables.{opening_rows}
 use Rattle.sq_node_model.specs.NodeValue.{ReceiptValue}
 use Rattle.sq_node_model.specs.declared.spot.Spot.{Spot}
 use Rattle.sq_node_model.specs.declared.spot.Spot.TheVariants.{Store}
-use Rattle.sq_node_model.specs.Spots.{StandsAt}
+use Rattle.sq_node_model.specs.Spots.{family_at_spot, StandsAt}
+use Rattle.sq_node_model.specs.Receipts.{times_named}
 use Rattle.sq_audit.specs.declared.job.Job.{Job}
 use Rattle.sq_audit.specs.Answers.{AreKnown, is_of}
 use Rattle.sq_audit.specs.Folding.{answered_jobs}
@@ -45,11 +52,29 @@ IsOnPage pauses job =
     (pause : PauseValue) × Contains pauses pause
     × IsAnsweredAmong pause.gathered.receipts (page_jobs pause) job
 
--- an engine that came by these episodes ends as planned at this pause, after the latest of them
-pub record EngineEndsAsPlanned (past : List Episode) (last : PauseValue) : Type 0 where
+-- the family that a root key has after a stage, at its owner then, or an empty one
+abbrev pub family_after : PauseValue → ℕ → FamilyValue
+family_after pause root =
+    let owner = owner_in pause.opening (pause.gathered.stage + 1) root in
+    unwrap_or (family_at_spot pause.gathered (Store owner) root) (absent root)
+
+-- its logs at these pauses, the latest of which is the first of them, one after another
+abbrev pub logs_over : List PauseValue → ℕ → List TxnValue
+logs_over [] root = []
+logs_over (pause ∷ earlier) root = logs_over earlier root ++ (family_after pause root).log
+
+-- an engine that opened with this, and came by these episodes, ends as planned at this pause, after the latest of them
+pub record EngineEndsAsPlanned (o : OpeningValue) (past : List Episode) (last : PauseValue) : Type 0 where
   -- each family is in the store of its owner by the new plan
   pub owned : (spot : Spot) (root : ℕ) (family : FamilyValue)
       → StandsAt last.gathered spot root family → spot ≡ Store (destination last.opening root)
+  -- its rows are those that the engine opened with, with the logs of all pages, and the one since, replayed
+  pub rows : (root : ℕ)
+      → rows_of (family_after last root) ≡ replay_rows (opening_rows o root) (logs_over (last ∷ paged past) root)
+  -- the commits on a page, and those since the last page, name each position of each log there once, and no other
+  pub commits : (pause : PauseValue) → Contains (last ∷ paged past) pause → (root position : ℕ)
+      → times_named root position pause.gathered.receipts
+      ≡ (if nat_lt position (length (family_after pause root).log) then 1 else 0)
   -- each receipt on a page, and each one since the last page, is the answer to a job
   pub known : (pause : PauseValue) → Contains (paged past) pause
       → AreKnown pause.gathered (page_jobs pause)

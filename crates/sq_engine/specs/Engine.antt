@@ -8,7 +8,8 @@ use Rattle.sq_engine.specs.declared.standing.Standing.{Standing}
 use Rattle.sq_engine.specs.declared.standing.Standing.TheVariants.{Running, Paused, Due}
 use Rattle.sq_engine.specs.declared.engine.NotMoved.{NotMoved}
 use Rattle.sq_engine.specs.declared.engine.NotMoved.TheVariants.{Moving, Plans, Memory}
-use Rattle.sq_engine.specs.Values.{PauseValue}
+use Rattle.sq_node_model.specs.NodeValue.{ReceiptValue}
+use Rattle.sq_engine.specs.Values.{PauseValue, receipts_since_page}
 use Rattle.sq_engine.specs.History.{Episode, EpochEnded, RunsAfter, PausesAfter, IsDueAfter}
 
 -- the opening in force, which may have other rows than this one has
@@ -22,6 +23,12 @@ abbrev pub posted_jobs : Standing → List Job
 posted_jobs (Running epoch) = epoch.jobs
 posted_jobs (Paused pause) = pause.jobs
 posted_jobs (Due due) = due.jobs
+
+-- the receipts since the last page
+abbrev pub receipts_in : Standing → List ReceiptValue
+receipts_in (Running epoch) = receipts_since_page epoch
+receipts_in (Paused pause) = pause.gathered.receipts
+receipts_in (Due due) = due.gathered.receipts
 
 -- nothing moves
 abbrev pub EngineRests : Standing → Type 0

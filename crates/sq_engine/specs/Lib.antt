@@ -1,5 +1,6 @@
 pub mod Posted
 pub mod Values
+pub mod LongLog
 pub mod History
 pub mod Outcomes
 pub mod Engine

@@ -5,6 +5,8 @@ use Rattle.sq_audit.specs.Folding.{answered_jobs}
 use Rattle.sq_page.specs.declared.page.Page.{Page}
 use Rattle.sq_page.specs.Pages.{IsPageOf, left_gathered}
 use Rattle.sq_engine.specs.declared.closed.Closed.{Closed}
+use Rattle.sq_engine.specs.declared.pause.NotTaken.{NotTaken}
+use Rattle.sq_engine.specs.declared.pause.NotTaken.TheVariants.{Moving, Memory}
 use Rattle.sq_engine.specs.declared.pause.StageEnd.{StageEnd}
 use Rattle.sq_engine.specs.declared.pause.StageEnd.TheVariants.{Missing, StageDone, MoveDone}
 use Rattle.sq_engine.specs.Values.{PauseValue}
@@ -15,6 +17,11 @@ abbrev pub EndsStage : PauseValue → StageEnd → Type 0
 EndsStage pause Missing = HasDoneStage pause → ⊥
 EndsStage pause StageDone = HasDoneStage pause × HasMoreStages pause
 EndsStage pause MoveDone = HasDoneStage pause × IsLastStage pause
+
+-- why no page is taken of a pause: its stage isn't done, or it is and there is no memory
+abbrev pub GivesNoPage : PauseValue → NotTaken → Type 0
+GivesNoPage pause Moving = HasDoneStage pause → ⊥
+GivesNoPage pause Memory = HasDoneStage pause
 
 -- the page is of a pause, for the jobs that have a receipt, whose ids differ
 pub record IsPageFrom (pause : PauseValue) (page : Page) : Type 0 where

@@ -1,17 +1,21 @@
 -- The jobs that were posted, with their ids.
-use Rattle.std.specs.Prelude.{◌≡◌, ℕ, true, List, Contains}
+use Rattle.std.specs.Prelude.{◌≡◌, ℕ, Bool, ◌==◌, ◌&&◌, not, List}
+use Rattle.std.specs.List.{list_any}
 use Rattle.std.specs.Ordering.{nat_cmp}
 use Rattle.std.specs.BTreeSet.{BTreeSet, contains}
 use Rattle.sq_audit.specs.declared.job.Job.{Job}
 use Rattle.sq_audit.specs.Answers.{IdsDiffer}
 
--- no two of the jobs have the same id, and the id of each is among these; there may be more of them
-pub record HaveIdsAmong (jobs : List Job) (ids : BTreeSet ℕ) : Type 0 where
-  pub differ : IdsDiffer jobs
-  pub among : (job : Job) → Contains jobs job → contains nat_cmp ids job.txn.id ≡ true
+-- one of the jobs has this id
+abbrev pub is_id_in : List Job → ℕ → Bool
+is_id_in jobs id = list_any (λ job. job.txn.id == id) jobs
 
--- the ids stay but for those of these jobs
-abbrev pub KeepsOtherIds : List Job → BTreeSet ℕ → BTreeSet ℕ → Type 0
-KeepsOtherIds jobs old new =
-    (id : ℕ) → ((job : Job) → Contains jobs job → job.txn.id ≡ id → ⊥)
-    → contains nat_cmp new id ≡ contains nat_cmp old id
+-- no two of the jobs have the same id, and these ids are just theirs
+pub record HaveJustIds (jobs : List Job) (ids : BTreeSet ℕ) : Type 0 where
+  pub differ : IdsDiffer jobs
+  pub each : (id : ℕ) → contains nat_cmp ids id ≡ is_id_in jobs id
+
+-- the ids of these jobs go, and the others stay
+abbrev pub ForgetsIds : List Job → BTreeSet ℕ → BTreeSet ℕ → Type 0
+ForgetsIds jobs old new =
+    (id : ℕ) → contains nat_cmp new id ≡ (contains nat_cmp old id && not (is_id_in jobs id))

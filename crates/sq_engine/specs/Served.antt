@@ -1,7 +1,10 @@
--- An epoch that was served.
+-- An epoch that was served, and an engine.
 use Rattle.std.specs.Prelude.{Bool, List, ◌++◌}
 use Rattle.sq_engine.specs.Values.{EpochValue}
 use Rattle.sq_engine.specs.History.{OnlyDriven}
+use Rattle.sq_engine.specs.declared.standing.Standing.{Standing}
+use Rattle.sq_engine.specs.declared.standing.Standing.TheVariants.{Running}
+use Rattle.sq_engine.specs.Engine.{KeepsHistory, KeepsHistoryAndJobs}
 use Rattle.sq_engine.specs.Exchanges.{ClientCall, Exchange, ExchangesEach, posted_in}
 use Rattle.sq_engine.specs.Serving.{AllAreGiven}
 
@@ -12,3 +15,13 @@ pub record EpochIsServed {X : Type 0} (becomes : X → ClientCall → X → Type
   pub client : ExchangesEach becomes before exchanges after
   pub driven : OnlyDriven (record old { jobs = old.jobs ++ posted_in exchanges }) new
   pub given : AllAreGiven is_whole exchanges old.nodes new.nodes
+
+-- an engine went on to an epoch, that was served, and the engine went on from there
+pub record EngineIsServed {X : Type 0} (becomes : X → ClientCall → X → Type 0) (old : Standing) (before : X)
+    (new : Standing) (after : X) (is_whole : Bool) : Type 0 where
+  pub epoch : EpochValue
+  pub comes : KeepsHistoryAndJobs old (Running epoch)
+  pub served_epoch : EpochValue
+  pub served : EpochIsServed becomes epoch before served_epoch after is_whole
+  pub history : KeepsHistory (Running epoch) (Running served_epoch)
+  pub goes_on : KeepsHistoryAndJobs (Running served_epoch) new

@@ -1,5 +1,5 @@
 -- An epoch that is served.
-use Rattle.std.specs.Prelude.{◌≡◌, ℕ, ◌<◌, ◌≤◌, Bool, true, List, [], ◌++◌, length, slice_index_or, vec_capacity}
+use Rattle.std.specs.Prelude.{◌≡◌, ◌≢◌, ℕ, ◌<◌, ◌≤◌, Bool, true, false, List, [], ◌++◌, length, slice_index_or, vec_capacity}
 use Rattle.sq_node_model.specs.NodeValue.{ReceiptValue}
 use Rattle.sq_pull.specs.Pump.{PumpValue}
 use Rattle.sq_node.specs.NodeState.{NodeState}
@@ -24,11 +24,19 @@ pub record AreGiven (is_whole : Bool) (given : List ReceiptValue) (old new : Nod
   pub written : new.receipts ≡ old.receipts ++ given ++ missing
   pub whole : is_whole ≡ true → missing ≡ []
 
--- a client was given the answers of each partition, and of no other
+-- an answer that a node wrote wasn't given
+pub record LacksAnswer (given : List ReceiptValue) (old new : NodeState) : Type 0 where
+  pub missing : List ReceiptValue
+  pub written : new.receipts ≡ old.receipts ++ given ++ missing
+  pub some : missing ≢ []
+
+-- a client was given the answers of each partition, and of no other. Where not all came, one of a partition is missing
 pub record AllAreGiven (is_whole : Bool) (exchanges : List Exchange) (old new : List NodeState) : Type 0 where
   pub each : (part : ℕ) (d : NodeState) → part < length old
       → AreGiven is_whole (given_from part exchanges) (slice_index_or old part d) (slice_index_or new part d)
   pub no_other : (part : ℕ) → length old ≤ part → given_from part exchanges ≡ []
+  pub not_whole : is_whole ≡ false → (part : ℕ) × (part < length old)
+      × ((d : NodeState) → LacksAnswer (given_from part exchanges) (slice_index_or old part d) (slice_index_or new part d))
 
 -- the workers of an epoch were driven, and its client was served
 pub record IsServedWith {X : Type 0} (becomes : X → ClientCall → X → Type 0) (fabric : FabricValue)

@@ -5,8 +5,8 @@ use Rattle.sq_page.specs.declared.page.Page.{Page}
 use Rattle.sq_engine.specs.declared.closed.Closed.{Closed}
 use Rattle.sq_engine.specs.declared.standing.Standing.{Standing}
 use Rattle.sq_engine.specs.declared.standing.Standing.TheVariants.{Paused}
-use Rattle.sq_engine.specs.declared.engine.NotTaken.{NotTaken}
-use Rattle.sq_engine.specs.declared.engine.NotTaken.TheVariants.{Moving, Memory}
+use Rattle.sq_engine.specs.declared.pause.NotTaken.{NotTaken}
+use Rattle.sq_engine.specs.declared.pause.NotTaken.TheVariants.{Moving, Memory}
 use Rattle.sq_engine.specs.declared.rest_page.RestPage.{RestPage}
 use Rattle.sq_engine.specs.Values.{PauseValue}
 use Rattle.sq_engine.specs.History.{Episode, IsLastStage, HasDoneStage, PausesAfter, GoesOnAfterPage}

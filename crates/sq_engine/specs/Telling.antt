@@ -1,5 +1,6 @@
 -- Nodes with their tellers, which send over rings.
-use Rattle.std.specs.Prelude.{◌≡◌, ℕ, ◌<◌, false, List, [], length, map, slice_index_or}
+use Rattle.std.specs.Prelude.{◌≡◌, ℕ, ◌<◌, Bool, false, not, List, [], length, map, slice_index_or}
+use Rattle.std.specs.List.{list_all}
 use Rattle.rtrb.specs.Ring.{sent, received, IsPair}
 use Rattle.rtrb.specs.declared.consumer.Consumer.{Consumer}
 use Rattle.rtrb.specs.declared.AnyItems.{AnyItems}
@@ -42,6 +43,5 @@ HasAllSent pairs rings =
     → received (slice_index_or rings i r) ≡ sent (slice_index_or pairs i p).teller.producer
 
 -- none of the tellers broke off
-abbrev pub NoneBrokeOff : List (TellingNode RingTeller) → Type 0
-NoneBrokeOff pairs =
-    (i : ℕ) (p : TellingNode RingTeller) → i < length pairs → (slice_index_or pairs i p).teller.broke_off ≡ false
+abbrev pub are_whole : List (TellingNode RingTeller) → Bool
+are_whole pairs = list_all (λ pair. not pair.teller.broke_off) pairs

@@ -1,8 +1,10 @@
 -- An engine as a value: in an epoch, and between two.
-use Rattle.std.specs.Prelude.{ℕ, ◌==◌, List, count_by}
+use Rattle.std.specs.Prelude.{ℕ, ◌==◌, List, ◌++◌, count_by}
+use Rattle.std.specs.List.{flat_map}
 use Rattle.sq_ranges.specs.ReconValue.{ReconValue, stage_in}
 use Rattle.sq_ranges.specs.OpeningValue.{OpeningValue}
 use Rattle.sq_pull.specs.Pump.{PumpValue}
+use Rattle.sq_node_model.specs.NodeValue.{ReceiptValue}
 use Rattle.sq_node_model.specs.Gathered.{GatheredValue}
 use Rattle.sq_node.specs.FabricValue.{FabricValue}
 use Rattle.sq_node.specs.NodeState.{NodeState}
@@ -21,6 +23,10 @@ pub record PauseValue : Type 0 where
   pub opening : OpeningValue
   pub jobs : List Job
   pub gathered : GatheredValue
+
+-- the receipts since the last page
+abbrev pub receipts_since_page : EpochValue → List ReceiptValue
+receipts_since_page epoch = epoch.fabric.receipts ++ flat_map (λ (node : NodeState). node.receipts) epoch.nodes
 
 -- how many segments move in a stage
 abbrev pub stage_segments : ReconValue → ℕ → ℕ

@@ -1,7 +1,7 @@
 // Which jobs have a receipt.
 ghost use Rattle.std.specs.Prelude.{◌≡◌, filter, not, IfOk};
 ghost use Rattle.sq_audit.specs.Counts.{Counts, is_counted};
-ghost use Rattle.sq_engine.specs.Posted.{KeepsOtherIds};
+ghost use Rattle.sq_engine.specs.Posted.{ForgetsIds};
 
 use sq_audit::Job;
 use sq_node::Receipt;
@@ -50,7 +50,7 @@ pub(crate) fn leave_unanswered(counts: &BTreeMap<(u64, u64), u64>, jobs: &mut Ve
 
 /// Takes the ids of these jobs out.
 pub(crate) fn forget_ids(ids: &mut BTreeSet<u64>, jobs: &[Job])
-    ensures { KeepsOtherIds jobs.now ids.old ids.new }
+    ensures { ForgetsIds jobs.now ids.old ids.new }
 {
     for job in jobs {
         let id = job.txn.id();

@@ -1,17 +1,24 @@
 // An engine that lasts.
-ghost use Rattle.std.specs.Prelude.{◌≡◌, ◌≤◌, ◌↔◌, ◌∷◌, [], ◌++◌, IsTrue, IfOk, IfErr, OnOk, OnErr};
+ghost use Rattle.std.specs.Prelude.{◌≡◌, ◌≤◌, ◌↔◌, ◌∷◌, [], ◌++◌, IsTrue, IfOk, IfErr, OnOk, OnErr, IsErrOf};
+ghost use Rattle.std.specs.List.{list_any};
 ghost use Rattle.sq_pull.specs.declared.numbers.TheConstants.{MAX_PUMPS};
 ghost use Rattle.sq_ranges.specs.Prelude.{IsSetUp};
 ghost use Rattle.sq_ranges.specs.Between.{recon_fault};
 ghost use Rattle.sq_engine.specs.History.{onward_opening};
-ghost use Rattle.sq_engine.specs.Engine.{opening_in, posted_jobs, EngineRests, Stands, KeepsHistory, KeepsHistoryAndJobs, IsNotMoved};
+ghost use Rattle.sq_engine.specs.Engine.{opening_in, posted_jobs, receipts_in, EngineRests, Stands, KeepsHistory, KeepsHistoryAndJobs, IsNotMoved};
+ghost use Rattle.sq_engine.specs.Posted.{is_id_in};
+ghost use Rattle.sq_engine.specs.LongLog.{shows_long_log};
+ghost use Rattle.sq_engine.specs.Served.{EngineIsServed};
 ghost use Rattle.sq_engine.specs.Taken.{TakesItsPage, TakesPage, IsNotTaken, HasClosedAfter};
 
+use crate::client::Client;
 use crate::closed::Closed;
 use crate::epoch::Epoch;
-use crate::gate::CountingGate;
+use crate::long_log::any_shows_long_log;
+use crate::pause::NotTaken;
 use crate::posted::PostFault;
 use crate::rest_page::RestPage;
+use crate::serving::Served;
 use crate::standing::{Standing, done_pause_of, go_on, move_from, pause_of, resume};
 use sq_driver::Gate;
 use sq_page::Page;
@@ -35,23 +42,12 @@ pub enum NotMoved {
     Memory,
 }
 
-/// Why no page is taken of an engine.
-#[derive(Clone, Copy, Debug, PartialEq, Eq, Error)]
-pub enum NotTaken {
-    #[error("rows move")]
-    Moving,
-    #[error("out of memory")]
-    Memory,
-}
-
 /// An engine that lasts: jobs are posted and answered while rows move, and one move follows another. To a contract it is its
 /// `Standing`.
 #[derive(Drop)]
 pub struct Engine {
     standing: Standing,
     pumps: u32,
-    // How many segments of the running stage are complete.
-    complete: u64,
 }
 
 impl Model for Engine {
@@ -68,6 +64,15 @@ impl Model for Engine {
     ghost view = { λ e. e.standing };
 
     ghost invariant = { λ e. e.pumps ≤ MAX_PUMPS };
+}
+
+/// An engine that was served.
+#[derive(Drop)]
+pub struct EngineServed {
+    /// The engine, which has gone on where it could.
+    pub engine: Engine,
+    /// Whether each answer that was written was given, as in [`Served`].
+    pub is_whole: bool,
 }
 
 impl Engine {
@@ -88,7 +93,6 @@ impl Engine {
         Ok(Engine {
             standing: Standing::Running(epoch),
             pumps,
-            complete: 0,
         })
     }
 
@@ -116,6 +120,8 @@ impl Engine {
         ensures ok { OnOk result (posted_jobs self.new
             ≡ posted_jobs self.old ++ record { part = part; txn = txn.now } ∷ []) }
         ensures err { OnErr result (self.new ≡ self.old) }
+        ensures repeated { IsErrOf result PostFault.RepeatedId
+            → IsTrue (is_id_in (posted_jobs self.old) txn.now.id) }
         ensures history { KeepsHistory self.old self.new }
     {
         match &mut self.standing {
@@ -136,23 +142,59 @@ impl Engine {
     ) -> Engine
         ensures { KeepsHistoryAndJobs self result }
     {
-        let Engine {
-            standing,
-            pumps,
-            complete,
-        } = self;
+        let Engine { standing, pumps } = self;
         match resume(alloc, standing, pumps) {
             Standing::Running(epoch) => {
-                let segments = epoch.segments();
-                let counting = CountingGate::new(gate, segments, complete);
-                let epoch = epoch.run(rt, turns, &counting);
-                end_stage(rt, alloc, epoch, pumps, segments, counting.complete())
+                let standing = end_stage(rt, alloc, epoch.run(rt, turns, gate), pumps);
+                Engine { standing, pumps }
             }
-            standing => Engine {
-                standing,
-                pumps,
-                complete: 0,
+            standing => Engine { standing, pumps },
+        }
+    }
+
+    /// Runs the epoch with a client, as [`Epoch::serve`] does, and then goes on where it can, as [`Engine::run_epoch`] does. At
+    /// rest the epoch ends too where an answer shows that a page should be taken ([`Engine::wants_page`]). Where there is no
+    /// memory the engine comes back, perhaps in a later stage, and the client was not called.
+    pub fn serve<C: Client, R: Threads + Wait + Sync>(
+        self,
+        rt: &R,
+        alloc: Global,
+        turns: u64,
+        client: &mut C,
+    ) -> Result<EngineServed, Engine>
+        ensures served { IfOk result (λ served.
+            EngineIsServed C.Becomes self client.old served.engine client.new served.is_whole) }
+        ensures not_served { IfErr result (KeepsHistoryAndJobs self) }
+        ensures not_called { OnErr result (client.new ≡ client.old) }
+    {
+        let Engine { standing, pumps } = self;
+        match resume(alloc, standing, pumps) {
+            Standing::Running(epoch) => match epoch.serve(rt, alloc, turns, client) {
+                Ok(Served { epoch, is_whole }) => {
+                    let standing = end_stage(rt, alloc, epoch, pumps);
+                    Ok(EngineServed {
+                        engine: Engine { standing, pumps },
+                        is_whole,
+                    })
+                }
+                Err(epoch) => Err(Engine {
+                    standing: Standing::Running(epoch),
+                    pumps,
+                }),
             },
+            standing => Err(Engine { standing, pumps }),
+        }
+    }
+
+    /// Whether a log is so long that a page should be taken once the engine is at rest: a receipt since the last page has
+    /// [`LONG_LOG`] or a later position.
+    pub fn wants_page(&self) -> bool
+        ensures { result ≡ list_any shows_long_log (receipts_in self.now) }
+    {
+        match &self.standing {
+            Standing::Running(epoch) => epoch.wants_page(),
+            Standing::Paused(pause) => any_shows_long_log(&pause.gathered().receipts),
+            Standing::Due(due) => any_shows_long_log(&due.gathered().receipts),
         }
     }
 
@@ -176,25 +218,10 @@ impl Engine {
         if let Some(fault) = plan_fault(self.opening(), &plan) {
             return Err((NotMoved::Plans(fault), self));
         }
-        let Engine {
-            standing,
-            pumps,
-            complete,
-        } = self;
+        let Engine { standing, pumps } = self;
         match go_to(rt, alloc, standing, plan, pumps) {
-            Ok(standing) => Ok(Engine {
-                standing,
-                pumps,
-                complete: 0,
-            }),
-            Err(standing) => Err((
-                NotMoved::Memory,
-                Engine {
-                    standing,
-                    pumps,
-                    complete,
-                },
-            )),
+            Ok(standing) => Ok(Engine { standing, pumps }),
+            Err(standing) => Err((NotMoved::Memory, Engine { standing, pumps })),
         }
     }
 
@@ -217,11 +244,7 @@ impl Engine {
         };
         let schema = self.opening().schema();
         let config = self.opening().config();
-        let Engine {
-            standing,
-            pumps,
-            complete,
-        } = self;
+        let Engine { standing, pumps } = self;
         match page_of(rt, alloc, standing, pumps) {
             Ok((page, standing)) => Ok((
                 RestPage {
@@ -230,20 +253,9 @@ impl Engine {
                     plan,
                     config,
                 },
-                Engine {
-                    standing,
-                    pumps,
-                    complete: 0,
-                },
+                Engine { standing, pumps },
             )),
-            Err(standing) => Err((
-                NotTaken::Memory,
-                Engine {
-                    standing,
-                    pumps,
-                    complete,
-                },
-            )),
+            Err(standing) => Err((NotTaken::Memory, Engine { standing, pumps })),
         }
     }
 
@@ -261,60 +273,25 @@ impl Engine {
         if !self.is_at_rest() {
             return Err((NotTaken::Moving, self));
         }
-        let Engine {
-            standing,
-            pumps,
-            complete,
-        } = self;
+        let Engine { standing, pumps } = self;
         match close_standing(rt, alloc, standing) {
             Ok(closed) => Ok(closed),
-            Err(standing) => Err((
-                NotTaken::Memory,
-                Engine {
-                    standing,
-                    pumps,
-                    complete,
-                },
-            )),
+            Err(standing) => Err((NotTaken::Memory, Engine { standing, pumps })),
         }
     }
 }
 
-// An engine whose epoch ran, with so many segments in its stage, of which so many were told to be complete: it goes on where
-// those are all.
-fn end_stage<R: Wait>(
-    rt: &R,
-    alloc: Global,
-    epoch: Epoch,
-    pumps: u32,
-    segments: u64,
-    complete: u64,
-) -> Engine
+// Goes on from an epoch that ran, where the segments of its stage are complete by what its workers told.
+fn end_stage<R: Wait>(rt: &R, alloc: Global, epoch: Epoch, pumps: u32) -> Standing
     requires { pumps ≤ MAX_PUMPS }
     ensures { KeepsHistoryAndJobs (Standing.Running epoch) result }
 {
-    if segments == 0 || complete < segments {
-        return Engine {
-            standing: Standing::Running(epoch),
-            pumps,
-            complete,
-        };
+    if !epoch.is_stage_done() {
+        return Standing::Running(epoch);
     }
-    let pause = match pause_of(rt, alloc, Standing::Running(epoch)) {
-        Ok(pause) => pause,
-        Err(standing) => {
-            return Engine {
-                standing,
-                pumps,
-                complete,
-            };
-        }
-    };
-    let standing = go_on(alloc, pause, pumps);
-    Engine {
-        standing,
-        pumps,
-        complete: 0,
+    match pause_of(rt, alloc, Standing::Running(epoch)) {
+        Ok(pause) => go_on(alloc, pause, pumps),
+        Err(standing) => standing,
     }
 }
 
@@ -360,7 +337,7 @@ fn page_of<R: Threads + Wait + Sync>(
     let pause = done_pause_of(rt, alloc, standing)?;
     match pause.take_page(rt, alloc) {
         Ok((page, left)) => Ok((page, go_on(alloc, left, pumps))),
-        Err(pause) => Err(Standing::Paused(pause)),
+        Err((_, pause)) => Err(Standing::Paused(pause)),
     }
 }
 
@@ -376,6 +353,6 @@ fn close_standing<R: Threads + Wait + Sync>(
     let pause = done_pause_of(rt, alloc, standing)?;
     match pause.close(rt, alloc) {
         Ok(closed) => Ok(closed),
-        Err(pause) => Err(Standing::Paused(pause)),
+        Err((_, pause)) => Err(Standing::Paused(pause)),
     }
 }

@@ -1,17 +1,23 @@
 // An epoch of an engine.
-ghost use Rattle.std.specs.Prelude.{◌≡◌, ◌≤◌, ◌∷◌, [], ◌++◌, List, length, IfOk, IfErr, OnOk, OnErr};
+ghost use Rattle.std.specs.Prelude.{◌≡◌, ◌≤◌, ◌∷◌, [], ◌++◌, List, length, IfOk, IfErr, OnOk, OnErr, IsErrOf, IsTrue};
+ghost use Rattle.std.specs.List.{list_any};
 ghost use Rattle.sq_pull.specs.declared.numbers.TheConstants.{MAX_PUMPS};
 ghost use Rattle.sq_ranges.specs.Prelude.{OpeningValue, IsSetUp};
 ghost use Rattle.sq_node.specs.Prelude.{IsNodeOf};
 ghost use Rattle.sq_driver.specs.Nodes.{AllDriven};
 ghost use Rattle.sq_driver.specs.Pumps.{AllPumpsDriven};
 ghost use Rattle.sq_audit.specs.Answers.{IdsDiffer};
-ghost use Rattle.sq_engine.specs.Values.{stage_segments};
+ghost use Rattle.sq_engine.specs.Values.{stage_segments, receipts_since_page};
+ghost use Rattle.sq_engine.specs.Posted.{is_id_in};
+ghost use Rattle.sq_engine.specs.LongLog.{shows_long_log};
 ghost use Rattle.sq_engine.specs.History.{Episode, RunsAfter, EndsEpochAfter, OnlyDriven};
 
+use crate::gate::CountingGate;
+use crate::long_log::{any_node_shows_long_log, any_shows_long_log};
 use crate::pause::Pause;
 use crate::posted::{PostFault, PostedJobs};
 use crate::posting::post_job;
+use crate::stage_progress::StageProgress;
 use sq_audit::Job;
 use sq_driver::{Gate, run_workers};
 use sq_gather::{Ungathered, gather};
@@ -34,6 +40,7 @@ pub struct Epoch {
     pub(crate) fabric: Fabric,
     pub(crate) nodes: Vec<Node>,
     pub(crate) pumps: Vec<Pump>,
+    pub(crate) progress: StageProgress,
 }
 
 impl Model for Epoch {
@@ -84,12 +91,14 @@ impl Epoch {
         // For the proof alone: what was handed in is an opening, and this is a fabric.
         let _recon = opening.recon();
         let _trees = fabric.trees();
+        let progress = progress_at_start(&opening, &fabric);
         Ok(Epoch {
             opening,
             jobs: PostedJobs::new(alloc),
             fabric,
             nodes,
             pumps,
+            progress,
         })
     }
 
@@ -126,6 +135,8 @@ impl Epoch {
           jobs = self.old.jobs ++ record { part = part; txn = txn.now } ∷ [];
         }) }
         ensures err { OnErr result (self.new ≡ self.old) }
+        ensures repeated { IsErrOf result PostFault.RepeatedId
+            → IsTrue (is_id_in self.old.jobs txn.now.id) }
         ensures history { (o : OpeningValue) (past : List Episode)
             → RunsAfter o past self.old → RunsAfter o past self.new }
     {
@@ -133,8 +144,9 @@ impl Epoch {
     }
 
     /// Runs the workers: each partition and each pump in a thread of its own, for this many turns at most. All of them have
-    /// ended when it returns. A node ends before where it is idle, and each worker where the gate says so. Jobs may be posted
-    /// after that, and the workers run again.
+    /// ended when it returns. A node ends before where it is idle, and each worker where the gate says so. Where nodes that are
+    /// idle go on by the gate, they end once each segment that moves in the stage is complete. Jobs may be posted after that, and
+    /// the workers run again.
     pub fn run<R: Threads + Wait + Sync, G: Gate + Sync>(
         self,
         rt: &R,
@@ -151,17 +163,21 @@ impl Epoch {
             fabric,
             mut nodes,
             mut pumps,
+            progress,
         } = self;
         // For the proof alone: what was handed in is an opening.
         let _recon = opening.recon();
-        run_workers(rt, &fabric, &mut nodes, &mut pumps, turns, gate);
+        let counting = CountingGate::new(gate, progress);
+        run_workers(rt, &fabric, &mut nodes, &mut pumps, turns, &counting);
         fabric.open_jobs(rt);
+        let progress = counting.progress();
         Epoch {
             opening,
             jobs,
             fabric,
             nodes,
             pumps,
+            progress,
         }
     }
 
@@ -180,6 +196,7 @@ impl Epoch {
             fabric,
             nodes,
             pumps,
+            progress,
         } = self;
         // For the proof alone: what was handed in is an opening.
         let _recon = opening.recon();
@@ -201,9 +218,27 @@ impl Epoch {
                 fabric,
                 nodes,
                 pumps,
+                progress,
             }),
         }
     }
+
+    // Whether a receipt since the last page shows a long log.
+    pub(crate) fn wants_page(&self) -> bool
+        ensures { result ≡ list_any shows_long_log (receipts_since_page self.now) }
+    {
+        any_shows_long_log(self.fabric.receipts()) || any_node_shows_long_log(&self.nodes)
+    }
+
+    // Whether segments move in the stage, and all of them are complete by what the workers told.
+    pub(crate) fn is_stage_done(&self) -> bool {
+        self.progress.is_done()
+    }
+}
+
+/// How far the stage of an opening is that begins with this.
+pub(crate) fn progress_at_start(opening: &Opening, fabric: &Fabric) -> StageProgress {
+    StageProgress::at_start(stage_segments(opening.recon(), fabric.stage()))
 }
 
 // How many segments move in a stage.

@@ -1,4 +1,5 @@
 // When an epoch that is served ends.
+use crate::stage_progress::StageProgress;
 use sq_driver::{Gate, NodeStep, WorkerEvent, WorkerId};
 use std::sync::atomic::{AtomicBool, AtomicU64, Ordering};
 
@@ -9,18 +10,20 @@ pub(crate) struct EpochGate {
     is_over: AtomicBool,
     have_begun: AtomicBool,
     have_ended: AtomicBool,
-    segments_left: AtomicU64,
+    segments: u64,
+    complete: AtomicU64,
     answers: AtomicU64,
 }
 
 impl EpochGate {
-    /// For an epoch in which this many segments move, and whose workers haven't begun.
-    pub(crate) fn new(segments: u64) -> EpochGate {
+    /// For an epoch whose stage is so far, and whose workers haven't begun. Where the stage is done it is over.
+    pub(crate) fn new(progress: StageProgress) -> EpochGate {
         EpochGate {
-            is_over: AtomicBool::new(false),
+            is_over: AtomicBool::new(progress.is_done()),
             have_begun: AtomicBool::new(false),
             have_ended: AtomicBool::new(false),
-            segments_left: AtomicU64::new(segments),
+            segments: progress.segments,
+            complete: AtomicU64::new(progress.complete),
             answers: AtomicU64::new(0),
         }
     }
@@ -55,6 +58,14 @@ impl EpochGate {
         self.have_ended.load(Ordering::SeqCst)
     }
 
+    /// How far the stage is.
+    pub(crate) fn progress(&self) -> StageProgress {
+        StageProgress {
+            segments: self.segments,
+            complete: self.complete.load(Ordering::SeqCst),
+        }
+    }
+
     /// How many answers were written. The teller of each had been told of it before.
     pub(crate) fn answers(&self) -> u64 {
         self.answers.load(Ordering::SeqCst)
@@ -72,7 +83,8 @@ impl Gate for EpochGate {
                 self.answers.fetch_add(1, Ordering::SeqCst);
             }
             WorkerEvent::SegmentComplete => {
-                if self.segments_left.fetch_sub(1, Ordering::SeqCst) == 1 {
+                self.complete.fetch_add(1, Ordering::SeqCst);
+                if self.progress().is_done() {
                     self.end();
                 }
             }

@@ -78,7 +78,8 @@ impl Front {
     }
 
     // Gives a client what has come, and does what it wants next, unless the epoch is over. It is over where an answer that was
-    // told hasn't come, since its teller broke off then. Whether there was something to do.
+    // told hasn't come, since its teller broke off then, and at rest where what came shows a long log. Whether there was
+    // something to do.
     fn take_turn<C: Client, R: Wait>(
         &mut self,
         rt: &R,
@@ -92,14 +93,14 @@ impl Front {
     {
         let told = gate.answers();
         let came = give_come(fabric.parts(), &mut self.rings, client);
-        self.given = self.given.saturating_add(came);
-        if self.given < told {
+        self.given = self.given.saturating_add(came.count);
+        if self.given < told || (came.show_long_log && gate.progress().is_rest()) {
             gate.end();
         }
         if gate.is_over() {
-            return came > 0;
+            return came.count > 0;
         }
-        ask(rt, fabric, gate, &mut self.jobs, client) | (came > 0)
+        ask(rt, fabric, gate, &mut self.jobs, client) | (came.count > 0)
     }
 }
 

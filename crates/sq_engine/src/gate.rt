@@ -1,4 +1,5 @@
 // The gate of an epoch.
+use crate::stage_progress::StageProgress;
 use sq_driver::{Gate, NodeStep, WorkerEvent, WorkerId};
 use std::sync::Wait;
 use std::sync::atomic::{AtomicU64, Ordering};
@@ -13,29 +14,27 @@ pub(crate) struct CountingGate<'a, G> {
 }
 
 impl<'a, G: Gate> CountingGate<'a, G> {
-    /// Before this gate, in a stage of so many segments, of which so many are complete.
-    pub(crate) fn new(gate: &'a G, segments: u64, complete: u64) -> CountingGate<'a, G> {
+    /// Before this gate, in a stage that is so far.
+    pub(crate) fn new(gate: &'a G, progress: StageProgress) -> CountingGate<'a, G> {
         CountingGate {
             gate,
-            segments,
-            complete: AtomicU64::new(complete),
+            segments: progress.segments,
+            complete: AtomicU64::new(progress.complete),
         }
     }
 
-    /// How many segments are complete.
-    pub(crate) fn complete(&self) -> u64 {
-        self.complete.load(Ordering::SeqCst)
-    }
-
-    // Whether segments move in the stage, and all of them are complete.
-    fn is_done(&self) -> bool {
-        self.segments > 0 && self.complete() >= self.segments
+    /// How far the stage is.
+    pub(crate) fn progress(&self) -> StageProgress {
+        StageProgress {
+            segments: self.segments,
+            complete: self.complete.load(Ordering::SeqCst),
+        }
     }
 }
 
 impl<G: Gate> Gate for CountingGate<'_, G> {
     fn pass(&self, who: WorkerId, step: NodeStep) -> bool {
-        if self.is_done() && !self.gate.ends_idle() {
+        if self.progress().is_done() && !self.gate.ends_idle() {
             return false;
         }
         self.gate.pass(who, step)

@@ -30,8 +30,9 @@ pub fn a_page_speaks_for_an_engine()
 {}
 
 /// A sound engine ends where it was planned: where each page was found sound, and what is left after the last stage of a move
-/// is, for all jobs that are on no page, each family is in the store of its owner by the new plan, each receipt is the answer to
-/// a job, and each job that was posted has one receipt.
+/// is, for all jobs that are on no page, each family is in the store of its owner by the new plan; its rows are those that the
+/// engine opened with, with all that committed since on its root key replayed in the order of its logs, page by page; each
+/// receipt is the answer to a job, and each job that was posted has one receipt.
 pub fn a_sound_engine_ends_where_planned()
     ensures { (o : OpeningValue) (past : List Episode) (episode : Episode)
         → HaveCome o (episode ∷ past) → IsOpening (pause_after episode).opening
@@ -39,5 +40,5 @@ pub fn a_sound_engine_ends_where_planned()
         → AllSound (paged (episode ∷ past))
         → IsSoundRun (pause_after episode).opening (pause_after episode).gathered
         (pause_after episode).jobs
-        → EngineEndsAsPlanned (episode ∷ past) (pause_after episode) }
+        → EngineEndsAsPlanned o (episode ∷ past) (pause_after episode) }
 {}

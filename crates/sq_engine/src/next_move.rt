@@ -4,7 +4,7 @@ ghost use Rattle.sq_pull.specs.declared.numbers.TheConstants.{MAX_PUMPS};
 ghost use Rattle.sq_ranges.specs.Prelude.{OpeningValue, IsSetUp};
 ghost use Rattle.sq_engine.specs.History.{Episode, IsDueAfter, RunsAfter};
 
-use crate::epoch::Epoch;
+use crate::epoch::{Epoch, progress_at_start};
 use crate::posted::PostedJobs;
 use sq_gather::{Gathered, move_on};
 use sq_ranges::Opening;
@@ -50,6 +50,13 @@ impl NextMove {
         &self.opening
     }
 
+    /// What the last epoch left.
+    pub fn gathered(&self) -> &Gathered
+        ensures { result.now ≡ self.now.gathered }
+    {
+        &self.gathered
+    }
+
     /// Begins the first stage of the move, with this many pumps. Where there is no memory all comes back as it was.
     pub fn begin(self, alloc: Global, pumps: u32) -> Result<Epoch, NextMove>
         requires { pumps ≤ MAX_PUMPS }
@@ -65,13 +72,17 @@ impl NextMove {
             gathered,
         } = self;
         match move_on(alloc, &opening, gathered, pumps) {
-            Ok((fabric, nodes, pumps)) => Ok(Epoch {
-                opening,
-                jobs,
-                fabric,
-                nodes,
-                pumps,
-            }),
+            Ok((fabric, nodes, pumps)) => {
+                let progress = progress_at_start(&opening, &fabric);
+                Ok(Epoch {
+                    opening,
+                    jobs,
+                    fabric,
+                    nodes,
+                    pumps,
+                    progress,
+                })
+            }
             Err(gathered) => Err(NextMove {
                 opening,
                 jobs,

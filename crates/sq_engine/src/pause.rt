@@ -1,5 +1,5 @@
 // What an epoch left.
-ghost use Rattle.std.specs.Prelude.{◌≡◌, ◌+◌, ◌<◌, ◌≤◌, true, false, List, filter, None, MatchResult, IfOk, IfErr};
+ghost use Rattle.std.specs.Prelude.{◌≡◌, ◌+◌, ◌<◌, ◌≤◌, true, false, List, filter, None, MatchResult, IfOk, IfErr, OnOk};
 ghost use Rattle.sq_schema.specs.Prelude.{TableValue};
 ghost use Rattle.sq_pull.specs.declared.numbers.TheConstants.{MAX_PUMPS};
 ghost use Rattle.sq_ranges.specs.Prelude.{OpeningValue, IsSetUp, stages};
@@ -8,11 +8,11 @@ ghost use Rattle.sq_node_model.specs.Prelude.{IsPlaced, folded_opening};
 ghost use Rattle.sq_audit.specs.Answers.{IdsDiffer};
 ghost use Rattle.sq_audit.specs.Counts.{Counts, is_counted};
 ghost use Rattle.sq_engine.specs.History.{Episode, HasMoreStages, IsLastStage, HasDoneStage, RunsAfter, PausesAfter, GoesOnAfterPage, IsDueAfter, onward_opening};
-ghost use Rattle.sq_engine.specs.Outcomes.{EndsStage, IsPageFrom, HasClosed};
+ghost use Rattle.sq_engine.specs.Outcomes.{EndsStage, IsPageFrom, HasClosed, GivesNoPage};
 
 use crate::answered::{copy_answered, count};
 use crate::closed::Closed;
-use crate::epoch::Epoch;
+use crate::epoch::{Epoch, progress_at_start};
 use crate::next_move::NextMove;
 use crate::posted::PostedJobs;
 use sq_audit::Job;
@@ -24,6 +24,7 @@ use std::alloc::{AllocError, Global};
 use std::collections::BTreeMap;
 use std::marker::Model;
 use std::thread::Threads;
+use thiserror::Error;
 
 /// How far a move is once an epoch of it has ended.
 #[derive(Clone, Copy, Debug, PartialEq, Eq)]
@@ -34,6 +35,15 @@ pub enum StageEnd {
     StageDone,
     /// Each segment of the last stage is complete.
     MoveDone,
+}
+
+/// Why no page is taken.
+#[derive(Clone, Copy, Debug, PartialEq, Eq, Error)]
+pub enum NotTaken {
+    #[error("rows move")]
+    Moving,
+    #[error("out of memory")]
+    Memory,
 }
 
 /// An engine between two epochs: what the last one left, which is placed. To a contract it is a `PauseValue`, to which some
@@ -124,13 +134,17 @@ impl Pause {
             gathered,
         } = self;
         match reopen(alloc, &opening, gathered, pumps) {
-            Ok((fabric, nodes, pumps)) => Ok(Epoch {
-                opening,
-                jobs,
-                fabric,
-                nodes,
-                pumps,
-            }),
+            Ok((fabric, nodes, pumps)) => {
+                let progress = progress_at_start(&opening, &fabric);
+                Ok(Epoch {
+                    opening,
+                    jobs,
+                    fabric,
+                    nodes,
+                    pumps,
+                    progress,
+                })
+            }
             Err(gathered) => Err(Pause {
                 opening,
                 jobs,
@@ -177,9 +191,57 @@ impl Pause {
     }
 
     /// Takes a page for the jobs that have a receipt: the receipts go with it, and families with their logs, as [`take_page`]
-    /// does. What goes on has the logs folded and the jobs without a receipt; the ids of the others may come again. Where there
-    /// is no memory all comes back as it was.
-    pub fn take_page<R: Threads + Sync>(self, rt: &R, alloc: Global) -> Result<(Page, Pause), Pause>
+    /// does. What goes on has the logs folded and the jobs without a receipt; the ids of the others may come again. Where a
+    /// segment of the stage isn't complete, and where there is no memory, all comes back as it was.
+    pub fn take_page<R: Threads + Sync>(
+        self,
+        rt: &R,
+        alloc: Global,
+    ) -> Result<(Page, Pause), (NotTaken, Pause)>
+        ensures done { OnOk result (HasDoneStage self) }
+        ensures page { IfOk result (λ taken. IsPageFrom self taken.0) }
+        ensures opening { IfOk result (λ taken. taken.1.opening ≡ self.opening) }
+        ensures history { IfOk result (λ taken. (o : OpeningValue) (past : List Episode)
+            → PausesAfter o past self → GoesOnAfterPage o past taken.1) }
+        ensures why { IfErr result (λ refused. GivesNoPage self refused.0) }
+        ensures returned { IfErr result (λ refused. refused.1 ≡ self) }
+    {
+        match self.stage_end() {
+            StageEnd::Missing => Err((NotTaken::Moving, self)),
+            StageEnd::StageDone | StageEnd::MoveDone => match self.take_done_page(rt, alloc) {
+                Ok(taken) => Ok(taken),
+                Err(pause) => Err((NotTaken::Memory, pause)),
+            },
+        }
+    }
+
+    /// Closes the engine: takes its last page, for all jobs that are on no other one. Where a segment of the stage isn't
+    /// complete, and where there is no memory, all comes back as it was.
+    pub fn close<R: Threads + Sync>(
+        self,
+        rt: &R,
+        alloc: Global,
+    ) -> Result<Closed, (NotTaken, Pause)>
+        ensures done { OnOk result (HasDoneStage self) }
+        ensures closed { IfOk result (HasClosed self) }
+        ensures why { IfErr result (λ refused. GivesNoPage self refused.0) }
+        ensures returned { IfErr result (λ refused. refused.1 ≡ self) }
+    {
+        match self.stage_end() {
+            StageEnd::Missing => Err((NotTaken::Moving, self)),
+            StageEnd::StageDone | StageEnd::MoveDone => match self.close_done(rt, alloc) {
+                Ok(closed) => Ok(closed),
+                Err(pause) => Err((NotTaken::Memory, pause)),
+            },
+        }
+    }
+
+    // Takes a page of a pause whose stage is done. Where there is no memory all comes back as it was.
+    fn take_done_page<R: Threads + Sync>(
+        self,
+        rt: &R,
+        alloc: Global,
+    ) -> Result<(Page, Pause), Pause>
         requires { HasDoneStage self }
         ensures page { IfOk result (λ taken. IsPageFrom self taken.0) }
         ensures opening { IfOk result (λ taken. taken.1.opening ≡ self.opening) }
@@ -222,9 +284,8 @@ impl Pause {
         }
     }
 
-    /// Closes the engine: takes its last page, for all jobs that are on no other one. Where there is no memory all comes back
-    /// as it was.
-    pub fn close<R: Threads + Sync>(self, rt: &R, alloc: Global) -> Result<Closed, Pause>
+    // Closes the engine at a pause whose stage is done. Where there is no memory all comes back as it was.
+    fn close_done<R: Threads + Sync>(self, rt: &R, alloc: Global) -> Result<Closed, Pause>
         requires { HasDoneStage self }
         ensures closed { IfOk result (HasClosed self) }
         ensures returned { IfErr result (λ back. back ≡ self) }

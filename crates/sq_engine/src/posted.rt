@@ -1,8 +1,8 @@
 // The jobs that were posted.
-ghost use Rattle.std.specs.Prelude.{◌≡◌, ◌-◌, [], ◌∷◌, ◌++◌, length, take, filter, not, OnOk, OnErr};
+ghost use Rattle.std.specs.Prelude.{◌≡◌, ◌-◌, [], ◌∷◌, ◌++◌, length, take, filter, not, OnOk, OnErr, IsErrOf, IsTrue};
 ghost use Rattle.sq_audit.specs.Answers.{IdsDiffer};
 ghost use Rattle.sq_audit.specs.Counts.{is_counted};
-ghost use Rattle.sq_engine.specs.Posted.{HaveIdsAmong};
+ghost use Rattle.sq_engine.specs.Posted.{is_id_in, HaveJustIds};
 
 use crate::answered::{forget_ids, leave_unanswered};
 use sq_audit::Job;
@@ -36,13 +36,13 @@ pub(crate) struct PostedJobs {
 impl Model for PostedJobs {
     ghost use Rattle.std.specs.Prelude.{List};
     ghost use Rattle.sq_audit.specs.declared.job.Job as job;
-    ghost use Rattle.sq_engine.specs.Posted.{HaveIdsAmong};
+    ghost use Rattle.sq_engine.specs.Posted.{HaveJustIds};
 
     ghost Value = { List job.Job };
 
     ghost view = { λ p. p.jobs.items };
 
-    ghost invariant = { λ p. HaveIdsAmong p.jobs.items p.ids };
+    ghost invariant = { λ p. HaveJustIds p.jobs.items p.ids };
 }
 
 impl PostedJobs {
@@ -71,9 +71,9 @@ impl PostedJobs {
         PostedJobs { jobs, ids }
     }
 
-    /// These jobs, whose ids are among these.
+    /// These jobs, whose ids are these.
     pub(crate) fn from_parts(jobs: Vec<Job>, ids: BTreeSet<u64>) -> PostedJobs
-        requires { HaveIdsAmong jobs.items ids }
+        requires { HaveJustIds jobs.items ids }
         ensures { result ≡ jobs.items }
     {
         PostedJobs { jobs, ids }
@@ -82,7 +82,7 @@ impl PostedJobs {
     /// The jobs, in the order in which they were posted, and their ids.
     pub(crate) fn into_parts(self) -> (Vec<Job>, BTreeSet<u64>)
         ensures jobs { result.0.items ≡ self }
-        ensures ids { HaveIdsAmong result.0.items result.1 }
+        ensures ids { HaveJustIds result.0.items result.1 }
     {
         (self.jobs, self.ids)
     }
@@ -99,6 +99,7 @@ impl PostedJobs {
     pub(crate) fn add(&mut self, part: PartId, txn: Txn) -> Result<(), PostFault>
         ensures ok { OnOk result (self.new ≡ self.old ++ record { part = part; txn = txn } ∷ []) }
         ensures err { OnErr result (self.new ≡ self.old) }
+        ensures repeated { IsErrOf result PostFault.RepeatedId → IsTrue (is_id_in self.old txn.id) }
     {
         if self.jobs.reserve(1).is_err() {
             return Err(PostFault::Memory);

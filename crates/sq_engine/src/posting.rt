@@ -1,5 +1,6 @@
 // How a job is posted.
-ghost use Rattle.std.specs.Prelude.{◌≡◌, ◌∷◌, [], ◌++◌, IfOk, OnOk, OnErr};
+ghost use Rattle.std.specs.Prelude.{◌≡◌, ◌∷◌, [], ◌++◌, IfOk, OnOk, OnErr, IsErrOf, IsTrue};
+ghost use Rattle.sq_engine.specs.Posted.{is_id_in};
 
 use crate::posted::{PostFault, PostedJobs};
 use sq_node::Fabric;
@@ -19,6 +20,7 @@ pub(crate) fn post_job<R: Wait>(
 ) -> Result<(), PostFault>
     ensures ok { OnOk result (jobs.new ≡ jobs.old ++ record { part = part; txn = txn.now } ∷ []) }
     ensures err { OnErr result (jobs.new ≡ jobs.old) }
+    ensures repeated { IsErrOf result PostFault.RepeatedId → IsTrue (is_id_in jobs.old txn.now.id) }
 {
     if part.number() >= fabric.parts() {
         return Err(PostFault::NoSuchPartition);

@@ -6,41 +6,71 @@ ghost use Rattle.sq_driver.specs.Told.{nodes_of};
 ghost use Rattle.sq_engine.specs.Telling.{ArePaired, HasAllSent};
 
 use crate::client::Client;
+use crate::long_log::shows_long_log;
 use rtrb::Consumer;
 use sq_driver::TellingNode;
 use sq_node::Receipt;
 use sq_plan::PartId;
 use sq_teller::RingTeller;
 
-// Gives a client each receipt that is known to be in the ring of a partition, and says how many there were.
-fn give_known<C: Client>(part: PartId, ring: &mut Consumer<Receipt>, client: &mut C) -> usize
+/// What came over rings: how many receipts, and whether one of them shows a long log.
+#[derive(Clone, Copy, Debug)]
+pub(crate) struct Arrivals {
+    pub(crate) count: u64,
+    pub(crate) show_long_log: bool,
+}
+
+impl Arrivals {
+    const NONE: Arrivals = Arrivals {
+        count: 0,
+        show_long_log: false,
+    };
+
+    // With one more receipt.
+    fn with(self, receipt: &Receipt) -> Arrivals {
+        Arrivals {
+            count: self.count.saturating_add(1),
+            show_long_log: self.show_long_log || shows_long_log(receipt),
+        }
+    }
+}
+
+// Gives a client each receipt that is known to be in the ring of a partition. What came so far grows by these.
+fn give_known<C: Client>(
+    part: PartId,
+    ring: &mut Consumer<Receipt>,
+    came: Arrivals,
+    client: &mut C,
+) -> Arrivals
     ensures ring { SameConsumer ring.old ring.new }
     ensures given { GivesGrown C.Becomes part (received ring.old) client.old
         (received ring.new) client.new }
     ensures all { received ring.new ≡ received ring.old ++ known_items ring.old }
 {
+    let mut came = came;
     let known = ring.cached_slots();
     for _receipt in 0..known {
-        client.take(part, ring.pop_known());
+        let receipt = ring.pop_known();
+        came = came.with(&receipt);
+        client.take(part, receipt);
     }
-    known
+    came
 }
 
-/// Gives a client each receipt that has come, and says how many had.
+/// Gives a client each receipt that has come, and says what came.
 pub(crate) fn give_come<C: Client>(
     parts: u8,
     rings: &mut [Consumer<Receipt>],
     client: &mut C,
-) -> u64
+) -> Arrivals
     requires { length rings.old ≡ parts }
     ensures { GivesCome C.Becomes rings.old client.old rings.new client.new }
 {
-    let mut came = 0u64;
+    let mut came = Arrivals::NONE;
     for number in 0..parts {
         let ring = &mut rings[usize::from(number)];
         ring.slots();
-        let known = give_known(PartId::new(number), ring, client);
-        came = came.saturating_add(known as u64);
+        came = give_known(PartId::new(number), ring, came, client);
     }
     came
 }
@@ -64,6 +94,6 @@ pub(crate) fn give_rest<C: Client>(
         let pair = &mut pairs[at];
         let ring = &mut rings[at];
         ring.slots_beside(&mut pair.teller.producer);
-        give_known(PartId::new(number), ring, client);
+        give_known(PartId::new(number), ring, Arrivals::NONE, client);
     }
 }

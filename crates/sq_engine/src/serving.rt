@@ -15,12 +15,12 @@ use crate::epoch_gate::EpochGate;
 use crate::front::Front;
 use crate::posted::PostedJobs;
 use crate::rings::give_rest;
+use crate::stage_progress::StageProgress;
 use crate::telling::{are_whole, open_rings, with_tellers, without_tellers};
 use rtrb::Consumer;
 use sq_driver::TellingNode;
 use sq_node::{Fabric, Node, Receipt};
 use sq_pull::Pump;
-use sq_ranges::SegId;
 use sq_teller::RingTeller;
 use std::alloc::Global;
 use std::sync::Wait;
@@ -40,10 +40,11 @@ impl Epoch {
     /// Runs the workers, each partition and each pump in a thread of its own, for this many turns at most, and serves a client
     /// in this thread meanwhile: it is asked for jobs, which are posted, and is given each answer as soon as it comes.
     ///
-    /// The epoch ends where its client wants that, where as many segments are complete as move in its stage, where an answer
-    /// is missing for lack of memory, and where no thread can be had. All workers have ended when it returns, and the client
-    /// has been given the answers that were still on their way. Where there is no memory for the rings over which answers
-    /// come, the epoch comes back as it was, and the client was not called.
+    /// The epoch ends where its client wants that, where each segment that moves in its stage is complete, where an answer is
+    /// missing for lack of memory, and where no thread can be had; at rest also where an answer comes whose receipt has
+    /// [`LONG_LOG`](crate::LONG_LOG) or a later position. All workers have ended when it returns, and the client has been given
+    /// the answers that were still on their way. Where there is no memory for the rings over which answers come, the epoch comes
+    /// back as it was, and the client was not called.
     pub fn serve<C: Client, R: Threads + Wait + Sync>(
         self,
         rt: &R,
@@ -64,10 +65,11 @@ impl Epoch {
             fabric,
             nodes,
             pumps,
+            progress,
         } = self;
         // For the proof alone: what was handed in is an opening.
         let _recon = opening.recon();
-        match make_ready(alloc, fabric.parts(), nodes) {
+        match make_ready(alloc, fabric.parts(), progress, nodes) {
             Ok(ready) => {
                 let parts = serve_with(rt, &fabric, ready, jobs, pumps, turns, client);
                 fabric.open_jobs(rt);
@@ -78,6 +80,7 @@ impl Epoch {
                         fabric,
                         nodes: parts.nodes,
                         pumps: parts.pumps,
+                        progress: parts.progress,
                     },
                     is_whole: parts.is_whole,
                 })
@@ -88,17 +91,19 @@ impl Epoch {
                 fabric,
                 nodes,
                 pumps,
+                progress,
             }),
         }
     }
 }
 
-// What it takes to serve an epoch: its nodes with tellers, the rings over which these send, and room for the nodes.
+// What it takes to serve an epoch: its nodes with tellers, the rings over which these send, room for the nodes, and its gate.
 #[derive(Drop)]
 pub(crate) struct ReadyToServe {
     pub(crate) pairs: Vec<TellingNode<RingTeller>>,
     pub(crate) rings: Vec<Consumer<Receipt>>,
     pub(crate) room: Vec<Node>,
+    pub(crate) gate: EpochGate,
 }
 
 // What there is once an epoch was served.
@@ -107,11 +112,17 @@ pub(crate) struct ServedParts {
     pub(crate) jobs: PostedJobs,
     pub(crate) nodes: Vec<Node>,
     pub(crate) pumps: Vec<Pump>,
+    pub(crate) progress: StageProgress,
     pub(crate) is_whole: bool,
 }
 
 // Gives the nodes tellers. Where there is no memory they come back.
-fn make_ready(alloc: Global, parts: u8, nodes: Vec<Node>) -> Result<ReadyToServe, Vec<Node>>
+fn make_ready(
+    alloc: Global,
+    parts: u8,
+    progress: StageProgress,
+    nodes: Vec<Node>,
+) -> Result<ReadyToServe, Vec<Node>>
     requires { length nodes.items ≡ parts }
     ensures ready { IfOk result (IsReadyToServe parts) }
     ensures nodes { IfOk result (λ ready. nodes_of ready.pairs.items ≡ nodes.items) }
@@ -124,7 +135,13 @@ fn make_ready(alloc: Global, parts: u8, nodes: Vec<Node>) -> Result<ReadyToServe
         return Err(nodes);
     };
     let pairs = with_tellers(alloc, nodes, tellers)?;
-    Ok(ReadyToServe { pairs, rings, room })
+    let gate = EpochGate::new(progress);
+    Ok(ReadyToServe {
+        pairs,
+        rings,
+        room,
+        gate,
+    })
 }
 
 // Runs the workers and serves a client until the epoch ends, and gives it the answers that are still on their way.
@@ -143,10 +160,14 @@ fn serve_with<C: Client, R: Threads + Wait + Sync>(
     ensures { IsServedWith C.Becomes fabric.now (nodes_of ready.pairs.items) pumps.items jobs
         client.old result client.new }
 {
-    let ReadyToServe { pairs, rings, room } = ready;
+    let ReadyToServe {
+        pairs,
+        rings,
+        room,
+        gate,
+    } = ready;
     let mut crew = Crew { pairs, pumps };
     let mut front = Front::new(jobs, rings);
-    let gate = EpochGate::new(segments_of(fabric));
     run_and_serve(rt, fabric, &mut crew, &mut front, turns, &gate, client);
     let Crew { mut pairs, pumps } = crew;
     let Front {
@@ -160,16 +181,7 @@ fn serve_with<C: Client, R: Threads + Wait + Sync>(
         jobs,
         nodes: without_tellers(pairs, room),
         pumps,
+        progress: gate.progress(),
         is_whole,
     }
-}
-
-// How many segments move in the stage that runs.
-fn segments_of(fabric: &Fabric) -> u64 {
-    let recon = fabric.recon();
-    let stage = fabric.stage();
-    (0..recon.segments().len() as u64)
-        .filter_map(SegId::new)
-        .filter(|seg| recon.stage_of(*seg) == stage)
-        .count() as u64
 }

@@ -1,7 +1,7 @@
 // Nodes with their tellers, which send over rings.
-ghost use Rattle.std.specs.Prelude.{◌≡◌, true, ◌≤◌, [], length, IfOk, IfErr, vec_capacity, vec_len};
+ghost use Rattle.std.specs.Prelude.{◌≡◌, ◌≤◌, [], length, IfOk, IfErr, vec_capacity, vec_len};
 ghost use Rattle.sq_driver.specs.Told.{nodes_of};
-ghost use Rattle.sq_engine.specs.Telling.{AreNewRings, tellers_of, NoneBrokeOff};
+ghost use Rattle.sq_engine.specs.Telling.{AreNewRings, tellers_of, are_whole};
 
 use rtrb::{Consumer, RingBuffer};
 use sq_driver::TellingNode;
@@ -74,7 +74,7 @@ pub(crate) fn without_tellers(
 
 /// Whether no teller broke off.
 pub(crate) fn are_whole(pairs: &[TellingNode<RingTeller>]) -> bool
-    ensures { result ≡ true → NoneBrokeOff pairs.now }
+    ensures { result ≡ are_whole pairs.now }
 {
     pairs.iter().all(|pair| !pair.teller.broke_off)
 }

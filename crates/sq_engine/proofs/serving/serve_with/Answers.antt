@@ -1,8 +1,8 @@
-use Rattle.std.proofs.Common.{◌≡◌, ◌∙◌, List, true, refl, ap, sym, subst}
+use Rattle.std.proofs.Common.{◌≡◌, ◌∙◌, List, refl, ap, sym, subst}
 use Rattle.sq_audit.specs.declared.job.Job.{Job}
 use Rattle.sq_node.specs.NodeState.{IsNodeOf}
 use Rattle.sq_engine.specs.Rings.{AreSameRings, Serves, GivesCome}
-use Rattle.sq_engine.specs.Telling.{Ring, ArePaired, HasAllSent, NoneBrokeOff}
+use Rattle.sq_engine.specs.Telling.{Ring, ArePaired, HasAllSent, are_whole}
 use Rattle.sq_engine.proofs.Resting.{Pair}
 use Rattle.sq_engine.proofs.AllGiven.{all_in_pairs, nodes_back, still_paired, all_served}
 use Rattle.sq_engine.proofs.serving.serve_with.Goals as goal
@@ -38,8 +38,8 @@ returns g c =
     let nodes = c.without_tellers.ensures
     ∙ nodes_back crew.pairs.items c.deref_mut.result.now c.give_rest.new.pairs crew.pairs.len
     c.deref_mut.ensures.value c.deref_mut.ensures.len c.give_rest.ensures.nodes in
-    let none : c.are_whole-is_whole.result ≡ true → NoneBrokeOff crew.pairs.items = λ is. subst (λ (list : List Pair). NoneBrokeOff list) c.deref.ensures.value (c.are_whole-is_whole.ensures is) in
+    let whole : c.are_whole-is_whole.result ≡ are_whole crew.pairs.items = c.are_whole-is_whole.ensures ∙ ap are_whole c.deref.ensures.value in
     all_served becomes c.args.fabric.now c.args.fabric.now.parts c.args.ready.pairs.items crew.pairs.items c.args.pumps.items
     c.args.jobs front.jobs c.args.ready.rings.items front.rings.items c.give_rest.new.rings
     c.args.client.now run.new.client _ c.give_rest.new.client
-    c.requires.ready.rings run.ensures.crew.nodes run.ensures.crew.pumps serves come all none nodes refl
+    c.requires.ready.rings run.ensures.crew.nodes run.ensures.crew.pumps serves come all whole nodes refl

@@ -2,7 +2,7 @@ use Rattle.std.proofs.Common.{◌≡◌, [], ◌∷◌, ◌++◌, true, false, L
 use Rattle.std.specs.Ordering.{nat_cmp}
 use Rattle.std.specs.BTreeSet.{contains, Updates}
 use Rattle.sq_audit.specs.declared.job.Job.{Job}
-use Rattle.sq_engine.specs.Posted.{HaveIdsAmong}
+use Rattle.sq_engine.specs.Posted.{HaveJustIds}
 use Rattle.sq_engine.proofs.PostedIds.{none_before, ids_with}
 use Rattle.sq_engine.proofs.posted.PostedJobs.add.Goals as goal
 
@@ -14,4 +14,4 @@ invariant_of-self-in-Ok-true c =
     let grown : c.push_reserved.new.self.items ≡ was ++ job ∷ [] = c.push_reserved.ensures.items ∙ ap (λ (l : List Job). l ++ job ∷ []) c.reserve.ensures.items in
     let updates = subst (λ n. Updates nat_cmp ids c.insert.new.self n true) c.id.ensures c.in-Ok-true.ensures.updates in
     let fresh = subst (λ n. contains nat_cmp ids n ≡ false) c.id.ensures (none_before c.in-Ok-true.field-0 _ c.in-Ok-true.field-0-test c.in-Ok-true.ensures.added) in
-    subst (λ (l : List Job). HaveIdsAmong l c.insert.new.self) (sym grown) (ids_with was job ids c.insert.new.self c.self.invariant fresh updates)
+    subst (λ (l : List Job). HaveJustIds l c.insert.new.self) (sym grown) (ids_with was job ids c.insert.new.self c.self.invariant fresh updates)

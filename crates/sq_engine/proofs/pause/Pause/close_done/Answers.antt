@@ -8,7 +8,7 @@ use Rattle.sq_engine.specs.Values.{PauseValue}
 use Rattle.sq_engine.specs.History.{HasDoneStage}
 use Rattle.sq_engine.specs.Outcomes.{HasClosed}
 use Rattle.sq_engine.proofs.Epochs.{pause_placed}
-use Rattle.sq_engine.proofs.pause.Pause.close.Goals as goal
+use Rattle.sq_engine.proofs.pause.Pause.close_done.Goals as goal
 
 pub take_page-requires : goal.take_page-requires
 take_page-requires g c =

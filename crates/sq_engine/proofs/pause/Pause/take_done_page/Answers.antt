@@ -11,7 +11,7 @@ use Rattle.sq_engine.specs.Values.{PauseValue}
 use Rattle.sq_engine.specs.History.{PageTaken, HasDoneStage, PausesAfter, with_other_rows}
 use Rattle.sq_engine.specs.Outcomes.{IsPageFrom}
 use Rattle.sq_engine.proofs.Epochs.{pause_placed, page_follows}
-use Rattle.sq_engine.proofs.pause.Pause.take_page.Goals as goal
+use Rattle.sq_engine.proofs.pause.Pause.take_done_page.Goals as goal
 
 pub take_page-requires : goal.take_page-requires
 take_page-requires g c =
