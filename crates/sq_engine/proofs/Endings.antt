@@ -19,7 +19,7 @@ use Rattle.sq_engine.specs.Values.{PauseValue}
 use Rattle.sq_engine.specs.History.{StartValue, Episode, EpochEnded, PageTaken, pause_after, IsLastStage, HasDoneStage, Follows, HasLeft, IsLeftByPage, HaveCome}
 use Rattle.sq_engine.specs.Ending.{paged, page_jobs, AllSound, EngineEndsAsPlanned}
 use Rattle.sq_engine.proofs.Epochs.{placed_there}
-use Rattle.sq_engine.proofs.Logs.{IsDone, rows_with, rows_so_far, paged_done, commits_name}
+use Rattle.sq_engine.proofs.Logs.{IsDone, rows_with, rows_so_far, paged_done, commits_name, commits_all}
 
 -- the job is on the page of one of these pauses
 abbrev HasPage : List PauseValue → Job → Type 0
@@ -85,17 +85,18 @@ module _ (o : OpeningValue) where
         let here = pause_after episode in
         let g = here.gathered in
         let at : IsDone here = record { is = is; placed = sound.placed; done = done } in
+        let all_done : (pause : PauseValue) → Contains (here ∷ paged (episode ∷ earlier)) pause → IsDone pause = λ pause has.
+        ⊎_elim
+        (λ same. subst IsDone same at)
+        (λ later. paged_done o earlier episode come pause later)
+        (Contains-cases here (paged (episode ∷ earlier)) pause has) in
         record {
           owned = λ spot root family stands.
               stands_next here.opening is g sound.placed done spot root family stands
               ∙ ap (λ part. Store part) (owner_last here.opening is (g.stage + 1) root last);
           rows = λ root. rows_with o here (paged (episode ∷ earlier)) root at (rows_so_far o earlier episode come root);
-          commits = λ pause has root position. commits_name pause
-              (⊎_elim
-              (λ same. subst IsDone same at)
-              (λ later. paged_done o earlier episode come pause later)
-              (Contains-cases here (paged (episode ∷ earlier)) pause has))
-              root position;
+          commits = λ pause has root position. commits_name pause (all_done pause has) root position;
+          committed = λ root. commits_all (here ∷ paged (episode ∷ earlier)) root all_done;
           known = λ pause has. (pages pause has).known;
           last_known = sound.known;
           answered = λ other job there has.

@@ -1,6 +1,7 @@
 pub mod PostedIds
 pub mod Epochs
 pub mod Goings
+pub mod Tallies
 pub mod Logs
 pub mod Endings
 pub mod LongLogs

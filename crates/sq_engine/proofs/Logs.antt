@@ -1,10 +1,11 @@
 -- The rows and the logs of families at a pause, and over all pages.
 use Rattle.std.proofs.Common.{◌≡◌, ⊎_elim, inl, inr, ℕ, ◌+◌, ◌==◌, Bool, true, false, List, [], ◌∷◌, length, slice_get, Contains, Option, Some, None, refl, sym, ap, ◌∙◌, subst, arith}
-use Rattle.std.specs.Prelude.{◌&&◌, not, nat_lt, option_map, option_and_then, unwrap_or, if◌then◌else◌}
+use Rattle.std.specs.Prelude.{◌&&◌, not, nat_lt, count_by, option_map, option_and_then, unwrap_or, if◌then◌else◌}
 use Rattle.std.specs.FinMap.{get}
 use Rattle.std.proofs.lemmas.Bool.{cases_Bool, cases_lt, and_parts, eqb-true, ltb-true, not-false}
-use Rattle.std.proofs.lemmas.List.{nil_from_length}
-use Rattle.std.proofs.lemmas.List.Sums.{fold-append}
+use Rattle.std.proofs.lemmas.List.{nil_from_length, length-append}
+use Rattle.std.proofs.Math.Bool.{and_assoc}
+use Rattle.std.proofs.lemmas.List.Sums.{fold-append, sum_by-cons}
 use Rattle.std.proofs.lemmas.Option.{slice_get-map, none-some}
 use Rattle.sq_schema.specs.Effect.{RowList, effect, replay_rows}
 use Rattle.sq_schema.specs.Family.{FamilyValue, rows_of, folded}
@@ -14,7 +15,8 @@ use Rattle.sq_ranges.specs.OpeningValue.{OpeningValue}
 use Rattle.sq_ranges.specs.Opening.{IsOpening}
 use Rattle.sq_model.specs.Staged.{owner_in}
 use Rattle.sq_model.specs.Tables.{opening_rows}
-use Rattle.sq_model.proofs.Lists.{Contains-cases, Contains-nothing, Contains-slice_get}
+use Rattle.sq_model.proofs.Lists.{Contains-cases, Contains-first, Contains-later, Contains-nothing, Contains-slice_get}
+use Rattle.sq_node_model.specs.NodeValue.{ReceiptValue}
 use Rattle.sq_node_model.specs.Receipts.{is_commit, names, times_named}
 use Rattle.sq_node_model.specs.declared.spot.Spot.{Spot}
 use Rattle.sq_node_model.specs.declared.spot.Spot.TheVariants.{Store, Chunk}
@@ -26,7 +28,8 @@ use Rattle.sq_page.specs.Pages.{left_opening, left_gathered}
 use Rattle.sq_page.proofs.Leaving.{left_placed, all_stored}
 use Rattle.sq_engine.specs.Values.{PauseValue}
 use Rattle.sq_engine.specs.History.{StartValue, Episode, EpochEnded, PageTaken, pause_after, HasDoneStage, Follows, HaveCome}
-use Rattle.sq_engine.specs.Ending.{paged, family_after, logs_over}
+use Rattle.sq_engine.specs.Ending.{paged, family_after, logs_over, commits_on, commits_over}
+use Rattle.sq_engine.proofs.Tallies.{tally}
 use Rattle.sq_engine.proofs.Epochs.{placed_there}
 
 -- ---- at one pause
@@ -158,7 +161,28 @@ module _ (pause : PauseValue) (at : IsDone pause) where
           at.placed.named (Store (owner root)) root family stands position
           ∙ sym (ap (λ (f : Option FamilyValue). one_if (nat_lt position (length (unwrap_or f (absent root)).log))) stands)
 
+  -- so there are as many commits on a root key as its log has transactions
+  commits_counted : (root : ℕ) → count_by (commits_on root) pause.gathered.receipts ≡ length (family_after pause root).log
+  commits_counted root =
+      let receipts = pause.gathered.receipts in
+      tally (commits_on root) (λ (receipt : ReceiptValue). receipt.position) (length (family_after pause root).log) receipts
+      (λ p.
+      ap (λ (test : ReceiptValue → Bool). count_by test receipts)
+      (λ i receipt. and_assoc (is_commit receipt.reply) (receipt.root == root) (receipt.position == p) i)
+      ∙ commits_name root p)
+
 -- ---- over all pages
+
+-- as many commits as the logs have transactions
+pub commits_all : (pauses : List PauseValue) (root : ℕ) → ((pause : PauseValue) → Contains pauses pause → IsDone pause)
+    → commits_over pauses root ≡ length (logs_over pauses root)
+commits_all [] root all = refl
+commits_all (pause ∷ pauses) root all =
+    let first = sum_by-cons (λ (p : PauseValue). count_by (commits_on root) p.gathered.receipts) pause pauses in
+    let here = commits_counted pause (all pause (Contains-first pause pauses)) root in
+    let rest = commits_all pauses root (λ other has. all other (Contains-later pause pauses other has)) in
+    let joined = length-append (logs_over pauses root) (family_after pause root).log in
+    omega (arith, first, here, rest, joined)
 
 module _ (o : OpeningValue) where
   -- the rows that the families have at a pause

@@ -1,5 +1,5 @@
 -- What the pages of an engine say together, once the last of them is taken.
-use Rattle.std.specs.Prelude.{◌≡◌, ◌⊎◌, ℕ, ◌+◌, nat_lt, if◌then◌else◌, List, [], ◌∷◌, ◌++◌, length, Contains, count_by, unwrap_or}
+use Rattle.std.specs.Prelude.{◌≡◌, ◌⊎◌, ℕ, Bool, ◌+◌, ◌==◌, ◌&&◌, sum_by, nat_lt, if◌then◌else◌, List, [], ◌∷◌, ◌++◌, length, Contains, count_by, unwrap_or}
 use Rattle.sq_schema.specs.TxnValue.{TxnValue}
 use Rattle.sq_schema.specs.Effect.{replay_rows}
 use Rattle.sq_schema.specs.Family.{FamilyValue, rows_of}
@@ -12,7 +12,7 @@ use Rattle.sq_node_model.specs.NodeValue.{ReceiptValue}
 use Rattle.sq_node_model.specs.declared.spot.Spot.{Spot}
 use Rattle.sq_node_model.specs.declared.spot.Spot.TheVariants.{Store}
 use Rattle.sq_node_model.specs.Spots.{family_at_spot, StandsAt}
-use Rattle.sq_node_model.specs.Receipts.{times_named}
+use Rattle.sq_node_model.specs.Receipts.{is_commit, times_named}
 use Rattle.sq_audit.specs.declared.job.Job.{Job}
 use Rattle.sq_audit.specs.Answers.{AreKnown, is_of}
 use Rattle.sq_audit.specs.Folding.{answered_jobs}
@@ -63,6 +63,14 @@ abbrev pub logs_over : List PauseValue → ℕ → List TxnValue
 logs_over [] root = []
 logs_over (pause ∷ earlier) root = logs_over earlier root ++ (family_after pause root).log
 
+-- the receipt is of a commit on this root key
+abbrev pub commits_on : ℕ → ReceiptValue → Bool
+commits_on root receipt = is_commit receipt.reply && (receipt.root == root)
+
+-- how many commits on a root key these pauses have receipts of
+abbrev pub commits_over : List PauseValue → ℕ → ℕ
+commits_over pauses root = sum_by (λ pause. count_by (commits_on root) pause.gathered.receipts) pauses
+
 -- an engine that opened with this, and came by these episodes, ends as planned at this pause, after the latest of them
 pub record EngineEndsAsPlanned (o : OpeningValue) (past : List Episode) (last : PauseValue) : Type 0 where
   -- each family is in the store of its owner by the new plan
@@ -75,6 +83,8 @@ pub record EngineEndsAsPlanned (o : OpeningValue) (past : List Episode) (last : 
   pub commits : (pause : PauseValue) → Contains (last ∷ paged past) pause → (root position : ℕ)
       → times_named root position pause.gathered.receipts
       ≡ (if nat_lt position (length (family_after pause root).log) then 1 else 0)
+  -- so there are as many as its logs have transactions
+  pub committed : (root : ℕ) → commits_over (last ∷ paged past) root ≡ length (logs_over (last ∷ paged past) root)
   -- each receipt on a page, and each one since the last page, is the answer to a job
   pub known : (pause : PauseValue) → Contains (paged past) pause
       → AreKnown pause.gathered (page_jobs pause)

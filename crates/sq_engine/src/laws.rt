@@ -1,5 +1,5 @@
 //! What holds of engines. The functions do nothing: each states a law, which the checker proves.
-ghost use Rattle.std.specs.Prelude.{◌∷◌, List};
+ghost use Rattle.std.specs.Prelude.{◌≡◌, ◌∷◌, List};
 ghost use Rattle.sq_ranges.specs.Prelude.{OpeningValue, IsOpening};
 ghost use Rattle.sq_node_model.specs.Prelude.{GatheredValue, IsPlaced};
 ghost use Rattle.sq_audit.specs.declared.job.Job.{Job};
@@ -7,8 +7,14 @@ ghost use Rattle.sq_audit.specs.declared.verdict.Verdict.{Verdict};
 ghost use Rattle.sq_audit.specs.Sound.{IsSoundRun};
 ghost use Rattle.sq_audit.specs.Defects.{IsVerdict};
 ghost use Rattle.sq_page.specs.Pages.{IsPageOf, SpeaksForRuns};
+ghost use Rattle.sq_engine.specs.declared.long_log.TheConstants.{LONG_LOG};
 ghost use Rattle.sq_engine.specs.History.{Episode, pause_after, HaveCome, IsLastStage, HasDoneStage};
 ghost use Rattle.sq_engine.specs.Ending.{paged, AllSound, EngineEndsAsPlanned};
+
+/// The limit of engines, in digits.
+pub fn the_limits()
+    ensures { LONG_LOG ≡ 3071 }
+{}
 
 /// What an engine has come by is placed under the opening that was in force: after each epoch, whatever its threads did, and
 /// after each page.
