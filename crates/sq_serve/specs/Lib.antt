@@ -1,0 +1,3 @@
+pub mod ServeFaults
+pub mod ServeLines
+pub mod ServeAnswers

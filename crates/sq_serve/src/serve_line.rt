@@ -1,0 +1,98 @@
+// What the lines behind a header ask of an engine.
+ghost use Rattle.std.specs.Prelude.{◌≡◌, true, Err};
+ghost use Rattle.sq_plan.specs.Reading.{plan_in};
+ghost use Rattle.sq_text.specs.Steps.{step_of, begins_txn};
+ghost use Rattle.sq_text.specs.Words.{words_of};
+ghost use Rattle.sq_serve.specs.ServeLines.{word_alone, move_to, job_of_step, serve_line_of, IsServeLine, TakesMemory};
+
+use crate::serve_fault::ServeFault;
+use sq_model::Step;
+use sq_plan::{Plan, PlanFault};
+use sq_schema::{Schema, Txn};
+use sq_text::{LineFault, MAX_LINE, read_step};
+use std::alloc::Global;
+
+/// What a line behind the header asks of an engine.
+#[derive(Debug, Drop)]
+pub enum ServeLine {
+    /// That a job is posted: a transaction, to the partition with this number.
+    Job { part: u64, txn: Txn },
+    /// That rows move to the places of this plan.
+    Move(Plan),
+    /// That what was answered is audited, and the logs folded.
+    Fold,
+    /// How far a move is.
+    Status,
+    /// Which rows there are.
+    Rows,
+    /// Which plan is in force.
+    Plan,
+}
+
+// The first word of a line that goes to another plan, with its space.
+const MOVE: &[u8] = b"move ";
+
+/// What a line behind the header asks of an engine: `txn P ID ROOT OP..`, as [`read_step`] has it, `move JSON`, or one of the
+/// words `fold`, `status`, `rows` and `plan` alone.
+///
+/// Refused with [`ServeFault::TooLong`] where the line has over [`MAX_LINE`] bytes, with [`ServeFault::NotAServeLine`] where it
+/// is none of these, with [`ServeFault::Txn`] where the schema doesn't have its transaction, and with [`ServeFault::Plan`] where
+/// its text is no plan. [`ServeFault::Memory`] may come in place of any answer to a line that begins with `txn` or `move`.
+pub fn read_serve_line(alloc: Global, schema: &Schema, line: &[u8]) -> Result<ServeLine, ServeFault>
+    ensures asks { IsServeLine result (serve_line_of schema.now line.now) }
+    ensures memory { result ≡ Err ServeFault.Memory → TakesMemory line.now }
+{
+    if line.len() > MAX_LINE {
+        return Err(ServeFault::TooLong);
+    }
+    if line.starts_with(MOVE) {
+        return move_to(alloc, &line[MOVE.len()..]);
+    }
+    match word_alone(line) {
+        Some(asks) => Ok(asks),
+        None => job_of(alloc, schema, line),
+    }
+}
+
+// What a line asks that is one word.
+#[tactic(auto, unfolding(crate::specs::ServeLines::word_alone))]
+fn word_alone(line: &[u8]) -> Option<ServeLine>
+    ensures { result ≡ word_alone line.now }
+{
+    if line == b"fold".as_slice() {
+        Some(ServeLine::Fold)
+    } else if line == b"status".as_slice() {
+        Some(ServeLine::Status)
+    } else if line == b"rows".as_slice() {
+        Some(ServeLine::Rows)
+    } else if line == b"plan".as_slice() {
+        Some(ServeLine::Plan)
+    } else {
+        None
+    }
+}
+
+// The move to the plan that a text spells.
+fn move_to(alloc: Global, text: &[u8]) -> Result<ServeLine, ServeFault>
+    ensures { IsServeLine result (move_to (plan_in text.now)) }
+{
+    match Plan::read(alloc, text) {
+        Ok(plan) => Ok(ServeLine::Move(plan)),
+        Err(PlanFault::Memory) => Err(ServeFault::Memory),
+        Err(fault) => Err(ServeFault::Plan(fault)),
+    }
+}
+
+// The job that a line spells.
+fn job_of(alloc: Global, schema: &Schema, line: &[u8]) -> Result<ServeLine, ServeFault>
+    ensures job { IsServeLine result (job_of_step (step_of schema.now line.now)) }
+    ensures memory { result ≡ Err ServeFault.Memory → begins_txn (words_of line.now) ≡ true }
+{
+    match read_step(alloc, schema, line) {
+        Ok(Step::Submit(part, txn)) => Ok(ServeLine::Job { part, txn }),
+        Ok(_) | Err(LineFault::NotAStep) => Err(ServeFault::NotAServeLine),
+        Err(LineFault::TooLong) => Err(ServeFault::TooLong),
+        Err(LineFault::Txn(fault)) => Err(ServeFault::Txn(fault)),
+        Err(LineFault::Memory) => Err(ServeFault::Memory),
+    }
+}
