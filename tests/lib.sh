@@ -156,8 +156,8 @@ try_readme() {
     count answers_as_they_are_told "$(difference "$examples/first-move.out" "$room/told")"
 }
 
-# The code in docs/library.md is that of the callers of the library: its first block stands in the one, and its second in the
-# one that embeds threads, line by line.
+# The code in docs/library.md is that of the callers of the library: its first block stands in the one, its second in the one
+# that embeds threads, and its third and fourth in that of an engine, line by line.
 try_library() {
     tell_block 1
     sed -n "/^use sq_world/,/^}\$/p" "$top/crates/sq_example/src/lib.rt" > "$room/code"
@@ -165,6 +165,12 @@ try_library() {
     tell_block 2
     sed -n '/^use sq_audit/,$p' "$top/crates/sq_thread_example/src/lib.rt" > "$room/code"
     count code_of_threads_as_it_is_told "$(difference "$room/code" "$room/told")"
+    tell_block 3
+    sed -n '/^use asker/,$p' "$top/crates/sq_engine_example/src/lib.rt" > "$room/code"
+    count code_of_an_engine_as_it_is_told "$(difference "$room/code" "$room/told")"
+    tell_block 4
+    sed -n '/^impl<R: Wait> Client/,$p' "$top/crates/sq_engine_example/src/broker.rt" > "$room/code"
+    count code_of_a_client_as_it_is_told "$(difference "$room/code" "$room/told")"
 }
 
 # tell_block NUMBER: the block of code of this number in docs/library.md.

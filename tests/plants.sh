@@ -33,7 +33,7 @@ section() {
 changed() {
     local name
     for name in $(grep -oE '^[a-z_]+' "$top/crates.txt"); do
-        case $name in sq_tests | sq_thread_tests | sq_example | sq_thread_example | sq_tree_example) continue ;; esac
+        case $name in sq_tests | sq_thread_tests | sq_example | sq_*_example) continue ;; esac
         section "$name" | grep -q "$(checksum "$name")" || echo "$name"
     done
 }

@@ -1,0 +1,15 @@
+use Rattle.sq_engine_example.specs.declared.ThereAndBack.{ThereAndBack}
+use Rattle.sq_engine_example.proofs.Coming.{comes_back}
+use Rattle.sq_engine_example.proofs.serve.Goals as goal
+
+pub returns : goal.returns
+returns g c =
+    let came : ThereAndBack = record {
+      page = c.in_ok-page.page;
+      verdict = c.in_ok-page.verdict;
+      closed = c.in_ok-closed.closed;
+      last_verdict = c.in_ok-closed.last_verdict;
+    } in
+    comes_back c.args.opening c.in_ok-engine.engine c.in_ok-page.engine came c.in_ok-engine.ensures
+    c.in_ok-page.ensures.taken c.in_ok-page.ensures.verdict c.in_ok-closed.ensures.closed
+    c.in_ok-closed.ensures.set_up.opening c.in_ok-closed.ensures.verdict

@@ -1,0 +1,12 @@
+use Rattle.std.proofs.lemmas.Result.{IfOk-weaker}
+use Rattle.sq_engine.specs.declared.engine.EngineServed.{EngineServed}
+use Rattle.sq_engine.specs.Engine.{KeepsHistory}
+use Rattle.sq_engine_example.proofs.Coming.{from_ok, served_keeps}
+use Rattle.sq_engine_example.proofs.serve_until.Goals as goal
+
+pub returns : goal.returns
+returns g c =
+    from_ok (λ (served : EngineServed). KeepsHistory c.args.engine served.engine) c.serve.result c.in_ok-served.served
+    c.in_ok-served.ensures.value
+    (IfOk-weaker c.serve.result _ (λ (served : EngineServed). KeepsHistory c.args.engine served.engine)
+    (λ served is. served_keeps is) c.serve.ensures.served)
