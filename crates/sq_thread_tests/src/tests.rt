@@ -9,3 +9,4 @@ mod round;
 mod run;
 mod stages;
 mod text;
+mod there_and_back;

@@ -1,0 +1,53 @@
+// The caller of an engine that docs/library.md shows.
+use super::run::read_opening;
+use sq_audit::Verdict;
+use sq_engine::Closed;
+use sq_engine_example::go_there_and_back;
+use sq_plan::Plan;
+use sq_schema::{Root, RowKey};
+use sq_store::FamilyStore;
+use std::test::Fail;
+
+// Two partitions and ten root keys, with the number 0 each, between which nothing moves.
+const AT_REST: &str = r#"old {"version":1,"partitions":2,"ranges":[[0,5,0],[5,4294967296,1]]}
+new {"version":1,"partitions":2,"ranges":[[0,5,0],[5,4294967296,1]]}
+config 1 64 1
+row 0 0 0 0 -
+row 1 0 0 0 -
+row 2 0 0 0 -
+row 3 0 0 0 -
+row 4 0 0 0 -
+row 5 0 0 0 -
+row 6 0 0 0 -
+row 7 0 0 0 -
+row 8 0 0 0 -
+row 9 0 0 0 -
+"#;
+
+// Root keys 2 to 4 go to partition 1.
+const THERE: &[u8] = br#"{"version":1,"partitions":2,"ranges":[[0,2,0],[2,4294967296,1]]}"#;
+
+// Each of two threads has 1,000 jobs answered, which add 1 to the number of a root key, to each of ten in turn.
+#[test]
+fn has_each_job_answered(rt: HostRuntime) -> Result<(), Fail> {
+    let alloc = rt.alloc();
+    let opening = read_opening(alloc, AT_REST)?;
+    let there = Plan::read(alloc, THERE).ok().ok_or("it is a plan")?;
+    let end = go_there_and_back(&rt, alloc, opening, there);
+    let (came, heard) = end.ok_or("it comes back")?;
+    assert_eq!(rt; heard, (1_000, 1_000));
+    assert_eq!(rt; came.verdict, Verdict::Sound);
+    assert_eq!(rt; came.last_verdict, Verdict::Sound);
+    for root in 0..10 {
+        let part = if root < 5 { 0 } else { 1 };
+        assert_eq!(rt; number_at(&came.closed, part, root), Some(200), "of {root}");
+    }
+    Ok(())
+}
+
+// The number of a root key in the store of a partition.
+fn number_at(closed: &Closed, part: usize, root: u64) -> Option<i64> {
+    let family = closed.gathered.stores.get(part)?.get(Root::new(root)?)?;
+    let row = family.rows().get(RowKey { table: 0, sub: 0 })?;
+    Some(row.number())
+}
