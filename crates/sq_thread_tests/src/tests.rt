@@ -1,5 +1,6 @@
 // Runs that are made by hand or by their workers, and what comes of them.
 mod audit;
+mod closing;
 mod driver;
 mod gates;
 mod live;

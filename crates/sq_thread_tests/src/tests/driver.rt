@@ -97,7 +97,7 @@ fn a_chunk_is_made_up_for_with_jobs(rt: HostRuntime) -> Result<(), Fail> {
 }
 
 /// Two partitions, between which nothing moves.
-const APART: &str = r#"old {"version":1,"partitions":2,"ranges":[[0,8,0],[8,4294967296,1]]}
+pub const APART: &str = r#"old {"version":1,"partitions":2,"ranges":[[0,8,0],[8,4294967296,1]]}
 new {"version":1,"partitions":2,"ranges":[[0,8,0],[8,4294967296,1]]}
 config 1 64 1
 "#;
