@@ -1,5 +1,5 @@
 #!/usr/bin/env bash
-# Refused growths of calls of the library: runs in one thread, in each of which one allocation fails.
+# Refused growths of calls of the library: runs in each of which one allocation fails.
 #
 #   tests/refused_calls.sh
 #
@@ -15,16 +15,18 @@
 #   runs         the same of a `RunStore`
 #   nodes        a tree and a link by themselves, and two pulls of a leaf, the second of which is under way at the end
 #   two_stages   a move in two stages with a fold between them
+#   page         a page of a run at rest, which is taken and audited
 #
 # All tell first that they start, so that an output that is empty is a run that died.
 #
 # A step that answered 222 changed nothing: made once more it answers as it was to, and so do all later ones, with the same
 # dump. Of a list at most one step is refused, and the rest is what the rules say of the script without it.
 #
-# The last two are the runs that crates/sq_thread_tests makes by hand. Where a growth of a tree, of a link, or of what a run
-# opens with (its trees, links, queues, nodes and pumps) is refused, it is opened once more. A step whose growth is refused
+# `nodes` and `two_stages` are runs that crates/sq_thread_tests makes by hand. Where a growth of a tree, of a link, or of what a
+# run opens with (its trees, links, queues, nodes and pumps) is refused, it is opened once more. A step whose growth is refused
 # answers so, and its work is done at a later turn. A gathering, a fold and a next stage whose growth is refused hand all back,
-# and are called once more with what came back. So what is gathered in the end is always the same.
+# and are called once more with what came back; and so do the taking and the audit of a page. So what is gathered in the end is
+# always the same.
 set -eu
 . "$(dirname "$0")/lib.sh"
 room=$(mktemp -d)
@@ -48,6 +50,7 @@ block store 685-698 apply take give
 runs store 686-698 apply take give
 nodes none 538-538,546-550,556-569,575-645,654-676,690-690 tree link open job request cut load resume gather
 two_stages none 350-350,412-492,494-514,549-553,555-570,690-690 open job fold reopen
+page none 540-540,568-626,690-690 gather take audit
 TRIES
 }
 
@@ -149,7 +152,7 @@ wanted() {
     esac
 }
 
-# --- what is wanted of nodes and two stages ---
+# --- what is wanted of runs in threads ---
 
 # of_nodes CALL: what a call writes where nothing is refused.
 of_nodes() {
@@ -202,6 +205,25 @@ node 1 Complete(0)
 receipt 9 0 commit 2 20/-
 OUTPUT
             ;;
+        page)
+            cat <<'OUTPUT'
+starts
+read
+opened
+works
+worked
+gathered
+taken
+Sound
+at 0 5 0 0.0=10/-
+at 1 12 1 0.0=4/-
+receipt 5 0 abort 1 0 small
+receipt 12 0 commit 2 4
+at 0 5 0 0.0=10/-
+at 0 6 0 0.0=7/-
+at 1 12 0 0.0=4/-
+OUTPUT
+            ;;
     esac
 }
 
@@ -250,7 +272,7 @@ judge_steps() {
     if [ -n "$word" ]; then is_refused "$word"; fi
 }
 
-# judge_nodes CALL RUN SPACES: judges what was written for an input of nodes or of two stages.
+# judge_nodes CALL RUN SPACES: judges what was written for an input of nodes, of two stages or of a page.
 judge_nodes() {
     local got whole refused
     got=$(cat "$room/outputs/$1.$2.$3")
@@ -259,7 +281,7 @@ judge_nodes() {
     if [[ $got != "$whole" && $whole = "$got"* ]]; then
         case ${got##*$'\n'} in
             starts) met[before]=1; return ;;
-            opened | worked | gathered) return ;;
+            opened | worked | gathered | Sound) return ;;
         esac
     fi
     if [ "$(grep -v '^refused ' <<< "$got")" != "$whole" ]; then wrong "$1" "$2" "$3" "$whole"; return; fi
@@ -270,7 +292,7 @@ judge_nodes() {
 # judge_input CALL RUN SPACES: judges what was written for an input, and notes what was refused.
 judge_input() {
     case $1 in
-        nodes | two_stages) judge_nodes "$@" ;;
+        nodes | two_stages | page) judge_nodes "$@" ;;
         *) judge_steps "$@" ;;
     esac
 }
