@@ -50,6 +50,10 @@ KeepsHistory old new =
 abbrev pub KeepsHistoryAndJobs : Standing → Standing → Type 0
 KeepsHistoryAndJobs old new = KeepsHistory old new × (posted_jobs new ≡ posted_jobs old)
 
+-- an engine goes to the same plan still
+abbrev pub KeepsPlan : Standing → Standing → Type 0
+KeepsPlan old new = (opening_in new).new ≡ (opening_in old).new
+
 -- why an engine doesn't go to another plan: where rows move or the plans have a fault it is as it was
 abbrev pub IsNotMoved : Standing → PlanValue → NotMoved → Standing → Type 0
 IsNotMoved old plan Moving new = (new ≡ old) × (EngineRests old → ⊥)

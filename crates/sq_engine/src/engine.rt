@@ -1,11 +1,11 @@
 // An engine that lasts.
-ghost use Rattle.std.specs.Prelude.{◌≡◌, ◌≤◌, ◌↔◌, ◌∷◌, [], ◌++◌, IsTrue, IfOk, IfErr, OnOk, OnErr, IsErrOf};
+ghost use Rattle.std.specs.Prelude.{◌≡◌, ◌≤◌, ◌↔◌, ◌∷◌, [], ◌++◌, IsTrue, IfOk, IfErr, OnOk, OnErr, IsErrOf, MatchResult};
 ghost use Rattle.std.specs.List.{list_any};
 ghost use Rattle.sq_pull.specs.declared.numbers.TheConstants.{MAX_PUMPS};
 ghost use Rattle.sq_ranges.specs.Prelude.{IsSetUp};
 ghost use Rattle.sq_ranges.specs.Between.{recon_fault};
 ghost use Rattle.sq_engine.specs.History.{onward_opening};
-ghost use Rattle.sq_engine.specs.Engine.{opening_in, posted_jobs, receipts_in, EngineRests, Stands, KeepsHistory, KeepsHistoryAndJobs, IsNotMoved};
+ghost use Rattle.sq_engine.specs.Engine.{opening_in, posted_jobs, receipts_in, EngineRests, Stands, KeepsHistory, KeepsHistoryAndJobs, KeepsPlan, IsNotMoved};
 ghost use Rattle.sq_engine.specs.Posted.{is_id_in};
 ghost use Rattle.sq_engine.specs.LongLog.{shows_long_log};
 ghost use Rattle.sq_engine.specs.Served.{EngineIsServed};
@@ -19,7 +19,7 @@ use crate::pause::NotTaken;
 use crate::posted::PostFault;
 use crate::rest_page::RestPage;
 use crate::serving::Served;
-use crate::standing::{Standing, done_pause_of, go_on, move_from, pause_of, resume};
+use crate::standing::{Standing, begin_due, done_pause_of, go_on, move_from, pause_of, resume};
 use sq_driver::Gate;
 use sq_page::Page;
 use sq_plan::{PartId, Plan};
@@ -140,7 +140,8 @@ impl Engine {
         turns: u64,
         gate: &G,
     ) -> Engine
-        ensures { KeepsHistoryAndJobs self result }
+        ensures goes { KeepsHistoryAndJobs self result }
+        ensures plan { KeepsPlan self result }
     {
         let Engine { standing, pumps } = self;
         match resume(alloc, standing, pumps) {
@@ -164,6 +165,7 @@ impl Engine {
     ) -> Result<EngineServed, Engine>
         ensures served { IfOk result (λ served.
             EngineIsServed C.Becomes self client.old served.engine client.new served.is_whole) }
+        ensures plan { MatchResult result (λ served. KeepsPlan self served.engine) (KeepsPlan self) }
         ensures not_served { IfErr result (KeepsHistoryAndJobs self) }
         ensures not_called { OnErr result (client.new ≡ client.old) }
     {
@@ -234,6 +236,7 @@ impl Engine {
     ) -> Result<(RestPage, Engine), (NotTaken, Engine)>
         ensures at_rest { OnOk result (EngineRests self) }
         ensures taken { IfOk result (λ taken. TakesPage self taken.0 taken.1) }
+        ensures same_plan { IfOk result (λ taken. KeepsPlan self taken.1) }
         ensures not_taken { IfErr result (λ refused. IsNotTaken self refused.0 refused.1) }
     {
         if !self.is_at_rest() {
@@ -274,7 +277,7 @@ impl Engine {
             return Err((NotTaken::Moving, self));
         }
         let Engine { standing, pumps } = self;
-        match close_standing(rt, alloc, standing) {
+        match close_standing(rt, alloc, standing, pumps) {
             Ok(closed) => Ok(closed),
             Err(standing) => Err((NotTaken::Memory, Engine { standing, pumps })),
         }
@@ -284,7 +287,8 @@ impl Engine {
 // Goes on from an epoch that ran, where the segments of its stage are complete by what its workers told.
 fn end_stage<R: Wait>(rt: &R, alloc: Global, epoch: Epoch, pumps: u32) -> Standing
     requires { pumps ≤ MAX_PUMPS }
-    ensures { KeepsHistoryAndJobs (Standing.Running epoch) result }
+    ensures goes { KeepsHistoryAndJobs (Standing.Running epoch) result }
+    ensures plan { KeepsPlan (Standing.Running epoch) result }
 {
     if !epoch.is_stage_done() {
         return Standing::Running(epoch);
@@ -309,7 +313,8 @@ fn go_to<R: Wait>(
         opening_in new ≡ onward_opening (opening_in standing) plan) }
     ensures stays { IfErr result (KeepsHistoryAndJobs standing) }
 {
-    let pause = pause_of(rt, alloc, standing)?;
+    let ready = begin_due(alloc, standing, pumps);
+    let pause = pause_of(rt, alloc, ready)?;
     match move_from(alloc, pause, plan, pumps) {
         Ok(standing) => Ok(standing),
         Err(pause) => Err(Standing::Paused(pause)),
@@ -332,9 +337,10 @@ fn page_of<R: Threads + Wait + Sync>(
 ) -> Result<(Page, Standing), Standing>
     requires { pumps ≤ MAX_PUMPS }
     ensures taken { IfOk result (λ taken. TakesItsPage standing taken.0 taken.1) }
+    ensures plan { IfOk result (λ taken. KeepsPlan standing taken.1) }
     ensures stays { IfErr result (KeepsHistoryAndJobs standing) }
 {
-    let pause = done_pause_of(rt, alloc, standing)?;
+    let pause = done_pause_of(rt, alloc, standing, pumps)?;
     match pause.take_page(rt, alloc) {
         Ok((page, left)) => Ok((page, go_on(alloc, left, pumps))),
         Err((_, pause)) => Err(Standing::Paused(pause)),
@@ -346,11 +352,13 @@ fn close_standing<R: Threads + Wait + Sync>(
     rt: &R,
     alloc: Global,
     standing: Standing,
+    pumps: u32,
 ) -> Result<Closed, Standing>
+    requires { pumps ≤ MAX_PUMPS }
     ensures closed { IfOk result (HasClosedAfter standing) }
     ensures stays { IfErr result (KeepsHistoryAndJobs standing) }
 {
-    let pause = done_pause_of(rt, alloc, standing)?;
+    let pause = done_pause_of(rt, alloc, standing, pumps)?;
     match pause.close(rt, alloc) {
         Ok(closed) => Ok(closed),
         Err((_, pause)) => Err(Standing::Paused(pause)),

@@ -2,7 +2,7 @@
 ghost use Rattle.std.specs.Prelude.{◌≡◌, ◌≤◌, IfOk, IfErr};
 ghost use Rattle.sq_pull.specs.declared.numbers.TheConstants.{MAX_PUMPS};
 ghost use Rattle.sq_engine.specs.History.{IsLastStage, HasDoneStage, onward_opening};
-ghost use Rattle.sq_engine.specs.Engine.{opening_in, KeepsHistoryAndJobs};
+ghost use Rattle.sq_engine.specs.Engine.{opening_in, KeepsHistoryAndJobs, KeepsPlan};
 
 use crate::epoch::Epoch;
 use crate::next_move::NextMove;
@@ -25,12 +25,26 @@ pub enum Standing {
 /// Goes on from where an engine waits for memory, where there is memory for it.
 pub(crate) fn resume(alloc: Global, standing: Standing, pumps: u32) -> Standing
     requires { pumps ≤ MAX_PUMPS }
-    ensures { KeepsHistoryAndJobs standing result }
+    ensures goes { KeepsHistoryAndJobs standing result }
+    ensures plan { KeepsPlan standing result }
 {
     match standing {
         Standing::Running(epoch) => Standing::Running(epoch),
         Standing::Paused(pause) => go_on(alloc, pause, pumps),
         Standing::Due(due) => begin(alloc, due, pumps),
+    }
+}
+
+/// Begins the move that is due, where one is and there is memory for it.
+pub(crate) fn begin_due(alloc: Global, standing: Standing, pumps: u32) -> Standing
+    requires { pumps ≤ MAX_PUMPS }
+    ensures goes { KeepsHistoryAndJobs standing result }
+    ensures opening { opening_in result ≡ opening_in standing }
+{
+    match standing {
+        Standing::Due(due) => begin(alloc, due, pumps),
+        Standing::Running(epoch) => Standing::Running(epoch),
+        Standing::Paused(pause) => Standing::Paused(pause),
     }
 }
 
@@ -60,14 +74,17 @@ pub(crate) fn done_pause_of<R: Wait>(
     rt: &R,
     alloc: Global,
     standing: Standing,
+    pumps: u32,
 ) -> Result<Pause, Standing>
+    requires { pumps ≤ MAX_PUMPS }
     ensures paused { IfOk result (λ pause. KeepsHistoryAndJobs standing (Standing.Paused pause)) }
     ensures opening { IfOk result (λ pause. pause.opening ≡ opening_in standing) }
     ensures done { IfOk result HasDoneStage }
     ensures last { IfOk result IsLastStage }
     ensures stays { IfErr result (KeepsHistoryAndJobs standing) }
 {
-    let pause = pause_of(rt, alloc, standing)?;
+    let ready = begin_due(alloc, standing, pumps);
+    let pause = pause_of(rt, alloc, ready)?;
     match pause.stage_end() {
         StageEnd::MoveDone => Ok(pause),
         StageEnd::Missing | StageEnd::StageDone => Err(Standing::Paused(pause)),
@@ -99,7 +116,8 @@ pub(crate) fn move_from(
 /// the stage isn't complete nothing changes.
 pub(crate) fn go_on(alloc: Global, pause: Pause, pumps: u32) -> Standing
     requires { pumps ≤ MAX_PUMPS }
-    ensures { KeepsHistoryAndJobs (Standing.Paused pause) result }
+    ensures goes { KeepsHistoryAndJobs (Standing.Paused pause) result }
+    ensures plan { KeepsPlan (Standing.Paused pause) result }
 {
     match pause.stage_end() {
         StageEnd::Missing => Standing::Paused(pause),
@@ -116,7 +134,8 @@ fn rest(alloc: Global, pause: Pause, pumps: u32) -> Standing
     requires pumps { pumps ≤ MAX_PUMPS }
     requires done { HasDoneStage pause }
     requires last { IsLastStage pause }
-    ensures { KeepsHistoryAndJobs (Standing.Paused pause) result }
+    ensures goes { KeepsHistoryAndJobs (Standing.Paused pause) result }
+    ensures plan { KeepsPlan (Standing.Paused pause) result }
 {
     let Ok(plan) = pause.opening().new_plan().clone() else {
         return Standing::Paused(pause);

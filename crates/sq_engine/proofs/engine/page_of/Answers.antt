@@ -16,7 +16,7 @@ returns-in-Ok-clause-taken g c =
       is = c.in-Ok.ensures.page;
       left = c.in-Ok.left;
       leaves = c.in-Ok.ensures.history;
-      goes_on = c.go_on.ensures;
+      goes_on = c.go_on.ensures.goes;
     }
 
 -- the engine is paused

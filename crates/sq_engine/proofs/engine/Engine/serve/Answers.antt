@@ -15,11 +15,11 @@ returns-in-Ok-clause-served g c =
     subst (λ (s : Standing). EngineIsServed becomes s c.args.client.now standing c.serve.new.client c.in-Ok.field-0.is_whole) c.self.view_is
     (record {
       epoch = before;
-      comes = c.in-Running.ensures;
+      comes = c.in-Running.ensures.goes;
       served_epoch = after;
       served = c.in-Ok.ensures.served;
       history = runs_still before after c.in-Ok.ensures.history;
-      goes_on = c.end_stage-standing.ensures;
+      goes_on = c.end_stage-standing.ensures.goes;
     })
 
 -- the epoch is as it was
@@ -28,5 +28,5 @@ returns-in-Err-clause-not_served g c =
     let before = c.in-Running.epoch in
     let back = c.in-Err.epoch in
     subst (λ (s : Standing). KeepsHistoryAndJobs s (Running back)) c.self.view_is
-    (goes_further c.self.inside.standing (Running before) (Running back) c.in-Running.ensures
+    (goes_further c.self.inside.standing (Running before) (Running back) c.in-Running.ensures.goes
     (stays (Running before) (Running back) (ap Running c.in-Err.ensures.returned)))
