@@ -28,7 +28,7 @@ use Rattle.sq_engine.specs.Exchanges.{ClientCall}
 use Rattle.sq_engine.specs.Served.{EngineIsServed}
 use Rattle.sq_engine.proofs.Endings.{page_speaks, ends_as_planned}
 use Rattle.sq_engine_example.specs.declared.ThereAndBack.{ThereAndBack}
-use Rattle.sq_engine_example.specs.Return.{HasCome, ClosesLater, IsJudgedPage, HasComeBack}
+use Rattle.sq_engine_example.specs.Return.{CameByPages, ClosesLater, IsJudgedPage, HasComeBack}
 
 -- what holds of a value that came out of a result
 pub from_ok : {A E : Type 0} (P : A → Type 0) (r : Result A E) (a : A) → Some a ≡ result_ok r → IfOk r P → P a
@@ -78,7 +78,7 @@ all_sound here page verdict pages one sound audited =
     (Contains-cases here [] pause has))
 
 module _ (o : OpeningValue) where
-  pub goes_on : (pages : List PauseValue) (old new : Standing) → KeepsHistory old new → HasCome o pages old → HasCome o pages new
+  pub goes_on : (pages : List PauseValue) (old new : Standing) → KeepsHistory old new → CameByPages o pages old → CameByPages o pages new
   goes_on pages old new keeps at =
       let next = keeps o at.0 at.1 in
       (map EpochEnded next.0 ++ at.0, next.1, paged_epochs next.0 at.0 ∙ at.2)
@@ -87,7 +87,7 @@ module _ (o : OpeningValue) where
   page_at : (pages : List PauseValue) (pause left : PauseValue) (page : RestPage) (verdict : Verdict) (past : List Episode)
       → IsLastStage pause → IsPageFrom pause page.page → page.plan ≡ pause.opening.new → LeavesPage pause left
       → SpeaksForRuns page.plan page.page.run page.page.jobs.items verdict → PausesAfter o past pause → paged past ≡ pages
-      → (here : PauseValue) × HasCome o (here ∷ pages) (Paused left) × IsJudgedPage here page verdict
+      → (here : PauseValue) × CameByPages o (here ∷ pages) (Paused left) × IsJudgedPage here page verdict
   page_at pages pause left page verdict [] last is plan leaves speaks at same = absurd at.1
   page_at pages pause left page verdict (episode ∷ earlier) last is plan leaves speaks at same =
       let here = pause_after episode in
@@ -159,7 +159,7 @@ module _ (o : OpeningValue) where
       }
 
   -- an engine that had come so far gave a page, went on, and was closed
-  pub comes_back : (there rest : Standing) (came : ThereAndBack) → HasCome o [] there → TakesPage there came.page rest
+  pub comes_back : (there rest : Standing) (came : ThereAndBack) → CameByPages o [] there → TakesPage there came.page rest
       → SpeaksForRuns came.page.plan came.page.page.run came.page.page.jobs.items came.verdict
       → ClosesLater rest came.closed → IsOpening came.closed.opening
       → SpeaksForRuns came.closed.opening.new came.closed.page.run came.closed.page.jobs.items came.last_verdict

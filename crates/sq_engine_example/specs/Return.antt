@@ -16,8 +16,8 @@ use Rattle.sq_engine.specs.Ending.{paged, EngineEndsAsPlanned}
 use Rattle.sq_engine_example.specs.declared.ThereAndBack.{ThereAndBack}
 
 -- an engine that opened with this came so far by some episodes, in which pages were taken of these pauses
-abbrev pub HasCome : OpeningValue → List PauseValue → Standing → Type 0
-HasCome o pages standing = (past : List Episode) × Stands o past standing × (paged past ≡ pages)
+abbrev pub CameByPages : OpeningValue → List PauseValue → Standing → Type 0
+CameByPages o pages standing = (past : List Episode) × Stands o past standing × (paged past ≡ pages)
 
 -- an engine went on, and then it was closed
 abbrev pub ClosesLater : Standing → Closed → Type 0

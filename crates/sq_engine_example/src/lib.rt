@@ -8,7 +8,7 @@ ghost use Rattle.sq_audit.specs.Answers.{IdsDiffer};
 ghost use Rattle.sq_page.specs.Pages.{SpeaksForRuns};
 ghost use Rattle.sq_engine.specs.Engine.{KeepsHistory};
 ghost use Rattle.sq_engine.specs.Taken.{TakesPage};
-ghost use Rattle.sq_engine_example.specs.Return.{HasCome, ClosesLater, HasComeBack};
+ghost use Rattle.sq_engine_example.specs.Return.{CameByPages, ClosesLater, HasComeBack};
 
 mod asker;
 mod broker;
@@ -110,7 +110,7 @@ fn go_there<R: Threads + Wait + Sync>(
     plan: Plan,
     broker: &mut Broker<R>,
 ) -> Option<Engine>
-    ensures { IfSome result (HasCome opening []) }
+    ensures { IfSome result (CameByPages opening []) }
 {
     let engine = Engine::open(rt, alloc, opening, PUMPS).ok()?;
     let engine = serve_until(rt, alloc, engine, broker, JOBS)?;
