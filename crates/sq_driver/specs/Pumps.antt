@@ -1,9 +1,9 @@
 -- What becomes of pumps that are driven.
-use Rattle.std.specs.Prelude.{◌≡◌, List}
+use Rattle.std.specs.Prelude.{◌≡◌, ◌⊎◌, ℕ, List}
 use Rattle.sq_ranges.specs.ReconValue.{ReconValue}
 use Rattle.sq_pull.specs.declared.pump.PumpTurn.{PumpTurn}
 use Rattle.sq_pull.specs.Seats.{AreSeatsOf, OnlyClaimed}
-use Rattle.sq_pull.specs.Pump.{PumpValue, HasTurned}
+use Rattle.sq_pull.specs.Pump.{PumpValue, HasTurned, PutsOff, SplitsNext}
 use Rattle.sq_node.specs.FabricValue.{FabricValue}
 use Rattle.sq_driver.specs.Ways.{ComesStepByStep, EachDriven}
 
@@ -11,9 +11,10 @@ use Rattle.sq_driver.specs.Ways.{ComesStepByStep, EachDriven}
 abbrev pub HasAllSeats : FabricValue → PumpValue → Type 0
 HasAllSeats fabric pump = AreSeatsOf fabric.trees pump.seats
 
--- a pump took a turn
+-- a pump took a turn, put its next segment off, or split a node of it
 abbrev pub TakesTurn : ReconValue → PumpValue → PumpValue → Type 0
-TakesTurn recon old new = (turn : PumpTurn) × HasTurned recon old new turn
+TakesTurn recon old new =
+    ((turn : PumpTurn) × HasTurned recon old new turn) ⊎ (PutsOff old new ⊎ ((node : ℕ) × SplitsNext node old new))
 
 -- a pump was driven: what became of it came by its own turns, it has the same number and is of the fabric, and its seats
 -- began and completed nothing more

@@ -40,6 +40,8 @@ impl Worker for Node {
         WorkerId::Node(self.part().number())
     }
 
+    fn begin(&mut self, _fabric: &Fabric) {}
+
     fn take_turn<R: Wait, G: Gate>(&mut self, rt: &R, fabric: &Fabric, gate: &G) -> Turn {
         take_node_turn(rt, fabric, self, &mut NoTeller, gate)
     }
@@ -64,6 +66,8 @@ impl<T: Teller> Worker for TellingNode<T> {
         self.node.id()
     }
 
+    fn begin(&mut self, _fabric: &Fabric) {}
+
     fn take_turn<R: Wait, G: Gate>(&mut self, rt: &R, fabric: &Fabric, gate: &G) -> Turn {
         take_node_turn(rt, fabric, &mut self.node, &mut self.teller, gate)
     }
@@ -77,8 +81,9 @@ impl<T: Teller> Worker for TellingNode<T> {
         first.node first.teller old.node old.teller new.node new.teller was more };
 }
 
-/// Drives a node: it takes this many turns. In a turn it makes each step once, and cuts and sends a second chunk. Where it
-/// cut or loaded one, it goes on with jobs until it has done three times as much for them as for chunks, or finds none.
+/// Drives a node: it takes this many turns. In a turn it makes each step once, and cuts and sends a second chunk. It takes no
+/// request while it has something to cut or to send: what isn't asked of it yet it still serves. Where it cut or loaded a
+/// chunk, it goes on with jobs until it has done three times as much for them as for chunks, or finds none.
 ///
 /// It ends before where it is idle, unless the gate says that it goes on then. And it ends where the gate says so, which is
 /// asked before each step. The gate is told of each step in which there was something to do, and where the node rests after a
@@ -199,6 +204,9 @@ fn try_step<T: Teller, R: Wait, G: Gate>(
     requires { IsNodeOf fabric.now node.old }
     ensures { DrivenAndTold T.Tells fabric.now node.old teller.old node.new teller.new }
 {
+    if step == NodeStep::Request && node.is_giving_up() {
+        return Turn::Rested;
+    }
     let who = node.id();
     if !gate.pass(who, step) {
         return Turn::Ended;

@@ -6,7 +6,16 @@ use crate::gate::{Gate, NodeStep, WorkerEvent, WorkerId};
 use crate::worker::{Turn, Worker, take_turns};
 use sq_node::Fabric;
 use sq_pull::{Pump, PumpTurn};
+use sq_ranges::SegId;
+use sq_tree::{LEAVES, NodeId};
 use std::sync::Wait;
+
+// How many requests wait at a partition when a pump asks it for no more. It has work by then, and a transaction that waits for
+// other rows from there asks behind few.
+const ENOUGH_REQUESTS: usize = 8;
+
+// How many parts there are for each partition, at least, into which a pump divides what moves.
+const PARTS_TO_CLAIM: u64 = 16;
 
 impl Worker for Pump {
     ghost use Rattle.sq_driver.specs.Pumps.{HasAllSeats, PumpDriven};
@@ -18,6 +27,10 @@ impl Worker for Pump {
 
     fn id(&self) -> WorkerId {
         WorkerId::Pump(self.number())
+    }
+
+    fn begin(&mut self, fabric: &Fabric) {
+        divide(fabric, self);
     }
 
     fn take_turn<R: Wait, G: Gate>(&mut self, rt: &R, fabric: &Fabric, gate: &G) -> Turn {
@@ -40,9 +53,13 @@ impl Worker for Pump {
     ghost further = { pump_further };
 }
 
-/// Drives a pump: it takes this many turns. It ends before where it is done: there was nothing to claim in any segment of the
-/// running stage, and nothing is pending. And it ends where the gate says so, which is asked before each turn. The gate is
-/// told of each claim, and where the pump rests, which it may do by keeping it for a while.
+/// Drives a pump: it takes this many turns. Before them it splits the segments where they are few, so that it claims no large
+/// part of what moves at once. In a turn it claims a tree node of a segment whose source has few requests to begin, if there is
+/// one: what isn't claimed is still served where it stands, and a transaction that waits can claim it.
+///
+/// It ends before where it is done: there was nothing to claim in any segment of the running stage, and nothing is pending. And
+/// it ends where the gate says so, which is asked before each turn. The gate is told of each claim, and where the pump rests,
+/// which it may do by keeping it for a while.
 pub fn drive_pump<R: Wait, G: Gate>(rt: &R, fabric: &Fabric, pump: &mut Pump, turns: u64, gate: &G)
     requires { AreSeatsOf fabric.now.trees pump.old.seats }
     ensures { PumpDriven fabric.now pump.old pump.new }
@@ -50,8 +67,80 @@ pub fn drive_pump<R: Wait, G: Gate>(rt: &R, fabric: &Fabric, pump: &mut Pump, tu
     take_turns(rt, fabric, pump, turns, gate);
 }
 
-// A turn of a pump, and whether something was claimed.
+// Splits each segment into as many parts as are to be claimed.
+fn divide(fabric: &Fabric, pump: &mut Pump)
+    requires { AreSeatsOf fabric.now.trees pump.old.seats }
+    ensures { PumpDriven fabric.now pump.old pump.new }
+{
+    let segments = pump.segments_left();
+    let parts = parts_of_a_segment(fabric.parts(), segments as u64);
+    for _segment in 0..segments {
+        split(fabric, pump, parts);
+        pump.put_off();
+    }
+}
+
+// Splits the next segment into so many parts, which are a power of two.
+fn split(fabric: &Fabric, pump: &mut Pump, parts: u64)
+    requires { AreSeatsOf fabric.now.trees pump.old.seats }
+    ensures { PumpDriven fabric.now pump.old pump.new }
+{
+    for number in 1..parts {
+        let Some(node) = NodeId::new(number) else {
+            return;
+        };
+        pump.split_next(&fabric.shared(), node);
+    }
+}
+
+// Into how many parts a segment is divided: the least power of two that makes enough parts of so many segments, or the number
+// of its leaves.
+fn parts_of_a_segment(partitions: u8, segments: u64) -> u64 {
+    let enough = u64::from(partitions) * PARTS_TO_CLAIM;
+    for parts in [1, 2, 4, 8, 16] {
+        if segments.saturating_mul(parts) >= enough {
+            return parts;
+        }
+    }
+    LEAVES
+}
+
+// Claims a node for a source that has few requests, and whether something was claimed.
 fn claims<R: Wait>(rt: &R, fabric: &Fabric, pump: &mut Pump) -> bool
+    requires { AreSeatsOf fabric.now.trees pump.old.seats }
+    ensures { PumpDriven fabric.now pump.old pump.new }
+{
+    finds_source(rt, fabric, pump) && claims_next(rt, fabric, pump)
+}
+
+// Puts segments off until the source of the next one has few requests. Whether there is such a one, or the round is over.
+fn finds_source<R: Wait>(rt: &R, fabric: &Fabric, pump: &mut Pump) -> bool
+    requires { AreSeatsOf fabric.now.trees pump.old.seats }
+    ensures { PumpDriven fabric.now pump.old pump.new }
+{
+    let segments = pump.segments_left();
+    for _segment in 0..segments {
+        match pump.next_segment() {
+            Some(seg) if !has_few_requests(rt, fabric, seg) => pump.put_off(),
+            _ => return true,
+        }
+    }
+    segments == 0
+}
+
+// Whether few requests wait at the partition that a segment leaves.
+fn has_few_requests<R: Wait>(rt: &R, fabric: &Fabric, seg: SegId) -> bool {
+    let shared = fabric.shared();
+    shared
+        .recon
+        .segments()
+        .get(seg.index())
+        .and_then(|segment| shared.requests.get(usize::from(segment.src.number())))
+        .is_some_and(|queue| queue.len(rt) < ENOUGH_REQUESTS)
+}
+
+// A turn of a pump, and whether something was claimed.
+fn claims_next<R: Wait>(rt: &R, fabric: &Fabric, pump: &mut Pump) -> bool
     requires { AreSeatsOf fabric.now.trees pump.old.seats }
     ensures { PumpDriven fabric.now pump.old pump.new }
 {

@@ -27,6 +27,11 @@ pub(crate) trait Worker {
     /// Who it is to a gate.
     fn id(&self) -> WorkerId;
 
+    /// What it does before its turns.
+    fn begin(&mut self, fabric: &Fabric)
+        requires { IsOf fabric.now self.old }
+        ensures { Driven fabric.now self.old self.new };
+
     /// A turn. The gate is asked before each step.
     fn take_turn<R: Wait, G: Gate>(&mut self, rt: &R, fabric: &Fabric, gate: &G) -> Turn
         requires { IsOf fabric.now self.old }
@@ -54,6 +59,7 @@ pub(crate) fn take_turns<W: Worker, R: Wait, G: Gate>(
     requires { W.IsOf fabric.now worker.old }
     ensures { W.Driven fabric.now worker.old worker.new }
 {
+    worker.begin(fabric);
     let who = worker.id();
     let mut rested = 0u64;
     for _turn in 0..turns {

@@ -96,7 +96,7 @@ impl Desk {
         }
     }
 
-    /// Posts each job whose queue has room for it. The others stay, in their order.
+    /// Posts the jobs in their order, up to the first whose queue is full. That one and those behind it stay.
     pub(crate) fn send_pending<R: Wait>(&mut self, rt: &R, fabric: &Fabric)
         ensures { self.new.receipts ≡ self.old.receipts }
     {
@@ -105,7 +105,8 @@ impl Desk {
                 return;
             };
             if let Err(job) = fabric.put_job(rt, to, job) {
-                self.posts.push_back_reserved(Post { to, job });
+                self.posts.push_front_reserved(Post { to, job });
+                return;
             }
         }
     }

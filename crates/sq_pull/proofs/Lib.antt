@@ -1,3 +1,4 @@
+pub mod Splitting
 pub mod Stepped
 pub mod Claimed
 pub mod Rounds

@@ -1,5 +1,5 @@
 -- A pump, which claims what is free, segment by segment, and what becomes of a turn of it.
-use Rattle.std.specs.Prelude.{◌≡◌, ◌≢◌, ℕ, ◌<◌, ◌≤◌, ◌⊎◌, true, ◌==◌, nat_lt, List, [], ◌∷◌, ◌++◌, length, filter, Some, None}
+use Rattle.std.specs.Prelude.{◌≡◌, ◌≢◌, ℕ, ◌<◌, ◌≤◌, ◌⊎◌, true, ◌==◌, nat_lt, List, [], ◌∷◌, ◌++◌, length, filter, slice_get, Some, None, MatchOption}
 use Rattle.std.specs.List.{list_all, range_with_len}
 use Rattle.atomic_table.specs.Seated.{TableId}
 use Rattle.sq_ranges.specs.declared.segment.TheConstants.{SEGMENT_LIMIT}
@@ -10,7 +10,7 @@ use Rattle.sq_pull.specs.declared.pump.PumpTurn.{PumpTurn}
 use Rattle.sq_pull.specs.declared.pump.PumpTurn.TheVariants.{Won, Nothing, Spent}
 use Rattle.sq_pull.specs.Numbers.{pump_pull}
 use Rattle.sq_pull.specs.Wins.{WinsValue, no_wins, AddsWin, Sends, AreWonClaims}
-use Rattle.sq_pull.specs.Seats.{AreSeatsOf, StepsAt, ClaimsAny, OnlyClaimed}
+use Rattle.sq_pull.specs.Seats.{AreSeatsOf, StepsAt, ClaimsAny, TriesSplit, OnlyClaimed}
 
 -- a pump with its seats, one for each segment, what it won, and its round: the segments that it goes on looking at, the next one first
 pub record PumpValue : Type 0 where
@@ -62,6 +62,25 @@ abbrev pub ClaimsNext : ReconValue → PumpValue → PumpValue → PumpTurn → 
 ClaimsNext recon old new (Won seg n) = WinsNext recon seg n old new
 ClaimsNext recon old new Nothing = SkipsNext old new ⊎ HasNoRound old new
 ClaimsNext recon old new Spent = (old.wins.count ≡ MAX_CLAIMS) × (new ≡ old)
+
+-- the round with its next segment put behind the others
+abbrev pub put_off : List ℕ → List ℕ
+put_off [] = []
+put_off (seg ∷ rest) = rest ++ seg ∷ []
+
+-- the pump put its next segment off, and did nothing else
+abbrev pub PutsOff : PumpValue → PumpValue → Type 0
+PutsOff old new = new ≡ record old { round = put_off old.round }
+
+-- the pump split a node of this segment or found that it can't be split, and did nothing else
+pub record SplitsAt (seg node : ℕ) (old new : PumpValue) : Type 0 where
+  pub seats : StepsAt seg (TriesSplit node) old.seats new.seats
+  pub same : new ≡ record old { seats = new.seats }
+
+-- the same of the next segment of its round, if there is one
+abbrev pub SplitsNext : ℕ → PumpValue → PumpValue → Type 0
+SplitsNext node old new =
+    MatchOption (slice_get old.round 0) (new ≡ old) (λ seg. SplitsAt seg node old new)
 
 -- the pump sent requests, or none, and did nothing else
 pub record OnlySends (old new : PumpValue) : Type 0 where

@@ -1,6 +1,9 @@
 -- The seats of an owner, one for each segment, and what a step of it does to them.
-use Rattle.std.specs.Prelude.{◌≡◌, ℕ, List, map, slice_get, slice_set, Some, Option}
+use Rattle.std.specs.Prelude.{◌≡◌, ℕ, ◌⊎◌, List, [], map, slice_get, slice_set, Some, Option}
 use Rattle.atomic_table.specs.Seated.{TableId}
+use Rattle.sq_tree.specs.declared.fault.SplitFault.{SplitFault}
+use Rattle.sq_tree.specs.declared.status.Status.TheVariants.{Split}
+use Rattle.sq_status.specs.Calls.{WonLive, SplitRefused}
 use Rattle.sq_status.specs.declared.view.View.{View}
 use Rattle.sq_status.specs.declared.tree.walks.LeafClaim.{LeafClaim}
 use Rattle.sq_status.specs.Seat.{SeatValue, IsSameSeat}
@@ -28,6 +31,11 @@ pub record ClaimsLeaf (leaf pull : ℕ) (claim : LeafClaim) (v w : View) : Type 
 pub record ClaimsAny (pull : ℕ) (found : Option ℕ) (v w : View) : Type 0 where
   pub search : Searched 1 pull v w found
   pub claims : ClaimedOnly v (claims_of_search pull found) w
+
+-- a node was split, or it couldn't be. None was claimed
+pub record TriesSplit (n : ℕ) (v w : View) : Type 0 where
+  pub split : WonLive v n Split w ⊎ ((fault : SplitFault) × SplitRefused n v w fault)
+  pub claims : ClaimedOnly v [] w
 
 -- what each seat began and completed
 abbrev pub begun_by : List SeatValue → List (List (ℕ × ℕ))

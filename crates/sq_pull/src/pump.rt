@@ -1,12 +1,12 @@
 // Pumps.
-ghost use Rattle.std.specs.Prelude.{◌≡◌, ◌≢◌, ◌↔◌, ◌<◌, ◌≤◌, [], true, length, map, IsTrue, IfOk, IfErr, OnErr};
+ghost use Rattle.std.specs.Prelude.{◌≡◌, ◌≢◌, ◌↔◌, ◌<◌, ◌≤◌, [], true, length, map, slice_get, IsTrue, IfOk, IfErr, OnErr};
 ghost use Rattle.sq_ranges.specs.declared.segment.TheConstants.{SEGMENT_LIMIT};
 ghost use Rattle.sq_pull.specs.Seats.{AreSeatsOf, OnlyClaimed};
 ghost use Rattle.sq_pull.specs.Pump.{stage_round};
 
 use crate::numbers::{MAX_CLAIMS, MAX_OWNERS, pump_pull};
 use crate::request::{PendingRequest, Request};
-use crate::seats::claim_any;
+use crate::seats::{claim_any, split};
 use crate::shared::Shared;
 use crate::wins::Wins;
 use crossbeam_queue::ArrayQueue;
@@ -50,7 +50,7 @@ impl Model for Pump {
 }
 
 impl Pump {
-    ghost use Rattle.sq_pull.specs.Pump.{new_pump, IsPump, StaysPump, LacksRoom, ClaimsNext, HasTurned, OnlySends};
+    ghost use Rattle.sq_pull.specs.Pump.{new_pump, IsPump, StaysPump, LacksRoom, ClaimsNext, HasTurned, PutsOff, SplitsNext, OnlySends};
 
     /// The pump of this number, which has won no claim. Its seats are of the segments in their order, and its round has
     /// those of the stage. Where there is no memory for the round, the seats come back.
@@ -97,6 +97,42 @@ impl Pump {
         ensures { IsTrue result ↔ (self.now.round ≡ []) × (self.now.wins.pending ≡ []) }
     {
         self.round.is_empty() && self.wins.pending().is_empty()
+    }
+
+    /// The segment that the pump looks at next.
+    pub fn next_segment(&self) -> Option<SegId>
+        ensures { result ≡ slice_get self.now.round 0 }
+    {
+        self.round.front().copied()
+    }
+
+    /// How many segments are left in the round.
+    pub fn segments_left(&self) -> usize
+        ensures { result ≡ length self.now.round }
+    {
+        self.round.len()
+    }
+
+    /// Puts the next segment off: the others of the round come before it.
+    pub fn put_off(&mut self)
+        ensures put_off { PutsOff self.old self.new }
+        ensures pump { IsPump self.new }
+    {
+        if !self.round.is_empty() {
+            self.round.rotate_left(1);
+        }
+    }
+
+    /// Splits a node of the next segment, where it is free and isn't a leaf, and its parent is split: then it is claimed by
+    /// parts. Where the round is empty this does nothing.
+    pub fn split_next(&mut self, shared: &Shared<'_>, node: NodeId)
+        requires seats { AreSeatsOf shared.now.trees.now self.old.seats }
+        ensures split { SplitsNext node self.old self.new }
+        ensures stays { StaysPump shared.now.trees.now self.old self.new }
+    {
+        if let Some(seg) = self.next_segment() {
+            split(shared.trees, &mut self.seats, seg, node);
+        }
     }
 
     /// Claims a node of the next segment of the round, and then sends what is pending. A segment in which each leaf has

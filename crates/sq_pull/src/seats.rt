@@ -1,6 +1,6 @@
 // Claims by the seat of a segment, among those of an owner.
 ghost use Rattle.std.specs.Prelude.{◌<◌, length};
-ghost use Rattle.sq_pull.specs.Seats.{AreSeatsOf, StepsAt, ClaimsLeaf, ClaimsAny, OnlyClaimed};
+ghost use Rattle.sq_pull.specs.Seats.{AreSeatsOf, StepsAt, ClaimsLeaf, ClaimsAny, TriesSplit, OnlyClaimed};
 
 use sq_ranges::SegId;
 use sq_status::{LeafClaim, StatusTree, TreeSeat};
@@ -39,4 +39,16 @@ pub(crate) fn claim_any(
 {
     let at = seg.index();
     trees[at].claim_any(&mut seats[at], pull)
+}
+
+/// Splits a node of a segment, where it is free and isn't a leaf, and its parent is split.
+pub(crate) fn split(trees: &[StatusTree], seats: &mut Vec<TreeSeat>, seg: SegId, node: NodeId)
+    requires seats { AreSeatsOf trees.now seats.old.items }
+    requires segment { seg < length trees.now }
+    ensures steps { StepsAt seg (TriesSplit node) seats.old.items seats.new.items }
+    ensures seats { AreSeatsOf trees.now seats.new.items }
+    ensures work { OnlyClaimed seats.old.items seats.new.items }
+{
+    let at = seg.index();
+    let _ = trees[at].split(&mut seats[at], node);
 }

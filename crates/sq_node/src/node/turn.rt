@@ -51,6 +51,13 @@ impl Node {
         !fabric.is_last_stage() || fabric.close_answered()
     }
 
+    /// Whether it gave up keys that aren't all cut and sent. No step asks for it: a driver may, before it lets the node
+    /// give up more.
+    pub fn is_giving_up(&self) -> bool {
+        (0..self.core.parts()).map(PartId::new).any(|dst| self.core.may_cut(dst)
+            || self.core.outbox(dst).is_some())
+    }
+
     /// What it had.
     pub fn into_parts(self) -> NodeParts
         ensures part { result.part ≡ self.core.part }

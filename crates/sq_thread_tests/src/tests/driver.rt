@@ -3,6 +3,7 @@ use super::gates::{FIRST_PUMP, Lasting, Recorder, RecorderEnd};
 use super::node::PAIR;
 use super::run::TestRun;
 use sq_driver::{NodeStep, OpenGate};
+use sq_node::Stepped;
 use std::alloc::Global;
 use std::sync::Wait;
 use std::test::Fail;
@@ -63,7 +64,19 @@ fn a_gate_keeps_an_idle_node(rt: HostRuntime) -> Result<(), Fail> {
     Ok(())
 }
 
-// A pump claims the whole of the one segment, then finds nothing to claim there, and is done.
+// How many requests a node takes in so many turns.
+fn requests_taken<R: Wait>(rt: &R, run: &mut TestRun, turns: u64) -> Result<u64, Fail> {
+    let mut taken = 0u64;
+    for _turn in 0..turns {
+        let [_, request, _, _, _, _, _, _] = run.steps(rt, 0)?;
+        if request == Stepped::Did {
+            taken = taken.saturating_add(1);
+        }
+    }
+    Ok(taken)
+}
+
+// A pump ends where the gate says so. It claims one leaf a turn, and no more while eight requests wait at the source.
 #[test]
 fn a_pump_takes_its_turns(rt: HostRuntime) -> Result<(), Fail> {
     let alloc = rt.alloc();
@@ -73,9 +86,28 @@ fn a_pump_takes_its_turns(rt: HostRuntime) -> Result<(), Fail> {
     assert!(rt; closed.told() == (FIRST_PUMP, 0x9));
     let gate = Recorder::new(None);
     run.drive_pump(&rt, 0, 1, &gate)?;
-    assert!(rt; gate.told() == (FIRST_PUMP, 0x9) && !run.is_pump_done(0));
-    run.drive_pump(&rt, 0, 1_000_000, &gate)?;
-    assert!(rt; gate.told() == (FIRST_PUMP, 0x99) && run.is_pump_done(0));
+    assert!(rt; gate.told() == (FIRST_PUMP, 0x9));
+    assert!(rt; requests_taken(&rt, &mut run, 2)? == 1);
+    run.drive_pump(&rt, 0, 11, &gate)?;
+    assert!(rt; gate.told() == (FIRST_PUMP, 0x9999_9999_9999));
+    assert!(rt; requests_taken(&rt, &mut run, 12)? == 8);
+    Ok(())
+}
+
+// Of the one segment it claims each of the 32 leaves. Then it finds nothing to claim there, and is done.
+#[test]
+fn a_pump_is_done_at_last(rt: HostRuntime) -> Result<(), Fail> {
+    let alloc = rt.alloc();
+    let mut run = TestRun::opened(alloc, PAIR, 1)?;
+    let mut taken = 0u64;
+    for _time in 0..4 {
+        run.drive_pump(&rt, 0, 12, &OpenGate)?;
+        assert!(rt; !run.is_pump_done(0));
+        taken = taken.saturating_add(requests_taken(&rt, &mut run, 12)?);
+    }
+    assert!(rt; taken == 32);
+    run.drive_pump(&rt, 0, 1_000_000, &OpenGate)?;
+    assert!(rt; run.is_pump_done(0));
     Ok(())
 }
 
