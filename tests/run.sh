@@ -309,6 +309,83 @@ try_told() {
     count no_moments_of_a_fault "$(ls "$room/fault.csv" 2> /dev/null || true)"
 }
 
+# Rows that go to another partition, some of them back, and then there again, in three live runs, each from the rows that the
+# one before left: they answer their jobs as one script answers them, and leave the rows that the script leaves. Of a move that
+# hasn't ended the rows are written too.
+try_results() {
+    local at folder=$room/results
+    mkdir "$folder"
+    chain_plans "$folder"
+    for at in 1 2 3; do
+        chain_jobs "$at" > "$folder/jobs$at"
+        give "$folder/jobs$at" live --old "$folder/$((at - 1)).json" --new "$folder/$at.json" --rows "$folder/rows$((at - 1))" \
+            --replies "$folder/replies$at" --rows-out "$folder/rows$at"
+        echo 'sound 10 families 10 committed' > "$room/wanted"
+        judge "live run $at of a chain" 0 "$room/wanted" /dev/null
+    done
+    { cat "$folder/jobs1"; sed 1d "$folder/jobs2"; sed 1d "$folder/jobs3"; } > "$folder/script"
+    give "$folder/script" run --old "$folder/0.json" --new "$folder/0.json" --rows "$folder/rows0" --rows-out "$folder/rows"
+    sed '/^end /,$d' "$room/output" > "$room/wanted"
+    cat "$folder"/replies[123] > "$room/told"
+    count replies_of_a_chain "$(difference "$room/wanted" "$room/told")"
+    count rows_of_a_chain "$(difference "$folder/rows" "$folder/rows3")"
+    give "$tests/cases/run/chunks_in_each_place/input" run --rows-out "$folder/moving"
+    grep '^row ' "$tests/cases/run/chunks_in_each_place/input" > "$room/wanted"
+    count rows_in_each_place "$(difference "$room/wanted" "$folder/moving")"
+    try_bad_outputs "$folder"
+    count no_part_of_a_file "$(find "$folder" -name '*.squall-part')"
+}
+
+# chain_plans FOLDER: the plans and the rows that a chain of runs begins with.
+chain_plans() {
+    local at=0 root ranges
+    for ranges in '[0,4294967296,0]' '[0,8,1],[8,4294967296,0]' '[0,4,0],[4,16,1],[16,4294967296,0]' \
+        '[0,16,1],[16,4294967296,0]'; do
+        echo "{\"version\":1,\"partitions\":2,\"ranges\":[$ranges]}" > "$1/$at.json"
+        at=$((at + 1))
+    done
+    for root in 0 1 2 3 4 5 6 7 8 9; do
+        echo "row $root 0 0 $((root * 100)) -"
+        echo "row $root 2 4294967295 -$((root + 1)) 00ff6869"
+    done > "$1/rows0"
+}
+
+# chain_jobs RUN: the sizes, and a job on each root key, which has a sum of its own in each run. All are posted to partition 0.
+chain_jobs() {
+    local root
+    echo 'config 1 64 1'
+    for root in 9 8 7 6 5 4 3 2 1 0; do
+        echo "txn 0 $1$root $root add 0 0 $1 put 1 $1 $root 0a$1$1 get 2 4294967295 check 0 0 1"
+    done
+}
+
+# try_bad_outputs FOLDER: a file that can't be written, one that the run reads, by this name or by another, and one that two
+# options name; and jobs without an answer.
+try_bad_outputs() {
+    local words=(--old "$1/0.json" --new "$1/1.json" --rows "$1/rows0")
+    chain_jobs 1 > "$1/jobs"
+    echo 'sound 10 families 10 committed' > "$room/wanted"
+    echo "squall: the file '$1/nowhere/rows' can't be written: No such file or directory (os error 2)" > "$room/said"
+    give "$1/jobs" live "${words[@]}" --rows-out "$1/nowhere/rows"
+    judge 'live --rows-out in no folder' 2 "$room/wanted" "$room/said"
+    cp "$1/rows0" "$1/rows_before"
+    echo "squall: --rows-out names the file '$1/../results/rows0', which the run reads" > "$room/said"
+    give "$1/jobs" live "${words[@]}" --rows-out "$1/../results/rows0"
+    judge 'live --rows-out over its rows' 2 /dev/null "$room/said"
+    count rows_that_are_read "$(difference "$1/rows_before" "$1/rows0")"
+    echo "squall: --timeline names the file '$1/jobs', which the run reads" > "$room/said"
+    give /dev/null live "${words[@]}" --timeline "$1/jobs" "$1/jobs"
+    judge 'live --timeline over its input' 2 /dev/null "$room/said"
+    echo "squall: --rows-out names the file '$1/../results/both', which another option names too" > "$room/said"
+    give "$1/jobs" live "${words[@]}" --replies "$1/both" --rows-out "$1/../results/both"
+    judge 'live --replies and --rows-out into one file' 2 /dev/null "$room/said"
+    { cat "$tests/cases/live/one_turn_for_two_jobs/errors"; echo 'squall: jobs without an answer: 1'; } > "$room/said"
+    give "$tests/cases/live/one_turn_for_two_jobs/input" live --turns 1 --replies "$1/answered"
+    judge 'live --replies of a run that stops' 3 "$tests/cases/live/one_turn_for_two_jobs/output" "$room/said"
+    echo 'commit 1 ok' > "$room/wanted"
+    count replies_of_a_run_that_stops "$(difference "$room/wanted" "$1/answered")"
+}
+
 # most_threads PUMPS: the most threads that a live run of two partitions with so many pumps has at once, as far as it is
 # looked at.
 most_threads() {

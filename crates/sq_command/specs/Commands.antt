@@ -43,7 +43,8 @@ with_input shape =
 
 -- the subcommand that makes the steps of a script
 abbrev pub run_shape : Shape
-run_shape = with_input (larger (new_shape (codes "run")) (flag_rule (codes "echo")))
+run_shape =
+    with_input (larger (larger (new_shape (codes "run")) (flag_rule (codes "echo"))) (valued_rule (codes "rows-out")))
 
 -- the subcommand that tells what moves
 abbrev pub ranges_shape : Shape
@@ -58,8 +59,8 @@ numbered_shape =
 -- and with all its options
 abbrev pub live_shape : Shape
 live_shape =
-    with_input (larger (larger (larger numbered_shape (flag_rule (codes "fold"))) (flag_rule (codes "summary")))
-    (valued_rule (codes "timeline")))
+    with_input (larger (larger (larger (larger (larger numbered_shape (flag_rule (codes "fold"))) (flag_rule (codes "summary")))
+    (valued_rule (codes "timeline"))) (valued_rule (codes "replies"))) (valued_rule (codes "rows-out")))
 
 -- the subcommand that tells what numbers mean
 abbrev pub explain_shape : Shape

@@ -1,5 +1,5 @@
 -- What the words of a command line ask for.
-use Rattle.std.specs.Prelude.{◌≡◌, ◌⊎◌, ◌≤◌, ◌<◌, ◌^◌, ◌&&◌, ◌||◌, not, ℕ, Bool, List, true, false, codes, [], Option, Some, None, option_map, is_some, IsSomeAnd, Result, Ok, Err}
+use Rattle.std.specs.Prelude.{◌≡◌, ◌≢◌, ◌⊎◌, ◌≤◌, ◌<◌, ◌^◌, ◌&&◌, ◌||◌, not, ℕ, Bool, List, true, false, codes, [], Option, Some, None, option_map, is_some, IsSomeAnd, Result, Ok, Err}
 use Rattle.std.specs.Borrow.{Bor}
 use Rattle.std.specs.Str.Parse.{IsNumeral, digits_value, without_leading_plus}
 use Rattle.clap.specs.Values.{IsUnsignedIn, kind_of}
@@ -55,9 +55,14 @@ ArePlansOf rows None = IsNameOf (codes "old") rows None × IsNameOf (codes "new"
 ArePlansOf rows (Some plans) =
     IsNameOf (codes "old") rows (Some plans.old) × IsNameOf (codes "new") rows (Some plans.new) × IsNameOf (codes "rows") rows plans.rows
 
+-- the main part of an input comes from the file that is named, and from standard input where none is, or '-' stands for it
+abbrev pub IsMainOf : List Row → Option (Bor Text) → Type 0
+IsMainOf rows None = IsNameOf (codes "file") rows None ⊎ (first_of (codes "file") rows ≡ Some (codes "-"))
+IsMainOf rows (Some file) = IsNameOf (codes "file") rows (Some file) × (file.now ≢ codes "-")
+
 -- the input comes from the files that are named
 abbrev pub IsInputOf : List Row → Input → Type 0
-IsInputOf rows input = IsNameOf (codes "file") rows input.file × ArePlansOf rows input.plans
+IsInputOf rows input = IsMainOf rows input.file × ArePlansOf rows input.plans
 
 -- what moves is told as lines, or else as the one flag says
 abbrev pub IsFormOf : List Row → Form → Type 0
@@ -65,25 +70,27 @@ IsFormOf rows Lines = FlagOf (one_of (codes "json") rows) false × FlagOf (one_o
 IsFormOf rows Json = FlagOf (one_of (codes "json") rows) true × FlagOf (one_of (codes "svg") rows) false
 IsFormOf rows Svg = FlagOf (one_of (codes "json") rows) false × FlagOf (one_of (codes "svg") rows) true
 
--- the task is a run, with echoes where that flag is given
+-- the task is a run, with echoes where that flag is given, and the file of its option
 abbrev pub IsRunTask : List Row → Task → Type 0
-IsRunTask rows (Run echoes) = FlagOf (one_of (codes "echo") rows) echoes
+IsRunTask rows (Run echoes rows_out) =
+    FlagOf (one_of (codes "echo") rows) echoes × IsNameOf (codes "rows-out") rows rows_out
 IsRunTask rows (Ranges form) = ⊥
-IsRunTask rows (Live turns pumps folds summary timeline) = ⊥
+IsRunTask rows (Live turns pumps folds summary timeline replies rows_out) = ⊥
 
 -- the task is a listing, of the form that is asked for
 abbrev pub IsRangesTask : List Row → Task → Type 0
-IsRangesTask rows (Run echoes) = ⊥
+IsRangesTask rows (Run echoes rows_out) = ⊥
 IsRangesTask rows (Ranges form) = IsFormOf rows form
-IsRangesTask rows (Live turns pumps folds summary timeline) = ⊥
+IsRangesTask rows (Live turns pumps folds summary timeline replies rows_out) = ⊥
 
--- the task is a live run with the numbers, the flags and the file of these options
+-- the task is a live run with the numbers, the flags and the files of these options
 abbrev pub IsLiveTask : List Row → Task → Type 0
-IsLiveTask rows (Run echoes) = ⊥
+IsLiveTask rows (Run echoes rows_out) = ⊥
 IsLiveTask rows (Ranges form) = ⊥
-IsLiveTask rows (Live turns pumps folds summary timeline) =
+IsLiveTask rows (Live turns pumps folds summary timeline replies rows_out) =
     NumberOf MAX_TURNS TURNS (one_of (codes "turns") rows) turns × NumberOf MAX_PUMPS PUMPS (one_of (codes "pumps") rows) pumps
     × FlagOf (one_of (codes "fold") rows) folds × FlagOf (one_of (codes "summary") rows) summary × IsNameOf (codes "timeline") rows timeline
+    × IsNameOf (codes "replies") rows replies × IsNameOf (codes "rows-out") rows rows_out
 
 -- the line does a task of which this holds with the input that is named
 abbrev pub IsWorkLine : (List Row → Task → Type 0) → List Row → Line → Type 0
@@ -150,9 +157,9 @@ ComesOf words (Err error) = HasKind (fault_of squall words) error ⊎ ClashesAt 
 
 -- the numbers of a task are within their limits
 abbrev pub IsWithin : Task → Type 0
-IsWithin (Run echoes) = Unit {0}
+IsWithin (Run echoes rows_out) = Unit {0}
 IsWithin (Ranges form) = Unit {0}
-IsWithin (Live turns pumps folds summary timeline) = (1 ≤ turns) × (turns ≤ MAX_TURNS) × (1 ≤ pumps) × (pumps ≤ MAX_PUMPS)
+IsWithin (Live turns pumps folds summary timeline replies rows_out) = (1 ≤ turns) × (turns ≤ MAX_TURNS) × (1 ≤ pumps) × (pumps ≤ MAX_PUMPS)
 
 -- and so are those of a line
 abbrev pub LineIsWithin : Line → Type 0

@@ -118,7 +118,8 @@ fn run<'a>(alloc: Global) -> Result<Command<'a>, AllocError>
 {
     let plain = subcommand(alloc, "run", help::RUN_ABOUT, help::RUN);
     let echoing = with(plain, flag(alloc, "echo", help::ECHO))?;
-    with_input(alloc, echoing)
+    let keeping = path(alloc, "rows-out", help::ROWS_OUT);
+    with_input(alloc, with(echoing, keeping)?)
 }
 
 // The subcommand that tells what moves.
@@ -158,8 +159,10 @@ fn live<'a>(alloc: Global) -> Result<Command<'a>, AllocError>
 {
     let folding = with(numbered(alloc)?, flag(alloc, "fold", help::FOLD))?;
     let summing = with(folding, flag(alloc, "summary", help::SUMMARY))?;
-    let timed = path(alloc, "timeline", help::TIMELINE);
-    with_input(alloc, with(summing, timed)?)
+    let timed = with(summing, path(alloc, "timeline", help::TIMELINE))?;
+    let replying = with(timed, path(alloc, "replies", help::REPLIES))?;
+    let keeping = path(alloc, "rows-out", help::ROWS_OUT);
+    with_input(alloc, with(replying, keeping)?)
 }
 
 // The subcommand that tells what numbers mean.

@@ -42,6 +42,9 @@ pub const NEW: &str = "The plan after the move, in a file of its own";
 
 pub const ROWS: &str = "The lines of the rows, in a file of their own";
 
+/// Of the file for the rows in the end.
+pub const ROWS_OUT: &str = "Write into this file the rows that stand at the end";
+
 /// Of `run`, of its option, and behind these.
 pub const RUN_ABOUT: &str = "Makes the steps of a script, and answers each";
 
@@ -63,6 +66,9 @@ A step that is refused changes nothing. Its line is 'refused' and a number, whic
 'squall explain' explains. With --echo each answer stands behind its step, as in
 'start -> ok', and behind the number of a refusal is what it means, as in
 'cut 0 1 -> refused 201: the move isn't under way'.
+
+With --rows-out FILE a file gets all rows that stand at the end, as lines that a
+header takes, by rising key: a next run may begin from them (--rows).
 
 Example:
 
@@ -150,6 +156,8 @@ pub const SUMMARY: &str = "Tell behind the line of the run what it did";
 
 pub const TIMELINE: &str = "Write into this file when each thing was done";
 
+pub const REPLIES: &str = "Write into this file what each job was answered";
+
 pub const LIVE: &str = with_header!(
     r#"The input holds a header, as for 'squall run', and then jobs: lines
 'txn P ID ROOT OP..', at most 4096 of them, no two with one id. A job is a
@@ -187,6 +195,11 @@ of the jobs at each partition, and how long the parts of the run took. With
 --timeline FILE a file gets the moments at which jobs were answered and segments
 were complete: as lines of comma-separated values where its name ends in '.csv', and
 else as a chart in SVG.
+
+With --replies FILE a file gets the answer of each job, as 'squall run' writes it,
+in the order of the jobs, and with --rows-out FILE all rows that stand at the end,
+as lines that a header takes: a next run may begin from them (--rows), whose old plan
+is then the new one of this run.
 
 Example:
 

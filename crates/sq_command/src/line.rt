@@ -2,7 +2,7 @@
 ghost use Rattle.std.specs.Prelude.{◌≡◌, ◌≤◌, Some, IfOk, map};
 ghost use Rattle.clap.specs.Matches.{found_of};
 ghost use Rattle.clap.specs.Walk.{one_of, rows_of};
-ghost use Rattle.sq_command.specs.Line.{NumberOf, FlagOf, IsNameOf, ArePlansOf, IsInputOf, IsFormOf, IsRunTask, IsRangesTask, IsLiveTask, IsWorkLine, IsExplainLine, IsSubcommand, IsLineOf, Asks, Settles, ComesOf, LineIsWithin};
+ghost use Rattle.sq_command.specs.Line.{NumberOf, FlagOf, IsNameOf, IsMainOf, ArePlansOf, IsInputOf, IsFormOf, IsRunTask, IsRangesTask, IsLiveTask, IsWorkLine, IsExplainLine, IsSubcommand, IsLineOf, Asks, Settles, ComesOf, LineIsWithin};
 
 use crate::clash::{Clash, refusal};
 use crate::commands::command;
@@ -57,6 +57,8 @@ pub enum Task<'a> {
     Run {
         /// Whether each step stands before its answer.
         echoes: bool,
+        /// The name of the file into which the rows are written that stand at the end, where there is to be one.
+        rows_out: Option<&'a str>,
     },
     /// Tell what moves between two plans.
     Ranges {
@@ -75,6 +77,10 @@ pub enum Task<'a> {
         summary: bool,
         /// The name of the file into which it is written when each thing was done, where there is to be one.
         timeline: Option<&'a str>,
+        /// The name of the file into which the answers of the jobs are written, where there is to be one.
+        replies: Option<&'a str>,
+        /// The name of the file into which the rows are written that stand at the end, where there is to be one.
+        rows_out: Option<&'a str>,
     },
 }
 
@@ -88,6 +94,9 @@ pub const MAX_PUMPS: u64 = 16;
 pub const TURNS: u64 = 1_000_000;
 
 pub const PUMPS: u64 = 1;
+
+// What stands for standard input in place of a file's name.
+const STANDARD_INPUT: &str = "-";
 
 /// What the words of a command line ask for; the first of them is the program's name. An error is told in `clap`'s form:
 /// the words aren't of the command's form, or ask for a help text or the version, or have options that don't go together,
@@ -137,6 +146,7 @@ fn run_line<'a>(options: &ArgMatches<'a>) -> Result<Line<'a>, Clash>
 {
     let task = Task::Run {
         echoes: is_given(options, "echo"),
+        rows_out: name_of(options, "rows-out"),
     };
     Ok(Line::Work {
         task,
@@ -173,6 +183,8 @@ fn live_line<'a>(options: &ArgMatches<'a>) -> Result<Line<'a>, Clash>
         folds: is_given(options, "fold"),
         summary: is_given(options, "summary"),
         timeline: name_of(options, "timeline"),
+        replies: name_of(options, "replies"),
+        rows_out: name_of(options, "rows-out"),
     };
     Ok(Line::Work {
         task,
@@ -194,9 +206,19 @@ fn input_of<'a>(options: &ArgMatches<'a>) -> Result<Input<'a>, Clash>
     ensures { Asks IsInputOf (rows_of (found_of options.now)) result }
 {
     Ok(Input {
-        file: name_of(options, "file"),
+        file: main_of(options),
         plans: plans_of(options)?,
     })
+}
+
+// The file that the main part of an input comes from, if it comes from one.
+fn main_of<'a>(options: &ArgMatches<'a>) -> Option<&'a str>
+    ensures { IsMainOf (rows_of (found_of options.now)) result }
+{
+    match name_of(options, "file") {
+        Some(name) if name != STANDARD_INPUT => Some(name),
+        _ => None,
+    }
 }
 
 // The files of the plans that options name.

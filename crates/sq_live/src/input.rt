@@ -136,6 +136,7 @@ fn run_input<T: Threads + Wait + Sync, G: Watch>(
 {
     let moving = start_move(&opening)?;
     let segments = opening.recon().segments().len();
+    watch.posts(jobs.as_slice());
     watch.begins(jobs.as_slice().len() as u64, segments as u64);
     let account = Account::new(opening, jobs);
     let outcome = run_stages(rt, alloc, account, moving, manner, watch);

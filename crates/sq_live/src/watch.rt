@@ -1,4 +1,5 @@
 // What watches a live run.
+use sq_audit::Job;
 use sq_driver::{Gate, OpenGate};
 use sq_gather::Gathered;
 use sq_node::Node;
@@ -6,6 +7,9 @@ use sq_node::Node;
 /// A gate of a live run, which is told besides how the run goes on: once its input is read, of each stage, and at its end. Where
 /// memory runs out, it may be told of nothing more but the end.
 pub trait Watch: Gate + Sync {
+    /// It is told once the input is read: these jobs are to be posted, in this order.
+    fn posts(&self, _jobs: &[Job]) {}
+
     /// It is told before the first thread is started, once the input is read: so many jobs are posted, and so many segments
     /// move.
     fn begins(&self, _jobs: u64, _segments: u64) {}

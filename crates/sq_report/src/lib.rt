@@ -1,5 +1,5 @@
-//! What is told of live runs besides their line: counts by link and by partition, the time that they took, and when jobs were
-//! answered and segments complete.
+//! What is told of live runs besides their line: counts by link and by partition, the time that they took, when jobs were
+//! answered and segments complete, what the jobs were answered, and the rows that stand at the end.
 #![tactic(auto)]
 
 mod clock;
@@ -7,6 +7,7 @@ mod counts;
 mod kept;
 mod notes;
 mod recording;
+mod results;
 mod summary;
 mod table;
 mod timeline;
@@ -14,7 +15,7 @@ mod waits;
 
 pub use clock::Times;
 pub use counts::{LinkCount, PartCount};
-pub use recording::{RecordingWatch, TimelineForm};
+pub use recording::{RecordingWatch, Records, TimelineForm};
 pub use summary::Summary;
 pub use table::{write_summary, write_times};
 pub use timeline::Timeline;

@@ -4,9 +4,11 @@ ghost use Rattle.std.specs.List.{ends_with};
 
 use crate::clock::{Elapsed, Stopwatch, Times};
 use crate::kept::Kept;
+use crate::results::{KeptReplies, KeptRows};
 use crate::table::write_times;
 use crate::timeline::Timeline;
 use crate::waits::Waits;
+use sq_audit::Job;
 use sq_chart::{moments_of, write_csv, write_svg};
 use sq_driver::{Gate, NodeStep, WorkerEvent, WorkerId};
 use sq_gather::Gathered;
@@ -20,11 +22,23 @@ use std::sync::Wait;
 use std::sync::atomic::{AtomicU64, Ordering};
 use std::time::Clock;
 
-/// A watch that tells another one all that it is told, and keeps count for a summary and, if it is to, for a timeline. Whether
-/// a worker goes on is as the other one says.
+/// What a run is recorded for, besides a summary.
+#[derive(Clone, Copy, Debug, PartialEq, Eq)]
+pub struct Records {
+    /// For a timeline.
+    pub timeline: bool,
+    /// For what the jobs are answered.
+    pub replies: bool,
+    /// For the rows that stand at the end.
+    pub rows: bool,
+}
+
+/// A watch that tells another one all that it is told, keeps count for a summary, and keeps what else it is to record.
+/// Whether a worker goes on is as the other one says.
 #[derive(Drop)]
 pub struct RecordingWatch<'a, R, W> {
     rt: &'a R,
+    alloc: Global,
     watch: &'a W,
     clock: Stopwatch<'a, R>,
     summary: Kept,
@@ -33,6 +47,8 @@ pub struct RecordingWatch<'a, R, W> {
     threads: Elapsed,
     audits: Elapsed,
     timeline: Option<Timeline<'a, R>>,
+    replies: Option<KeptReplies>,
+    rows: Option<KeptRows>,
 }
 
 /// Whether a timeline is a table or a chart.
@@ -58,21 +74,22 @@ impl TimelineForm {
 }
 
 impl<'a, R: Wait + Clock, W: Watch> RecordingWatch<'a, R, W> {
-    /// One that was told nothing, before another watch, with a timeline or without. The time of reading goes from now on. It
-    /// is refused only where there is no memory for it.
+    /// One that was told nothing, before another watch. The time of reading goes from now on. It is refused only where there
+    /// is no memory for it.
     pub fn new(
         rt: &'a R,
         alloc: Global,
         watch: &'a W,
-        draws: bool,
+        records: Records,
     ) -> Result<RecordingWatch<'a, R, W>, AllocError> {
-        let timeline = if draws {
+        let timeline = if records.timeline {
             Some(Timeline::new(alloc, rt, MAX_JOBS, SEGMENT_LIMIT as usize)?)
         } else {
             None
         };
         Ok(RecordingWatch {
             rt,
+            alloc,
             watch,
             clock: Stopwatch::start(rt),
             summary: Kept::new(alloc),
@@ -81,6 +98,8 @@ impl<'a, R: Wait + Clock, W: Watch> RecordingWatch<'a, R, W> {
             threads: Elapsed::new(),
             audits: Elapsed::new(),
             timeline,
+            replies: records.replies.then(|| KeptReplies::new(alloc)),
+            rows: records.rows.then(|| KeptRows::new(alloc)),
         })
     }
 
@@ -106,6 +125,24 @@ impl<'a, R: Wait + Clock, W: Watch> RecordingWatch<'a, R, W> {
         match form {
             TimelineForm::Csv => write_csv(writer, &moments),
             TimelineForm::Svg => write_svg(writer, &moments, timeline.all()),
+        }
+    }
+
+    /// Writes what each job was answered, a line for each in the order in which they were posted, and gives how many weren't
+    /// answered; nothing where that isn't recorded. An error is the writer's, or that there was no memory.
+    pub fn write_replies<O: Write>(&self, writer: &mut O) -> io::Result<u64> {
+        match &self.replies {
+            Some(replies) => replies.write(self.rt, writer),
+            None => Ok(0),
+        }
+    }
+
+    /// Writes the rows that stand at the end, as lines of a header by rising key; nothing where they aren't recorded. An error
+    /// is the writer's, or that there was no memory.
+    pub fn write_rows<O: Write>(&self, writer: &mut O) -> io::Result<()> {
+        match &self.rows {
+            Some(rows) => rows.write(self.rt, writer),
+            None => Ok(()),
         }
     }
 
@@ -142,6 +179,13 @@ impl<R: Wait + Clock + Sync, W: Watch> Gate for RecordingWatch<'_, R, W> {
 }
 
 impl<R: Wait + Clock + Sync, W: Watch> Watch for RecordingWatch<'_, R, W> {
+    fn posts(&self, jobs: &[Job]) {
+        if let Some(replies) = &self.replies {
+            replies.post(self.rt, jobs);
+        }
+        self.watch.posts(jobs);
+    }
+
     fn begins(&self, jobs: u64, segments: u64) {
         self.reading.store(self.clock.micros(), Ordering::SeqCst);
         if let Some(timeline) = &self.timeline {
@@ -167,6 +211,12 @@ impl<R: Wait + Clock + Sync, W: Watch> Watch for RecordingWatch<'_, R, W> {
 
     fn gathers(&self, gathered: &Gathered) {
         self.summary.add_links(self.rt, gathered);
+        if let Some(replies) = &self.replies {
+            replies.take(self.rt, &gathered.receipts);
+        }
+        if let Some(rows) = &self.rows {
+            rows.keep(self.rt, self.alloc, gathered);
+        }
         self.watch.gathers(gathered);
         self.audits.begin(self.clock.micros());
     }

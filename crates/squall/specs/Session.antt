@@ -57,9 +57,9 @@ ListsAs Svg = Tells TellsAsSvg MAX_TABLES
 
 -- a task was done with what a reader gives, and ended with this status
 abbrev pub EndsTask : Task → Option (List ℕ) → Option (List ℕ) → Option (List ℕ) → ℕ → Type 0
-EndsTask (Run echoes) known before now = EndsAs (Runs echoes MAX_TABLES known before now) exit_status
+EndsTask (Run echoes rows_out) known before now = EndsAs (Runs echoes MAX_TABLES known before now) exit_status
 EndsTask (Ranges form) known before now = EndsAs (ListsAs form known before now) exit_status
-EndsTask (Live turns pumps folds summary timeline) known before now = EndsAs (RunsLive folds MAX_TABLES known before now) live_status
+EndsTask (Live turns pumps folds summary timeline replies rows_out) known before now = EndsAs (RunsLive folds MAX_TABLES known before now) live_status
 
 -- what stands behind the plans: the main part of an input, and behind its first line the rows, where they have a file
 abbrev pub IsBehindPlans : Option (Bor Text) → Option (List ℕ) → Option (List ℕ) → Type 0

@@ -7,11 +7,12 @@ ghost use Rattle.sq_live.specs.Live.{RunsLive};
 ghost use Rattle.squall.specs.Session.{live_status, EndsAs};
 
 use crate::flaws::tell_misfit_of_job;
+use crate::outputs::save_text;
 use crate::session::{REFUSED, explain, explain_write};
 use crate::source::Source;
 use sq_inputs::Recalling;
 use sq_live::{LiveEnding, LiveFault, LiveOutcome, Watch, live};
-use sq_report::{RecordingWatch, TimelineForm};
+use sq_report::{RecordingWatch, Records, TimelineForm};
 use sq_text::{InputLine, WriteFault};
 use std::fs;
 use std::io::{Read, Write};
@@ -41,11 +42,16 @@ pub struct RunReport<'a> {
     pub summary: bool,
     /// The name of the file into which a timeline is written, where one is.
     pub timeline: Option<&'a str>,
+    /// The name of the file into which the answers of the jobs are written, where they are.
+    pub replies: Option<&'a str>,
+    /// The name of the file into which the rows are written that stand at the end, where they are.
+    pub rows_out: Option<&'a str>,
 }
 
 /// Runs the jobs in `reader` in threads, writes what that comes to, and says on standard error what it means, unless the run
 /// is sound. Its workers ask `watch` before each step. Tells of the run besides what was asked for: a summary on standard
-/// error, and a timeline in a file. Of a run that ends in a fault nothing is told. Gives the exit status.
+/// error, and in files a timeline, the answers of the jobs, and the rows that stand at the end. Of a run that ends in a fault
+/// nothing is told. Gives the exit status, which is 2 where the answers or the rows can't be written.
 pub fn live_run<
     T: Threads + Wait + Sync + Clock + Eprint + Files + AllocGlobal,
     R: Read,
@@ -76,10 +82,8 @@ pub fn live_run<
     };
     explain_live(rt, source, reader, ran);
     let status = live_status(ran);
-    if let Some(told) = &told {
-        if status != REFUSED {
-            tell(rt, report, told);
-        }
+    if status != REFUSED && !is_told(rt, report, &told) {
+        return REFUSED;
     }
     status
 }
@@ -91,29 +95,76 @@ fn recording<'a, T: Wait + Clock + Sync + Eprint + AllocGlobal, G: Watch>(
     report: RunReport<'_>,
     watch: &'a G,
 ) -> Option<RecordingWatch<'a, T, G>> {
-    let draws = report.timeline.is_some();
-    if !report.summary && !draws {
+    let records = Records {
+        timeline: report.timeline.is_some(),
+        replies: report.replies.is_some(),
+        rows: report.rows_out.is_some(),
+    };
+    if !report.summary && !records.timeline && !records.replies && !records.rows {
         return None;
     }
-    let told = RecordingWatch::new(rt, rt.alloc(), watch, draws);
+    let told = RecordingWatch::new(rt, rt.alloc(), watch, records);
     if told.is_err() {
         let _ = eprintln!(rt; "squall: there is no memory to tell what the run does");
     }
     told.ok()
 }
 
-// Tells of a run what was asked for.
-fn tell<T: Wait + Clock + Sync + Eprint + Files + AllocGlobal, G: Watch>(
+// Tells of a run what was asked for. Gives whether no answer of a job and no row is missing that was to be written.
+fn is_told<T: Wait + Clock + Sync + Eprint + Files + AllocGlobal, G: Watch>(
     rt: &T,
     report: RunReport<'_>,
-    told: &RecordingWatch<'_, T, G>,
-) {
+    told: &Option<RecordingWatch<'_, T, G>>,
+) -> bool {
+    let Some(told) = told else {
+        return report.replies.is_none() && report.rows_out.is_none();
+    };
     if report.summary {
         print_summary(rt, told);
     }
     if let Some(name) = report.timeline {
         draw_timeline(rt, name, told);
     }
+    let are_replies_saved = save_replies(rt, report.replies, told);
+    let are_rows_saved = save_rows(rt, report.rows_out, told);
+    are_replies_saved && are_rows_saved
+}
+
+// Writes what the jobs of a run were answered into the file of this name, where there is to be one, and says on standard
+// error how many weren't answered. Gives whether none is missing that was.
+fn save_replies<T: Wait + Clock + Sync + Eprint + Files + AllocGlobal, G: Watch>(
+    rt: &T,
+    replies: Option<&str>,
+    told: &RecordingWatch<'_, T, G>,
+) -> bool {
+    let Some(name) = replies else {
+        return true;
+    };
+    let mut text = Vec::new(rt.alloc());
+    match told.write_replies(&mut text) {
+        Ok(unanswered) => {
+            if unanswered > 0 {
+                let _ = eprintln!(rt; "squall: jobs without an answer: {unanswered}");
+            }
+            save_text(rt, name, Ok(text))
+        }
+        Err(error) => save_text(rt, name, Err(error)),
+    }
+}
+
+// Writes the rows that stand at the end of a run into the file of this name, where there is to be one. Gives whether none is
+// missing.
+fn save_rows<T: Wait + Clock + Sync + Eprint + Files + AllocGlobal, G: Watch>(
+    rt: &T,
+    rows_out: Option<&str>,
+    told: &RecordingWatch<'_, T, G>,
+) -> bool {
+    let Some(name) = rows_out else {
+        return true;
+    };
+    let mut text = Vec::new(rt.alloc());
+    let written = told.write_rows(&mut text);
+    save_text(rt, name, written.map(|()| text))
 }
 
 // Says the summary on standard error.

@@ -8,6 +8,7 @@ ghost use Rattle.squall.specs.Session.{EndsTask, EndsParts, EndsInput, EndsWith,
 mod explaining;
 mod flaws;
 mod live_runs;
+mod outputs;
 mod plans;
 mod progress;
 mod session;
@@ -15,6 +16,7 @@ mod source;
 
 use explaining::explanation;
 use live_runs::{Manner, RunReport, live_run};
+use outputs::refuse_outputs;
 use plans::lines_of_plans;
 use progress::Progress;
 use session::{
@@ -60,11 +62,14 @@ where
     G: Watch,
 {
     // Does the task with its input, of which standard input gives the main part or a file, and gives the exit status: 2 where
-    // a file can't be read.
+    // a file can't be read, or is one that the task would write.
     fn carry_out<R: Read, W: Write>(&self, reader: &mut R, writer: &mut W) -> u8
         requires { IsWithin self.now.task }
         ensures { EndsInput self.now.task self.now.input (R.remaining reader.old) (W.contents writer.old) (W.contents writer.new) result }
     {
+        if let Some(status) = refuse_outputs(self.rt, self.task, self.input) {
+            return status;
+        }
         let Some(name) = self.input.file else {
             return self.work_on_parts(reader, writer);
         };
@@ -113,7 +118,9 @@ where
         // A faulty line is looked at once more.
         let mut reader = Recalling::new(rt.alloc(), reader);
         match self.task {
-            Task::Run { echoes } => script(rt, &mut reader, writer, echoes, source),
+            Task::Run { echoes, rows_out } => {
+                script(rt, &mut reader, writer, echoes, rows_out, source)
+            }
             Task::Ranges { form } => listing(rt, &mut reader, writer, form, source),
             Task::Live {
                 turns,
@@ -121,13 +128,20 @@ where
                 folds,
                 summary,
                 timeline,
+                replies,
+                rows_out,
             } => {
                 let manner = Manner {
                     turns,
                     pumps,
                     folds,
                 };
-                let report = RunReport { summary, timeline };
+                let report = RunReport {
+                    summary,
+                    timeline,
+                    replies,
+                    rows_out,
+                };
                 live_run(rt, &mut reader, writer, manner, report, self.watch, source)
             }
         }

@@ -1,19 +1,23 @@
 // Runs, what is said of their faults, and the exit status.
-ghost use Rattle.std.specs.Prelude.{◌≡◌};
+ghost use Rattle.std.specs.Prelude.{◌≡◌, [], Some, IfOk};
 ghost use Rattle.clap.specs.Values.{kind_of};
 ghost use Rattle.sq_inputs.specs.Recalling.{recalling_remaining};
 ghost use Rattle.sq_schema.specs.declared.schema.TheConstants.{MAX_TABLES};
+ghost use Rattle.sq_results.specs.Standing.{WritesRows, world_families};
 ghost use Rattle.sq_world.specs.Run.{Runs};
 ghost use Rattle.squall.specs.Session.{exit_status, EndsAs, ListsAs, IsUsageStatus};
 
 use crate::flaws::tell_misfit;
+use crate::outputs::save_text;
 use crate::source::Source;
 use clap::Error;
 use sq_command::Form;
 use sq_inputs::Recalling;
 use sq_picture::{AsJson, AsSvg};
+use sq_results::write_world_rows;
 use sq_text::{InputFault, InputLine, LocatedFault, Meaning, WriteFault};
-use sq_world::{Ending, list, ranges, run_and_echo};
+use sq_world::{Ending, World, list, ranges, run_and_echo};
+use std::alloc::Global;
 use std::fs::OpenFile;
 use std::io::{ErrorKind, Read, Write};
 use std::mem::forget;
@@ -24,12 +28,14 @@ use std::{fs, io};
 pub const REFUSED: u8 = 2;
 
 /// Runs the script in `reader`, writes what it comes to, each answer behind its step where it echoes, and says on standard
-/// error what its fault means. Gives the exit status.
+/// error what its fault means. Where it came to its end, the rows that stand then go into the file that is named for them.
+/// Gives the exit status.
 pub fn script<T: Eprint + Files + AllocGlobal, R: Read, W: Write>(
     rt: &T,
     reader: &mut Recalling<R>,
     writer: &mut W,
     echoes: bool,
+    rows_out: Option<&str>,
     source: &Source<'_>,
 ) -> u8
     ensures { EndsAs
@@ -38,10 +44,42 @@ pub fn script<T: Eprint + Files + AllocGlobal, R: Read, W: Write>(
 {
     let mut world = None;
     let ran = run_and_echo(rt.alloc(), reader, writer, echoes, &mut world);
+    explain_end(rt, source, reader, ran);
+    let is_saved = save_rows(rt, rows_out, ran, &world);
     // The program ends, and the system takes its memory back sooner than it could be freed.
     forget(world);
-    explain_end(rt, source, reader, ran);
+    if !is_saved {
+        return REFUSED;
+    }
     exit_status(ran)
+}
+
+// Writes the rows that stand in a world at the end of a run into the file of this name, where there is to be one. Gives
+// whether none is missing.
+fn save_rows<T: Eprint + Files + AllocGlobal>(
+    rt: &T,
+    rows_out: Option<&str>,
+    ran: Result<Ending, WriteFault>,
+    world: &Option<World>,
+) -> bool {
+    match (rows_out, ran, world) {
+        (Some(name), Ok(Ending::Done), Some(world)) => save_text(
+            rt,
+            name,
+            rows_text(rt.alloc(), world),
+        ),
+        _ => true,
+    }
+}
+
+// The rows that stand in a world, as lines of a header.
+fn rows_text(alloc: Global, world: &World) -> io::Result<Vec<u8>>
+    ensures { IfOk result (λ text.
+        WritesRows (world_families world.now) (Some []) (Some text.items)) }
+{
+    let mut text = Vec::new(alloc);
+    write_world_rows(alloc, &mut text, world)?;
+    Ok(text)
 }
 
 /// Writes what moves between the plans in `reader`, in this form, and says on standard error what their fault means. Gives

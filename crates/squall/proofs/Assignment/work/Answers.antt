@@ -3,11 +3,11 @@ use Rattle.squall.proofs.Parts.{with_recalled}
 use Rattle.squall.proofs.Assignment.work.Goals as goal
 
 pub returns-in-Run : goal.returns-in-Run
-returns-in-Run g c = with_recalled (Run c.in-Run.echoes) _ (g.R.Read.remaining c.new-reader.result.inner) _ _ _ _ c.in-Run.is c.new-reader.ensures c.script.ensures
+returns-in-Run g c = with_recalled (Run c.in-Run.echoes c.in-Run.rows_out) _ (g.R.Read.remaining c.new-reader.result.inner) _ _ _ _ c.in-Run.is c.new-reader.ensures c.script.ensures
 
 pub returns-in-Ranges : goal.returns-in-Ranges
 returns-in-Ranges g c = with_recalled (Ranges c.in-Ranges.form) _ (g.R.Read.remaining c.new-reader.result.inner) _ _ _ _ c.in-Ranges.is c.new-reader.ensures c.listing.ensures
 
 pub returns : goal.returns
 returns g c =
-    with_recalled (Live c.in-Live.turns c.in-Live.pumps c.in-Live.folds c.in-Live.summary c.in-Live.timeline) _ (g.R.Read.remaining c.new-reader.result.inner) _ _ _ _ c.in-Live.is c.new-reader.ensures c.live_run.ensures
+    with_recalled (Live c.in-Live.turns c.in-Live.pumps c.in-Live.folds c.in-Live.summary c.in-Live.timeline c.in-Live.replies c.in-Live.rows_out) _ (g.R.Read.remaining c.new-reader.result.inner) _ _ _ _ c.in-Live.is c.new-reader.ensures c.live_run.ensures

@@ -1,0 +1,70 @@
+// The files of the system.
+ghost use Rattle.std.specs.Prelude.{None};
+
+use crate::folder::Folder;
+use std::io::ErrorKind;
+use std::path::Path;
+use std::rt::Files;
+use std::{fs, io};
+
+/// The files of the system. Nothing is known of what they hold.
+#[derive(Drop)]
+pub struct SystemFolder<'a, T> {
+    rt: &'a T,
+}
+
+impl<'a, T> SystemFolder<'a, T> {
+    /// By this handle.
+    pub fn new(rt: &'a T) -> SystemFolder<'a, T> {
+        SystemFolder { rt }
+    }
+}
+
+impl<T: Files> Folder for SystemFolder<'_, T> {
+    ghost calls = { λ _. None };
+
+    fn write(&mut self, name: &str, text: &[u8]) -> io::Result<()> {
+        fs::write(self.rt, name, text)
+    }
+
+    fn rename(&mut self, from: &str, to: &str) -> io::Result<()> {
+        fs::rename(self.rt, from, to)
+    }
+
+    fn remove(&mut self, name: &str) -> io::Result<()> {
+        fs::remove_file(self.rt, name)
+    }
+}
+
+/// Where the file of this name stands, in one spelling for all names of it: links are followed, also where it isn't there
+/// yet. Where its folder can't be found it is the name.
+pub fn place_of<T: Files + AllocGlobal>(rt: &T, name: &str) -> io::Result<String> {
+    match text_of_path(rt, name) {
+        Err(error) if error.kind() != ErrorKind::OutOfMemory => place_in_folder(rt, name),
+        placed => placed,
+    }
+}
+
+// Where the file of this name is to stand.
+fn place_in_folder<T: Files + AllocGlobal>(rt: &T, name: &str) -> io::Result<String> {
+    let path = Path::new(name);
+    let (Some(folder), Some(file)) = (path.parent(), path.file_name()) else {
+        return Ok(String::from_str(rt.alloc(), name)?);
+    };
+    let folder = if folder.as_str().is_empty() {
+        "."
+    } else {
+        folder.as_str()
+    };
+    match text_of_path(rt, folder) {
+        Ok(folder) => Ok(format!(in rt.alloc(); "{folder}/{file}")?),
+        Err(error) if error.kind() == ErrorKind::OutOfMemory => Err(error),
+        Err(_) => Ok(String::from_str(rt.alloc(), name)?),
+    }
+}
+
+// The path of what stands there, without links.
+fn text_of_path<T: Files + AllocGlobal>(rt: &T, name: &str) -> io::Result<String> {
+    let path = fs::canonicalize(rt, name)?;
+    Ok(String::from_str(rt.alloc(), path.as_str())?)
+}

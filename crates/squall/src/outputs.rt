@@ -1,0 +1,135 @@
+// Files that a task writes: none over one that it reads, and each whole or not at all.
+ghost use Rattle.std.specs.Prelude.{◌≡◌, IfSome};
+
+use crate::session::{REFUSED, refuse_for_memory};
+use sq_command::{Input, Task};
+use sq_outputs::{Conflict, Output, SystemFolder, conflict_among, place_of, save};
+use std::io;
+use std::rt::Files;
+
+// The options of a task that name files to be written, and the names.
+fn named_outputs(task: Task<'_>) -> [(&'static str, Option<&str>); 3] {
+    let (timeline, replies, rows_out) = match task {
+        Task::Run { rows_out, .. } => (None, None, rows_out),
+        Task::Ranges { .. } => (None, None, None),
+        Task::Live {
+            timeline,
+            replies,
+            rows_out,
+            ..
+        } => (timeline, replies, rows_out),
+    };
+    [
+        ("timeline", timeline),
+        ("replies", replies),
+        ("rows-out", rows_out),
+    ]
+}
+
+// The names of the files that an input comes from.
+fn named_inputs(input: Input<'_>) -> [Option<&str>; 4] {
+    let plans = input.plans;
+    [
+        input.file,
+        plans.map(|plans| plans.old),
+        plans.map(|plans| plans.new),
+        plans.and_then(|plans| plans.rows),
+    ]
+}
+
+// The files that a task writes, and where they stand.
+fn outputs_of<'a, T: Files + AllocGlobal>(rt: &T, task: Task<'a>) -> io::Result<Vec<Output<'a>>> {
+    let mut outputs = Vec::new(rt.alloc());
+    for (option, name) in named_outputs(task) {
+        if let Some(name) = name {
+            let place = place_of(rt, name)?;
+            outputs.push(Output {
+                option,
+                name,
+                place,
+            })?;
+        }
+    }
+    Ok(outputs)
+}
+
+// Where the files stand that an input comes from.
+fn inputs_of<T: Files + AllocGlobal>(rt: &T, input: Input<'_>) -> io::Result<Vec<String>> {
+    let mut places = Vec::new(rt.alloc());
+    for name in named_inputs(input) {
+        if let Some(name) = name {
+            places.push(place_of(rt, name)?)?;
+        }
+    }
+    Ok(places)
+}
+
+/// Refuses a task that would write a file that it reads too, or one file twice, before it reads anything: says so on standard
+/// error, and gives the exit status.
+pub fn refuse_outputs<T: Print + Eprint + Files + AllocGlobal>(
+    rt: &T,
+    task: Task<'_>,
+    input: Input<'_>,
+) -> Option<u8>
+    ensures { IfSome result (λ status. status ≡ 2) }
+{
+    match is_in_conflict(rt, task, input) {
+        Ok(true) => Some(REFUSED),
+        Ok(false) => None,
+        Err(_) => Some(refuse_for_memory(rt)),
+    }
+}
+
+// Whether a task would write a file that it reads too, or one file twice, which standard error says. An error is that there is
+// no memory to tell.
+fn is_in_conflict<T: Eprint + Files + AllocGlobal>(
+    rt: &T,
+    task: Task<'_>,
+    input: Input<'_>,
+) -> io::Result<bool> {
+    let outputs = outputs_of(rt, task)?;
+    if outputs.is_empty() {
+        return Ok(false);
+    }
+    let read = inputs_of(rt, input)?;
+    match conflict_among(&outputs, &read) {
+        Some(conflict) => {
+            explain_conflict(rt, conflict);
+            Ok(true)
+        }
+        None => Ok(false),
+    }
+}
+
+// Says on standard error why a file can't be written.
+fn explain_conflict(rt: &impl Eprint, conflict: Conflict<'_>) {
+    match conflict {
+        Conflict::IsRead(Output { option, name, .. }) => {
+            let _ = eprintln!(rt;
+                "squall: --{option} names the file '{name}', which the run reads"
+            );
+        }
+        Conflict::NamedTwice(Output { option, name, .. }) => {
+            let _ = eprintln!(rt;
+                "squall: --{option} names the file '{name}', which another option names too"
+            );
+        }
+    }
+}
+
+/// Writes a text into the file of this name, whole or not at all. Gives whether it was written; standard error says why it
+/// wasn't.
+pub fn save_text<T: Eprint + Files + AllocGlobal>(
+    rt: &T,
+    name: &str,
+    text: io::Result<Vec<u8>>,
+) -> bool {
+    let saved = match text {
+        Ok(text) => save(rt.alloc(), &mut SystemFolder::new(rt), name, &text),
+        Err(error) => Err(error),
+    };
+    if let Err(error) = &saved {
+        let _ = eprintln!(rt; "squall: the file '{name}' can't be written: {error}");
+    }
+    saved.is_ok()
+}
