@@ -8,6 +8,7 @@ use sq_diagnosis::{
 use sq_inputs::{Recalled, Recalling};
 use sq_live::{JobFault, JobLineFault};
 use sq_plan::PlanFault;
+use sq_row_lines::NO_ROW;
 use sq_text::{InputFault, InputLine, LocatedFault};
 use std::alloc::Global;
 use std::fmt;
@@ -125,6 +126,7 @@ fn flaw_of(line: InputLine, bytes: &[u8]) -> Option<LineFlaw> {
         InputLine::Old => plan_line_flaw(Wanted::Old, bytes),
         InputLine::New => plan_line_flaw(Wanted::New, bytes),
         InputLine::Config => sizes_flaw(bytes),
+        InputLine::Row(_) if bytes == NO_ROW => None,
         InputLine::Row(_) => row_flaw(bytes),
         InputLine::Later(_) => None,
     }

@@ -27,6 +27,7 @@ use sq_command::{Input, Line, Task, line_of};
 use sq_driver::OpenGate;
 use sq_inputs::{Inserting, Recalling};
 use sq_live::Watch;
+use sq_row_lines::RowLines;
 use std::cell::Cell;
 use std::convert::AsStr;
 use std::io::{BufWriter, IsTerminal, Read, Write};
@@ -102,7 +103,7 @@ where
         };
         match open_input(self.rt, name) {
             Ok(file) => {
-                let behind = Inserting::new(main, file, &rows);
+                let behind = Inserting::new(main, RowLines::new(file), &rows);
                 self.work(&source, lines.as_slice().chain(behind), writer)
             }
             Err(error) => refuse_file(self.rt, name, &error),
