@@ -1,6 +1,7 @@
 -- An engine, and how it goes on.
-use Rattle.std.specs.Prelude.{◌≡◌, List, [], ◌++◌, map, Some}
+use Rattle.std.specs.Prelude.{◌≡◌, ◌≤◌, List, [], ◌++◌, map, Option, None, Some}
 use Rattle.sq_plan.specs.PlanValue.{PlanValue}
+use Rattle.sq_store.specs.StoreValue.{StoreValue}
 use Rattle.sq_ranges.specs.OpeningValue.{OpeningValue}
 use Rattle.sq_ranges.specs.Between.{recon_fault}
 use Rattle.sq_audit.specs.declared.job.Job.{Job}
@@ -9,7 +10,9 @@ use Rattle.sq_engine.specs.declared.standing.Standing.TheVariants.{Running, Paus
 use Rattle.sq_engine.specs.declared.engine.NotMoved.{NotMoved}
 use Rattle.sq_engine.specs.declared.engine.NotMoved.TheVariants.{Moving, Plans, Memory}
 use Rattle.sq_node_model.specs.NodeValue.{ReceiptValue}
-use Rattle.sq_engine.specs.Values.{PauseValue, receipts_since_page}
+use Rattle.sq_engine.specs.declared.stage_progress.StageProgress.{StageProgress}
+use Rattle.sq_engine.specs.Progress.{stage_segments}
+use Rattle.sq_engine.specs.Values.{PauseValue, receipts_since_page, whole_segments}
 use Rattle.sq_engine.specs.History.{Episode, EpochEnded, RunsAfter, PausesAfter, IsDueAfter}
 
 -- the opening in force, which may have other rows than this one has
@@ -29,6 +32,22 @@ abbrev pub receipts_in : Standing → List ReceiptValue
 receipts_in (Running epoch) = receipts_since_page epoch
 receipts_in (Paused pause) = pause.gathered.receipts
 receipts_in (Due due) = due.gathered.receipts
+
+-- the families of each partition, where no epoch runs
+abbrev pub stores_in : Standing → Option (List StoreValue)
+stores_in (Running epoch) = None
+stores_in (Paused pause) = Some pause.gathered.stores
+stores_in (Due due) = Some due.gathered.stores
+
+-- how many segments move in the running stage, and how many of them are complete: at a pause by their trees, in an epoch as
+-- many as its workers told, and none of a move that is due
+abbrev pub HasProgress : Standing → StageProgress → Type 0
+HasProgress (Running epoch) progress =
+    (progress.segments ≡ stage_segments epoch.opening.recon epoch.fabric.stage) × (progress.complete ≤ progress.segments)
+HasProgress (Paused pause) progress =
+    (progress.segments ≡ stage_segments pause.opening.recon pause.gathered.stage) × (progress.complete ≡ whole_segments pause)
+HasProgress (Due due) progress =
+    (progress.segments ≡ stage_segments due.opening.recon 0) × (progress.complete ≡ 0)
 
 -- nothing moves
 abbrev pub EngineRests : Standing → Type 0

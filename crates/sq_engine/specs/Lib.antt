@@ -1,4 +1,5 @@
 pub mod Posted
+pub mod Progress
 pub mod Values
 pub mod LongLog
 pub mod History

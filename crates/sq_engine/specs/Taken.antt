@@ -42,6 +42,11 @@ abbrev pub IsNotTaken : Standing → NotTaken → Standing → Type 0
 IsNotTaken old Moving new = (new ≡ old) × (EngineRests old → ⊥)
 IsNotTaken old Memory new = KeepsHistoryAndJobs old new
 
+-- why an engine isn't paused, which is as it was: its rows move, or there is no memory
+abbrev pub IsNotPaused : Standing → NotTaken → Standing → Type 0
+IsNotPaused old Moving new = (new ≡ old) × (EngineRests old → ⊥)
+IsNotPaused old Memory new = (new ≡ old) × EngineRests old
+
 -- an engine was closed once it had gone on to a pause at which the last stage of a move was done
 pub record HasClosedAfter (standing : Standing) (closed : Closed) : Type 0 where
   pub pause : PauseValue

@@ -1,7 +1,6 @@
 -- An engine as a value: in an epoch, and between two.
-use Rattle.std.specs.Prelude.{ℕ, ◌==◌, List, ◌++◌, count_by}
+use Rattle.std.specs.Prelude.{ℕ, List, ◌++◌}
 use Rattle.std.specs.List.{flat_map}
-use Rattle.sq_ranges.specs.ReconValue.{ReconValue, stage_in}
 use Rattle.sq_ranges.specs.OpeningValue.{OpeningValue}
 use Rattle.sq_pull.specs.Pump.{PumpValue}
 use Rattle.sq_node_model.specs.NodeValue.{ReceiptValue}
@@ -9,6 +8,7 @@ use Rattle.sq_node_model.specs.Gathered.{GatheredValue}
 use Rattle.sq_node.specs.FabricValue.{FabricValue}
 use Rattle.sq_node.specs.NodeState.{NodeState}
 use Rattle.sq_audit.specs.declared.job.Job.{Job}
+use Rattle.sq_engine.specs.Progress.{whole_segments_in}
 
 -- in an epoch: the opening in force, the jobs that were posted and are on no page, what the workers share, the nodes and the pumps
 pub record EpochValue : Type 0 where
@@ -28,6 +28,6 @@ pub record PauseValue : Type 0 where
 abbrev pub receipts_since_page : EpochValue → List ReceiptValue
 receipts_since_page epoch = epoch.fabric.receipts ++ flat_map (λ (node : NodeState). node.receipts) epoch.nodes
 
--- how many segments move in a stage
-abbrev pub stage_segments : ReconValue → ℕ → ℕ
-stage_segments recon stage = count_by (λ segment. stage_in recon segment == stage) recon.segments
+-- how many segments of the stage that was gathered are complete by their trees
+abbrev pub whole_segments : PauseValue → ℕ
+whole_segments pause = whole_segments_in pause.opening.recon pause.gathered

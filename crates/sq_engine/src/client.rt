@@ -2,6 +2,7 @@
 ghost use Rattle.sq_engine.specs.Exchanges.{ClientCall, Asked, Told, Returned};
 
 use crate::posted::PostFault;
+use crate::stage_progress::StageProgress;
 use sq_audit::Job;
 use sq_node::Receipt;
 use sq_plan::PartId;
@@ -22,8 +23,9 @@ pub trait Client {
     /// What a call makes of a client.
     ghost Becomes: { Self → ClientCall → Self → Type 0 };
 
-    /// What it wants next. A call has to return, since no answer is given meanwhile.
-    fn next(&mut self) -> Command
+    /// What it wants next, where the stage is so far by what the workers told. A call has to return, since no answer is given
+    /// meanwhile.
+    fn next(&mut self, progress: StageProgress) -> Command
         ensures { Becomes self.old (Asked result) self.new };
 
     /// Takes an answer: the receipt of a job, by the partition that wrote it.

@@ -32,7 +32,6 @@ impl Crew {
         requires { IsCrewOf fabric.now self.old }
         ensures { IsDriven fabric.now self.old self.new }
     {
-        gate.workers_begin();
         run_telling(rt, fabric, &mut self.pairs, &mut self.pumps, turns, gate);
         gate.workers_end();
     }

@@ -1,15 +1,15 @@
 // An engine that lasts.
-ghost use Rattle.std.specs.Prelude.{◌≡◌, ◌≤◌, ◌↔◌, ◌∷◌, [], ◌++◌, IsTrue, IfOk, IfErr, OnOk, OnErr, IsErrOf, MatchResult};
+ghost use Rattle.std.specs.Prelude.{◌≡◌, ◌≤◌, ◌↔◌, ◌∷◌, [], ◌++◌, IsTrue, IsSome, option_copied, IfOk, IfErr, OnOk, OnErr, IsErrOf, MatchResult};
 ghost use Rattle.std.specs.List.{list_any};
 ghost use Rattle.sq_pull.specs.declared.numbers.TheConstants.{MAX_PUMPS};
 ghost use Rattle.sq_ranges.specs.Prelude.{IsSetUp};
 ghost use Rattle.sq_ranges.specs.Between.{recon_fault};
 ghost use Rattle.sq_engine.specs.History.{onward_opening};
-ghost use Rattle.sq_engine.specs.Engine.{opening_in, posted_jobs, receipts_in, EngineRests, Stands, KeepsHistory, KeepsHistoryAndJobs, KeepsPlan, IsNotMoved};
+ghost use Rattle.sq_engine.specs.Engine.{opening_in, posted_jobs, receipts_in, stores_in, HasProgress, EngineRests, Stands, KeepsHistory, KeepsHistoryAndJobs, KeepsPlan, IsNotMoved};
 ghost use Rattle.sq_engine.specs.Posted.{is_id_in};
 ghost use Rattle.sq_engine.specs.LongLog.{shows_long_log};
 ghost use Rattle.sq_engine.specs.Served.{EngineIsServed};
-ghost use Rattle.sq_engine.specs.Taken.{TakesItsPage, TakesPage, IsNotTaken, HasClosedAfter};
+ghost use Rattle.sq_engine.specs.Taken.{TakesItsPage, TakesPage, IsNotTaken, IsNotPaused, HasClosedAfter};
 
 use crate::client::Client;
 use crate::closed::Closed;
@@ -19,11 +19,13 @@ use crate::pause::NotTaken;
 use crate::posted::PostFault;
 use crate::rest_page::RestPage;
 use crate::serving::Served;
+use crate::stage_progress::StageProgress;
 use crate::standing::{Standing, begin_due, done_pause_of, go_on, move_from, pause_of, resume};
 use sq_driver::Gate;
 use sq_page::Page;
 use sq_plan::{PartId, Plan};
 use sq_ranges::{Opening, Recon, ReconFault};
+use sq_runs::RunStore;
 use sq_schema::Txn;
 use std::alloc::Global;
 use std::marker::Model;
@@ -73,6 +75,8 @@ pub struct EngineServed {
     pub engine: Engine,
     /// Whether each answer that was written was given, as in [`Served`].
     pub is_whole: bool,
+    /// Whether the epoch ended since no thread could be had for a node, as in [`Served`].
+    pub lacks_threads: bool,
 }
 
 impl Engine {
@@ -113,6 +117,48 @@ impl Engine {
         ensures { IsTrue result ↔ EngineRests self.now }
     {
         self.opening().recon().ranges().is_empty()
+    }
+
+    /// How far the running stage is: how many segments move in it, and how many of them are complete. In an epoch the workers
+    /// told that; at a pause it is read off the trees; and a move that is due has completed none.
+    pub fn progress(&self) -> StageProgress
+        ensures { HasProgress self.now result }
+    {
+        match &self.standing {
+            Standing::Running(epoch) => epoch.progress(),
+            Standing::Paused(pause) => pause.progress(),
+            Standing::Due(due) => due.progress(),
+        }
+    }
+
+    /// The families of each partition, where no epoch runs, as after [`Engine::pause`].
+    pub fn stores(&self) -> Option<&[RunStore]>
+        ensures { option_copied result ≡ stores_in self.now }
+    {
+        match &self.standing {
+            Standing::Running(_) => None,
+            Standing::Paused(pause) => Some(&pause.gathered().stores),
+            Standing::Due(due) => Some(&due.gathered().stores),
+        }
+    }
+
+    /// Ends the epoch of an engine at rest, so that its families are lent: [`Engine::stores`]. What runs or serves it next begins
+    /// another epoch. Where rows move, and where there is no memory, the engine comes back as it was.
+    pub fn pause<R: Wait>(self, rt: &R, alloc: Global) -> Result<Engine, (NotTaken, Engine)>
+        ensures at_rest { OnOk result (EngineRests self) }
+        ensures paused { IfOk result (λ engine. KeepsHistoryAndJobs self engine) }
+        ensures opening { IfOk result (λ engine. opening_in engine ≡ opening_in self) }
+        ensures lent { IfOk result (λ engine. IsSome (stores_in engine)) }
+        ensures not_paused { IfErr result (λ refused. IsNotPaused self refused.0 refused.1) }
+    {
+        if !self.is_at_rest() {
+            return Err((NotTaken::Moving, self));
+        }
+        let Engine { standing, pumps } = self;
+        match end_epoch(rt, alloc, standing) {
+            Ok(standing) => Ok(Engine { standing, pumps }),
+            Err(standing) => Err((NotTaken::Memory, Engine { standing, pumps })),
+        }
     }
 
     /// Posts a job to a partition, as [`Epoch::post`] does. It is refused too where the engine waits for memory.
@@ -172,11 +218,18 @@ impl Engine {
         let Engine { standing, pumps } = self;
         match resume(alloc, standing, pumps) {
             Standing::Running(epoch) => match epoch.serve(rt, alloc, turns, client) {
-                Ok(Served { epoch, is_whole }) => {
+                Ok(
+                    Served {
+                        epoch,
+                        is_whole,
+                        lacks_threads,
+                    },
+                ) => {
                     let standing = end_stage(rt, alloc, epoch, pumps);
                     Ok(EngineServed {
                         engine: Engine { standing, pumps },
                         is_whole,
+                        lacks_threads,
                     })
                 }
                 Err(epoch) => Err(Engine {
@@ -281,6 +334,23 @@ impl Engine {
             Ok(closed) => Ok(closed),
             Err(standing) => Err((NotTaken::Memory, Engine { standing, pumps })),
         }
+    }
+}
+
+// Ends the epoch, if one runs. Where there is no memory it comes back as it was.
+fn end_epoch<R: Wait>(rt: &R, alloc: Global, standing: Standing) -> Result<Standing, Standing>
+    ensures goes { IfOk result (λ new. KeepsHistoryAndJobs standing new) }
+    ensures opening { IfOk result (λ new. opening_in new ≡ opening_in standing) }
+    ensures lent { IfOk result (λ new. IsSome (stores_in new)) }
+    ensures returned { IfErr result (λ back. back ≡ standing) }
+{
+    match standing {
+        Standing::Running(epoch) => match epoch.end(rt, alloc) {
+            Ok(pause) => Ok(Standing::Paused(pause)),
+            Err(epoch) => Err(Standing::Running(epoch)),
+        },
+        Standing::Paused(pause) => Ok(Standing::Paused(pause)),
+        Standing::Due(due) => Ok(Standing::Due(due)),
     }
 }
 

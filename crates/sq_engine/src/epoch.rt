@@ -7,7 +7,8 @@ ghost use Rattle.sq_node.specs.Prelude.{IsNodeOf};
 ghost use Rattle.sq_driver.specs.Nodes.{AllDriven};
 ghost use Rattle.sq_driver.specs.Pumps.{AllPumpsDriven};
 ghost use Rattle.sq_audit.specs.Answers.{IdsDiffer};
-ghost use Rattle.sq_engine.specs.Values.{stage_segments, receipts_since_page};
+ghost use Rattle.sq_engine.specs.Values.{receipts_since_page};
+ghost use Rattle.sq_engine.specs.Progress.{stage_segments};
 ghost use Rattle.sq_engine.specs.Posted.{is_id_in};
 ghost use Rattle.sq_engine.specs.LongLog.{shows_long_log};
 ghost use Rattle.sq_engine.specs.History.{Episode, RunsAfter, EndsEpochAfter, OnlyDriven};
@@ -17,14 +18,14 @@ use crate::long_log::{any_node_shows_long_log, any_shows_long_log};
 use crate::pause::Pause;
 use crate::posted::{PostFault, PostedJobs};
 use crate::posting::post_job;
-use crate::stage_progress::StageProgress;
+use crate::stage_progress::{StageProgress, progress_at_start, stage_segments};
 use sq_audit::Job;
 use sq_driver::{Gate, run_workers};
 use sq_gather::{Ungathered, gather};
 use sq_node::{Fabric, Node};
 use sq_plan::PartId;
 use sq_pull::Pump;
-use sq_ranges::{Opening, Recon};
+use sq_ranges::Opening;
 use sq_schema::Txn;
 use std::alloc::Global;
 use std::marker::Model;
@@ -125,6 +126,19 @@ impl Epoch {
         ensures { result ≡ stage_segments self.now.opening.recon self.now.fabric.stage }
     {
         stage_segments(self.opening.recon(), self.fabric.stage())
+    }
+
+    /// How many segments move in the stage, and how many of them are complete by what the workers told.
+    pub fn progress(&self) -> StageProgress
+        ensures segments { result.segments
+            ≡ stage_segments self.now.opening.recon self.now.fabric.stage }
+        ensures complete { result.complete ≤ result.segments }
+    {
+        let segments = self.segments();
+        StageProgress {
+            segments,
+            complete: self.progress.complete.min(segments),
+        }
     }
 
     /// Posts a job to a partition: a copy of this transaction. It is refused where there is no such partition, where a job
@@ -234,23 +248,4 @@ impl Epoch {
     pub(crate) fn is_stage_done(&self) -> bool {
         self.progress.is_done()
     }
-}
-
-/// How far the stage of an opening is that begins with this.
-pub(crate) fn progress_at_start(opening: &Opening, fabric: &Fabric) -> StageProgress {
-    StageProgress::at_start(stage_segments(opening.recon(), fabric.stage()))
-}
-
-// How many segments move in a stage.
-fn stage_segments(recon: &Recon, stage: u64) -> u64
-    ensures { result ≡ stage_segments recon.now stage }
-{
-    let segments = recon.segments();
-    let mut count: usize = 0;
-    for segment in segments {
-        if recon.stage_on(segment.src, segment.dst) == stage {
-            count += 1;
-        }
-    }
-    count as u64
 }

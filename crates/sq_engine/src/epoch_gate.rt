@@ -8,20 +8,26 @@ use std::sync::atomic::{AtomicBool, AtomicU64, Ordering};
 #[derive(Drop)]
 pub(crate) struct EpochGate {
     is_over: AtomicBool,
-    have_begun: AtomicBool,
     have_ended: AtomicBool,
+    lacks_threads: AtomicBool,
+    parts: u8,
+    // A bit for each partition whose node has come.
+    come: AtomicU64,
     segments: u64,
     complete: AtomicU64,
     answers: AtomicU64,
 }
 
 impl EpochGate {
-    /// For an epoch whose stage is so far, and whose workers haven't begun. Where the stage is done it is over.
-    pub(crate) fn new(progress: StageProgress) -> EpochGate {
+    /// For an epoch of so many partitions whose stage is so far, and whose workers haven't begun. Where the stage is done it is
+    /// over.
+    pub(crate) fn new(parts: u8, progress: StageProgress) -> EpochGate {
         EpochGate {
             is_over: AtomicBool::new(progress.is_done()),
-            have_begun: AtomicBool::new(false),
             have_ended: AtomicBool::new(false),
+            lacks_threads: AtomicBool::new(false),
+            parts,
+            come: AtomicU64::new(0),
             segments: progress.segments,
             complete: AtomicU64::new(progress.complete),
             answers: AtomicU64::new(0),
@@ -38,9 +44,15 @@ impl EpochGate {
         self.is_over.load(Ordering::SeqCst)
     }
 
-    /// Tells that the workers begin.
-    pub(crate) fn workers_begin(&self) {
-        self.have_begun.store(true, Ordering::SeqCst);
+    /// Ends the epoch since a node has no thread.
+    pub(crate) fn end_without_threads(&self) {
+        self.lacks_threads.store(true, Ordering::SeqCst);
+        self.end();
+    }
+
+    /// Whether it was ended since a node has no thread.
+    pub(crate) fn lacks_threads(&self) -> bool {
+        self.lacks_threads.load(Ordering::SeqCst)
     }
 
     /// Tells that the workers have ended.
@@ -48,9 +60,17 @@ impl EpochGate {
         self.have_ended.store(true, Ordering::SeqCst);
     }
 
-    /// Whether the workers have begun.
-    pub(crate) fn have_begun(&self) -> bool {
-        self.have_begun.load(Ordering::SeqCst)
+    /// Whether each node has asked whether it may pass, so that each of them has a thread.
+    pub(crate) fn have_all_come(&self) -> bool {
+        self.come.load(Ordering::SeqCst).count_ones() >= u32::from(self.parts)
+    }
+
+    // Takes note of a node that has come. There are no more than 64 of them.
+    fn note_come(&self, part: u8) {
+        let bit = 1u64 << (part % 64);
+        if self.come.load(Ordering::SeqCst) & bit == 0 {
+            self.come.fetch_add(bit, Ordering::SeqCst);
+        }
     }
 
     /// Whether the workers have ended.
@@ -62,7 +82,7 @@ impl EpochGate {
     pub(crate) fn progress(&self) -> StageProgress {
         StageProgress {
             segments: self.segments,
-            complete: self.complete.load(Ordering::SeqCst),
+            complete: self.complete.load(Ordering::SeqCst).min(self.segments),
         }
     }
 
@@ -73,7 +93,10 @@ impl EpochGate {
 }
 
 impl Gate for EpochGate {
-    fn pass(&self, _who: WorkerId, _step: NodeStep) -> bool {
+    fn pass(&self, who: WorkerId, _step: NodeStep) -> bool {
+        if let WorkerId::Node(part) = who {
+            self.note_come(part);
+        }
         !self.is_over()
     }
 

@@ -22,8 +22,11 @@ const TURNS_AWAKE: u64 = 256;
 // How many microseconds it sleeps after a turn without work.
 const SLEEP: u64 = 50;
 
-// After how many turns it is taken for granted that the workers have no thread.
-const TURNS_ALONE: u64 = 100_000;
+// How many turns it waits for the nodes to come, and how many microseconds it sleeps after one in which they haven't. After these
+// 5 seconds, or some more, it is taken for granted that a node has no thread.
+const TURNS_ALONE: u64 = 25_000;
+
+const SLEEP_ALONE: u64 = 200;
 
 /// Where an epoch and its client meet: the jobs that were posted and not folded, and for each partition the end of the ring
 /// over which its answers come.
@@ -46,8 +49,8 @@ impl Front {
         }
     }
 
-    /// Serves a client until the workers have ended: gives it each answer that comes, and does what it wants. Where the
-    /// workers don't begin the epoch is over.
+    /// Serves a client until the workers have ended: gives it each answer that comes, and does what it wants. Where a node
+    /// doesn't come, for want of a thread, the epoch is over, and the client isn't asked.
     pub(crate) fn serve<C: Client, R: Wait>(
         &mut self,
         rt: &R,
@@ -59,7 +62,7 @@ impl Front {
         ensures { Serves C.Becomes self.old.jobs self.old.rings.items client.old
             self.new.jobs self.new.rings.items client.new }
     {
-        if !workers_begin(rt, gate) {
+        if !nodes_come(rt, gate) {
             return;
         }
         let mut rested = 0u64;
@@ -71,7 +74,7 @@ impl Front {
                 rested = 0;
             } else {
                 rested = rested.saturating_add(1);
-                rest(rt, rested);
+                rest(rt, rested, SLEEP);
             }
         }
         unreachable!()
@@ -114,7 +117,7 @@ fn ask<C: Client, R: Wait>(
 ) -> bool
     ensures { DoesWish C.Becomes jobs.old client.old jobs.new client.new }
 {
-    match client.next() {
+    match client.next(gate.progress()) {
         Command::Post(job) => {
             offer(rt, fabric, jobs, job, client);
             true
@@ -142,24 +145,24 @@ fn offer<C: Client, R: Wait>(
     }
 }
 
-// Waits until the workers have begun. Where they don't, the epoch is over: who begins then makes no step. Whether they have
-// begun.
-fn workers_begin<R: Wait>(rt: &R, gate: &EpochGate) -> bool {
+// Waits until each node has come, or the workers have ended. Where one doesn't come the epoch is over: who comes then makes no
+// step. Whether they have come.
+fn nodes_come<R: Wait>(rt: &R, gate: &EpochGate) -> bool {
     for turn in 0..TURNS_ALONE {
-        if gate.have_begun() {
+        if gate.have_all_come() || gate.have_ended() {
             return true;
         }
-        rest(rt, turn);
+        rest(rt, turn, SLEEP_ALONE);
     }
-    gate.end();
-    gate.have_begun()
+    gate.end_without_threads();
+    false
 }
 
-// Lets other threads go first, and sleeps after so many turns without work in a row.
-fn rest<R: Wait>(rt: &R, turns: u64) {
+// Lets other threads go first, and sleeps so many microseconds after so many turns without work in a row.
+fn rest<R: Wait>(rt: &R, turns: u64, sleep: u64) {
     if turns <= TURNS_AWAKE {
         thread::yield_now();
     } else {
-        AtomicU64::new(0).park_timeout(rt, 0, Duration::from_micros(SLEEP));
+        AtomicU64::new(0).park_timeout(rt, 0, Duration::from_micros(sleep));
     }
 }

@@ -39,4 +39,5 @@ pub use pause::{NotTaken, Pause, StageEnd};
 pub use posted::PostFault;
 pub use rest_page::RestPage;
 pub use serving::Served;
+pub use stage_progress::StageProgress;
 pub use standing::Standing;

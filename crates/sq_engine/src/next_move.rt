@@ -2,14 +2,19 @@
 ghost use Rattle.std.specs.Prelude.{◌≡◌, ◌≤◌, List, IfOk, IfErr};
 ghost use Rattle.sq_pull.specs.declared.numbers.TheConstants.{MAX_PUMPS};
 ghost use Rattle.sq_ranges.specs.Prelude.{OpeningValue, IsSetUp};
+ghost use Rattle.sq_engine.specs.Progress.{stage_segments};
 ghost use Rattle.sq_engine.specs.History.{Episode, IsDueAfter, RunsAfter};
 
-use crate::epoch::{Epoch, progress_at_start};
+use crate::epoch::Epoch;
 use crate::posted::PostedJobs;
+use crate::stage_progress::{StageProgress, progress_at_start, stage_segments};
 use sq_gather::{Gathered, move_on};
 use sq_ranges::Opening;
 use std::alloc::Global;
 use std::marker::Model;
+
+// The stage in which a move begins.
+const FIRST_STAGE: u64 = 0;
 
 /// An engine that goes on to another plan: a move is due, with what was gathered of the last stage of the one before. To a
 /// contract it is a `PauseValue`.
@@ -55,6 +60,16 @@ impl NextMove {
         ensures { result.now ≡ self.now.gathered }
     {
         &self.gathered
+    }
+
+    /// How far its first stage is: none of its segments is complete.
+    pub fn progress(&self) -> StageProgress
+        ensures { result ≡ record {
+          segments = stage_segments self.now.opening.recon 0;
+          complete = 0;
+        } }
+    {
+        StageProgress::at_start(stage_segments(self.opening.recon(), FIRST_STAGE))
     }
 
     /// Begins the first stage of the move, with this many pumps. Where there is no memory all comes back as it was.

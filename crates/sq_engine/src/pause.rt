@@ -7,14 +7,17 @@ ghost use Rattle.sq_ranges.specs.Refused.{config_fault, MayRefuse};
 ghost use Rattle.sq_node_model.specs.Prelude.{IsPlaced, folded_opening};
 ghost use Rattle.sq_audit.specs.Answers.{IdsDiffer};
 ghost use Rattle.sq_audit.specs.Counts.{Counts, is_counted};
+ghost use Rattle.sq_engine.specs.Values.{whole_segments};
+ghost use Rattle.sq_engine.specs.Progress.{stage_segments};
 ghost use Rattle.sq_engine.specs.History.{Episode, HasMoreStages, IsLastStage, HasDoneStage, RunsAfter, PausesAfter, GoesOnAfterPage, IsDueAfter, onward_opening};
 ghost use Rattle.sq_engine.specs.Outcomes.{EndsStage, IsPageFrom, HasClosed, GivesNoPage};
 
 use crate::answered::{copy_answered, count};
 use crate::closed::Closed;
-use crate::epoch::{Epoch, progress_at_start};
+use crate::epoch::Epoch;
 use crate::next_move::NextMove;
 use crate::posted::PostedJobs;
+use crate::stage_progress::{StageProgress, progress_at_start, stage_segments, whole_segments};
 use sq_audit::Job;
 use sq_gather::{Gathered, reopen};
 use sq_page::{Page, take_page};
@@ -100,6 +103,19 @@ impl Pause {
             × IsPlaced (folded_opening self.now.opening table) result.now }
     {
         &self.gathered
+    }
+
+    /// How many segments move in the stage, and how many of them are complete by their trees.
+    pub fn progress(&self) -> StageProgress
+        ensures segments { result.segments
+            ≡ stage_segments self.now.opening.recon self.now.gathered.stage }
+        ensures complete { result.complete ≡ whole_segments self.now }
+    {
+        let recon = self.opening.recon();
+        StageProgress {
+            segments: stage_segments(recon, self.gathered.stage),
+            complete: whole_segments(recon, &self.gathered),
+        }
     }
 
     /// How far the move is.

@@ -34,6 +34,8 @@ pub struct Served {
     /// Whether each answer that was written was given. Where there was no memory for one, its partition gave neither that one
     /// nor a later one.
     pub is_whole: bool,
+    /// Whether it ended since no thread could be had for a node. Its client wasn't asked then, and no job was posted.
+    pub lacks_threads: bool,
 }
 
 impl Epoch {
@@ -41,7 +43,7 @@ impl Epoch {
     /// in this thread meanwhile: it is asked for jobs, which are posted, and is given each answer as soon as it comes.
     ///
     /// The epoch ends where its client wants that, where each segment that moves in its stage is complete, where an answer is
-    /// missing for lack of memory, and where no thread can be had; at rest also where an answer comes whose receipt has
+    /// missing for lack of memory, and where no thread can be had for a node; at rest also where an answer comes whose receipt has
     /// [`LONG_LOG`](crate::LONG_LOG) or a later position. All workers have ended when it returns, and the client has been given
     /// the answers that were still on their way. Where there is no memory for the rings over which answers come, the epoch comes
     /// back as it was, and the client was not called.
@@ -83,6 +85,7 @@ impl Epoch {
                         progress: parts.progress,
                     },
                     is_whole: parts.is_whole,
+                    lacks_threads: parts.lacks_threads,
                 })
             }
             Err(nodes) => Err(Epoch {
@@ -114,6 +117,7 @@ pub(crate) struct ServedParts {
     pub(crate) pumps: Vec<Pump>,
     pub(crate) progress: StageProgress,
     pub(crate) is_whole: bool,
+    pub(crate) lacks_threads: bool,
 }
 
 // Gives the nodes tellers. Where there is no memory they come back.
@@ -135,7 +139,7 @@ fn make_ready(
         return Err(nodes);
     };
     let pairs = with_tellers(alloc, nodes, tellers)?;
-    let gate = EpochGate::new(progress);
+    let gate = EpochGate::new(parts, progress);
     Ok(ReadyToServe {
         pairs,
         rings,
@@ -183,5 +187,6 @@ fn serve_with<C: Client, R: Threads + Wait + Sync>(
         pumps,
         progress: gate.progress(),
         is_whole,
+        lacks_threads: gate.lacks_threads(),
     }
 }

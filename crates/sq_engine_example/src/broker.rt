@@ -2,7 +2,7 @@
 use crate::asker::{Asker, JOBS};
 use crossbeam_channel::{Receiver, Sender, unbounded};
 use sq_audit::Job;
-use sq_engine::{Client, Command, PostFault};
+use sq_engine::{Client, Command, PostFault, StageProgress};
 use sq_node::Receipt;
 use sq_plan::PartId;
 use sq_schema::Schema;
@@ -57,7 +57,7 @@ impl<'a, R: Wait> Broker<'a, R> {
 impl<R: Wait> Client for Broker<'_, R> {
     ghost Becomes = { λ _ _ _. Unit {0} };
 
-    fn next(&mut self) -> Command {
+    fn next(&mut self, _progress: StageProgress) -> Command {
         if self.done >= self.enough {
             return Command::End;
         }

@@ -1,0 +1,19 @@
+use Rattle.std.proofs.Common.{◌≡◌, ap, ◌∙◌}
+use Rattle.sq_ranges.specs.ReconValue.{ReconValue}
+use Rattle.sq_engine.specs.declared.pause.Pause.TheInside.{Inside}
+use Rattle.sq_engine.specs.Progress.{whole_segments_in}
+use Rattle.sq_engine.specs.Values.{whole_segments}
+use Rattle.sq_engine.proofs.Epochs.{pause_placed}
+use Rattle.sq_engine.proofs.pause.Pause.progress.Goals as goal
+
+pub whole_segments-requires : goal.whole_segments-requires
+whole_segments-requires c =
+    let inside = c.self.inside in
+    let was = c.self.invariant in
+    (pause_placed was.0 was.1 (record { opening = inside.opening; jobs = inside.jobs; gathered = inside.gathered }) was.2).1.fit.grown
+
+pub returns-clause-complete : goal.returns-clause-complete
+returns-clause-complete c =
+    let inside = c.self.inside in
+    let recon : c.recon-recon.result.now ≡ inside.opening.recon = c.recon-recon.ensures.recon ∙ ap (λ (p : Inside). p.opening.recon) c.self-inside.view_is in
+    c.whole_segments.ensures ∙ ap (λ (r : ReconValue). whole_segments_in r inside.gathered) recon ∙ ap whole_segments c.self.view_is

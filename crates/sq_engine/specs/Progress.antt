@@ -1,0 +1,19 @@
+-- How far a stage is.
+use Rattle.std.specs.Prelude.{ℕ, ◌==◌, ◌&&◌, Bool, count_by}
+use Rattle.std.specs.List.{enumerate_from}
+use Rattle.sq_ranges.specs.declared.recon.Range.{Range}
+use Rattle.sq_ranges.specs.ReconValue.{ReconValue, stage_in}
+use Rattle.sq_node_model.specs.Gathered.{GatheredValue}
+use Rattle.sq_node_model.specs.Next.{is_whole_in}
+
+-- how many segments move in a stage
+abbrev pub stage_segments : ReconValue → ℕ → ℕ
+stage_segments recon stage = count_by (λ segment. stage_in recon segment == stage) recon.segments
+
+-- the segment, which has this number, moves in the stage that was gathered, and is complete by its tree
+abbrev pub is_complete_in : ReconValue → GatheredValue → ℕ × Range → Bool
+is_complete_in recon g at = (stage_in recon at.1 == g.stage) && is_whole_in g at.0
+
+-- how many segments are
+abbrev pub whole_segments_in : ReconValue → GatheredValue → ℕ
+whole_segments_in recon g = count_by (is_complete_in recon g) (enumerate_from 0 recon.segments)
