@@ -1,3 +1,5 @@
 pub mod ServeFaults
 pub mod ServeLines
 pub mod ServeAnswers
+pub mod Following
+pub mod Portions

@@ -1,10 +1,14 @@
-//! The texts of an engine behind a pipe: what its lines ask, and the lines that it answers.
+//! The lines of an engine behind a pipe: what they ask, and what it answers. And readers of its input.
 #![tactic(auto)]
 
+mod following;
+mod portions;
 mod serve_answer;
 mod serve_fault;
 mod serve_line;
 
+pub use following::Following;
+pub use portions::Portions;
 pub use serve_answer::{ServeAnswer, write_plan, write_serve_answer};
 pub use serve_fault::ServeFault;
 pub use serve_line::{ServeLine, read_serve_line};
