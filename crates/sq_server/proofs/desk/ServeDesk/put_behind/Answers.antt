@@ -1,0 +1,13 @@
+use Rattle.std.proofs.Common.{ℕ, [], ◌∷◌, ◌++◌, refl, subst}
+use Rattle.sq_server.specs.Sides.{waiting_at, ChangesAt}
+use Rattle.sq_server.proofs.Desks.{quiet, put_behind_keeps}
+use Rattle.sq_server.proofs.desk.ServeDesk.put_behind.Goals as goal
+
+pub returns-in-Ok-clause-handles : goal.returns-in-Ok-clause-handles
+returns-in-Ok-clause-handles g c =
+    let was = c.args.self.now.sides in
+    let now = c.put_behind.new.self in
+    let changes : ChangesAt c.args.at (waiting_at was c.args.at ++ c.args.asked ∷ []) was now =
+    subst (λ (at : ℕ). ChangesAt at (waiting_at was at ++ c.args.asked ∷ []) was now) c.from.ensures c.in-Ok.ensures.ok in
+    quiet _ _ _ _ _ refl refl changes.count
+    (λ part within. put_behind_keeps c.args.asked.line c.args.asked c.args.at was now changes part)

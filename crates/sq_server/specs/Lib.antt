@@ -1,0 +1,5 @@
+pub mod Sides
+pub mod Ending
+pub mod Saying
+pub mod Becoming
+pub mod Written

@@ -1,0 +1,45 @@
+// How far the audit of a page is.
+use std::sync::atomic::{AtomicBool, Ordering};
+
+/// How far the audit of a page is that goes on beside an epoch.
+#[derive(Drop)]
+pub struct AuditProgress {
+    has_begun: AtomicBool,
+    has_ended: AtomicBool,
+}
+
+impl AuditProgress {
+    /// Of no audit.
+    pub fn none() -> AuditProgress {
+        AuditProgress {
+            has_begun: AtomicBool::new(false),
+            has_ended: AtomicBool::new(false),
+        }
+    }
+
+    /// An audit begins.
+    pub fn begin(&self) {
+        self.has_begun.store(true, Ordering::SeqCst);
+    }
+
+    /// It has ended.
+    pub fn end(&self) {
+        self.has_ended.store(true, Ordering::SeqCst);
+    }
+
+    /// Forgets the last audit.
+    pub fn forget(&self) {
+        self.has_begun.store(false, Ordering::SeqCst);
+        self.has_ended.store(false, Ordering::SeqCst);
+    }
+
+    /// Whether an audit goes on.
+    pub fn goes_on(&self) -> bool {
+        self.has_begun.load(Ordering::SeqCst) && !self.has_ended()
+    }
+
+    /// Whether an audit has ended.
+    pub fn has_ended(&self) -> bool {
+        self.has_ended.load(Ordering::SeqCst)
+    }
+}

@@ -1,0 +1,27 @@
+// An epoch that is served, with a desk.
+ghost use Rattle.std.specs.Prelude.{IfOk, IfErr};
+ghost use Rattle.sq_engine.specs.Engine.{KeepsHistoryAndJobs};
+ghost use Rattle.sq_server.specs.Becoming.{desk_value};
+ghost use Rattle.sq_server.specs.Written.{EpochIsWritten};
+
+use crate::control::Control;
+use sq_engine::{Engine, EngineServed};
+use std::alloc::Global;
+use std::io::Write;
+use std::sync::Wait;
+use std::thread::Threads;
+
+/// Serves an epoch of an engine, as [`Engine::serve`] does: its jobs come from a desk, and each answer is written there.
+pub fn serve_epoch<T: Threads + Wait + Sync, W: Write + Drop>(
+    rt: &T,
+    alloc: Global,
+    engine: Engine,
+    control: &mut Control<'_, W>,
+) -> Result<EngineServed, Engine>
+    ensures served { IfOk result (λ served.
+        EpochIsWritten engine (desk_value W.contents control.old.desk)
+        served.engine (desk_value W.contents control.new.desk) served.is_whole) }
+    ensures not_served { IfErr result (KeepsHistoryAndJobs engine) }
+{
+    engine.serve(rt, alloc, u64::MAX, control)
+}

@@ -1,0 +1,23 @@
+//! Between the lines of an engine behind a pipe and the epochs of that engine: jobs go to the engine, or wait beside the full queue
+//! of their partition, and each answer is written.
+#![tactic(auto)]
+
+mod audit_progress;
+mod control;
+mod desk;
+mod ending;
+mod epoch;
+mod feed;
+mod outlet;
+mod resting;
+mod sides;
+
+pub use audit_progress::AuditProgress;
+pub use control::Control;
+pub use desk::{AskedTxn, JobCounts, MoveProgress, ServeDesk, Wish};
+pub use ending::ServeEnding;
+pub use epoch::serve_epoch;
+pub use feed::{FEED_ROOM, Fed, InputEnd, give, wait_for};
+pub use outlet::Outlet;
+pub use resting::rest;
+pub use sides::{SIDE_ROOM, SideQueues};

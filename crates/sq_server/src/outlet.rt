@@ -1,0 +1,126 @@
+// Where the lines of an engine are written.
+ghost use Rattle.std.specs.Prelude.{◌≡◌, true, false, []};
+ghost use Rattle.sq_text.specs.Texts.{refused_line, fault_line};
+ghost use Rattle.sq_told.specs.Lines.{receipt_line};
+ghost use Rattle.sq_serve.specs.ServeAnswers.{serve_answer_line, plan_line};
+ghost use Rattle.sq_live.specs.Outcome.{outcome_line};
+ghost use Rattle.sq_server.specs.Saying.{Says};
+
+use sq_live::{LiveOutcome, write_outcome};
+use sq_model::Answer;
+use sq_node::Receipt;
+use sq_serve::{ServeAnswer, write_plan, write_serve_answer};
+use sq_text::{write_answer, write_fault, write_refused};
+use std::io::Write;
+
+/// Where the lines of an engine are written. Behind a write that failed nothing more is written.
+#[derive(Drop)]
+pub struct Outlet<W: Write + Drop> {
+    pub writer: W,
+    pub has_failed: bool,
+    // Whether something was written since the last flush.
+    is_unflushed: bool,
+}
+
+impl<W: Write + Drop> Outlet<W> {
+    /// One over this writer.
+    pub fn new(writer: W) -> Outlet<W>
+        ensures writer { result.writer ≡ writer }
+        ensures whole { result.has_failed ≡ false }
+    {
+        Outlet {
+            writer,
+            has_failed: false,
+            is_unflushed: false,
+        }
+    }
+
+    /// Writes the line of a receipt.
+    pub fn say_receipt(&mut self, receipt: Receipt)
+        ensures { Says W.contents self.old (receipt_line receipt) self.new }
+    {
+        if self.has_failed {
+            return;
+        }
+        let answer = Answer::Replied {
+            id: receipt.id,
+            reply: receipt.reply,
+        };
+        let failed = write_answer(&mut self.writer, &answer).is_err();
+        self.note(failed);
+    }
+
+    /// Writes an answer to a line that isn't a job, or that asks nothing.
+    pub fn say(&mut self, answer: ServeAnswer)
+        ensures { Says W.contents self.old (serve_answer_line answer) self.new }
+    {
+        if self.has_failed {
+            return;
+        }
+        let failed = write_serve_answer(&mut self.writer, answer).is_err();
+        self.note(failed);
+    }
+
+    /// Writes a refusal with this number.
+    pub fn say_refused(&mut self, number: u16)
+        ensures { Says W.contents self.old (refused_line number) self.new }
+    {
+        if self.has_failed {
+            return;
+        }
+        let failed = write_refused(&mut self.writer, number).is_err();
+        self.note(failed);
+    }
+
+    /// Writes the line of a plan with this text.
+    pub fn say_plan(&mut self, text: &str)
+        ensures { Says W.contents self.old (plan_line text.now) self.new }
+    {
+        if self.has_failed {
+            return;
+        }
+        let failed = write_plan(&mut self.writer, text).is_err();
+        self.note(failed);
+    }
+
+    /// Writes what all came to.
+    pub fn say_outcome(&mut self, outcome: LiveOutcome)
+        ensures { Says W.contents self.old (outcome_line outcome) self.new }
+    {
+        if self.has_failed {
+            return;
+        }
+        let failed = write_outcome(&mut self.writer, outcome).is_err();
+        self.note(failed);
+    }
+
+    /// Writes a fault of no line.
+    pub fn say_fault(&mut self, number: u16)
+        ensures { Says W.contents self.old (fault_line number) self.new }
+    {
+        if self.has_failed {
+            return;
+        }
+        let failed = write_fault(&mut self.writer, number).is_err();
+        self.note(failed);
+    }
+
+    /// Sees that what was written goes out.
+    pub fn flush(&mut self)
+        ensures { Says W.contents self.old [] self.new }
+    {
+        if self.has_failed || !self.is_unflushed {
+            return;
+        }
+        self.is_unflushed = false;
+        self.has_failed = self.writer.flush().is_err();
+    }
+
+    // Takes note of whether a write failed.
+    fn note(&mut self, failed: bool)
+        ensures { self.new ≡ record self.old { has_failed = failed; is_unflushed = true } }
+    {
+        self.has_failed = failed;
+        self.is_unflushed = true;
+    }
+}
