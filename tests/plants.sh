@@ -33,7 +33,7 @@ section() {
 changed() {
     local name
     for name in $(grep -oE '^[a-z_]+' "$top/crates.txt"); do
-        case $name in sq_tests | sq_thread_tests | sq_example | sq_*_example) continue ;; esac
+        case $name in sq_tests | sq_*_tests | sq_trial | sq_million | sq_example | sq_*_example) continue ;; esac
         section "$name" | grep -q "$(checksum "$name")" || echo "$name"
     done
 }

@@ -1,0 +1,27 @@
+// Numbers at random.
+ghost use Rattle.std.specs.Prelude.{◌<◌};
+
+/// Numbers that look random, the same ones each time.
+#[derive(Drop)]
+pub struct Dice {
+    state: u64,
+}
+
+impl Dice {
+    /// Those of a seed.
+    pub fn new(seed: u64) -> Dice {
+        Dice { state: seed }
+    }
+
+    /// A number below this one.
+    pub fn below(&mut self, end: u64) -> u64
+        requires { 0 < end }
+        ensures { result < end }
+    {
+        self.state = self
+            .state
+            .wrapping_mul(6_364_136_223_846_793_005)
+            .wrapping_add(1_442_695_040_888_963_407);
+        (self.state >> 33) % end
+    }
+}
