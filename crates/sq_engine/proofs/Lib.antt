@@ -1,13 +1,7 @@
-pub mod PostedIds
 pub mod Epochs
 pub mod Goings
 pub mod Tallies
 pub mod Logs
 pub mod Endings
 pub mod LongLogs
-pub mod Passing
-pub mod Tellers
-pub mod Resting
-pub mod Sending
-pub mod AllGiven
 pub mod ServedRuns

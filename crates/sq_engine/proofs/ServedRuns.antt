@@ -5,11 +5,11 @@ use Rattle.sq_ranges.specs.Opening.{IsOpening}
 use Rattle.sq_node.specs.NodeState.{NodeState}
 use Rattle.sq_driver.specs.Nodes.{AllDriven}
 use Rattle.sq_audit.specs.declared.job.Job.{Job}
-use Rattle.sq_engine.specs.declared.serving.ServedParts.{ServedParts}
+use Rattle.sq_epoch.specs.declared.serving.ServedParts.{ServedParts}
 use Rattle.sq_engine.specs.Values.{EpochValue}
 use Rattle.sq_engine.specs.History.{Episode, RunsAfter}
-use Rattle.sq_engine.specs.Exchanges.{ClientCall, posted_in}
-use Rattle.sq_engine.specs.Serving.{AllAreGiven, IsServedWith}
+use Rattle.sq_epoch.specs.Exchanges.{ClientCall, posted_in}
+use Rattle.sq_epoch.specs.Serving.{AllAreGiven, IsServedWith}
 use Rattle.sq_engine.specs.Served.{EpochIsServed}
 use Rattle.sq_engine.proofs.Epochs.{driven_runs}
 

@@ -10,8 +10,8 @@ use Rattle.sq_engine.specs.declared.standing.Standing.TheVariants.{Running, Paus
 use Rattle.sq_engine.specs.declared.engine.NotMoved.{NotMoved}
 use Rattle.sq_engine.specs.declared.engine.NotMoved.TheVariants.{Moving, Plans, Memory}
 use Rattle.sq_node_model.specs.NodeValue.{ReceiptValue}
-use Rattle.sq_engine.specs.declared.stage_progress.StageProgress.{StageProgress}
-use Rattle.sq_engine.specs.Progress.{stage_segments}
+use Rattle.sq_epoch.specs.declared.stage_progress.StageProgress.{StageProgress}
+use Rattle.sq_epoch.specs.Progress.{stage_segments}
 use Rattle.sq_engine.specs.Values.{PauseValue, receipts_since_page, whole_segments}
 use Rattle.sq_engine.specs.History.{Episode, EpochEnded, RunsAfter, PausesAfter, IsDueAfter}
 

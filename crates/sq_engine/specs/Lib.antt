@@ -1,15 +1,7 @@
-pub mod Posted
-pub mod Progress
 pub mod Values
-pub mod LongLog
 pub mod History
 pub mod Outcomes
 pub mod Engine
 pub mod Taken
 pub mod Ending
-pub mod Exchanges
-pub mod Rings
-pub mod Telling
-pub mod Crew
-pub mod Serving
 pub mod Served

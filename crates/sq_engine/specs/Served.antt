@@ -5,8 +5,8 @@ use Rattle.sq_engine.specs.History.{OnlyDriven}
 use Rattle.sq_engine.specs.declared.standing.Standing.{Standing}
 use Rattle.sq_engine.specs.declared.standing.Standing.TheVariants.{Running}
 use Rattle.sq_engine.specs.Engine.{KeepsHistory, KeepsHistoryAndJobs}
-use Rattle.sq_engine.specs.Exchanges.{ClientCall, Exchange, ExchangesEach, posted_in}
-use Rattle.sq_engine.specs.Serving.{AllAreGiven}
+use Rattle.sq_epoch.specs.Exchanges.{ClientCall, Exchange, ExchangesEach, posted_in}
+use Rattle.sq_epoch.specs.Serving.{AllAreGiven}
 
 -- a client posted jobs, the workers ran, nothing else changed, and the client was given the answers that the nodes wrote
 pub record EpochIsServed {X : Type 0} (becomes : X → ClientCall → X → Type 0) (old : EpochValue) (before : X)

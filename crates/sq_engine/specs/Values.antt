@@ -8,7 +8,7 @@ use Rattle.sq_node_model.specs.Gathered.{GatheredValue}
 use Rattle.sq_node.specs.FabricValue.{FabricValue}
 use Rattle.sq_node.specs.NodeState.{NodeState}
 use Rattle.sq_audit.specs.declared.job.Job.{Job}
-use Rattle.sq_engine.specs.Progress.{whole_segments_in}
+use Rattle.sq_epoch.specs.Progress.{whole_segments_in}
 
 -- in an epoch: the opening in force, the jobs that were posted and are on no page, what the workers share, the nodes and the pumps
 pub record EpochValue : Type 0 where

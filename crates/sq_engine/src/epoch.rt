@@ -8,19 +8,18 @@ ghost use Rattle.sq_driver.specs.Nodes.{AllDriven};
 ghost use Rattle.sq_driver.specs.Pumps.{AllPumpsDriven};
 ghost use Rattle.sq_audit.specs.Answers.{IdsDiffer};
 ghost use Rattle.sq_engine.specs.Values.{receipts_since_page};
-ghost use Rattle.sq_engine.specs.Progress.{stage_segments};
-ghost use Rattle.sq_engine.specs.Posted.{is_id_in};
-ghost use Rattle.sq_engine.specs.LongLog.{shows_long_log};
+ghost use Rattle.sq_epoch.specs.Progress.{stage_segments};
+ghost use Rattle.sq_epoch.specs.Posted.{is_id_in};
+ghost use Rattle.sq_epoch.specs.LongLog.{shows_long_log};
 ghost use Rattle.sq_engine.specs.History.{Episode, RunsAfter, EndsEpochAfter, OnlyDriven};
 
-use crate::gate::CountingGate;
-use crate::long_log::{any_node_shows_long_log, any_shows_long_log};
 use crate::pause::Pause;
-use crate::posted::{PostFault, PostedJobs};
-use crate::posting::post_job;
-use crate::stage_progress::{StageProgress, progress_at_start, stage_segments};
 use sq_audit::Job;
 use sq_driver::{Gate, run_workers};
+use sq_epoch::{
+    CountingGate, PostFault, PostedJobs, StageProgress, any_node_shows_long_log,
+    any_shows_long_log, post_job, progress_at_start, stage_segments,
+};
 use sq_gather::{Ungathered, gather};
 use sq_node::{Fabric, Node};
 use sq_plan::PartId;

@@ -7,37 +7,22 @@
 //! An [`Engine`] goes over them by itself: from stage to stage, and after the last one to rest.
 #![tactic(auto)]
 
-mod answered;
-mod client;
 mod closed;
-mod crew;
 mod engine;
 mod epoch;
-mod epoch_gate;
-mod front;
-mod gate;
 pub mod laws;
-mod long_log;
 mod next_move;
 mod pause;
-mod posted;
-mod posting;
 mod rest_page;
-mod rings;
 mod serving;
-mod stage_progress;
 mod standing;
-mod telling;
 
-pub use client::{Client, Command};
 pub use closed::Closed;
 pub use engine::{Engine, EngineServed, NotMoved};
 pub use epoch::Epoch;
-pub use long_log::LONG_LOG;
 pub use next_move::NextMove;
 pub use pause::{NotTaken, Pause, StageEnd};
-pub use posted::PostFault;
 pub use rest_page::RestPage;
 pub use serving::Served;
-pub use stage_progress::StageProgress;
+pub use sq_epoch::{Client, Command, LONG_LOG, PostFault, StageProgress};
 pub use standing::Standing;

@@ -2,12 +2,11 @@
 ghost use Rattle.std.specs.Prelude.{◌≡◌, ◌≤◌, List, IfOk, IfErr};
 ghost use Rattle.sq_pull.specs.declared.numbers.TheConstants.{MAX_PUMPS};
 ghost use Rattle.sq_ranges.specs.Prelude.{OpeningValue, IsSetUp};
-ghost use Rattle.sq_engine.specs.Progress.{stage_segments};
+ghost use Rattle.sq_epoch.specs.Progress.{stage_segments};
 ghost use Rattle.sq_engine.specs.History.{Episode, IsDueAfter, RunsAfter};
 
 use crate::epoch::Epoch;
-use crate::posted::PostedJobs;
-use crate::stage_progress::{StageProgress, progress_at_start, stage_segments};
+use sq_epoch::{PostedJobs, StageProgress, progress_at_start, stage_segments};
 use sq_gather::{Gathered, move_on};
 use sq_ranges::Opening;
 use std::alloc::Global;

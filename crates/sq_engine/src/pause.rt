@@ -8,17 +8,18 @@ ghost use Rattle.sq_node_model.specs.Prelude.{IsPlaced, folded_opening};
 ghost use Rattle.sq_audit.specs.Answers.{IdsDiffer};
 ghost use Rattle.sq_audit.specs.Counts.{Counts, is_counted};
 ghost use Rattle.sq_engine.specs.Values.{whole_segments};
-ghost use Rattle.sq_engine.specs.Progress.{stage_segments};
+ghost use Rattle.sq_epoch.specs.Progress.{stage_segments};
 ghost use Rattle.sq_engine.specs.History.{Episode, HasMoreStages, IsLastStage, HasDoneStage, RunsAfter, PausesAfter, GoesOnAfterPage, IsDueAfter, onward_opening};
 ghost use Rattle.sq_engine.specs.Outcomes.{EndsStage, IsPageFrom, HasClosed, GivesNoPage};
 
-use crate::answered::{copy_answered, count};
 use crate::closed::Closed;
 use crate::epoch::Epoch;
 use crate::next_move::NextMove;
-use crate::posted::PostedJobs;
-use crate::stage_progress::{StageProgress, progress_at_start, stage_segments, whole_segments};
 use sq_audit::Job;
+use sq_epoch::{
+    PostedJobs, StageProgress, copy_answered, count, progress_at_start, stage_segments,
+    whole_segments,
+};
 use sq_gather::{Gathered, reopen};
 use sq_page::{Page, take_page};
 use sq_plan::Plan;

@@ -24,7 +24,7 @@ use Rattle.sq_engine.specs.Outcomes.{IsPageFrom, HasClosed}
 use Rattle.sq_engine.specs.Ending.{paged, page_jobs, AllSound}
 use Rattle.sq_engine.specs.Engine.{Stands, KeepsHistory}
 use Rattle.sq_engine.specs.Taken.{LeavesPage, TakesPage}
-use Rattle.sq_engine.specs.Exchanges.{ClientCall}
+use Rattle.sq_epoch.specs.Exchanges.{ClientCall}
 use Rattle.sq_engine.specs.Served.{EngineIsServed}
 use Rattle.sq_engine.proofs.Endings.{page_speaks, ends_as_planned}
 use Rattle.sq_engine_example.specs.declared.ThereAndBack.{ThereAndBack}

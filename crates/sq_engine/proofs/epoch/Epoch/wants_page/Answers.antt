@@ -4,7 +4,7 @@ use Rattle.std.specs.List.{list_any}
 use Rattle.sq_node.specs.NodeState.{NodeState}
 use Rattle.sq_node_model.specs.NodeValue.{ReceiptValue}
 use Rattle.sq_engine.specs.Values.{EpochValue, receipts_since_page}
-use Rattle.sq_engine.specs.LongLog.{shows_long_log}
+use Rattle.sq_epoch.specs.LongLog.{shows_long_log}
 use Rattle.sq_engine.proofs.LongLogs.{list_any-behind}
 use Rattle.sq_engine.proofs.epoch.Epoch.wants_page.Goals as goal
 

@@ -1,7 +1,7 @@
 use Rattle.std.proofs.Common.{◌≡◌, ap, ◌∙◌}
 use Rattle.sq_ranges.specs.ReconValue.{ReconValue}
 use Rattle.sq_engine.specs.declared.pause.Pause.TheInside.{Inside}
-use Rattle.sq_engine.specs.Progress.{whole_segments_in}
+use Rattle.sq_epoch.specs.Progress.{whole_segments_in}
 use Rattle.sq_engine.specs.Values.{whole_segments}
 use Rattle.sq_engine.proofs.Epochs.{pause_placed}
 use Rattle.sq_engine.proofs.pause.Pause.progress.Goals as goal

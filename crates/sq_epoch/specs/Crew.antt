@@ -1,0 +1,18 @@
+-- The workers of an epoch that is served.
+use Rattle.std.specs.Prelude.{All}
+use Rattle.sq_node.specs.NodeState.{IsNodeOf}
+use Rattle.sq_driver.specs.Told.{AllDrivenTelling}
+use Rattle.sq_driver.specs.Pumps.{HasAllSeats, AllPumpsDriven}
+use Rattle.sq_teller.specs.Sent.{SendsOrBreaksOff}
+use Rattle.sq_node.specs.FabricValue.{FabricValue}
+use Rattle.sq_epoch.specs.declared.crew.Crew.{Crew}
+
+-- the workers are of the fabric
+pub record IsCrewOf (fabric : FabricValue) (crew : Crew) : Type 0 where
+  pub nodes : All (λ pair. IsNodeOf fabric pair.node) crew.pairs.items
+  pub pumps : All (HasAllSeats fabric) crew.pumps.items
+
+-- they were driven, and what the nodes wrote was told
+pub record IsDriven (fabric : FabricValue) (old new : Crew) : Type 0 where
+  pub nodes : AllDrivenTelling SendsOrBreaksOff fabric old.pairs.items new.pairs.items
+  pub pumps : AllPumpsDriven fabric old.pumps.items new.pumps.items

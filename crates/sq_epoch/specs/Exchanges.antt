@@ -1,0 +1,73 @@
+-- What passes between an epoch and its client.
+use Rattle.std.specs.Prelude.{◌≡◌, ◌⊎◌, ℕ, ◌==◌, if◌then◌else◌, List, [], ◌∷◌, ◌++◌}
+use Rattle.std.specs.List.{flat_map}
+use Rattle.sq_node_model.specs.NodeValue.{ReceiptValue}
+use Rattle.sq_audit.specs.declared.job.Job.{Job}
+use Rattle.sq_epoch.specs.declared.posted.PostFault.{PostFault}
+use Rattle.sq_epoch.specs.declared.client.Command.{Command}
+use Rattle.sq_epoch.specs.declared.client.Command.TheVariants.{Post, Rest, End}
+
+-- a client was asked for its next command, was told an answer of a partition, or had a job returned that isn't posted
+pub data ClientCall : Type 0 where
+  Asked : (command : Command) → ClientCall
+  Told : (part : ℕ) → (receipt : ReceiptValue) → ClientCall
+  Returned : (job : Job) → (fault : PostFault) → ClientCall
+
+-- an answer was given, a job was posted or refused, or the client wanted nothing, or that the epoch ends
+pub data Exchange : Type 0 where
+  Answers : (part : ℕ) → (receipt : ReceiptValue) → Exchange
+  Posts : (job : Job) → Exchange
+  Refuses : (job : Job) → (fault : PostFault) → Exchange
+  Rests : Exchange
+  Ends : Exchange
+
+-- what an exchange makes of a client
+abbrev pub Exchanges : {X : Type 0} → (X → ClientCall → X → Type 0) → X → Exchange → X → Type 0
+Exchanges becomes old (Answers part receipt) new = becomes old (Told part receipt) new
+Exchanges becomes old (Posts job) new = becomes old (Asked (Post job)) new
+Exchanges {X} becomes old (Refuses job fault) new =
+    (between : X) × becomes old (Asked (Post job)) between × becomes between (Returned job fault) new
+Exchanges becomes old Rests new = becomes old (Asked Rest) new
+Exchanges becomes old Ends new = becomes old (Asked End) new
+
+-- what these exchanges, one after another, make of a client
+abbrev pub ExchangesEach : {X : Type 0} → (X → ClientCall → X → Type 0) → X → List Exchange → X → Type 0
+ExchangesEach becomes first [] last = last ≡ first
+ExchangesEach {X} becomes first (exchange ∷ more) last =
+    (next : X) × Exchanges becomes first exchange next × ExchangesEach becomes next more last
+
+abbrev pub answer_at : ℕ → Exchange → List ReceiptValue
+answer_at part (Answers from receipt) = if from == part then receipt ∷ [] else []
+answer_at part (Posts job) = []
+answer_at part (Refuses job fault) = []
+answer_at part Rests = []
+answer_at part Ends = []
+
+-- the answers of a partition that were given, in their order
+abbrev pub given_from : ℕ → List Exchange → List ReceiptValue
+given_from part exchanges = flat_map (answer_at part) exchanges
+
+abbrev pub posted_job : Exchange → List Job
+posted_job (Answers part receipt) = []
+posted_job (Posts job) = job ∷ []
+posted_job (Refuses job fault) = []
+posted_job Rests = []
+posted_job Ends = []
+
+-- the jobs that were posted, in their order
+abbrev pub posted_in : List Exchange → List Job
+posted_in exchanges = flat_map posted_job exchanges
+
+-- a job was posted, or went back to its client
+abbrev pub IsOffered : {X : Type 0} → (X → ClientCall → X → Type 0) → Job → List Job → X → List Job → X → Type 0
+IsOffered becomes job old_jobs before new_jobs after =
+    ((new_jobs ≡ old_jobs ++ job ∷ []) × (after ≡ before))
+    ⊎ ((new_jobs ≡ old_jobs) × (fault : PostFault) × becomes before (Returned job fault) after)
+
+-- a client was done a wish: no answer was given, and these jobs grew by those that were posted
+pub record DoesWish {X : Type 0} (becomes : X → ClientCall → X → Type 0)
+    (old_jobs : List Job) (before : X) (new_jobs : List Job) (after : X) : Type 0 where
+  pub exchanges : List Exchange
+  pub client : ExchangesEach becomes before exchanges after
+  pub jobs : new_jobs ≡ old_jobs ++ posted_in exchanges
+  pub none_given : (part : ℕ) → given_from part exchanges ≡ []

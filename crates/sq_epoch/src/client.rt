@@ -1,0 +1,38 @@
+// Who posts jobs to an epoch while its workers run, and is given their answers.
+ghost use Rattle.sq_epoch.specs.Exchanges.{ClientCall, Asked, Told, Returned};
+
+use crate::posted::PostFault;
+use crate::stage_progress::StageProgress;
+use sq_audit::Job;
+use sq_node::Receipt;
+use sq_plan::PartId;
+
+/// What a client wants next.
+#[derive(Debug, Drop)]
+pub enum Command {
+    /// That a job is posted.
+    Post(Job),
+    /// Nothing now. It is asked again.
+    Rest,
+    /// That the epoch ends. It isn't asked again in this epoch.
+    End,
+}
+
+/// Who posts jobs to an epoch while its workers run, and is given each answer as soon as it comes.
+pub trait Client {
+    /// What a call makes of a client.
+    ghost Becomes: { Self → ClientCall → Self → Type 0 };
+
+    /// What it wants next, where the stage is so far by what the workers told. A call has to return, since no answer is given
+    /// meanwhile.
+    fn next(&mut self, progress: StageProgress) -> Command
+        ensures { Becomes self.old (Asked result) self.new };
+
+    /// Takes an answer: the receipt of a job, by the partition that wrote it.
+    fn take(&mut self, part: PartId, receipt: Receipt)
+        ensures { Becomes self.old (Told part receipt) self.new };
+
+    /// Takes a job back that isn't posted.
+    fn take_back(&mut self, job: Job, fault: PostFault)
+        ensures { Becomes self.old (Returned job fault) self.new };
+}

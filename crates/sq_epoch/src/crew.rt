@@ -1,0 +1,68 @@
+// The workers of an epoch that is served.
+ghost use Rattle.std.specs.Prelude.{◌≡◌, length};
+ghost use Rattle.sq_epoch.specs.Crew.{IsCrewOf, IsDriven};
+ghost use Rattle.sq_epoch.specs.Rings.{Serves};
+
+use crate::client::Client;
+use crate::epoch_gate::EpochGate;
+use crate::front::Front;
+use sq_driver::{TellingNode, run_telling};
+use sq_node::Fabric;
+use sq_pull::Pump;
+use sq_teller::RingTeller;
+use std::sync::Wait;
+use std::thread::{Threads, join_mut};
+
+/// The workers of an epoch that is served: its nodes, with tellers that send over rings, and its pumps.
+#[derive(Drop)]
+pub(crate) struct Crew {
+    pub(crate) pairs: Vec<TellingNode<RingTeller>>,
+    pub(crate) pumps: Vec<Pump>,
+}
+
+impl Crew {
+    // Drives the workers until the epoch ends.
+    fn run<R: Threads + Wait + Sync>(
+        &mut self,
+        rt: &R,
+        fabric: &Fabric,
+        turns: u64,
+        gate: &EpochGate,
+    )
+        requires { IsCrewOf fabric.now self.old }
+        ensures { IsDriven fabric.now self.old self.new }
+    {
+        run_telling(rt, fabric, &mut self.pairs, &mut self.pumps, turns, gate);
+        gate.workers_end();
+    }
+}
+
+/// Drives the workers in threads of their own, and serves a client in this one.
+pub(crate) fn run_and_serve<C: Client, R: Threads + Wait + Sync>(
+    rt: &R,
+    fabric: &Fabric,
+    crew: &mut Crew,
+    front: &mut Front,
+    turns: u64,
+    gate: &EpochGate,
+    client: &mut C,
+)
+    requires crew { IsCrewOf fabric.now crew.old }
+    requires rings { length front.old.rings.items ≡ fabric.now.parts }
+    ensures crew { IsDriven fabric.now crew.old crew.new }
+    ensures front { Serves C.Becomes front.old.jobs front.old.rings.items client.old
+        front.new.jobs front.new.rings.items client.new }
+{
+    join_mut(
+        rt,
+        &mut ||
+            requires { IsCrewOf fabric.now crew.now }
+            ensures { IsDriven fabric.entry.now crew.entry.now crew.exit.now }
+        { crew.run(rt, fabric, turns, gate) },
+        &mut ||
+            requires { length front.now.rings.items ≡ fabric.now.parts }
+            ensures { Serves C.Becomes front.entry.now.jobs front.entry.now.rings.items
+                client.entry.now front.exit.now.jobs front.exit.now.rings.items client.exit.now }
+        { front.serve(rt, fabric, gate, client) },
+    );
+}

@@ -1,0 +1,57 @@
+// The gate of an epoch.
+use crate::stage_progress::StageProgress;
+use sq_driver::{Gate, NodeStep, WorkerEvent, WorkerId};
+use std::sync::Wait;
+use std::sync::atomic::{AtomicU64, Ordering};
+
+/// A gate before another gate, which counts the segments of a stage that are complete. Once all are, it ends workers that
+/// don't end where they are idle, so that the next stage can begin.
+#[derive(Drop)]
+pub struct CountingGate<'a, G> {
+    gate: &'a G,
+    segments: u64,
+    complete: AtomicU64,
+}
+
+impl<'a, G: Gate> CountingGate<'a, G> {
+    /// Before this gate, in a stage that is so far.
+    pub fn new(gate: &'a G, progress: StageProgress) -> CountingGate<'a, G> {
+        CountingGate {
+            gate,
+            segments: progress.segments,
+            complete: AtomicU64::new(progress.complete),
+        }
+    }
+
+    /// How far the stage is.
+    pub fn progress(&self) -> StageProgress {
+        StageProgress {
+            segments: self.segments,
+            complete: self.complete.load(Ordering::SeqCst),
+        }
+    }
+}
+
+impl<G: Gate> Gate for CountingGate<'_, G> {
+    fn pass(&self, who: WorkerId, step: NodeStep) -> bool {
+        if self.progress().is_done() && !self.gate.ends_idle() {
+            return false;
+        }
+        self.gate.pass(who, step)
+    }
+
+    fn did(&self, who: WorkerId, event: WorkerEvent) {
+        if event == WorkerEvent::SegmentComplete {
+            self.complete.fetch_add(1, Ordering::SeqCst);
+        }
+        self.gate.did(who, event);
+    }
+
+    fn rests<R: Wait>(&self, rt: &R, who: WorkerId, turns: u64) {
+        self.gate.rests(rt, who, turns);
+    }
+
+    fn ends_idle(&self) -> bool {
+        self.gate.ends_idle()
+    }
+}

@@ -1,0 +1,133 @@
+// The jobs that were posted.
+ghost use Rattle.std.specs.Prelude.{◌≡◌, ◌-◌, [], ◌∷◌, ◌++◌, length, take, filter, not, OnOk, OnErr, IsErrOf, IsTrue};
+ghost use Rattle.sq_audit.specs.Answers.{IdsDiffer};
+ghost use Rattle.sq_audit.specs.Counts.{is_counted};
+ghost use Rattle.sq_epoch.specs.Posted.{is_id_in, HaveJustIds};
+
+use crate::answered::{forget_ids, leave_unanswered};
+use sq_audit::Job;
+use sq_plan::PartId;
+use sq_schema::Txn;
+use std::alloc::{AllocError, Global};
+use std::collections::{BTreeMap, BTreeSet};
+use std::marker::Model;
+use thiserror::Error;
+
+/// Why a job isn't posted.
+#[derive(Clone, Copy, Debug, PartialEq, Eq, Error)]
+pub enum PostFault {
+    #[error("there is no such partition")]
+    NoSuchPartition,
+    #[error("a job that was posted before has this id")]
+    RepeatedId,
+    #[error("the queue of the partition is full")]
+    QueueFull,
+    #[error("out of memory")]
+    Memory,
+}
+
+/// The jobs that were posted and are on no page, whose ids differ. To a contract they are a list.
+#[derive(Drop)]
+pub struct PostedJobs {
+    jobs: Vec<Job>,
+    ids: BTreeSet<u64>,
+}
+
+impl Model for PostedJobs {
+    ghost use Rattle.std.specs.Prelude.{List};
+    ghost use Rattle.sq_audit.specs.declared.job.Job as job;
+    ghost use Rattle.sq_epoch.specs.Posted.{HaveJustIds};
+
+    ghost Value = { List job.Job };
+
+    ghost view = { λ p. p.jobs.items };
+
+    ghost invariant = { λ p. HaveJustIds p.jobs.items p.ids };
+}
+
+impl PostedJobs {
+    /// No jobs.
+    pub fn new(alloc: Global) -> PostedJobs
+        ensures { result ≡ [] }
+    {
+        PostedJobs {
+            jobs: Vec::new(alloc),
+            ids: BTreeSet::new(alloc),
+        }
+    }
+
+    /// These jobs without those that have a receipt by these counts, of which these are copies. Their ids may come again.
+    pub fn without_answered(
+        self,
+        counts: &BTreeMap<(u64, u64), u64>,
+        answered: &[Job],
+    ) -> PostedJobs
+        requires { answered.now ≡ filter (is_counted counts.now) self }
+        ensures { result ≡ filter (λ job. not (is_counted counts.now job)) self }
+    {
+        let PostedJobs { mut jobs, mut ids } = self;
+        leave_unanswered(counts, &mut jobs);
+        forget_ids(&mut ids, answered);
+        PostedJobs { jobs, ids }
+    }
+
+    /// These jobs, whose ids are these.
+    pub fn from_parts(jobs: Vec<Job>, ids: BTreeSet<u64>) -> PostedJobs
+        requires { HaveJustIds jobs.items ids }
+        ensures { result ≡ jobs.items }
+    {
+        PostedJobs { jobs, ids }
+    }
+
+    /// The jobs, in the order in which they were posted, and their ids.
+    pub fn into_parts(self) -> (Vec<Job>, BTreeSet<u64>)
+        ensures jobs { result.0.items ≡ self }
+        ensures ids { HaveJustIds result.0.items result.1 }
+    {
+        (self.jobs, self.ids)
+    }
+
+    /// The jobs, in the order in which they were posted.
+    pub fn as_slice(&self) -> &[Job]
+        ensures jobs { result.now ≡ self.now }
+        ensures differ { IdsDiffer result.now }
+    {
+        &self.jobs
+    }
+
+    /// Adds a job whose id none of them has.
+    pub(crate) fn add(&mut self, part: PartId, txn: Txn) -> Result<(), PostFault>
+        ensures ok { OnOk result (self.new ≡ self.old ++ record { part = part; txn = txn } ∷ []) }
+        ensures err { OnErr result (self.new ≡ self.old) }
+        ensures repeated { IsErrOf result PostFault.RepeatedId → IsTrue (is_id_in self.old txn.id) }
+    {
+        if self.jobs.reserve(1).is_err() {
+            return Err(PostFault::Memory);
+        }
+        match self.ids.insert(txn.id()) {
+            Ok(true) => {
+                self.jobs.push_reserved(Job { part, txn });
+                Ok(())
+            }
+            Ok(false) => Err(PostFault::RepeatedId),
+            Err(_) => Err(PostFault::Memory),
+        }
+    }
+
+    /// Takes the last job out, if there is one.
+    pub(crate) fn remove_last(&mut self)
+        ensures { self.new ≡ take (length self.old - 1) self.old }
+    {
+        if let Some(job) = self.jobs.pop() {
+            let id = id_of(job);
+            self.ids.remove(&id);
+        }
+    }
+}
+
+// The id of a job, which is given up.
+fn id_of(job: Job) -> u64
+    ensures { result ≡ job.txn.id }
+{
+    job.txn.id()
+}

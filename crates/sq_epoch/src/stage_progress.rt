@@ -1,0 +1,92 @@
+// How far the segments of a stage are.
+ghost use Rattle.std.specs.Prelude.{◌≡◌};
+ghost use Rattle.sq_node_model.specs.Prelude.{is_whole_in, AllGrown};
+ghost use Rattle.sq_epoch.specs.Progress.{stage_segments, is_complete_in, whole_segments_in};
+
+use sq_gather::{Gathered, reads_complete};
+use sq_node::Fabric;
+use sq_ranges::{Opening, Range, Recon};
+use sq_tree::NodeId;
+
+/// How many segments move in a stage, and how many of them are complete.
+#[derive(Clone, Copy, Debug, PartialEq, Eq)]
+pub struct StageProgress {
+    /// How many move in the stage.
+    pub segments: u64,
+    /// How many of these are complete.
+    pub complete: u64,
+}
+
+impl StageProgress {
+    /// At the beginning of a stage in which so many segments move.
+    pub fn at_start(segments: u64) -> StageProgress
+        ensures { result ≡ record { segments = segments; complete = 0 } }
+    {
+        StageProgress {
+            segments,
+            complete: 0,
+        }
+    }
+
+    /// Whether nothing moves in the stage.
+    pub(crate) fn is_rest(self) -> bool {
+        self.segments == 0
+    }
+
+    /// Whether segments move in the stage, and all of them are complete.
+    pub fn is_done(self) -> bool {
+        !self.is_rest() && self.complete >= self.segments
+    }
+}
+
+/// How far the stage of an opening is that begins with this.
+pub fn progress_at_start(opening: &Opening, fabric: &Fabric) -> StageProgress {
+    StageProgress::at_start(stage_segments(opening.recon(), fabric.stage()))
+}
+
+/// How many segments move in a stage.
+pub fn stage_segments(recon: &Recon, stage: u64) -> u64
+    ensures { result ≡ stage_segments recon.now stage }
+{
+    let segments = recon.segments();
+    let mut count: usize = 0;
+    for segment in segments {
+        if recon.stage_on(segment.src, segment.dst) == stage {
+            count += 1;
+        }
+    }
+    count as u64
+}
+
+/// How many segments of the stage that was gathered are complete by their trees.
+pub fn whole_segments(recon: &Recon, g: &Gathered) -> u64
+    requires { AllGrown g.now.statuses }
+    ensures { result ≡ whole_segments_in recon.now g.now }
+{
+    let mut count: usize = 0;
+    for (seg, segment) in recon.segments().iter().enumerate() {
+        if is_complete(recon, g, seg, segment) {
+            count += 1;
+        }
+    }
+    count as u64
+}
+
+// Whether a segment, which stands at this place, moves in the stage that was gathered, and is complete by its tree.
+fn is_complete(recon: &Recon, g: &Gathered, place: usize, segment: &Range) -> bool
+    requires { AllGrown g.now.statuses }
+    ensures { result ≡ is_complete_in recon.now g.now (place, segment.now) }
+{
+    recon.stage_on(segment.src, segment.dst) == g.stage && is_whole(g, place)
+}
+
+// Whether the segment at this place is complete by its tree.
+fn is_whole(g: &Gathered, place: usize) -> bool
+    requires { AllGrown g.now.statuses }
+    ensures { result ≡ is_whole_in g.now place }
+{
+    match g.statuses.get(place) {
+        Some(statuses) => reads_complete(statuses, NodeId::WHOLE),
+        None => false,
+    }
+}
