@@ -7,9 +7,9 @@ use Rattle.std.proofs.lemmas.Grind.{flat_map-append}
 use Rattle.std.proofs.lemmas.List.Elements.{filter-append}
 use Rattle.sq_node_model.specs.NodeValue.{ReceiptValue}
 use Rattle.sq_audit.specs.declared.job.Job.{Job}
-use Rattle.sq_engine.specs.declared.posted.PostFault.{PostFault}
-use Rattle.sq_engine.specs.declared.posted.PostFault.TheVariants as fault
-use Rattle.sq_engine.specs.Exchanges.{ClientCall, Exchange, Answers, Posts, Refuses, Rests, Ends, ExchangesEach, answer_at, given_from}
+use Rattle.sq_epoch.specs.declared.posted.PostFault.{PostFault}
+use Rattle.sq_epoch.specs.declared.posted.PostFault.TheVariants as fault
+use Rattle.sq_epoch.specs.Exchanges.{ClientCall, Exchange, Answers, Posts, Refuses, Rests, Ends, ExchangesEach, answer_at, given_from}
 use Rattle.sq_text.proofs.Appending.{both, appends_none}
 use Rattle.sq_told.specs.Lines.{receipt_line}
 use Rattle.sq_server.specs.declared.feed.Fed.{Fed}

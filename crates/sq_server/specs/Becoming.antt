@@ -5,11 +5,11 @@ use Rattle.std.specs.Io.KnownBytes.{Appends}
 use Rattle.rtrb.specs.Ring.{received}
 use Rattle.sq_node_model.specs.NodeValue.{ReceiptValue}
 use Rattle.sq_audit.specs.declared.job.Job.{Job}
-use Rattle.sq_engine.specs.declared.posted.PostFault.{PostFault}
-use Rattle.sq_engine.specs.declared.posted.PostFault.TheVariants as fault
-use Rattle.sq_engine.specs.declared.client.Command.{Command}
-use Rattle.sq_engine.specs.declared.client.Command.TheVariants.{Post, Rest, End}
-use Rattle.sq_engine.specs.Exchanges.{ClientCall, Asked, Told, Returned}
+use Rattle.sq_epoch.specs.declared.posted.PostFault.{PostFault}
+use Rattle.sq_epoch.specs.declared.posted.PostFault.TheVariants as fault
+use Rattle.sq_epoch.specs.declared.client.Command.{Command}
+use Rattle.sq_epoch.specs.declared.client.Command.TheVariants.{Post, Rest, End}
+use Rattle.sq_epoch.specs.Exchanges.{ClientCall, Asked, Told, Returned}
 use Rattle.sq_serve.specs.declared.serve_line.ServeLine.{ServeLine}
 use Rattle.sq_serve.specs.declared.serve_line.ServeLine.TheVariants as asks
 use Rattle.sq_told.specs.Lines.{receipt_line}

@@ -4,15 +4,15 @@ use Rattle.std.specs.List.{flat_map}
 use Rattle.std.specs.Io.KnownBytes.{Appends}
 use Rattle.sq_node_model.specs.NodeValue.{ReceiptValue}
 use Rattle.sq_audit.specs.declared.job.Job.{Job}
-use Rattle.sq_engine.specs.declared.posted.PostFault.{PostFault}
-use Rattle.sq_engine.specs.declared.posted.PostFault.TheVariants as fault
+use Rattle.sq_epoch.specs.declared.posted.PostFault.{PostFault}
+use Rattle.sq_epoch.specs.declared.posted.PostFault.TheVariants as fault
 use Rattle.sq_engine.specs.declared.standing.Standing.{Standing}
 use Rattle.sq_engine.specs.declared.standing.Standing.TheVariants.{Running}
 use Rattle.sq_engine.specs.Values.{EpochValue}
 use Rattle.sq_engine.specs.History.{OnlyDriven}
 use Rattle.sq_engine.specs.Engine.{KeepsHistory, KeepsHistoryAndJobs}
-use Rattle.sq_engine.specs.Serving.{AllAreGiven}
-use Rattle.sq_engine.specs.Exchanges.{Exchange, Answers, Posts, Refuses, Rests, Ends, given_from, posted_in}
+use Rattle.sq_epoch.specs.Serving.{AllAreGiven}
+use Rattle.sq_epoch.specs.Exchanges.{Exchange, Answers, Posts, Refuses, Rests, Ends, given_from, posted_in}
 use Rattle.sq_told.specs.Lines.{receipt_line}
 use Rattle.sq_server.specs.declared.feed.Fed.{Fed}
 use Rattle.sq_server.specs.Saying.{OtherLine, other_line}
