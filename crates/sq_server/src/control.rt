@@ -2,7 +2,7 @@
 use crate::audit_progress::AuditProgress;
 use crate::desk::ServeDesk;
 use sq_audit::Job;
-use sq_engine::{Client, Command, PostFault};
+use sq_engine::{Client, Command, PostFault, StageProgress};
 use sq_node::Receipt;
 use sq_plan::PartId;
 use std::io::Write;
@@ -30,7 +30,7 @@ impl<W: Write + Drop> Client for Control<'_, W> {
     ghost Becomes = { λ old call new.
         DeskBecomes (desk_value W.contents old.desk) call (desk_value W.contents new.desk) };
 
-    fn next(&mut self) -> Command {
+    fn next(&mut self, _progress: StageProgress) -> Command {
         self.desk.begin_call(self.audit.goes_on());
         if self.ends() {
             return Command::End;

@@ -3,7 +3,7 @@ use crate::failure::Failure;
 use crate::hearing::Hearing;
 use crate::job_source::JobSource;
 use sq_audit::Job;
-use sq_engine::{Client, Command, Engine, PostFault};
+use sq_engine::{Client, Command, Engine, PostFault, StageProgress};
 use sq_node::Receipt;
 use sq_plan::PartId;
 use std::alloc::Global;
@@ -135,7 +135,7 @@ impl RandomClient {
 impl Client for RandomClient {
     ghost Becomes = { λ _ _ _. Unit {0} };
 
-    fn next(&mut self) -> Command {
+    fn next(&mut self, _progress: StageProgress) -> Command {
         if self.failure.is_some() || self.has_heard_enough() {
             return Command::End;
         }

@@ -62,7 +62,9 @@ fn serve<R: Threads + Wait + Sync>(
     engine: Engine,
     client: &mut RandomClient,
 ) -> Result<Engine, Failure> {
-    let EngineServed { engine, is_whole } = serve_once(rt, alloc, engine, client).ok_or(
+    let EngineServed {
+        engine, is_whole, ..
+    } = serve_once(rt, alloc, engine, client).ok_or(
         Failure::Memory,
     )?;
     if is_whole {
