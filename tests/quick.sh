@@ -1,5 +1,5 @@
 #!/usr/bin/env bash
-# The quick test, which proves nothing and takes minutes: the test functions of the two crates that have nothing else, and most
+# The quick test, which proves nothing and takes minutes: the test functions of the three crates that have nothing else, and most
 # stored runs.
 #
 #   tests/quick.sh [PATTERN]
@@ -106,7 +106,7 @@ echo "$((${#tried[@]} / 2)) cases, in $lanes lanes"
 running=()
 for ((lane = 0; lane < lanes; lane++)); do run_lane "$room/lane$lane" & running+=($!); done
 if [ -z "$pattern" ]; then
-    for crate in sq_tests sq_thread_tests; do test_functions "$crate" || failed=$((failed + 1)); done
+    for crate in sq_tests sq_thread_tests sq_engine_tests; do test_functions "$crate" || failed=$((failed + 1)); done
 fi
 wait "${running[@]}"
 for ((at = 0; at < ${#tried[@]}; at += 2)); do judge_tried "${tried[at]}" "${tried[at + 1]}"; done

@@ -1,0 +1,2 @@
+// Engines that serve a client with jobs at random.
+mod serving;
