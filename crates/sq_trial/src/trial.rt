@@ -63,10 +63,10 @@ fn serve<R: Threads + Wait + Sync>(
     client: &mut RandomClient,
 ) -> Result<Engine, Failure> {
     let EngineServed {
-        engine, is_whole, ..
-    } = serve_once(rt, alloc, engine, client).ok_or(
-        Failure::Memory,
-    )?;
+        engine,
+        is_whole,
+        ..
+    } = serve_once(rt, alloc, engine, client).ok_or(Failure::Memory)?;
     if is_whole {
         Ok(engine)
     } else {
