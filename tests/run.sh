@@ -359,7 +359,7 @@ chain_jobs() {
     done
 }
 
-# try_bad_outputs FOLDER: a file that can't be written, one that the run reads, by this name or by another, and one that two
+# try_bad_outputs FOLDER: a file that can't be written, a pipe, a file that the run reads, by this name or by another, and one that two
 # options name; and jobs without an answer.
 try_bad_outputs() {
     local words=(--old "$1/0.json" --new "$1/1.json" --rows "$1/rows0")
@@ -368,6 +368,11 @@ try_bad_outputs() {
     echo "squall: the file '$1/nowhere/rows' can't be written: No such file or directory (os error 2)" > "$room/said"
     give "$1/jobs" live "${words[@]}" --rows-out "$1/nowhere/rows"
     judge 'live --rows-out in no folder' 2 "$room/wanted" "$room/said"
+    mkfifo "$1/pipe"
+    echo "squall: the file '$1/pipe' can't be written: entity already exists" > "$room/said"
+    give "$1/jobs" live "${words[@]}" --rows-out "$1/pipe"
+    judge 'live --rows-out in place of a pipe' 2 "$room/wanted" "$room/said"
+    count a_pipe_stays "$([ -p "$1/pipe" ] || echo "it's no pipe any more")"
     cp "$1/rows0" "$1/rows_before"
     echo "squall: --rows-out names the file '$1/../results/rows0', which the run reads" > "$room/said"
     give "$1/jobs" live "${words[@]}" --rows-out "$1/../results/rows0"

@@ -7,7 +7,7 @@ use std::path::Path;
 use std::rt::Files;
 use std::{fs, io};
 
-/// The files of the system. Nothing is known of what they hold.
+/// The files of the system. Nothing is known of what they hold. No file takes the place of a folder, a device or a pipe.
 #[derive(Drop)]
 pub struct SystemFolder<'a, T> {
     rt: &'a T,
@@ -28,7 +28,10 @@ impl<T: Files> Folder for SystemFolder<'_, T> {
     }
 
     fn rename(&mut self, from: &str, to: &str) -> io::Result<()> {
-        fs::rename(self.rt, from, to)
+        match fs::metadata(self.rt, to) {
+            Ok(there) if !there.is_file() => Err(io::Error::from(ErrorKind::AlreadyExists)),
+            _ => fs::rename(self.rt, from, to),
+        }
     }
 
     fn remove(&mut self, name: &str) -> io::Result<()> {
