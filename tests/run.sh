@@ -314,6 +314,7 @@ try_told() {
 # hasn't ended the rows are written too.
 try_results() {
     local at folder=$room/results
+    rm -rf "$folder"
     mkdir "$folder"
     chain_plans "$folder"
     for at in 1 2 3; do
