@@ -36,6 +36,6 @@ GivesUp name text made =
     (made ≡ [])
     ⊎ ((begun : List FileCall) × (removed : Bool) × BreaksOff name text begun × (made ≡ begun ++ Removed (part_of name) removed ∷ []))
 
--- some calls are made of which this holds
+-- the call makes some file calls, and they are such
 abbrev pub MakesSome : (List FileCall → Type 0) → Option (List FileCall) → Option (List FileCall) → Type 0
 MakesSome Holds before now = (made : List FileCall) × Holds made × Makes before now made

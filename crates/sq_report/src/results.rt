@@ -17,7 +17,7 @@ pub(crate) struct KeptReplies {
 }
 
 impl KeptReplies {
-    /// That of no jobs.
+    /// The replies of no jobs.
     pub(crate) fn new(alloc: Global) -> KeptReplies {
         KeptReplies {
             replies: Mutex::new(Replies::new(alloc)),

@@ -22,7 +22,7 @@ use sq_tree::{NodeId, Status};
 use std::sync::Wait;
 
 impl Node {
-    /// Sends the jobs and the requests that are pending, as far as their queues have room.
+    /// Sends the jobs that are pending up to the first whose queue is full, and each pending request whose queue has room.
     pub fn send_pending<R: Wait>(&mut self, rt: &R, fabric: &Fabric)
         ensures { self.new ≡ self.old }
     {
