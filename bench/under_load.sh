@@ -7,22 +7,25 @@
 # families to the next one. Beside it run 4,096 jobs of 64 operations, each on one of the families, by chance; they are posted to
 # the partition that has it before the move. One pump claims.
 #
-# For each limit of a chunk, in bytes, it prints
-#   - the milliseconds of the whole run, and those until all has moved;
-#   - how many jobs are answered in a millisecond until then, and their share of those that are where nothing moves;
-#   - the greatest share that could be: the jobs alone take J milliseconds and the move alone M, so that processors which are
-#     always busy, and do no other work, leave J of J + M to the jobs by the time when all has moved;
+# For each limit of a chunk there are several rounds (ROUNDS=COUNT, 9 if left out). A round has three runs, one after the other:
+# the jobs alone, which take J milliseconds to the last answer; the move alone, which takes M; and both at once. Of each column
+# the median over the rounds is printed, so that a round in which the machine did something else says little:
+#   - J and M;
+#   - the milliseconds of the whole run of both, and its multiple of J + M, one after the other;
+#   - the milliseconds until all has moved, and how many jobs are answered until then;
+#   - the share: how many jobs are answered in a millisecond until then, of those that are with the jobs alone;
+#   - the greatest share that could be, J / (J + M): processors that are always busy, and do no other work, leave so much of
+#     the time until all has moved to the jobs, whichever of the two goes first;
 #   - when the last job is answered, and the share until then;
-#   - how many jobs waited for their rows, and the longest time without an answer;
-#   - M and J, and the whole run's multiple of the two together, one after the other.
-# Times are those of the threads alone. Each line is of the run that was shortest of several (RUNS=COUNT, 5 if left out).
+#   - how many jobs waited for their rows, and the longest time without an answer.
+# Times are those of the threads alone.
 #
 # The program is crates/squall/out/squall, which `rt run` leaves in crates/squall; SQUALL=PATH takes another.
 set -eu
 export LC_ALL=C
 top=$(cd "$(dirname "$0")/.." && pwd)
 squall=${SQUALL:-$top/crates/squall/out/squall}
-runs=${RUNS:-5}
+rounds=${ROUNDS:-9}
 parts=${1:-4}
 room=$(mktemp -d)
 trap 'rm -r "$room"' EXIT
@@ -77,31 +80,50 @@ END {
     print threads, moved, inside + 0, silence + 0, last + 0, waited
 }'
 
-# shortest MOVES JOBS LIMIT: what is told of the shortest of several runs of an input.
-shortest() {
-    local run threads waited best=
-    awk -v parts="$parts" -v moves="$1" -v jobs="$2" -v limit="$3" "$input" > "$room/input"
-    for ((run = 0; run < runs; run++)); do
-        "$squall" live --turns 1000000000 --summary --timeline "$room/timeline.csv" "$room/input" > "$room/line" 2> "$room/summary"
-        grep -q '^sound ' "$room/line" || { cat "$room/line" "$room/summary" >&2; exit 1; }
-        threads=$(sed -n 's/.*, threads \([0-9.]*\),.*/\1/p' "$room/summary")
-        if [ -z "$best" ] || awk "BEGIN { exit !($threads < $best) }"; then
-            best=$threads
-            waited=$(awk '$1 == "milliseconds:" { exit } listed { sum += $4 } /waited$/ { listed = 1 } END { print sum + 0 }' "$room/summary")
-            tail -n +2 "$room/timeline.csv" | awk -F , -v threads="$threads" -v waited="$waited" "$tell" > "$room/told"
-        fi
-    done
-    cat "$room/told"
+# make NAME MOVES JOBS LIMIT: an input.
+make() { awk -v parts="$parts" -v moves="$2" -v jobs="$3" -v limit="$4" "$input" > "$room/$1"; }
+
+# run NAME: what is told of a run of an input.
+run() {
+    local threads waited
+    "$squall" live --turns 1000000000 --summary --timeline "$room/timeline.csv" "$room/$1" > "$room/line" 2> "$room/summary"
+    grep -q '^sound ' "$room/line" || { cat "$room/line" "$room/summary" >&2; exit 1; }
+    threads=$(sed -n 's/.*, threads \([0-9.]*\),.*/\1/p' "$room/summary")
+    waited=$(awk '$1 == "milliseconds:" { exit } listed { sum += $4 } /waited$/ { listed = 1 } END { print sum + 0 }' "$room/summary")
+    tail -n +2 "$room/timeline.csv" | awk -F , -v threads="$threads" -v waited="$waited" "$tell"
 }
 
-read -r whole _ _ _ last _ <<< "$(shortest 0 4096 4096)"
-rate=$(awk "BEGIN { print 4096 / $last }")
-awk "BEGIN { printf \"%d partitions, where nothing moves: %.1f ms, %.0f jobs a millisecond\n\", $parts, $whole, $rate }"
-echo '  limit  whole  moved  jobs/ms  share  at most  last answer  share till it  waited  silence  M alone  J alone  multiple'
+# Of lines of numbers the median of each column.
+medians='
+{ for (i = 1; i <= NF; i++) cell[NR, i] = $i; columns = NF }
+END {
+    for (i = 1; i <= columns; i++) {
+        for (j = 1; j <= NR; j++) sorted[j] = cell[j, i] + 0
+        for (j = 2; j <= NR; j++) {
+            one = sorted[j]
+            for (k = j - 1; k >= 1 && sorted[k] > one; k--) sorted[k + 1] = sorted[k]
+            sorted[k + 1] = one
+        }
+        printf "%s%s", sorted[int((NR + 1) / 2)], i < columns ? " " : "\n"
+    }
+}'
+
+# A round, from what is told of the jobs alone, of the move alone, and of both.
+line='{
+    J = $5; M = $7; whole = $13; moved = $14; inside = $15; last = $17; rate = 4096 / J
+    print J, M, whole, whole / (J + M), moved, inside, inside / moved / rate, J / (J + M), last, 4096 / last / rate, $18, $16
+}'
+
+make jobs 0 4096 4096
+echo "$parts partitions"
+echo '  limit  jobs J  move M   both  of J + M  moved  answered  share  at most  last answer  share till it  waited  silence'
 for limit in 1024 4096 16384 65536 1048576; do
-    read -r alone _ <<< "$(shortest 1 0 "$limit")"
-    shortest 1 4096 "$limit" | awk -v limit="$limit" -v alone="$alone" -v jobs="$last" -v rate="$rate" '{
-        printf "%7d %6.1f %6.1f %8.1f %6.2f %8.2f %12.1f %14.2f %7d %8.2f %8.1f %8.1f %9.2f\n", limit, $1, $2, $3 / $2, $3 / $2 / rate,
-            jobs / (jobs + alone), $5, 4096 / $5 / rate, $6, $4, alone, jobs, $1 / (alone + jobs)
+    make move 1 0 "$limit"
+    make both 1 4096 "$limit"
+    for ((round = 0; round < rounds; round++)); do
+        echo "$(run jobs) $(run move) $(run both)" | awk "$line"
+    done | awk "$medians" | awk -v limit="$limit" '{
+        printf "%7d %7.1f %7.1f %6.1f %9.2f %6.1f %9d %6.2f %8.2f %12.1f %14.2f %7d %8.2f\n",
+            limit, $1, $2, $3, $4, $5, $6, $7, $8, $9, $10, $11, $12
     }'
 done
