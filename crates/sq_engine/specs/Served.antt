@@ -1,27 +1,29 @@
 -- An epoch that was served, and an engine.
-use Rattle.std.specs.Prelude.{Bool, List, ◌++◌}
+use Rattle.std.specs.Prelude.{◌≡◌, Bool, true, List, [], ◌++◌}
 use Rattle.sq_engine.specs.Values.{EpochValue}
 use Rattle.sq_engine.specs.History.{OnlyDriven}
 use Rattle.sq_engine.specs.declared.standing.Standing.{Standing}
 use Rattle.sq_engine.specs.declared.standing.Standing.TheVariants.{Running}
 use Rattle.sq_engine.specs.Engine.{KeepsHistory, KeepsHistoryAndJobs}
-use Rattle.sq_epoch.specs.Exchanges.{ClientCall, Exchange, ExchangesEach, posted_in}
+use Rattle.sq_epoch.specs.Exchanges.{ClientCall, Exchange, ExchangesEach, posted_in, commands_in}
 use Rattle.sq_epoch.specs.Serving.{AllAreGiven}
 
--- a client posted jobs, the workers ran, nothing else changed, and the client was given the answers that the nodes wrote
+-- a client posted jobs, the workers ran, nothing else changed, and the client was given the answers that the nodes wrote. Where a
+-- node had no thread it was asked for nothing, so that it posted none
 pub record EpochIsServed {X : Type 0} (becomes : X → ClientCall → X → Type 0) (old : EpochValue) (before : X)
-    (new : EpochValue) (after : X) (is_whole : Bool) : Type 0 where
+    (new : EpochValue) (after : X) (is_whole lacks_threads : Bool) : Type 0 where
   pub exchanges : List Exchange
   pub client : ExchangesEach becomes before exchanges after
   pub driven : OnlyDriven (record old { jobs = old.jobs ++ posted_in exchanges }) new
   pub given : AllAreGiven is_whole exchanges old.nodes new.nodes
+  pub none_asked : lacks_threads ≡ true → commands_in exchanges ≡ []
 
 -- an engine went on to an epoch, that was served, and the engine went on from there
 pub record EngineIsServed {X : Type 0} (becomes : X → ClientCall → X → Type 0) (old : Standing) (before : X)
-    (new : Standing) (after : X) (is_whole : Bool) : Type 0 where
+    (new : Standing) (after : X) (is_whole lacks_threads : Bool) : Type 0 where
   pub epoch : EpochValue
   pub comes : KeepsHistoryAndJobs old (Running epoch)
   pub served_epoch : EpochValue
-  pub served : EpochIsServed becomes epoch before served_epoch after is_whole
+  pub served : EpochIsServed becomes epoch before served_epoch after is_whole lacks_threads
   pub history : KeepsHistory (Running epoch) (Running served_epoch)
   pub goes_on : KeepsHistoryAndJobs (Running served_epoch) new

@@ -1,15 +1,19 @@
 // An engine that lasts.
-ghost use Rattle.std.specs.Prelude.{◌≡◌, ◌≤◌, ◌↔◌, ◌∷◌, [], ◌++◌, IsTrue, IsSome, option_copied, IfOk, IfErr, OnOk, OnErr, IsErrOf, MatchResult};
+ghost use Rattle.std.specs.Prelude.{◌≡◌, ◌≤◌, ◌↔◌, ◌∷◌, [], ◌++◌, true, IsTrue, IsSome};
+ghost use Rattle.std.specs.Prelude.{option_copied, IfOk, IfErr, OnOk, OnErr, IsErrOf, MatchResult};
 ghost use Rattle.std.specs.List.{list_any};
 ghost use Rattle.sq_pull.specs.declared.numbers.TheConstants.{MAX_PUMPS};
 ghost use Rattle.sq_ranges.specs.Prelude.{IsSetUp};
 ghost use Rattle.sq_ranges.specs.Between.{recon_fault};
 ghost use Rattle.sq_engine.specs.History.{onward_opening};
-ghost use Rattle.sq_engine.specs.Engine.{opening_in, posted_jobs, receipts_in, stores_in, HasProgress, EngineRests, Stands, KeepsHistory, KeepsHistoryAndJobs, KeepsPlan, IsNotMoved};
+ghost use Rattle.sq_engine.specs.Engine.{opening_in, posted_jobs, receipts_in, stores_in};
+ghost use Rattle.sq_engine.specs.Engine.{HasProgress, EngineRests, Stands, KeepsHistory};
+ghost use Rattle.sq_engine.specs.Engine.{KeepsHistoryAndJobs, KeepsPlan, IsNotMoved};
 ghost use Rattle.sq_epoch.specs.Posted.{is_id_in};
 ghost use Rattle.sq_epoch.specs.LongLog.{shows_long_log};
 ghost use Rattle.sq_engine.specs.Served.{EngineIsServed};
-ghost use Rattle.sq_engine.specs.Taken.{TakesItsPage, TakesPage, IsNotTaken, IsNotPaused, HasClosedAfter};
+ghost use Rattle.sq_engine.specs.Taken.{TakesItsPage, TakesPage, IsNotTaken, IsNotPaused};
+ghost use Rattle.sq_engine.specs.Taken.{HasClosedAfter};
 
 use crate::closed::Closed;
 use crate::epoch::Epoch;
@@ -207,7 +211,10 @@ impl Engine {
         client: &mut C,
     ) -> Result<EngineServed, Engine>
         ensures served { IfOk result (λ served.
-            EngineIsServed C.Becomes self client.old served.engine client.new served.is_whole) }
+            EngineIsServed C.Becomes self client.old served.engine client.new
+            served.is_whole served.lacks_threads) }
+        ensures not_asked { IfOk result (λ served.
+            served.lacks_threads ≡ true → KeepsHistoryAndJobs self served.engine) }
         ensures plan { MatchResult result (λ served. KeepsPlan self served.engine) (KeepsPlan self) }
         ensures not_served { IfErr result (KeepsHistoryAndJobs self) }
         ensures not_called { OnErr result (client.new ≡ client.old) }

@@ -1,5 +1,6 @@
 // An epoch of an engine.
-ghost use Rattle.std.specs.Prelude.{◌≡◌, ◌≤◌, ◌∷◌, [], ◌++◌, List, length, IfOk, IfErr, OnOk, OnErr, IsErrOf, IsTrue};
+ghost use Rattle.std.specs.Prelude.{◌≡◌, ◌≤◌, ◌∷◌, [], ◌++◌, List, length, IfOk, IfErr, OnOk};
+ghost use Rattle.std.specs.Prelude.{OnErr, IsErrOf, IsTrue};
 ghost use Rattle.std.specs.List.{list_any};
 ghost use Rattle.sq_pull.specs.declared.numbers.TheConstants.{MAX_PUMPS};
 ghost use Rattle.sq_ranges.specs.Prelude.{OpeningValue, IsSetUp};
@@ -158,8 +159,8 @@ impl Epoch {
 
     /// Runs the workers: each partition and each pump in a thread of its own, for this many turns at most. All of them have
     /// ended when it returns. A node ends before where it is idle, and each worker where the gate says so. Where nodes that are
-    /// idle go on by the gate, they end once each segment that moves in the stage is complete. Jobs may be posted after that, and
-    /// the workers run again.
+    /// idle go on by the gate, they end once each segment that moves in the stage is complete. All end too where one of them rests
+    /// for some seconds while no thread can be had for a node. Jobs may be posted after that, and the workers run again.
     pub fn run<R: Threads + Wait + Sync, G: Gate + Sync>(
         self,
         rt: &R,
@@ -180,7 +181,7 @@ impl Epoch {
         } = self;
         // For the proof alone: what was handed in is an opening.
         let _recon = opening.recon();
-        let counting = CountingGate::new(gate, progress);
+        let counting = CountingGate::new(gate, fabric.parts(), progress);
         run_workers(rt, &fabric, &mut nodes, &mut pumps, turns, &counting);
         fabric.open_jobs(rt);
         let progress = counting.progress();

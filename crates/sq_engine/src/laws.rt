@@ -8,7 +8,8 @@ ghost use Rattle.sq_audit.specs.Sound.{IsSoundRun};
 ghost use Rattle.sq_audit.specs.Defects.{IsVerdict};
 ghost use Rattle.sq_page.specs.Pages.{IsPageOf, SpeaksForRuns};
 ghost use Rattle.sq_epoch.specs.declared.long_log.TheConstants.{LONG_LOG};
-ghost use Rattle.sq_engine.specs.History.{Episode, pause_after, HaveCome, IsLastStage, HasDoneStage};
+ghost use Rattle.sq_engine.specs.History.{Episode, pause_after, HaveCome, IsLastStage};
+ghost use Rattle.sq_engine.specs.History.{HasDoneStage};
 ghost use Rattle.sq_engine.specs.Ending.{paged, AllSound, EngineEndsAsPlanned};
 
 /// The limit of engines, in digits.

@@ -1,5 +1,6 @@
 // What an epoch left.
-ghost use Rattle.std.specs.Prelude.{◌≡◌, ◌+◌, ◌<◌, ◌≤◌, true, false, List, filter, None, MatchResult, IfOk, IfErr, OnOk};
+ghost use Rattle.std.specs.Prelude.{◌≡◌, ◌+◌, ◌<◌, ◌≤◌, true, false, List, filter, None};
+ghost use Rattle.std.specs.Prelude.{MatchResult, IfOk, IfErr, OnOk};
 ghost use Rattle.sq_schema.specs.Prelude.{TableValue};
 ghost use Rattle.sq_pull.specs.declared.numbers.TheConstants.{MAX_PUMPS};
 ghost use Rattle.sq_ranges.specs.Prelude.{OpeningValue, IsSetUp, stages};
@@ -9,7 +10,9 @@ ghost use Rattle.sq_audit.specs.Answers.{IdsDiffer};
 ghost use Rattle.sq_audit.specs.Counts.{Counts, is_counted};
 ghost use Rattle.sq_engine.specs.Values.{whole_segments};
 ghost use Rattle.sq_epoch.specs.Progress.{stage_segments};
-ghost use Rattle.sq_engine.specs.History.{Episode, HasMoreStages, IsLastStage, HasDoneStage, RunsAfter, PausesAfter, GoesOnAfterPage, IsDueAfter, onward_opening};
+ghost use Rattle.sq_engine.specs.History.{Episode, HasMoreStages, IsLastStage, HasDoneStage};
+ghost use Rattle.sq_engine.specs.History.{RunsAfter, PausesAfter, GoesOnAfterPage, IsDueAfter};
+ghost use Rattle.sq_engine.specs.History.{onward_opening};
 ghost use Rattle.sq_engine.specs.Outcomes.{EndsStage, IsPageFrom, HasClosed, GivesNoPage};
 
 use crate::closed::Closed;

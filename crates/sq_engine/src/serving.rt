@@ -1,7 +1,7 @@
 // Epochs that are served.
-ghost use Rattle.std.specs.Prelude.{◌≡◌, List, IfOk, IfErr, OnErr};
+ghost use Rattle.std.specs.Prelude.{◌≡◌, true, List, IfOk, IfErr, OnErr};
 ghost use Rattle.sq_ranges.specs.Prelude.{OpeningValue};
-ghost use Rattle.sq_engine.specs.History.{Episode, RunsAfter};
+ghost use Rattle.sq_engine.specs.History.{Episode, RunsAfter, OnlyDriven};
 ghost use Rattle.sq_engine.specs.Served.{EpochIsServed};
 
 use crate::epoch::Epoch;
@@ -18,7 +18,7 @@ pub struct Served {
     /// Whether each answer that was written was given. Where there was no memory for one, its partition gave neither that one
     /// nor a later one.
     pub is_whole: bool,
-    /// Whether it ended since no thread could be had for a node. Its client wasn't asked then, and no job was posted.
+    /// Whether it ended since no thread could be had for a node. Its client wasn't asked for anything then, and posted no job.
     pub lacks_threads: bool,
 }
 
@@ -39,7 +39,10 @@ impl Epoch {
         client: &mut C,
     ) -> Result<Served, Epoch>
         ensures served { IfOk result (λ served.
-            EpochIsServed C.Becomes self client.old served.epoch client.new served.is_whole) }
+            EpochIsServed C.Becomes self client.old served.epoch client.new
+            served.is_whole served.lacks_threads) }
+        ensures not_asked { IfOk result (λ served.
+            served.lacks_threads ≡ true → OnlyDriven self served.epoch) }
         ensures history { IfOk result (λ served. (o : OpeningValue) (past : List Episode)
             → RunsAfter o past self → RunsAfter o past served.epoch) }
         ensures returned { IfErr result (λ back. back ≡ self) }

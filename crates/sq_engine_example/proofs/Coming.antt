@@ -49,7 +49,7 @@ further old mid new first second = λ o past at.
 
 -- an engine that was served keeps its history
 pub served_keeps : {X : Type 0} {becomes : X → ClientCall → X → Type 0} {old : Standing} {before : X} {new : Standing} {after : X}
-    {is_whole : Bool} → EngineIsServed becomes old before new after is_whole → KeepsHistory old new
+    {is_whole lacks_threads : Bool} → EngineIsServed becomes old before new after is_whole lacks_threads → KeepsHistory old new
 served_keeps {old = old} {new = new} served =
     further old (Running served.epoch) new served.comes.0
     (further (Running served.epoch) (Running served.served_epoch) new served.history served.goes_on.0)

@@ -177,13 +177,13 @@ pub all_served : {X : Type 0} (becomes : X → ClientCall → X → Type 0) (fab
     (before between : X) (served : ServedParts) (after : X)
     → AreNewRings parts (tellers_of old) rings
     → AllDrivenTelling SendsOrBreaksOff fabric old new → AllPumpsDriven fabric pumps served.pumps.items
-    → Serves becomes jobs rings before new_jobs now between → GivesCome becomes now between last after
+    → Serves becomes jobs rings before new_jobs now between served.lacks_threads → GivesCome becomes now between last after
     → HasAllSent new last → served.is_whole ≡ are_whole new
     → served.nodes.items ≡ nodes_of new → served.jobs ≡ new_jobs
     → IsServedWith becomes fabric (nodes_of old) pumps jobs before served after
 all_served becomes fabric parts old new pumps jobs new_jobs rings now last before between served after are driven pumped serves come all_sent whole_is nodes posted =
-    let whole = serves_on becomes jobs rings before new_jobs now between new_jobs last after serves
-    (come_serves becomes new_jobs now between last after come) in
+    let whole = serves_on becomes jobs rings before new_jobs now between new_jobs last after served.lacks_threads serves
+    (come_serves becomes new_jobs now between last after served.lacks_threads come) in
     record {
       exchanges = whole.exchanges;
       client = whole.passes.client;
@@ -192,4 +192,5 @@ all_served becomes fabric parts old new pumps jobs new_jobs rings now last befor
       pumps_driven = pumped;
       given = subst (AllAreGiven served.is_whole whole.exchanges (nodes_of old)) (sym nodes)
           (all_given fabric parts old new rings are driven becomes whole.exchanges before last after whole.passes all_sent served.is_whole whole_is);
+      none_asked = whole.none_asked;
     }

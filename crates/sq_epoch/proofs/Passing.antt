@@ -1,5 +1,5 @@
 -- What passes between an epoch and its client, one exchange after another.
-use Rattle.std.proofs.Common.{◌≡◌, inl, inr, ℕ, zero, suc, ◌<◌, if◌then◌else◌, Bool, List, [], ◌∷◌, ◌++◌, length, get_or, set, slice_get, Option, Some, refl, sym, ap, ◌∙◌, subst, append_assoc, eq-eqb, arith, take, drop, get_or-set_same, get_or-set_other}
+use Rattle.std.proofs.Common.{◌≡◌, inl, inr, ℕ, zero, suc, ◌<◌, if◌then◌else◌, Bool, false, true≢false, List, [], ◌∷◌, ◌++◌, length, get_or, set, slice_get, Option, Some, refl, sym, ap, ◌∙◌, subst, append_assoc, eq-eqb, arith, take, drop, get_or-set_same, get_or-set_other}
 use Rattle.std.proofs.Math.Seq.{take-append_seam}
 use Rattle.std.specs.Option.{option_map_or}
 use Rattle.std.proofs.lemmas.Bool.{cases_eq, ne_eqb}
@@ -10,8 +10,9 @@ use Rattle.rtrb.specs.Ring.{received, SameConsumer}
 use Rattle.rtrb.specs.declared.consumer.Consumer.{Consumer}
 use Rattle.sq_node_model.specs.NodeValue.{ReceiptValue}
 use Rattle.sq_audit.specs.declared.job.Job.{Job}
+use Rattle.sq_epoch.specs.declared.client.Command.{Command}
 use Rattle.sq_epoch.specs.declared.client.Command.TheVariants.{Post, Rest, End}
-use Rattle.sq_epoch.specs.Exchanges.{ClientCall, Told, Asked, Exchange, Answers, Posts, Refuses, Rests, Ends, ExchangesEach, answer_at, given_from, posted_job, posted_in, IsOffered, DoesWish}
+use Rattle.sq_epoch.specs.Exchanges.{ClientCall, Told, Asked, Exchange, Answers, Posts, Refuses, Rests, Ends, ExchangesEach, answer_at, given_from, posted_job, posted_in, command_in, commands_in, IsOffered, DoesWish}
 use Rattle.sq_epoch.specs.Rings.{received_at, AreSameRings, Passes, GivesCome, Serves, GivesGrown}
 
 exchanges_on : {X : Type 0} (becomes : X → ClientCall → X → Type 0) (first mid last : X) (one more : List Exchange)
@@ -25,6 +26,22 @@ given_on part one more = flat_map-append (answer_at part) one more
 
 posted_on : (one more : List Exchange) → posted_in (one ++ more) ≡ posted_in one ++ posted_in more
 posted_on one more = flat_map-append posted_job one more
+
+asked_on : (one more : List Exchange) → commands_in (one ++ more) ≡ commands_in one ++ commands_in more
+asked_on one more = flat_map-append command_in one more
+
+-- where a client was asked for nothing before and behind it was asked for nothing
+none_asked_on : (one more : List Exchange) → commands_in one ≡ [] → commands_in more ≡ [] → commands_in (one ++ more) ≡ []
+none_asked_on one more first second = asked_on one more ∙ ap (λ (list : List Command). list ++ commands_in more) first ∙ second
+
+-- a client that was asked for nothing posted no job
+pub none_posted : (exchanges : List Exchange) → commands_in exchanges ≡ [] → posted_in exchanges ≡ []
+none_posted [] none = refl
+none_posted (Answers part receipt ∷ more) none = none_posted more none
+none_posted (Posts job ∷ more) none = cc
+none_posted (Refuses job fault ∷ more) none = cc
+none_posted (Rests ∷ more) none = cc
+none_posted (Ends ∷ more) none = cc
 
 -- an answer is its partition's, and no other's
 given_one : (part : ℕ) (receipt : ReceiptValue) → given_from part (Answers part receipt ∷ []) ≡ receipt ∷ []
@@ -41,7 +58,7 @@ module _ {X : Type 0} (becomes : X → ClientCall → X → Type 0) where
     client = refl;
     given = sym (append-nil was);
     no_other = λ other apart. refl;
-    none_posted = refl;
+    none_asked = refl;
   }
 
   -- one receipt more was given
@@ -60,8 +77,7 @@ module _ {X : Type 0} (becomes : X → ClientCall → X → Type 0) where
     no_other = λ other apart. given_on other grown.exchanges (Answers part receipt ∷ [])
         ∙ ap (λ (list : List ReceiptValue). list ++ given_from other (Answers part receipt ∷ [])) (grown.no_other other apart)
         ∙ given_none other part receipt apart;
-    none_posted = posted_on grown.exchanges (Answers part receipt ∷ [])
-        ∙ ap (λ (list : List Job). list ++ []) grown.none_posted;
+    none_asked = none_asked_on grown.exchanges (Answers part receipt ∷ []) grown.none_asked refl;
   }
 
   -- what a client wants is done
@@ -195,43 +211,51 @@ module _ {A P : Type 0} where
         record {
           exchanges = come.exchanges ++ grown.exchanges;
           passes = passes_on come.exchanges grown.exchanges first before mid between (set mid i ring) after come.passes one;
-          none_posted = posted_on come.exchanges grown.exchanges
-              ∙ ap (λ (list : List Job). list ++ posted_in grown.exchanges) come.none_posted ∙ grown.none_posted;
+          none_asked = none_asked_on come.exchanges grown.exchanges come.none_asked grown.none_asked;
         }
 
     pub come_none : (rings : List (Consumer ReceiptValue A P)) (client : X) → GivesCome becomes rings client rings client
-    come_none rings client = record { exchanges = []; passes = passes_none rings client; none_posted = refl }
+    come_none rings client = record { exchanges = []; passes = passes_none rings client; none_asked = refl }
 
-    pub serves_none : (jobs : List Job) (rings : List (Consumer ReceiptValue A P)) (client : X) → Serves becomes jobs rings client jobs rings client
-    serves_none jobs rings client = record { exchanges = []; passes = passes_none rings client; jobs = sym (append-nil jobs) }
+    pub serves_none : (jobs : List Job) (rings : List (Consumer ReceiptValue A P)) (client : X) (lacks_threads : Bool)
+        → Serves becomes jobs rings client jobs rings client lacks_threads
+    serves_none jobs rings client lacks_threads = record {
+      exchanges = [];
+      passes = passes_none rings client;
+      jobs = sym (append-nil jobs);
+      none_asked = λ lacks. refl;
+    }
 
     -- what is served further was served
     pub serves_on : (first_jobs : List Job) (first : List (Consumer ReceiptValue A P)) (before : X)
         (mid_jobs : List Job) (mid : List (Consumer ReceiptValue A P)) (between : X)
-        (last_jobs : List Job) (last : List (Consumer ReceiptValue A P)) (after : X)
-        → Serves becomes first_jobs first before mid_jobs mid between → Serves becomes mid_jobs mid between last_jobs last after
-        → Serves becomes first_jobs first before last_jobs last after
-    serves_on first_jobs first before mid_jobs mid between last_jobs last after was more = record {
+        (last_jobs : List Job) (last : List (Consumer ReceiptValue A P)) (after : X) (lacks_threads : Bool)
+        → Serves becomes first_jobs first before mid_jobs mid between lacks_threads
+        → Serves becomes mid_jobs mid between last_jobs last after lacks_threads
+        → Serves becomes first_jobs first before last_jobs last after lacks_threads
+    serves_on first_jobs first before mid_jobs mid between last_jobs last after lacks_threads was more = record {
       exchanges = was.exchanges ++ more.exchanges;
       passes = passes_on was.exchanges more.exchanges first before mid between last after was.passes more.passes;
       jobs = more.jobs ∙ ap (λ (list : List Job). list ++ posted_in more.exchanges) was.jobs
           ∙ append_assoc first_jobs (posted_in was.exchanges) (posted_in more.exchanges)
           ∙ ap (λ (list : List Job). first_jobs ++ list) (sym (posted_on was.exchanges more.exchanges));
+      none_asked = λ lacks. none_asked_on was.exchanges more.exchanges (was.none_asked lacks) (more.none_asked lacks);
     }
 
     -- what has come was given
     pub come_serves : (jobs : List Job) (old : List (Consumer ReceiptValue A P)) (before : X)
-        (new : List (Consumer ReceiptValue A P)) (after : X)
-        → GivesCome becomes old before new after → Serves becomes jobs old before jobs new after
-    come_serves jobs old before new after come = record {
+        (new : List (Consumer ReceiptValue A P)) (after : X) (lacks_threads : Bool)
+        → GivesCome becomes old before new after → Serves becomes jobs old before jobs new after lacks_threads
+    come_serves jobs old before new after lacks_threads come = record {
       exchanges = come.exchanges;
       passes = come.passes;
-      jobs = sym (ap (λ (list : List Job). jobs ++ list) come.none_posted ∙ append-nil jobs);
+      jobs = sym (ap (λ (list : List Job). jobs ++ list) (none_posted come.exchanges come.none_asked) ∙ append-nil jobs);
+      none_asked = λ lacks. come.none_asked;
     }
 
     -- a wish was done
     pub wish_serves : (old_jobs : List Job) (rings : List (Consumer ReceiptValue A P)) (before : X) (new_jobs : List Job) (after : X)
-        → DoesWish becomes old_jobs before new_jobs after → Serves becomes old_jobs rings before new_jobs rings after
+        → DoesWish becomes old_jobs before new_jobs after → Serves becomes old_jobs rings before new_jobs rings after false
     wish_serves old_jobs rings before new_jobs after wish = record {
       exchanges = wish.exchanges;
       passes = record {
@@ -240,6 +264,7 @@ module _ {A P : Type 0} where
         given = λ part. sym (ap (λ (list : List ReceiptValue). received_at rings part ++ list) (wish.none_given part) ∙ append-nil (received_at rings part));
       };
       jobs = wish.jobs;
+      none_asked = λ lacks. absurd (true≢false (sym lacks));
     }
 
 -- what a vector has once all its elements were written through a slice of it
@@ -250,9 +275,9 @@ written old new len whole = ap (λ n. take n (new ++ drop (length new) old)) who
 pub come_lent : {A P X : Type 0} (becomes : X → ClientCall → X → Type 0) (jobs : List Job)
     (old lent : List (Consumer ReceiptValue A P)) (before : X) (new : List (Consumer ReceiptValue A P)) (after : X) (len : ℕ)
     → lent ≡ old → length lent ≡ len → GivesCome becomes lent before new after
-    → Serves becomes jobs old before jobs (take len (new ++ drop (length new) old)) after
+    → Serves becomes jobs old before jobs (take len (new ++ drop (length new) old)) after false
 come_lent {A} {P} becomes jobs old lent before new after len same whole come =
     let all = written old new len (omega (arith, whole, come.passes.rings.count)) in
-    come_serves becomes jobs old before (take len (new ++ drop (length new) old)) after
+    come_serves becomes jobs old before (take len (new ++ drop (length new) old)) after false
     (subst (λ (p : List (Consumer ReceiptValue A P) × List (Consumer ReceiptValue A P)). GivesCome becomes p.0 before p.1 after)
     (λ i. (same i, sym all i)) come)

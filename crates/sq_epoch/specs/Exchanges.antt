@@ -58,6 +58,17 @@ posted_job Ends = []
 abbrev pub posted_in : List Exchange → List Job
 posted_in exchanges = flat_map posted_job exchanges
 
+abbrev pub command_in : Exchange → List Command
+command_in (Answers part receipt) = []
+command_in (Posts job) = Post job ∷ []
+command_in (Refuses job fault) = Post job ∷ []
+command_in Rests = Rest ∷ []
+command_in Ends = End ∷ []
+
+-- the commands for which a client was asked, in their order
+abbrev pub commands_in : List Exchange → List Command
+commands_in exchanges = flat_map command_in exchanges
+
 -- a job was posted, or went back to its client
 abbrev pub IsOffered : {X : Type 0} → (X → ClientCall → X → Type 0) → Job → List Job → X → List Job → X → Type 0
 IsOffered becomes job old_jobs before new_jobs after =

@@ -1,10 +1,10 @@
 -- The rings of an epoch that is served, one for each partition, by their ends.
-use Rattle.std.specs.Prelude.{◌≡◌, ℕ, ◌<◌, List, [], ◌++◌, length, slice_get, slice_index_or}
+use Rattle.std.specs.Prelude.{◌≡◌, ℕ, ◌<◌, Bool, true, List, [], ◌++◌, length, slice_get, slice_index_or}
 use Rattle.std.specs.Option.{option_map_or}
 use Rattle.rtrb.specs.Ring.{received, SameConsumer}
 use Rattle.rtrb.specs.declared.consumer.Consumer.{Consumer}
 use Rattle.sq_node_model.specs.NodeValue.{ReceiptValue}
-use Rattle.sq_epoch.specs.Exchanges.{ClientCall, Exchange, ExchangesEach, given_from, posted_in}
+use Rattle.sq_epoch.specs.Exchanges.{ClientCall, Exchange, ExchangesEach, given_from, posted_in, commands_in}
 use Rattle.sq_audit.specs.declared.job.Job.{Job}
 
 module _ {A P : Type 0} where
@@ -32,15 +32,17 @@ module _ {A P : Type 0} where
       (new : List (Consumer ReceiptValue A P)) (after : X) : Type 0 where
     pub exchanges : List Exchange
     pub passes : Passes becomes exchanges old before new after
-    pub none_posted : posted_in exchanges ≡ []
+    pub none_asked : commands_in exchanges ≡ []
 
-  -- a client was served: it was given what came over the rings, and these jobs grew by those that it posted
+  -- a client was served: it was given what came over the rings, and these jobs grew by those that it posted. Where a node has no
+  -- thread it was asked for nothing
   pub record Serves {X : Type 0} (becomes : X → ClientCall → X → Type 0)
       (old_jobs : List Job) (old : List (Consumer ReceiptValue A P)) (before : X)
-      (new_jobs : List Job) (new : List (Consumer ReceiptValue A P)) (after : X) : Type 0 where
+      (new_jobs : List Job) (new : List (Consumer ReceiptValue A P)) (after : X) (lacks_threads : Bool) : Type 0 where
     pub exchanges : List Exchange
     pub passes : Passes becomes exchanges old before new after
     pub jobs : new_jobs ≡ old_jobs ++ posted_in exchanges
+    pub none_asked : lacks_threads ≡ true → commands_in exchanges ≡ []
 
 -- a client was given the receipts by which what was received of a partition grew, each once, in their order
 pub record GivesGrown {X : Type 0} (becomes : X → ClientCall → X → Type 0) (part : ℕ)
@@ -49,4 +51,4 @@ pub record GivesGrown {X : Type 0} (becomes : X → ClientCall → X → Type 0)
   pub client : ExchangesEach becomes before exchanges after
   pub given : now ≡ was ++ given_from part exchanges
   pub no_other : (other : ℕ) → (other ≡ part → ⊥) → given_from other exchanges ≡ []
-  pub none_posted : posted_in exchanges ≡ []
+  pub none_asked : commands_in exchanges ≡ []

@@ -9,7 +9,7 @@ use Rattle.sq_node.specs.FabricValue.{FabricValue}
 use Rattle.sq_audit.specs.declared.job.Job.{Job}
 use Rattle.sq_epoch.specs.declared.serving.ReadyToServe.{ReadyToServe}
 use Rattle.sq_epoch.specs.declared.serving.ServedParts.{ServedParts}
-use Rattle.sq_epoch.specs.Exchanges.{ClientCall, Exchange, ExchangesEach, given_from, posted_in}
+use Rattle.sq_epoch.specs.Exchanges.{ClientCall, Exchange, ExchangesEach, given_from, posted_in, commands_in}
 use Rattle.sq_epoch.specs.Telling.{tellers_of, AreNewRings}
 
 -- nodes with tellers that send over rings, over which nothing went so far, and room for the nodes
@@ -38,7 +38,7 @@ pub record AllAreGiven (is_whole : Bool) (exchanges : List Exchange) (old new : 
   pub not_whole : is_whole ≡ false → (part : ℕ) × (part < length old)
       × ((d : NodeState) → LacksAnswer (given_from part exchanges) (slice_index_or old part d) (slice_index_or new part d))
 
--- the workers of an epoch were driven, and its client was served
+-- the workers of an epoch were driven, and its client was served, or asked for nothing where a node has no thread
 pub record IsServedWith {X : Type 0} (becomes : X → ClientCall → X → Type 0) (fabric : FabricValue)
     (nodes : List NodeState) (pumps : List PumpValue) (jobs : List Job) (before : X)
     (new : ServedParts) (after : X) : Type 0 where
@@ -48,3 +48,4 @@ pub record IsServedWith {X : Type 0} (becomes : X → ClientCall → X → Type 
   pub nodes_driven : AllDriven fabric nodes new.nodes.items
   pub pumps_driven : AllPumpsDriven fabric pumps new.pumps.items
   pub given : AllAreGiven new.is_whole exchanges nodes new.nodes.items
+  pub none_asked : new.lacks_threads ≡ true → commands_in exchanges ≡ []

@@ -51,7 +51,7 @@ pub(crate) fn run_and_serve<C: Client, R: Threads + Wait + Sync>(
     requires rings { length front.old.rings.items ≡ fabric.now.parts }
     ensures crew { IsDriven fabric.now crew.old crew.new }
     ensures front { Serves C.Becomes front.old.jobs front.old.rings.items client.old
-        front.new.jobs front.new.rings.items client.new }
+        front.new.jobs front.new.rings.items client.new front.new.lacks_threads }
 {
     join_mut(
         rt,
@@ -62,7 +62,8 @@ pub(crate) fn run_and_serve<C: Client, R: Threads + Wait + Sync>(
         &mut ||
             requires { length front.now.rings.items ≡ fabric.now.parts }
             ensures { Serves C.Becomes front.entry.now.jobs front.entry.now.rings.items
-                client.entry.now front.exit.now.jobs front.exit.now.rings.items client.exit.now }
+                client.entry.now front.exit.now.jobs front.exit.now.rings.items client.exit.now
+                front.exit.now.lacks_threads }
         { front.serve(rt, fabric, gate, client) },
     );
 }

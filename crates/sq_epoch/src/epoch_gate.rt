@@ -1,4 +1,5 @@
 // When an epoch that is served ends.
+use crate::attendance::Attendance;
 use crate::stage_progress::StageProgress;
 use sq_driver::{Gate, NodeStep, WorkerEvent, WorkerId};
 use std::sync::atomic::{AtomicBool, AtomicU64, Ordering};
@@ -9,10 +10,7 @@ use std::sync::atomic::{AtomicBool, AtomicU64, Ordering};
 pub(crate) struct EpochGate {
     is_over: AtomicBool,
     have_ended: AtomicBool,
-    lacks_threads: AtomicBool,
-    parts: u8,
-    // A bit for each partition whose node has come.
-    come: AtomicU64,
+    nodes: Attendance,
     segments: u64,
     complete: AtomicU64,
     answers: AtomicU64,
@@ -25,9 +23,7 @@ impl EpochGate {
         EpochGate {
             is_over: AtomicBool::new(progress.is_done()),
             have_ended: AtomicBool::new(false),
-            lacks_threads: AtomicBool::new(false),
-            parts,
-            come: AtomicU64::new(0),
+            nodes: Attendance::new(parts),
             segments: progress.segments,
             complete: AtomicU64::new(progress.complete),
             answers: AtomicU64::new(0),
@@ -44,17 +40,6 @@ impl EpochGate {
         self.is_over.load(Ordering::SeqCst)
     }
 
-    /// Ends the epoch since a node has no thread.
-    pub(crate) fn end_without_threads(&self) {
-        self.lacks_threads.store(true, Ordering::SeqCst);
-        self.end();
-    }
-
-    /// Whether it was ended since a node has no thread.
-    pub(crate) fn lacks_threads(&self) -> bool {
-        self.lacks_threads.load(Ordering::SeqCst)
-    }
-
     /// Tells that the workers have ended.
     pub(crate) fn workers_end(&self) {
         self.have_ended.store(true, Ordering::SeqCst);
@@ -62,15 +47,7 @@ impl EpochGate {
 
     /// Whether each node has asked whether it may pass, so that each of them has a thread.
     pub(crate) fn have_all_come(&self) -> bool {
-        self.come.load(Ordering::SeqCst).count_ones() >= u32::from(self.parts)
-    }
-
-    // Takes note of a node that has come. There are no more than 64 of them.
-    fn note_come(&self, part: u8) {
-        let bit = 1u64 << (part % 64);
-        if self.come.load(Ordering::SeqCst) & bit == 0 {
-            self.come.fetch_add(bit, Ordering::SeqCst);
-        }
+        self.nodes.are_all_here()
     }
 
     /// Whether the workers have ended.
@@ -94,9 +71,7 @@ impl EpochGate {
 
 impl Gate for EpochGate {
     fn pass(&self, who: WorkerId, _step: NodeStep) -> bool {
-        if let WorkerId::Node(part) = who {
-            self.note_come(part);
-        }
+        self.nodes.note(who);
         !self.is_over()
     }
 

@@ -1,8 +1,9 @@
 // Where an epoch and its client meet.
-ghost use Rattle.std.specs.Prelude.{◌≡◌, length};
+ghost use Rattle.std.specs.Prelude.{◌≡◌, false, length};
 ghost use Rattle.sq_epoch.specs.Rings.{Serves};
 ghost use Rattle.sq_epoch.specs.Exchanges.{IsOffered, DoesWish};
 
+use crate::attendance::{TURNS_ALONE, rest, wait_for_nodes};
 use crate::client::{Client, Command};
 use crate::epoch_gate::EpochGate;
 use crate::posted::PostedJobs;
@@ -12,21 +13,9 @@ use rtrb::Consumer;
 use sq_audit::Job;
 use sq_node::{Fabric, Receipt};
 use std::sync::Wait;
-use std::sync::atomic::AtomicU64;
-use std::thread;
-use std::time::Duration;
-
-// How often others go first, in turns in a row without work, before a turn is followed by a sleep.
-const TURNS_AWAKE: u64 = 256;
 
 // How many microseconds it sleeps after a turn without work.
 const SLEEP: u64 = 50;
-
-// How many turns it waits for the nodes to come, and how many microseconds it sleeps after one in which they haven't. After these
-// 5 seconds, or some more, it is taken for granted that a node has no thread.
-const TURNS_ALONE: u64 = 25_000;
-
-const SLEEP_ALONE: u64 = 200;
 
 /// Where an epoch and its client meet: the jobs that were posted and not folded, and for each partition the end of the ring
 /// over which its answers come.
@@ -35,6 +24,8 @@ pub(crate) struct Front {
     pub(crate) jobs: PostedJobs,
     pub(crate) rings: Vec<Consumer<Receipt>>,
     pub(crate) given: u64,
+    /// Whether a node has no thread.
+    pub(crate) lacks_threads: bool,
 }
 
 impl Front {
@@ -46,11 +37,12 @@ impl Front {
             jobs,
             rings,
             given: 0,
+            lacks_threads: false,
         }
     }
 
-    /// Serves a client until the workers have ended: gives it each answer that comes, and does what it wants. Where a node
-    /// doesn't come, for want of a thread, the epoch is over, and the client isn't asked.
+    /// Serves a client until the workers have ended, once each node has come. Where one doesn't come, for want of a thread, the
+    /// epoch is over: who comes then makes no step, and the client isn't asked.
     pub(crate) fn serve<C: Client, R: Wait>(
         &mut self,
         rt: &R,
@@ -60,11 +52,29 @@ impl Front {
     )
         requires { length self.old.rings.items ≡ fabric.now.parts }
         ensures { Serves C.Becomes self.old.jobs self.old.rings.items client.old
-            self.new.jobs self.new.rings.items client.new }
+            self.new.jobs self.new.rings.items client.new self.new.lacks_threads }
     {
         if !nodes_come(rt, gate) {
+            gate.end();
+            self.lacks_threads = true;
             return;
         }
+        self.take_turns(rt, fabric, gate, client);
+        self.lacks_threads = false;
+    }
+
+    // Gives a client each answer that comes, and does what it wants, until the workers have ended.
+    fn take_turns<C: Client, R: Wait>(
+        &mut self,
+        rt: &R,
+        fabric: &Fabric,
+        gate: &EpochGate,
+        client: &mut C,
+    )
+        requires { length self.old.rings.items ≡ fabric.now.parts }
+        ensures { Serves C.Becomes self.old.jobs self.old.rings.items client.old
+            self.new.jobs self.new.rings.items client.new false }
+    {
         let mut rested = 0u64;
         for _ in rt.forever() {
             if gate.have_ended() {
@@ -92,7 +102,7 @@ impl Front {
     ) -> bool
         requires { length self.old.rings.items ≡ fabric.now.parts }
         ensures { Serves C.Becomes self.old.jobs self.old.rings.items client.old
-            self.new.jobs self.new.rings.items client.new }
+            self.new.jobs self.new.rings.items client.new false }
     {
         let told = gate.answers();
         let came = give_come(fabric.parts(), &mut self.rings, client);
@@ -145,24 +155,13 @@ fn offer<C: Client, R: Wait>(
     }
 }
 
-// Waits until each node has come, or the workers have ended. Where one doesn't come the epoch is over: who comes then makes no
-// step. Whether they have come.
+// Waits until each node has come, or the workers have ended. Whether that is so within some seconds.
 fn nodes_come<R: Wait>(rt: &R, gate: &EpochGate) -> bool {
     for turn in 0..TURNS_ALONE {
         if gate.have_all_come() || gate.have_ended() {
             return true;
         }
-        rest(rt, turn, SLEEP_ALONE);
+        wait_for_nodes(rt, turn);
     }
-    gate.end_without_threads();
     false
-}
-
-// Lets other threads go first, and sleeps so many microseconds after so many turns without work in a row.
-fn rest<R: Wait>(rt: &R, turns: u64, sleep: u64) {
-    if turns <= TURNS_AWAKE {
-        thread::yield_now();
-    } else {
-        AtomicU64::new(0).park_timeout(rt, 0, Duration::from_micros(sleep));
-    }
 }

@@ -1,25 +1,31 @@
 // The gate of an epoch.
+use crate::attendance::{Attendance, TURNS_ALONE, wait_for_nodes};
 use crate::stage_progress::StageProgress;
 use sq_driver::{Gate, NodeStep, WorkerEvent, WorkerId};
 use std::sync::Wait;
-use std::sync::atomic::{AtomicU64, Ordering};
+use std::sync::atomic::{AtomicBool, AtomicU64, Ordering};
 
 /// A gate before another gate, which counts the segments of a stage that are complete. Once all are, it ends workers that
-/// don't end where they are idle, so that the next stage can begin.
+/// don't end where they are idle, so that the next stage can begin. And it ends all workers where one rests for some seconds
+/// while a node hasn't come, for want of a thread.
 #[derive(Drop)]
 pub struct CountingGate<'a, G> {
     gate: &'a G,
     segments: u64,
     complete: AtomicU64,
+    nodes: Attendance,
+    lacks_threads: AtomicBool,
 }
 
 impl<'a, G: Gate> CountingGate<'a, G> {
-    /// Before this gate, in a stage that is so far.
-    pub fn new(gate: &'a G, progress: StageProgress) -> CountingGate<'a, G> {
+    /// Before this gate, with so many partitions, in a stage that is so far.
+    pub fn new(gate: &'a G, parts: u8, progress: StageProgress) -> CountingGate<'a, G> {
         CountingGate {
             gate,
             segments: progress.segments,
             complete: AtomicU64::new(progress.complete),
+            nodes: Attendance::new(parts),
+            lacks_threads: AtomicBool::new(false),
         }
     }
 
@@ -30,11 +36,18 @@ impl<'a, G: Gate> CountingGate<'a, G> {
             complete: self.complete.load(Ordering::SeqCst),
         }
     }
+
+    // Whether no worker goes on: a node has no thread, or the stage is done and workers that are idle don't end.
+    fn is_over(&self) -> bool {
+        self.lacks_threads.load(Ordering::SeqCst)
+            || (self.progress().is_done() && !self.gate.ends_idle())
+    }
 }
 
 impl<G: Gate> Gate for CountingGate<'_, G> {
     fn pass(&self, who: WorkerId, step: NodeStep) -> bool {
-        if self.progress().is_done() && !self.gate.ends_idle() {
+        self.nodes.note(who);
+        if self.is_over() {
             return false;
         }
         self.gate.pass(who, step)
@@ -49,6 +62,14 @@ impl<G: Gate> Gate for CountingGate<'_, G> {
 
     fn rests<R: Wait>(&self, rt: &R, who: WorkerId, turns: u64) {
         self.gate.rests(rt, who, turns);
+        if self.nodes.are_all_here() {
+            return;
+        }
+        if turns < TURNS_ALONE {
+            wait_for_nodes(rt, turns);
+        } else {
+            self.lacks_threads.store(true, Ordering::SeqCst);
+        }
     }
 
     fn ends_idle(&self) -> bool {

@@ -3,6 +3,7 @@
 #![tactic(auto)]
 
 mod answered;
+mod attendance;
 mod client;
 mod crew;
 mod epoch_gate;

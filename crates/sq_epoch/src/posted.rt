@@ -1,5 +1,6 @@
 // The jobs that were posted.
-ghost use Rattle.std.specs.Prelude.{◌≡◌, ◌-◌, [], ◌∷◌, ◌++◌, length, take, filter, not, OnOk, OnErr, IsErrOf, IsTrue};
+ghost use Rattle.std.specs.Prelude.{◌≡◌, ◌-◌, [], ◌∷◌, ◌++◌, length, take, filter, not, OnOk};
+ghost use Rattle.std.specs.Prelude.{OnErr, IsErrOf, IsTrue};
 ghost use Rattle.sq_audit.specs.Answers.{IdsDiffer};
 ghost use Rattle.sq_audit.specs.Counts.{is_counted};
 ghost use Rattle.sq_epoch.specs.Posted.{is_id_in, HaveJustIds};

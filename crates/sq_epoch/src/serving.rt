@@ -105,6 +105,7 @@ pub fn serve_with<C: Client, R: Threads + Wait + Sync>(
     let Front {
         jobs,
         mut rings,
+        lacks_threads,
         given: _,
     } = front;
     let is_whole = are_whole(&pairs);
@@ -115,6 +116,6 @@ pub fn serve_with<C: Client, R: Threads + Wait + Sync>(
         pumps,
         progress: gate.progress(),
         is_whole,
-        lacks_threads: gate.lacks_threads(),
+        lacks_threads,
     }
 }

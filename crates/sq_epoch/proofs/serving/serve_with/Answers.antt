@@ -30,7 +30,7 @@ returns g c =
     let run = c.run_and_serve in
     let crew = run.new.crew in
     let front = run.new.front in
-    let serves = subst (λ (p : List Job × List Ring). Serves becomes p.0 p.1 c.args.client.now front.jobs front.rings.items run.new.client)
+    let serves = subst (λ (p : List Job × List Ring). Serves becomes p.0 p.1 c.args.client.now front.jobs front.rings.items run.new.client front.lacks_threads)
     (λ k. (c.new-front.ensures.0 k, (c.new-front.ensures.1 k).items)) run.ensures.front in
     let come = subst (λ (list : List Ring). GivesCome becomes list run.new.client c.give_rest.new.rings c.give_rest.new.client)
     c.deref_mut-2.ensures.value c.give_rest.ensures.given in

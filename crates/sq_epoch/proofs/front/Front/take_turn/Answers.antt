@@ -1,3 +1,4 @@
+use Rattle.std.proofs.Common.{false}
 use Rattle.sq_epoch.proofs.Passing.{come_lent, wish_serves, serves_on}
 use Rattle.sq_epoch.proofs.front.Front.take_turn.Goals as goal
 
@@ -9,7 +10,7 @@ returns g c =
     c.give_come-came.new.rings c.give_come-came.new.client self.rings.len
     c.deref_mut.ensures.value c.deref_mut.ensures.len c.give_come-came.ensures in
     serves_on becomes self.jobs self.rings.items c.args.client.now self.jobs _ c.give_come-came.new.client
-    c.ask.new.jobs _ c.ask.new.client come
+    c.ask.new.jobs _ c.ask.new.client false come
     (wish_serves becomes self.jobs _ c.give_come-came.new.client c.ask.new.jobs c.ask.new.client c.ask.ensures)
 
 pub returns-then-is_over : goal.returns-then-is_over
