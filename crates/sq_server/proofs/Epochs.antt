@@ -20,16 +20,16 @@ use Rattle.sq_server.specs.Written.{SaidLine, OfReceipt, Other, said_line, recei
 use Rattle.sq_server.proofs.Desks.{through, hears_then}
 
 -- other lines, among all
-others_said : (others : List OtherLine) → flat_map said_line (map Other others) ≡ flat_map other_line others
+pub others_said : (others : List OtherLine) → flat_map said_line (map Other others) ≡ flat_map other_line others
 others_said [] = refl
 others_said (line ∷ others) = ap (λ (l : List ℕ). other_line line ++ l) (others_said others)
 
-others_tell_none : (part : ℕ) (others : List OtherLine) → told_from part (map Other others) ≡ []
+pub others_tell_none : (part : ℕ) (others : List OtherLine) → told_from part (map Other others) ≡ []
 others_tell_none part [] = refl
 others_tell_none part (line ∷ others) = others_tell_none part others
 
 -- nothing
-none_written : (a : ServeDeskValue) → WritesEach [] a a
+pub none_written : (a : ServeDeskValue) → WritesEach [] a a
 none_written a =
     record {
       goes_on = λ still. still;
@@ -43,7 +43,7 @@ none_written a =
     }
 
 -- one after another
-writes_then : (first more : List Exchange) (a b c : ServeDeskValue) → WritesEach first a b → WritesEach more b c → WritesEach (first ++ more) a c
+pub writes_then : (first more : List Exchange) (a b c : ServeDeskValue) → WritesEach first a b → WritesEach more b c → WritesEach (first ++ more) a c
 writes_then first more a b c one two =
     record {
       goes_on = λ still. one.goes_on (two.goes_on still);
@@ -73,7 +73,7 @@ writes_then first more a b c one two =
     }
 
 -- an exchange by which no answer was given
-hears_once : (exchange : Exchange) (offered : List Job) (a b : ServeDeskValue) → settled_in (exchange ∷ []) ≡ offered
+pub hears_once : (exchange : Exchange) (offered : List Job) (a b : ServeDeskValue) → settled_in (exchange ∷ []) ≡ offered
     → ((part : ℕ) → given_from part (exchange ∷ []) ≡ []) → Hears [] a offered b → WritesEach (exchange ∷ []) a b
 hears_once exchange offered a b settles none hears =
     let is = hears.handles in

@@ -11,3 +11,11 @@ serve_status (Unsound defect) = 4
 serve_status (NoHeader fault) = 2
 serve_status Memory = 2
 serve_status Unwritten = 2
+
+-- nothing more could be done: there was no memory, or nothing could be written
+abbrev pub EndsStopped : ServeEnding → Type 0
+EndsStopped Memory = Unit {0}
+EndsStopped Unwritten = Unit {0}
+EndsStopped (Sound families committed is_whole) = ⊥
+EndsStopped (Unsound defect) = ⊥
+EndsStopped (NoHeader fault) = ⊥

@@ -1,8 +1,9 @@
 // Between the lines that come and the epochs of an engine.
-ghost use Rattle.std.specs.Prelude.{◌≡◌, ◌||◌, [], ◌∷◌, ◌<◌, length, Ok, MatchOption};
+ghost use Rattle.std.specs.Prelude.{◌≡◌, ◌||◌, false, [], ◌∷◌, ◌<◌, length, Ok, IfSome, MatchOption};
 ghost use Rattle.rtrb.specs.Ring.{received};
 ghost use Rattle.sq_serve.specs.declared.serve_line.ServeLine.TheVariants as asks;
 ghost use Rattle.sq_server.specs.declared.feed.Fed.TheVariants as fed;
+ghost use Rattle.sq_server.specs.Ending.{EndsStopped};
 ghost use Rattle.sq_server.specs.Becoming.{desk_value, Handles, Hears, Speaks, WritesReceipt, job_list, offered_by, comes_back};
 
 use crate::ending::ServeEnding;
@@ -115,6 +116,9 @@ impl<W: Write + Drop> ServeDesk<W> {
         fold_after: u64,
     ) -> ServeDesk<W>
         ensures outlet { result.outlet ≡ outlet }
+        ensures has_memory { result.lacks_memory ≡ false }
+        ensures heard { received result.feed ≡ received feed }
+        ensures sides { result.sides ≡ sides }
     {
         ServeDesk {
             feed,
@@ -141,7 +145,9 @@ impl<W: Write + Drop> ServeDesk<W> {
     }
 
     /// How it ends where nothing more can be done.
-    pub fn stop_ending(&self) -> Option<ServeEnding> {
+    pub fn stop_ending(&self) -> Option<ServeEnding>
+        ensures { IfSome result EndsStopped }
+    {
         if self.outlet.has_failed {
             Some(ServeEnding::Unwritten)
         } else if self.lacks_memory {

@@ -1,5 +1,5 @@
 // An epoch that is served, with a desk.
-ghost use Rattle.std.specs.Prelude.{IfOk, IfErr};
+ghost use Rattle.std.specs.Prelude.{◌≡◌, IfOk, IfErr, OnErr};
 ghost use Rattle.sq_engine.specs.Engine.{KeepsHistoryAndJobs};
 ghost use Rattle.sq_server.specs.Becoming.{desk_value};
 ghost use Rattle.sq_server.specs.Written.{EpochIsWritten};
@@ -22,6 +22,7 @@ pub fn serve_epoch<T: Threads + Wait + Sync, W: Write + Drop>(
         EpochIsWritten engine (desk_value W.contents control.old.desk)
         served.engine (desk_value W.contents control.new.desk) served.is_whole) }
     ensures not_served { IfErr result (KeepsHistoryAndJobs engine) }
+    ensures not_called { OnErr result (control.new ≡ control.old) }
 {
     engine.serve(rt, alloc, u64::MAX, control)
 }
