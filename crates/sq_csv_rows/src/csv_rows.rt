@@ -1,0 +1,114 @@
+// The records of a table of values, as lines of rows.
+ghost use Rattle.std.specs.Prelude.{None};
+
+use crate::columns::{is_header, record_line};
+use crate::line_by_line::LineByLine;
+use crate::record_lines::RecordLines;
+use csv::{ByteRecord, ErrorKind, Reader, ReaderBuilder};
+use std::alloc::Global;
+use std::io;
+use std::io::{ErrorKind as IoErrorKind, Read};
+
+/// The rows that a table of comma-separated values says, as the lines of a file of rows: each record is a line, but for a first
+/// one that names the columns.
+#[derive(Drop)]
+pub struct CsvRows<'a, R: Read> {
+    alloc: Global,
+    table: Reader<LineByLine<R>>,
+    record: ByteRecord,
+    is_begun: bool,
+    // Whether no record comes any more.
+    is_over: bool,
+    // The line of the last record, and how many of its bytes were given.
+    line: Vec<u8>,
+    given: usize,
+    // Who wants to know where the records stand.
+    lines: &'a RecordLines,
+}
+
+impl<'a, R: Read + Drop> CsvRows<'a, R> {
+    /// The rows of the table that a reader gives. The lines on which its records begin are noted. The only error is that memory
+    /// ran out.
+    pub fn new(alloc: Global, inner: R, lines: &'a RecordLines) -> io::Result<CsvRows<'a, R>> {
+        let inner = LineByLine::new(alloc, inner)?;
+        let table = ReaderBuilder::new()
+            .has_headers(false)
+            .flexible(true)
+            .from_reader(alloc, inner);
+        Ok(CsvRows {
+            alloc,
+            table,
+            record: ByteRecord::new(alloc),
+            is_begun: false,
+            is_over: false,
+            line: Vec::new(alloc),
+            given: 0,
+            lines,
+        })
+    }
+}
+
+impl<R: Read> CsvRows<'_, R> {
+    // Reads the next record, and gives whether there is one.
+    fn read_record(&mut self) -> io::Result<bool> {
+        match self.table.read_byte_record(&mut self.record) {
+            Ok(found) => Ok(found),
+            Err(error) => Err(match error.into_kind() {
+                ErrorKind::Io(error) => error,
+                _ => io::Error::from(IoErrorKind::OutOfMemory),
+            }),
+        }
+    }
+
+    // The same, past a header.
+    fn read_row(&mut self) -> io::Result<bool> {
+        let found = self.read_record()?;
+        let is_first = !self.is_begun;
+        self.is_begun = true;
+        if found && is_first && is_header(&self.record) {
+            return self.read_record();
+        }
+        Ok(found)
+    }
+
+    // Makes a line of the next record. Behind the last one, and behind one that can't be read, there is none.
+    fn read_line(&mut self) -> io::Result<()> {
+        if self.is_over {
+            return Ok(());
+        }
+        self.is_over = true;
+        if self.read_row()? {
+            let last = self.table.get_ref().lines();
+            self.lines
+                .note(last.saturating_sub(line_ends(&self.record)))?;
+            self.line = record_line(self.alloc, &self.record)?;
+            self.given = 0;
+            self.is_over = false;
+        }
+        Ok(())
+    }
+}
+
+// How many line ends stand within a record.
+fn line_ends(record: &ByteRecord) -> u64 {
+    record
+        .as_slice()
+        .iter()
+        .filter(|byte| **byte == b'\n')
+        .count() as u64
+}
+
+impl<R: Read> Read for CsvRows<'_, R> {
+    ghost remaining = { λ _. None };
+
+    fn read(&mut self, buf: &mut [u8]) -> io::Result<usize> {
+        if self.given >= self.line.len() && !buf.is_empty() {
+            self.read_line()?;
+        }
+        let rest = self.line.get(self.given..).unwrap_or(&[]);
+        let count = rest.len().min(buf.len());
+        buf[..count].copy_from_slice(&rest[..count]);
+        self.given = self.given.saturating_add(count);
+        Ok(count)
+    }
+}

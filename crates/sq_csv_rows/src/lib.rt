@@ -1,0 +1,13 @@
+//! Rows from a table of comma-separated values, as the lines of a file of rows.
+#![tactic(auto)]
+
+mod columns;
+mod csv_rows;
+mod line_by_line;
+mod record_lines;
+mod told_column;
+
+pub use columns::NOTE_COLUMN;
+pub use csv_rows::CsvRows;
+pub use record_lines::RecordLines;
+pub use told_column::ToldColumn;

@@ -1,0 +1,69 @@
+// Where the records of a table stand.
+use std::alloc::{AllocError, Global};
+use std::cell::RefCell;
+
+/// The lines of a table on which its records begin, as they are read: what a reader notes, and one who has a record's number asks
+/// for.
+#[derive(Drop)]
+pub struct RecordLines {
+    lines: RefCell<LineList>,
+}
+
+/// From the record of this number on, each stands on the line behind that of the one before it, the first of them on this line.
+#[derive(Clone, Copy, Debug, PartialEq, Eq)]
+struct Jump {
+    record: u64,
+    line: u64,
+}
+
+/// The lines of records, in rising order.
+#[derive(Drop)]
+struct LineList {
+    jumps: Vec<Jump>,
+    // How many records were noted.
+    count: u64,
+}
+
+impl RecordLines {
+    /// No records.
+    pub fn new(alloc: Global) -> RecordLines {
+        RecordLines {
+            lines: RefCell::new(LineList {
+                jumps: Vec::new(alloc),
+                count: 0,
+            }),
+        }
+    }
+
+    /// Notes that one more record begins on this line.
+    pub(crate) fn note(&self, line: u64) -> Result<(), AllocError> {
+        match self.lines.try_borrow_mut() {
+            Ok(mut lines) => lines.add(line),
+            Err(_) => Ok(()),
+        }
+    }
+
+    /// The line of the record of this number, from 1.
+    pub fn line_of(&self, record: u64) -> Option<u64> {
+        let lines = self.lines.try_borrow().ok()?;
+        lines.line_of(record)
+    }
+}
+
+impl LineList {
+    // Adds the line of one more record.
+    fn add(&mut self, line: u64) -> Result<(), AllocError> {
+        let record = self.count.saturating_add(1);
+        if self.line_of(record) != Some(line) {
+            self.jumps.push(Jump { record, line })?;
+        }
+        self.count = record;
+        Ok(())
+    }
+
+    // The line of the record of this number, if each behind the last jump stands on the line behind that of the one before it.
+    fn line_of(&self, record: u64) -> Option<u64> {
+        let jump = self.jumps.iter().rev().find(|jump| jump.record <= record)?;
+        Some(jump.line.saturating_add(record - jump.record))
+    }
+}

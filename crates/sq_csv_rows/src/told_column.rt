@@ -1,0 +1,106 @@
+// What doesn't fit in a record, as it is said of its columns.
+use sq_diagnosis::{LineFlaw, ToldFlaw, ToldWord, Wanted};
+use sq_text::Words;
+use std::fmt;
+use std::fmt::{Display, Formatter, Write};
+
+// What the note is to be.
+const NOTE_IS: &str = "a note, a text or 'hex:' and two digits from 0-9 and a-f for each byte";
+
+// As many bytes of a word are shown.
+const SHOWN: usize = 40;
+
+/// What doesn't fit in the line of a row, as it is said of the column of the record that the line comes from. Columns are counted
+/// from 1.
+#[derive(Clone, Copy, Debug, PartialEq, Eq)]
+pub enum ToldColumn<'a> {
+    /// It isn't of its form.
+    Flaw(ToldFlaw<'a>),
+    /// A fault is about this word.
+    Word(ToldWord<'a>),
+}
+
+impl Display for ToldColumn<'_> {
+    fn fmt<W: Write>(&self, f: &mut Formatter<W>) -> fmt::Result {
+        match self {
+            ToldColumn::Flaw(told) => write_flaw(f, told),
+            ToldColumn::Word(ToldWord { line, at }) => {
+                write!(f, "column {} is {}", column_of(*at), Field::of(line, *at))
+            }
+        }
+    }
+}
+
+// The column of a word of this number: the first word of the line is `row`.
+fn column_of(word: usize) -> usize {
+    word.saturating_sub(1)
+}
+
+// Says by what a line isn't of its form.
+fn write_flaw<W: Write>(f: &mut Formatter<W>, told: &ToldFlaw<'_>) -> fmt::Result {
+    let line = told.line;
+    match told.flaw {
+        LineFlaw::Empty { at } => write!(f, "column {} is empty", column_of(at)),
+        LineFlaw::Wrong { at, wanted } => {
+            let field = Field::of(line, at);
+            write!(
+                f,
+                "column {}, {field}, isn't {}",
+                column_of(at),
+                InColumn(wanted)
+            )
+        }
+        LineFlaw::Missing { at, wanted } => {
+            write!(
+                f,
+                "column {} is missing: {}",
+                column_of(at),
+                InColumn(wanted)
+            )
+        }
+        LineFlaw::Extra { at } => {
+            let field = Field::of(line, at);
+            write!(f, "column {}, {field}, is one too many", column_of(at))
+        }
+        LineFlaw::Mark | LineFlaw::CarriageReturn => write!(f, "{told}"),
+    }
+}
+
+// What a field is to be.
+#[derive(Clone, Copy)]
+struct InColumn(Wanted);
+
+impl Display for InColumn {
+    fn fmt<W: Write>(&self, f: &mut Formatter<W>) -> fmt::Result {
+        match self.0 {
+            Wanted::Note => { f.write_str(NOTE_IS) }
+            wanted => write!(f, "{wanted}"),
+        }
+    }
+}
+
+// A field in quotes, as its word shows it, with escapes for what isn't a character of ASCII, and cut off where it is long.
+#[derive(Clone, Copy)]
+struct Field<'a>(&'a [u8]);
+
+impl<'a> Field<'a> {
+    // That of the word of this number, from 1.
+    fn of(line: &'a [u8], at: usize) -> Field<'a> {
+        let mut words = Words::of(line);
+        let mut word = words.next_long();
+        for _ in 1..at {
+            word = words.next_long();
+        }
+        Field(word.unwrap_or(b""))
+    }
+}
+
+impl Display for Field<'_> {
+    fn fmt<W: Write>(&self, f: &mut Formatter<W>) -> fmt::Result {
+        let bytes = self.0;
+        match bytes.get(..SHOWN) {
+            Some(front) if bytes.len() > SHOWN => write!(f, "'{}..'", front.escape_ascii()),
+            _ => write!(f, "'{}'", bytes.escape_ascii()),
+        }
+    }
+}
