@@ -1,5 +1,5 @@
 -- Runs of whole inputs.
-use Rattle.std.proofs.Common.{◌≡◌, ℕ, Bool, List, [], Option, inl, inr, refl, subst}
+use Rattle.std.proofs.Common.{◌≡◌, ℕ, List, [], Option, inl, inr, refl, subst}
 use Rattle.std.specs.Prelude.{None, Result, Ok, Err, IfOk}
 use Rattle.std.specs.Io.KnownBytes.{Keeps}
 use Rattle.sq_schema.specs.declared.schema.TheConstants.{MAX_TABLES}
@@ -17,15 +17,16 @@ use Rattle.sq_text.specs.Located.{located}
 use Rattle.sq_text.specs.Header.{header_of, Opens}
 use Rattle.sq_text.proofs.Appending.{kept}
 use Rattle.sq_world.specs.declared.ending.Ending.{Ending}
+use Rattle.sq_world.specs.declared.ending.ScriptManner.{ScriptManner}
 use Rattle.sq_world.specs.Inputs.{OfLines, OfReader}
 use Rattle.sq_world.specs.Run.{IsFault, EndsAtFault, RunsLines}
 use Rattle.sq_world.specs.Script.{OpensWorld, RefusesHeader, RunsScript}
 
 -- a script that is run from a header's opening
-pub run_from : {E : Type 0} (echoes : Bool) (r : Result Ending E) (tables : ℕ) (begin lines : LinesValue) (before now : Option (List ℕ)) (w : WorldValue) → tables ≡ MAX_TABLES
-    → OpensWorld tables begin lines w → IfOk r (RunsScript echoes tables w lines before now) → IfOk r (RunsLines echoes MAX_TABLES begin before now)
-run_from echoes (Err e) tables begin lines before now w eight opens writes = tt
-run_from echoes (Ok ending) tables begin lines before now w eight opens writes =
+pub run_from : {E : Type 0} (manner : ScriptManner) (r : Result Ending E) (tables : ℕ) (begin lines : LinesValue) (before now : Option (List ℕ)) (w : WorldValue) → tables ≡ MAX_TABLES
+    → OpensWorld tables begin lines w → IfOk r (RunsScript manner tables w lines before now) → IfOk r (RunsLines manner MAX_TABLES begin before now)
+run_from manner (Err e) tables begin lines before now w eight opens writes = tt
+run_from manner (Ok ending) tables begin lines before now w eight opens writes =
     let o = opens.0 in
     let some = some_pieces lines in
     let there = opens.2 some.pieces some.can_come in
@@ -34,10 +35,10 @@ run_from echoes (Ok ending) tables begin lines before now w eight opens writes =
     (all.0, all.1, written.out, written.written, inl (record { opening = o; script = written.pieces; header = subst (λ n. Opens n (Ok o) written.pieces (header_of n all.0)) eight all.2; is_opening = opens.1.is_opening; writes = written.writes }))
 
 -- a header that is refused
-pub run_refused : {E : Type 0} (echoes : Bool) (r : Result Ending E) (tables : ℕ) (fault : LocatedFault) (begin lines : LinesValue) (before now : Option (List ℕ)) → tables ≡ MAX_TABLES
-    → RefusesHeader tables begin lines fault → IfOk r (EndsAtFault fault before now) → IfOk r (RunsLines echoes MAX_TABLES begin before now)
-run_refused echoes (Err e) tables fault begin lines before now eight opens wrote = tt
-run_refused echoes (Ok ending) tables fault begin lines before now eight opens wrote =
+pub run_refused : {E : Type 0} (manner : ScriptManner) (r : Result Ending E) (tables : ℕ) (fault : LocatedFault) (begin lines : LinesValue) (before now : Option (List ℕ)) → tables ≡ MAX_TABLES
+    → RefusesHeader tables begin lines fault → IfOk r (EndsAtFault fault before now) → IfOk r (RunsLines manner MAX_TABLES begin before now)
+run_refused manner (Err e) tables fault begin lines before now eight opens wrote = tt
+run_refused manner (Ok ending) tables fault begin lines before now eight opens wrote =
     let some = some_pieces lines in
     let all = opens some.pieces some.can_come in
     (all.0, all.1, wrote.0, wrote.1, inr (record { fault = fault; left = some.pieces; header = subst (λ n. Opens n (Err fault) some.pieces (header_of n all.0)) eight all.2; wrote = wrote.2 }))

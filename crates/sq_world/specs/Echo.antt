@@ -20,6 +20,11 @@ abbrev pub refused_text : Bool → List ℕ → ℕ → List ℕ
 refused_text false line number = refused_line number
 refused_text true line number = echoed line (reason_line number (meaning_of number))
 
+-- the number of a refusal
+abbrev pub refusal_in : Answer → Option ℕ
+refusal_in (Refused refusal) = Some (refusal_number refusal)
+refusal_in given = None
+
 -- what a line is answered
 abbrev pub answer_text : Bool → List ℕ → Answer → List ℕ
 answer_text echoes line (Refused refusal) = refused_text echoes line (refusal_number refusal)

@@ -1,5 +1,5 @@
 -- A run: what is written for an input.
-use Rattle.std.specs.Prelude.{◌≡◌, ◌⊎◌, ℕ, ◌+◌, Bool, true, List, [], ◌∷◌, ◌++◌, Option, Some, Ok, Err}
+use Rattle.std.specs.Prelude.{◌≡◌, ◌⊎◌, ℕ, ◌+◌, Bool, true, List, [], ◌∷◌, ◌++◌, if◌then◌else◌, Option, None, Some, Ok, Err}
 use Rattle.sq_ranges.specs.OpeningValue.{OpeningValue}
 use Rattle.sq_model.specs.declared.step.Step.{Step}
 use Rattle.sq_model.specs.declared.answer.Answer.{Answer}
@@ -24,38 +24,58 @@ use Rattle.sq_lines.specs.Pieces.{PieceValue, Line, Rest, Failed, Endless, TooMa
 use Rattle.sq_lines.specs.Coming.{LinesValue}
 use Rattle.sq_text.specs.Header.{header_of, Opens}
 use Rattle.sq_world.specs.declared.ending.Ending.{Ending}
-use Rattle.sq_world.specs.declared.ending.Ending.TheVariants.{Done, Fault}
+use Rattle.sq_world.specs.declared.ending.Ending.TheVariants.{Done, Stopped, Fault}
+use Rattle.sq_world.specs.declared.ending.ScriptManner.{ScriptManner}
 use Rattle.sq_state.specs.Dump.{dump}
-use Rattle.sq_world.specs.Echo.{answer_text, refused_text}
+use Rattle.sq_world.specs.Echo.{answer_text, refused_text, refusal_in}
 use Rattle.sq_world.specs.Inputs.{Writing, OfLines, OfReader}
 
+-- a run with echoes or without, and strict or not
+abbrev pub in_manner : Bool → Bool → ScriptManner
+in_manner echoes strict = record { echoes = echoes; strict = strict }
+
 -- the line spells a step, which is answered by the history
-pub record IsStepLine (echoes : Bool) (o : OpeningValue) (t : Trace) (line : List ℕ) (after : Trace) (text : List ℕ) : Type 0 where
+pub record IsStepLine (echoes : Bool) (o : OpeningValue) (t : Trace) (line : List ℕ) (after : Trace) (text : List ℕ)
+    (refused : Option ℕ) : Type 0 where
   pub step : Step
   pub given : Answer
   pub spelled : step_of o.tables line ≡ Ok step
   pub answered : IsAnswer o t step given
   pub goes_on : after ≡ (step, given) ∷ t
   pub says : text ≡ answer_text echoes line given
+  pub refuses : refused ≡ refusal_in given
 
 -- the line spells no step, which is refused by its number
-pub record IsNoStep (echoes : Bool) (o : OpeningValue) (t : Trace) (line : List ℕ) (after : Trace) (text : List ℕ) : Type 0 where
+pub record IsNoStep (echoes : Bool) (o : OpeningValue) (t : Trace) (line : List ℕ) (after : Trace) (text : List ℕ)
+    (refused : Option ℕ) : Type 0 where
   pub fault : LineFault
   pub spelled : step_of o.tables line ≡ Err fault
   pub stays : after ≡ t
   pub says : text ≡ refused_text echoes line (line_fault_number fault)
+  pub refuses : refused ≡ Some (line_fault_number fault)
 
 -- memory ran out at the words of a transaction, and the line is no step
-pub record IsUnread (echoes : Bool) (t : Trace) (line : List ℕ) (after : Trace) (text : List ℕ) : Type 0 where
+pub record IsUnread (echoes : Bool) (t : Trace) (line : List ℕ) (after : Trace) (text : List ℕ) (refused : Option ℕ) : Type 0 where
   pub transaction : begins_txn (words_of line) ≡ true
   pub stays : after ≡ t
   pub says : text ≡ refused_text echoes line (line_fault_number line_fault.Memory)
+  pub refuses : refused ≡ Some (line_fault_number line_fault.Memory)
 
--- what a line is answered after this history, and the history after it; echoes says whether the line stands before its
--- answer
-abbrev pub AnswersLine : Bool → OpeningValue → Trace → List ℕ → Trace → List ℕ → Type 0
-AnswersLine echoes o t line after text =
-    IsStepLine echoes o t line after text ⊎ (IsNoStep echoes o t line after text ⊎ IsUnread echoes t line after text)
+-- what a line is answered after this history, the history after it, and the number by which the line is refused, if it is;
+-- echoes says whether the line stands before its answer
+abbrev pub AnswersLine : Bool → OpeningValue → Trace → List ℕ → Trace → List ℕ → Option ℕ → Type 0
+AnswersLine echoes o t line after text refused =
+    IsStepLine echoes o t line after text refused
+    ⊎ (IsNoStep echoes o t line after text refused ⊎ IsUnread echoes t line after text refused)
+
+-- the refusal behind which a run in this manner ends, if it does
+abbrev pub stopping : ScriptManner → Option ℕ → Option ℕ
+stopping manner refused = if manner.strict then refused else None
+
+-- how a run ends at a line, by the refusal behind which it does
+abbrev pub ending_at : Option ℕ → ℕ → Ending
+ending_at None line = Done
+ending_at (Some number) line = Stopped (record { line = line; number = number })
 
 -- at the end of the script the world that the history leads to is dumped
 pub record IsDumped (o : OpeningValue) (t : Trace) (out : List ℕ) : Type 0 where
@@ -68,27 +88,34 @@ pub record IsFault (located : LocatedFault) (out : List ℕ) (ending : Ending) :
   pub says : out ≡ fault_line (input_fault_number located.fault)
   pub ends : ending ≡ Fault located
 
+-- a run goes on behind a line, unless a refusal ends it there
+abbrev pub GoesOnBehind : Option ℕ → ℕ → OpeningValue → Trace → List ℕ → Ending → Type 0 → Type 0
+GoesOnBehind None line o t out ending On = On
+GoesOnBehind (Some number) line o t out ending On = IsDumped o t out × (ending ≡ ending_at (Some number) line)
+
 -- what is written for the pieces of a script after this history, and how the run ends
-abbrev pub Writes : Bool → OpeningValue → Trace → List PieceValue → List ℕ → Ending → Type 0
-Writes echoes o t [] out ending = IsDumped o t out × (ending ≡ Done)
-Writes echoes o t (Line number line ∷ others) out ending =
-    (after : Trace) × (text : List ℕ) × (later : List ℕ)
-    × AnswersLine echoes o t line after text × (out ≡ text ++ later) × Writes echoes o after others later ending
-Writes echoes o t (Rest number bytes ∷ others) out ending =
+abbrev pub Writes : ScriptManner → OpeningValue → Trace → List PieceValue → List ℕ → Ending → Type 0
+Writes manner o t [] out ending = IsDumped o t out × (ending ≡ Done)
+Writes manner o t (Line number line ∷ others) out ending =
+    (after : Trace) × (text : List ℕ) × (later : List ℕ) × (refused : Option ℕ)
+    × AnswersLine manner.echoes o t line after text refused × (out ≡ text ++ later)
+    × GoesOnBehind (stopping manner refused) number o after later ending (Writes manner o after others later ending)
+Writes manner o t (Rest number bytes ∷ others) out ending =
     (later : List ℕ)
-    × (out ≡ refused_text echoes bytes (line_fault_number line_fault.NotAStep) ++ later)
-    × Writes echoes o t others later ending
-Writes echoes o t (Failed number bytes ∷ others) out ending = IsFault (located ReadFailed (Some (Later number))) out ending
-Writes echoes o t (Endless number bytes ∷ others) out ending = IsFault (located TooLong (Some (Later number))) out ending
-Writes echoes o t (TooMany ∷ others) out ending = IsFault (located TooLong (Some (Later (MAX_LINES + 1)))) out ending
+    × (out ≡ refused_text manner.echoes bytes (line_fault_number line_fault.NotAStep) ++ later)
+    × GoesOnBehind (stopping manner (Some (line_fault_number line_fault.NotAStep))) number o t later ending
+    (Writes manner o t others later ending)
+Writes manner o t (Failed number bytes ∷ others) out ending = IsFault (located ReadFailed (Some (Later number))) out ending
+Writes manner o t (Endless number bytes ∷ others) out ending = IsFault (located TooLong (Some (Later number))) out ending
+Writes manner o t (TooMany ∷ others) out ending = IsFault (located TooLong (Some (Later (MAX_LINES + 1)))) out ending
 
 -- the header is read to this opening, and then the script is run from it
-pub record IsRunFrom (echoes : Bool) (tables : ℕ) (given : List PieceValue) (out : List ℕ) (ending : Ending) : Type 0 where
+pub record IsRunFrom (manner : ScriptManner) (tables : ℕ) (given : List PieceValue) (out : List ℕ) (ending : Ending) : Type 0 where
   pub opening : OpeningValue
   pub script : List PieceValue
   pub header : Opens tables (Ok opening) script (header_of tables given)
   pub is_opening : IsOpening opening
-  pub writes : Writes echoes opening [] script out ending
+  pub writes : Writes manner opening [] script out ending
 
 -- the header has a fault, which is its first, or memory ran out
 pub record IsRefused (tables : ℕ) (given : List PieceValue) (out : List ℕ) (ending : Ending) : Type 0 where
@@ -98,16 +125,16 @@ pub record IsRefused (tables : ℕ) (given : List PieceValue) (out : List ℕ) (
   pub wrote : IsFault fault out ending
 
 -- what is written for the pieces of an input, and how the run ends
-abbrev pub IsRun : Bool → ℕ → List PieceValue → List ℕ → Ending → Type 0
-IsRun echoes tables given out ending = IsRunFrom echoes tables given out ending ⊎ IsRefused tables given out ending
+abbrev pub IsRun : ScriptManner → ℕ → List PieceValue → List ℕ → Ending → Type 0
+IsRun manner tables given out ending = IsRunFrom manner tables given out ending ⊎ IsRefused tables given out ending
 
 -- what a reader gives is run, and what is written for it goes to the end of what a writer holds
-abbrev pub Runs : Bool → ℕ → Option (List ℕ) → Option (List ℕ) → Option (List ℕ) → Ending → Type 0
-Runs echoes tables = OfReader (IsRun echoes tables)
+abbrev pub Runs : ScriptManner → ℕ → Option (List ℕ) → Option (List ℕ) → Option (List ℕ) → Ending → Type 0
+Runs manner tables = OfReader (IsRun manner tables)
 
 -- the same of what can come of a reader of lines
-abbrev pub RunsLines : Bool → ℕ → LinesValue → Option (List ℕ) → Option (List ℕ) → Ending → Type 0
-RunsLines echoes tables = OfLines (IsRun echoes tables)
+abbrev pub RunsLines : ScriptManner → ℕ → LinesValue → Option (List ℕ) → Option (List ℕ) → Ending → Type 0
+RunsLines manner tables = OfLines (IsRun manner tables)
 
 -- the number of a fault goes to the end of what a writer holds, and ends the run
 abbrev pub EndsAtFault : LocatedFault → Option (List ℕ) → Option (List ℕ) → Ending → Type 0
@@ -116,4 +143,5 @@ EndsAtFault located = Writing (IsFault located)
 -- the exit status of an ending
 abbrev pub exit_status_of : Ending → ℕ
 exit_status_of Done = 0
+exit_status_of (Stopped refused) = 3
 exit_status_of (Fault located) = 2

@@ -12,6 +12,7 @@ use Rattle.sq_lines.specs.Coming.{LinesValue, CanCome, Leaves}
 use Rattle.sq_text.specs.declared.located.LocatedFault.{LocatedFault}
 use Rattle.sq_text.specs.Header.{header_of, Opens}
 use Rattle.sq_world.specs.declared.ending.Ending.{Ending}
+use Rattle.sq_world.specs.declared.ending.ScriptManner.{ScriptManner}
 use Rattle.sq_world.specs.Run.{AnswersLine, Writes}
 
 -- a legal history from this opening leads to the world
@@ -20,33 +21,35 @@ pub record LeadsTo (o : OpeningValue) (t : Trace) (w : WorldValue) : Type 0 wher
   pub legal : IsLegal o t
   pub holds : Holds o t w
 
--- what a line is answered after this history was written, and the world is the one that the history then leads to
+-- what a line is answered after this history was written, and the world is the one that the history then leads to; the line
+-- is refused by this number, if by any
 pub record IsAnswered (echoes : Bool) (o : OpeningValue) (t : Trace) (line : List ℕ) (before now : Option (List ℕ))
-    (w : WorldValue) : Type 0 where
+    (w : WorldValue) (refused : Option ℕ) : Type 0 where
   pub after : Trace
   pub text : List ℕ
-  pub answers_line : AnswersLine echoes o t line after text
+  pub answers_line : AnswersLine echoes o t line after text refused
   pub leads : LeadsTo o after w
   pub written : Appends before now text
 
 -- what the lines of a script are answered after this history was written, and so the run ends
-pub record IsWritten (echoes : Bool) (o : OpeningValue) (t : Trace) (lines : LinesValue) (before now : Option (List ℕ))
+pub record IsWritten (manner : ScriptManner) (o : OpeningValue) (t : Trace) (lines : LinesValue) (before now : Option (List ℕ))
     (ending : Ending) : Type 0 where
   pub pieces : List PieceValue
   pub can_come : CanCome lines pieces
   pub out : List ℕ
-  pub writes : Writes echoes o t pieces out ending
+  pub writes : Writes manner o t pieces out ending
   pub written : Appends before now out
 
 -- whatever legal history of an opening with these tables led to the world, a line is answered after it
-abbrev pub AnswersWorld : Bool → ℕ → List ℕ → WorldValue → WorldValue → Option (List ℕ) → Option (List ℕ) → Type 0
-AnswersWorld echoes tables line old new before now =
-    (o : OpeningValue) (t : Trace) → LeadsTo o t old → o.tables ≡ tables → IsAnswered echoes o t line before now new
+abbrev pub AnswersWorld : Bool → ℕ → List ℕ → WorldValue → WorldValue → Option (List ℕ) → Option (List ℕ) → Option ℕ → Type 0
+AnswersWorld echoes tables line old new before now refused =
+    (o : OpeningValue) (t : Trace) → LeadsTo o t old → o.tables ≡ tables
+    → IsAnswered echoes o t line before now new refused
 
 -- whatever legal history of an opening with these tables led to the world, a script is run after it
-abbrev pub RunsScript : Bool → ℕ → WorldValue → LinesValue → Option (List ℕ) → Option (List ℕ) → Ending → Type 0
-RunsScript echoes tables world lines before now ending =
-    (o : OpeningValue) (t : Trace) → LeadsTo o t world → o.tables ≡ tables → IsWritten echoes o t lines before now ending
+abbrev pub RunsScript : ScriptManner → ℕ → WorldValue → LinesValue → Option (List ℕ) → Option (List ℕ) → Ending → Type 0
+RunsScript manner tables world lines before now ending =
+    (o : OpeningValue) (t : Trace) → LeadsTo o t world → o.tables ≡ tables → IsWritten manner o t lines before now ending
 
 -- the lines of a reader give an opening up to those that are left, and the world is that of the opening
 abbrev pub OpensWorld : ℕ → LinesValue → LinesValue → WorldValue → Type 0

@@ -1,8 +1,8 @@
 // Answers, alone or behind their lines.
-ghost use Rattle.std.specs.Prelude.{OnOk};
+ghost use Rattle.std.specs.Prelude.{◌≡◌, IfOk, OnOk};
 ghost use Rattle.std.specs.Io.KnownBytes.{Appends};
 ghost use Rattle.sq_explain.specs.Meanings.{meaning_of};
-ghost use Rattle.sq_world.specs.Echo.{reason_line, refused_text, answer_text};
+ghost use Rattle.sq_world.specs.Echo.{reason_line, refused_text, answer_text, refusal_in};
 
 use sq_explain::entry;
 use sq_model::Answer;
@@ -12,23 +12,29 @@ use std::io::Write;
 // What stands between a line and its answer.
 const ARROW: &[u8] = b" -> ";
 
-/// Writes what a line is answered, behind the line where it echoes. An error is a write that failed.
+/// Writes what a line is answered, behind the line where it echoes. Gives the number of a refusal. An error is a write that
+/// failed.
 pub(crate) fn write_told<W: Write>(
     writer: &mut W,
     line: &[u8],
     answer: &Answer,
     echoes: bool,
-) -> Result<(), WriteFault>
-    ensures { OnOk result (Appends (W.contents writer.old) (W.contents writer.new) (answer_text echoes line.now answer.now)) }
+) -> Result<Option<u16>, WriteFault>
+    ensures text { OnOk result
+        (Appends (W.contents writer.old) (W.contents writer.new) (answer_text echoes line.now answer.now)) }
+    ensures refused { IfOk result (λ refused. refused ≡ refusal_in answer.now) }
 {
     if let Answer::Refused(refusal) = answer {
-        return write_refusal(writer, line, refusal.number(), echoes);
+        let number = refusal.number();
+        write_refusal(writer, line, number, echoes)?;
+        return Ok(Some(number));
     }
     if echoes {
         writer.write_all(line)?;
         writer.write_all(ARROW)?;
     }
-    write_answer(writer, answer)
+    write_answer(writer, answer)?;
+    Ok(None)
 }
 
 /// Writes the refusal of a line with this number, behind the line and with what the number means where it echoes. An error

@@ -1,9 +1,9 @@
 // Inputs: bytes in, bytes out.
 ghost use Rattle.std.specs.Prelude.{false, IfOk, IfErr};
-ghost use Rattle.sq_world.specs.Run.{Runs, RunsLines};
+ghost use Rattle.sq_world.specs.Run.{Runs, RunsLines, in_manner};
 ghost use Rattle.sq_world.specs.Script.{OpensWorld, RefusesHeader};
 
-use crate::ending::Ending;
+use crate::ending::{Ending, ScriptManner};
 use crate::script::{end_by, run_script};
 use sq_lines::LineReader;
 use sq_schema::{MAX_TABLES, Schema};
@@ -25,7 +25,8 @@ pub fn run<R: Read, W: Write>(
     reader: &mut R,
     writer: &mut W,
 ) -> Result<Ending, WriteFault>
-    ensures { IfOk result (Runs false MAX_TABLES (R.remaining reader.old) (W.contents writer.old) (W.contents writer.new)) }
+    ensures { IfOk result (Runs (in_manner false false) MAX_TABLES
+        (R.remaining reader.old) (W.contents writer.old) (W.contents writer.new)) }
 {
     run_and_keep(alloc, reader, writer, &mut None)
 }
@@ -38,7 +39,8 @@ pub fn run_and_keep<R: Read, W: Write>(
     writer: &mut W,
     kept: &mut Option<World>,
 ) -> Result<Ending, WriteFault>
-    ensures { IfOk result (Runs false MAX_TABLES (R.remaining reader.old) (W.contents writer.old) (W.contents writer.new)) }
+    ensures { IfOk result (Runs (in_manner false false) MAX_TABLES
+        (R.remaining reader.old) (W.contents writer.old) (W.contents writer.new)) }
 {
     run_and_echo(alloc, reader, writer, false, kept)
 }
@@ -52,9 +54,29 @@ pub fn run_and_echo<R: Read, W: Write>(
     echoes: bool,
     kept: &mut Option<World>,
 ) -> Result<Ending, WriteFault>
-    ensures { IfOk result (Runs echoes MAX_TABLES (R.remaining reader.old) (W.contents writer.old) (W.contents writer.new)) }
+    ensures { IfOk result (Runs (in_manner echoes false) MAX_TABLES
+        (R.remaining reader.old) (W.contents writer.old) (W.contents writer.new)) }
 {
-    let ending = run_unflushed(alloc, reader, writer, echoes, kept)?;
+    let manner = ScriptManner {
+        echoes,
+        strict: false,
+    };
+    run_in_manner(alloc, reader, writer, manner, kept)
+}
+
+/// The same as [`run_and_keep`], in this manner: with echoes as [`run_and_echo`] writes them or without, and to the end of the
+/// script, or where it is strict no further than behind the first line that is refused.
+pub fn run_in_manner<R: Read, W: Write>(
+    alloc: Global,
+    reader: &mut R,
+    writer: &mut W,
+    manner: ScriptManner,
+    kept: &mut Option<World>,
+) -> Result<Ending, WriteFault>
+    ensures { IfOk result
+        (Runs manner MAX_TABLES (R.remaining reader.old) (W.contents writer.old) (W.contents writer.new)) }
+{
+    let ending = run_unflushed(alloc, reader, writer, manner, kept)?;
     writer.flush()?;
     Ok(ending)
 }
@@ -64,13 +86,14 @@ fn run_unflushed<R: Read, W: Write>(
     alloc: Global,
     reader: &mut R,
     writer: &mut W,
-    echoes: bool,
+    manner: ScriptManner,
     kept: &mut Option<World>,
 ) -> Result<Ending, WriteFault>
-    ensures { IfOk result (Runs echoes MAX_TABLES (R.remaining reader.old) (W.contents writer.old) (W.contents writer.new)) }
+    ensures { IfOk result
+        (Runs manner MAX_TABLES (R.remaining reader.old) (W.contents writer.old) (W.contents writer.new)) }
 {
     match LineReader::new(alloc, reader) {
-        Ok(mut lines) => run_lines(alloc, &mut lines, writer, echoes, kept),
+        Ok(mut lines) => run_lines(alloc, &mut lines, writer, manner, kept),
         Err(_) => end_by(writer, InputFault::Memory.at_no_line()),
     }
 }
@@ -80,16 +103,16 @@ fn run_lines<R: Read, W: Write>(
     alloc: Global,
     lines: &mut LineReader<R>,
     writer: &mut W,
-    echoes: bool,
+    manner: ScriptManner,
     kept: &mut Option<World>,
 ) -> Result<Ending, WriteFault>
-    ensures { IfOk result (RunsLines echoes MAX_TABLES lines.old (W.contents writer.old) (W.contents writer.new)) }
+    ensures { IfOk result (RunsLines manner MAX_TABLES lines.old (W.contents writer.old) (W.contents writer.new)) }
 {
     let Some(schema) = Schema::new(MAX_TABLES) else {
         unreachable!()
     };
     match open_world(alloc, schema, lines) {
-        Ok(world) => run_script(alloc, &schema, kept.insert(world), lines, writer, echoes),
+        Ok(world) => run_script(alloc, &schema, kept.insert(world), lines, writer, manner),
         Err(fault) => end_by(writer, fault),
     }
 }

@@ -1,14 +1,14 @@
 // Scripts.
-ghost use Rattle.std.specs.Prelude.{◌≡◌, ℕ, Ok, OnOk, IfOk};
+ghost use Rattle.std.specs.Prelude.{◌≡◌, ℕ, Ok, Some, OnOk, IfOk};
 ghost use Rattle.std.specs.Io.KnownBytes.{Appends};
 ghost use Rattle.sq_lines.specs.Pieces.{next_line_number};
 ghost use Rattle.sq_text.specs.Steps.{step_of};
 ghost use Rattle.sq_state.specs.Dump.{dump};
-ghost use Rattle.sq_world.specs.Run.{EndsAtFault};
+ghost use Rattle.sq_world.specs.Run.{EndsAtFault, stopping, ending_at};
 ghost use Rattle.sq_world.specs.Script.{AnswersWorld, RunsScript};
 
 use crate::echo::{write_refusal, write_told};
-use crate::ending::Ending;
+use crate::ending::{Ending, RefusedLine, ScriptManner};
 use sq_lines::{LineReader, MAX_UNENDED, Next};
 use sq_model::Step;
 use sq_schema::Schema;
@@ -17,32 +17,40 @@ use sq_text::{InputFault, InputLine, LineFault, LocatedFault, WriteFault, read_s
 use std::alloc::Global;
 use std::io::{Read, Write};
 
-// Writes what the lines of a script are answered, each answer behind its line where it echoes, and then the dump. What is
-// written goes out before more is read.
+// Writes what the lines of a script are answered, in this manner, and then the dump. What is written goes out before more is
+// read.
 pub(crate) fn run_script<R: Read, W: Write>(
     alloc: Global,
     schema: &Schema,
     world: &mut World,
     lines: &mut LineReader<R>,
     writer: &mut W,
-    echoes: bool,
+    manner: ScriptManner,
 ) -> Result<Ending, WriteFault>
     ensures { IfOk result
-        (RunsScript echoes schema.now world.old lines.old (W.contents writer.old) (W.contents writer.new)) }
+        (RunsScript manner schema.now world.old lines.old (W.contents writer.old) (W.contents writer.new)) }
 {
     loop {
+        let line = lines.next_line_number();
         match lines.next(MAX_UNENDED) {
-            Next::Line => write_line(alloc, schema, world, lines.piece(), writer, echoes)?,
+            Next::Line => {
+                let bytes = lines.piece();
+                let refused = write_line(alloc, schema, world, bytes, writer, manner.echoes)?;
+                if let Some(number) = stopping(manner, refused) {
+                    return end(world, writer, ending_at(Some(number), line));
+                }
+            }
             Next::Unread => {
                 writer.flush()?;
                 lines.read_more();
             }
             Next::Rest => {
                 let number = LineFault::NotAStep.number();
-                write_refusal(writer, lines.piece(), number, echoes)?;
-                return end(world, writer);
+                write_refusal(writer, lines.piece(), number, manner.echoes)?;
+                let stop = stopping(manner, Some(number));
+                return end(world, writer, ending_at(stop, line));
             }
-            Next::End => return end(world, writer),
+            Next::End => return end(world, writer, Ending::Done),
             Next::Failed => return end_by(writer, InputFault::ReadFailed.at(line_of(lines))),
             Next::Long => return end_by(writer, InputFault::TooLong.at(line_of(lines))),
             Next::TooMany => {
@@ -59,16 +67,33 @@ fn line_of<R: Read>(lines: &LineReader<R>) -> InputLine
     InputLine::Later(lines.next_line_number())
 }
 
-// Writes the dump, which ends the run.
-fn end<W: Write>(world: &World, writer: &mut W) -> Result<Ending, WriteFault>
-    ensures done { IfOk result (λ ending. ending ≡ Ending.Done) }
+// The refusal behind which a run in this manner ends, if it does.
+fn stopping(manner: ScriptManner, refused: Option<u16>) -> Option<u16>
+    ensures { result ≡ stopping manner refused }
+{
+    if manner.strict { refused } else { None }
+}
+
+// How a run ends at a line, by the refusal behind which it does.
+fn ending_at(stop: Option<u16>, line: u32) -> Ending
+    ensures { result ≡ ending_at stop line }
+{
+    match stop {
+        Some(number) => Ending::Stopped(RefusedLine { line, number }),
+        None => Ending::Done,
+    }
+}
+
+// Writes the dump, which ends the run so.
+fn end<W: Write>(world: &World, writer: &mut W, ending: Ending) -> Result<Ending, WriteFault>
+    ensures ending { IfOk result (λ ended. ended ≡ ending) }
     ensures dumped { OnOk result (Appends (W.contents writer.old) (W.contents writer.new) (dump world.now)) }
 {
     world.write_dump(writer)?;
-    Ok(Ending::Done)
+    Ok(ending)
 }
 
-// Writes what a line of a script is answered.
+// Writes what a line of a script is answered. Gives the number of a refusal.
 fn write_line<W: Write>(
     alloc: Global,
     schema: &Schema,
@@ -76,17 +101,22 @@ fn write_line<W: Write>(
     line: &[u8],
     writer: &mut W,
     echoes: bool,
-) -> Result<(), WriteFault>
-    ensures { OnOk result
-        (AnswersWorld echoes schema.now line.now world.old world.new (W.contents writer.old) (W.contents writer.new)) }
+) -> Result<Option<u16>, WriteFault>
+    ensures { IfOk result (AnswersWorld echoes schema.now line.now world.old world.new
+        (W.contents writer.old) (W.contents writer.new)) }
 {
     match read_step(alloc, schema, line) {
         Ok(step) => make_step(world, &step, line, writer, echoes),
-        Err(fault) => write_refusal(writer, line, fault.number(), echoes),
+        Err(fault) => {
+            let number = fault.number();
+            write_refusal(writer, line, number, echoes)?;
+            Ok(Some(number))
+        }
     }
 }
 
-// Makes the step that a line spells, and writes its answer. It stays out of line: a refused line needs none of its values.
+// Makes the step that a line spells, and writes its answer. Gives the number of a refusal. It stays out of line: a line that
+// spells no step needs none of its values.
 #[inline(never)]
 fn make_step<W: Write>(
     world: &mut World,
@@ -94,10 +124,10 @@ fn make_step<W: Write>(
     line: &[u8],
     writer: &mut W,
     echoes: bool,
-) -> Result<(), WriteFault>
-    ensures { OnOk result ((tables : ℕ) → Ok step.now ≡ step_of tables line.now
+) -> Result<Option<u16>, WriteFault>
+    ensures { IfOk result (λ refused. (tables : ℕ) → Ok step.now ≡ step_of tables line.now
         → AnswersWorld echoes tables line.now world.old world.new
-        (W.contents writer.old) (W.contents writer.new)) }
+        (W.contents writer.old) (W.contents writer.new) refused) }
 {
     let answer = world.step(step);
     write_told(writer, line, &answer, echoes)

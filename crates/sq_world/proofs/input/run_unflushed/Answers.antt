@@ -7,7 +7,7 @@ use Rattle.sq_world.proofs.Runs.{run_given, run_nothing}
 use Rattle.sq_world.proofs.input.run_unflushed.Goals as goal
 
 pub returns-in-Ok : goal.returns-in-Ok
-returns-in-Ok g c = run_given (IsRun c.args.echoes MAX_TABLES) c.run_lines.result _ _ _ _ c.in-Ok.ensures.held c.in-Ok.ensures.open c.in-Ok.ensures.lines c.in-Ok.ensures.known c.run_lines.ensures
+returns-in-Ok g c = run_given (IsRun c.args.manner MAX_TABLES) c.run_lines.result _ _ _ _ c.in-Ok.ensures.held c.in-Ok.ensures.open c.in-Ok.ensures.lines c.in-Ok.ensures.known c.run_lines.ensures
 
 pub returns-in-Err : goal.returns-in-Err
-returns-in-Err g c = run_nothing (IsRun c.args.echoes MAX_TABLES) c.end_by.result _ _ _ _ c.at_no_line.ensures (λ given out ending wrote. inr (record { fault = located Memory None; left = []; header = λ apart. absurd (apart refl); wrote = wrote })) c.end_by.ensures
+returns-in-Err g c = run_nothing (IsRun c.args.manner MAX_TABLES) c.end_by.result _ _ _ _ c.at_no_line.ensures (λ given out ending wrote. inr (record { fault = located Memory None; left = []; header = λ apart. absurd (apart refl); wrote = wrote })) c.end_by.ensures

@@ -8,10 +8,10 @@ use Rattle.sq_world.proofs.Scripts.{Before}
 use Rattle.sq_world.proofs.script.run_script.Given as goal
 
 -- whatever history led to the world, it goes on in what was written so far
-abbrev pub invariant-loop-world : goal.invariant-loop-world
-invariant-loop-world g l =
-    (o : OpeningValue) (t : Trace) → LeadsTo o t l.initial.world → o.tables ≡ l.schema → Before l.echoes o t l.initial.lines l.lines (g.W.Write.contents l.initial.writer) (g.W.Write.contents l.writer) l.world
+abbrev pub invariant-loop-lines : goal.invariant-loop-lines
+invariant-loop-lines g l =
+    (o : OpeningValue) (t : Trace) → LeadsTo o t l.initial.world → o.tables ≡ l.schema → Before l.manner o t l.initial.lines l.lines (g.W.Write.contents l.initial.writer) (g.W.Write.contents l.writer) l.world
 
 -- a line goes, or a read
-abbrev pub decreases-loop-world : goal.decreases-loop-world
-decreases-loop-world g l = l.lines.lines_left * (MAX_UNENDED + 2) + reads_left l.lines
+abbrev pub decreases-loop-lines : goal.decreases-loop-lines
+decreases-loop-lines g l = l.lines.lines_left * (MAX_UNENDED + 2) + reads_left l.lines
