@@ -1,0 +1,6 @@
+pub mod Cutting
+pub mod Sizes
+pub mod SizeLines
+pub mod SizeJson
+pub mod Owners
+pub mod Asked

@@ -1,0 +1,50 @@
+// Chunks, as families come.
+ghost use Rattle.std.specs.Prelude.{◌≡◌, ◌+◌, Some, None};
+ghost use Rattle.sq_sizes.specs.Cutting.{room_behind, chunks_more};
+ghost use Rattle.sq_sizes.specs.Sizes.{in_64_bits};
+
+/// The chunks that families of a node come to, one after another, where it is cut at once.
+#[derive(Clone, Copy)]
+pub(crate) struct Cutting {
+    /// The bytes of a chunk.
+    pub(crate) limit: u64,
+    /// How many chunks there are.
+    pub(crate) chunks: u64,
+    /// The room that is left in the last one; `None` where it is empty.
+    pub(crate) room: Option<u64>,
+}
+
+impl Cutting {
+    /// No family yet, with a chunk that is empty.
+    pub(crate) fn new(limit: u64) -> Cutting
+        ensures { result ≡ record { limit = limit; chunks = 1; room = None } }
+    {
+        Cutting {
+            limit,
+            chunks: 1,
+            room: None,
+        }
+    }
+
+    /// Takes one family more, of this size.
+    pub(crate) fn take(&mut self, size: u64)
+        ensures limit { self.new.limit ≡ self.old.limit }
+        ensures chunks { self.new.chunks
+            ≡ in_64_bits (self.old.chunks + chunks_more self.old.room size) }
+        ensures room { self.new.room ≡ Some (room_behind self.old.limit self.old.room size) }
+    {
+        let chunks = self.chunks;
+        match self.room {
+            Some(room) if size <= room => {
+                self.room = Some(room - size);
+            }
+            Some(_) => {
+                self.chunks = chunks.saturating_add(1);
+                self.room = Some(self.limit.saturating_sub(size));
+            }
+            None => {
+                self.room = Some(self.limit.saturating_sub(size));
+            }
+        }
+    }
+}

@@ -1,0 +1,15 @@
+//! What is told of an opening before it runs: how large its move is, and who owns a root key.
+#![tactic(auto)]
+
+mod asked;
+mod cutting;
+mod owners;
+mod size;
+mod size_json;
+mod size_lines;
+
+pub use asked::{OpeningTelling, tell_opening};
+pub use owners::OwnersAsLines;
+pub use size::{MovePart, Size};
+pub use size_json::SizesAsJson;
+pub use size_lines::SizesAsLines;
