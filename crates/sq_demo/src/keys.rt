@@ -1,0 +1,57 @@
+// Root keys at random.
+ghost use Rattle.std.specs.Prelude.{◌≡◌, ◌<◌, ◌≤◌};
+
+use crate::sizes::DemoSizes;
+
+/// Root keys that have rows, and look as if drawn at random: the same ones for one seed.
+#[derive(Drop)]
+pub(crate) struct KeySource {
+    state: u64,
+    roots: u64,
+    // Of those that move and have rows, how many there are, and how many of a hundred are drawn of these.
+    hot_roots: u64,
+    hot: u64,
+    ghost some: { 1 ≤ hot_roots },
+    ghost within: { hot_roots ≤ roots },
+}
+
+impl KeySource {
+    /// Those of an input to begin with.
+    pub(crate) fn new(sizes: &DemoSizes) -> KeySource
+        ensures { result.roots ≡ sizes.now.roots }
+    {
+        KeySource {
+            state: sizes.seed,
+            roots: sizes.roots,
+            hot_roots: sizes.hot_keys().min(sizes.roots),
+            hot: sizes.hot,
+        }
+    }
+
+    /// The next one.
+    pub(crate) fn draw(&mut self) -> u64
+        ensures root { result < self.old.roots }
+        ensures roots { self.new.roots ≡ self.old.roots }
+    {
+        if self.below(100) < self.hot {
+            self.below(self.hot_roots)
+        } else {
+            self.below(self.roots)
+        }
+    }
+
+    // A number below this one.
+    fn below(&mut self, end: u64) -> u64
+        requires { 1 ≤ end }
+        ensures below { result < end }
+        ensures roots { self.new.roots ≡ self.old.roots }
+        ensures hot_roots { self.new.hot_roots ≡ self.old.hot_roots }
+        ensures hot { self.new.hot ≡ self.old.hot }
+    {
+        self.state = self
+            .state
+            .wrapping_mul(6_364_136_223_846_793_005)
+            .wrapping_add(1_442_695_040_888_963_407);
+        (self.state >> 33) % end
+    }
+}
