@@ -1,0 +1,61 @@
+// A script that is being written, step by step.
+ghost use Rattle.std.specs.Prelude.{◌≡◌, ◌<◌, [], OnOk};
+ghost use Rattle.sq_steps.specs.Scripts.{is_refusal};
+ghost use Rattle.sq_steps.specs.Drafts.{DraftGoesOn};
+
+use crate::ending::NoScript;
+use crate::move_step::{MoveStep, write_step};
+use sq_model::Answer;
+use sq_state::World;
+use std::alloc::Global;
+
+/// The script so far, and the world in which each of its steps was made.
+#[derive(Drop)]
+pub(crate) struct Draft {
+    pub(crate) world: World,
+    pub(crate) text: Vec<u8>,
+    /// How many lines more the script may have.
+    pub(crate) room: u64,
+}
+
+impl Draft {
+    /// No step, in this world. So many lines may come.
+    pub(crate) fn new(alloc: Global, world: World, room: u64) -> Draft
+        ensures world { result.world ≡ world }
+        ensures empty { result.text.items ≡ [] }
+    {
+        Draft {
+            world,
+            text: Vec::new(alloc),
+            room,
+        }
+    }
+
+    /// Makes the next step, writes its line, and gives its answer, which is no refusal.
+    pub(crate) fn make(&mut self, step: MoveStep) -> Result<Answer, NoScript>
+        ensures goes_on { OnOk result (DraftGoesOn self.old self.new) }
+        ensures room { OnOk result (self.new.room < self.old.room) }
+    {
+        let Some(room) = self.room.checked_sub(1) else {
+            return Err(NoScript::TooLong);
+        };
+        let answer = self.world.step(&step.step());
+        // Memory alone can be what is missing.
+        if is_refused(&answer) {
+            return Err(NoScript::Memory);
+        }
+        write_step(&mut self.text, step)?;
+        self.room = room;
+        Ok(answer)
+    }
+}
+
+// Whether a step was refused.
+fn is_refused(answer: &Answer) -> bool
+    ensures { result ≡ is_refusal answer.now }
+{
+    match answer {
+        Answer::Refused(_) => true,
+        _ => false,
+    }
+}

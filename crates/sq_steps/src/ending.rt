@@ -1,0 +1,33 @@
+// Why a script isn't written.
+ghost use Rattle.std.specs.Prelude.{◌≡◌};
+ghost use Rattle.sq_steps.specs.Scripts.{fault_of};
+
+use sq_text::{InputFault, LocatedFault};
+use std::io;
+
+/// Why a script isn't written.
+#[derive(Clone, Copy, Debug, PartialEq, Eq)]
+pub(crate) enum NoScript {
+    /// Memory ran out.
+    Memory,
+    /// The input would have too many lines with it.
+    TooLong,
+}
+
+impl NoScript {
+    /// The fault that is told.
+    pub(crate) fn fault(self) -> LocatedFault
+        ensures { result ≡ fault_of self }
+    {
+        match self {
+            NoScript::Memory => InputFault::Memory.at_no_line(),
+            NoScript::TooLong => InputFault::TooLong.at_no_line(),
+        }
+    }
+}
+
+impl From<io::Error> for NoScript {
+    fn from(_error: io::Error) -> NoScript {
+        NoScript::Memory
+    }
+}

@@ -1,0 +1,99 @@
+// The steps of a whole move.
+ghost use Rattle.std.specs.Prelude.{◌≡◌, OnOk};
+ghost use Rattle.std.specs.Io.KnownBytes.{Appends};
+ghost use Rattle.sq_steps.specs.Lines.{step_of_move, move_line, NumbersFit};
+
+use sq_model::Step;
+use std::io;
+use std::io::Write;
+
+/// The whole of a segment.
+pub(crate) const WHOLE: u64 = 1;
+
+/// The pull by which each segment is claimed: one in the background.
+pub(crate) const PULL: u32 = 2;
+
+/// A step of a move in which each segment is claimed as a whole, and no transaction runs.
+#[derive(Clone, Copy, Debug, PartialEq, Eq)]
+pub enum MoveStep {
+    /// A partition prepares.
+    Prepare(u64),
+    /// The leader starts the move.
+    Start,
+    /// The whole of a segment is claimed.
+    Claim(u64),
+    /// The source gives a segment up.
+    Begin(u64),
+    /// The source cuts the next chunk for a destination.
+    Cut { src: u64, dst: u64 },
+    /// The chunk that was cut goes onto its link.
+    Push { src: u64, dst: u64 },
+    /// The oldest chunk on the link comes to the destination.
+    Pop { src: u64, dst: u64 },
+    /// The destination loads the chunk that came.
+    Load { src: u64, dst: u64 },
+    /// A segment is completed, all of which was loaded.
+    Complete(u64),
+    /// A partition reports that all that moves to it is complete.
+    Report(u64),
+    /// The leader ends the running stage, and the next one runs.
+    Next,
+    /// The leader ends the move.
+    Finish,
+}
+
+impl MoveStep {
+    /// The step that it is.
+    pub fn step(self) -> Step
+        ensures step { result ≡ step_of_move self }
+        ensures fit { NumbersFit self }
+    {
+        match self {
+            MoveStep::Prepare(part) => Step::Prepare(part),
+            MoveStep::Start => Step::Start,
+            MoveStep::Claim(seg) => Step::Claim {
+                seg,
+                node: WHOLE,
+                pull: PULL,
+            },
+            MoveStep::Begin(seg) => Step::Begin {
+                seg,
+                node: WHOLE,
+                pull: PULL,
+            },
+            MoveStep::Cut { src, dst } => Step::Cut { src, dst },
+            MoveStep::Push { src, dst } => Step::Push { src, dst },
+            MoveStep::Pop { src, dst } => Step::Pop { src, dst },
+            MoveStep::Load { src, dst } => Step::Load { src, dst },
+            MoveStep::Complete(seg) => Step::Complete {
+                seg,
+                node: WHOLE,
+                pull: PULL,
+            },
+            MoveStep::Report(part) => Step::Report(part),
+            MoveStep::Next => Step::Next,
+            MoveStep::Finish => Step::Finish,
+        }
+    }
+}
+
+/// Writes the line of a step. An error is the writer's.
+pub fn write_step<W: Write>(writer: &mut W, step: MoveStep) -> io::Result<()>
+    ensures { OnOk result (Appends
+        (W.contents writer.old) (W.contents writer.new) (move_line step)) }
+{
+    match step {
+        MoveStep::Prepare(part) => writeln!(writer, "prepare {part}"),
+        MoveStep::Start => writer.write_all(b"start\n"),
+        MoveStep::Claim(seg) => writeln!(writer, "claim {seg} {WHOLE} {PULL}"),
+        MoveStep::Begin(seg) => writeln!(writer, "begin {seg} {WHOLE} {PULL}"),
+        MoveStep::Cut { src, dst } => writeln!(writer, "cut {src} {dst}"),
+        MoveStep::Push { src, dst } => writeln!(writer, "push {src} {dst}"),
+        MoveStep::Pop { src, dst } => writeln!(writer, "pop {src} {dst}"),
+        MoveStep::Load { src, dst } => writeln!(writer, "load {src} {dst}"),
+        MoveStep::Complete(seg) => writeln!(writer, "complete {seg} {WHOLE} {PULL}"),
+        MoveStep::Report(part) => writeln!(writer, "report {part}"),
+        MoveStep::Next => writer.write_all(b"next\n"),
+        MoveStep::Finish => writer.write_all(b"finish\n"),
+    }
+}
