@@ -4,12 +4,16 @@
 mod form;
 mod lines;
 mod plans;
+mod stages;
 mod told;
 mod wanted;
+mod widths;
 mod words;
 
 pub use lines::{LineFlaw, job_flaw, plan_line_flaw, row_flaw, sizes_flaw};
 pub use plans::{PlanFlaw, plan_flaw};
-pub use told::{ToldFlaw, ToldWord};
+pub use stages::has_unread_stages;
+pub use told::{ToldFlaw, ToldLine, ToldWord};
 pub use wanted::Wanted;
+pub use widths::{MoveLines, SegmentFlaw, segment_flaw};
 pub use words::{job_word, opening_word};

@@ -4,8 +4,10 @@ use sq_text::Words;
 use std::fmt;
 use std::fmt::{Display, Formatter, Write};
 
-// As many bytes of a word are shown.
+// As many bytes of a word are shown, and of a line.
 const SHOWN: usize = 40;
+
+const SHOWN_OF_LINE: usize = 120;
 
 /// A flaw of a line as it is said, with the word that it is about.
 #[derive(Clone, Copy, Debug, PartialEq, Eq)]
@@ -13,6 +15,10 @@ pub struct ToldFlaw<'a> {
     pub line: &'a [u8],
     pub flaw: LineFlaw,
 }
+
+/// A line as it is said.
+#[derive(Clone, Copy, Debug, PartialEq, Eq)]
+pub struct ToldLine<'a>(pub &'a [u8]);
 
 /// A word of a line as it is said, by its number, from 1.
 #[derive(Clone, Copy, Debug, PartialEq, Eq)]
@@ -50,9 +56,22 @@ impl Display for ToldWord<'_> {
     }
 }
 
-// A word in quotes, with escapes for what isn't a character of ASCII, and cut off where it is long.
+impl Display for ToldLine<'_> {
+    fn fmt<W: Write>(&self, f: &mut Formatter<W>) -> fmt::Result {
+        let shown = Shown {
+            bytes: self.0,
+            most: SHOWN_OF_LINE,
+        };
+        write!(f, "{shown}")
+    }
+}
+
+// Bytes in quotes, with escapes for what isn't a character of ASCII, and cut off where they are more than so many.
 #[derive(Clone, Copy)]
-struct Shown<'a>(&'a [u8]);
+struct Shown<'a> {
+    bytes: &'a [u8],
+    most: usize,
+}
 
 impl<'a> Shown<'a> {
     // The word of this number, from 1.
@@ -62,15 +81,18 @@ impl<'a> Shown<'a> {
         for _ in 1..at {
             word = words.next_long();
         }
-        Shown(word.unwrap_or(b""))
+        Shown {
+            bytes: word.unwrap_or(b""),
+            most: SHOWN,
+        }
     }
 }
 
 impl Display for Shown<'_> {
     fn fmt<W: Write>(&self, f: &mut Formatter<W>) -> fmt::Result {
-        let bytes = self.0;
-        match bytes.get(..SHOWN) {
-            Some(front) if bytes.len() > SHOWN => write!(f, "'{}..'", front.escape_ascii()),
+        let bytes = self.bytes;
+        match bytes.get(..self.most) {
+            Some(front) if bytes.len() > self.most => write!(f, "'{}..'", front.escape_ascii()),
             _ => write!(f, "'{}'", bytes.escape_ascii()),
         }
     }

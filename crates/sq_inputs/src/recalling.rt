@@ -10,7 +10,11 @@ use std::io::Read;
 // No line that may be asked for is longer, and no read.
 const ROOM: usize = 262_144;
 
-/// A reader that keeps the lines which its last read touched, so that one who has read a line can ask for it again.
+// As many lines stand first, each with a plan.
+const PLANS: usize = 2;
+
+/// A reader that keeps the lines which its last read touched, so that one who has read a line can ask for it again; and the
+/// first two lines, which hold the plans of a move.
 #[derive(Drop)]
 pub struct Recalling<R: Read> {
     inner: R,
@@ -23,6 +27,10 @@ pub struct Recalling<R: Read> {
     lines_before: usize,
     // Whether there was no room for them.
     is_lost: bool,
+    // The first lines, as far as they came.
+    plans: Vec<u8>,
+    // How many of them are still to end.
+    plans_left: usize,
 }
 
 /// A line that is asked for again.
@@ -50,6 +58,27 @@ impl<R: Read> Recalling<R> {
             whole_lines: 0,
             lines_before: 0,
             is_lost: false,
+            plans: Vec::new(alloc),
+            plans_left: PLANS,
+        }
+    }
+
+    /// The line of the old plan, the first of all, without its end; `None` where it hasn't ended, or there was no room for it.
+    pub fn old_line(&self) -> Option<&[u8]> {
+        self.plan_line(0)
+    }
+
+    /// The line of the new plan, the second of all, in the same way.
+    pub fn new_line(&self) -> Option<&[u8]> {
+        self.plan_line(1)
+    }
+
+    // The line of a plan behind so many lines.
+    fn plan_line(&self, before: usize) -> Option<&[u8]> {
+        let mut lines = self.plans.split_inclusive(|byte| *byte == LINE_END);
+        match lines.nth(before)?.split_last() {
+            Some((last, bytes)) if *last == LINE_END => Some(bytes),
+            _ => None,
         }
     }
 
@@ -65,6 +94,25 @@ impl<R: Read> Recalling<R> {
         match line.split_last() {
             Some((last, bytes)) if *last == LINE_END => Recalled::Line(bytes),
             _ => Recalled::Rest(line),
+        }
+    }
+
+    // Keeps what these bytes have of the lines of the plans.
+    fn keep_plans(&mut self, bytes: &[u8])
+        ensures { recalling_inner self.new ≡ recalling_inner self.old }
+    {
+        for byte in bytes {
+            if self.plans_left == 0 {
+                return;
+            }
+            if self.plans.len() > ROOM || self.plans.push(*byte).is_err() {
+                self.plans.clear();
+                self.plans_left = 0;
+                return;
+            }
+            if *byte == LINE_END {
+                self.plans_left -= 1;
+            }
         }
     }
 
@@ -97,8 +145,10 @@ impl<R: Read> Read for Recalling<R> {
 
     fn read(&mut self, buf: &mut [u8]) -> io::Result<usize> {
         let count = self.inner.read(buf)?;
+        let given = &buf[..count];
+        self.keep_plans(given);
         if !self.is_lost {
-            self.keep(&buf[..count]);
+            self.keep(given);
         }
         Ok(count)
     }

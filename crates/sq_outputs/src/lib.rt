@@ -1,12 +1,15 @@
-//! Files that a run writes: each of them whole or not at all, and none over a file that it reads.
+//! Files that a run writes: each of them whole or not at all, and none over a file that it reads. And an output that may be a
+//! pipe.
 #![tactic(auto)]
 
 mod conflict;
 mod folder;
+mod pipe;
 mod saving;
 mod system;
 
 pub use conflict::{Conflict, Output, conflict_among};
 pub use folder::Folder;
+pub use pipe::PipeEnd;
 pub use saving::save;
 pub use system::{SystemFolder, place_of};

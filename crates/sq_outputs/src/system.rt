@@ -3,6 +3,7 @@ ghost use Rattle.std.specs.Prelude.{None};
 
 use crate::folder::Folder;
 use std::io::ErrorKind;
+use std::os::unix::fs::MetadataExt;
 use std::path::Path;
 use std::rt::Files;
 use std::{fs, io};
@@ -39,12 +40,15 @@ impl<T: Files> Folder for SystemFolder<'_, T> {
     }
 }
 
-/// Where the file of this name stands, in one spelling for all names of it: links are followed, also where it isn't there
-/// yet. Where its folder can't be found it is the name.
+/// Where the file of this name stands, in one spelling for all names that lead to it, by links or hard links too. Where it
+/// isn't there yet that is a place in its folder, and where its folder can't be found the name.
 pub fn place_of<T: Files + AllocGlobal>(rt: &T, name: &str) -> io::Result<String> {
-    match text_of_path(rt, name) {
-        Err(error) if error.kind() != ErrorKind::OutOfMemory => place_in_folder(rt, name),
-        placed => placed,
+    match fs::metadata(rt, name) {
+        Ok(there) => {
+            let (device, node) = (there.dev(), there.ino());
+            Ok(format!(in rt.alloc(); "{device}\0{node}")?)
+        }
+        Err(_) => place_in_folder(rt, name),
     }
 }
 

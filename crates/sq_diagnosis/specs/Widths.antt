@@ -1,0 +1,24 @@
+-- By which widths of a leaf there is a move between two plans, and why there is none by another.
+use Rattle.std.specs.Prelude.{◌≡◌, ◌≢◌, ℕ, ◌≤◌, length, None}
+use Rattle.sq_plan.specs.PlanValue.{PlanValue}
+use Rattle.sq_ranges.specs.ReconValue.{segments_of}
+use Rattle.sq_ranges.specs.Moves.{moves_of}
+use Rattle.sq_ranges.specs.Between.{segment_limit, recon_fault}
+use Rattle.sq_diagnosis.specs.declared.widths.SegmentFlaw.{SegmentFlaw}
+use Rattle.sq_diagnosis.specs.declared.widths.SegmentFlaw.TheVariants.{Narrow, Large}
+
+-- there is no move between two plans, whatever the width of a leaf is
+abbrev pub HasNoWidth : PlanValue → PlanValue → Type 0
+HasNoWidth old new = (width : ℕ) → recon_fault old new width ≢ None
+
+-- there is one with leaves of this width, and with no narrower ones
+pub record IsLeastWidth (old new : PlanValue) (width : ℕ) : Type 0 where
+  pub does : recon_fault old new width ≡ None
+  pub least : (other : ℕ) → recon_fault old new other ≡ None → width ≤ other
+
+-- why a move with leaves of this width comes to too many segments
+abbrev pub IsSegmentFlaw : PlanValue → PlanValue → ℕ → SegmentFlaw → Type 0
+IsSegmentFlaw old new width (Narrow segments limit least) =
+    (segments ≡ length (segments_of width (moves_of old new))) × (limit ≡ segment_limit new.version)
+    × IsLeastWidth old new least
+IsSegmentFlaw old new width (Large limit) = (limit ≡ segment_limit new.version) × HasNoWidth old new
