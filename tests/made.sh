@@ -63,7 +63,7 @@ make_usage() {
     local word
     alike usage/help_by_h usage/help -h
     alike usage/help_by_its_word usage/help help
-    for word in run ranges live; do
+    for word in run ranges live steps owner; do
         alike "usage/help_of_${word}_by_h" "usage/help_of_$word" "$word" -h
         alike "usage/help_of_${word}_by_its_word" "usage/help_of_$word" help "$word"
     done
@@ -72,11 +72,12 @@ make_usage() {
     alike usage/old_and_rows_without_new usage/old_without_new run --old old.json --rows rows.txt
 }
 
-# A fault of `ranges` is the same with --json and with --svg.
+# A fault of `ranges` is the same with --json and with --svg; faults of rows are those of --sizes alone.
 make_faults_of_ranges() {
     local status name option
     for status in "$tests"/cases/ranges/*/status; do
         name=$(basename "$(dirname "$status")")
+        if grep -qsx -e --sizes "${status%/*}/words"; then continue; fi
         for option in json svg; do alike "faults_of_ranges/${name}_$option" "ranges/$name" ranges "--$option"; done
     done
 }
@@ -107,13 +108,15 @@ echoed() {
         { print lines[NR] " -> " $0 }' "$2"
 }
 
-# Each stored run with --echo, but for faults and scripts that end in a line without an end: these are told apart.
+# Each stored run with --echo, but for faults, for scripts that end in a line without an end, which are told apart, and for plans in
+# files of their own.
 make_echoes() {
     local case name
     sed -n '/^## Numbers/,/^## Dump/s/^| \([0-9]*\) | \([^|]*\) |.*/\1 \2/p' "$top/docs/formats.md" > meanings
     for case in "$tests"/cases/run/*; do
         name=${case##*/}
         if [ -e "$case/status" ] || [ -n "$(tail -c 1 "$case/input" | tr -d '\n')" ]; then continue; fi
+        if [ -e "$case/old.json" ]; then continue; fi
         alike "echoes/$name" "run/$name" run --echo
         echoed "$case/input" "$case/output" > "echoes/$name/output"
     done

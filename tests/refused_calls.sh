@@ -16,6 +16,8 @@
 #   nodes        a tree and a link by themselves, and two pulls of a leaf, the second of which is under way at the end
 #   two_stages   a move in two stages with a fold between them
 #   page         a page of a run at rest, which is taken and audited
+#   engine       an engine: a client of three jobs at rest, a page, a move with a client, a move back without one, and the end
+#   chain        the epochs of an engine one by one: a move in two stages, a page between them, a move back, and the end
 #
 # All tell first that they start, so that an output that is empty is a run that died.
 #
@@ -25,15 +27,18 @@
 # `nodes` and `two_stages` are runs that crates/sq_thread_tests makes by hand. Where a growth of a tree, of a link, or of what a
 # run opens with (its trees, links, queues, nodes and pumps) is refused, it is opened once more. A step whose growth is refused
 # answers so, and its work is done at a later turn. A gathering, a fold and a next stage whose growth is refused hand all back,
-# and are called once more with what came back; and so do the taking and the audit of a page. So what is gathered in the end is
-# always the same.
+# and are called once more with what came back; and so do the taking and the audit of a page, and the calls of an engine. So what
+# is gathered in the end is always the same.
+#
+# The workers of `engine` and `chain` run in threads, so that an allocation of the same number isn't always of the same call: of most
+# calls two numbers are tried.
 set -eu
 . "$(dirname "$0")/lib.sh"
 room=$(mktemp -d)
 trap 'rm -r "$room"' EXIT
 
 # The allocation that fails.
-failing=700
+failing=800
 
 # The calls that are tried, each with the stored run that it is called on, with how many spaces its inputs begin with, and with
 # what takes memory in it. With the fewest none of its growths is refused, and with the most one is that comes before the call
@@ -41,16 +46,18 @@ failing=700
 # of calls. Growths of `run` are refused by tests/refused.sh.
 tries() {
     cat <<'TRIES'
-steps resumes_in_order 633-646 begin cut load resume txn
-steps operations_and_their_aborts 631-642 txn
-steps cuts_by_size 633-636,646-646 txn
-list moves_four_keys 631-674 back begin cut load txn
-vec store 687-698 apply take give
-block store 685-698 apply take give
-runs store 686-698 apply take give
-nodes none 538-538,546-550,556-569,575-645,654-676,690-690 tree link open job request cut load resume gather
-two_stages none 350-350,412-492,494-514,549-553,555-570,690-690 open job fold reopen
-page none 540-540,568-626,690-690 gather take audit
+steps resumes_in_order 733-746 begin cut load resume txn
+steps operations_and_their_aborts 731-742 txn
+steps cuts_by_size 733-736,746-746 txn
+list moves_four_keys 731-774 back begin cut load txn
+vec store 787-798 apply take give
+block store 785-798 apply take give
+runs store 786-798 apply take give
+nodes none 638-638,646-650,656-669,675-745,754-776,790-790 tree link open job request cut load resume gather
+two_stages none 450-450,512-592,594-614,649-653,655-670,790-790 open job fold reopen
+page none 640-640,668-726,790-790 gather take audit
+engine none 30-30,132-133,184-185,512-513,549-549,638-639,685-686,727-728,790-790 open serve page audit move run close
+chain none 150-150,308-309,418-419,446-447,558-559,592-593,597-598,640-641,645-646,790-790 open post end page stage move begin close
 TRIES
 }
 
@@ -224,6 +231,56 @@ at 0 6 0 0.0=7/-
 at 1 12 0 0.0=4/-
 OUTPUT
             ;;
+        engine)
+            cat <<'OUTPUT'
+starts
+read
+opened
+serves
+served
+taken
+moves
+serves
+served
+moves back
+ran
+closed
+Sound
+at 0 5 1 0.0=11/-
+at 1 9 1 0.0=21/-
+at 2 14 1 0.0=31/-
+receipt 5 0 commit 1 11
+receipt 9 0 commit 2 21
+receipt 14 0 commit 3 31
+at 0 5 1 0.0=12/-
+receipt 5 0 commit 4 12
+at 0 5 0 0.0=12/-
+at 1 9 0 0.0=21/-
+at 2 14 0 0.0=31/-
+OUTPUT
+            ;;
+        chain)
+            cat <<'OUTPUT'
+starts
+read
+opened
+works
+worked
+taken
+works
+worked
+moves
+works
+worked
+closed
+at 1 5 1 0.0=11/-
+receipt 5 0 commit 1 11
+at 2 9 1 0.0=21/-
+receipt 9 0 commit 2 21
+at 0 5 0 0.0=11/-
+at 2 9 0 0.0=21/-
+OUTPUT
+            ;;
     esac
 }
 
@@ -272,16 +329,18 @@ judge_steps() {
     if [ -n "$word" ]; then is_refused "$word"; fi
 }
 
-# judge_nodes CALL RUN SPACES: judges what was written for an input of nodes, of two stages or of a page.
+# judge_nodes CALL RUN SPACES: judges what was written for an input of nodes, of two stages, of a page or of an engine.
 judge_nodes() {
     local got whole refused
     got=$(cat "$room/outputs/$1.$2.$3")
+    # Which parts of a segment a pump claims depends on the threads.
+    case $1 in chain) got=$(grep -v -E '^(note|node) ' <<< "$got" || true) ;; esac
     whole=$(of_nodes "$1")
     # Refused was a growth of what isn't tried: of reading the header, of a job, of the list of jobs or of the text.
     if [[ $got != "$whole" && $whole = "$got"* ]]; then
         case ${got##*$'\n'} in
             starts) met[before]=1; return ;;
-            opened | worked | gathered | Sound) return ;;
+            opened | worked | gathered | closed | Sound) return ;;
         esac
     fi
     if [ "$(grep -v '^refused ' <<< "$got")" != "$whole" ]; then wrong "$1" "$2" "$3" "$whole"; return; fi
@@ -292,7 +351,7 @@ judge_nodes() {
 # judge_input CALL RUN SPACES: judges what was written for an input, and notes what was refused.
 judge_input() {
     case $1 in
-        nodes | two_stages | page) judge_nodes "$@" ;;
+        nodes | two_stages | page | engine | chain) judge_nodes "$@" ;;
         *) judge_steps "$@" ;;
     esac
 }

@@ -114,6 +114,10 @@ try_streams() {
     write_nowhere listing_that_is_not_written "$tests/cases/ranges/the_last_key/input" ranges
     write_nowhere live_that_is_not_written "$jobs" live
     write_nowhere help_that_is_not_written /dev/null --help
+    write_to_no_one output_that_no_one_reads "$four_keys" run
+    write_to_no_one live_that_no_one_reads "$jobs" live
+    write_to_no_one numbers_that_no_one_reads /dev/null explain
+    write_to_no_one help_that_no_one_reads /dev/null --help
 }
 
 # write_nowhere NAME INPUT WORD: gives an input to the program, whose standard output is full.
@@ -124,15 +128,33 @@ write_nowhere() {
     judge "$1" 2 /dev/null "$room/said"
 }
 
-# After a failed write nothing more is written. The output is a pipe that no one reads when the program writes. Standard
-# error is a full pipe, so that the program waits there until someone reads its output again.
+# write_to_no_one NAME INPUT WORD: gives an input to the program, whose standard output is a pipe that no one reads. It says
+# nothing of that.
+write_to_no_one() {
+    mkfifo "$room/unread"
+    exec 9<> "$room/unread" 8> "$room/unread"
+    exec 9>&-
+    ended=0
+    (trap '' PIPE; exec timeout 120 "$squall" "$3" < "$2" >&8 2> "$room/errors" 8>&-) || ended=$?
+    exec 8>&-
+    rm "$room/unread"
+    : > "$room/output"
+    judge "$1" 2 /dev/null /dev/null
+}
+
+# After a failed write nothing more is written. The output is a file that is as long as it may be, and is emptied once a write
+# has failed. Standard error is a full pipe, so that the program waits there until that is done.
 try_late_write() {
     local running state= looks=0
-    mkfifo "$room/answers" "$room/late"
-    exec 7<> "$room/answers" 8> "$room/answers" 9<> "$room/late" 6< "$room/late"
-    exec 7>&-
+    head -c 1024 /dev/zero > "$room/answers"
+    mkfifo "$room/late"
+    exec 9<> "$room/late" 6< "$room/late"
     dd if=/dev/zero of="$room/late" bs=4096 oflag=nonblock 2> /dev/null || true
-    (trap '' PIPE; exec "$squall" run < "$tests/cases/run/empty_input/input" >&8 2>&9 6<&- 8>&- 9>&-) &
+    (
+        ulimit -f 1
+        trap '' XFSZ
+        exec "$squall" run < "$tests/cases/run/empty_input/input" >> "$room/answers" 2>&9 6<&- 9>&-
+    ) &
     running=$!
     while [ "$state" != S ] && [ "$looks" -lt 600 ]; do
         sleep 0.1
@@ -141,14 +163,14 @@ try_late_write() {
         fi
         looks=$((looks + 1))
     done
-    exec 7< "$room/answers"
-    tr -d '\0' <&6 7>&- 8>&- 9>&- > "$room/errors" &
+    : > "$room/answers"
+    tr -d '\0' <&6 9>&- > "$room/errors" &
     ended=0
     wait "$running" || ended=$?
-    exec 8>&- 9>&-
+    exec 9>&-
     wait "$!"
-    cat <&7 > "$room/output"
-    exec 6<&- 7<&-
+    exec 6<&-
+    cp "$room/answers" "$room/output"
     rm "$room/answers" "$room/late"
     if [ "$state" != S ]; then echo 'it has not waited' >> "$room/errors"; fi
     said 124 > "$room/said"
@@ -249,6 +271,17 @@ try_terminal() {
     printf '%40s\n%s\n' '' 'sound 21 families 41 committed' > "$room/wanted"
     tail -n 3 "$room/terminal" | head -n 2 > "$room/ends"
     count progress_at_a_terminal "$why$(difference "$room/wanted" "$room/ends")"
+    typed_input run_that_is_typed 'old PLAN' run
+    typed_input sizes_that_are_typed 'config W L C' ranges --old "$tests/cases/ranges/stages_in_a_file_of_version_1/new.json" \
+        --new "$tests/cases/ranges/stages_in_a_file_of_version_1/new.json"
+}
+
+# typed_input NAME FIRST WORD..: at a terminal a subcommand without a file says that it reads standard input, and with which
+# line that begins.
+typed_input() {
+    timeout 60 script -qefc "exec '$squall' ${*:3}" /dev/null < /dev/null | tr -d '\r' | head -n 1 > "$room/told" || true
+    echo "squall: reading standard input up to its end (Ctrl-D); it begins with the line '$2'" > "$room/wanted"
+    count "$1" "$(difference "$room/wanted" "$room/told")"
 }
 
 # counted: a summary without what depends on the threads: in how many chunks keys moved, at which partition a job was answered
@@ -379,6 +412,11 @@ try_bad_outputs() {
     give "$1/jobs" live "${words[@]}" --rows-out "$1/../results/rows0"
     judge 'live --rows-out over its rows' 2 /dev/null "$room/said"
     count rows_that_are_read "$(difference "$1/rows_before" "$1/rows0")"
+    ln "$1/rows0" "$1/linked_rows"
+    echo "squall: --timeline names the file '$1/linked_rows', which the run reads" > "$room/said"
+    give "$1/jobs" live "${words[@]}" --timeline "$1/linked_rows"
+    judge 'live --timeline over a hard link of its rows' 2 /dev/null "$room/said"
+    count linked_rows_that_are_read "$(difference "$1/rows_before" "$1/rows0")"
     echo "squall: --timeline names the file '$1/jobs', which the run reads" > "$room/said"
     give /dev/null live "${words[@]}" --timeline "$1/jobs" "$1/jobs"
     judge 'live --timeline over its input' 2 /dev/null "$room/said"

@@ -2,7 +2,7 @@
 use Rattle.std.proofs.Common.{◌≡◌, true, refl, Option, Some, None, is_some, codes, List}
 use Rattle.std.specs.Borrow.{Bor}
 use Rattle.clap.specs.Walk.{Text, Row}
-use Rattle.sq_command.specs.Line.{IsNameOf, lacks_plan}
+use Rattle.sq_command.specs.Options.{IsNameOf, lacks_plan}
 
 module _ (rows : List Row) where
   -- the old plan has a file, and the new one has none

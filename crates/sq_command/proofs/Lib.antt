@@ -1,4 +1,5 @@
 mod Subcommands
-pub mod Options
+pub mod Numbers
 mod Arguments
 mod Clashes
+mod Keys

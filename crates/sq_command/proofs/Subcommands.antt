@@ -1,12 +1,15 @@
 -- What the words of a command line name where `clap` finds no fault in them.
-use Rattle.std.proofs.Common.{◌≡◌, ◌⊎◌, inl, inr, ◌∙◌, ℕ, Bool, true, false, not, ◌&&◌, ◌||◌, if◌then◌else◌, cond, List, [], ◌∷◌, Option, Some, None, refl, sym, ap, subst, codes, bytes_eq, unwrap_or, drop, fold, option_map, is_some, true≢false}
+use Rattle.std.proofs.Common.{◌≡◌, inl, inr, ◌∙◌, ℕ, Bool, true, false, not, ◌&&◌, ◌||◌, if◌then◌else◌, cond, List, [], ◌∷◌, Option, Some, None, refl, sym, ap, subst, codes, bytes_eq, unwrap_or, drop, fold, option_map, is_some, true≢false}
 use Rattle.std.proofs.lemmas.Slice.Eq.{bytes_eq-Decides}
+use Rattle.std.proofs.Math.Bool.{or-false}
 use Rattle.std.specs.Bool.{one_answer}
-use Rattle.clap.specs.Walk.{Held, Names, Outcome, Row, Rule, Step, Text, Waiting, Walk, idle, option, positional, next, trailing, subcommand, value, done, waits, plain, refused, after_flag, after_step, finished, settled, arg_by_index, arg_by_long, bundle, long_met, long_or_other, nothing_held, plain_word, short_or_plain, stop_after, subcommand_met, subcommand_or_other, to_positional, walk_from, walk, walked, walked_from, word_met}
+use Rattle.std.specs.List.{list_any}
+use Rattle.std.specs.Prelude.{IsSomeAnd, find, map, take, slice_get, ◌++◌}
+use Rattle.clap.specs.Walk.{answers_to, Held, Names, Outcome, Row, Rule, Step, Text, Waiting, Walk, idle, option, positional, next, trailing, subcommand, value, done, waits, plain, refused, after_flag, after_step, finished, settled, arg_by_index, arg_by_long, bundle, long_met, long_or_other, nothing_held, plain_word, short_or_plain, stop_after, subcommand_met, subcommand_or_other, to_positional, walk_from, walk, walked, walked_from, word_met}
 use Rattle.clap.specs.Lexer.{long_of, short_of}
 use Rattle.clap.specs.Kinds.{Kinds, HasKind, or_else}
 use Rattle.clap.specs.Faults.{check_fault, defaults_fault, entered_fault, fault_of, other_fault, settle_fault, step_fault, turn_fault, walk_fault, word_fault, is_simple_and_free}
-use Rattle.clap.specs.Simple.{Shape, built, entered, names_of, new_shape, rows_at, subcommand_of, App, HasMatchesOf, app_of, is_simple, subcommand_rows, subcommand_rows_of}
+use Rattle.clap.specs.Simple.{Shape, built, entered, names_of, label_of, new_shape, rows_at, subcommand_of, App, HasMatchesOf, app_of, is_simple, subcommand_rows, subcommand_rows_of}
 use Rattle.clap.specs.Matches.{subcommand_name_of}
 use Rattle.clap.specs.declared.builder.command.Command.{Command}
 use Rattle.clap.specs.declared.parser.matches.ArgMatches.{ArgMatches}
@@ -18,7 +21,7 @@ use Rattle.clap.specs.declared.error.kind.ErrorKind.TheVariants.{DisplayHelp, In
 use Rattle.std.specs.Prelude.{Result, Ok, Err, IfOk}
 use Rattle.clap.specs.declared.error.Error.{Error}
 use Rattle.sq_command.specs.Commands.{squall}
-use Rattle.sq_command.specs.Line.{IsSubcommand, IsLineOf, Asks, Settles, ComesOf, LineIsWithin}
+use Rattle.sq_command.specs.Line.{IsSubcommand, IsAskedOf, Settles, ComesOf, LineIsWithin}
 use Rattle.sq_command.specs.declared.clash.Clash.{Clash}
 use Rattle.sq_command.specs.declared.line.Line.{Line}
 
@@ -124,38 +127,54 @@ module _ (s : Shape) (names : Names) (enabled : s.disable_help_subcommand ≡ fa
 abbrev name_met : Option (Text × List Row) → Option Text
 name_met = option_map (λ sub. sub.0)
 
--- the name is one of these four
-abbrev IsOneOf : Text → Text → Text → Text → Option Text → Type 0
-IsOneOf w x y z name = (name ≡ Some w) ⊎ ((name ≡ Some x) ⊎ ((name ≡ Some y) ⊎ (name ≡ Some z)))
+-- the name is that of one of these
+abbrev IsNamed : List Shape → Option Text → Type 0
+IsNamed shapes name = IsSomeAnd name (λ n. list_any (bytes_eq n) (map (λ s. s.name) shapes) ≡ true)
 
--- the first of these that is met
-abbrev met_of : Bool → Bool → Bool → Bool → Bool → Shape → Shape → Shape → Shape → Shape → Option Shape
-met_of one two three four help w x y z h = cond (one || false) (Some w) (cond (two || false) (Some x) (cond (three || false) (Some y) (cond (four || false) (Some z) (cond (help || false) (Some h) None))))
+or_true : (b : Bool) → (b || true) ≡ true
+or_true true = refl
+or_true false = refl
 
-found : (one two three four help : Bool) (words : List Text) (w x y z h : Shape) → not help ≡ true → is_some (option_map (λ s. rows_at s words) (met_of one two three four help w x y z h)) ≡ true
-    → IsOneOf w.name x.name y.name z.name (name_met (option_map (λ s. rows_at s words) (met_of one two three four help w x y z h)))
-found true two three four help words w x y z h is_own is_met = inl refl
-found false true three four help words w x y z h is_own is_met = inr (inl refl)
-found false false true four help words w x y z h is_own is_met = inr (inr (inl refl))
-found false false false true help words w x y z h is_own is_met = inr (inr (inr refl))
-found false false false false true words w x y z h is_own is_met = absurd (true≢false (sym is_own))
-found false false false false false words w x y z h is_own is_met = absurd (true≢false (sym is_met))
+-- the subcommand that words enter, among these and a last one that they don't name, is one of these
+found : (answers : Shape → Bool) (words : List Text) (shapes : List Shape) (last : Shape) → answers last ≡ false
+    → is_some (option_map (λ s. rows_at s words) (find answers (shapes ++ last ∷ []))) ≡ true
+    → IsNamed shapes (name_met (option_map (λ s. rows_at s words) (find answers (shapes ++ last ∷ []))))
+found answers words [] last other met = absurd (true≢false (sym met ∙ ap (λ is. is_some (option_map (λ s. rows_at s words) (cond is (Some last) None))) other))
+found answers words (s ∷ shapes) last other met = either (answers s) (λ is. found answers words shapes last other is) met
+  where
+    later : (name : Option Text) → IsNamed shapes name → IsNamed (s ∷ shapes) name
+    later None own = own
+    later (Some name) own = ap (λ is. bytes_eq name s.name || is) own ∙ or_true (bytes_eq name s.name)
 
-abbrev first : List Shape → Shape
-first [] = new_shape []
-first (x ∷ xs) = x
+    either : (is : Bool)
+        → (is_some (option_map (λ s. rows_at s words) (find answers (shapes ++ last ∷ []))) ≡ true
+        → IsNamed shapes (name_met (option_map (λ s. rows_at s words) (find answers (shapes ++ last ∷ [])))))
+        → is_some (option_map (λ s. rows_at s words) (cond is (Some s) (find answers (shapes ++ last ∷ [])))) ≡ true
+        → IsNamed (s ∷ shapes) (name_met (option_map (λ s. rows_at s words) (cond is (Some s) (find answers (shapes ++ last ∷ [])))))
+    either true among met = ap (λ same. same || list_any (bytes_eq s.name) (map (λ s. s.name) shapes)) ((bytes_eq-Decides s.name s.name).1 refl)
+    either false among met = later (name_met (option_map (λ s. rows_at s words) (find answers (shapes ++ last ∷ [])))) (among met)
 
 -- the name is that of a subcommand of the command
 abbrev pub IsOwn : Option Text → Type 0
-IsOwn = IsOneOf (codes "run") (codes "ranges") (codes "live") (codes "explain")
+IsOwn name = IsSomeAnd name IsSubcommand
+
+-- the command's own subcommands
+abbrev own_shapes : List Shape
+own_shapes = take 6 (built squall).subs
+
+not_false : (b : Bool) → not b ≡ true → b ≡ false
+not_false true e = absurd (true≢false (sym e))
+not_false false e = refl
+
+or_false : (b : Bool) → b ≡ false → (b || false) ≡ false
+or_false b e = ap (λ is. is || false) e
 
 names_own : (stop : Option (Text × List Text)) → is_own stop ≡ true → is_some (entered (built squall) stop) ≡ true
     → IsOwn (name_met (entered (built squall) stop))
 names_own None own met = absurd (true≢false (sym met))
 names_own (Some p) own met =
-    let subs = (built squall).subs in
-    found (bytes_eq (codes "run") p.0) (bytes_eq (codes "ranges") p.0) (bytes_eq (codes "live") p.0) (bytes_eq (codes "explain") p.0) (bytes_eq (codes "help") p.0) p.1
-    (first subs) (first (drop 1 subs)) (first (drop 2 subs)) (first (drop 3 subs)) (first (drop 4 subs)) own met
+    found (λ s. answers_to p.0 (label_of s)) p.1 own_shapes (unwrap_or (slice_get (built squall).subs 6) (new_shape []))
+    (or_false (bytes_eq (codes "help") p.0) (not_false (bytes_eq (codes "help") p.0) own)) met
 
 is_required : (has : Bool) (rows : List Row) → check_fault (built squall).top rows has ≡ [] → has ≡ true
 is_required true rows e = refl
@@ -226,48 +245,37 @@ is_text name text same = (bytes_eq-Decides name text).0 (sym same)
 
 -- a subcommand that is one of the command's is met
 pub is_met : (met : Option Text) → IsOwn met → is_some met ≡ true
-is_met met (inl run) = ap is_some run
-is_met met (inr (inl ranges)) = ap is_some ranges
-is_met met (inr (inr (inl live))) = ap is_some live
-is_met met (inr (inr (inr explain))) = ap is_some explain
+is_met None own = absurd own
+is_met (Some name) own = refl
 
 -- and its name is one of theirs
 pub own_name : (name : Text) (met : Option Text) → Some name ≡ met → IsOwn met → IsSubcommand name
-own_name name met is own = elim own [
-  | inl run ↦ inl (text_of (is ∙ run))
-  | inr other ↦ elim other [
-    | inl ranges ↦ inr (inl (text_of (is ∙ ranges)))
-    | inr another ↦ elim another [ inl live ↦ inr (inr (inl (text_of (is ∙ live)))) | inr explain ↦ inr (inr (inr (text_of (is ∙ explain)))) ]
-  ]
-]
-  where
-    text_of : {text : Text} → Some name ≡ Some text → name ≡ text
-    text_of same = ap (λ (o : Option Text). unwrap_or o []) same
+own_name name met is own = subst IsOwn (sym is) own
 
--- a name that differs from a text isn't the text
-differs : (name text : Text) → false ≡ bytes_eq name text → name ≡ text → ⊥
-differs name text other is = true≢false (sym ((bytes_eq-Decides name text).1 is) ∙ sym other)
+-- what holds of a list is true of what is behind a test that fails
+past : (first rest : Bool) → false ≡ first → (first || rest) ≡ true → rest ≡ true
+past true rest fails holds = absurd (true≢false (sym fails))
+past false rest fails holds = holds
 
--- the name that is none of the three others
-pub is_explain : (name : Text) → IsSubcommand name → false ≡ bytes_eq name (codes "run") → false ≡ bytes_eq name (codes "ranges") → false ≡ bytes_eq name (codes "live") → name ≡ codes "explain"
-is_explain name (inl run) no_run no_ranges no_live = absurd (differs name (codes "run") no_run run)
-is_explain name (inr (inl ranges)) no_run no_ranges no_live = absurd (differs name (codes "ranges") no_ranges ranges)
-is_explain name (inr (inr (inl live))) no_run no_ranges no_live = absurd (differs name (codes "live") no_live live)
-is_explain name (inr (inr (inr explain))) no_run no_ranges no_live = explain
-
--- options that ask for something of which more holds
-pub asks_more : (IsLine IsMore : List Row → Line → Type 0) (rows : List Row) → ((line : Line) → IsLine rows line → IsMore rows line) → (asked : Result Line Clash) → Asks IsLine rows asked → Asks IsMore rows asked
-asks_more IsLine IsMore rows more (Ok line) asks = more line asks
-asks_more IsLine IsMore rows more (Err clash) asks = asks
+-- the name that is none of the others
+pub is_explain : (name : Text) → IsSubcommand name → false ≡ bytes_eq name (codes "run") → false ≡ bytes_eq name (codes "ranges") → false ≡ bytes_eq name (codes "live")
+    → false ≡ bytes_eq name (codes "steps") → false ≡ bytes_eq name (codes "owner") → name ≡ codes "explain"
+is_explain name own no_run no_ranges no_live no_steps no_owner =
+    let past_run = past _ _ no_run own in
+    let past_ranges = past _ _ no_ranges past_run in
+    let past_live = past _ _ no_live past_ranges in
+    let past_steps = past _ _ no_steps past_live in
+    let last : (bytes_eq name (codes "explain") || false) ≡ true = past _ _ no_owner past_steps in
+    (bytes_eq-Decides name (codes "explain")).0 (sym (or-false (bytes_eq name (codes "explain"))) ∙ last)
 
 -- what comes of words in which no fault is found, by what the options of their subcommand ask for
 module _ (words : List Text) (name : Text) (rows : List Row) (free : fault_of squall words ≡ []) (met : subcommand_of squall words ≡ Some (name, rows)) where
-  pub settled_comes : (asked : Result Line Clash) (result : Result Line Error) → Settles asked result → Asks (λ rows line. IsLineOf (Some (name, rows)) line) rows asked → ComesOf words result
+  pub settled_comes : (asked : Result Line Clash) (result : Result Line Error) → Settles asked result → IsAskedOf (Some (name, rows)) asked → ComesOf words result
   settled_comes (Ok line) (Ok settled) same asks = (free, rw (met, same) asks)
   settled_comes (Ok line) (Err error) same asks = absurd same
   settled_comes (Err clash) (Ok settled) same asks = absurd same
   settled_comes (Err clash) (Err error) (inl memory) asks = inl (inl memory)
-  settled_comes (Err clash) (Err error) (inr kind) asks = inr (free, rw (met, kind) asks)
+  settled_comes (Err clash) (Err error) (inr kind) asks = inr (free, (clash, rw met asks, kind))
 
 -- a line that settles is within its limits where the one that was asked for is
 pub settled_within : (asked : Result Line Clash) (result : Result Line Error) → Settles asked result → IfOk asked LineIsWithin → IfOk result LineIsWithin

@@ -1,12 +1,13 @@
 -- The program's command, as `clap` reads it.
-use Rattle.std.specs.Prelude.{true, [], ◌∷◌, ◌++◌, codes, pos, Some}
+use Rattle.std.specs.Prelude.{ℕ, true, [], ◌∷◌, ◌++◌, codes, pos, Some}
 use Rattle.clap.specs.Walk.{Text, Rule}
 use Rattle.clap.specs.Words.{App, with_subcommand}
 use Rattle.clap.specs.Simple.{Shape, new_shape, new_rule}
-use Rattle.clap.specs.declared.builder.action.ArgAction.TheVariants.{SetTrue}
+use Rattle.clap.specs.declared.builder.action.ArgAction.TheVariants.{SetTrue, Append}
 use Rattle.clap.specs.declared.builder.value_parser.ValueParser.{ValueParser}
 use Rattle.clap.specs.declared.builder.value_parser.ValueParser.TheVariants.{Signed, Unsigned}
-use Rattle.sq_command.specs.declared.line.TheConstants.{MAX_TURNS, MAX_PUMPS}
+use Rattle.sq_command.specs.declared.tasks.TheConstants.{MAX_TURNS, MAX_PUMPS}
+use Rattle.sq_command.specs.declared.owner.TheConstants.{MAX_WIDTH}
 
 -- the program tells its version, and wants a subcommand
 abbrev pub program : Shape
@@ -44,17 +45,24 @@ with_input shape =
 -- the subcommand that makes the steps of a script
 abbrev pub run_shape : Shape
 run_shape =
-    with_input (larger (larger (new_shape (codes "run")) (flag_rule (codes "echo"))) (valued_rule (codes "rows-out")))
+    with_input (larger (larger (larger (new_shape (codes "run")) (flag_rule (codes "echo"))) (flag_rule (codes "strict")))
+    (valued_rule (codes "rows-out")))
 
 -- the subcommand that tells what moves
 abbrev pub ranges_shape : Shape
-ranges_shape = with_input (larger (larger (new_shape (codes "ranges")) (flag_rule (codes "json"))) (flag_rule (codes "svg")))
+ranges_shape =
+    with_input (larger (larger (larger (new_shape (codes "ranges")) (flag_rule (codes "json"))) (flag_rule (codes "svg")))
+    (flag_rule (codes "sizes")))
+
+-- an option for a number from the least up to the most, and the text of the one that stands where it isn't given
+abbrev pub counted_rule : Text → ℕ → ℕ → Text → Rule
+counted_rule name least most default = option_rule name (Unsigned least most) default
 
 -- the subcommand that runs jobs in threads, with its options for numbers
 abbrev pub numbered_shape : Shape
 numbered_shape =
-    larger (larger (new_shape (codes "live")) (option_rule (codes "turns") (Unsigned 1 MAX_TURNS) (codes "1000000")))
-    (option_rule (codes "pumps") (Unsigned 1 MAX_PUMPS) (codes "1"))
+    larger (larger (new_shape (codes "live")) (counted_rule (codes "turns") 1 MAX_TURNS (codes "1000000")))
+    (counted_rule (codes "pumps") 1 MAX_PUMPS (codes "1"))
 
 -- and with all its options
 abbrev pub live_shape : Shape
@@ -62,12 +70,43 @@ live_shape =
     with_input (larger (larger (larger (larger (larger numbered_shape (flag_rule (codes "fold"))) (flag_rule (codes "summary")))
     (valued_rule (codes "timeline"))) (valued_rule (codes "replies"))) (valued_rule (codes "rows-out")))
 
+-- the subcommand that writes the script of a move
+abbrev pub steps_shape : Shape
+steps_shape = with_input (new_shape (codes "steps"))
+
+-- an option with a value that has to be there
+abbrev pub needed_rule : Text → Rule
+needed_rule name = record (valued_rule name) { required = true }
+
+-- the words that are root keys, one or more
+abbrev pub keys_rule : Rule
+keys_rule = record (new_rule (codes "key")) {
+  value_names = 1;
+  action = Some Append;
+  parser = Some (Signed (pos 0) (pos 4294967295));
+  required = true;
+}
+
+-- an option for the root keys in a leaf
+abbrev pub width_rule : Rule
+width_rule = record (valued_rule (codes "width")) { parser = Some (Unsigned 1 MAX_WIDTH) }
+
+-- the subcommand that tells who owns root keys
+abbrev pub owner_shape : Shape
+owner_shape =
+    larger (larger (larger (larger (new_shape (codes "owner")) (needed_rule (codes "old"))) (needed_rule (codes "new")))
+    width_rule) keys_rule
+
 -- the subcommand that tells what numbers mean
 abbrev pub explain_shape : Shape
 explain_shape = larger (new_shape (codes "explain")) number_rule
 
--- the command with its subcommands
-abbrev pub squall : App
-squall =
+-- the command with the subcommands that do something with an input
+abbrev pub working : App
+working =
     with_subcommand (with_subcommand (with_subcommand (with_subcommand (record { top = program; subs = [] }) run_shape) ranges_shape)
-    live_shape) explain_shape
+    live_shape) steps_shape
+
+-- the command with all its subcommands
+abbrev pub squall : App
+squall = with_subcommand (with_subcommand working owner_shape) explain_shape

@@ -1,11 +1,11 @@
 // Options that don't go together, and how that is told.
 ghost use Rattle.std.specs.Prelude.{◌≡◌, IfOk};
 ghost use Rattle.clap.specs.Values.{kind_of};
-ghost use Rattle.sq_command.specs.Line.{clash_kind};
+ghost use Rattle.sq_command.specs.Options.{clash_kind};
 
 use clap::Command;
 use clap::error::{Error, ErrorKind};
-use std::alloc::{AllocError, Global};
+use std::alloc::{AllocError, AllocFailed, Global};
 
 /// Why the options of a subcommand don't go together.
 #[derive(Clone, Copy, Debug, PartialEq, Eq)]
@@ -18,6 +18,25 @@ pub enum Clash {
     NoPlans,
     /// What moves is to be told in two forms.
     TwoForms,
+    /// How much moves is to be told in a picture.
+    DrawnSizes,
+    /// No root key is named.
+    NoKeys,
+    /// A word that is to be a root key is none.
+    BadKey,
+    /// Memory ran out.
+    Memory,
+}
+
+impl From<AllocFailed<u32>> for Clash {
+    ghost use Rattle.std.specs.Prelude.{◌≡◌};
+    ghost use Rattle.sq_command.specs.declared.clash.Clash.TheVariants.{Memory};
+
+    ghost from_gives = { λ _ clash. clash ≡ Memory };
+
+    fn from(_error: AllocFailed<u32>) -> Clash {
+        Clash::Memory
+    }
 }
 
 impl Clash {
@@ -26,7 +45,9 @@ impl Clash {
         ensures { result ≡ clash_kind self }
     {
         match self {
-            Clash::TwoForms => ErrorKind::ArgumentConflict,
+            Clash::TwoForms | Clash::DrawnSizes => ErrorKind::ArgumentConflict,
+            Clash::BadKey => ErrorKind::ValueValidation,
+            Clash::Memory => ErrorKind::OutOfMemory,
             _ => ErrorKind::MissingRequiredArgument,
         }
     }
@@ -40,6 +61,10 @@ impl Clash {
                 "the following required arguments were not provided:\n  --old <FILE>\n  --new <FILE>"
             }
             Clash::TwoForms => "the argument '--json' cannot be used with '--svg'",
+            Clash::DrawnSizes => "the argument '--sizes' cannot be used with '--svg'",
+            Clash::NoKeys => "the following required arguments were not provided:\n  <KEY>...",
+            Clash::BadKey => "a root key is a whole number below 4294967296",
+            Clash::Memory => "out of memory",
         }
     }
 
@@ -48,7 +73,8 @@ impl Clash {
         match self {
             Clash::NoOld | Clash::NoNew => "--old <FILE> --new <FILE> [FILE]",
             Clash::NoPlans => "--old <FILE> --new <FILE> --rows <FILE> [FILE]",
-            Clash::TwoForms => "[OPTIONS] [FILE]",
+            Clash::TwoForms | Clash::DrawnSizes | Clash::Memory => "[OPTIONS] [FILE]",
+            Clash::NoKeys | Clash::BadKey => "--old <FILE> --new <FILE> <KEY>...",
         }
     }
 }

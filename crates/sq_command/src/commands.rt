@@ -4,12 +4,14 @@ ghost use Rattle.clap.specs.Walk.{rule_of};
 ghost use Rattle.clap.specs.Simple.{new_shape};
 ghost use Rattle.clap.specs.Words.{app_of, shape_of};
 ghost use Rattle.clap.specs.declared.builder.command.Command.TheViews.{out-Command};
-ghost use Rattle.sq_command.specs.Commands.{program, squall, option_rule, flag_rule, file_rule, valued_rule, larger, with_input, run_shape, ranges_shape, numbered_shape, live_shape, explain_shape};
+ghost use Rattle.sq_command.specs.Commands.{program, working, squall, option_rule, flag_rule, file_rule, valued_rule, larger, with_input};
 
+use crate::explain::explain;
 use crate::help;
-use crate::line::{MAX_PUMPS, MAX_TURNS, PUMPS, TURNS};
+use crate::owner::owner;
+use crate::tasks::{live, ranges, run, steps};
 use clap::builder::ValueParser;
-use clap::{Arg, ArgAction, Command, value_parser};
+use clap::{Arg, ArgAction, Command};
 use std::alloc::{AllocError, Global};
 
 // The version that `--version` tells.
@@ -27,8 +29,13 @@ fn program<'a>(alloc: Global) -> Command<'a>
         .subcommand_required(true)
 }
 
-// A subcommand that takes no further words, with what its help text says.
-fn subcommand<'a>(alloc: Global, name: &'a str, about: &'a str, after_help: &'a str) -> Command<'a>
+/// A subcommand that takes no further words, with what its help text says.
+pub fn subcommand<'a>(
+    alloc: Global,
+    name: &'a str,
+    about: &'a str,
+    after_help: &'a str,
+) -> Command<'a>
     ensures shape { shape_of result ≡ new_shape name.entry.now }
     ensures local { (out-Command result).has_globals ≡ false }
 {
@@ -37,8 +44,8 @@ fn subcommand<'a>(alloc: Global, name: &'a str, about: &'a str, after_help: &'a 
         .after_help(after_help)
 }
 
-// An option with a value, which help calls so.
-fn valued<'a>(alloc: Global, name: &'a str, value: &'a str, help: &'a str) -> Arg<'a>
+/// An option with a value, which help calls so.
+pub fn valued<'a>(alloc: Global, name: &'a str, value: &'a str, help: &'a str) -> Arg<'a>
     ensures rule { rule_of result ≡ valued_rule name.entry.now }
     ensures local { result.global ≡ false }
 {
@@ -48,8 +55,8 @@ fn valued<'a>(alloc: Global, name: &'a str, value: &'a str, help: &'a str) -> Ar
         .help(help)
 }
 
-// An option for a number, and the one that stands where it isn't given.
-fn option<'a>(
+/// An option for a number, and the one that stands where it isn't given.
+pub fn option<'a>(
     alloc: Global,
     name: &'a str,
     help: &'a str,
@@ -64,8 +71,8 @@ fn option<'a>(
         .default_value(default)
 }
 
-// An option that takes no value.
-fn flag<'a>(alloc: Global, name: &'a str, help: &'a str) -> Arg<'a>
+/// An option that takes no value.
+pub fn flag<'a>(alloc: Global, name: &'a str, help: &'a str) -> Arg<'a>
     ensures rule { rule_of result ≡ flag_rule name.entry.now }
     ensures local { result.global ≡ false }
 {
@@ -83,16 +90,16 @@ fn file<'a>(alloc: Global) -> Arg<'a>
     Arg::new(alloc, "file").value_name("FILE").help(help::FILE)
 }
 
-// An option for the name of a file.
-fn path<'a>(alloc: Global, name: &'a str, help: &'a str) -> Arg<'a>
+/// An option for the name of a file.
+pub fn path<'a>(alloc: Global, name: &'a str, help: &'a str) -> Arg<'a>
     ensures rule { rule_of result ≡ valued_rule name.entry.now }
     ensures local { result.global ≡ false }
 {
     valued(alloc, name, "FILE", help)
 }
 
-// The command with one argument more.
-fn with<'a>(command: Command<'a>, arg: Arg<'a>) -> Result<Command<'a>, AllocError>
+/// The command with one argument more.
+pub fn with<'a>(command: Command<'a>, arg: Arg<'a>) -> Result<Command<'a>, AllocError>
     requires { arg.global ≡ false }
     ensures shape { IfOk result (λ more. shape_of more ≡ larger (shape_of command.entry) (rule_of arg.entry)) }
     ensures local { IfOk result (λ more. (out-Command more).has_globals ≡ (out-Command command.entry).has_globals) }
@@ -100,8 +107,8 @@ fn with<'a>(command: Command<'a>, arg: Arg<'a>) -> Result<Command<'a>, AllocErro
     command.arg(arg)
 }
 
-// The command with what says where its input comes from.
-fn with_input<'a>(alloc: Global, command: Command<'a>) -> Result<Command<'a>, AllocError>
+/// The command with what says where its input comes from.
+pub fn with_input<'a>(alloc: Global, command: Command<'a>) -> Result<Command<'a>, AllocError>
     ensures shape { IfOk result (λ more. shape_of more ≡ with_input (shape_of command.entry)) }
     ensures local { IfOk result (λ more. (out-Command more).has_globals ≡ (out-Command command.entry).has_globals) }
 {
@@ -111,79 +118,20 @@ fn with_input<'a>(alloc: Global, command: Command<'a>) -> Result<Command<'a>, Al
     with(with_new, path(alloc, "rows", help::ROWS))
 }
 
-// The subcommand that makes the steps of a script.
-fn run<'a>(alloc: Global) -> Result<Command<'a>, AllocError>
-    ensures shape { IfOk result (λ command. shape_of command ≡ run_shape) }
-    ensures local { IfOk result (λ command. (out-Command command).has_globals ≡ false) }
+// The program's command with the subcommands that do something with an input.
+fn working<'a>(alloc: Global) -> Result<Command<'a>, AllocError>
+    ensures { IfOk result (λ command. app_of command ≡ working) }
 {
-    let plain = subcommand(alloc, "run", help::RUN_ABOUT, help::RUN);
-    let echoing = with(plain, flag(alloc, "echo", help::ECHO))?;
-    let keeping = path(alloc, "rows-out", help::ROWS_OUT);
-    with_input(alloc, with(echoing, keeping)?)
-}
-
-// The subcommand that tells what moves.
-fn ranges<'a>(alloc: Global) -> Result<Command<'a>, AllocError>
-    ensures shape { IfOk result (λ command. shape_of command ≡ ranges_shape) }
-    ensures local { IfOk result (λ command. (out-Command command).has_globals ≡ false) }
-{
-    let plain = subcommand(alloc, "ranges", help::RANGES_ABOUT, help::RANGES);
-    let with_json = with(plain, flag(alloc, "json", help::JSON))?;
-    let with_svg = with(with_json, flag(alloc, "svg", help::SVG))?;
-    with_input(alloc, with_svg)
-}
-
-// As the words say that stand in place of these options.
-const _: () = prove!(TURNS == 1_000_000 && PUMPS == 1);
-
-// The subcommand that runs jobs in threads, with its options for numbers.
-fn numbered<'a>(alloc: Global) -> Result<Command<'a>, AllocError>
-    ensures shape { IfOk result (λ command. shape_of command ≡ numbered_shape) }
-    ensures local { IfOk result (λ command. (out-Command command).has_globals ≡ false) }
-{
-    let plain = subcommand(alloc, "live", help::LIVE_ABOUT, help::LIVE);
-    let any_turns = value_parser!(u64).range(1..=MAX_TURNS as i64);
-    let turns = option(alloc, "turns", help::TURNS, any_turns, "1000000");
-    let with_turns = with(plain, turns)?;
-    let any_pumps = value_parser!(u64).range(1..=MAX_PUMPS as i64);
-    with(
-        with_turns,
-        option(alloc, "pumps", help::PUMPS, any_pumps, "1"),
-    )
-}
-
-// The subcommand that runs jobs in threads.
-fn live<'a>(alloc: Global) -> Result<Command<'a>, AllocError>
-    ensures shape { IfOk result (λ command. shape_of command ≡ live_shape) }
-    ensures local { IfOk result (λ command. (out-Command command).has_globals ≡ false) }
-{
-    let folding = with(numbered(alloc)?, flag(alloc, "fold", help::FOLD))?;
-    let summing = with(folding, flag(alloc, "summary", help::SUMMARY))?;
-    let timed = with(summing, path(alloc, "timeline", help::TIMELINE))?;
-    let replying = with(timed, path(alloc, "replies", help::REPLIES))?;
-    let keeping = path(alloc, "rows-out", help::ROWS_OUT);
-    with_input(alloc, with(replying, keeping)?)
-}
-
-// The subcommand that tells what numbers mean.
-fn explain<'a>(alloc: Global) -> Result<Command<'a>, AllocError>
-    ensures shape { IfOk result (λ command. shape_of command ≡ explain_shape) }
-    ensures local { IfOk result (λ command. (out-Command command).has_globals ≡ false) }
-{
-    let plain = subcommand(alloc, "explain", help::EXPLAIN_ABOUT, help::EXPLAIN);
-    let number = Arg::new(alloc, "number")
-        .value_name("NUMBER")
-        .help(help::NUMBER)
-        .value_parser(value_parser!(u16));
-    with(plain, number)
+    let runs = program(alloc).subcommand(run(alloc)?)?;
+    let tells = runs.subcommand(ranges(alloc)?)?;
+    let lives = tells.subcommand(live(alloc)?)?;
+    lives.subcommand(steps(alloc)?)
 }
 
 /// The program's command, with a subcommand for each line.
 pub fn command<'a>(alloc: Global) -> Result<Command<'a>, AllocError>
     ensures { IfOk result (λ command. app_of command ≡ squall) }
 {
-    let runs = program(alloc).subcommand(run(alloc)?)?;
-    let tells = runs.subcommand(ranges(alloc)?)?;
-    let lives = tells.subcommand(live(alloc)?)?;
-    lives.subcommand(explain(alloc)?)
+    let finds = working(alloc)?.subcommand(owner(alloc)?)?;
+    finds.subcommand(explain(alloc)?)
 }

@@ -1,5 +1,5 @@
 // What the help texts say: in a line of each subcommand and of each argument, and at length behind these.
-use crate::line::MAX_PUMPS;
+use crate::tasks::MAX_PUMPS;
 
 // A text with the header of an example in it, whose only row moves from partition 0 to partition 1.
 macro_rules! with_header {
@@ -18,19 +18,19 @@ row 5 0 0 10 -
 
 /// Behind the options of the whole program.
 pub const PROGRAM: &str = "\
-run, ranges and live read standard input, or the file that is named, and write to
-standard output. Their own help says what, with an example: squall run --help,
-squall ranges --help, squall live --help.
+run, ranges, live and steps read standard input, or the file that is named, and
+write to standard output. Their own help says what, with an example: squall run
+--help, squall live --help.
 
 Exit status:
   0  done
   2  a fault, or a command line that is refused
-  3  a live run that stopped before all was done
+  3  a live run that stopped before all was done, or a refusal with --strict
   4  a live run that isn't sound
 
 After a fault the last line of standard output is its number, as in 'fault 105',
-and standard error says what it means, and on which line it is. squall explain 105
-tells more of it, and squall explain tells all numbers.";
+and standard error says what it means, and on which line it is. squall explain
+105 tells more of it, and squall explain tells all numbers.";
 
 /// Of the file that is read.
 pub const FILE: &str = "The file to read, in place of standard input";
@@ -45,10 +45,12 @@ pub const ROWS: &str = "The lines of the rows, in a file of their own";
 /// Of the file for the rows in the end.
 pub const ROWS_OUT: &str = "Write into this file the rows that stand at the end";
 
-/// Of `run`, of its option, and behind these.
+/// Of `run`, of its options, and behind these.
 pub const RUN_ABOUT: &str = "Makes the steps of a script, and answers each";
 
-pub const ECHO: &str = "Write each step before its answer, and what the number of a refusal means";
+pub const ECHO: &str = "Write each step before its answer, and explain refusals";
+
+pub const STRICT: &str = "Stop behind the first line that is refused";
 
 pub const RUN: &str = with_header!(
     r#"The input holds a header and then a script. The header is the plan before
@@ -62,10 +64,13 @@ like, and so may the lines of the rows. Then the input begins with the sizes:
 squall run --old old.json --new new.json --rows rows.txt script.txt
 
 Standard output gets one line for each step, and at the end where all rows are.
-A step that is refused changes nothing. Its line is 'refused' and a number, which
-'squall explain' explains. With --echo each answer stands behind its step, as in
-'start -> ok', and behind the number of a refusal is what it means, as in
+A step that is refused changes nothing. Its line is 'refused' and a number,
+which 'squall explain' explains. With --echo each answer stands behind its step,
+as in 'start -> ok', and behind the number of a refusal is what it means, as in
 'cut 0 1 -> refused 201: the move isn't under way'.
+
+With --strict the run stops behind the first line that is refused, says on
+standard error which that is and why, writes the dump, and its exit status is 3.
 
 With --rows-out FILE a file gets all rows that stand at the end, as lines that a
 header takes, by rising key: a next run may begin from them (--rows).
@@ -97,7 +102,8 @@ at 0 5 1 0.0=11/-
 
 Exit status:
   0  done
-  2  a fault, or a command line that is refused"#
+  2  a fault, or a command line that is refused
+  3  with --strict, a line that was refused"#
 );
 
 /// Of `ranges`, of its options, and behind these.
@@ -107,12 +113,15 @@ pub const JSON: &str = "Write it as one JSON value, for a program";
 
 pub const SVG: &str = "Draw it, as an SVG picture";
 
+pub const SIZES: &str = "Tell how much moves: families, rows, bytes and chunks";
+
 pub const RANGES: &str =
-    r#"The input holds three lines: the plan before the move, the plan after it,
-and the sizes, of which the first, the root keys in a leaf, says how ranges are
-cut into segments of 32 leaves. What follows isn't looked at. With --old and --new
-the plans stand in files of their own, laid out over as many lines as you like,
-and the input begins with the sizes:
+    r#"The input holds three lines: the plan before the move, the plan after it, and
+the sizes, of which the first, the root keys in a leaf, says how ranges are cut
+into segments of 32 leaves. Without --sizes nothing behind them is looked at,
+and the rows aren't read. With --old and --new the plans stand in files of their
+own, laid out over as many lines as you like, and the input begins with the
+sizes:
 
 squall ranges --old old.json --new new.json sizes.txt
 
@@ -121,6 +130,10 @@ for each segment: from which key on, below which key, from which partition, and
 to which. Where the move has several stages, a segment's line ends with the
 number of its stage. With --json it gets all this as one JSON value instead, and
 with --svg as a picture.
+
+With --sizes the rows are read too, and lines, or the JSON value, tell besides
+how many families (a root key with its rows), rows, bytes and chunks move in
+each range, segment and stage.
 
 Example:
 
@@ -143,14 +156,13 @@ Exit status:
 /// Of `live`, of its options, and behind these.
 pub const LIVE_ABOUT: &str = "Runs jobs in threads while rows move, and audits what is left";
 
-pub const TURNS: &str =
-    "How many turns each thread takes at most in a stage; in a turn a partition takes one new job, or more where it moves rows";
+pub const TURNS: &str = "Turns of a thread in a stage at most";
 
-pub const PUMPS: &str = "How many threads claim rows in the background, up to 16";
+pub const PUMPS: &str = "How many threads claim rows, up to 16";
 
 const _: () = prove!(MAX_PUMPS == 16);
 
-pub const FOLD: &str = "Audit what is answered between two stages, and fold the logs";
+pub const FOLD: &str = "Audit and fold the logs between two stages";
 
 pub const SUMMARY: &str = "Tell behind the line of the run what it did";
 
@@ -159,24 +171,24 @@ pub const TIMELINE: &str = "Write into this file when each thing was done";
 pub const REPLIES: &str = "Write into this file what each job was answered";
 
 pub const LIVE: &str = with_header!(
-    r#"The input holds a header, as for 'squall run', and then jobs: lines
-'txn P ID ROOT OP..', at most 4096 of them, no two with one id. A job is a
-transaction that is posted to partition P. Each partition runs in a thread of
-its own. The partitions answer the jobs, and meanwhile their rows move to the
-places of the new plan: a job pulls the rows that it waits for, and pumps, each a
-thread too, claim the rest in the background. The plans and the rows may stand in
-files of their own, as for 'squall run'.
+    r#"The input holds a header, as for 'squall run', and then jobs: lines 'txn P ID
+ROOT OP..', at most 4096 of them, no two with one id. A job is a transaction
+that is posted to partition P. Each partition runs in a thread of its own. The
+partitions answer the jobs, and meanwhile their rows move to the places of the
+new plan: a job pulls the rows that it waits for, and pumps, each a thread too,
+claim the rest in the background. The plans and the rows may stand in files of
+their own, as for 'squall run'.
 
-In a turn a partition takes one new job. Where it moves rows in that turn it goes on
-with jobs until it has done three times as much for them as for the chunks of the
-turn, or finds none. So a partition needs at most as many turns as jobs are posted
-to it, or more where they wait for rows. Set --turns where a run stops before all is
-done, or where it is to stop soon.
+In a turn a partition takes one new job. Where it moves rows in that turn it
+goes on with jobs until it has done three times as much for them as for the
+chunks of the turn, or finds none. So a partition needs at most as many turns as
+jobs are posted to it, or more where they wait for rows. Set --turns where a run
+stops before all is done, or where it is to stop soon.
 
-A move in several stages runs them one after another, each with all of its turns,
-and a stage whose rows haven't all moved then stops the run. With --fold what is
-answered is audited between two stages, and the logs are folded: a row stays, and
-what was written of it before doesn't.
+A move in several stages runs them one after another, each with all of its
+turns, and a stage whose rows haven't all moved then stops the run. With --fold
+what is answered is audited between two stages, and the logs are folded: a row
+stays, and what was written of it before doesn't.
 
 Standard output gets one line:
 
@@ -190,16 +202,16 @@ fault NUMBER                           of the input, and then no thread ran, or
 At a terminal standard error tells meanwhile how many jobs are answered and how
 many segments are complete.
 
-With --summary standard error tells besides what moved along each link, what became
-of the jobs at each partition, and how long the parts of the run took. With
---timeline FILE a file gets the moments at which jobs were answered and segments
-were complete: as lines of comma-separated values where its name ends in '.csv', and
-else as a chart in SVG.
+With --summary standard error tells besides what moved along each link, what
+became of the jobs at each partition, and how long the parts of the run took.
+With --timeline FILE a file gets the moments at which jobs were answered and
+segments were complete: as lines of comma-separated values where its name ends
+in '.csv', and else as a chart in SVG.
 
-With --replies FILE a file gets the answer of each job, as 'squall run' writes it,
-in the order of the jobs, and with --rows-out FILE all rows that stand at the end,
-as lines that a header takes: a next run may begin from them (--rows), whose old plan
-is then the new one of this run.
+With --replies FILE a file gets the answer of each job, as 'squall run' writes
+it, in the order of the jobs, and with --rows-out FILE all rows that stand at
+the end, as lines that a header takes: a next run may begin from them (--rows),
+whose old plan is then the new one of this run.
 
 Example:
 
@@ -221,16 +233,64 @@ Exit status:
   4  unsound"#
 );
 
+/// Of `steps`, and behind its options.
+pub const STEPS_ABOUT: &str = "Writes the script that makes a whole move";
+
+pub const STEPS: &str = with_header!(
+    r#"The input holds a header, as for 'squall run': the plan before the move, the
+plan after it, the sizes, and the rows that there are. They may stand in files
+of their own.
+
+Standard output gets the script that makes the whole move, from 'prepare' to
+'finish': claims, cuts, and the sending and loading of as many chunks as the
+rows need, stage after stage. 'squall run' makes it, where it stands behind the
+same header:
+
+squall steps header.txt > script.txt
+cat header.txt script.txt | squall run
+
+Example:
+
+squall steps <<'END'
+"#,
+    r#"END
+
+Exit status:
+  0  done
+  2  a fault, or a command line that is refused"#
+);
+
+/// Of `owner`, of its options and its words, and behind these.
+pub const OWNER_ABOUT: &str = "Tells who owns root keys before a move and after it";
+
+pub const WIDTH: &str = "How many root keys a leaf has, as the line config says";
+
+pub const KEYS: &str = "The root keys, numbers below 4294967296";
+
+pub const OWNER: &str = "\
+Standard output gets a line for each root key, in the order of the words: the
+partition that owns it by the plan before the move, and the one that owns it by
+the plan after it; where it moves, in which range it stands and in which stage
+it goes, and with --width in which segment and leaf it stands.
+
+Example:
+
+squall owner --old old.json --new new.json 5 77
+
+Exit status:
+  0  done
+  2  a fault, or a command line that is refused";
+
 /// Of `explain`, of its number, and behind these.
 pub const EXPLAIN_ABOUT: &str =
-    "Tells what a number means, what it is given to, and what to do about it";
+    "Tells what a number means, where it is given, and what to do about it";
 
 pub const NUMBER: &str = "The number; all of them where none is given";
 
 pub const EXPLAIN: &str = "\
 Standard output gets three lines for the number: the number with what it means,
-what it is given to, and what to do about it. Without a number it gets these lines
-for all numbers, in their order.
+what it is given to, and what to do about it. Without a number it gets these
+lines for all numbers, in their order.
 
 Exit status:
   0  done

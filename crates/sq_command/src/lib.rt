@@ -3,7 +3,12 @@
 
 mod clash;
 mod commands;
+mod explain;
 mod help;
 mod line;
+mod options;
+mod owner;
+mod tasks;
 
-pub use line::{Form, Input, Line, MAX_PUMPS, MAX_TURNS, PUMPS, Plans, TURNS, Task, line_of};
+pub use line::{Form, Input, Line, Plans, Task, line_of};
+pub use tasks::{MAX_PUMPS, MAX_TURNS, PUMPS, TURNS};

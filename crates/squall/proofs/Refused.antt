@@ -6,13 +6,14 @@ use Rattle.clap.specs.Walk.{Text}
 use Rattle.sq_command.specs.declared.line.Plans.{Plans}
 use Rattle.sq_command.specs.declared.line.Input.{Input}
 use Rattle.sq_command.specs.declared.line.Task.{Task}
-use Rattle.sq_command.specs.declared.line.Task.TheVariants.{Run, Ranges, Live}
+use Rattle.sq_command.specs.declared.line.Task.TheVariants.{Run, Ranges, Live, Steps}
 use Rattle.squall.specs.Session.{EndsTask, EndsMain, EndsInput}
 
 refused_task : (task : Task) (known before now : Option (List ℕ)) → EndsTask task known before now 2
-refused_task (Run echoes rows_out) known before now = record { ran = Err (record {}); holds = tt; status_is = refl }
-refused_task (Ranges form) known before now = record { ran = Err (record {}); holds = tt; status_is = refl }
+refused_task (Run echoes strict rows_out) known before now = record { ran = Err (record {}); holds = tt; status_is = refl }
+refused_task (Ranges form sizes) known before now = record { ran = Err (record {}); holds = tt; status_is = refl }
 refused_task (Live turns pumps folds summary timeline replies rows_out) known before now = record { ran = Err (record {}); holds = tt; status_is = refl }
+refused_task Steps known before now = record { ran = Err (record {}); holds = tt; status_is = refl }
 
 refused_main : (task : Task) (plans : Option Plans) (file : Option (Bor Text)) (known before now : Option (List ℕ)) → EndsMain task plans file known before now 2
 refused_main task plans (Some file) known before now = inr refl

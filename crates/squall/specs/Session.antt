@@ -1,5 +1,5 @@
 -- How the program ends.
-use Rattle.std.specs.Prelude.{◌≡◌, ◌⊎◌, ℕ, Bool, true, if◌then◌else◌, List, Option, Some, None, is_some, Result, Ok, Err, IfOk}
+use Rattle.std.specs.Prelude.{◌≡◌, ◌⊎◌, ℕ, Bool, true, false, if◌then◌else◌, List, Option, Some, None, is_some, unwrap_or, Result, Ok, Err, IfOk, ◌++◌, codes, decimal}
 use Rattle.std.specs.Borrow.{Bor}
 use Rattle.std.specs.Fmt.{option_append}
 use Rattle.clap.specs.Values.{kind_of}
@@ -11,8 +11,13 @@ use Rattle.sq_schema.specs.declared.schema.TheConstants.{MAX_TABLES}
 use Rattle.sq_inputs.specs.Inputs.{plan_lines, inserted_text}
 use Rattle.sq_text.specs.declared.output_fault.WriteFault.{WriteFault}
 use Rattle.sq_world.specs.declared.ending.Ending.{Ending}
-use Rattle.sq_world.specs.Run.{Runs, exit_status_of}
+use Rattle.sq_world.specs.Run.{Runs, in_manner, exit_status_of}
 use Rattle.sq_world.specs.Listing.{Lists, Tells}
+use Rattle.sq_steps.specs.Scripts.{WritesScript}
+use Rattle.sq_ranges.specs.declared.recon.TheConstants.{MAX_WIDTH}
+use Rattle.sq_sizes.specs.Asked.{TellsOpening}
+use Rattle.sq_sizes.specs.SizeLines.{TellsSizesAsLines}
+use Rattle.sq_sizes.specs.SizeJson.{TellsSizesAsJson}
 use Rattle.sq_picture.specs.Json.{TellsAsJson}
 use Rattle.sq_picture.specs.MovesSvg.{TellsAsSvg}
 use Rattle.sq_live.specs.declared.ending.LiveEnding.{LiveEnding}
@@ -23,9 +28,9 @@ use Rattle.sq_command.specs.declared.line.Plans.{Plans}
 use Rattle.sq_command.specs.declared.line.Form.{Form}
 use Rattle.sq_command.specs.declared.line.Form.TheVariants.{Lines, Json, Svg}
 use Rattle.sq_command.specs.declared.line.Task.{Task}
-use Rattle.sq_command.specs.declared.line.Task.TheVariants.{Run, Ranges, Live}
+use Rattle.sq_command.specs.declared.line.Task.TheVariants.{Run, Ranges, Live, Steps}
 use Rattle.sq_command.specs.declared.line.Line.{Line}
-use Rattle.sq_command.specs.declared.line.Line.TheVariants.{Work, Explain}
+use Rattle.sq_command.specs.declared.line.Line.TheVariants.{Work, Owner, Explain}
 use Rattle.sq_command.specs.Line.{ComesOf}
 
 -- the exit status after a run
@@ -50,16 +55,28 @@ explain_status (Ok told) = if told then 0 else 2
 explain_status (Err fault) = 2
 
 -- what a reader gives is answered by what moves, in this form
-abbrev pub ListsAs : Form → Option (List ℕ) → Option (List ℕ) → Option (List ℕ) → Ending → Type 0
-ListsAs Lines = Lists MAX_TABLES
-ListsAs Json = Tells TellsAsJson MAX_TABLES
-ListsAs Svg = Tells TellsAsSvg MAX_TABLES
+abbrev pub MovesAs : Form → Option (List ℕ) → Option (List ℕ) → Option (List ℕ) → Ending → Type 0
+MovesAs Lines = Lists MAX_TABLES
+MovesAs Json = Tells TellsAsJson MAX_TABLES
+MovesAs Svg = Tells TellsAsSvg MAX_TABLES
+
+-- the same with its sizes, but for a picture
+abbrev pub SizesAs : Form → Option (List ℕ) → Option (List ℕ) → Option (List ℕ) → Ending → Type 0
+SizesAs Lines = TellsOpening TellsSizesAsLines MAX_TABLES
+SizesAs Json = TellsOpening TellsSizesAsJson MAX_TABLES
+SizesAs Svg = Tells TellsAsSvg MAX_TABLES
+
+-- either of them
+abbrev pub ListsAs : Form → Bool → Option (List ℕ) → Option (List ℕ) → Option (List ℕ) → Ending → Type 0
+ListsAs form false = MovesAs form
+ListsAs form true = SizesAs form
 
 -- a task was done with what a reader gives, and ended with this status
 abbrev pub EndsTask : Task → Option (List ℕ) → Option (List ℕ) → Option (List ℕ) → ℕ → Type 0
-EndsTask (Run echoes rows_out) known before now = EndsAs (Runs echoes MAX_TABLES known before now) exit_status
-EndsTask (Ranges form) known before now = EndsAs (ListsAs form known before now) exit_status
+EndsTask (Run echoes strict rows_out) known before now = EndsAs (Runs (in_manner echoes strict) MAX_TABLES known before now) exit_status
+EndsTask (Ranges form sizes) known before now = EndsAs (ListsAs form sizes known before now) exit_status
 EndsTask (Live turns pumps folds summary timeline replies rows_out) known before now = EndsAs (RunsLive folds MAX_TABLES known before now) live_status
+EndsTask Steps known before now = EndsAs (WritesScript MAX_TABLES known before now) exit_status
 
 -- what stands behind the plans: the main part of an input, and behind its first line the rows, where they have a file
 abbrev pub IsBehindPlans : Option (Bor Text) → Option (List ℕ) → Option (List ℕ) → Type 0
@@ -72,6 +89,13 @@ IsPutTogether None main held = held ≡ main
 IsPutTogether (Some plans) main held =
     (old : List ℕ) × (new : List ℕ) × (behind : Option (List ℕ)) × IsBehindPlans plans.rows main behind
     × (held ≡ option_append (Some (plan_lines old new)) behind)
+
+-- a task was done with these lines, the main part behind them, and some rows behind the first line of that; or there is no
+-- memory for the rows
+abbrev pub EndsWithRows : Task → List ℕ → Option (List ℕ) → Option (List ℕ) → Option (List ℕ) → ℕ → Type 0
+EndsWithRows task lines main before now status =
+    ((rows : Option (List ℕ)) × EndsTask task (option_append (Some lines) (inserted_text main rows)) before now status)
+    ⊎ (status ≡ 2)
 
 -- a task was done with an input that has this main part and these plans, or else one of their files can't be read
 abbrev pub EndsParts : Task → Option Plans → Option (List ℕ) → Option (List ℕ) → Option (List ℕ) → ℕ → Type 0
@@ -89,9 +113,15 @@ EndsMain task plans (Some file) known before now status =
 abbrev pub EndsInput : Task → Input → Option (List ℕ) → Option (List ℕ) → Option (List ℕ) → ℕ → Type 0
 EndsInput task input known before now status = EndsMain task input.plans input.file known before now status
 
--- what a line asks for was done with what the reader or the files give, unless a file can't be read, and ended with this status
+-- the line of the sizes, with leaves of this width, or the widest ones
+abbrev pub widest_config : Option ℕ → List ℕ
+widest_config width = codes "config " ++ decimal (unwrap_or width MAX_WIDTH) ++ codes " 64 1\n"
+
+-- what a line asks for was done with what the reader or the files give, unless a file can't be read, and ended with this status;
+-- of what is told of owners nothing is said here
 abbrev pub EndsLine : Line → Option (List ℕ) → Option (List ℕ) → Option (List ℕ) → ℕ → Type 0
 EndsLine (Work task input) known before now status = EndsInput task input known before now status
+EndsLine (Owner keys plans width) known before now status = Unit {0}
 EndsLine (Explain number) known before now status = EndsAs (Explains number before now) explain_status status
 
 -- the words have no fault, and what their subcommand asks for ended with this status

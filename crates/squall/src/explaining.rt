@@ -6,27 +6,38 @@ ghost use Rattle.squall.specs.Session.{explain_status, EndsAs};
 use crate::session::{REFUSED, explain_write};
 use sq_explain::explain;
 use sq_text::WriteFault;
+use std::cell::Cell;
 use std::io::Write;
 
 /// Writes what this number means, what it is given to and what to do about it, or that of all numbers. Where there is no such
 /// number standard error says so. Gives the exit status.
-pub fn explanation<W: Write>(rt: &impl Eprint, writer: &mut W, number: Option<u16>) -> u8
+pub fn explanation<W: Write>(
+    rt: &impl Eprint,
+    writer: &mut W,
+    number: Option<u16>,
+    is_closed: &Cell<bool>,
+) -> u8
     ensures { EndsAs (Explains number (W.contents writer.old) (W.contents writer.new)) explain_status result }
 {
     let told = explain(writer, number).map_err(WriteFault::from);
-    explain_told(rt, told, number);
+    explain_told(rt, told, number, is_closed.get());
     explain_status(told)
 }
 
-// Says on standard error that there is no such number, or that a write failed.
-fn explain_told(rt: &impl Eprint, told: Result<bool, WriteFault>, number: Option<u16>) {
+// Says on standard error that there is no such number, or that a write failed, unless it did since the output is closed.
+fn explain_told(
+    rt: &impl Eprint,
+    told: Result<bool, WriteFault>,
+    number: Option<u16>,
+    is_closed: bool,
+) {
     match told {
         Ok(is_told) => {
             if !is_told {
                 refuse_number(rt, number);
             }
         }
-        Err(fault) => explain_write(rt, fault),
+        Err(fault) => explain_write(rt, fault, is_closed),
     }
 }
 

@@ -1,9 +1,11 @@
 // What doesn't fit in a faulty line.
 use crate::plans::read_plan;
 use crate::source::{FaultPlace, Source};
+use sq_csv_rows::ToldColumn;
 use sq_diagnosis::{
-    LineFlaw, PlanFlaw, ToldFlaw, ToldWord, Wanted, job_flaw, job_word, opening_word, plan_flaw,
-    plan_line_flaw, row_flaw, sizes_flaw,
+    LineFlaw, MoveLines, PlanFlaw, SegmentFlaw, ToldFlaw, ToldWord, Wanted, has_unread_stages,
+    job_flaw, job_word, opening_word, plan_flaw, plan_line_flaw, row_flaw, segment_flaw,
+    sizes_flaw,
 };
 use sq_inputs::{Recalled, Recalling};
 use sq_live::{JobFault, JobLineFault};
@@ -32,8 +34,23 @@ enum Misfit<'a> {
     Flaw(ToldFlaw<'a>),
     /// One of its words isn't what it is to be.
     Word(ToldWord<'a>),
+    /// A column of its record isn't what it is to be.
+    Column(ToldColumn<'a>),
     /// Its plan is none.
     Plan(PlanFlaw),
+    /// Its sizes cut the move into too many segments.
+    Segments(SegmentFlaw),
+}
+
+impl<'a> Misfit<'a> {
+    // The same, as it is said of the columns of a record.
+    fn in_columns(self) -> Misfit<'a> {
+        match self {
+            Misfit::Flaw(flaw) => Misfit::Column(ToldColumn::Flaw(flaw)),
+            Misfit::Word(word) => Misfit::Column(ToldColumn::Word(word)),
+            misfit => misfit,
+        }
+    }
 }
 
 impl Display for Misfit<'_> {
@@ -43,7 +60,9 @@ impl Display for Misfit<'_> {
             Misfit::Endless => f.write_str("it has no line end (the byte 0A)"),
             Misfit::Flaw(flaw) => write!(f, "{flaw}"),
             Misfit::Word(word) => write!(f, "{word}"),
+            Misfit::Column(column) => write!(f, "{column}"),
             Misfit::Plan(flaw) => write!(f, "{flaw}"),
+            Misfit::Segments(flaw) => write!(f, "{flaw}"),
         }
     }
 }
@@ -64,8 +83,39 @@ pub fn tell_misfit<T: Eprint + Files + AllocGlobal, R: Read>(
         return;
     }
     let recalled = reader.line(line.number() as usize);
-    if let Some(misfit) = misfit_of(rt.alloc(), line, located.fault, recalled) {
+    let misfit = match misfit_of_segments(rt.alloc(), reader, located.fault, recalled) {
+        Some(misfit) => Some(misfit),
+        None => misfit_of(rt.alloc(), line, located.fault, recalled),
+    };
+    let told = if source.is_record(line) {
+        misfit.map(Misfit::in_columns)
+    } else {
+        misfit
+    };
+    if let Some(misfit) = told {
         let _ = eprintln!(rt; "squall: {place}: {misfit}");
+    }
+}
+
+/// Says on standard error which of the plans of an input is of the first version and has stages, which aren't read there.
+pub fn tell_unread_stages<T: Eprint + AllocGlobal, R: Read>(
+    rt: &T,
+    source: &Source<'_>,
+    reader: &Recalling<R>,
+) {
+    let lines = [
+        (InputLine::Old, reader.old_line()),
+        (InputLine::New, reader.new_line()),
+    ];
+    for (line, bytes) in lines {
+        if let Some(text) = bytes.and_then(|bytes| bytes.get(4..)) {
+            if has_unread_stages(rt.alloc(), text) == Ok(true) {
+                let place = source.place(line);
+                let _ = eprintln!(rt;
+                    "squall: {place}: 'stages' isn't read in version 1: write \"version\":2"
+                );
+            }
+        }
     }
 }
 
@@ -88,6 +138,26 @@ fn tell_plan_of_file<T: Eprint + Files + AllocGlobal>(rt: &T, name: &str, fault:
     };
     if let Some(flaw) = plan_flaw(rt.alloc(), fault, text.as_slice()) {
         let _ = eprintln!(rt; "squall: {name}: {flaw}");
+    }
+}
+
+// How a line of sizes doesn't fit that cuts the move into too many segments.
+fn misfit_of_segments<'a, R: Read>(
+    alloc: Global,
+    reader: &Recalling<R>,
+    fault: InputFault,
+    recalled: Recalled<'a>,
+) -> Option<Misfit<'a>> {
+    match (fault, recalled) {
+        (InputFault::Opening(fault), Recalled::Line(sizes)) => {
+            let lines = MoveLines {
+                old: reader.old_line()?,
+                new: reader.new_line()?,
+                sizes,
+            };
+            Some(Misfit::Segments(segment_flaw(alloc, fault, lines)?))
+        }
+        _ => None,
     }
 }
 

@@ -6,7 +6,7 @@ ghost use Rattle.sq_schema.specs.declared.schema.TheConstants.{MAX_TABLES};
 ghost use Rattle.sq_live.specs.Live.{RunsLive};
 ghost use Rattle.squall.specs.Session.{live_status, EndsAs};
 
-use crate::flaws::tell_misfit_of_job;
+use crate::flaws::{tell_misfit_of_job, tell_unread_stages};
 use crate::outputs::save_text;
 use crate::session::{REFUSED, explain, explain_write};
 use crate::source::Source;
@@ -231,6 +231,7 @@ fn explain_live<T: Eprint + Files + AllocGlobal, R: Read>(
             let _ = eprintln!(rt; "squall: {place}: fault {number}: {}", job.fault);
             tell_misfit_of_job(rt, place, reader, job);
         }
-        Err(fault) => explain_write(rt, fault),
+        Err(fault) => explain_write(rt, fault, source.is_closed.get()),
     }
+    tell_unread_stages(rt, source, reader);
 }

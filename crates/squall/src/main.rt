@@ -3,31 +3,38 @@
 
 ghost use Rattle.std.specs.Prelude.{map};
 ghost use Rattle.sq_command.specs.Line.{IsWithin};
-ghost use Rattle.squall.specs.Session.{EndsTask, EndsParts, EndsInput, EndsWith, EndsBuffered};
+ghost use Rattle.squall.specs.Session.{EndsTask, EndsWithRows, EndsParts, EndsInput, EndsWith, EndsBuffered};
 
 mod explaining;
 mod flaws;
 mod live_runs;
 mod outputs;
+mod owning;
 mod plans;
 mod progress;
 mod session;
 mod source;
+mod steps;
+mod streams;
 
 use explaining::explanation;
 use live_runs::{Manner, RunReport, live_run};
 use outputs::refuse_outputs;
+use owning::owners;
 use plans::lines_of_plans;
 use progress::Progress;
 use session::{
     listing, open_input, print_usage, refuse_file, refuse_for_memory, refuse_words, script,
 };
-use source::Source;
+use source::{Source, is_table};
 use sq_command::{Input, Line, Task, line_of};
+use sq_csv_rows::{CsvRows, RecordLines};
 use sq_driver::OpenGate;
 use sq_inputs::{Inserting, Recalling};
 use sq_live::Watch;
+use sq_outputs::PipeEnd;
 use sq_row_lines::RowLines;
+use sq_world::ScriptManner;
 use std::cell::Cell;
 use std::convert::AsStr;
 use std::io::{BufWriter, IsTerminal, Read, Write};
@@ -37,6 +44,8 @@ use std::sync::Wait;
 use std::thread::Threads;
 use std::time::Clock;
 use std::{env, io};
+use steps::steps;
+use streams::Streams;
 
 // How many bytes go out at a time.
 const WRITE_SIZE: usize = 65_536;
@@ -55,6 +64,7 @@ struct Assignment<'a, T, G> {
     input: Input<'a>,
     /// Workers of a live run ask it before each step.
     watch: &'a G,
+    streams: Streams<'a>,
 }
 
 impl<T, G> Assignment<'_, T, G>
@@ -72,6 +82,7 @@ where
             return status;
         }
         let Some(name) = self.input.file else {
+            self.streams.say_wait(self.rt, self.input);
             return self.work_on_parts(reader, writer);
         };
         match open_input(self.rt, name) {
@@ -87,9 +98,12 @@ where
         ensures { EndsParts self.now.task self.now.input.plans (R.remaining main) (W.contents writer.old) (W.contents writer.new) result }
     {
         let rows = Cell::new(None);
+        let records = RecordLines::new(self.rt.alloc());
         let source = Source {
             input: self.input,
             rows: &rows,
+            records: &records,
+            is_closed: self.streams.is_closed,
         };
         let Some(plans) = self.input.plans else {
             return self.work(&source, main, writer);
@@ -102,11 +116,35 @@ where
             return self.work(&source, lines.as_slice().chain(main), writer);
         };
         match open_input(self.rt, name) {
-            Ok(file) => {
-                let behind = Inserting::new(main, RowLines::new(file), &rows);
-                self.work(&source, lines.as_slice().chain(behind), writer)
-            }
+            Ok(file) => self.work_with_rows(&source, &lines, main, name, file, writer),
             Err(error) => refuse_file(self.rt, name, &error),
+        }
+    }
+
+    // Does the task with the lines of the plans, the main part, and behind its first line the rows of a file of this name, and
+    // gives the exit status: 2 where there is no memory to read them.
+    fn work_with_rows<M: Read + Drop, F: Read + Drop, W: Write>(
+        &self,
+        source: &Source<'_>,
+        lines: &[u8],
+        main: M,
+        name: &str,
+        file: F,
+        writer: &mut W,
+    ) -> u8
+        requires { IsWithin self.now.task }
+        ensures { EndsWithRows self.now.task lines.now (M.remaining main) (W.contents writer.old) (W.contents writer.new) result }
+    {
+        if !is_table(name) {
+            let behind = Inserting::new(main, RowLines::new(file), source.rows);
+            return self.work(source, lines.chain(behind), writer);
+        }
+        match CsvRows::new(self.rt.alloc(), file, source.records) {
+            Ok(rows) => {
+                let behind = Inserting::new(main, rows, source.rows);
+                self.work(source, lines.chain(behind), writer)
+            }
+            Err(_) => refuse_for_memory(self.rt),
         }
     }
 
@@ -119,10 +157,18 @@ where
         // A faulty line is looked at once more.
         let mut reader = Recalling::new(rt.alloc(), reader);
         match self.task {
-            Task::Run { echoes, rows_out } => {
-                script(rt, &mut reader, writer, echoes, rows_out, source)
+            Task::Run {
+                echoes,
+                strict,
+                rows_out,
+            } => {
+                let manner = ScriptManner { echoes, strict };
+                script(rt, &mut reader, writer, manner, rows_out, source)
             }
-            Task::Ranges { form } => listing(rt, &mut reader, writer, form, source),
+            Task::Ranges { form, sizes } => {
+                listing(rt, &mut reader, writer, form, sizes, source)
+            }
+            Task::Steps => steps(rt, &mut reader, writer, source),
             Task::Live {
                 turns,
                 pumps,
@@ -156,7 +202,7 @@ fn obey<
     R: Read,
     W: Write,
     G: Watch,
->(rt: &T, words: &[S], reader: &mut R, writer: &mut W, watch: &G) -> u8
+>(rt: &T, words: &[S], reader: &mut R, writer: &mut W, watch: &G, streams: Streams<'_>) -> u8
     ensures { EndsWith (map S.text words.now) (R.remaining reader.old) (W.contents writer.old) (W.contents writer.new) result }
 {
     match line_of(rt.alloc(), words) {
@@ -166,10 +212,14 @@ fn obey<
                 task,
                 input,
                 watch,
+                streams,
             };
             assignment.carry_out(reader, writer)
         }
-        Ok(Line::Explain { number }) => explanation(rt, writer, number),
+        Ok(Line::Owner { keys, plans, width }) => {
+            owners(rt, writer, plans, width, &keys, streams.is_closed)
+        }
+        Ok(Line::Explain { number }) => explanation(rt, writer, number, streams.is_closed),
         Err(error) => print_usage(rt, &error),
     }
 }
@@ -181,13 +231,19 @@ fn obey_buffered<
     R: Read,
     W: Write + Drop,
     G: Watch,
->(rt: &T, words: &[S], reader: &mut R, writer: W, watch: &G) -> u8
+>(rt: &T, words: &[S], reader: &mut R, writer: W, watch: &G, is_typed: bool) -> u8
     ensures { EndsBuffered (map S.text words.now) (R.remaining reader.old) (W.contents writer) result }
 {
-    let Ok(mut writer) = BufWriter::with_capacity(rt.alloc(), WRITE_SIZE, writer) else {
+    let is_closed = Cell::new(false);
+    let output = PipeEnd::new(writer, &is_closed);
+    let Ok(mut writer) = BufWriter::with_capacity(rt.alloc(), WRITE_SIZE, output) else {
         return refuse_for_memory(rt);
     };
-    let status = obey(rt, words, reader, &mut writer, watch);
+    let streams = Streams {
+        is_typed,
+        is_closed: &is_closed,
+    };
+    let status = obey(rt, words, reader, &mut writer, watch, streams);
     // A failed write has left bytes, which a buffer that is dropped would write.
     let (_unbuffered, _unwritten) = writer.into_parts();
     status
@@ -198,11 +254,13 @@ fn main(rt: HostRuntime) -> ExitCode {
         Ok(words) => {
             let mut reader = rt.reader();
             let writer = io::writer(&rt);
+            let is_typed = rt.stdin().is_terminal();
             // At a terminal standard error tells how far a live run is.
             if rt.stderr().is_terminal() {
-                obey_buffered(&rt, &words, &mut reader, writer, &Progress::new(&rt))
+                let progress = Progress::new(&rt);
+                obey_buffered(&rt, &words, &mut reader, writer, &progress, is_typed)
             } else {
-                obey_buffered(&rt, &words, &mut reader, writer, &OpenGate)
+                obey_buffered(&rt, &words, &mut reader, writer, &OpenGate, is_typed)
             }
         }
         Err(error) => refuse_words(&rt, &error),

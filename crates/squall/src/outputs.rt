@@ -11,7 +11,7 @@ use std::rt::Files;
 fn named_outputs(task: Task<'_>) -> [(&'static str, Option<&str>); 3] {
     let (timeline, replies, rows_out) = match task {
         Task::Run { rows_out, .. } => (None, None, rows_out),
-        Task::Ranges { .. } => (None, None, None),
+        Task::Ranges { .. } | Task::Steps => (None, None, None),
         Task::Live {
             timeline,
             replies,

@@ -5,18 +5,21 @@ ghost use Rattle.sq_inputs.specs.Recalling.{recalling_remaining};
 ghost use Rattle.sq_schema.specs.declared.schema.TheConstants.{MAX_TABLES};
 ghost use Rattle.sq_results.specs.Standing.{WritesRows, world_families};
 ghost use Rattle.sq_world.specs.Run.{Runs};
-ghost use Rattle.squall.specs.Session.{exit_status, EndsAs, ListsAs, IsUsageStatus};
+ghost use Rattle.squall.specs.Session.{exit_status, EndsAs, MovesAs, SizesAs, ListsAs, IsUsageStatus};
 
-use crate::flaws::tell_misfit;
+use crate::flaws::{tell_misfit, tell_unread_stages};
 use crate::outputs::save_text;
 use crate::source::Source;
 use clap::Error;
 use sq_command::Form;
-use sq_inputs::Recalling;
+use sq_diagnosis::ToldLine;
+use sq_explain::entry;
+use sq_inputs::{Recalled, Recalling};
 use sq_picture::{AsJson, AsSvg};
 use sq_results::write_world_rows;
+use sq_sizes::{SizesAsJson, SizesAsLines, tell_opening};
 use sq_text::{InputFault, InputLine, LocatedFault, Meaning, WriteFault};
-use sq_world::{Ending, World, list, ranges, run_and_echo};
+use sq_world::{Ending, RefusedLine, ScriptManner, World, list, ranges, run_in_manner};
 use std::alloc::Global;
 use std::fs::OpenFile;
 use std::io::{ErrorKind, Read, Write};
@@ -27,23 +30,23 @@ use std::{fs, io};
 /// The exit status after a fault, and after a command line that was refused.
 pub const REFUSED: u8 = 2;
 
-/// Runs the script in `reader`, writes what it comes to, each answer behind its step where it echoes, and says on standard
-/// error what its fault means. Where it came to its end, the rows that stand then go into the file that is named for them.
-/// Gives the exit status.
+/// Runs the script in `reader` in this manner, writes what it comes to, and says on standard error what its fault means, or
+/// the refusal behind which it stopped. Unless it ends by a fault, the rows that stand at its end go into the file that is
+/// named for them. Gives the exit status.
 pub fn script<T: Eprint + Files + AllocGlobal, R: Read, W: Write>(
     rt: &T,
     reader: &mut Recalling<R>,
     writer: &mut W,
-    echoes: bool,
+    manner: ScriptManner,
     rows_out: Option<&str>,
     source: &Source<'_>,
 ) -> u8
     ensures { EndsAs
-        (Runs echoes MAX_TABLES (recalling_remaining R.remaining reader.old) (W.contents writer.old) (W.contents writer.new))
+        (Runs manner MAX_TABLES (recalling_remaining R.remaining reader.old) (W.contents writer.old) (W.contents writer.new))
         exit_status result }
 {
     let mut world = None;
-    let ran = run_and_echo(rt.alloc(), reader, writer, echoes, &mut world);
+    let ran = run_in_manner(rt.alloc(), reader, writer, manner, &mut world);
     explain_end(rt, source, reader, ran);
     let is_saved = save_rows(rt, rows_out, ran, &world);
     // The program ends, and the system takes its memory back sooner than it could be freed.
@@ -63,7 +66,7 @@ fn save_rows<T: Eprint + Files + AllocGlobal>(
     world: &Option<World>,
 ) -> bool {
     match (rows_out, ran, world) {
-        (Some(name), Ok(Ending::Done), Some(world)) => save_text(
+        (Some(name), Ok(Ending::Done | Ending::Stopped(_)), Some(world)) => save_text(
             rt,
             name,
             rows_text(rt.alloc(), world),
@@ -82,30 +85,65 @@ fn rows_text(alloc: Global, world: &World) -> io::Result<Vec<u8>>
     Ok(text)
 }
 
-/// Writes what moves between the plans in `reader`, in this form, and says on standard error what their fault means. Gives
-/// the exit status.
+/// Writes what moves between the plans in `reader`, in this form, with its sizes where they are asked for, and says on standard
+/// error what their fault means. Gives the exit status.
 pub fn listing<T: Eprint + Files + AllocGlobal, R: Read, W: Write>(
     rt: &T,
     reader: &mut Recalling<R>,
     writer: &mut W,
     form: Form,
+    sizes: bool,
     source: &Source<'_>,
 ) -> u8
     ensures { EndsAs
-        (ListsAs form (recalling_remaining R.remaining reader.old) (W.contents writer.old) (W.contents writer.new))
+        (ListsAs form sizes (recalling_remaining R.remaining reader.old) (W.contents writer.old) (W.contents writer.new))
         exit_status result }
 {
-    let listed = match form {
-        Form::Lines => ranges(rt.alloc(), reader, writer),
-        Form::Json => list(rt.alloc(), reader, writer, &AsJson),
-        Form::Svg => list(rt.alloc(), reader, writer, &AsSvg),
+    let listed = if sizes {
+        list_sizes(rt.alloc(), reader, writer, form)
+    } else {
+        list_moves(rt.alloc(), reader, writer, form)
     };
     explain_end(rt, source, reader, listed);
     exit_status(listed)
 }
 
-// Says on standard error what the fault of a run means, if it has one, and the line that it belongs to.
-fn explain_end<T: Eprint + Files + AllocGlobal, R: Read>(
+// Writes what moves, in this form.
+fn list_moves<R: Read, W: Write>(
+    alloc: Global,
+    reader: &mut R,
+    writer: &mut W,
+    form: Form,
+) -> Result<Ending, WriteFault>
+    ensures { IfOk result
+        (MovesAs form (R.remaining reader.old) (W.contents writer.old) (W.contents writer.new)) }
+{
+    match form {
+        Form::Lines => ranges(alloc, reader, writer),
+        Form::Json => list(alloc, reader, writer, &AsJson),
+        Form::Svg => list(alloc, reader, writer, &AsSvg),
+    }
+}
+
+// The same with its sizes, but in a picture without them.
+fn list_sizes<R: Read, W: Write>(
+    alloc: Global,
+    reader: &mut R,
+    writer: &mut W,
+    form: Form,
+) -> Result<Ending, WriteFault>
+    ensures { IfOk result
+        (SizesAs form (R.remaining reader.old) (W.contents writer.old) (W.contents writer.new)) }
+{
+    match form {
+        Form::Lines => tell_opening(alloc, reader, writer, &SizesAsLines),
+        Form::Json => tell_opening(alloc, reader, writer, &SizesAsJson),
+        Form::Svg => list(alloc, reader, writer, &AsSvg),
+    }
+}
+
+/// Says on standard error what the fault of a run means, if it has one, and the line that it belongs to.
+pub(crate) fn explain_end<T: Eprint + Files + AllocGlobal, R: Read>(
     rt: &T,
     source: &Source<'_>,
     reader: &Recalling<R>,
@@ -113,18 +151,44 @@ fn explain_end<T: Eprint + Files + AllocGlobal, R: Read>(
 ) {
     match ran {
         Ok(Ending::Done) => {}
+        Ok(Ending::Stopped(refused)) => explain_refused(rt, source, reader, refused),
         Ok(Ending::Fault(located)) => explain(rt, source, reader, &located),
-        Err(fault) => explain_write(rt, fault),
+        Err(fault) => explain_write(rt, fault, source.is_closed.get()),
+    }
+    tell_unread_stages(rt, source, reader);
+}
+
+// Says on standard error which line was refused, its words, and what the number of its refusal means.
+fn explain_refused<T: Eprint, R: Read>(
+    rt: &T,
+    source: &Source<'_>,
+    reader: &Recalling<R>,
+    refused: RefusedLine,
+) {
+    let RefusedLine { line, number } = refused;
+    let place = source.place(InputLine::Later(line));
+    let meaning = entry(number).map_or("", |entry| entry.meaning);
+    match reader.line(line as usize) {
+        Recalled::Line(words) | Recalled::Rest(words) => {
+            let told = ToldLine(words);
+            let _ = eprintln!(rt; "squall: {place}: {told} is refused {number}: {meaning}");
+        }
+        _ => {
+            let _ = eprintln!(rt; "squall: {place}: refused {number}: {meaning}");
+        }
     }
 }
 
-/// Says on standard error that a write failed.
-pub(crate) fn explain_write(rt: &impl Eprint, fault: WriteFault) {
+/// Says on standard error that a write failed, unless it did since no one reads the output any more.
+pub(crate) fn explain_write(rt: &impl Eprint, fault: WriteFault, is_closed: bool) {
+    if is_closed {
+        return;
+    }
     let number = fault.number();
     let _ = eprintln!(rt; "squall: fault {number}: {fault}");
 }
 
-/// The exit status after a run: 0 where it was done, and 2 after a fault.
+/// The exit status after a run: 0 where it was done, 3 where it stopped behind a refusal, and 2 after a fault.
 pub fn exit_status(ran: Result<Ending, WriteFault>) -> u8
     ensures { result ≡ exit_status ran }
 {
@@ -159,11 +223,19 @@ pub(crate) fn explain<T: Eprint + Files + AllocGlobal, R: Read>(
     let place = source.place(line);
     let _ = eprintln!(rt; "squall: {place}: {}", Meaning(located));
     if located.fault == InputFault::BadHeader {
-        let form = form_of(line);
+        let form = if source.is_record(line) {
+            TABLE_FORM
+        } else {
+            form_of(line)
+        };
         let _ = eprintln!(rt; "squall: {place} is to be {form}");
     }
     tell_misfit(rt, source, reader, located);
 }
+
+// The form of a line of a table of values.
+const TABLE_FORM: &str =
+    "'ROOT,TABLE,SUB,NUMBER,NOTE', as in '5,0,0,10,': root key, table, sub key, number, note";
 
 // The form of a line of the header.
 fn form_of(line: InputLine) -> &'static str {
@@ -185,15 +257,16 @@ fn form_of(line: InputLine) -> &'static str {
 
 /// Prints what `clap` says of a command line: a help text that was asked for to standard output, anything else to
 /// standard error. Gives the exit status, 0 after a help text that was printed, and 2 where it can't be, which standard
-/// error then tells.
+/// error then tells, unless no one reads it.
 pub fn print_usage<R: Print + Eprint>(rt: &R, error: &Error) -> u8
     ensures { IsUsageStatus (kind_of error.now) result }
 {
     match error.print(rt) {
         Ok(()) if !error.use_stderr() => 0,
         Ok(()) => REFUSED,
-        Err(_) => {
-            explain_write(rt, WriteFault);
+        Err(failed) => {
+            let is_closed = failed.kind() == ErrorKind::BrokenPipe;
+            explain_write(rt, WriteFault, is_closed);
             REFUSED
         }
     }

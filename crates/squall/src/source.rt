@@ -1,5 +1,6 @@
 // Where the lines of an input come from.
 use sq_command::Input;
+use sq_csv_rows::RecordLines;
 use sq_text::InputLine;
 use std::cell::Cell;
 use std::fmt;
@@ -12,6 +13,10 @@ pub struct Source<'a> {
     pub input: Input<'a>,
     /// How many lines the file of the rows has, once all of them were read.
     pub rows: &'a Cell<Option<usize>>,
+    /// Where the records of a table of values stand, if the file of the rows is one.
+    pub records: &'a RecordLines,
+    /// Whether a write found that no one reads the output any more.
+    pub is_closed: &'a Cell<bool>,
 }
 
 /// Where a line stands.
@@ -50,14 +55,33 @@ impl<'a> Source<'a> {
             Some(lines) if behind > lines as u64 => {
                 FaultPlace::LineOf(self.main(), (behind - lines as u64).saturating_add(1))
             }
+            _ if is_table(file) => {
+                FaultPlace::LineOf(file, self.records.line_of(behind).unwrap_or(behind))
+            }
             _ => FaultPlace::LineOf(file, behind),
         }
+    }
+
+    /// Whether a line of the input is made of a record of a table of values.
+    pub fn is_record(&self, line: InputLine) -> bool {
+        let behind = line.number().saturating_sub(3);
+        let rows = self.input.plans.and_then(|plans| plans.rows);
+        let is_of_rows = match self.rows.get() {
+            Some(lines) => behind <= lines as u64,
+            None => true,
+        };
+        behind > 0 && is_of_rows && rows.is_some_and(is_table)
     }
 
     // What the rest of the input comes from.
     fn main(&self) -> &'a str {
         self.input.file.unwrap_or("standard input")
     }
+}
+
+/// Whether a file of rows of this name is a table of values.
+pub fn is_table(name: &str) -> bool {
+    name.ends_with(".csv")
 }
 
 impl Display for FaultPlace<'_> {

@@ -7,7 +7,5 @@ use Rattle.sq_command.proofs.commands.command.Goals as goal
 
 pub returns : goal.returns
 returns c =
-    let run = c.in_ok-runs.ensures.shape c.in_ok-run.ensures.local ∙ added_is _ _ _ _ c.program.ensures.app c.in_ok-run.ensures.shape in
-    let ranges = c.in_ok-tells.ensures.shape c.in_ok-ranges.ensures.local ∙ added_is _ _ _ _ run c.in_ok-ranges.ensures.shape in
-    let live = c.in_ok-lives.ensures.shape c.in_ok-live.ensures.local ∙ added_is _ _ _ _ ranges c.in_ok-live.ensures.shape in
-    IfOk-weaker c.subcommand-4.result _ (λ command. app_of command ≡ squall) (λ command adds. adds.shape c.in_ok-explain.ensures.local ∙ added_is _ _ _ _ live c.in_ok-explain.ensures.shape) c.subcommand-4.ensures
+    let owner = c.in_ok-finds.ensures.shape c.in_ok-owner.ensures.local ∙ added_is _ _ _ _ c.in_ok-working.ensures c.in_ok-owner.ensures.shape in
+    IfOk-weaker c.subcommand-2.result _ (λ command. app_of command ≡ squall) (λ command adds. adds.shape c.in_ok-explain.ensures.local ∙ added_is _ _ _ _ owner c.in_ok-explain.ensures.shape) c.subcommand-2.ensures

@@ -1,0 +1,60 @@
+-- Which root keys are told, and where the plans are.
+use Rattle.std.specs.Prelude.{◌≡◌, ◌⊎◌, ◌<◌, ◌^◌, ℕ, List, [], Some, None, map, unwrap_or, codes, Result, Ok, Err}
+use Rattle.std.specs.List.{All}
+use Rattle.std.specs.Str.Parse.{IsNumeral, digits_value, without_leading_plus}
+use Rattle.clap.specs.Walk.{Text, Row, all_of, one_of}
+use Rattle.clap.specs.declared.error.kind.ErrorKind.{ErrorKind}
+use Rattle.clap.specs.declared.error.kind.ErrorKind.TheVariants.{MissingRequiredArgument, ValueValidation, OutOfMemory}
+use Rattle.sq_command.specs.declared.clash.Clash.{Clash}
+use Rattle.sq_command.specs.declared.clash.Clash.TheVariants.{BadKey}
+use Rattle.sq_command.specs.declared.line.Plans.{Plans}
+use Rattle.sq_command.specs.declared.line.Line.{Line}
+use Rattle.sq_command.specs.declared.line.Line.TheVariants.{Work, Owner, Explain}
+use Rattle.sq_command.specs.declared.owner.TheConstants.{MAX_WIDTH}
+use Rattle.sq_command.specs.Options.{GivenNumberOf, IsNameOf, ArePlansOf, LacksPlan}
+
+-- the words that are to be root keys
+abbrev pub key_words : List Row → List Text
+key_words rows = unwrap_or (all_of (codes "key") rows) []
+
+-- the text spells a root key, a number of 32 bits
+abbrev pub SpellsKey : Text → Type 0
+SpellsKey text = IsNumeral 10 (without_leading_plus text) × (digits_value 10 (without_leading_plus text) < 2 ^ 32)
+
+-- which one it spells
+abbrev pub spelled_key : Text → ℕ
+spelled_key text = digits_value 10 (without_leading_plus text)
+
+-- the key that a word spells, unless it spells none
+abbrev pub IsKeyOf : Text → Result ℕ Clash → Type 0
+IsKeyOf word (Ok key) = SpellsKey word × (key ≡ spelled_key word)
+IsKeyOf word (Err clash) = (clash ≡ BadKey) × (SpellsKey word → ⊥)
+
+-- the keys are those that the words spell, in their order
+abbrev pub AreKeysOf : List Row → List ℕ → Type 0
+AreKeysOf rows keys = All SpellsKey (key_words rows) × (keys ≡ map spelled_key (key_words rows))
+
+-- words are refused since there are none or one spells no key, or memory runs out
+abbrev pub KeysClash : List Row → ErrorKind → Type 0
+KeysClash rows kind =
+    ((kind ≡ MissingRequiredArgument) × (key_words rows ≡ []))
+    ⊎ (((kind ≡ ValueValidation) × (All SpellsKey (key_words rows) → ⊥)) ⊎ (kind ≡ OutOfMemory))
+
+-- the plans are those of the files that are named
+abbrev pub HasPlans : List Row → Plans → Type 0
+HasPlans rows plans = ArePlansOf rows (Some plans)
+
+-- and are refused since a file of one is missing
+abbrev pub PlansClash : List Row → ErrorKind → Type 0
+PlansClash rows kind = LacksPlan rows kind ⊎ ((kind ≡ MissingRequiredArgument) × IsNameOf (codes "old") rows None)
+
+-- the line tells the keys that are named, by these plans and leaves
+abbrev pub IsOwnerLine : List Row → Line → Type 0
+IsOwnerLine rows (Owner keys plans width) =
+    AreKeysOf rows keys.items × HasPlans rows plans × GivenNumberOf 1 MAX_WIDTH (one_of (codes "width") rows) width
+IsOwnerLine rows (Work task input) = ⊥
+IsOwnerLine rows (Explain number) = ⊥
+
+-- its options are refused for the plans or for the keys
+abbrev pub OwnerClash : List Row → ErrorKind → Type 0
+OwnerClash rows kind = PlansClash rows kind ⊎ KeysClash rows kind

@@ -1,0 +1,36 @@
+// The subcommand that tells what numbers mean.
+ghost use Rattle.std.specs.Prelude.{◌≡◌, IfOk, false};
+ghost use Rattle.clap.specs.Matches.{found_of};
+ghost use Rattle.clap.specs.Walk.{rows_of};
+ghost use Rattle.clap.specs.Words.{shape_of};
+ghost use Rattle.clap.specs.declared.builder.command.Command.TheViews.{out-Command};
+ghost use Rattle.sq_command.specs.Commands.{explain_shape};
+ghost use Rattle.sq_command.specs.Line.{IsExplainLine};
+
+use crate::commands::{subcommand, with};
+use crate::help;
+use crate::line::Line;
+use clap::{Arg, ArgMatches, Command, value_parser};
+use std::alloc::{AllocError, Global};
+
+/// The subcommand that tells what numbers mean.
+pub fn explain<'a>(alloc: Global) -> Result<Command<'a>, AllocError>
+    ensures shape { IfOk result (λ command. shape_of command ≡ explain_shape) }
+    ensures local { IfOk result (λ command. (out-Command command).has_globals ≡ false) }
+{
+    let plain = subcommand(alloc, "explain", help::EXPLAIN_ABOUT, help::EXPLAIN);
+    let number = Arg::new(alloc, "number")
+        .value_name("NUMBER")
+        .help(help::NUMBER)
+        .value_parser(value_parser!(u16));
+    with(plain, number)
+}
+
+/// The number to be told that options name.
+pub fn explain_line<'a>(options: &ArgMatches<'a>) -> Line<'a>
+    ensures { IsExplainLine (rows_of (found_of options.now)) result }
+{
+    Line::Explain {
+        number: options.get_one::<u16>("number"),
+    }
+}

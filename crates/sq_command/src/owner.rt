@@ -1,0 +1,126 @@
+// The subcommand that tells who owns root keys.
+ghost use Rattle.std.specs.Prelude.{◌≡◌, ◌≤◌, IfOk, IfSome, false, length, codes};
+ghost use Rattle.clap.specs.Matches.{found_of};
+ghost use Rattle.clap.specs.Walk.{one_of, rule_of, rows_of};
+ghost use Rattle.clap.specs.Words.{shape_of};
+ghost use Rattle.clap.specs.declared.builder.command.Command.TheViews.{out-Command};
+ghost use Rattle.sq_command.specs.Commands.{keys_rule, width_rule, owner_shape, needed_rule};
+ghost use Rattle.sq_command.specs.Options.{Asks, GivenNumberOf};
+ghost use Rattle.sq_command.specs.Owner.{IsKeyOf, AreKeysOf, KeysClash, IsOwnerLine, OwnerClash, HasPlans, PlansClash};
+ghost use Rattle.sq_command.specs.Line.{LineIsWithin};
+
+use crate::clash::Clash;
+use crate::commands::{path, subcommand, valued, with};
+use crate::help;
+use crate::line::{Line, Plans};
+use crate::options::{given_number, plans_of};
+use clap::{Arg, ArgAction, ArgMatches, Command, value_parser};
+use std::alloc::{AllocError, Global};
+
+/// The most root keys that a leaf has.
+pub const MAX_WIDTH: u64 = 65_536;
+
+// The root keys, one or more.
+fn keys<'a>(alloc: Global) -> Arg<'a>
+    ensures rule { rule_of result ≡ keys_rule }
+    ensures local { result.global ≡ false }
+{
+    Arg::new(alloc, "key")
+        .value_name("KEY")
+        .help(help::KEYS)
+        .action(ArgAction::Append)
+        .value_parser(value_parser!(u32))
+        .required(true)
+}
+
+// An option for the name of a file, which has to be there.
+fn needed_path<'a>(alloc: Global, name: &'a str, help: &'a str) -> Arg<'a>
+    ensures rule { rule_of result ≡ needed_rule name.entry.now }
+    ensures local { result.global ≡ false }
+{
+    path(alloc, name, help).required(true)
+}
+
+// The option for the root keys in a leaf.
+fn width<'a>(alloc: Global) -> Arg<'a>
+    ensures rule { rule_of result ≡ width_rule }
+    ensures local { result.global ≡ false }
+{
+    valued(alloc, "width", "N", help::WIDTH).value_parser(value_parser!(u64).range(
+        1..=MAX_WIDTH as i64,
+    ))
+}
+
+/// The subcommand that tells who owns root keys.
+pub fn owner<'a>(alloc: Global) -> Result<Command<'a>, AllocError>
+    ensures shape { IfOk result (λ command. shape_of command ≡ owner_shape) }
+    ensures local { IfOk result (λ command. (out-Command command).has_globals ≡ false) }
+{
+    let plain = subcommand(alloc, "owner", help::OWNER_ABOUT, help::OWNER);
+    let with_old = with(plain, needed_path(alloc, "old", help::OLD))?;
+    let with_new = with(with_old, needed_path(alloc, "new", help::NEW))?;
+    with(with(with_new, width(alloc))?, keys(alloc))
+}
+
+/// The root keys that are told, with the plans, as options name them.
+pub fn owner_line<'a>(alloc: Global, options: &ArgMatches<'a>) -> Result<Line<'a>, Clash>
+    ensures line { Asks IsOwnerLine OwnerClash (rows_of (found_of options.now)) result }
+    ensures within { IfOk result LineIsWithin }
+{
+    let plans = both_plans(options)?;
+    Ok(Line::Owner {
+        keys: keys_of(alloc, options)?,
+        plans,
+        width: width_of(options),
+    })
+}
+
+// The root keys in a leaf, if they are named.
+fn width_of(options: &ArgMatches<'_>) -> Option<u32>
+    ensures width { GivenNumberOf 1 MAX_WIDTH (one_of (codes "width") (rows_of (found_of options.now))) result }
+    ensures within { IfSome result (λ width. (1 ≤ width) × (width ≤ MAX_WIDTH)) }
+{
+    match given_number(options, "width", 1, MAX_WIDTH) {
+        Some(width) => Some(width as u32),
+        None => None,
+    }
+}
+
+// The files of the plans.
+fn both_plans<'a>(options: &ArgMatches<'a>) -> Result<Plans<'a>, Clash>
+    ensures { Asks HasPlans PlansClash (rows_of (found_of options.now)) result }
+{
+    match plans_of(options)? {
+        Some(plans) => Ok(plans),
+        None => Err(Clash::NoPlans),
+    }
+}
+
+// The root keys that words spell.
+fn keys_of(alloc: Global, options: &ArgMatches<'_>) -> Result<Vec<u32>, Clash>
+    ensures keys { Asks (λ rows keys. AreKeysOf rows keys.items) KeysClash (rows_of (found_of options.now)) result }
+    ensures some { IfOk result (λ keys. 1 ≤ length keys.items) }
+{
+    let Some(words) = options.get_strs("key") else {
+        return Err(Clash::NoKeys);
+    };
+    if words.is_empty() {
+        return Err(Clash::NoKeys);
+    }
+    let mut keys = Vec::new(alloc);
+    for word in words {
+        let key = key_of(word)?;
+        keys.push(key)?;
+    }
+    Ok(keys)
+}
+
+// The root key that a word spells.
+fn key_of(word: &str) -> Result<u32, Clash>
+    ensures { IsKeyOf word.now result }
+{
+    match word.parse::<u32>() {
+        Ok(key) => Ok(key),
+        Err(_) => Err(Clash::BadKey),
+    }
+}

@@ -1,0 +1,102 @@
+// Who owns root keys, before a move and after it.
+ghost use Rattle.std.specs.Prelude.{◌≡◌, IfOk, string_bytes};
+ghost use Rattle.squall.specs.Session.{widest_config};
+
+use crate::plans::lines_of_plans;
+use crate::session::{exit_status, explain, explain_write, refuse_for_memory};
+use crate::source::Source;
+use sq_command::{Input, Plans};
+use sq_csv_rows::RecordLines;
+use sq_inputs::Recalling;
+use sq_ranges::MAX_WIDTH;
+use sq_schema::Root;
+use sq_sizes::{OwnersAsLines, tell_opening};
+use sq_text::{InputLine, WriteFault};
+use sq_world::Ending;
+use std::alloc::{AllocError, Global};
+use std::cell::Cell;
+use std::io::{Read, Write};
+use std::rt::Files;
+
+/// Writes which partition owns each of these root keys by the plan of either file, and where it moves, and says on standard error
+/// what the fault of a plan means. Gives the exit status.
+pub fn owners<T: Print + Eprint + Files + AllocGlobal, W: Write>(
+    rt: &T,
+    writer: &mut W,
+    plans: Plans<'_>,
+    width: Option<u32>,
+    keys: &[u32],
+    is_closed: &Cell<bool>,
+) -> u8 {
+    let lines = match lines_of_plans(rt, plans) {
+        Ok(lines) => lines,
+        Err(status) => return status,
+    };
+    let Ok(roots) = roots_of(rt.alloc(), keys) else {
+        return refuse_for_memory(rt);
+    };
+    let Ok(config) = config_line(rt.alloc(), width) else {
+        return refuse_for_memory(rt);
+    };
+    let mut reader = Recalling::new(rt.alloc(), lines.as_slice().chain(config.as_bytes()));
+    let telling = OwnersAsLines {
+        keys: &roots,
+        tells_leaves: width.is_some(),
+    };
+    let told = tell_opening(rt.alloc(), &mut reader, writer, &telling);
+    explain_owners(rt, plans, &reader, told, is_closed);
+    exit_status(told)
+}
+
+// The root keys of these numbers.
+fn roots_of(alloc: Global, keys: &[u32]) -> Result<Vec<Root>, AllocError>
+    ensures { IfOk result (λ roots. roots.items ≡ keys.now) }
+{
+    let mut roots = Vec::with_capacity(alloc, keys.len())?;
+    for key in keys {
+        let Some(root) = Root::new(u64::from(*key)) else {
+            unreachable!()
+        };
+        roots.push(root)?;
+    }
+    Ok(roots)
+}
+
+// The line of the sizes, with leaves of this width, or the widest ones, which make the fewest segments.
+fn config_line(alloc: Global, width: Option<u32>) -> Result<String, AllocError>
+    ensures { IfOk result (λ line. string_bytes line ≡ widest_config width) }
+{
+    let width = width.map_or(MAX_WIDTH, u64::from);
+    format!(in alloc; "config {width} 64 1\n")
+}
+
+// Says on standard error what the fault of a plan means. One of both plans belongs to no line that there is.
+fn explain_owners<T: Eprint + Files + AllocGlobal, R: Read>(
+    rt: &T,
+    plans: Plans<'_>,
+    reader: &Recalling<R>,
+    told: Result<Ending, WriteFault>,
+    is_closed: &Cell<bool>,
+) {
+    let located = match told {
+        Ok(Ending::Done | Ending::Stopped(_)) => return,
+        Ok(Ending::Fault(located)) if located.line == Some(InputLine::Config) => {
+            located.fault.at_no_line()
+        }
+        Ok(Ending::Fault(located)) => located,
+        Err(fault) => return explain_write(rt, fault, is_closed.get()),
+    };
+    let rows = Cell::new(None);
+    let records = RecordLines::new(rt.alloc());
+    let input = Input {
+        file: None,
+        plans: Some(plans),
+    };
+    let source = Source {
+        input,
+        rows: &rows,
+        records: &records,
+        is_closed,
+    };
+    explain(rt, &source, reader, &located);
+}

@@ -1,0 +1,30 @@
+// The script of a whole move.
+ghost use Rattle.sq_inputs.specs.Recalling.{recalling_remaining};
+ghost use Rattle.sq_schema.specs.declared.schema.TheConstants.{MAX_TABLES};
+ghost use Rattle.sq_steps.specs.Scripts.{WritesScript};
+ghost use Rattle.squall.specs.Session.{exit_status, EndsAs};
+
+use crate::session::{exit_status, explain_end};
+use crate::source::Source;
+use sq_inputs::Recalling;
+use sq_steps::write_script;
+use std::io::{Read, Write};
+use std::rt::Files;
+
+/// Writes the script that makes the whole move of the header in `reader`, and says on standard error what its fault means.
+/// Gives the exit status.
+pub fn steps<T: Eprint + Files + AllocGlobal, R: Read, W: Write>(
+    rt: &T,
+    reader: &mut Recalling<R>,
+    writer: &mut W,
+    source: &Source<'_>,
+) -> u8
+    ensures { EndsAs
+        (WritesScript MAX_TABLES (recalling_remaining R.remaining reader.old)
+        (W.contents writer.old) (W.contents writer.new))
+        exit_status result }
+{
+    let written = write_script(rt.alloc(), reader, writer);
+    explain_end(rt, source, reader, written);
+    exit_status(written)
+}

@@ -1,0 +1,28 @@
+// The standard streams.
+use sq_command::Input;
+use std::cell::Cell;
+
+/// What is known of the standard streams.
+#[derive(Clone, Copy)]
+pub struct Streams<'a> {
+    /// Whether standard input is a terminal.
+    pub is_typed: bool,
+    /// Whether a write found that no one reads standard output any more.
+    pub is_closed: &'a Cell<bool>,
+}
+
+impl Streams<'_> {
+    /// Says on standard error, where standard input is a terminal, that it is waited for, with what it begins, and what ends it.
+    pub fn say_wait(&self, rt: &impl Eprint, input: Input<'_>) {
+        if !self.is_typed {
+            return;
+        }
+        let first = match input.plans {
+            Some(_) => "config W L C",
+            None => "old PLAN",
+        };
+        let _ = eprintln!(rt;
+            "squall: reading standard input up to its end (Ctrl-D); it begins with the line '{first}'"
+        );
+    }
+}
