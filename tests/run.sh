@@ -7,7 +7,8 @@
 # Gives the program each case of tests/cases, and those that tests/made.sh and tests/limits.sh make; what it writes on
 # standard output and on standard error must be what is stored, byte for byte, and so must its exit status. tests/lib.sh says
 # what a case is. What needs more than words and an input comes then, each kind by a function below: streams that fail, memory
-# that runs out, a session, a live run at a terminal, and live runs whose threads go in another order each time.
+# that runs out, a session, a live run at a terminal, live runs whose threads go in another order each time, and the scripts of
+# whole moves.
 #
 # With a PATTERN only the cases and kinds whose name has it are tried: `tests/run.sh live/`, `tests/run.sh streams`.
 #
@@ -468,6 +469,23 @@ try_again() {
         give "$tests/cases/live/four_partitions_round/input" "${words[@]}"
         judge 'four_partitions_round again' 0 "$tests/cases/live/four_partitions_round/output" /dev/null
         times=$((times + 1))
+    done
+}
+
+# The script that `steps` writes makes the whole move of a header: behind it no step is refused, and the move has ended. The headers
+# are those of live runs.
+try_steps() {
+    local case why
+    for case in "$tests"/cases/live/*; do
+        if [ -e "$case/status" ] || [ -e "$case/old.json" ]; then continue; fi
+        grep -v '^txn ' "$case/input" > "$room/header"
+        give "$room/header" steps
+        why=$(if [ "$ended" != 0 ]; then echo "status $ended"; fi)
+        cat "$room/header" "$room/output" > "$room/whole"
+        give "$room/whole" run
+        why+=$(if [ "$ended" != 0 ]; then echo "status $ended of the run"; fi; grep '^refused' "$room/output" || true
+            grep -qx 'end ended' "$room/output" || echo 'the move has not ended')
+        count "steps of ${case##*/}" "$why"
     done
 }
 
