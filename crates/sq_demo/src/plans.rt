@@ -47,7 +47,7 @@ fn write_hot(text: &mut Vec<u8>, sizes: &DemoSizes) -> io::Result<()> {
     Ok(())
 }
 
-// Writes the ranges of the shares of the partitions. That of partition 0 begins with this key.
+// Writes the ranges of the shares of the partitions. The share of partition 0 begins with this key.
 fn write_shares(text: &mut Vec<u8>, sizes: &DemoSizes, first: u64) -> io::Result<()> {
     let (share, last) = (sizes.share(), sizes.partitions - 1);
     for part in 0..last {
