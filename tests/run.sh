@@ -472,10 +472,10 @@ try_again() {
     done
 }
 
-# The script that `steps` writes makes the whole move of a header: behind it no step is refused, and the move has ended. The headers
-# are those of live runs.
+# The script that `steps` writes makes the whole move of a header: behind it no step is refused, the move has ended, and as many
+# chunks are cut as `ranges --sizes` tells. The headers are those of live runs.
 try_steps() {
-    local case why
+    local case why cuts chunks
     for case in "$tests"/cases/live/*; do
         if [ -e "$case/status" ] || [ -e "$case/old.json" ]; then continue; fi
         grep -v '^txn ' "$case/input" > "$room/header"
@@ -486,6 +486,11 @@ try_steps() {
         why+=$(if [ "$ended" != 0 ]; then echo "status $ended of the run"; fi; grep '^refused' "$room/output" || true
             grep -qx 'end ended' "$room/output" || echo 'the move has not ended')
         count "steps of ${case##*/}" "$why"
+        cuts=$(grep -c '^cut ' "$room/output" || true)
+        give "$room/header" ranges --sizes
+        chunks=$(awk '$1 == "stage" { sum += $NF } END { print sum + 0 }' "$room/output")
+        why=; if [ "$cuts" != "$chunks" ]; then why="$cuts chunks are cut, and $chunks told"; fi
+        count "chunks of ${case##*/}" "$why"
     done
 }
 
