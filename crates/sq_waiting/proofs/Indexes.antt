@@ -16,7 +16,7 @@ use Rattle.std.proofs.lemmas.List.{map-append, length-map}
 use Rattle.std.proofs.lemmas.Map.Keys.{sorted_tail, IsStrictlyIncreasing-from_sorted}
 use Rattle.sq_schema.specs.TxnValue.{TxnValue}
 use Rattle.sq_waiting.specs.Index.{has_entry, is_between, FirstOf, SetsEntry, HasSameEntries, AddsBetween, HasAllBetween, IsNumberedBetween}
-use Rattle.sq_waiting.specs.Waiting.{Arrival, WaitingValue, numbers_of, is_on, is_numbered, is_due_from, txn_at, without, numbered_from, with_last, due_if, with_due, IsMoreDue}
+use Rattle.sq_waiting.specs.Waiting.{Arrival, WaitingValue, numbers_of, is_on, is_numbered, is_due_from, txn_at, without, numbered_from, with_last, due_if, with_due}
 use Rattle.sq_waiting.specs.Indexed.{is_due_in, arrival_of, arrivals_of, IsIndexed}
 use Rattle.sq_waiting.proofs.Entries.{value_at, at_same, at_other, at_head, at_later, absent_later, find_least, find_none, insert_last}
 use Rattle.sq_waiting.proofs.Arrivals.{find-map, numbered_from-append}
@@ -218,30 +218,6 @@ module _ (txns : BTreeMap ℕ TxnValue) (by_root : BTreeSet (ℕ × ℕ)) (due :
         ap (is_between lo hi) own ∙ inside.between)
         (adds.only number here)
 
-    some_new : (number : ℕ) (txn : TxnValue) → tree.get nat_cmp txns number ≡ Some txn → set.contains nat_cmp now number ≡ (set.contains nat_cmp due number || (is_between lo hi txn.root && set.contains nat_cmp now number))
-    some_new number txn at =
-        ⊎_elim
-        (λ (old : set.contains nat_cmp due number ≡ true). adds.kept number old ∙ sym (ap (λ b. b || (is_between lo hi txn.root && set.contains nat_cmp now number)) old))
-        (λ (new : set.contains nat_cmp due number ≡ false).
-        ⊎_elim
-        (λ (here : set.contains nat_cmp now number ≡ true). here ∙ sym ((λ k. new k || (new_between number txn at new here k && here k))))
-        (λ (off : set.contains nat_cmp now number ≡ false). off ∙ sym ((λ k. new k || (is_between lo hi txn.root && off k)) ∙ neither (is_between lo hi txn.root)))
-        (cases_Bool (set.contains nat_cmp now number)))
-        (cases_Bool (set.contains nat_cmp due number))
-      where
-        neither : (b : Bool) → (b && false) ≡ false
-        neither true = refl
-        neither false = refl
-
-    pub adds_more : IsMoreDue (λ a. is_between lo hi (a.txn).root) (record { arrivals = seen; next = next }) (record { arrivals = arrivals_of txns.entries (is_due_in due_below now); next = next })
-    adds_more = record {
-      some = λ a. set.contains nat_cmp now a.number;
-      more =
-          ap (λ arrivals. record { arrivals = arrivals; next = next })
-          (more_due txns.entries is_marked (is_due_in due_below now) (λ a. is_between lo hi (a.txn).root && set.contains nat_cmp now a.number) is.ordered
-          (λ q txn at. marks_more q (is_between lo hi txn.root && set.contains nat_cmp now q) (some_new q txn at)));
-    }
-
     between_due : HasAllBetween by_root lo hi now → (number : ℕ) (txn : TxnValue) → tree.get nat_cmp txns number ≡ Some txn → set.contains nat_cmp now number ≡ (set.contains nat_cmp due number || is_between lo hi txn.root)
     between_due all number txn at =
         ⊎_elim
@@ -258,6 +234,12 @@ module _ (txns : BTreeMap ℕ TxnValue) (by_root : BTreeSet (ℕ × ℕ)) (due :
 
     pub adds_all : HasAllBetween by_root lo hi now → record { arrivals = arrivals_of txns.entries (is_due_in due_below now); next = next } ≡ with_due (λ a. is_between lo hi a.txn.root) (record { arrivals = seen; next = next })
     adds_all all = ap (λ arrivals. record { arrivals = arrivals; next = next }) (more_due txns.entries is_marked (is_due_in due_below now) (λ a. is_between lo hi (a.txn).root) is.ordered (λ q txn at. marks_more q (is_between lo hi txn.root) (between_due all q txn at)))
+
+  -- a set that has what this has makes no more due
+  pub due_alike : (now : BTreeSet ℕ) → ((number : ℕ) → set.contains nat_cmp now number ≡ set.contains nat_cmp due number) → ◌≡◌ {A = WaitingValue} (record { arrivals = arrivals_of txns.entries (is_due_in due_below now); next = next }) (record { arrivals = seen; next = next })
+  due_alike now same =
+      ap (λ arrivals. record { arrivals = arrivals; next = next })
+      (same_due txns.entries is_marked (is_due_in due_below now) is.ordered (λ q txn at. ap (λ b. nat_lt q due_below || b) (same q)))
 
   -- sets that have what these have
   module _ (again : BTreeSet (ℕ × ℕ)) (now : BTreeSet ℕ) (has : HasSameEntries by_root due again now) (same : BTreeMap ℕ TxnValue) (es : same.entries ≡ txns.entries) where

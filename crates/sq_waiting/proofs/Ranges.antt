@@ -1,6 +1,6 @@
 -- The index by root key, and the part of it between two root keys.
-use Rattle.std.proofs.Common.{⊎_elim, ◌≡◌, ◌≢◌, ℕ, ◌+◌, ◌<◌, ◌≤◌, Bool, true, false, ◌||◌, List, [], ◌∷◌, ◌++◌, inr, refl, sym, ap, subst, ◌∙◌, arith}
-use Rattle.std.specs.Prelude.{cond, ◌==◌, ◌&&◌, nat_le, nat_lt}
+use Rattle.std.proofs.Common.{⊎_elim, ◌≡◌, ◌≢◌, ℕ, ◌+◌, ◌<◌, ◌≤◌, Bool, true, false, ◌||◌, List, [], ◌∷◌, ◌++◌, inl, inr, refl, sym, ap, subst, ◌∙◌, arith}
+use Rattle.std.specs.Prelude.{cond, ◌==◌, ◌&&◌, ◌⊎◌, nat_le, nat_lt}
 use Rattle.std.specs.Ordering.{nat_cmp, ordering_then, is_gt}
 use Rattle.std.specs.Cmp.{IsTotalOrder, nat_cmp_total, unsigned_tied, tied_then, on_total, then_total}
 use Rattle.std.specs.declared.cmp.Ordering.TheVariants.{Less, Equal, Greater}
@@ -12,8 +12,8 @@ use Rattle.std.proofs.lemmas.Bool.{cases_eq, cases_lt, cases_Bool, and_parts, an
 use Rattle.std.specs.List.{list_any}
 use Rattle.std.proofs.lemmas.List.Folds.{list_any-append}
 use Rattle.std.proofs.lemmas.Map.Views.{any-filter_same, range_contains-from_IsInRange}
-use Rattle.sq_waiting.specs.Index.{entry_cmp, has_entry, is_between, IsFirstOf, AddsBetween}
-use Rattle.sq_waiting.proofs.Entries.{cmp_greater, less_from_less, at_same, at_other}
+use Rattle.sq_waiting.specs.Index.{entry_cmp, has_entry, is_between, is_among, IsFirstOf, IsNumberedBetween, AddsBetween, HasAllBetween, LackBetween}
+use Rattle.sq_waiting.proofs.Entries.{cmp_greater, less_from_less}
 
 pub entry_cmp_total : IsTotalOrder entry_cmp
 entry_cmp_total = then_total (on_total (λ (e : ℕ × ℕ). e.0) nat_cmp_total) (on_total (λ (e : ℕ × ℕ). e.1) nat_cmp_total)
@@ -131,44 +131,99 @@ back_again by_root new again root number off put out r n =
     ∙ set_entry by_root new root number true put r n ∙ ap (λ b. cond b true (has_entry by_root r n)) other)
     (cases_Bool ((root == r) && (number == n)))
 
--- one more number is added, that of an entry between two root keys
-module _ (now new : BTreeSet ℕ) (entry : ℕ × ℕ) (updates : (q : ℕ) → contains nat_cmp new q ≡ cond (is_at (nat_cmp entry.1) q) true (contains nat_cmp now q)) where
-  added_here : (n : ℕ) → entry.1 ≡ n → contains nat_cmp new n ≡ true
-  added_here n same = updates n ∙ ap (λ b. cond b true (contains nat_cmp now n)) (at_same entry.1 n same)
-
-  added_other : (n : ℕ) → entry.1 ≢ n → contains nat_cmp new n ≡ contains nat_cmp now n
-  added_other n apart = updates n ∙ ap (λ b. cond b true (contains nat_cmp now n)) (at_other entry.1 n apart)
-
-  still_there : (n : ℕ) → contains nat_cmp now n ≡ true → contains nat_cmp new n ≡ true
-  still_there n there = ⊎_elim (λ (same : entry.1 ≡ n). added_here n same) (λ (apart : entry.1 ≢ n). added_other n apart ∙ there) (cases_eq entry.1 n)
-
-  pub added_one : (by_root : BTreeSet (ℕ × ℕ)) (lo hi : ℕ) (old : BTreeSet ℕ) → AddsBetween by_root lo hi old now → IsKeyInRange entry_cmp (Included (lo, 0)) (Excluded (hi, 0)) by_root entry → AddsBetween by_root lo hi old new
-  added_one by_root lo hi old adds inside = record {
-    kept = λ n there. still_there n (adds.kept n there);
-    only = λ n here.
-        ⊎_elim
-        (λ (same : entry.1 ≡ n).
-        inr (record {
-          root = entry.0;
-          stands = subst (λ k. has_entry by_root entry.0 k ≡ true) same inside.1;
-          between = and_from (nat_le lo entry.0) (nat_lt entry.0 hi) (le-leb lo entry.0 (range_from lo entry.0 entry.1 inside.0.0)) (lt-ltb entry.0 hi (range_below hi entry.0 entry.1 inside.0.1));
-        }))
-        (λ (apart : entry.1 ≢ n). adds.only n (sym (added_other n apart) ∙ here))
-        (cases_eq entry.1 n);
-  }
-
-  pub all_one : (entries : List (ℕ × ℕ)) → ((root number : ℕ) → list_any (is_at (entry_cmp (root, number))) entries ≡ true → contains nat_cmp now number ≡ true)
-      → (root number : ℕ) → list_any (is_at (entry_cmp (root, number))) (entries ++ entry ∷ []) ≡ true → contains nat_cmp new number ≡ true
-  all_one entries all root number any =
-      ⊎_elim
-      (λ (before : list_any (is_at (entry_cmp (root, number))) entries ≡ true). still_there number (all root number before))
-      (λ (last : (is_at (entry_cmp (root, number)) entry || false) ≡ true).
-      added_here number (sym (eqb-true number entry.1 (and_parts (root == entry.0) (number == entry.1) (sym (at_entry root number entry) ∙ or_alone (is_at (entry_cmp (root, number)) entry) last)).1)))
-      (or_cases (list_any (is_at (entry_cmp (root, number))) entries) (is_at (entry_cmp (root, number)) entry || false) (sym (list_any-append (is_at (entry_cmp (root, number))) entries (entry ∷ [])) ∙ any))
+-- numbers with one more behind them
+module _ (numbers : List ℕ) (last : ℕ) where
+  among_more : (n : ℕ) → is_among (numbers ++ last ∷ []) n ≡ (is_among numbers n || (n == last))
+  among_more n = list_any-append (λ x. n == x) numbers (last ∷ []) ∙ ap (λ b. is_among numbers n || b) (or_none (n == last))
     where
-      or_alone : (b : Bool) → (b || false) ≡ true → b ≡ true
-      or_alone true h = refl
-      or_alone false h = h
+      or_none : (b : Bool) → (b || false) ≡ b
+      or_none true = refl
+      or_none false = refl
+
+  among_kept : (n : ℕ) → is_among numbers n ≡ true → is_among (numbers ++ last ∷ []) n ≡ true
+  among_kept n among = among_more n ∙ ap (λ b. b || (n == last)) among
+
+  among_last : is_among (numbers ++ last ∷ []) last ≡ true
+  among_last = among_more last ∙ ap (λ b. is_among numbers last || b) (eq-eqb last last refl) ∙ or_true (is_among numbers last)
+    where
+      or_true : (b : Bool) → (b || true) ≡ true
+      or_true true = refl
+      or_true false = refl
+
+  among_either : (n : ℕ) → is_among (numbers ++ last ∷ []) n ≡ true → (is_among numbers n ≡ true) ⊎ (n ≡ last)
+  among_either n among =
+      ⊎_elim (λ (before : is_among numbers n ≡ true). inl before) (λ (here : (n == last) ≡ true). inr (eqb-true n last here))
+      (or_cases (is_among numbers n) (n == last) (sym (among_more n) ∙ among))
+
+module _ (had : BTreeSet ℕ) where
+  -- each of these entries has its number in the set, or among those that it lacks
+  abbrev pub AreGoneOver : List (ℕ × ℕ) → List ℕ → Type 0
+  AreGoneOver entries lacking = (root n : ℕ) → list_any (is_at (entry_cmp (root, n))) entries ≡ true → (contains nat_cmp had n || is_among lacking n) ≡ true
+
+  -- so it is of one entry more
+  module _ (entries : List (ℕ × ℕ)) (entry : ℕ × ℕ) (lacking : List ℕ) (gone : AreGoneOver entries lacking) where
+    gone_over : (more : List ℕ) → ((n : ℕ) → is_among lacking n ≡ true → is_among more n ≡ true) → (contains nat_cmp had entry.1 || is_among more entry.1) ≡ true → AreGoneOver (entries ++ entry ∷ []) more
+    gone_over more kept here root n any =
+        ⊎_elim
+        (λ (before : list_any (is_at (entry_cmp (root, n))) entries ≡ true). still (contains nat_cmp had n) (is_among lacking n) (is_among more n) (kept n) (gone root n before))
+        (λ (last : (is_at (entry_cmp (root, n)) entry || false) ≡ true).
+        let own : n ≡ entry.1 = eqb-true n entry.1 (and_parts (root == entry.0) (n == entry.1) (sym (at_entry root n entry) ∙ or_alone (is_at (entry_cmp (root, n)) entry) last)).1 in
+        ap (λ k. contains nat_cmp had k || is_among more k) own ∙ here)
+        (or_cases (list_any (is_at (entry_cmp (root, n))) entries) (is_at (entry_cmp (root, n)) entry || false) (sym (list_any-append (is_at (entry_cmp (root, n))) entries (entry ∷ [])) ∙ any))
+      where
+        or_alone : (b : Bool) → (b || false) ≡ true → b ≡ true
+        or_alone true h = refl
+        or_alone false h = h
+
+        still : (a b c : Bool) → (b ≡ true → c ≡ true) → (a || b) ≡ true → (a || c) ≡ true
+        still true b c more h = refl
+        still false b c more h = more h
+
+    -- the set has its number
+    pub gone_by : contains nat_cmp had entry.1 ≡ true → AreGoneOver (entries ++ entry ∷ []) lacking
+    gone_by there = gone_over lacking (λ n among. among) (ap (λ b. b || is_among lacking entry.1) there)
+
+    -- the set lacks it
+    pub gone_more : AreGoneOver (entries ++ entry ∷ []) (lacking ++ entry.1 ∷ [])
+    gone_more = gone_over (lacking ++ entry.1 ∷ []) (among_kept lacking entry.1) (ap (λ b. contains nat_cmp had entry.1 || b) (among_last lacking entry.1) ∙ or_true (contains nat_cmp had entry.1))
+      where
+        or_true : (b : Bool) → (b || true) ≡ true
+        or_true true = refl
+        or_true false = refl
+
+  pub lacking_more : (lacking : List ℕ) (number : ℕ) → ((n : ℕ) → is_among lacking n ≡ true → contains nat_cmp had n ≡ false) → contains nat_cmp had number ≡ false
+      → (n : ℕ) → is_among (lacking ++ number ∷ []) n ≡ true → contains nat_cmp had n ≡ false
+  lacking_more lacking number lacks off n among =
+      ⊎_elim (λ (before : is_among lacking n ≡ true). lacks n before) (λ (same : n ≡ number). ap (contains nat_cmp had) same ∙ off) (among_either lacking number n among)
+
+module _ (by_root : BTreeSet (ℕ × ℕ)) (lo hi : ℕ) where
+  pub between_more : (lacking : List ℕ) (entry : ℕ × ℕ) → ((n : ℕ) → is_among lacking n ≡ true → IsNumberedBetween by_root lo hi n) → IsKeyInRange entry_cmp (Included (lo, 0)) (Excluded (hi, 0)) by_root entry
+      → (n : ℕ) → is_among (lacking ++ entry.1 ∷ []) n ≡ true → IsNumberedBetween by_root lo hi n
+  between_more lacking entry between inside n among =
+      ⊎_elim (λ (before : is_among lacking n ≡ true). between n before)
+      (λ (same : n ≡ entry.1). record {
+        root = entry.0;
+        stands = subst (λ k. has_entry by_root entry.0 k ≡ true) (sym same) inside.1;
+        between = and_from (nat_le lo entry.0) (nat_lt entry.0 hi) (le-leb lo entry.0 (range_from lo entry.0 entry.1 inside.0.0)) (lt-ltb entry.0 hi (range_below hi entry.0 entry.1 inside.0.1));
+      })
+      (among_either lacking entry.1 n among)
+
+  module _ (had new : BTreeSet ℕ) where
+    -- with those that it lacked the set has all
+    module _ (lacking : List ℕ) (lacks : LackBetween by_root lo hi had lacking) (is : (n : ℕ) → contains nat_cmp new n ≡ (contains nat_cmp had n || is_among lacking n)) where
+      pub adds_lacking : AddsBetween by_root lo hi had new
+      adds_lacking = record {
+        kept = λ n there. is n ∙ ap (λ b. b || is_among lacking n) there;
+        only = λ n here.
+            ⊎_elim (λ (old : contains nat_cmp had n ≡ true). inl old) (λ (among : is_among lacking n ≡ true). inr (lacks.between n among))
+            (or_cases (contains nat_cmp had n) (is_among lacking n) (sym (is n) ∙ here));
+      }
+
+      pub has_all : HasAllBetween by_root lo hi new
+      has_all = λ root n stands between. is n ∙ lacks.all root n stands between
+
+    pub adds_none : ((n : ℕ) → contains nat_cmp new n ≡ contains nat_cmp had n) → AddsBetween by_root lo hi had new
+    adds_none same = record { kept = λ n there. same n ∙ there; only = λ n here. inl (sym (same n) ∙ here) }
 
 -- an entry between two root keys is in the part between their first entries
 pub any_between : (by_root : BTreeSet (ℕ × ℕ)) (lo hi root number : ℕ) → has_entry by_root root number ≡ true → is_between lo hi root ≡ true

@@ -1,5 +1,6 @@
 -- The index of waiting transactions by root key.
-use Rattle.std.specs.Prelude.{◌≡◌, ◌≤◌, ℕ, Bool, true, false, ◌==◌, ◌&&◌, ◌⊎◌, if◌then◌else◌, nat_le, nat_lt, Option, Some, None}
+use Rattle.std.specs.Prelude.{◌≡◌, ◌≤◌, ℕ, Bool, true, false, ◌==◌, ◌&&◌, ◌⊎◌, if◌then◌else◌, nat_le, nat_lt, ◌||◌, List, Option, Some, None}
+use Rattle.std.specs.List.{list_any}
 use Rattle.std.specs.Ordering.{nat_cmp, ordering_then}
 use Rattle.std.specs.declared.cmp.Ordering.{Ordering}
 use Rattle.std.specs.BTreeSet.{BTreeSet, contains}
@@ -34,6 +35,17 @@ pub record IsNumberedBetween (by_root : BTreeSet (ℕ × ℕ)) (lo hi number : �
   pub root : ℕ
   pub stands : has_entry by_root root number ≡ true
   pub between : is_between lo hi root ≡ true
+
+-- the number is one of these
+abbrev pub is_among : List ℕ → ℕ → Bool
+is_among numbers number = list_any (λ n. number == n) numbers
+
+-- the numbers are those that the set lacks of all root keys from lo on and below hi
+pub record LackBetween (by_root : BTreeSet (ℕ × ℕ)) (lo hi : ℕ) (set : BTreeSet ℕ) (numbers : List ℕ) : Type 0 where
+  pub lacking : (number : ℕ) → is_among numbers number ≡ true → contains nat_cmp set number ≡ false
+  pub between : (number : ℕ) → is_among numbers number ≡ true → IsNumberedBetween by_root lo hi number
+  pub all : (root number : ℕ) → has_entry by_root root number ≡ true → is_between lo hi root ≡ true
+      → (contains nat_cmp set number || is_among numbers number) ≡ true
 
 -- the set has what it had, and else only arrival numbers of root keys from lo on and below hi
 pub record AddsBetween (by_root : BTreeSet (ℕ × ℕ)) (lo hi : ℕ) (old new : BTreeSet ℕ) : Type 0 where

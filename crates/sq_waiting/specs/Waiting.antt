@@ -1,5 +1,5 @@
 -- Transactions that wait, in the order in which they came.
-use Rattle.std.specs.Prelude.{◌≡◌, ◌+◌, ◌==◌, ◌||◌, ◌&&◌, ◌++◌, ◌∷◌, [], ℕ, Bool, nat_le, if◌then◌else◌, List, map, find, length, Option, option_map}
+use Rattle.std.specs.Prelude.{◌+◌, ◌==◌, ◌||◌, ◌&&◌, ◌++◌, ◌∷◌, [], ℕ, Bool, nat_le, if◌then◌else◌, List, map, find, length, Option, option_map}
 use Rattle.sq_schema.specs.TxnValue.{TxnValue}
 
 -- a waiting transaction: its arrival number, and whether it is due, that is, looked at when one is taken up
@@ -69,8 +69,3 @@ due_if passes a = record a { is_due = a.is_due || passes a }
 -- those that pass are due too
 abbrev pub with_due : (Arrival → Bool) → WaitingValue → WaitingValue
 with_due passes w = record w { arrivals = map (due_if passes) w.arrivals }
-
--- some of those that pass are due too, and all else is as it was
-pub record IsMoreDue (passes : Arrival → Bool) (old new : WaitingValue) : Type 0 where
-  pub some : Arrival → Bool
-  pub more : new ≡ with_due (λ a. passes a && some a) old

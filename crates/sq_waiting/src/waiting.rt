@@ -1,15 +1,15 @@
 // Waiting transactions by arrival number, with an index by root key and the numbers of those that are due.
-ghost use Rattle.std.specs.Prelude.{◌≡◌, ◌==◌, ◌<◌, ℕ, true, [], Some, length, drop, find, slice_get, option_map, IsSome, IfSome, OnOk, OnErr, IfOk};
+ghost use Rattle.std.specs.Prelude.{◌≡◌, ◌==◌, ◌<◌, ℕ, true, [], Some, length, drop, find, slice_get, option_map, IsSome, IfSome, OnOk, OnErr, IfOk, IfErr};
 ghost use Rattle.std.specs.List.{list_any};
 ghost use Rattle.std.specs.List.Sorted.{IsStrictlyIncreasing};
 ghost use Rattle.sq_schema.specs.Prelude.{TxnValue};
 ghost use Rattle.sq_waiting.specs.Index.{is_between};
-ghost use Rattle.sq_waiting.specs.Waiting.{WaitingValue, numbers_of, is_on, is_numbered, is_due_from, txn_at, without, numbered_anew, no_number, with_a_number_left, with_last, with_due, IsMoreDue};
+ghost use Rattle.sq_waiting.specs.Waiting.{WaitingValue, numbers_of, is_on, is_numbered, is_due_from, txn_at, without, numbered_anew, no_number, with_a_number_left, with_last, with_due};
 
 use crate::index::{add_between, enter, first_of, strike};
 use crate::keys::{ArrivalNumber, IndexEntry};
 use sq_schema::{Root, Txn};
-use std::alloc::{AllocError, Global};
+use std::alloc::{AllocError, AllocFailed, Global};
 use std::collections::{BTreeMap, BTreeSet};
 use std::marker::Model;
 
@@ -128,26 +128,29 @@ impl Waiting {
     }
 
     /// One more waits, after all others, with the next arrival number. Where there is none, all are numbered anew from 0
-    /// before that. Where there is no memory nothing changes.
-    pub fn push(&mut self, txn: Txn, is_due: bool) -> Result<(), AllocError>
+    /// before that. Where there is no memory nothing changes, and the transaction comes back.
+    pub fn push(&mut self, txn: Txn, is_due: bool) -> Result<(), AllocFailed<Txn>>
         ensures ok { OnOk result (self.new ≡ with_last (with_a_number_left self.old) txn is_due) }
         ensures err { OnErr result (self.new ≡ self.old) }
+        ensures txn_returned { IfErr result (λ refused. refused.value ≡ txn) }
     {
         if self.next < u64::MAX {
             return self.add(txn, is_due);
         }
-        let mut anew = self.numbered_anew()?;
+        let Ok(mut anew) = self.numbered_anew() else {
+            return Err(AllocFailed { value: txn });
+        };
         anew.add(txn, is_due)?;
         *self = anew;
         Ok(())
     }
 
-    /// All that wait for root keys from `lo` on and below `hi` are due too. Where there is no memory some of them are.
+    /// All that wait for root keys from `lo` on and below `hi` are due too. Where there is no memory nothing changes.
     pub fn make_due(&mut self, lo: u64, hi: u64) -> Result<(), AllocError>
         ensures ok { OnOk result (self.new ≡ with_due (λ a. is_between lo hi a.txn.root) self.old) }
-        ensures err { OnErr result (IsMoreDue (λ a. is_between lo hi a.txn.root) self.old self.new) }
+        ensures err { OnErr result (self.new ≡ self.old) }
     {
-        add_between(&self.by_root, lo, hi, &mut self.due)
+        add_between(self.alloc, &self.by_root, lo, hi, &mut self.due)
     }
 
     /// All that wait are due. It takes no memory.
@@ -160,22 +163,26 @@ impl Waiting {
     }
 
     // One more waits, after all others, with the next arrival number.
-    fn add(&mut self, txn: Txn, is_due: bool) -> Result<(), AllocError>
+    fn add(&mut self, txn: Txn, is_due: bool) -> Result<(), AllocFailed<Txn>>
         requires { self.old.next < no_number }
         ensures ok { OnOk result (self.new ≡ with_last self.old txn is_due) }
         ensures err { OnErr result (self.new ≡ self.old) }
+        ensures txn_returned { IfErr result (λ refused. refused.value ≡ txn) }
     {
         let number = self.next;
         let root = txn.root().number();
-        enter(&mut self.by_root, &mut self.due, root, number, is_due)?;
+        if enter(&mut self.by_root, &mut self.due, root, number, is_due).is_err() {
+            return Err(AllocFailed { value: txn });
+        }
         match self.txns.insert(ArrivalNumber(number), txn) {
             Ok(_) => {
                 self.next = number + 1;
                 Ok(())
             }
-            Err(_) => {
+            Err(refused) => {
                 strike(&mut self.by_root, &mut self.due, root, number);
-                Err(AllocError)
+                let (_, txn) = refused.value;
+                Err(AllocFailed { value: txn })
             }
         }
     }

@@ -1,9 +1,8 @@
-use Rattle.std.proofs.Common.{Result, Ok, Err, ap, subst, ◌∙◌}
+use Rattle.std.proofs.Common.{Result, Ok, Err, ap, ◌∙◌}
 use Rattle.std.specs.Prelude.{OnOk, OnErr}
 use Rattle.sq_waiting.specs.Index.{is_between}
-use Rattle.sq_waiting.specs.Waiting.{WaitingValue, with_due, IsMoreDue}
-use Rattle.sq_waiting.specs.Indexed.{is_due_in, arrivals_of}
-use Rattle.sq_waiting.proofs.Indexes.{adds_indexed, adds_more, adds_all}
+use Rattle.sq_waiting.specs.Waiting.{with_due}
+use Rattle.sq_waiting.proofs.Indexes.{adds_indexed, adds_all, due_alike}
 use Rattle.sq_waiting.proofs.waiting.Waiting.make_due.Goals as goal
 
 -- what follows from what holds on success holds on success
@@ -11,9 +10,9 @@ on_ok : {T E : Type 0} {P Q : Type 0} → (P → Q) → (result : Result T E) �
 on_ok follows (Ok x) p = follows p
 on_ok follows (Err e) p = tt
 
-on_err : {T E : Type 0} {P : Type 0} → (result : Result T E) → P → OnErr result P
-on_err (Ok x) p = tt
-on_err (Err e) p = p
+on_err : {T E : Type 0} {P Q : Type 0} → (P → Q) → (result : Result T E) → OnErr result P → OnErr result Q
+on_err follows (Ok x) p = tt
+on_err follows (Err e) p = follows p
 
 pub invariant_of-self : goal.invariant_of-self
 invariant_of-self c = adds_indexed c.self.inside.txns c.self.inside.by_root c.self.inside.due c.self.inside.due_below c.self.inside.next c.self.invariant c.args.lo c.args.hi c.add_between.new.numbers c.add_between.ensures.adds
@@ -26,5 +25,6 @@ returns-clause-ok c =
 
 pub returns-clause-err : goal.returns-clause-err
 returns-clause-err c =
-    on_err c.add_between.result (subst (λ (w : WaitingValue). IsMoreDue (λ a. is_between c.args.lo c.args.hi (a.txn).root) w (record { arrivals = arrivals_of c.self.inside.txns.entries (is_due_in c.self.inside.due_below c.add_between.new.numbers); next = c.self.inside.next })) c.self.view_is
-    (adds_more c.self.inside.txns c.self.inside.by_root c.self.inside.due c.self.inside.due_below c.self.inside.next c.self.invariant c.args.lo c.args.hi c.add_between.new.numbers c.add_between.ensures.adds))
+    on_err (λ same.
+    due_alike c.self.inside.txns c.self.inside.by_root c.self.inside.due c.self.inside.due_below c.self.inside.next c.self.invariant c.add_between.new.numbers same
+    ∙ c.self.view_is) c.add_between.result c.add_between.ensures.err
