@@ -8,6 +8,7 @@ pub mod Numbers
 pub mod Orderly
 pub mod Places
 pub mod Routing
+pub mod StageOrder
 pub mod Staged
 pub mod Statuses
 pub mod Steps

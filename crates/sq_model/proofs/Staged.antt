@@ -32,11 +32,11 @@ use Rattle.sq_model.proofs.Places.{loaded_away}
 use Rattle.sq_model.proofs.Waiters.{went-loaded}
 
 -- a list begins with what came in this stage, and the rest of it is of stages before
-record IsSince {X : Type 0} (f : X → ℕ) (i : ℕ) (now all : List X) : Type 0 where
-  older : List X
-  made : all ≡ now ++ older
-  here : (x : X) → Contains now x → f x ≡ i
-  past : (x : X) → Contains older x → f x < i
+pub record IsSince {X : Type 0} (f : X → ℕ) (i : ℕ) (now all : List X) : Type 0 where
+  pub older : List X
+  pub made : all ≡ now ++ older
+  pub here : (x : X) → Contains now x → f x ≡ i
+  pub past : (x : X) → Contains older x → f x < i
 
 since_none : {X : Type 0} (f : X → ℕ) (i : ℕ) → IsSince f i [] []
 since_none f i = record { older = []; made = refl; here = λ x has. absurd (Contains-nothing x has); past = λ x has. absurd (Contains-nothing x has) }
@@ -65,10 +65,10 @@ since_next {X = X} f i now all h = record {
 }
 
 -- the stage of a note
-abbrev note_stage : OpeningValue → Note → ℕ
+abbrev pub note_stage : OpeningValue → Note → ℕ
 note_stage o note = stage_on o.recon note.src note.dst
 
-notes_since : (o : OpeningValue) (t : Trace) → IsLegal o t → IsSince (note_stage o) (stage t) (notes (since t)) (notes t)
+pub notes_since : (o : OpeningValue) (t : Trace) → IsLegal o t → IsSince (note_stage o) (stage t) (notes (since t)) (notes t)
 notes_since o [] legal = since_none (note_stage o) 0
 notes_since o ((Next, Done) ∷ t) legal = since_next (note_stage o) (stage t) (notes (since t)) (notes t) (notes_since o t legal.1)
 notes_since o ((Cut src dst, WasCut note families) ∷ t) legal =
@@ -77,7 +77,7 @@ notes_since o ((Cut src dst, WasCut note families) ∷ t) legal =
     since_more (note_stage o) (stage t) note (notes (since t)) (notes t) (ap₂ (stage_on o.recon) of.source of.destination ∙ goes.stage) (notes_since o t legal.1)
 notes_since o ((step, given) ∷ t) legal = notes_since o t legal.1
 
-loads_since : (o : OpeningValue) (t : Trace) → IsLegal o t → IsSince (note_stage o) (stage t) (loads (since t)) (loads t)
+pub loads_since : (o : OpeningValue) (t : Trace) → IsLegal o t → IsSince (note_stage o) (stage t) (loads (since t)) (loads t)
 loads_since o [] legal = since_none (note_stage o) 0
 loads_since o ((Next, Done) ∷ t) legal = since_next (note_stage o) (stage t) (loads (since t)) (loads t) (loads_since o t legal.1)
 loads_since o ((Load src dst, WasLoaded note families) ∷ t) legal =
@@ -134,7 +134,7 @@ items_since o ((Begin seg node pull, Done) ∷ t) legal =
 items_since o ((step, given) ∷ t) legal = items_since o t legal.1
 
 -- what isn't found in the rest is found in the beginning or nowhere
-find-append_none : {X : Type 0} (p : X → Bool) (xs ys : List X) → find p ys ≡ None → find p (xs ++ ys) ≡ find p xs
+pub find-append_none : {X : Type 0} (p : X → Bool) (xs ys : List X) → find p ys ≡ None → find p (xs ++ ys) ≡ find p xs
 find-append_none p [] ys none = none
 find-append_none p (x ∷ xs) ys none = ap (λ found. if p x then Some x else found) (find-append_none p xs ys none)
 
@@ -142,7 +142,7 @@ or_none : (a : Bool) → (a || false) ≡ a
 or_none true = refl
 or_none false = refl
 
-list_any-append_none : {X : Type 0} (p : X → Bool) (xs ys : List X) → list_any p ys ≡ false → list_any p (xs ++ ys) ≡ list_any p xs
+pub list_any-append_none : {X : Type 0} (p : X → Bool) (xs ys : List X) → list_any p ys ≡ false → list_any p (xs ++ ys) ≡ list_any p xs
 list_any-append_none p xs ys none = list_any-append p xs ys ∙ ap (λ b. list_any p xs || b) none ∙ or_none (list_any p xs)
 
 filter-append_none : {X : Type 0} (p : X → Bool) (xs ys : List X) → filter p ys ≡ [] → filter p (xs ++ ys) ≡ filter p xs
@@ -178,7 +178,7 @@ later_free o ((Complete_step seg node pull, Done) ∷ t) legal g n segment there
     set_if_at (λ st. st ≡ Free) seg node (Complete pull) g n (status_of t g n) (λ same _. not_later o t seg g segment (complete_goes o t seg node pull legal.0).runs same there later) (later_free o t legal.1 g n segment there later)
 later_free o ((step, given) ∷ t) legal g n segment there later = later_free o t legal.1 g n segment there later
 
-status_since : (o : OpeningValue) (t : Trace) → IsLegal o t → (g n : ℕ) (segment : Range) → slice_get o.recon.segments g ≡ Some segment → stage t ≤ stage_in o.recon segment → status_of t g n ≡ status_of (since t) g n
+pub status_since : (o : OpeningValue) (t : Trace) → IsLegal o t → (g n : ℕ) (segment : Range) → slice_get o.recon.segments g ≡ Some segment → stage t ≤ stage_in o.recon segment → status_of t g n ≡ status_of (since t) g n
 status_since o [] legal g n segment there now = refl
 status_since o ((Next, Done) ∷ t) legal g n segment there now = later_free o t legal.1 g n segment there (omega (arith, now))
 status_since o ((step, given) ∷ t) legal g n segment there now = ap (sets_status g n step given) (status_since o t legal.1 g n segment there now)
@@ -357,7 +357,7 @@ module _ (o : OpeningValue) (is : IsOpening o) (t : Trace) (legal : IsLegal o t)
       ]
 
   -- no note of another stage is of a link of the running one
-  link_since : (src dst : ℕ) (now all : List Note) → IsSince (note_stage o) (stage t) now all → stage_on o.recon src dst ≡ stage t → link src dst all ≡ link src dst now
+  pub link_since : (src dst : ℕ) (now all : List Note) → IsSince (note_stage o) (stage t) now all → stage_on o.recon src dst ≡ stage t → link src dst all ≡ link src dst now
   link_since src dst now all h runs =
       let of : Note → Bool = λ note. (note.src == src) && (note.dst == dst) in
       ap (link src dst) h.made

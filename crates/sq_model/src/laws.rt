@@ -1,21 +1,21 @@
 // Laws of the definitions: worked examples, which the checker computes, two limits, what every legal history keeps, and that
 // each refusal has a meaning.
-ghost use Rattle.std.specs.Prelude.{◌≡◌, ◌≤◌, ◌<◌, ℕ, [], length, false, true, Some, is_some, pos};
+ghost use Rattle.std.specs.Prelude.{◌≡◌, ◌≢◌, ◌≤◌, ◌<◌, ℕ, [], length, Contains, false, true, Some, is_some, pos};
 ghost use Rattle.sq_explain.specs.Meanings.{meaning_of};
 ghost use Rattle.sq_schema.specs.Prelude.{TxnValue, rows_of};
-ghost use Rattle.sq_ranges.specs.Prelude.{OpeningValue, IsOpening};
+ghost use Rattle.sq_ranges.specs.Prelude.{OpeningValue, IsOpening, stage_on};
 ghost use Rattle.sq_ranges.specs.declared.opening.TheConstants.{MAX_WAITING};
-ghost use Rattle.sq_model.specs.Trace.{Trace, notes, loads};
+ghost use Rattle.sq_model.specs.Trace.{Trace, stage, notes, loads, link};
 ghost use Rattle.sq_model.specs.Tables.{IsFoldedRoot, now, stands, family_of, is_full};
 ghost use Rattle.sq_model.specs.Leader.{phase};
 ghost use Rattle.sq_model.specs.declared.answer.Refusal.{Refusal};
 ghost use Rattle.sq_model.specs.Refusal.{refusal_number};
-ghost use Rattle.sq_model.specs.Place.{At, place, destination, runner};
+ghost use Rattle.sq_model.specs.Place.{At, place, destination, runner, is_coming};
 ghost use Rattle.sq_model.specs.Waiting.{waiting, has_to_wait};
 ghost use Rattle.sq_model.specs.Answers.{answer};
 ghost use Rattle.sq_model.specs.Legal.{IsLegal, answers, after};
 ghost use Rattle.sq_model.specs.Orderly.{IsOrderly, CoverOnce};
-ghost use Rattle.sq_model.specs.Staged.{TellsAlone};
+ghost use Rattle.sq_model.specs.Staged.{TellsAlone, since};
 ghost use Rattle.sq_model.specs.WorkedStages.{two_stages, in_stages, in_stages_answers};
 ghost use Rattle.sq_model.specs.Worked.{one_row, whole_path, whole_path_answers, given_up, given_up_answers, begun_again, begun_again_answers, two_families, two_chunks, two_chunks_answers, large_family, large_chunk, large_chunk_answers, three_families, full_link, full_link_answers, out_of_order, out_of_order_answers, waits_for_rows, waits_for_rows_answers, too_soon, too_soon_answers, resumed_in_order, resumed_in_order_answers, claimed_whole, claimed_whole_answers, claimed_half, claimed_half_answers, split_too_low, split_too_low_answers, empty_leaf, empty_leaf_answers, read_nodes, read_nodes_answers, wide_link, reactive_first, reactive_first_answers, row, folded_twice, folded_twice_answers, folded_early, folded_early_answers};
 
@@ -112,6 +112,24 @@ pub fn moves_in_stages()
 /// notes and loads of the running stage, if a root key that moved in a stage before counts as its new owner's.
 pub fn tells_by_stage()
     ensures { (o : OpeningValue) (t : Trace) → IsOpening o → IsLegal o t → TellsAlone o t }
+{}
+
+/// Whatever the steps: those since the last Next that went are in order by themselves, and no note of theirs is of a link of
+/// another stage.
+pub fn moves_in_order_by_stage()
+    ensures order { (o : OpeningValue) (t : Trace) → IsOpening o → IsLegal o t
+        → IsOrderly o (since t) }
+    ensures links { (o : OpeningValue) (t : Trace) (src dst : ℕ) → IsOpening o → IsLegal o t
+        → stage_on o.recon src dst ≢ stage t
+        → (link src dst (notes (since t)) ≡ []) × (link src dst (loads (since t)) ≡ []) }
+{}
+
+/// Whatever the steps: a transaction that waits at a partition and whose rows aren't on their way there is run by that
+/// partition.
+pub fn runs_waiters_where_they_wait()
+    ensures { (o : OpeningValue) (t : Trace) (part : ℕ) (txn : TxnValue) → IsOpening o → IsLegal o t
+        → Contains (waiting o t part) txn → is_coming o t part txn.root ≡ false
+        → runner o t txn.root ≡ Some part }
 {}
 
 /// A family whose log was folded starts from its rows; one that has none goes.
