@@ -25,3 +25,4 @@ pub mod ServingFacts
 pub mod Headline
 pub mod Facts
 pub mod Loadable
+pub mod Alike

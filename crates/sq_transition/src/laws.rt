@@ -1,9 +1,28 @@
 // What holds of each step.
+ghost use Rattle.std.specs.Prelude.{◌≡◌, ℕ};
+ghost use Rattle.std.specs.FinMap.{get};
+ghost use Rattle.sq_ranges.specs.Prelude.{OpeningValue};
+ghost use Rattle.sq_chunk.specs.ChunkValue.{ChunkValue};
+ghost use Rattle.sq_exec.specs.CoreValue.{CoreValue};
+ghost use Rattle.sq_model.specs.Trace.{Trace};
 ghost use Rattle.sq_transition.specs.EachStep.{EachStepKeepsHeadline};
+ghost use Rattle.sq_transition.specs.Holds.{ChunkHolds, CoreHolds};
 
 /// Each step leads from a world that its history tells to one that its history tells: where the steps so far were answered
 /// legally and the world is the one that they lead to, the next step is answered legally too, all moves stay orderly, and
 /// the world after it is again the one that the steps lead to.
 pub fn each_step_keeps_the_headline()
     ensures { EachStepKeepsHeadline }
+{}
+
+/// What one history tells of a chunk and of a partition is all that they hold: two chunks that it tells and that have one
+/// note are one chunk, and two partitions that it tells of one number have the same families and the same transactions
+/// that wait.
+pub fn a_history_tells_what_each_holds()
+    ensures chunks { (o : OpeningValue) (t : Trace) (one other : ChunkValue) → ChunkHolds o t one → ChunkHolds o t other
+        → one.note ≡ other.note → one ≡ other }
+    ensures families { (o : OpeningValue) (t : Trace) (part : ℕ) (one other : CoreValue) (root : ℕ)
+        → CoreHolds o t part one → CoreHolds o t part other → get one.store root ≡ get other.store root }
+    ensures waiting { (o : OpeningValue) (t : Trace) (part : ℕ) (one other : CoreValue)
+        → CoreHolds o t part one → CoreHolds o t part other → one.waiting ≡ other.waiting }
 {}
