@@ -83,10 +83,10 @@ impl Moving {
         self.reported.has(part)
     }
 
-    /// Notes a report, which may come again. That of a partition which the leader hasn't changes nothing. Refused where it
-    /// is a report of another stage than the running one.
-    pub fn report(mut self, report: Report) -> Result<Moving, Refused<Moving, StageFault>>
-        ensures { result ≡ answer_to_report self report }
+    /// Notes a report, which may come again and stays with the caller. That of a partition which the leader hasn't changes
+    /// nothing. Refused where it is a report of another stage than the running one.
+    pub fn report(mut self, report: &Report) -> Result<Moving, Refused<Moving, StageFault>>
+        ensures { result ≡ answer_to_report self report.now }
     {
         if report.stage() != self.stage {
             return Err(Refused {

@@ -91,7 +91,7 @@ fn hear_reports(mut moving: Moving, opening: &Opening, whole: &[bool]) -> Moving
     for part in 0..u64::from(opening.old_plan().parts()) {
         let stage = moving.stage();
         if let Ok(report) = Report::made(part, opening.old_plan(), opening.recon(), stage, whole) {
-            moving = match moving.report(report) {
+            moving = match moving.report(&report) {
                 Ok(moving) => moving,
                 Err(_) => unreachable!(),
             };

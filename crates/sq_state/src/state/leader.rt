@@ -77,7 +77,7 @@ impl State {
             Leader::Moving(moving) => {
                 let whole = whole_segments(&self.trees);
                 match Report::made(part, &self.old_plan, &self.recon, moving.stage(), &whole) {
-                    Ok(report) => match moving.report(report) {
+                    Ok(report) => match moving.report(&report) {
                         Ok(moving) => self.go_on(Leader::Moving(moving)),
                         Err(_) => unreachable!(),
                     },
