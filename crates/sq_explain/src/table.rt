@@ -120,7 +120,7 @@ pub(crate) const ENTRIES: [Entry; 62] = [
         number: 125,
         meaning: "there are more than 4096 jobs",
         given: "fault of a live run",
-        advice: "Give the jobs in several runs.",
+        advice: "Give the jobs in several runs, each from the rows that the one before left (`squall live --rows-out`).",
     },
     Entry {
         number: 126,
@@ -282,7 +282,7 @@ pub(crate) const ENTRIES: [Entry; 62] = [
         number: 218,
         meaning: "something of the move, or a report of it, is missing",
         given: "refusal of `report`, `next`, `finish`, `fold`",
-        advice: "Complete each segment of the running stage, and report each partition to which one goes. `finish` is for the last stage, `next` for those before, and `fold` for after the end.",
+        advice: "Before `fold` end the move. Before the others complete each segment of the running stage, and report each partition to which one goes; `finish` is for the last stage, and `next` for those before.",
     },
     Entry {
         number: 219,
@@ -300,7 +300,7 @@ pub(crate) const ENTRIES: [Entry; 62] = [
         number: 221,
         meaning: "the log of a root key holds 4096 transactions",
         given: "refusal of `txn`, `resume`",
-        advice: "Fold the logs of the partition once the move has ended, or run `squall live --fold`.",
+        advice: "Fold the logs of the partition once the move has ended (`squall live --fold` does so between stages), or begin a next run from the rows (`--rows-out`).",
     },
     Entry {
         number: 222,
