@@ -11,7 +11,7 @@ use Rattle.sq_ranges.specs.ReconValue.{ReconValue, leaf_at, stage_in}
 use Rattle.sq_chunk.specs.declared.chunk.Note.{Note}
 use Rattle.sq_chunk.specs.ChunkValue.{ChunkValue, covers}
 use Rattle.sq_waiting.specs.Index.{is_between}
-use Rattle.sq_waiting.specs.Waiting.{Arrival, WaitingValue, due_if, IsMoreDue}
+use Rattle.sq_waiting.specs.Waiting.{Arrival, WaitingValue, due_if, with_due}
 use Rattle.sq_exec.specs.declared.run.Run.{Run}
 use Rattle.sq_exec.specs.Runs.{is_loaded, runs_with}
 use Rattle.sq_exec.specs.CoreValue.{CoreValue, PartCoreValue}
@@ -147,6 +147,11 @@ started_kept {seen} view_is arrivals is =
     let core = seen.core in
     still_core is true core.store core.waiting arrivals is.moving
     (all_due_by (record core { started = true }) arrivals ∙ started_due core.stage core.part core.recon core.started core.loaded arrivals (sym (all_due_by core arrivals) ∙ is.due))
+
+-- some of those that pass are due too, and all else is as it was
+pub record IsMoreDue (passes : Arrival → Bool) (old new : WaitingValue) : Type 0 where
+  pub some : Arrival → Bool
+  pub more : new ≡ with_due (λ a. passes a && some a) old
 
 -- when more are due
 pub more_kept : {passes : Arrival → Bool} (core : CoreValue) (old new : WaitingValue) → IsMoreDue passes old new → IsCore core old.arrivals → IsCore core new.arrivals

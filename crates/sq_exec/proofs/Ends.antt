@@ -1,9 +1,10 @@
 -- The ends of links in a partition.
-use Rattle.std.proofs.Common.{◌≡◌, ℕ, ◌+◌, ◌<◌, true, List, [], ◌∷◌, map, length, get_or, set, take, refl, ap, ◌∙◌}
+use Rattle.std.proofs.Common.{◌≡◌, ℕ, zero, suc, ◌+◌, ◌<◌, Bool, true, List, [], ◌∷◌, map, length, get_or, set, take, refl, sym, ap, ◌∙◌, arith}
 use Rattle.std.specs.Prelude.{◌&&◌}
 use Rattle.std.specs.List.{list_all}
-use Rattle.std.proofs.lemmas.List.{take_more_set}
-use Rattle.std.proofs.lemmas.List.Folds.{list_all-append}
+use Rattle.std.proofs.lemmas.List.{take_more_set, set_past}
+use Rattle.std.proofs.lemmas.Bool.{and_parts}
+use Rattle.std.proofs.lemmas.List.Folds.{list_all-append, list_all-map}
 use Rattle.sq_store.specs.StoreValue.{StoreValue}
 use Rattle.sq_exec.proofs.Seen.{seen_changed, seen_set, seen_kept}
 use Rattle.sq_exec.specs.OutLink.{OutLinkValue, RoomyOutLink, new_out_link}
@@ -42,3 +43,21 @@ pub room_more : (outs : List RoomyOutLink) (i : ℕ) (after : RoomyOutLink) → 
     → list_all (λ out. out.has_room) (take (i + 1) (set outs i after)) ≡ true
 room_more outs i after lt room here =
     rw (take_more_set outs i after lt) (rw (list_all-append (λ (out : RoomyOutLink). out.has_room) (take i outs) (after ∷ [])) (λ k. room k && (here k && true)))
+
+abbrev pub roomy : RoomyOutLink → Bool
+roomy out = out.has_room
+
+-- one was changed that has room as before
+pub room_kept : (outs : List RoomyOutLink) (i : ℕ) (out after : RoomyOutLink) → out ≡ get_or outs i out → after.has_room ≡ out.has_room → list_all roomy (set outs i after) ≡ list_all roomy outs
+room_kept outs i out after read same =
+    sym (list_all-map (λ (b : Bool). b) roomy (set outs i after)) ∙ ap (list_all (λ (b : Bool). b)) (seen_kept roomy outs i out after read same) ∙ list_all-map (λ (b : Bool). b) roomy outs
+
+-- one was changed that still has room
+pub room_still : (outs : List RoomyOutLink) (i : ℕ) (out after : RoomyOutLink) → out ≡ get_or outs i out → (out.has_room ≡ true → after.has_room ≡ true) → list_all roomy outs ≡ true → list_all roomy (set outs i after) ≡ true
+room_still [] i out after read still all = ap (list_all roomy) (set_past [] i after (omega arith))
+room_still (x ∷ outs) zero out after read still all =
+    let parts = and_parts x.has_room (list_all roomy outs) all in
+    λ k. still (ap roomy read ∙ parts.0) k && parts.1 k
+room_still (x ∷ outs) (suc i) out after read still all =
+    let parts = and_parts x.has_room (list_all roomy outs) all in
+    λ k. parts.0 k && room_still outs i out after read still parts.1 k

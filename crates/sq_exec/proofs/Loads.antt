@@ -6,7 +6,7 @@ use Rattle.std.proofs.lemmas.Option.{same_Some, slice_get_within}
 use Rattle.sq_ranges.specs.declared.recon.Range.{Range}
 use Rattle.sq_chunk.specs.ChunkValue.{ChunkValue}
 use Rattle.sq_schema.specs.TxnValue.{TxnValue}
-use Rattle.sq_waiting.specs.Waiting.{Arrival, WaitingValue, txns_of, numbers_of, due_if, with_due, IsMoreDue}
+use Rattle.sq_waiting.specs.Waiting.{Arrival, WaitingValue, txns_of, numbers_of, due_if, with_due}
 use Rattle.sq_waiting.specs.Index.{is_between}
 use Rattle.sq_waiting.proofs.Arrivals.{txns-due, numbers-due}
 use Rattle.sq_store.specs.StoreValue.{StoreValue, with_families, has_none_of}
@@ -16,7 +16,7 @@ use Rattle.sq_exec.specs.Runs.{is_met, runs_with}
 use Rattle.sq_exec.specs.CoreValue.{CoreValue, Numbering, PartCoreValue, inbox_at, loaded_at}
 use Rattle.sq_exec.specs.Moving.{lies_in, can_load, can_load_in, loaded_core, LoadsFrom}
 use Rattle.sq_exec.specs.Kept.{IsCore}
-use Rattle.sq_exec.proofs.Coming.{more_kept, loaded_kept}
+use Rattle.sq_exec.proofs.Coming.{IsMoreDue, more_kept, loaded_kept}
 use Rattle.sq_exec.proofs.Seen.{seen_changed, seen_kept}
 use Rattle.sq_chunk.specs.declared.chunk.Note.{Note}
 
@@ -129,3 +129,7 @@ none_more w = record { some = λ a. false; more = ap (λ arrivals. record w { ar
     same : (arrivals : List Arrival) → arrivals ≡ map (due_if (λ a. false)) arrivals
     same [] = refl
     same (a ∷ arrivals) = λ k. record a { is_due = or_none a.is_due k } ∷ same arrivals k
+
+-- nor where all is as it was
+pub as_due : {old new : WaitingValue} → new ≡ old → IsMoreDue (λ a. true) old new
+as_due {old} same = subst (IsMoreDue (λ a. true) old) (sym same) (none_more old)

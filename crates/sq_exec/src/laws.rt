@@ -1,12 +1,17 @@
-// Laws of what a partition gave up and loaded.
-ghost use Rattle.std.specs.Prelude.{◌≡◌, ℕ, ◌<◌, ◌==◌, ◌&&◌, ◌||◌, Bool, List};
+// Laws of what a partition gave up and loaded, and of the transactions that it runs or lets wait.
+ghost use Rattle.std.specs.Prelude.{◌≡◌, ◌≢◌, ℕ, ◌<◌, ◌==◌, ◌&&◌, ◌||◌, ◌⊎◌, true, false, Bool, List, Some, position, slice_get};
 ghost use Rattle.sq_tree.specs.declared.node.TheConstants.{LEAVES};
 ghost use Rattle.sq_tree.specs.Prelude.{is_above};
 ghost use Rattle.sq_chunk.specs.declared.chunk.Note.{Note};
 ghost use Rattle.sq_chunk.specs.ChunkValue.{covers};
 ghost use Rattle.sq_exec.specs.declared.run.Run.{Run};
 ghost use Rattle.sq_exec.specs.GivenUp.{is_given_up, given_up_with};
-ghost use Rattle.sq_exec.specs.Runs.{is_loaded, is_whole, runs_with};
+ghost use Rattle.sq_schema.specs.Prelude.{TxnValue};
+ghost use Rattle.sq_exec.specs.declared.location.Location.{Location};
+ghost use Rattle.sq_exec.specs.CoreValue.{CoreValue};
+ghost use Rattle.sq_exec.specs.Location.{location, is_coming_here, route};
+ghost use Rattle.sq_exec.specs.Serving.{is_ready_here};
+ghost use Rattle.sq_exec.specs.Runs.{is_loaded, is_met, is_whole, runs_with};
 
 /// A chunk adds to what is loaded just the keys that its note covers, whichever chunks came before, and its node is
 /// whole if it is the last.
@@ -21,4 +26,38 @@ pub fn a_chunk_adds_what_its_note_covers()
 pub fn a_node_gives_up_its_leaves()
     ensures { (leaves : List Bool) (node leaf : ℕ) → leaf < LEAVES
         → is_given_up (given_up_with leaves node) leaf ≡ (is_given_up leaves leaf || is_above node leaf) }
+{}
+
+/// A chunk meets what is loaded just where a key that its note covers is loaded.
+pub fn a_chunk_meets_the_keys_that_are_loaded()
+    ensures meets { (runs : List Run) (note : Note) → is_met runs note ≡ true
+        → (key : ℕ) × (covers note key ≡ true) × (is_loaded runs key ≡ true) }
+    ensures met { (runs : List Run) (note : Note) (key : ℕ) → covers note key ≡ true → is_loaded runs key ≡ true
+        → is_met runs note ≡ true }
+{}
+
+/// In the stage in which a root key moves, a partition runs transactions on it only as its source that hasn't given it up,
+/// or as its destination that has loaded it.
+pub fn runs_what_it_has_not_given_up_or_has_loaded()
+    ensures { (core : CoreValue) (root : ℕ) (at : Location) → location core root ≡ Some at → at.stage ≡ core.stage
+        → at.src ≢ at.dst → route core root ≡ core.part
+        → ((at.src ≡ core.part) × (at.given_up ≡ false)) ⊎ ((at.dst ≡ core.part) × (at.loaded ≡ true)) }
+{}
+
+/// A root key comes to a partition just where the move has started, and the key moves there in the running stage and isn't
+/// loaded.
+pub fn comes_until_it_is_loaded()
+    ensures comes { (core : CoreValue) (root : ℕ) → is_coming_here core root ≡ true
+        → (at : Location) × (location core root ≡ Some at) × (core.started ≡ true)
+        × (at.stage ≡ core.stage) × (at.dst ≡ core.part) × (at.loaded ≡ false) }
+    ensures coming { (core : CoreValue) (root : ℕ) (at : Location) → location core root ≡ Some at → core.started ≡ true
+        → at.stage ≡ core.stage → at.dst ≡ core.part → at.loaded ≡ false → is_coming_here core root ≡ true }
+{}
+
+/// The first waiting transaction that is ready is ready, and none before it is.
+pub fn none_before_the_first_is_ready()
+    ensures { (core : CoreValue) (place : ℕ) (txn : TxnValue) → position (is_ready_here core) core.waiting ≡ Some place
+        → slice_get core.waiting place ≡ Some txn → (is_ready_here core txn ≡ true)
+        × ((k : ℕ) (other : TxnValue) → k < place → slice_get core.waiting k ≡ Some other
+        → is_ready_here core other ≡ false) }
 {}

@@ -102,6 +102,7 @@ impl OutLink {
             (λ note. IsCut limit ends self.old.link (S.contents store.old) note self.new.link (S.contents store.new)) }
         ensures refusal { IfErr result (λ fault. fault ≡ cut_fault self.old.link) }
         ensures err { OnErr result ((self.new.link ≡ self.old.link) × (S.contents store.new ≡ S.contents store.old)) }
+        ensures room { self.old.has_room ≡ true → self.new.has_room ≡ true }
     {
         if self.outbox.is_some() {
             return Err(CutFault::OutboxFull);
@@ -140,13 +141,15 @@ impl OutLink {
     pub(crate) fn take_outbox(&mut self) -> Option<Chunk>
         ensures chunk { result ≡ self.old.link.outbox }
         ensures link { self.new.link ≡ record self.old.link { outbox = None } }
+        ensures room { self.new.has_room ≡ self.old.has_room }
     {
         self.outbox.take()
     }
 
     /// Puts a chunk back that couldn't be sent.
     pub(crate) fn put_outbox(&mut self, chunk: Chunk)
-        ensures { self.new.link ≡ record self.old.link { outbox = Some chunk } }
+        ensures link { self.new.link ≡ record self.old.link { outbox = Some chunk } }
+        ensures room { self.new.has_room ≡ self.old.has_room }
     {
         self.outbox = Some(chunk);
     }

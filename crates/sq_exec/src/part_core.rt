@@ -1,7 +1,7 @@
 // One partition by itself.
 ghost use Rattle.std.specs.Prelude.{◌≡◌, ◌↔◌, ◌<◌, true, List, IsTrue, length, map};
 ghost use Rattle.std.specs.Option.{option_copied};
-ghost use Rattle.sq_waiting.specs.Waiting.{Arrival, txns_of};
+ghost use Rattle.sq_waiting.specs.Waiting.{Arrival, txns_of, numbers_of};
 ghost use Rattle.sq_exec.specs.CoreValue.{out_at, inbox_at, entered_core, folded_core};
 ghost use Rattle.sq_exec.specs.Kept.{IsCore};
 
@@ -150,7 +150,9 @@ impl<S: FamilyStore> PartCore<S> {
         ensures waiting { txns_of result.waiting.arrivals ≡ self.core.waiting }
         ensures inboxes { result.inboxes.items ≡ self.core.inboxes }
         ensures outs { map (λ out. out.link) result.outs.items ≡ self.core.outs }
-        ensures kept { (arrivals : List Arrival) × IsCore self.core arrivals }
+        ensures numbers { numbers_of result.waiting.arrivals ≡ self.numbering.numbers }
+        ensures next { result.waiting.next ≡ self.numbering.next }
+        ensures kept { IsCore self.core result.waiting.arrivals }
     {
         let PartCore {
             store,

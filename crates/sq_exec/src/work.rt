@@ -1,5 +1,5 @@
 // What the source of a link has to cut.
-ghost use Rattle.std.specs.Prelude.{◌≡◌, ◌≤◌, ◌<◌, position, vec_len, slice_index_or};
+ghost use Rattle.std.specs.Prelude.{◌≡◌, ◌≤◌, ◌<◌, position, vec_len, vec_capacity, slice_index_or};
 ghost use Rattle.sq_exec.specs.Work.{is_reactive_work, next_work, no_work, work_after};
 
 use sq_ranges::{Extent, SegId};
@@ -107,7 +107,9 @@ pub(crate) fn next_work(work: &[Work]) -> Option<usize>
 pub(crate) fn go_on(works: &mut Vec<Work>, at: usize, end: u64)
     requires exists { at < vec_len works.old }
     requires within { end ≤ (slice_index_or works.old.items at no_work).hi }
-    ensures { works.new.items ≡ work_after works.old.items at end }
+    ensures left { works.new.items ≡ work_after works.old.items at end }
+    ensures no_more { vec_len works.new ≤ vec_len works.old }
+    ensures capacity { vec_capacity works.new ≡ vec_capacity works.old }
 {
     let work = works[at];
     if end == work.rest().hi {

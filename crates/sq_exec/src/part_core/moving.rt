@@ -66,6 +66,7 @@ impl<S: FamilyStore> PartCore<S> {
         ensures ok { IfOk result (λ note. CutsFor self.old.core dst note self.new.core) }
         ensures refusal { IfErr result (λ fault. fault ≡ cut_fault (out_at self.old.core dst)) }
         ensures err { OnErr result (self.new.core ≡ self.old.core) }
+        ensures room { self.old.has_room ≡ true → self.new.has_room ≡ true }
         ensures numbering { self.new.numbering ≡ self.old.numbering }
     {
         let at = usize::from(dst.number());
@@ -83,6 +84,7 @@ impl<S: FamilyStore> PartCore<S> {
     pub fn take_outbox(&mut self, dst: PartId) -> Option<Chunk>
         ensures chunk { result ≡ (out_at self.old.core dst).outbox }
         ensures core { self.new.core ≡ with_out self.old.core dst (record (out_at self.old.core dst) { outbox = None }) }
+        ensures room { self.new.has_room ≡ self.old.has_room }
         ensures numbering { self.new.numbering ≡ self.old.numbering }
     {
         let at = usize::from(dst.number());
@@ -97,6 +99,7 @@ impl<S: FamilyStore> PartCore<S> {
         requires exists { dst < length self.old.core.outs }
         requires empty { (out_at self.old.core dst).outbox ≡ None }
         ensures core { self.new.core ≡ with_out self.old.core dst (record (out_at self.old.core dst) { outbox = Some chunk }) }
+        ensures room { self.new.has_room ≡ self.old.has_room }
         ensures numbering { self.new.numbering ≡ self.old.numbering }
     {
         self.outs[usize::from(dst.number())].put_outbox(chunk);
@@ -109,6 +112,7 @@ impl<S: FamilyStore> PartCore<S> {
         ensures ok { OnOk result (self.new.core ≡ with_inbox self.old.core src (Some chunk)) }
         ensures chunk_returned { IfErr result (λ back. back ≡ chunk) }
         ensures err { OnErr result (self.new.core ≡ self.old.core) }
+        ensures room { self.new.has_room ≡ self.old.has_room }
         ensures numbering { self.new.numbering ≡ self.old.numbering }
     {
         let inbox = &mut self.inboxes[usize::from(src.number())];
@@ -137,6 +141,7 @@ impl<S: FamilyStore> PartCore<S> {
         ensures ok { IfOk result (λ note. LoadsFrom self.old.core src note self.new.core) }
         ensures refusal { IfErr result (λ fault. fault ≡ load_fault self.old.core src) }
         ensures err { OnErr result (self.new.core ≡ self.old.core) }
+        ensures room { self.new.has_room ≡ self.old.has_room }
         ensures numbering { self.new.numbering ≡ self.old.numbering }
     {
         let from = usize::from(src.number());

@@ -30,6 +30,7 @@ impl<S: FamilyStore> PartCore<S> {
         ensures err { OnErr result (self.new.core ≡ self.old.core) }
         ensures numbered { IfOk result (λ outcome. self.new.numbering ≡ numbered outcome self.old.numbering) }
         ensures same_numbers { OnErr result (self.new.numbering ≡ self.old.numbering) }
+        ensures room { self.new.has_room ≡ self.old.has_room }
     {
         let root = txn.root();
         let found = self.location(root);
@@ -56,6 +57,7 @@ impl<S: FamilyStore> PartCore<S> {
         ensures err { OnErr result (self.new.core ≡ self.old.core) }
         ensures number { OnOk result (TakesNumber self.old self.new) }
         ensures same_numbers { OnErr result (self.new.numbering ≡ self.old.numbering) }
+        ensures room { self.new.has_room ≡ self.old.has_room }
     {
         let (number, who) = self.first_ready()?;
         let Ok(outcome) = serve(&mut self.store, self.part, who, self.waiting.txn(number)) else {
@@ -146,6 +148,7 @@ impl<S: FamilyStore> PartCore<S> {
         ensures err { OnErr result (self.new.core ≡ self.old.core) }
         ensures numbered { IfOk result (λ outcome. self.new.numbering ≡ numbered outcome self.old.numbering) }
         ensures same_numbers { OnErr result (self.new.numbering ≡ self.old.numbering) }
+        ensures room { self.new.has_room ≡ self.old.has_room }
     {
         if self.waiting.len() >= MAX_WAITING {
             return Err(SubmitFault::WaitFull);

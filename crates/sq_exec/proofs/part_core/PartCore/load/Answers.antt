@@ -7,7 +7,7 @@ use Rattle.sq_waiting.specs.Index.{is_between}
 use Rattle.sq_waiting.specs.Waiting.{txns_of}
 use Rattle.sq_exec.specs.Runs.{runs_with}
 use Rattle.sq_exec.specs.CoreValue.{PartCoreValue}
-use Rattle.sq_exec.proofs.Loads.{on_err, came_loadable, was_loaded, runs_kept, all_kept, same_waiting, same_numbering, more_by, none_more, loads_kept, as_was}
+use Rattle.sq_exec.proofs.Loads.{on_err, came_loadable, was_loaded, runs_kept, all_kept, same_waiting, same_numbering, more_by, none_more, as_due, loads_kept, as_was}
 use Rattle.sq_exec.proofs.part_core.PartCore.load.Goals as goal
 
 pub index_mut-runs-requires : goal.index_mut-runs-requires
@@ -23,12 +23,12 @@ returns-in_err-reserve-clause-err g c =
 pub returns-in_err-make_due-clause-err : goal.returns-in_err-make_due-clause-err
 returns-in_err-make_due-clause-err g c =
     on_err c.from_residual-in_err-make_due.result
-    (runs_kept c.self.view_is c.args.src c.from-from.result (c.from-from.ensures ∙ c.number.ensures) (omega arith) (λ runs. runs.items) c.self.inside.loaded.items refl c.number-2.result c.index_mut-runs.result.now c.reserve.new.self (txns_of c.make_due.new.self.arrivals) (same_waiting c.self.inside.waiting c.make_due.new.self c.in_err-make_due.ensures.err)
+    (runs_kept c.self.view_is c.args.src c.from-from.result (c.from-from.ensures ∙ c.number.ensures) (omega arith) (λ runs. runs.items) c.self.inside.loaded.items refl c.number-2.result c.index_mut-runs.result.now c.reserve.new.self (txns_of c.make_due.new.self.arrivals) (same_waiting c.self.inside.waiting c.make_due.new.self (as_due c.in_err-make_due.ensures.err))
     c.index_mut-runs.ensures.value c.reserve.ensures.items)
 
 pub invariant_of-self-in_err-make_due : goal.invariant_of-self-in_err-make_due
 invariant_of-self-in_err-make_due g c =
-    let more = c.in_err-make_due.ensures.err in
+    let more = as_due c.in_err-make_due.ensures.err in
     as_was c.self.view_is _
     (runs_kept c.self.view_is c.args.src c.from-from.result (c.from-from.ensures ∙ c.number.ensures) (omega arith) (λ runs. runs.items) c.self.inside.loaded.items refl c.number-2.result c.index_mut-runs.result.now c.reserve.new.self (txns_of c.make_due.new.self.arrivals) (same_waiting c.self.inside.waiting c.make_due.new.self more)
     c.index_mut-runs.ensures.value c.reserve.ensures.items) c.self.inside.waiting c.make_due.new.self more c.self.invariant
@@ -75,7 +75,7 @@ invariant_of-self-2 g c =
     (c.note-covered.ensures ∙ ap (λ (chunk : ChunkValue). chunk.note) (same_Some c.in-Some.chunk chunk (sym here ∙ given.1))) c.in_ok-make_due.ensures.ok c.self.invariant
 
 pub returns-in_err-make_due-clause-numbering : goal.returns-in_err-make_due-clause-numbering
-returns-in_err-make_due-clause-numbering g c = same_numbering c.self.inside.waiting c.make_due.new.self c.in_err-make_due.ensures.err ∙ ap (λ (v : PartCoreValue). v.numbering) c.self.view_is
+returns-in_err-make_due-clause-numbering g c = same_numbering c.self.inside.waiting c.make_due.new.self (as_due c.in_err-make_due.ensures.err) ∙ ap (λ (v : PartCoreValue). v.numbering) c.self.view_is
 
 pub returns-in_err-note-clause-numbering : goal.returns-in_err-note-clause-numbering
 returns-in_err-note-clause-numbering g c =
