@@ -147,11 +147,12 @@ impl Table {
     }
 
     /// Gives a root key these rows, in place of those that it has: some rows, of which those of other tables stand under
-    /// the root row. Where there is no memory nothing changes.
-    pub fn set(&mut self, root: Root, rows: Rows) -> Result<(), AllocError>
+    /// the root row. Where there is no memory nothing changes, and the rows come back.
+    pub fn set(&mut self, root: Root, rows: Rows) -> Result<(), AllocFailed<Rows>>
         requires { is_opening rows ≡ true }
         ensures ok { OnOk result ((k : ℕ) → rows_in self.new k ≡ with_rows (rows_in self.old) root rows k) }
         ensures err { OnErr result (self.new ≡ self.old) }
+        ensures rows_returned { IfErr result (λ refused. refused.value ≡ rows) }
     {
         self.rows.put(root, rows)?;
         Ok(())
