@@ -63,7 +63,7 @@ make_usage() {
     local word
     alike usage/help_by_h usage/help -h
     alike usage/help_by_its_word usage/help help
-    for word in run ranges live steps owner; do
+    for word in run ranges live steps owner demo serve; do
         alike "usage/help_of_${word}_by_h" "usage/help_of_$word" "$word" -h
         alike "usage/help_of_${word}_by_its_word" "usage/help_of_$word" help "$word"
     done

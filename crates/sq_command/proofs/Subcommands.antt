@@ -160,7 +160,7 @@ IsOwn name = IsSomeAnd name IsSubcommand
 
 -- the command's own subcommands
 abbrev own_shapes : List Shape
-own_shapes = take 6 (built squall).subs
+own_shapes = take 8 (built squall).subs
 
 not_false : (b : Bool) → not b ≡ true → b ≡ false
 not_false true e = absurd (true≢false (sym e))
@@ -173,7 +173,7 @@ names_own : (stop : Option (Text × List Text)) → is_own stop ≡ true → is_
     → IsOwn (name_met (entered (built squall) stop))
 names_own None own met = absurd (true≢false (sym met))
 names_own (Some p) own met =
-    found (λ s. answers_to p.0 (label_of s)) p.1 own_shapes (unwrap_or (slice_get (built squall).subs 6) (new_shape []))
+    found (λ s. answers_to p.0 (label_of s)) p.1 own_shapes (unwrap_or (slice_get (built squall).subs 8) (new_shape []))
     (or_false (bytes_eq (codes "help") p.0) (not_false (bytes_eq (codes "help") p.0) own)) met
 
 is_required : (has : Bool) (rows : List Row) → check_fault (built squall).top rows has ≡ [] → has ≡ true
@@ -259,13 +259,15 @@ past false rest fails holds = holds
 
 -- the name that is none of the others
 pub is_explain : (name : Text) → IsSubcommand name → false ≡ bytes_eq name (codes "run") → false ≡ bytes_eq name (codes "ranges") → false ≡ bytes_eq name (codes "live")
-    → false ≡ bytes_eq name (codes "steps") → false ≡ bytes_eq name (codes "owner") → name ≡ codes "explain"
-is_explain name own no_run no_ranges no_live no_steps no_owner =
+    → false ≡ bytes_eq name (codes "steps") → false ≡ bytes_eq name (codes "owner") → false ≡ bytes_eq name (codes "demo") → false ≡ bytes_eq name (codes "serve") → name ≡ codes "explain"
+is_explain name own no_run no_ranges no_live no_steps no_owner no_demo no_serve =
     let past_run = past _ _ no_run own in
     let past_ranges = past _ _ no_ranges past_run in
     let past_live = past _ _ no_live past_ranges in
     let past_steps = past _ _ no_steps past_live in
-    let last : (bytes_eq name (codes "explain") || false) ≡ true = past _ _ no_owner past_steps in
+    let past_owner = past _ _ no_owner past_steps in
+    let past_demo = past _ _ no_demo past_owner in
+    let last : (bytes_eq name (codes "explain") || false) ≡ true = past _ _ no_serve past_demo in
     (bytes_eq-Decides name (codes "explain")).0 (sym (or-false (bytes_eq name (codes "explain"))) ∙ last)
 
 -- what comes of words in which no fault is found, by what the options of their subcommand ask for

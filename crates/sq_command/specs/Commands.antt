@@ -8,6 +8,8 @@ use Rattle.clap.specs.declared.builder.value_parser.ValueParser.{ValueParser}
 use Rattle.clap.specs.declared.builder.value_parser.ValueParser.TheVariants.{Signed, Unsigned}
 use Rattle.sq_command.specs.declared.tasks.TheConstants.{MAX_TURNS, MAX_PUMPS}
 use Rattle.sq_command.specs.declared.owner.TheConstants.{MAX_WIDTH}
+use Rattle.sq_command.specs.declared.demo.TheConstants.{LEAST_PARTITIONS, MAX_PARTITIONS, MAX_ROOTS, MAX_ROWS_PER_ROOT, MAX_JOBS, MAX_HOT, MAX_SEED}
+use Rattle.sq_command.specs.declared.serve.TheConstants.{MAX_FOLD_AFTER}
 
 -- the program tells its version, and wants a subcommand
 abbrev pub program : Shape
@@ -19,7 +21,8 @@ valued_rule name = record (new_rule name) { long = Some name; value_names = 1 }
 
 -- one whose value this parser takes, and the value that stands where it isn't given
 abbrev pub option_rule : Text → ValueParser → Text → Rule
-option_rule name parser default = record (valued_rule name) { parser = Some parser; defaults = default ∷ [] }
+option_rule name parser default =
+    record (valued_rule name) { parser = Some parser; defaults = default ∷ [] }
 
 -- an option that takes no value
 abbrev pub flag_rule : Text → Rule
@@ -31,7 +34,11 @@ file_rule = record (new_rule (codes "file")) { value_names = 1 }
 
 -- a word that is a number of 16 bits
 abbrev pub number_rule : Rule
-number_rule = record (new_rule (codes "number")) { value_names = 1; parser = Some (Signed (pos 0) (pos 65535)) }
+number_rule =
+    record (new_rule (codes "number")) {
+      value_names = 1;
+      parser = Some (Signed (pos 0) (pos 65535));
+    }
 
 -- the subcommand with one argument more
 abbrev pub larger : Shape → Rule → Shape
@@ -40,19 +47,20 @@ larger shape rule = record shape { rules = shape.rules ++ rule ∷ [] }
 -- the subcommand with what says where its input comes from: the file, and those of the plans and of the rows
 abbrev pub with_input : Shape → Shape
 with_input shape =
-    larger (larger (larger (larger shape file_rule) (valued_rule (codes "old"))) (valued_rule (codes "new"))) (valued_rule (codes "rows"))
+    larger (larger (larger (larger shape file_rule) (valued_rule (codes "old")))
+    (valued_rule (codes "new"))) (valued_rule (codes "rows"))
 
 -- the subcommand that makes the steps of a script
 abbrev pub run_shape : Shape
 run_shape =
-    with_input (larger (larger (larger (new_shape (codes "run")) (flag_rule (codes "echo"))) (flag_rule (codes "strict")))
-    (valued_rule (codes "rows-out")))
+    with_input (larger (larger (larger (new_shape (codes "run"))
+    (flag_rule (codes "echo"))) (flag_rule (codes "strict"))) (valued_rule (codes "rows-out")))
 
 -- the subcommand that tells what moves
 abbrev pub ranges_shape : Shape
 ranges_shape =
-    with_input (larger (larger (larger (new_shape (codes "ranges")) (flag_rule (codes "json"))) (flag_rule (codes "svg")))
-    (flag_rule (codes "sizes")))
+    with_input (larger (larger (larger (new_shape (codes "ranges"))
+    (flag_rule (codes "json"))) (flag_rule (codes "svg"))) (flag_rule (codes "sizes")))
 
 -- an option for a number from the least up to the most, and the text of the one that stands where it isn't given
 abbrev pub counted_rule : Text → ℕ → ℕ → Text → Rule
@@ -61,14 +69,17 @@ counted_rule name least most default = option_rule name (Unsigned least most) de
 -- the subcommand that runs jobs in threads, with its options for numbers
 abbrev pub numbered_shape : Shape
 numbered_shape =
-    larger (larger (new_shape (codes "live")) (counted_rule (codes "turns") 1 MAX_TURNS (codes "1000000")))
+    larger (larger (new_shape (codes "live"))
+    (counted_rule (codes "turns") 1 MAX_TURNS (codes "1000000")))
     (counted_rule (codes "pumps") 1 MAX_PUMPS (codes "1"))
 
 -- and with all its options
 abbrev pub live_shape : Shape
 live_shape =
-    with_input (larger (larger (larger (larger (larger numbered_shape (flag_rule (codes "fold"))) (flag_rule (codes "summary")))
-    (valued_rule (codes "timeline"))) (valued_rule (codes "replies"))) (valued_rule (codes "rows-out")))
+    with_input (larger (larger (larger (larger (larger (larger numbered_shape
+    (flag_rule (codes "fold"))) (flag_rule (codes "summary"))) (valued_rule (codes "summary-out")))
+    (valued_rule (codes "timeline"))) (valued_rule (codes "replies")))
+    (valued_rule (codes "rows-out")))
 
 -- the subcommand that writes the script of a move
 abbrev pub steps_shape : Shape
@@ -94,8 +105,44 @@ width_rule = record (valued_rule (codes "width")) { parser = Some (Unsigned 1 MA
 -- the subcommand that tells who owns root keys
 abbrev pub owner_shape : Shape
 owner_shape =
-    larger (larger (larger (larger (new_shape (codes "owner")) (needed_rule (codes "old"))) (needed_rule (codes "new")))
-    width_rule) keys_rule
+    larger (larger (larger (larger (new_shape (codes "owner"))
+    (needed_rule (codes "old"))) (needed_rule (codes "new"))) width_rule) keys_rule
+
+-- the subcommand that writes an input to begin with, with its options for partitions, root keys and rows
+abbrev pub placed_shape : Shape
+placed_shape =
+    larger (larger (larger (new_shape (codes "demo"))
+    (counted_rule (codes "partitions") LEAST_PARTITIONS MAX_PARTITIONS (codes "4")))
+    (counted_rule (codes "roots") 1 MAX_ROOTS (codes "1000")))
+    (counted_rule (codes "rows-per-root") 1 MAX_ROWS_PER_ROOT (codes "4"))
+
+-- and for jobs
+abbrev pub worked_shape : Shape
+worked_shape =
+    larger (larger (larger placed_shape (counted_rule (codes "jobs") 0 MAX_JOBS (codes "2000")))
+    (counted_rule (codes "hot") 0 MAX_HOT (codes "50")))
+    (counted_rule (codes "seed") 0 MAX_SEED (codes "1"))
+
+-- a word that is the name of a folder
+abbrev pub folder_rule : Rule
+folder_rule = record (new_rule (codes "folder")) { value_names = 1; required = true }
+
+-- and with all that it takes
+abbrev pub demo_shape : Shape
+demo_shape = larger (larger worked_shape (flag_rule (codes "stages"))) folder_rule
+
+-- the subcommand that serves an engine, with its options for numbers
+abbrev pub served_shape : Shape
+served_shape =
+    larger (larger (new_shape (codes "serve"))
+    (counted_rule (codes "pumps") 1 MAX_PUMPS (codes "1")))
+    (counted_rule (codes "fold-after") 1 MAX_FOLD_AFTER (codes "262144"))
+
+-- and with all its options
+abbrev pub serve_shape : Shape
+serve_shape =
+    larger (larger (larger served_shape (valued_rule (codes "plan"))) (valued_rule (codes "rows")))
+    file_rule
 
 -- the subcommand that tells what numbers mean
 abbrev pub explain_shape : Shape
@@ -104,9 +151,11 @@ explain_shape = larger (new_shape (codes "explain")) number_rule
 -- the command with the subcommands that do something with an input
 abbrev pub working : App
 working =
-    with_subcommand (with_subcommand (with_subcommand (with_subcommand (record { top = program; subs = [] }) run_shape) ranges_shape)
-    live_shape) steps_shape
+    with_subcommand (with_subcommand (with_subcommand (with_subcommand
+    (record { top = program; subs = [] }) run_shape) ranges_shape) live_shape) steps_shape
 
 -- the command with all its subcommands
 abbrev pub squall : App
-squall = with_subcommand (with_subcommand working owner_shape) explain_shape
+squall =
+    with_subcommand (with_subcommand (with_subcommand (with_subcommand
+    working owner_shape) demo_shape) serve_shape) explain_shape

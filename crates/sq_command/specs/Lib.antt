@@ -1,4 +1,6 @@
 pub mod Commands
 pub mod Options
 pub mod Owner
+pub mod Demo
+pub mod Serve
 pub mod Line

@@ -12,31 +12,39 @@ use Rattle.clap.specs.declared.error.kind.ErrorKind.TheVariants.{ArgumentConflic
 use Rattle.sq_command.specs.Commands.{squall}
 use Rattle.sq_command.specs.Options.{NumberOf, FlagOf, IsNameOf, IsInputOf, LacksPlan, Asks, clash_kind}
 use Rattle.sq_command.specs.Owner.{IsOwnerLine, OwnerClash}
+use Rattle.sq_command.specs.Demo.{IsDemoLine, LacksFolder, DemoIsWithin}
+use Rattle.sq_command.specs.Serve.{IsEngineLine, LacksEnginePlan}
 use Rattle.sq_command.specs.declared.clash.Clash.{Clash}
 use Rattle.sq_command.specs.declared.tasks.TheConstants.{MAX_TURNS, MAX_PUMPS, TURNS, PUMPS}
 use Rattle.sq_command.specs.declared.owner.TheConstants.{MAX_WIDTH}
+use Rattle.sq_command.specs.declared.serve.TheConstants.{MAX_FOLD_AFTER}
 use Rattle.sq_command.specs.declared.line.Form.{Form}
 use Rattle.sq_command.specs.declared.line.Form.TheVariants.{Lines, Json, Svg}
 use Rattle.sq_command.specs.declared.line.Task.{Task}
 use Rattle.sq_command.specs.declared.line.Task.TheVariants.{Run, Ranges, Live, Steps}
 use Rattle.sq_command.specs.declared.line.Line.{Line}
-use Rattle.sq_command.specs.declared.line.Line.TheVariants.{Work, Owner, Explain}
+use Rattle.sq_command.specs.declared.line.Line.TheVariants.{Work, Owner, Demo, Serve, Explain}
 
 -- the text spells a number of 16 bits
 abbrev pub SpellsShort : Text → Type 0
-SpellsShort text = IsNumeral 10 (without_leading_plus text) × (digits_value 10 (without_leading_plus text) < 2 ^ 16)
+SpellsShort text =
+    let digits = without_leading_plus text in IsNumeral 10 digits × (digits_value 10 digits < 2 ^ 16)
 
 -- the number that a word is, where there is one and it spells one
 abbrev pub GivenNumber : Option Text → Option ℕ → Type 0
 GivenNumber None number = number ≡ None
 GivenNumber (Some text) None = SpellsShort text → ⊥
-GivenNumber (Some text) (Some number) = SpellsShort text × (number ≡ digits_value 10 (without_leading_plus text))
+GivenNumber (Some text) (Some number) =
+    SpellsShort text × (number ≡ digits_value 10 (without_leading_plus text))
 
 -- what moves is told as lines, or else as the one flag says
 abbrev pub IsFormOf : List Row → Form → Type 0
-IsFormOf rows Lines = FlagOf (one_of (codes "json") rows) false × FlagOf (one_of (codes "svg") rows) false
-IsFormOf rows Json = FlagOf (one_of (codes "json") rows) true × FlagOf (one_of (codes "svg") rows) false
-IsFormOf rows Svg = FlagOf (one_of (codes "json") rows) false × FlagOf (one_of (codes "svg") rows) true
+IsFormOf rows Lines =
+    FlagOf (one_of (codes "json") rows) false × FlagOf (one_of (codes "svg") rows) false
+IsFormOf rows Json =
+    FlagOf (one_of (codes "json") rows) true × FlagOf (one_of (codes "svg") rows) false
+IsFormOf rows Svg =
+    FlagOf (one_of (codes "json") rows) false × FlagOf (one_of (codes "svg") rows) true
 
 -- a form tells sizes, or they aren't asked for
 abbrev pub HasSizes : Form → Bool → Type 0
@@ -47,25 +55,29 @@ HasSizes Svg sizes = sizes ≡ false
 -- the task is a run, with the flags and the file of these options
 abbrev pub IsRunTask : List Row → Task → Type 0
 IsRunTask rows (Run echoes strict rows_out) =
-    FlagOf (one_of (codes "echo") rows) echoes × FlagOf (one_of (codes "strict") rows) strict × IsNameOf (codes "rows-out") rows rows_out
+    FlagOf (one_of (codes "echo") rows) echoes × FlagOf (one_of (codes "strict") rows) strict
+    × IsNameOf (codes "rows-out") rows rows_out
 IsRunTask rows (Ranges form sizes) = ⊥
-IsRunTask rows (Live turns pumps folds summary timeline replies rows_out) = ⊥
+IsRunTask rows (Live turns pumps folds summary summary_out timeline replies rows_out) = ⊥
 IsRunTask rows Steps = ⊥
 
 -- the task is a listing, of the form that is asked for, with sizes where that flag is given
 abbrev pub IsRangesTask : List Row → Task → Type 0
 IsRangesTask rows (Run echoes strict rows_out) = ⊥
-IsRangesTask rows (Ranges form sizes) = IsFormOf rows form × FlagOf (one_of (codes "sizes") rows) sizes
-IsRangesTask rows (Live turns pumps folds summary timeline replies rows_out) = ⊥
+IsRangesTask rows (Ranges form sizes) =
+    IsFormOf rows form × FlagOf (one_of (codes "sizes") rows) sizes
+IsRangesTask rows (Live turns pumps folds summary summary_out timeline replies rows_out) = ⊥
 IsRangesTask rows Steps = ⊥
 
 -- the task is a live run with the numbers, the flags and the files of these options
 abbrev pub IsLiveTask : List Row → Task → Type 0
 IsLiveTask rows (Run echoes strict rows_out) = ⊥
 IsLiveTask rows (Ranges form sizes) = ⊥
-IsLiveTask rows (Live turns pumps folds summary timeline replies rows_out) =
-    NumberOf 1 MAX_TURNS TURNS (one_of (codes "turns") rows) turns × NumberOf 1 MAX_PUMPS PUMPS (one_of (codes "pumps") rows) pumps
-    × FlagOf (one_of (codes "fold") rows) folds × FlagOf (one_of (codes "summary") rows) summary × IsNameOf (codes "timeline") rows timeline
+IsLiveTask rows (Live turns pumps folds summary summary_out timeline replies rows_out) =
+    NumberOf 1 MAX_TURNS TURNS (one_of (codes "turns") rows) turns
+    × NumberOf 1 MAX_PUMPS PUMPS (one_of (codes "pumps") rows) pumps
+    × FlagOf (one_of (codes "fold") rows) folds × FlagOf (one_of (codes "summary") rows) summary
+    × IsNameOf (codes "summary-out") rows summary_out × IsNameOf (codes "timeline") rows timeline
     × IsNameOf (codes "replies") rows replies × IsNameOf (codes "rows-out") rows rows_out
 IsLiveTask rows Steps = ⊥
 
@@ -77,27 +89,36 @@ IsStepsTask rows task = task ≡ Steps
 abbrev pub IsWorkLine : (List Row → Task → Type 0) → List Row → Line → Type 0
 IsWorkLine IsTask rows (Work task input) = IsTask rows task × IsInputOf rows input
 IsWorkLine IsTask rows (Owner keys plans width) = ⊥
+IsWorkLine IsTask rows (Demo demo folder) = ⊥
+IsWorkLine IsTask rows (Serve pumps fold_after files file) = ⊥
 IsWorkLine IsTask rows (Explain number) = ⊥
 
 -- the line tells the number that is named
 abbrev pub IsExplainLine : List Row → Line → Type 0
 IsExplainLine rows (Work task input) = ⊥
 IsExplainLine rows (Owner keys plans width) = ⊥
+IsExplainLine rows (Demo demo folder) = ⊥
+IsExplainLine rows (Serve pumps fold_after files file) = ⊥
 IsExplainLine rows (Explain number) = GivenNumber (one_of (codes "number") rows) number
 
 -- a form is refused since two are asked for
 abbrev pub FormClash : List Row → ErrorKind → Type 0
-FormClash rows kind = (kind ≡ ArgumentConflict) × FlagOf (one_of (codes "json") rows) true × FlagOf (one_of (codes "svg") rows) true
+FormClash rows kind =
+    (kind ≡ ArgumentConflict) × FlagOf (one_of (codes "json") rows) true
+    × FlagOf (one_of (codes "svg") rows) true
 
 -- a listing is refused since two forms are asked for, or sizes in a picture, or a file of a plan is missing
 abbrev pub RangesClash : List Row → ErrorKind → Type 0
 RangesClash rows kind =
-    FormClash rows kind ⊎ (((kind ≡ ArgumentConflict) × IsFormOf rows Svg × FlagOf (one_of (codes "sizes") rows) true) ⊎ LacksPlan rows kind)
+    FormClash rows kind
+    ⊎ (((kind ≡ ArgumentConflict) × IsFormOf rows Svg × FlagOf (one_of (codes "sizes") rows) true)
+    ⊎ LacksPlan rows kind)
 
 -- the names of the program's subcommands
 abbrev pub subcommand_names : List Text
 subcommand_names =
-    codes "run" ∷ codes "ranges" ∷ codes "live" ∷ codes "steps" ∷ codes "owner" ∷ codes "explain" ∷ []
+    codes "run" ∷ codes "ranges" ∷ codes "live" ∷ codes "steps" ∷ codes "owner" ∷ codes "demo"
+    ∷ codes "serve" ∷ codes "explain" ∷ []
 
 -- the program has a subcommand of this name
 abbrev pub IsSubcommand : Text → Type 0
@@ -112,7 +133,9 @@ IsAskedOf (Some sub) asked =
     ⊎ (((sub.0 ≡ codes "live") × Asks (IsWorkLine IsLiveTask) LacksPlan sub.1 asked)
     ⊎ (((sub.0 ≡ codes "steps") × Asks (IsWorkLine IsStepsTask) LacksPlan sub.1 asked)
     ⊎ (((sub.0 ≡ codes "owner") × Asks IsOwnerLine OwnerClash sub.1 asked)
-    ⊎ ((sub.0 ≡ codes "explain") × Asks IsExplainLine (λ rows kind. ⊥) sub.1 asked)))))
+    ⊎ (((sub.0 ≡ codes "demo") × Asks IsDemoLine LacksFolder sub.1 asked)
+    ⊎ (((sub.0 ≡ codes "serve") × Asks IsEngineLine LacksEnginePlan sub.1 asked)
+    ⊎ ((sub.0 ≡ codes "explain") × Asks IsExplainLine (λ rows kind. ⊥) sub.1 asked)))))))
 
 -- a line stays, and a clash becomes an error of its kind, unless memory runs out
 abbrev pub Settles : Result Line Clash → Result Line Error → Type 0
@@ -124,23 +147,31 @@ Settles (Err clash) (Err error) = (kind_of error ≡ OutOfMemory) ⊎ (kind_of e
 -- `clap` finds no fault in the words, and what they ask for is refused by a clash of this kind
 abbrev pub ClashesAt : List Text → ErrorKind → Type 0
 ClashesAt words kind =
-    (fault_of squall words ≡ []) × ((clash : Clash) × IsAskedOf (subcommand_of squall words) (Err clash) × (kind ≡ clash_kind clash))
+    (fault_of squall words ≡ [])
+    × ((clash : Clash) × IsAskedOf (subcommand_of squall words) (Err clash)
+    × (kind ≡ clash_kind clash))
 
 -- what comes of words: a line, where they have no fault;
 -- else memory ran out, `clap` finds a fault of this kind, or options don't go together
 abbrev pub ComesOf : List Text → Result Line Error → Type 0
-ComesOf words (Ok line) = (fault_of squall words ≡ []) × IsAskedOf (subcommand_of squall words) (Ok line)
+ComesOf words (Ok line) =
+    (fault_of squall words ≡ []) × IsAskedOf (subcommand_of squall words) (Ok line)
 ComesOf words (Err error) = HasKind (fault_of squall words) error ⊎ ClashesAt words (kind_of error)
 
 -- the numbers of a task are within their limits, and its form tells the sizes that are asked for
 abbrev pub IsWithin : Task → Type 0
 IsWithin (Run echoes strict rows_out) = Unit {0}
 IsWithin (Ranges form sizes) = HasSizes form sizes
-IsWithin (Live turns pumps folds summary timeline replies rows_out) = (1 ≤ turns) × (turns ≤ MAX_TURNS) × (1 ≤ pumps) × (pumps ≤ MAX_PUMPS)
+IsWithin (Live turns pumps folds summary summary_out timeline replies rows_out) =
+    (1 ≤ turns) × (turns ≤ MAX_TURNS) × (1 ≤ pumps) × (pumps ≤ MAX_PUMPS)
 IsWithin Steps = Unit {0}
 
 -- and so are those of a line, which has a root key at least where it tells some
 abbrev pub LineIsWithin : Line → Type 0
 LineIsWithin (Work task input) = IsWithin task
-LineIsWithin (Owner keys plans width) = (1 ≤ length keys.items) × IfSome width (λ n. (1 ≤ n) × (n ≤ MAX_WIDTH))
+LineIsWithin (Owner keys plans width) =
+    (1 ≤ length keys.items) × IfSome width (λ n. (1 ≤ n) × (n ≤ MAX_WIDTH))
+LineIsWithin (Demo demo folder) = DemoIsWithin demo
+LineIsWithin (Serve pumps fold_after files file) =
+    (1 ≤ pumps) × (pumps ≤ MAX_PUMPS) × (1 ≤ fold_after) × (fold_after ≤ MAX_FOLD_AFTER)
 LineIsWithin (Explain number) = Unit {0}

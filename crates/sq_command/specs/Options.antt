@@ -15,7 +15,8 @@ use Rattle.sq_command.specs.declared.line.Plans.{Plans}
 abbrev pub GivenNumberOf : ℕ → ℕ → Option Text → Option ℕ → Type 0
 GivenNumberOf least most None number = number ≡ None
 GivenNumberOf least most (Some text) None = IsUnsignedIn least most text → ⊥
-GivenNumberOf least most (Some text) (Some number) = IsUnsignedIn least most text × (number ≡ digits_value 10 (without_leading_plus text))
+GivenNumberOf least most (Some text) (Some number) =
+    IsUnsignedIn least most text × (number ≡ digits_value 10 (without_leading_plus text))
 
 -- the same, or else the one that stands for it
 abbrev pub NumberOf : ℕ → ℕ → ℕ → Option Text → ℕ → Type 0
@@ -36,13 +37,17 @@ IsNameOf id rows name = option_map (λ text. text.now) name ≡ first_of id rows
 
 -- the plans are those of the two files that are named, with the rows of a third if it is named; or none of the three is
 abbrev pub ArePlansOf : List Row → Option Plans → Type 0
-ArePlansOf rows None = IsNameOf (codes "old") rows None × IsNameOf (codes "new") rows None × IsNameOf (codes "rows") rows None
+ArePlansOf rows None =
+    IsNameOf (codes "old") rows None × IsNameOf (codes "new") rows None
+    × IsNameOf (codes "rows") rows None
 ArePlansOf rows (Some plans) =
-    IsNameOf (codes "old") rows (Some plans.old) × IsNameOf (codes "new") rows (Some plans.new) × IsNameOf (codes "rows") rows plans.rows
+    IsNameOf (codes "old") rows (Some plans.old) × IsNameOf (codes "new") rows (Some plans.new)
+    × IsNameOf (codes "rows") rows plans.rows
 
 -- the main part of an input comes from the file that is named, and from standard input where none is, or '-' stands for it
 abbrev pub IsMainOf : List Row → Option (Bor Text) → Type 0
-IsMainOf rows None = IsNameOf (codes "file") rows None ⊎ (first_of (codes "file") rows ≡ Some (codes "-"))
+IsMainOf rows None =
+    IsNameOf (codes "file") rows None ⊎ (first_of (codes "file") rows ≡ Some (codes "-"))
 IsMainOf rows (Some file) = IsNameOf (codes "file") rows (Some file) × (file.now ≢ codes "-")
 
 -- the input comes from the files that are named
@@ -69,6 +74,7 @@ abbrev pub LacksPlan : List Row → ErrorKind → Type 0
 LacksPlan rows kind = (kind ≡ MissingRequiredArgument) × (lacks_plan rows ≡ true)
 
 -- what options come to: something of which the first holds, or a clash among them, whose kind has the second
-abbrev pub Asks : {A : Type 0} → (List Row → A → Type 0) → (List Row → ErrorKind → Type 0) → List Row → Result A Clash → Type 0
+abbrev pub Asks : {A : Type 0} → (List Row → A → Type 0) → (List Row → ErrorKind → Type 0)
+    → List Row → Result A Clash → Type 0
 Asks Holds Refuses rows (Ok asked) = Holds rows asked
 Asks Holds Refuses rows (Err clash) = Refuses rows (clash_kind clash)

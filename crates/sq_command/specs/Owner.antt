@@ -9,7 +9,7 @@ use Rattle.sq_command.specs.declared.clash.Clash.{Clash}
 use Rattle.sq_command.specs.declared.clash.Clash.TheVariants.{BadKey}
 use Rattle.sq_command.specs.declared.line.Plans.{Plans}
 use Rattle.sq_command.specs.declared.line.Line.{Line}
-use Rattle.sq_command.specs.declared.line.Line.TheVariants.{Work, Owner, Explain}
+use Rattle.sq_command.specs.declared.line.Line.TheVariants.{Work, Owner, Demo, Serve, Explain}
 use Rattle.sq_command.specs.declared.owner.TheConstants.{MAX_WIDTH}
 use Rattle.sq_command.specs.Options.{GivenNumberOf, IsNameOf, ArePlansOf, LacksPlan}
 
@@ -19,7 +19,8 @@ key_words rows = unwrap_or (all_of (codes "key") rows) []
 
 -- the text spells a root key, a number of 32 bits
 abbrev pub SpellsKey : Text → Type 0
-SpellsKey text = IsNumeral 10 (without_leading_plus text) × (digits_value 10 (without_leading_plus text) < 2 ^ 32)
+SpellsKey text =
+    let digits = without_leading_plus text in IsNumeral 10 digits × (digits_value 10 digits < 2 ^ 32)
 
 -- which one it spells
 abbrev pub spelled_key : Text → ℕ
@@ -46,13 +47,17 @@ HasPlans rows plans = ArePlansOf rows (Some plans)
 
 -- and are refused since a file of one is missing
 abbrev pub PlansClash : List Row → ErrorKind → Type 0
-PlansClash rows kind = LacksPlan rows kind ⊎ ((kind ≡ MissingRequiredArgument) × IsNameOf (codes "old") rows None)
+PlansClash rows kind =
+    LacksPlan rows kind ⊎ ((kind ≡ MissingRequiredArgument) × IsNameOf (codes "old") rows None)
 
 -- the line tells the keys that are named, by these plans and leaves
 abbrev pub IsOwnerLine : List Row → Line → Type 0
 IsOwnerLine rows (Owner keys plans width) =
-    AreKeysOf rows keys.items × HasPlans rows plans × GivenNumberOf 1 MAX_WIDTH (one_of (codes "width") rows) width
+    AreKeysOf rows keys.items × HasPlans rows plans
+    × GivenNumberOf 1 MAX_WIDTH (one_of (codes "width") rows) width
 IsOwnerLine rows (Work task input) = ⊥
+IsOwnerLine rows (Demo demo folder) = ⊥
+IsOwnerLine rows (Serve pumps fold_after files file) = ⊥
 IsOwnerLine rows (Explain number) = ⊥
 
 -- its options are refused for the plans or for the keys

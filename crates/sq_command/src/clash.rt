@@ -24,6 +24,10 @@ pub enum Clash {
     NoKeys,
     /// A word that is to be a root key is none.
     BadKey,
+    /// No folder is named.
+    NoFolder,
+    /// A file of rows is named, and none of the plan of an engine.
+    NoEnginePlan,
     /// Memory ran out.
     Memory,
 }
@@ -64,6 +68,9 @@ impl Clash {
             Clash::DrawnSizes => "the argument '--sizes' cannot be used with '--svg'",
             Clash::NoKeys => "the following required arguments were not provided:\n  <KEY>...",
             Clash::BadKey => "a root key is a whole number below 4294967296",
+            Clash::NoFolder => "the following required arguments were not provided:\n  <DIR>",
+            Clash::NoEnginePlan =>
+                "the following required arguments were not provided:\n  --plan <FILE>",
             Clash::Memory => "out of memory",
         }
     }
@@ -75,6 +82,8 @@ impl Clash {
             Clash::NoPlans => "--old <FILE> --new <FILE> --rows <FILE> [FILE]",
             Clash::TwoForms | Clash::DrawnSizes | Clash::Memory => "[OPTIONS] [FILE]",
             Clash::NoKeys | Clash::BadKey => "--old <FILE> --new <FILE> <KEY>...",
+            Clash::NoFolder => "<DIR>",
+            Clash::NoEnginePlan => "--plan <FILE> --rows <FILE> [FILE]",
         }
     }
 }

@@ -6,9 +6,11 @@ ghost use Rattle.clap.specs.Words.{app_of, shape_of};
 ghost use Rattle.clap.specs.declared.builder.command.Command.TheViews.{out-Command};
 ghost use Rattle.sq_command.specs.Commands.{program, working, squall, option_rule, flag_rule, file_rule, valued_rule, larger, with_input};
 
+use crate::demo::demo;
 use crate::explain::explain;
 use crate::help;
 use crate::owner::owner;
+use crate::serve::serve;
 use crate::tasks::{live, ranges, run, steps};
 use clap::builder::ValueParser;
 use clap::{Arg, ArgAction, Command};
@@ -82,8 +84,8 @@ pub fn flag<'a>(alloc: Global, name: &'a str, help: &'a str) -> Arg<'a>
         .action(ArgAction::SetTrue)
 }
 
-// The name of a file, which may be left out.
-fn file<'a>(alloc: Global) -> Arg<'a>
+/// The name of a file, which may be left out.
+pub fn file<'a>(alloc: Global) -> Arg<'a>
     ensures rule { rule_of result ≡ file_rule }
     ensures local { result.global ≡ false }
 {
@@ -101,8 +103,10 @@ pub fn path<'a>(alloc: Global, name: &'a str, help: &'a str) -> Arg<'a>
 /// The command with one argument more.
 pub fn with<'a>(command: Command<'a>, arg: Arg<'a>) -> Result<Command<'a>, AllocError>
     requires { arg.global ≡ false }
-    ensures shape { IfOk result (λ more. shape_of more ≡ larger (shape_of command.entry) (rule_of arg.entry)) }
-    ensures local { IfOk result (λ more. (out-Command more).has_globals ≡ (out-Command command.entry).has_globals) }
+    ensures shape { IfOk result
+        (λ more. shape_of more ≡ larger (shape_of command.entry) (rule_of arg.entry)) }
+    ensures local { IfOk result
+        (λ more. (out-Command more).has_globals ≡ (out-Command command.entry).has_globals) }
 {
     command.arg(arg)
 }
@@ -110,7 +114,8 @@ pub fn with<'a>(command: Command<'a>, arg: Arg<'a>) -> Result<Command<'a>, Alloc
 /// The command with what says where its input comes from.
 pub fn with_input<'a>(alloc: Global, command: Command<'a>) -> Result<Command<'a>, AllocError>
     ensures shape { IfOk result (λ more. shape_of more ≡ with_input (shape_of command.entry)) }
-    ensures local { IfOk result (λ more. (out-Command more).has_globals ≡ (out-Command command.entry).has_globals) }
+    ensures local { IfOk result
+        (λ more. (out-Command more).has_globals ≡ (out-Command command.entry).has_globals) }
 {
     let with_file = with(command, file(alloc))?;
     let with_old = with(with_file, path(alloc, "old", help::OLD))?;
@@ -133,5 +138,7 @@ pub fn command<'a>(alloc: Global) -> Result<Command<'a>, AllocError>
     ensures { IfOk result (λ command. app_of command ≡ squall) }
 {
     let finds = working(alloc)?.subcommand(owner(alloc)?)?;
-    finds.subcommand(explain(alloc)?)
+    let begins = finds.subcommand(demo(alloc)?)?;
+    let serves = begins.subcommand(serve(alloc)?)?;
+    serves.subcommand(explain(alloc)?)
 }

@@ -1,4 +1,5 @@
 // What the help texts say: in a line of each subcommand and of each argument, and at length behind these.
+use crate::demo::{MAX_HOT, MAX_JOBS, MAX_PARTITIONS, MAX_ROOTS, MAX_ROWS_PER_ROOT};
 use crate::tasks::MAX_PUMPS;
 
 // A text with the header of an example in it, whose only row moves from partition 0 to partition 1.
@@ -19,14 +20,14 @@ row 5 0 0 10 -
 /// Behind the options of the whole program.
 pub const PROGRAM: &str = "\
 run, ranges, live and steps read standard input, or the file that is named, and
-write to standard output. Their own help says what, with an example: squall run
---help, squall live --help.
+write to standard output; serve reads the file and then standard input. Their
+own help says what, with an example: squall run --help, squall live --help.
 
 Exit status:
   0  done
   2  a fault, or a command line that is refused
   3  a live run that stopped before all was done, or a refusal with --strict
-  4  a live run that isn't sound
+  4  a live run or an engine that isn't sound
 
 After a fault the last line of standard output is its number, as in 'fault 105',
 and standard error says what it means, and on which line it is. squall explain
@@ -156,7 +157,7 @@ Exit status:
 /// Of `live`, of its options, and behind these.
 pub const LIVE_ABOUT: &str = "Runs jobs in threads while rows move, and audits what is left";
 
-pub const TURNS: &str = "Turns of a thread in a stage at most";
+pub const TURNS: &str = "Most turns of a thread in a stage";
 
 pub const PUMPS: &str = "How many threads claim rows, up to 16";
 
@@ -165,6 +166,8 @@ const _: () = prove!(MAX_PUMPS == 16);
 pub const FOLD: &str = "Audit and fold the logs between two stages";
 
 pub const SUMMARY: &str = "Tell behind the line of the run what it did";
+
+pub const SUMMARY_OUT: &str = "Write into this file more of what it did";
 
 pub const TIMELINE: &str = "Write into this file when each thing was done";
 
@@ -204,9 +207,11 @@ many segments are complete.
 
 With --summary standard error tells besides what moved along each link, what
 became of the jobs at each partition, and how long the parts of the run took.
-With --timeline FILE a file gets the moments at which jobs were answered and
-segments were complete: as lines of comma-separated values where its name ends
-in '.csv', and else as a chart in SVG.
+With --summary-out FILE a file gets more of it: as one JSON value where its name
+ends in '.json', and else as text. With --timeline FILE a file gets the moments
+at which jobs were answered and segments were complete: as lines of
+comma-separated values where its name ends in '.csv', and else as a chart in
+SVG.
 
 With --replies FILE a file gets the answer of each job, as 'squall run' writes
 it, in the order of the jobs, and with --rows-out FILE all rows that stand at
@@ -280,6 +285,78 @@ squall owner --old old.json --new new.json 5 77
 Exit status:
   0  done
   2  a fault, or a command line that is refused";
+
+/// Of `demo`, of its options and its folder, and behind these.
+pub const DEMO_ABOUT: &str = "Writes plans, rows and jobs to begin with";
+
+pub const PARTITIONS: &str = "How many partitions there are, 2 to 16";
+
+pub const ROOTS: &str = "How many root keys, up to 1000000";
+
+pub const ROWS_PER_ROOT: &str = "How many rows each has, up to 1000";
+
+pub const JOBS: &str = "How many jobs there are, up to 4096";
+
+pub const HOT: &str = "How many jobs of 100 are for hot keys";
+
+const _: () = prove!(MAX_PARTITIONS == 16 && MAX_ROOTS == 1_000_000);
+
+const _: () = prove!(MAX_ROWS_PER_ROOT == 1_000 && MAX_JOBS == 4_096 && MAX_HOT == 100);
+
+pub const STAGES: &str = "Let the move have several stages";
+
+pub const SEED: &str = "What the jobs are drawn by";
+
+pub const FOLDER: &str = "The folder into which the files are written";
+
+pub const DEMO: &str = "\
+The folder gets four files: old.json and new.json, the plans before and after a
+move; rows.txt, the rows; and jobs.txt, the sizes and then the jobs, as 'squall
+live' takes them. No file is written over one that is there. Partition 0 is the
+hot one: an eighth of its root keys get as many of the jobs as --hot says, and
+by the new plan they go to the other partitions. The same options write the same
+files. They have 1000000 lines at most in all.
+
+Standard output gets the commands that run them.
+
+Example:
+
+squall demo --jobs 1000 shop
+
+Exit status:
+  0  done
+  2  a file that can't be written, or a command line that is refused";
+
+/// Of `serve`, of its options, and behind these.
+pub const SERVE_ABOUT: &str = "Answers jobs for as long as lines come, while rows move";
+
+pub const FOLD_AFTER: &str = "After how many answers logs are folded";
+
+pub const PLAN: &str = "The plan to begin with, in a file of its own";
+
+pub const SERVE: &str = "\
+The input is the file, if one is named, and then standard input. It begins with
+a line 'plan JSON', a line 'config W L C' and the rows, of which the plan and
+the rows may stand in files of their own. Then each line asks for something:
+
+txn P ID ROOT OP..   a job; its answer comes as soon as it is done
+move JSON            rows move to the places of this plan
+fold                 what was answered is audited, and the logs are folded
+status               how far a move is
+plan                 the plan that is in force
+rows                 the rows that stand
+
+At the end of the input all jobs are answered, a move goes to its end, and what
+is left is audited: 'sound F families N committed' is the last line.
+
+Example:
+
+squall serve examples/engine.txt < /dev/null
+
+Exit status:
+  0  sound
+  2  a fault that ends it, or a command line that is refused
+  4  unsound";
 
 /// Of `explain`, of its number, and behind these.
 pub const EXPLAIN_ABOUT: &str =

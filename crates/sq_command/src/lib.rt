@@ -3,12 +3,15 @@
 
 mod clash;
 mod commands;
+mod demo;
 mod explain;
 mod help;
 mod line;
 mod options;
 mod owner;
+mod serve;
 mod tasks;
 
-pub use line::{Form, Input, Line, Plans, Task, line_of};
+pub use line::{Demo, EngineFiles, Form, Input, Line, Plans, Task, line_of};
+pub use serve::{FOLD_AFTER, MAX_FOLD_AFTER};
 pub use tasks::{MAX_PUMPS, MAX_TURNS, PUMPS, TURNS};

@@ -1,13 +1,15 @@
 // What a command line asks for.
-ghost use Rattle.std.specs.Prelude.{◌≡◌, Some, IfOk, map};
+ghost use Rattle.std.specs.Prelude.{Some, IfOk, map};
 ghost use Rattle.clap.specs.Matches.{found_of};
 ghost use Rattle.clap.specs.Walk.{rows_of};
 ghost use Rattle.sq_command.specs.Line.{IsSubcommand, IsAskedOf, Settles, ComesOf, LineIsWithin};
 
 use crate::clash::{Clash, refusal};
 use crate::commands::command;
+use crate::demo::demo_line;
 use crate::explain::explain_line;
 use crate::owner::owner_line;
+use crate::serve::serve_line;
 use crate::tasks::{live_line, ranges_line, run_line, steps_line};
 use clap::{ArgMatches, Error};
 use std::alloc::{AllocError, Global};
@@ -29,6 +31,24 @@ pub enum Line<'a> {
         plans: Plans<'a>,
         /// How many root keys a leaf has, where it is told in which segment and leaf a root key stands.
         width: Option<u32>,
+    },
+    /// Write an input to begin with.
+    Demo {
+        /// What the input is to be like.
+        demo: Demo,
+        /// The name of the folder into which its files are written.
+        folder: &'a str,
+    },
+    /// Answer jobs for as long as lines come, while rows move.
+    Serve {
+        /// How many pumps there are.
+        pumps: u32,
+        /// After how many answers the logs are audited and folded.
+        fold_after: u64,
+        /// The files of the plan and of the rows, where they have files of their own.
+        files: Option<EngineFiles<'a>>,
+        /// The name of the file that is read before standard input, where there is one.
+        file: Option<&'a str>,
     },
     /// Tell what this number means, or all numbers.
     Explain {
@@ -52,6 +72,15 @@ pub struct Plans<'a> {
     pub old: &'a str,
     /// The name of the file that holds the plan after the move.
     pub new: &'a str,
+    /// The name of the file that holds the rows, where they have one.
+    pub rows: Option<&'a str>,
+}
+
+/// The files that an engine begins with.
+#[derive(Clone, Copy, Debug, PartialEq, Eq)]
+pub struct EngineFiles<'a> {
+    /// The name of the file that holds the plan.
+    pub plan: &'a str,
     /// The name of the file that holds the rows, where they have one.
     pub rows: Option<&'a str>,
 }
@@ -96,6 +125,8 @@ pub enum Task<'a> {
         folds: bool,
         /// Whether it is told what the run did.
         summary: bool,
+        /// The name of the file into which a longer account of it is written, where there is to be one.
+        summary_out: Option<&'a str>,
         /// The name of the file into which it is written when each thing was done, where there is to be one.
         timeline: Option<&'a str>,
         /// The name of the file into which the answers of the jobs are written, where there is to be one.
@@ -107,10 +138,29 @@ pub enum Task<'a> {
     Steps,
 }
 
+/// What an input to begin with is like.
+#[derive(Clone, Copy, Debug, PartialEq, Eq)]
+pub struct Demo {
+    /// How many partitions there are.
+    pub partitions: u32,
+    /// How many root keys have rows.
+    pub roots: u32,
+    /// How many rows each of them has.
+    pub rows_per_root: u32,
+    /// How many jobs there are.
+    pub jobs: u32,
+    /// How many jobs of a hundred are for the root keys that move.
+    pub hot: u32,
+    /// Whether the move has several stages.
+    pub stages: bool,
+    /// What the jobs are drawn by.
+    pub seed: u64,
+}
+
 /// What the words of a command line ask for; the first of them is the program's name. An error is told in `clap`'s form:
 /// the words aren't of the command's form, or ask for a help text or the version, or have options that don't go together,
 /// or memory ran out. `--old` and `--new` stand together or not at all, `--rows` wants both, and of `--json` and `--svg`
-/// there is one at most. `owner` wants the plans and a key.
+/// there is one at most. `owner` wants the plans and a key, `demo` a folder, and the `--rows` of `serve` its `--plan`.
 pub fn line_of<'a, S: AsStr>(alloc: Global, words: &'a [S]) -> Result<Line<'a>, Error>
     ensures comes { ComesOf (map S.text words.now) result }
     ensures within { IfOk result LineIsWithin }
@@ -138,6 +188,10 @@ fn asked<'a>(alloc: Global, name: &str, options: &ArgMatches<'a>) -> Result<Line
         steps_line(options)
     } else if name == "owner" {
         owner_line(alloc, options)
+    } else if name == "demo" {
+        demo_line(options)
+    } else if name == "serve" {
+        serve_line(options)
     } else {
         Ok(explain_line(options))
     }

@@ -1,5 +1,5 @@
 // What options hold.
-ghost use Rattle.std.specs.Prelude.{◌≡◌, ◌≤◌, IfSome};
+ghost use Rattle.std.specs.Prelude.{◌≤◌, IfSome};
 ghost use Rattle.clap.specs.Matches.{found_of};
 ghost use Rattle.clap.specs.Walk.{one_of, rows_of};
 ghost use Rattle.sq_command.specs.Options.{NumberOf, GivenNumberOf, FlagOf, IsNameOf, IsMainOf, ArePlansOf, IsInputOf, LacksPlan, Asks};
@@ -21,8 +21,8 @@ pub fn input_of<'a>(options: &ArgMatches<'a>) -> Result<Input<'a>, Clash>
     })
 }
 
-// The file that the main part of an input comes from, if it comes from one.
-fn main_of<'a>(options: &ArgMatches<'a>) -> Option<&'a str>
+/// The file that the main part of an input comes from, if it comes from one.
+pub fn main_of<'a>(options: &ArgMatches<'a>) -> Option<&'a str>
     ensures { IsMainOf (rows_of (found_of options.now)) result }
 {
     match name_of(options, "file") {
@@ -63,7 +63,8 @@ pub fn name_of<'a>(options: &ArgMatches<'a>, option: &str) -> Option<&'a str>
 pub fn number_of(options: &ArgMatches<'_>, name: &str, least: u64, most: u64, default: u64) -> u64
     requires some { least ≤ default }
     requires within { default ≤ most }
-    ensures number { NumberOf least most default (one_of name.now (rows_of (found_of options.now))) result }
+    ensures number { let text = one_of name.now (rows_of (found_of options.now)) in
+        NumberOf least most default text result }
     ensures some { least ≤ result }
     ensures within { result ≤ most }
 {
@@ -75,7 +76,8 @@ pub fn number_of(options: &ArgMatches<'_>, name: &str, least: u64, most: u64, de
 
 /// The number of an option, from the least up to the most that it may be, if it is given.
 pub fn given_number(options: &ArgMatches<'_>, name: &str, least: u64, most: u64) -> Option<u64>
-    ensures number { GivenNumberOf least most (one_of name.now (rows_of (found_of options.now))) result }
+    ensures number { let text = one_of name.now (rows_of (found_of options.now)) in
+        GivenNumberOf least most text result }
     ensures within { IfSome result (λ number. (least ≤ number) × (number ≤ most)) }
 {
     match options.get_one::<u64>(name) {

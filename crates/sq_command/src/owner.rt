@@ -77,7 +77,8 @@ pub fn owner_line<'a>(alloc: Global, options: &ArgMatches<'a>) -> Result<Line<'a
 
 // The root keys in a leaf, if they are named.
 fn width_of(options: &ArgMatches<'_>) -> Option<u32>
-    ensures width { GivenNumberOf 1 MAX_WIDTH (one_of (codes "width") (rows_of (found_of options.now))) result }
+    ensures width { let text = one_of (codes "width") (rows_of (found_of options.now)) in
+        GivenNumberOf 1 MAX_WIDTH text result }
     ensures within { IfSome result (λ width. (1 ≤ width) × (width ≤ MAX_WIDTH)) }
 {
     match given_number(options, "width", 1, MAX_WIDTH) {
@@ -98,7 +99,8 @@ fn both_plans<'a>(options: &ArgMatches<'a>) -> Result<Plans<'a>, Clash>
 
 // The root keys that words spell.
 fn keys_of(alloc: Global, options: &ArgMatches<'_>) -> Result<Vec<u32>, Clash>
-    ensures keys { Asks (λ rows keys. AreKeysOf rows keys.items) KeysClash (rows_of (found_of options.now)) result }
+    ensures keys { let rows = rows_of (found_of options.now) in
+        Asks (λ rows keys. AreKeysOf rows keys.items) KeysClash rows result }
     ensures some { IfOk result (λ keys. 1 ≤ length keys.items) }
 {
     let Some(words) = options.get_strs("key") else {

@@ -83,7 +83,8 @@ pub fn ranges_line<'a>(options: &ArgMatches<'a>) -> Result<Line<'a>, Clash>
 // Whether sizes are told in a form, where they are asked for or aren't.
 fn sizes_in(form: Form, asked: bool) -> Result<bool, Clash>
     ensures told { IfOk result (λ sizes. (sizes ≡ asked) × HasSizes form sizes) }
-    ensures refused { IfErr result (λ clash. (clash ≡ Clash.DrawnSizes) × (form ≡ Form.Svg) × (asked ≡ true)) }
+    ensures refused { IfErr result
+        (λ clash. (clash ≡ Clash.DrawnSizes) × (form ≡ Form.Svg) × (asked ≡ true)) }
 {
     match form {
         Form::Svg if asked => Err(Clash::DrawnSizes),
@@ -130,7 +131,8 @@ pub fn live<'a>(alloc: Global) -> Result<Command<'a>, AllocError>
 {
     let folding = with(numbered(alloc)?, flag(alloc, "fold", help::FOLD))?;
     let summing = with(folding, flag(alloc, "summary", help::SUMMARY))?;
-    let timed = with(summing, path(alloc, "timeline", help::TIMELINE))?;
+    let accounting = with(summing, path(alloc, "summary-out", help::SUMMARY_OUT))?;
+    let timed = with(accounting, path(alloc, "timeline", help::TIMELINE))?;
     let replying = with(timed, path(alloc, "replies", help::REPLIES))?;
     let keeping = path(alloc, "rows-out", help::ROWS_OUT);
     with_input(alloc, with(replying, keeping)?)
@@ -148,6 +150,7 @@ pub fn live_line<'a>(options: &ArgMatches<'a>) -> Result<Line<'a>, Clash>
         pumps: pumps as u32,
         folds: is_given(options, "fold"),
         summary: is_given(options, "summary"),
+        summary_out: name_of(options, "summary-out"),
         timeline: name_of(options, "timeline"),
         replies: name_of(options, "replies"),
         rows_out: name_of(options, "rows-out"),

@@ -8,4 +8,6 @@ use Rattle.sq_command.proofs.commands.command.Goals as goal
 pub returns : goal.returns
 returns c =
     let owner = c.in_ok-finds.ensures.shape c.in_ok-owner.ensures.local ∙ added_is _ _ _ _ c.in_ok-working.ensures c.in_ok-owner.ensures.shape in
-    IfOk-weaker c.subcommand-2.result _ (λ command. app_of command ≡ squall) (λ command adds. adds.shape c.in_ok-explain.ensures.local ∙ added_is _ _ _ _ owner c.in_ok-explain.ensures.shape) c.subcommand-2.ensures
+    let demo = c.in_ok-begins.ensures.shape c.in_ok-demo.ensures.local ∙ added_is _ _ _ _ owner c.in_ok-demo.ensures.shape in
+    let serve = c.in_ok-serves.ensures.shape c.in_ok-serve.ensures.local ∙ added_is _ _ _ _ demo c.in_ok-serve.ensures.shape in
+    IfOk-weaker c.subcommand-4.result _ (λ command. app_of command ≡ squall) (λ command adds. adds.shape c.in_ok-explain.ensures.local ∙ added_is _ _ _ _ serve c.in_ok-explain.ensures.shape) c.subcommand-4.ensures

@@ -18,6 +18,12 @@ returns-then-eq-4-clause-line c = inr (inr (inr (inl (is_text c.args.name.now (c
 pub returns-then-eq-5-clause-line : goal.returns-then-eq-5-clause-line
 returns-then-eq-5-clause-line c = inr (inr (inr (inr (inl (is_text c.args.name.now (codes "owner") c.if-eq-5.ensures, c.owner_line.ensures.line)))))
 
-pub returns-else-eq-5-clause-line : goal.returns-else-eq-5-clause-line
-returns-else-eq-5-clause-line c =
-    inr (inr (inr (inr (inr (is_explain c.args.name.now c.requires c.if-eq.ensures c.if-eq-2.ensures c.if-eq-3.ensures c.if-eq-4.ensures c.if-eq-5.ensures, c.explain_line.ensures)))))
+pub returns-then-eq-6-clause-line : goal.returns-then-eq-6-clause-line
+returns-then-eq-6-clause-line c = inr (inr (inr (inr (inr (inl (is_text c.args.name.now (codes "demo") c.if-eq-6.ensures, c.demo_line.ensures.line))))))
+
+pub returns-then-eq-7-clause-line : goal.returns-then-eq-7-clause-line
+returns-then-eq-7-clause-line c = inr (inr (inr (inr (inr (inr (inl (is_text c.args.name.now (codes "serve") c.if-eq-7.ensures, c.serve_line.ensures.line)))))))
+
+pub returns-else-eq-7-clause-line : goal.returns-else-eq-7-clause-line
+returns-else-eq-7-clause-line c =
+    inr (inr (inr (inr (inr (inr (inr (is_explain c.args.name.now c.requires c.if-eq.ensures c.if-eq-2.ensures c.if-eq-3.ensures c.if-eq-4.ensures c.if-eq-5.ensures c.if-eq-6.ensures c.if-eq-7.ensures, c.explain_line.ensures)))))))

@@ -1,0 +1,34 @@
+-- Which engine is served.
+use Rattle.std.specs.Prelude.{◌≡◌, List, true, Option, None, Some, is_some, codes}
+use Rattle.clap.specs.Walk.{Row, first_of, one_of}
+use Rattle.clap.specs.declared.error.kind.ErrorKind.{ErrorKind}
+use Rattle.clap.specs.declared.error.kind.ErrorKind.TheVariants.{MissingRequiredArgument}
+use Rattle.sq_command.specs.declared.line.EngineFiles.{EngineFiles}
+use Rattle.sq_command.specs.declared.line.Line.{Line}
+use Rattle.sq_command.specs.declared.line.Line.TheVariants.{Work, Owner, Demo, Serve, Explain}
+use Rattle.sq_command.specs.declared.tasks.TheConstants.{MAX_PUMPS, PUMPS}
+use Rattle.sq_command.specs.declared.serve.TheConstants.{MAX_FOLD_AFTER, FOLD_AFTER}
+use Rattle.sq_command.specs.Options.{NumberOf, IsNameOf, IsMainOf}
+
+-- the engine begins with the file of a plan that is named, and that of rows if it is named; or neither is
+abbrev pub AreEngineFilesOf : List Row → Option EngineFiles → Type 0
+AreEngineFilesOf rows None = IsNameOf (codes "plan") rows None × IsNameOf (codes "rows") rows None
+AreEngineFilesOf rows (Some files) =
+    IsNameOf (codes "plan") rows (Some files.plan) × IsNameOf (codes "rows") rows files.rows
+
+-- options are refused since there is a file of rows, and none of a plan
+abbrev pub LacksEnginePlan : List Row → ErrorKind → Type 0
+LacksEnginePlan rows kind =
+    (kind ≡ MissingRequiredArgument) × (is_some (first_of (codes "rows") rows) ≡ true)
+    × IsNameOf (codes "plan") rows None
+
+-- the line serves an engine with the numbers and the files of these options
+abbrev pub IsEngineLine : List Row → Line → Type 0
+IsEngineLine rows (Serve pumps fold_after files file) =
+    NumberOf 1 MAX_PUMPS PUMPS (one_of (codes "pumps") rows) pumps
+    × NumberOf 1 MAX_FOLD_AFTER FOLD_AFTER (one_of (codes "fold-after") rows) fold_after
+    × AreEngineFilesOf rows files × IsMainOf rows file
+IsEngineLine rows (Work task input) = ⊥
+IsEngineLine rows (Owner keys plans width) = ⊥
+IsEngineLine rows (Demo demo folder) = ⊥
+IsEngineLine rows (Explain number) = ⊥
