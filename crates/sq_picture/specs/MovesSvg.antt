@@ -107,9 +107,18 @@ marks_text recon range =
     let end = begun_below recon.segments range.hi in
     segments_text first end ++ numbers_text first end (stage_in recon range)
 
--- the column of a range
+-- the column of a range but for its end, before which more may stand
+abbrev pub open_column_text : ReconValue → ℕ × Range → List ℕ
+open_column_text recon (i, range) =
+    place_text i ++ (keys_text range ++ (owners_text range ++ marks_text recon range))
+
+-- the end of a column
+abbrev pub column_end : List ℕ
+column_end = codes "</g>\n"
+
+-- the whole column
 abbrev pub column_text : ReconValue → ℕ × Range → List ℕ
-column_text recon (i, range) = place_text i ++ (keys_text range ++ (owners_text range ++ (marks_text recon range ++ codes "</g>\n")))
+column_text recon numbered = open_column_text recon numbered ++ column_end
 
 -- the start of a picture of so many columns
 abbrev pub frame_text : ℕ → List ℕ

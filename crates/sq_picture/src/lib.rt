@@ -9,5 +9,6 @@ mod tree_svg;
 
 pub use json_text::moves_json;
 pub use listing::{AsJson, AsSvg};
-pub use moves_svg::write_moves_svg;
+pub use moves_svg::{write_column_end, write_moves_svg, write_open_column, write_top};
+pub use svg::write_end;
 pub use tree_svg::write_tree_svg;

@@ -2,7 +2,7 @@
 ghost use Rattle.std.specs.Prelude.{◌≡◌, ◌-◌, ◌<◌, length, OnOk};
 ghost use Rattle.std.specs.List.{flat_map, range_with_len, enumerate_from};
 ghost use Rattle.std.specs.Io.KnownBytes.{Appends};
-ghost use Rattle.sq_picture.specs.MovesSvg.{hue_of, light_of, width_of, height_of, heading_of, names_of, origin_text, place_text, keys_text, box_text, name_text, owner_text, owners_text, begun_below, segment_text, axis_text, segments_text, last_text, numbers_text, marks_text, column_text, frame_text, heading_text, top_text, moves_svg};
+ghost use Rattle.sq_picture.specs.MovesSvg.{hue_of, light_of, width_of, height_of, heading_of, names_of, origin_text, place_text, keys_text, box_text, name_text, owner_text, owners_text, begun_below, segment_text, axis_text, segments_text, last_text, numbers_text, marks_text, open_column_text, column_end, column_text, frame_text, heading_text, top_text, moves_svg};
 
 use crate::svg::{write_end, write_number, write_start, write_words};
 use sq_plan::PartId;
@@ -216,15 +216,35 @@ fn write_marks<W: Write>(writer: &mut W, recon: &Recon, range: &Range) -> io::Re
     write_numbers(writer, first, end, recon.stage_on(range.src, range.dst))
 }
 
-// Writes the column of a range.
-fn write_column<W: Write>(writer: &mut W, recon: &Recon, i: usize, range: &Range) -> io::Result<()>
-    ensures { OnOk result (Appends (W.contents writer.old) (W.contents writer.new) (column_text recon.now (i, range.now))) }
+/// Writes the column of a range but for its end, before which more may stand. An error is the writer's.
+pub fn write_open_column<W: Write>(
+    writer: &mut W,
+    recon: &Recon,
+    i: usize,
+    range: &Range,
+) -> io::Result<()>
+    ensures { OnOk result
+        (Appends (W.contents writer.old) (W.contents writer.new) (open_column_text recon.now (i, range.now))) }
 {
     write_place(writer, i)?;
     write_keys(writer, range)?;
     write_owners(writer, range)?;
-    write_marks(writer, recon, range)?;
+    write_marks(writer, recon, range)
+}
+
+/// Writes the end of a column. An error is the writer's.
+pub fn write_column_end<W: Write>(writer: &mut W) -> io::Result<()>
+    ensures { OnOk result (Appends (W.contents writer.old) (W.contents writer.new) column_end) }
+{
     writer.write_all(b"</g>\n")
+}
+
+// Writes the column of a range.
+fn write_column<W: Write>(writer: &mut W, recon: &Recon, i: usize, range: &Range) -> io::Result<()>
+    ensures { OnOk result (Appends (W.contents writer.old) (W.contents writer.new) (column_text recon.now (i, range.now))) }
+{
+    write_open_column(writer, recon, i, range)?;
+    write_column_end(writer)
 }
 
 // Writes the columns of all ranges.
@@ -252,8 +272,8 @@ fn write_heading<W: Write>(writer: &mut W, count: usize) -> io::Result<()>
     write_words(writer, "start", 8, 24, heading_of(count))
 }
 
-// Writes a picture of so many columns up to the first one.
-fn write_top<W: Write>(writer: &mut W, count: usize) -> io::Result<()>
+/// Writes a picture of so many columns up to the first one. An error is the writer's.
+pub fn write_top<W: Write>(writer: &mut W, count: usize) -> io::Result<()>
     ensures { OnOk result (Appends (W.contents writer.old) (W.contents writer.new) (top_text count)) }
 {
     write_frame(writer, count)?;

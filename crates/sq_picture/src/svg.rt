@@ -100,8 +100,8 @@ pub(crate) fn write_number<W: Write>(
     )
 }
 
-/// Writes the end of a picture.
-pub(crate) fn write_end<W: Write>(writer: &mut W) -> io::Result<()>
+/// Writes the end of a picture. An error is the writer's.
+pub fn write_end<W: Write>(writer: &mut W) -> io::Result<()>
     ensures { OnOk result (Appends (W.contents writer.old) (W.contents writer.new) end_text) }
 {
     writer.write_all(b"</svg>\n")

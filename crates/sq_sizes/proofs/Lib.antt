@@ -4,3 +4,4 @@ pub mod Weighing
 pub mod Parts
 mod Told
 pub mod OwnerLines
+pub mod Captions

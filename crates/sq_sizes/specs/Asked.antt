@@ -16,17 +16,20 @@ use Rattle.sq_world.specs.Inputs.{Writing, OfLines, OfReader}
 use Rattle.sq_world.specs.Run.{IsFault}
 
 -- a text that tells of an opening goes to the end of what a writer holds; where there was no memory for it, nothing does
-abbrev pub IsToldOf : (OpeningValue → List ℕ → Type 0) → OpeningValue → Option (List ℕ) → Option (List ℕ) → Told → Type 0
+abbrev pub IsToldOf : (OpeningValue → List ℕ → Type 0) → OpeningValue
+    → Option (List ℕ) → Option (List ℕ) → Told → Type 0
 IsToldOf tells o before now Written = (out : List ℕ) × Appends before now out × tells o out
 IsToldOf tells o before now NoMemory = Appends before now []
 
 -- what tells of an opening is all that is written, or else that memory ran out
-abbrev pub IsToldOrRefusedOf : (OpeningValue → List ℕ → Type 0) → OpeningValue → List ℕ → Ending → Type 0
-IsToldOrRefusedOf tells o out ending = (tells o out × (ending ≡ Done)) ⊎ IsFault (located Memory None) out ending
+abbrev pub IsToldOrRefusedOf : (OpeningValue → List ℕ → Type 0)
+    → OpeningValue → List ℕ → Ending → Type 0
+IsToldOrRefusedOf tells o out ending =
+    (tells o out × (ending ≡ Done)) ⊎ IsFault (located Memory None) out ending
 
 -- the header spells an opening, and what tells of it is all that is written
-pub record IsWholeAnswer (tells : OpeningValue → List ℕ → Type 0) (tables : ℕ) (given : List PieceValue) (out : List ℕ)
-    (ending : Ending) : Type 0 where
+pub record IsWholeAnswer (tells : OpeningValue → List ℕ → Type 0) (tables : ℕ)
+    (given : List PieceValue) (out : List ℕ) (ending : Ending) : Type 0 where
   pub opening : OpeningValue
   pub left : List PieceValue
   pub header : Opens tables (Ok opening) left (header_of tables given)
@@ -34,24 +37,30 @@ pub record IsWholeAnswer (tells : OpeningValue → List ℕ → Type 0) (tables 
   pub ends : ending ≡ Done
 
 -- the header has a fault, which is its first, or memory ran out
-pub record IsRefusedAnswer (tables : ℕ) (given : List PieceValue) (out : List ℕ) (ending : Ending) : Type 0 where
+pub record IsRefusedAnswer (tables : ℕ) (given : List PieceValue) (out : List ℕ)
+    (ending : Ending) : Type 0 where
   pub fault : LocatedFault
   pub left : List PieceValue
   pub header : Opens tables (Err fault) left (header_of tables given)
   pub wrote : IsFault fault out ending
 
 -- what is told for the pieces of an input, and how that ends
-abbrev pub IsAnswerOf : (OpeningValue → List ℕ → Type 0) → ℕ → List PieceValue → List ℕ → Ending → Type 0
-IsAnswerOf tells tables given out ending = IsWholeAnswer tells tables given out ending ⊎ IsRefusedAnswer tables given out ending
+abbrev pub IsAnswerOf : (OpeningValue → List ℕ → Type 0) → ℕ → List PieceValue
+    → List ℕ → Ending → Type 0
+IsAnswerOf tells tables given out ending =
+    IsWholeAnswer tells tables given out ending ⊎ IsRefusedAnswer tables given out ending
 
 -- what a reader gives is answered by what tells of its opening, and that goes to the end of what a writer holds
-abbrev pub TellsOpening : (OpeningValue → List ℕ → Type 0) → ℕ → Option (List ℕ) → Option (List ℕ) → Option (List ℕ) → Ending → Type 0
+abbrev pub TellsOpening : (OpeningValue → List ℕ → Type 0) → ℕ
+    → Option (List ℕ) → Option (List ℕ) → Option (List ℕ) → Ending → Type 0
 TellsOpening tells tables = OfReader (IsAnswerOf tells tables)
 
 -- the same of what can come of a reader of lines
-abbrev pub TellsOpeningOfLines : (OpeningValue → List ℕ → Type 0) → ℕ → LinesValue → Option (List ℕ) → Option (List ℕ) → Ending → Type 0
+abbrev pub TellsOpeningOfLines : (OpeningValue → List ℕ → Type 0) → ℕ
+    → LinesValue → Option (List ℕ) → Option (List ℕ) → Ending → Type 0
 TellsOpeningOfLines tells tables = OfLines (IsAnswerOf tells tables)
 
 -- what tells of an opening, or that memory ran out, goes to the end of what a writer holds
-abbrev pub TellsOrRefusesOf : (OpeningValue → List ℕ → Type 0) → OpeningValue → Option (List ℕ) → Option (List ℕ) → Ending → Type 0
+abbrev pub TellsOrRefusesOf : (OpeningValue → List ℕ → Type 0) → OpeningValue
+    → Option (List ℕ) → Option (List ℕ) → Ending → Type 0
 TellsOrRefusesOf tells o = Writing (IsToldOrRefusedOf tells o)

@@ -14,7 +14,8 @@ range_with recon key = find (λ range. has_key range key) recon.ranges
 abbrev pub key_range_text : ReconValue → Option Range → List ℕ
 key_range_text recon None = []
 key_range_text recon (Some range) =
-    codes " range " ++ decimal range.lo ++ codes " " ++ decimal range.hi ++ codes " stage " ++ decimal (stage_in recon range)
+    codes " range " ++ decimal range.lo ++ codes " " ++ decimal range.hi
+    ++ codes " stage " ++ decimal (stage_in recon range)
 
 -- the segment and the leaf that hold a root key, where they are told
 abbrev pub told_leaf : Bool → ReconValue → ℕ → Option (ℕ × ℕ)
@@ -27,12 +28,16 @@ leaf_text (Some place) = codes " segment " ++ decimal place.0 ++ codes " leaf " 
 
 -- a root key, and its owner by either plan
 abbrev pub key_owners_text : OpeningValue → ℕ → List ℕ
-key_owners_text o key = codes "key " ++ decimal key ++ codes " " ++ decimal (owner o.old key) ++ codes " " ++ decimal (owner o.new key)
+key_owners_text o key =
+    codes "key " ++ decimal key ++ codes " " ++ decimal (owner o.old key)
+    ++ codes " " ++ decimal (owner o.new key)
 
 -- the same with the range and the stage, and the segment and the leaf where these are told, if it moves
 abbrev pub owner_line : Bool → OpeningValue → ℕ → List ℕ
 owner_line tells_leaf o key =
-    key_owners_text o key ++ (key_range_text o.recon (range_with o.recon key) ++ (leaf_text (told_leaf tells_leaf o.recon key) ++ 10 ∷ []))
+    key_owners_text o key
+    ++ (key_range_text o.recon (range_with o.recon key)
+    ++ (leaf_text (told_leaf tells_leaf o.recon key) ++ 10 ∷ []))
 
 -- the lines of these root keys
 abbrev pub IsOwnersText : Bool → List ℕ → OpeningValue → List ℕ → Type 0

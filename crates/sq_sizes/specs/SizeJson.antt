@@ -18,25 +18,35 @@ use Rattle.sq_sizes.specs.Sizes.{segment_size, part_size, size_in_64_bits}
 -- a reconfiguration range with its size
 abbrev pub range_with_size : Range → Size → Data
 range_with_size range size =
-    object (member (codes "bytes") (number_data size.bytes) (member (codes "chunks") (number_data size.chunks)
-    (member (codes "dst") (number_data range.dst) (member (codes "families") (number_data size.families)
-    (member (codes "hi") (number_data range.hi) (member (codes "lo") (number_data range.lo)
-    (member (codes "rows") (number_data size.rows) (member (codes "src") (number_data range.src) no_members))))))))
+    object (member (codes "bytes") (number_data size.bytes)
+    (member (codes "chunks") (number_data size.chunks)
+    (member (codes "dst") (number_data range.dst)
+    (member (codes "families") (number_data size.families)
+    (member (codes "hi") (number_data range.hi)
+    (member (codes "lo") (number_data range.lo)
+    (member (codes "rows") (number_data size.rows)
+    (member (codes "src") (number_data range.src) no_members))))))))
 
 -- a segment with its size and its stage
 abbrev pub segment_with_size : Range → ℕ → Size → Data
 segment_with_size segment stage size =
-    object (member (codes "bytes") (number_data size.bytes) (member (codes "chunks") (number_data size.chunks)
-    (member (codes "dst") (number_data segment.dst) (member (codes "families") (number_data size.families)
-    (member (codes "hi") (number_data segment.hi) (member (codes "lo") (number_data segment.lo)
-    (member (codes "rows") (number_data size.rows) (member (codes "src") (number_data segment.src)
+    object (member (codes "bytes") (number_data size.bytes)
+    (member (codes "chunks") (number_data size.chunks)
+    (member (codes "dst") (number_data segment.dst)
+    (member (codes "families") (number_data size.families)
+    (member (codes "hi") (number_data segment.hi)
+    (member (codes "lo") (number_data segment.lo)
+    (member (codes "rows") (number_data size.rows)
+    (member (codes "src") (number_data segment.src)
     (member (codes "stage") (number_data stage) no_members)))))))))
 
 -- a stage with its size
 abbrev pub stage_with_size : ℕ → Size → Data
 stage_with_size stage size =
-    object (member (codes "bytes") (number_data size.bytes) (member (codes "chunks") (number_data size.chunks)
-    (member (codes "families") (number_data size.families) (member (codes "rows") (number_data size.rows)
+    object (member (codes "bytes") (number_data size.bytes)
+    (member (codes "chunks") (number_data size.chunks)
+    (member (codes "families") (number_data size.families)
+    (member (codes "rows") (number_data size.rows)
     (member (codes "stage") (number_data stage) no_members)))))
 
 -- those of an opening
@@ -44,7 +54,8 @@ abbrev pub sized_range_data : OpeningValue → Range → Data
 sized_range_data o range = range_with_size range (size_in_64_bits (part_size o (RangePart range)))
 
 abbrev pub sized_segment_data : OpeningValue → Range → Data
-sized_segment_data o segment = segment_with_size segment (stage_in o.recon segment) (size_in_64_bits (segment_size o segment))
+sized_segment_data o segment =
+    segment_with_size segment (stage_in o.recon segment) (size_in_64_bits (segment_size o segment))
 
 abbrev pub sized_stage_data : OpeningValue → ℕ → Data
 sized_stage_data o stage = stage_with_size stage (size_in_64_bits (part_size o (StagePart stage)))
@@ -54,7 +65,8 @@ abbrev pub sizes_data : OpeningValue → Data
 sizes_data o =
     object (member (codes "ranges") (array (items_of (map (sized_range_data o) o.recon.ranges)))
     (member (codes "segments") (array (items_of (map (sized_segment_data o) o.recon.segments)))
-    (member (codes "stage_sizes") (array (items_of (map (sized_stage_data o) (range_with_len 0 (stages o.recon)))))
+    (member (codes "stage_sizes")
+    (array (items_of (map (sized_stage_data o) (range_with_len 0 (stages o.recon)))))
     (member (codes "stages") (number_data (stages o.recon)) no_members))))
 
 -- the text is the compact one of the sizes, which has no line end, and reading it gives that value again

@@ -24,26 +24,30 @@ size_ending size = flat_map (λ word. 32 ∷ word) (size_words size) ++ 10 ∷ [
 abbrev pub range_front : Range → List ℕ
 range_front range = join_with_byte 32 (codes "range" ∷ move_words range)
 
--- that of a segment of this number, with its stage where there is more than one
+-- the front of the line of a segment of this number, with its stage where there is more than one
 abbrev pub segment_front : ReconValue → ℕ × Range → List ℕ
 segment_front recon numbered =
-    join_with_byte 32 (codes "segment" ∷ decimal numbered.0 ∷ move_words numbered.1 ++ stage_words (told_stage recon numbered.1))
+    join_with_byte 32 (codes "segment" ∷ decimal numbered.0
+    ∷ move_words numbered.1 ++ stage_words (told_stage recon numbered.1))
 
--- that of a stage
+-- the front of the line of a stage
 abbrev pub stage_front : ℕ → List ℕ
 stage_front stage = join_with_byte 32 (codes "stage" ∷ decimal stage ∷ [])
 
 -- a reconfiguration range with its size
 abbrev pub sized_range_line : OpeningValue → Range → List ℕ
-sized_range_line o range = range_front range ++ size_ending (size_in_64_bits (part_size o (RangePart range)))
+sized_range_line o range =
+    range_front range ++ size_ending (size_in_64_bits (part_size o (RangePart range)))
 
 -- a segment of this number with its size
 abbrev pub sized_segment_line : OpeningValue → ℕ × Range → List ℕ
-sized_segment_line o numbered = segment_front o.recon numbered ++ size_ending (size_in_64_bits (segment_size o numbered.1))
+sized_segment_line o numbered =
+    segment_front o.recon numbered ++ size_ending (size_in_64_bits (segment_size o numbered.1))
 
 -- a stage with its size
 abbrev pub sized_stage_line : OpeningValue → ℕ → List ℕ
-sized_stage_line o stage = stage_front stage ++ size_ending (size_in_64_bits (part_size o (StagePart stage)))
+sized_stage_line o stage =
+    stage_front stage ++ size_ending (size_in_64_bits (part_size o (StagePart stage)))
 
 -- how large a move is: the ranges in key order, the segments, and the stages
 abbrev pub sizes_text : OpeningValue → List ℕ

@@ -1,5 +1,5 @@
 -- How large a move is: the opening rows that move, and the chunks that this takes.
-use Rattle.std.specs.Prelude.{ℕ, Bool, ◌==◌, ◌^◌, ◌-◌, nat_lt, nat_le, min, List, [], length, map, filter, sum_by, take_while}
+use Rattle.std.specs.Prelude.{ℕ, Bool, ◌==◌, ◌^◌, ◌-◌, nat_lt, nat_le, min, List, length, map, filter, sum_by, take_while}
 use Rattle.sq_schema.specs.Table.{TableValue}
 use Rattle.sq_schema.specs.Family.{rows_size}
 use Rattle.sq_ranges.specs.declared.recon.Range.{Range}
@@ -12,7 +12,8 @@ use Rattle.sq_sizes.specs.declared.size.MovePart.TheVariants.{RangePart, StagePa
 
 -- the root keys from lo on that have opening rows, as long as they are below hi, with these
 abbrev pub entries_between : TableValue → ℕ → ℕ → TableValue
-entries_between table lo hi = take_while (λ entry. nat_lt entry.0 hi) (filter (λ entry. nat_le lo entry.0) table)
+entries_between table lo hi =
+    take_while (λ entry. nat_lt entry.0 hi) (filter (λ entry. nat_le lo entry.0) table)
 
 -- the size of families that start from these rows, where all are cut at once, at most so many bytes in a chunk
 abbrev pub entries_size : ℕ → TableValue → Size
@@ -45,7 +46,8 @@ is_in_part recon (StagePart stage) segment = stage_in recon segment == stage
 
 -- the size of a part of a move: that of its segments in sum
 abbrev pub part_size : OpeningValue → MovePart → Size
-part_size o part = sum_of_sizes (map (segment_size o) (filter (is_in_part o.recon part) o.recon.segments))
+part_size o part =
+    sum_of_sizes (map (segment_size o) (filter (is_in_part o.recon part) o.recon.segments))
 
 -- a number, or the greatest of 64 bits where it is greater
 abbrev pub in_64_bits : ℕ → ℕ

@@ -7,9 +7,11 @@ mod owners;
 mod size;
 mod size_json;
 mod size_lines;
+mod size_svg;
 
 pub use asked::{OpeningTelling, tell_opening};
 pub use owners::OwnersAsLines;
 pub use size::{MovePart, Size};
 pub use size_json::SizesAsJson;
 pub use size_lines::SizesAsLines;
+pub use size_svg::SizesAsSvg;

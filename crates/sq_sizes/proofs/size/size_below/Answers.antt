@@ -1,5 +1,5 @@
 -- A family that comes is weighed with those before it.
-use Rattle.std.proofs.Common.{◌≡◌, ◌<◌, ℕ, ap, ◌∙◌, sym, subst}
+use Rattle.std.proofs.Common.{◌<◌, ℕ, ap, ◌∙◌, sym, subst}
 use Rattle.sq_schema.specs.Table.{TableValue}
 use Rattle.sq_sizes.specs.Cutting.{chunks_more, room_behind}
 use Rattle.std.specs.Prelude.{◌+◌, Some}

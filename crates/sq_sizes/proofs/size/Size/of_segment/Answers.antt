@@ -1,5 +1,5 @@
 -- The segment's families are those of its root keys.
-use Rattle.std.proofs.Common.{◌≡◌, ◌<◌, ◌≤◌, ℕ, List, [], ap, ◌∙◌, sym, subst, arith, ⊎_elim}
+use Rattle.std.proofs.Common.{◌≡◌, ◌<◌, ◌≤◌, ℕ, [], ap, ◌∙◌, sym, ⊎_elim}
 use Rattle.std.proofs.lemmas.Bool.{cases_lt}
 use Rattle.sq_schema.specs.declared.root.TheConstants.{ROOT_END}
 use Rattle.sq_schema.specs.Table.{TableValue}
