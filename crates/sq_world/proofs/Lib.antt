@@ -1,3 +1,4 @@
 pub mod Runs
 pub mod Scripts
 pub mod Listings
+pub mod Dumped

@@ -6,6 +6,7 @@
 mod echo;
 mod ending;
 mod input;
+pub mod laws;
 mod listing;
 mod script;
 mod telling;
