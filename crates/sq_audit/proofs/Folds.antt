@@ -1,9 +1,10 @@
 -- What is folded: the jobs that have a receipt, the table and the stores of all families, and what they come to.
 use Rattle.std.proofs.Common.{◌≡◌, ⊎_elim, ℕ, zero, suc, ◌+◌, ◌==◌, Bool, true, false, if◌then◌else◌, List, [], ◌∷◌, filter, map, length, slice_get, Contains, Option, Some, None, refl, sym, ap, ◌∙◌, subst, arith, true≢false}
-use Rattle.std.specs.Prelude.{not, nat_lt, option_and_then, option_map}
+use Rattle.std.specs.Prelude.{not, nat_lt, count_by, option_and_then, option_map}
 use Rattle.std.specs.FinMap.{get}
 use Rattle.std.proofs.lemmas.List.{length-map}
 use Rattle.std.proofs.lemmas.List.Elements.{filter_agree}
+use Rattle.std.proofs.lemmas.List.Sums.{length-filter}
 use Rattle.std.proofs.lemmas.Option.{slice_get-map}
 use Rattle.sq_schema.specs.Effect.{RowList}
 use Rattle.sq_schema.specs.Family.{FamilyValue, rows_of}
@@ -76,6 +77,9 @@ module _ (receipts : List ReceiptValue) (counts : _) (is : Counts receipts count
 
   pub answered_are : (jobs : List Job) → filter (is_counted counts) jobs ≡ answered_jobs receipts jobs
   answered_are jobs = filter_agree (is_counted counts) (has_receipt receipts) counted jobs
+
+  pub counted_are : (jobs : List Job) → count_by (is_counted counts) jobs ≡ length (answered_jobs receipts jobs)
+  counted_are jobs = sym (length-filter (is_counted counts) jobs) ∙ ap length (answered_are jobs)
 
   pub left_are : (jobs : List Job) → filter (λ job. not (is_counted counts job)) jobs ≡ jobs_left receipts jobs
   left_are jobs = filter_agree (λ job. not (is_counted counts job)) (λ job. not (has_receipt receipts job)) (λ job. ap not (counted job)) jobs

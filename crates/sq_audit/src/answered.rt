@@ -1,8 +1,9 @@
 // Whether jobs are answered.
-ghost use Rattle.std.specs.Prelude.{◌≡◌, filter, not, IfOk};
+ghost use Rattle.std.specs.Prelude.{◌≡◌, ◌≤◌, length, filter, not, IfOk};
 ghost use Rattle.std.specs.Bool.{Decides};
 ghost use Rattle.sq_audit.specs.Answers.{AreAnsweredBy};
 ghost use Rattle.sq_audit.specs.Counts.{Counts, is_counted};
+ghost use Rattle.sq_audit.specs.Folding.{answered_jobs};
 
 use crate::job::Job;
 use sq_node::Receipt;
@@ -25,6 +26,25 @@ pub(crate) fn are_answered(
         }
     }
     Ok(true)
+}
+
+/// How many of the jobs have a receipt.
+pub fn count_answered(
+    alloc: Global,
+    receipts: &[Receipt],
+    jobs: &[Job],
+) -> Result<usize, AllocError>
+    ensures answered { IfOk result (λ answered. answered ≡ length (answered_jobs receipts.now jobs.now)) }
+    ensures most { IfOk result (λ answered. answered ≤ length jobs.now) }
+{
+    let counts = count(alloc, receipts)?;
+    let mut answered = 0;
+    for job in jobs {
+        if is_counted(&counts, job) {
+            answered += 1;
+        }
+    }
+    Ok(answered)
 }
 
 /// How many receipts there are of each id and root key, where there are some.

@@ -23,6 +23,7 @@ mod tiles;
 mod told;
 mod verdict;
 
+pub use answered::count_answered;
 pub use folded::{Folded, Unchanged, Unfolded};
 pub use folding::fold;
 pub use job::Job;

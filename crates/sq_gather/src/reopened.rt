@@ -1,7 +1,6 @@
 // Going on with what was gathered: in the next stage of a move, or in another move.
-ghost use Rattle.std.specs.Prelude.{◌≡◌, ◌+◌, ◌<◌, ◌≤◌, length, IfOk, IfErr, OnOk};
+ghost use Rattle.std.specs.Prelude.{◌≡◌, ◌+◌, ◌≤◌, length, IfOk, IfErr, OnOk};
 ghost use Rattle.sq_schema.specs.Prelude.{TableValue};
-ghost use Rattle.sq_ranges.specs.Prelude.{stages};
 ghost use Rattle.sq_pull.specs.declared.numbers.TheConstants.{MAX_PUMPS};
 ghost use Rattle.sq_node_model.specs.Prelude.{folded_opening};
 ghost use Rattle.sq_node.specs.Prelude.{IsFabric, IsReopened, AllHoldAsBegun};
@@ -21,26 +20,28 @@ const FIRST_STAGE: u64 = 0;
 /// jobs that were gathered, and this many pumps. The receipts so far go along. Where what was gathered is placed and its segments
 /// are complete, under this opening or one that differs from it in its rows alone, this is a run of that opening.
 ///
-/// Where it doesn't have the families of as many partitions, and where there is no memory, what was gathered comes back as it
-/// was.
+/// Where it doesn't have the families and the jobs of as many partitions, where there is no such stage, and where there is no
+/// memory, what was gathered comes back as it was.
 pub fn reopen(
     alloc: Global,
     opening: &Opening,
     g: Gathered,
     pumps: u32,
 ) -> Result<(Fabric, Vec<Node>, Vec<Pump>), Gathered>
-    requires pumps { pumps ≤ MAX_PUMPS }
-    requires more { g.stage + 1 < stages opening.now.recon }
-    requires left { length g.left ≡ opening.now.old.parts }
+    requires { pumps ≤ MAX_PUMPS }
+    ensures reopened { IfOk result
+        (λ run. IsReopened opening.now (g.stage + 1) g.stores g.receipts pumps run.0 run.1.items run.2.items) }
     ensures run { IfOk result (λ run. (table : TableValue)
         → IsNextStageOf (folded_opening opening.now table) g run.0 run.1.items run.2.items) }
     ensures all { IfOk result (λ run. AreAllOf run.0 run.1.items run.2.items) }
     ensures pumps { IfOk result (λ run. length run.2.items ≡ pumps) }
     ensures returned { IfErr result (λ back. back ≡ g) }
 {
-    // For the proof alone: there are no more stages than a number counts, and what was handed in is an opening.
-    let _stages = opening.recon().stages();
-    let next = g.stage + 1;
+    // For the proof alone: what was handed in is an opening.
+    let _recon = opening.recon();
+    let Some(next) = g.stage.checked_add(1) else {
+        return Err(g);
+    };
     let (fabric, nodes, pumps) = resume(alloc, opening, next, g, pumps)?;
     Ok((fabric, nodes, pumps))
 }
@@ -58,6 +59,8 @@ pub fn move_on(
     pumps: u32,
 ) -> Result<(Fabric, Vec<Node>, Vec<Pump>), Gathered>
     requires { pumps ≤ MAX_PUMPS }
+    ensures reopened { IfOk result
+        (λ run. IsReopened next.now 0 g.stores g.receipts pumps run.0 run.1.items run.2.items) }
     ensures run { IfOk result (λ run. (table : TableValue)
         → IsFirstStageAfter (folded_opening next.now table) g run.0 run.1.items run.2.items) }
     ensures all { IfOk result (λ run. AreAllOf run.0 run.1.items run.2.items) }

@@ -1,6 +1,5 @@
 mod JobIds
 mod JobRuns
-mod ReceiptIds
 mod Counts
 mod LiveRuns
 mod Moved

@@ -73,18 +73,12 @@ module _ (account : AccountValue) (moving : StageValue) (began : BeganWith) (g :
   pub not_done : Leads account.opening moving.stage (is_told_whole moved) Missing → IsStageDone account.opening g → ⊥
   not_done none done = none (marked_by account.opening moving.stage (is_told_whole moved) (is_whole_in g) same (subst (λ (n : ℕ). AreComplete account.opening n (is_whole_in g)) (sym told.now) done))
 
-module _ (o : OpeningValue) (moving : StageValue) (stage : ℕ) (led : moving ≡ leading o stage) where
-  -- a leader leads one of the stages
-  pub one_of_the_stages : moving.stage < stages moving.recon → stage < stages o.recon
-  one_of_the_stages = subst (λ (at : StageValue). at.stage < stages at.recon) led
-
 -- ---- what a run goes on with
 
 -- it is placed, with the segments of the same stage complete, and moves the same
 pub record GoesOnWith (old : AccountValue) (g : GatheredValue) (new : AccountValue) (next : GatheredValue) : Type 0 where
   pub placed : IsPlaced new.opening next
   pub done : IsStageDone new.opening next
-  pub all_left : length next.left ≡ new.opening.old.parts
   pub same_stage : next.stage ≡ g.stage
   pub same_moves : new.opening.recon ≡ old.opening.recon
   pub led : (moving : StageValue) → moving ≡ leading old.opening (g.stage + 1) → moving ≡ leading new.opening (next.stage + 1)
@@ -102,10 +96,6 @@ module _ (old : AccountValue) (g : GatheredValue) (new : AccountValue) (next : G
   parts_alike true has = ap (λ (o : OpeningValue). o.old.parts) (has.opening ∙ has.is.opening)
   parts_alike false same = ap (λ (a : AccountValue). a.opening.old.parts) same.0
 
-  as_many_left : (folds : Bool) → ContinuesWith folds old g new next → length next.left ≡ length g.left
-  as_many_left true has = ap (λ (g : GatheredValue). length g.left) (has.gathered ∙ has.is.gathered)
-  as_many_left false same = ap (λ (g : GatheredValue). length g.left) same.1
-
   still_placed : (folds : Bool) → ContinuesWith folds old g new next → IsPlaced old.opening g → IsPlaced new.opening next
   still_placed true has placed = subst (λ (p : OpeningValue × GatheredValue). IsPlaced p.0 p.1) (λ i. (sym has.opening i, sym has.gathered i)) has.is.placed
   still_placed false same placed = subst (λ (p : AccountValue × GatheredValue). IsPlaced p.0.opening p.1) (λ i. (sym same.0 i, sym same.1 i)) placed
@@ -114,11 +104,10 @@ module _ (old : AccountValue) (g : GatheredValue) (new : AccountValue) (next : G
   still_done true has done = subst (λ (p : OpeningValue × GatheredValue). IsStageDone p.0 p.1) (λ i. (sym has.opening i, sym has.gathered i)) has.is.done
   still_done false same done = subst (λ (p : AccountValue × GatheredValue). IsStageDone p.0.opening p.1) (λ i. (sym same.0 i, sym same.1 i)) done
 
-  pub goes_on_with : (folds : Bool) → ContinuesWith folds old g new next → IsPlaced old.opening g → IsStageDone old.opening g → length g.left ≡ old.opening.old.parts → GoesOnWith old g new next
-  goes_on_with folds continues placed done left = record {
+  pub goes_on_with : (folds : Bool) → ContinuesWith folds old g new next → IsPlaced old.opening g → IsStageDone old.opening g → GoesOnWith old g new next
+  goes_on_with folds continues placed done = record {
     placed = still_placed folds continues placed;
     done = still_done folds continues done;
-    all_left = as_many_left folds continues ∙ left ∙ sym (parts_alike folds continues);
     same_stage = stays_in_stage folds continues;
     same_moves = moves_alike folds continues;
     led = λ moving led. led ∙ leads_alike (g.stage + 1) ∙ ap (λ (n : ℕ). leading new.opening (n + 1)) (sym (stays_in_stage folds continues));

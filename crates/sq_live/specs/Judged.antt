@@ -1,8 +1,6 @@
 -- What is looked up of what was gathered.
-use Rattle.std.specs.Prelude.{◌≡◌, ℕ, ◌<◌, ◌==◌, ◌||◌, Bool, nat_lt, List, [], length, slice_index_or, count_by}
-use Rattle.std.specs.List.{list_any, range_with_len}
-use Rattle.std.specs.Ordering.{nat_cmp}
-use Rattle.std.specs.BTreeSet.{BTreeSet, contains}
+use Rattle.std.specs.Prelude.{◌≡◌, ℕ, ◌<◌, ◌||◌, Bool, nat_lt, List, [], length, slice_index_or, count_by}
+use Rattle.std.specs.List.{range_with_len}
 use Rattle.sq_tree.specs.declared.status.Status.{Status}
 use Rattle.sq_tree.specs.Reading.{is_complete_reading}
 use Rattle.sq_tree.specs.Status.{reading}
@@ -10,11 +8,6 @@ use Rattle.sq_tree.specs.Tree.{status_at}
 use Rattle.sq_ranges.specs.declared.segment.TheConstants.{SEGMENT_LIMIT}
 use Rattle.sq_ranges.specs.ReconValue.{ReconValue, stage_at}
 use Rattle.sq_leader.specs.Segments.{is_told_whole}
-use Rattle.sq_node_model.specs.NodeValue.{ReceiptValue}
-
--- the set has just the ids of these receipts
-abbrev pub HasIdsOf : List ReceiptValue → BTreeSet ℕ → Type 0
-HasIdsOf receipts ids = (id : ℕ) → contains nat_cmp ids id ≡ list_any (λ receipt. receipt.id == id) receipts
 
 -- the segment of this number is complete: its node 1 reads complete
 abbrev pub is_moved : List (List Status) → ℕ → Bool

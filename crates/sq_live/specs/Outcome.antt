@@ -1,6 +1,6 @@
 -- What live runs come to, by what was gathered of their last stage and what is counted of those before.
-use Rattle.std.specs.Prelude.{◌≡◌, ◌⊎◌, ℕ, ◌+◌, ◌^◌, ◌<◌, ◌==◌, ◌||◌, Bool, true, nat_lt, List, [], ◌∷◌, length, sum_by, count_by, codes, decimal}
-use Rattle.std.specs.List.{list_any, range_with_len}
+use Rattle.std.specs.Prelude.{◌≡◌, ◌⊎◌, ℕ, ◌+◌, ◌^◌, ◌<◌, ◌||◌, Bool, true, nat_lt, List, [], ◌∷◌, length, sum_by, count_by, codes, decimal}
+use Rattle.std.specs.List.{range_with_len}
 use Rattle.std.specs.FinMap.{len}
 use Rattle.sq_ranges.specs.ReconValue.{stage_at, stages}
 use Rattle.sq_ranges.specs.OpeningValue.{OpeningValue}
@@ -34,13 +34,9 @@ outcome_status (Sound families committed) = 0
 outcome_status (Stopped answered jobs complete segments) = 3
 outcome_status (Unsound defect) = 4
 
--- a job is answered that has a receipt
-abbrev pub is_answered : List ReceiptValue → Job → Bool
-is_answered receipts job = list_any (λ receipt. receipt.id == job.txn.id) receipts
-
--- how many of the jobs are answered
+-- how many of the jobs are answered: they have a receipt
 abbrev pub answered_count : List ReceiptValue → List Job → ℕ
-answered_count receipts jobs = count_by (is_answered receipts) jobs
+answered_count receipts jobs = length (answered_jobs receipts jobs)
 
 -- the segment of this number is complete:
 -- it moved in an earlier stage than the one that was gathered, or its node 1 reads complete; one of which no statuses were gathered doesn't

@@ -8,11 +8,11 @@ ghost use Rattle.sq_leader.specs.Segments.{is_told_whole};
 ghost use Rattle.sq_node_model.specs.Prelude.{is_whole_in, IsStageDone, AllGrown};
 ghost use Rattle.sq_stages.specs.Leading.{HasEnded};
 ghost use Rattle.sq_live.specs.Outcome.{answered_count, commit_count, CameTo, WhyStopped};
-ghost use Rattle.sq_live.specs.Judged.{HasIdsOf, MarksMoved, marked_count};
+ghost use Rattle.sq_live.specs.Judged.{MarksMoved, marked_count};
 
 use crate::account::Account;
 use crate::outcome::LiveOutcome;
-use sq_audit::{Job, Verdict, audit};
+use sq_audit::{Verdict, audit, count_answered};
 use sq_gather::{Gathered, reads_complete};
 use sq_node::Receipt;
 use sq_ranges::{Recon, SEGMENT_LIMIT, SegId};
@@ -20,7 +20,6 @@ use sq_runs::RunStore;
 use sq_schema::Reply;
 use sq_tree::{NODES, NodeId, Status};
 use std::alloc::{AllocError, Global};
-use std::collections::BTreeSet;
 use std::thread::Threads;
 
 /// How many segments there are at most, as the length of an array.
@@ -86,32 +85,6 @@ fn stopped(account: &Account, g: &Gathered, moved: &[bool], answered: usize) -> 
         complete: count_complete(recon, g.stage, moved),
         segments: recon.segments().len() as u64,
     }
-}
-
-// How many of the jobs have a receipt.
-fn count_answered(alloc: Global, receipts: &[Receipt], jobs: &[Job]) -> Result<usize, AllocError>
-    ensures answered { IfOk result (λ count. count ≡ answered_count receipts.now jobs.now) }
-    ensures most { IfOk result (λ count. count ≤ length jobs.now) }
-{
-    let ids = ids_of(alloc, receipts)?;
-    let mut count = 0;
-    for job in jobs {
-        if ids.contains(&job.txn.id()) {
-            count += 1;
-        }
-    }
-    Ok(count)
-}
-
-// The ids of receipts.
-fn ids_of(alloc: Global, receipts: &[Receipt]) -> Result<BTreeSet<u64>, AllocError>
-    ensures { IfOk result (HasIdsOf receipts.now) }
-{
-    let mut ids = BTreeSet::new(alloc);
-    for receipt in receipts {
-        ids.insert(receipt.id)?;
-    }
-    Ok(ids)
 }
 
 /// Which segments are complete. One without statuses isn't.

@@ -1,5 +1,5 @@
 // The stages of a live run.
-ghost use Rattle.std.specs.Prelude.{◌≡◌, ◌≤◌, ◌+◌, length, IfOk};
+ghost use Rattle.std.specs.Prelude.{◌≡◌, ◌≤◌, ◌+◌, IfOk};
 ghost use Rattle.sq_pull.specs.declared.numbers.TheConstants.{MAX_PUMPS};
 ghost use Rattle.sq_ranges.specs.Prelude.{OpeningValue, IsOpening};
 ghost use Rattle.sq_node_model.specs.Prelude.{BeganWith, first_began, IsPlaced, IsStageDone, next_began};
@@ -156,7 +156,6 @@ fn go_on<R: Threads + Sync>(
 ) -> Result<ControlFlow<LiveOutcome, Ready>, AllocError>
     requires placed { IsPlaced account.opening gathered }
     requires done { IsStageDone account.opening gathered }
-    requires left { length gathered.left ≡ account.opening.old.parts }
     requires led { moving ≡ leading account.opening (gathered.stage + 1) }
     ensures { IfOk result (GoesOnTo manner.folds account gathered) }
 {
@@ -204,13 +203,10 @@ fn next_ready(
     requires pumps { pumps ≤ MAX_PUMPS }
     requires placed { IsPlaced account.opening gathered }
     requires done { IsStageDone account.opening gathered }
-    requires left { length gathered.left ≡ account.opening.old.parts }
     requires led { moving ≡ leading account.opening (gathered.stage + 1) }
     ensures account { IfOk result (λ ready. ready.account ≡ account) }
     ensures ready { IfOk result (IsReady (next_began account.opening gathered)) }
 {
-    // For the proof alone: the leader is in one of the stages.
-    let _stage = moving.stage();
     match StageRun::next_stage(alloc, &account.opening, gathered, pumps) {
         Ok(run) => Ok(Ready {
             account,

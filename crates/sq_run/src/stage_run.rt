@@ -1,7 +1,7 @@
 // A stage of a run.
-ghost use Rattle.std.specs.Prelude.{◌≡◌, ◌+◌, ◌<◌, ◌≤◌, length, IfOk, IfErr};
+ghost use Rattle.std.specs.Prelude.{◌≡◌, ◌≤◌, IfOk, IfErr};
 ghost use Rattle.sq_schema.specs.Prelude.{TableValue};
-ghost use Rattle.sq_ranges.specs.Prelude.{OpeningValue, IsOpening, stages};
+ghost use Rattle.sq_ranges.specs.Prelude.{OpeningValue, IsOpening};
 ghost use Rattle.sq_pull.specs.declared.numbers.TheConstants.{MAX_PUMPS};
 ghost use Rattle.sq_node_model.specs.Prelude.{BeganWith, first_began, folded_opening};
 ghost use Rattle.sq_driver.specs.Nodes.{AllDriven};
@@ -82,17 +82,15 @@ impl StageRun {
 
     /// The stage after the one of which this was gathered, as [`reopen`] opens it.
     ///
-    /// Where it doesn't have the families of as many partitions, and where there is no memory, what was gathered comes back
-    /// as it was.
+    /// Where it doesn't have the families and the jobs of as many partitions, where there is no such stage, and where there is no
+    /// memory, what was gathered comes back as it was.
     pub fn next_stage(
         alloc: Global,
         opening: &Opening,
         g: Gathered,
         pumps: u32,
     ) -> Result<StageRun, Gathered>
-        requires pumps { pumps ≤ MAX_PUMPS }
-        requires more { g.stage + 1 < stages opening.now.recon }
-        requires left { length g.left ≡ opening.now.old.parts }
+        requires { pumps ≤ MAX_PUMPS }
         ensures run { IfOk result (λ run. (table : TableValue)
             → IsNextStageOf (folded_opening opening.now table) g run.fabric run.nodes run.pumps) }
         ensures returned { IfErr result (λ back. back ≡ g) }

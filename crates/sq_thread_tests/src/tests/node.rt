@@ -3,6 +3,7 @@ use super::run::TestRun;
 use sq_node::Stepped;
 use sq_pull::{PumpTurn, Request};
 use sq_ranges::SegId;
+use sq_schema::Txn;
 use sq_tree::NodeId;
 use std::alloc::Global;
 use std::process::Abort;
@@ -131,6 +132,42 @@ fn jobs_that_find_a_full_queue_are_kept(rt: HostRuntime) -> Result<(), Fail> {
     assert!(rt; run.text_of_receipts(alloc, 0)?.as_str().ends_with(IN_ORDER));
     Ok(())
 }
+
+// Whether these jobs have just these ids, and behind them so many have the id 1.
+fn are_left(jobs: &[Txn], ids: &[u64], behind: usize) -> bool {
+    jobs.len().saturating_sub(ids.len()) == behind
+        && jobs.iter().zip(ids).all(|(job, id)| job.id() == *id)
+        && jobs.iter().skip(ids.len()).all(|job| job.id() == 1)
+}
+
+// No job is left out of what is gathered: of partition 0 those that partition 1 has to post on, and those that fill its queue; of
+// partition 1 the one that waits there, and the one that it didn't take.
+#[test]
+fn all_jobs_left_are_gathered(rt: HostRuntime) -> Result<(), Fail> {
+    let alloc = rt.alloc();
+    let mut run = full_of_jobs(&rt, alloc)?;
+    for line in JOBS_LEFT {
+        run.post(&rt, alloc, line)?;
+    }
+    for _turn in 0..3 {
+        run.turn(&rt, 1)?;
+    }
+    match run.gathered(&rt, alloc)?.left.as_slice() {
+        [first, second] => {
+            assert!(rt; are_left(first, &[2, 4], 4096) && are_left(second, &[3, 5], 0));
+            Ok(())
+        }
+        _ => Err("there are two partitions")?,
+    }
+}
+
+// Jobs to partition 1: it has to post the first and the third on, the second waits for its rows, and the fourth isn't taken.
+const JOBS_LEFT: [&str; 4] = [
+    "txn 1 2 9 get 0 0",
+    "txn 1 3 5 get 0 0",
+    "txn 1 4 9 get 0 0",
+    "txn 1 5 9 get 0 0",
+];
 
 // What goes to a partition that isn't there comes back, and isn't counted.
 #[test]

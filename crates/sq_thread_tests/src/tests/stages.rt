@@ -5,7 +5,7 @@ ghost use Rattle.sq_node.specs.NodeState.{IsNodeOf};
 ghost use Rattle.sq_driver.specs.Pumps.{HasAllSeats};
 
 use super::node::PAIR;
-use super::run::{job, read_opening};
+use super::run::{TestRun, job, read_opening};
 use sq_driver::laws::resumed_workers_can_be_driven;
 use sq_driver::{OpenGate, run_workers};
 use sq_node::{Fabric, Node};
@@ -62,5 +62,28 @@ fn jobs_that_were_left_are_answered(rt: HostRuntime) -> Result<(), Fail> {
         receipts = receipts.saturating_add(node.receipts().len());
     }
     assert_eq!(rt; receipts, 5000);
+    Ok(())
+}
+
+// Three partitions, of which the first gives four root keys to the second, and four to the third in a second stage.
+const STAGED: &str = r#"old {"version":1,"partitions":3,"ranges":[[0,4294967296,0]]}
+new {"version":2,"partitions":3,"ranges":[[0,4,1],[4,8,2],[8,4294967296,0]],"stages":"auto"}
+config 1 64 1
+row 2 0 0 1 -
+row 5 0 0 1 -
+"#;
+
+// Once the workers of the first stage have ended: the rows that move in the second one are where they were.
+const FIRST_STAGE: &str = "at 0 5 0 0.0=1/-
+at 1 2 0 0.0=1/-
+";
+
+// The workers of a stage that isn't the last one end once its segments are complete, long before their turns are over.
+#[test]
+fn the_workers_of_a_first_stage_end(rt: HostRuntime) -> Result<(), Fail> {
+    let alloc = rt.alloc();
+    let mut run = TestRun::opened(alloc, STAGED, 1)?;
+    run.work(&rt, 1_000_000_000_000, &OpenGate);
+    assert!(rt; run.text(&rt, alloc)?.as_str().starts_with(FIRST_STAGE));
     Ok(())
 }

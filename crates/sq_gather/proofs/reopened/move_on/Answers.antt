@@ -14,5 +14,8 @@ returns-clause-run c = λ table o is placed done follows.
     run_moves_on o (folded_opening next table) g c.args.pumps fabric nodes pumps is (rowless_opening next table c.recon-recon.ensures.set_up.opening) placed done follows run.stores run.fabric
     (rowless_run next table 0 g.stores g.receipts c.args.pumps fabric nodes pumps run.run) (run.holds table)
 
+pub returns-clause-reopened : goal.returns-clause-reopened
+returns-clause-reopened c = c.in_ok-fabric.ensures.run
+
 pub returns-clause-pumps : goal.returns-clause-pumps
 returns-clause-pumps c = let run = c.in_ok-fabric.ensures.run in run.each_pump.all

@@ -1,10 +1,21 @@
-use Rattle.std.proofs.Common.{◌+◌, subst}
+use Rattle.std.proofs.Common.{◌≡◌, ◌+◌, ℕ, ap, ◌∙◌, subst, rules}
 use Rattle.sq_node_model.specs.Gathered.{GatheredValue}
 use Rattle.sq_node_model.specs.Folded.{folded_opening}
 use Rattle.sq_node.specs.Opened.{IsReopened}
 use Rattle.sq_node.proofs.NewNodes.{rowless_run}
 use Rattle.sq_gather.proofs.Running.{rowless_opening, run_resumes}
 use Rattle.sq_gather.proofs.reopened.reopen.Goals as goal
+use Rattle.sq_gather.proofs.reopened.reopen.Goals.{In_ok-fabric}
+
+-- the stage that was opened is the next one
+reopened : (c : In_ok-fabric) → IsReopened c.args.opening.now (c.args.g.stage + 1) c.args.g.stores c.args.g.receipts c.args.pumps c.in_ok-fabric.fabric c.in_ok-fabric.nodes.items c.in_ok-fabric.pumps.items
+reopened c =
+    let next : c.in-Some.next ≡ c.g.inside.stage + 1 = search rules in
+    subst (λ (n : ℕ). IsReopened c.args.opening.now n c.args.g.stores c.args.g.receipts c.args.pumps c.in_ok-fabric.fabric c.in_ok-fabric.nodes.items c.in_ok-fabric.pumps.items)
+    (next ∙ ap (λ (g : GatheredValue). g.stage + 1) c.g.view_is) c.in_ok-fabric.ensures.run
+
+pub returns-clause-reopened : goal.returns-clause-reopened
+returns-clause-reopened c = reopened (goal.at.returns-clause-reopened c).In_ok-fabric
 
 pub returns-clause-run : goal.returns-clause-run
 returns-clause-run c = λ table placed done.
@@ -13,11 +24,9 @@ returns-clause-run c = λ table placed done.
     let fabric = c.in_ok-fabric.fabric in
     let nodes = c.in_ok-fabric.nodes.items in
     let pumps = c.in_ok-fabric.pumps.items in
-    let resumed = c.in_ok-fabric.ensures in
-    let run : IsReopened o (g.stage + 1) g.stores g.receipts c.args.pumps fabric nodes pumps
-    = subst (λ (at : GatheredValue). IsReopened o (at.stage + 1) g.stores g.receipts c.args.pumps fabric nodes pumps) c.g.view_is resumed.run in
-    run_resumes (folded_opening o table) g c.args.pumps fabric nodes pumps (rowless_opening o table c.recon.ensures.set_up.opening) placed done resumed.fabric
-    (rowless_run o table (g.stage + 1) g.stores g.receipts c.args.pumps fabric nodes pumps run) (resumed.holds table)
+    let run = reopened (goal.at.returns-clause-run c).In_ok-fabric in
+    run_resumes (folded_opening o table) g c.args.pumps fabric nodes pumps (rowless_opening o table c.recon-recon.ensures.set_up.opening) placed done c.in_ok-fabric.ensures.fabric
+    (rowless_run o table (g.stage + 1) g.stores g.receipts c.args.pumps fabric nodes pumps run) (c.in_ok-fabric.ensures.holds table)
 
 pub returns-clause-pumps : goal.returns-clause-pumps
 returns-clause-pumps c = let run = c.in_ok-fabric.ensures.run in run.each_pump.all

@@ -1,10 +1,8 @@
 use Rattle.std.proofs.Common.{subst}
 use Rattle.sq_schema.specs.Table.{TableValue}
-use Rattle.sq_node_model.specs.BeganWith.{BeganWith, CanBegin}
 use Rattle.sq_node_model.specs.Gathered.{GatheredValue}
 use Rattle.sq_node_model.specs.Folded.{folded_opening}
-use Rattle.sq_node.specs.FabricValue.{HasBegun}
-use Rattle.sq_node.specs.Opened.{IsReopened, AllOpenWith, AllHoldUnder, AllHoldAsBegun}
+use Rattle.sq_node.specs.Opened.{IsReopened, AllHoldAsBegun}
 use Rattle.sq_gather.proofs.AllOf.{all_of_new}
 use Rattle.sq_gather.proofs.reopened.resume.Goals as goal
 

@@ -8,8 +8,8 @@ use Rattle.sq_live.proofs.stages.go_on.Goals as goal
 pub next_ready-requires : goal.next_ready-requires
 next_ready-requires g c =
     let continues = subst (Continues c.args.manner.folds c.args.account c.args.gathered) c.in-Continue.is c.in_ok-account.ensures in
-    let goes = goes_on_with c.args.account c.args.gathered c.in-Continue.account c.in-Continue.gathered c.args.manner.folds continues c.requires.placed c.requires.done c.requires.left in
-    record { pumps = search rules; placed = goes.placed; done = goes.done; left = goes.all_left; led = goes.led c.args.moving c.requires.led }
+    let goes = goes_on_with c.args.account c.args.gathered c.in-Continue.account c.in-Continue.gathered c.args.manner.folds continues c.requires.placed c.requires.done in
+    record { pumps = search rules; placed = goes.placed; done = goes.done; led = goes.led c.args.moving c.requires.led }
 
 pub returns-in_ok-ready-in-Continue : goal.returns-in_ok-ready-in-Continue
 returns-in_ok-ready-in-Continue g c =

@@ -67,10 +67,7 @@ go_on-requires g c =
         told.ran.placed,
         (
           done_before account moving c.requires.ready.0 gathered marks told c.in-Next.moving led,
-          (
-            told.ran.all_left,
-            leads_next account moving c.requires.ready.0 gathered marks told c.in-Next.moving led,
-          ),
+          leads_next account moving c.requires.ready.0 gathered marks told c.in-Next.moving led,
         ),
       ),
     )

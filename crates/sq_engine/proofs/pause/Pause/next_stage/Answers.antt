@@ -1,15 +1,8 @@
 use Rattle.std.proofs.Common.{sym, subst}
 use Rattle.sq_engine.specs.Values.{PauseValue}
 use Rattle.sq_engine.specs.History.{HasMoreStages, HasDoneStage, PausesAfter}
-use Rattle.sq_engine.proofs.Epochs.{all_left, stage_runs}
+use Rattle.sq_engine.proofs.Epochs.{stage_runs}
 use Rattle.sq_engine.proofs.pause.Pause.next_stage.Goals as goal
-
-pub reopen-requires-clause-left : goal.reopen-requires-clause-left
-reopen-requires-clause-left c =
-    let inside = c.self.inside in
-    let was = c.self.invariant in
-    let here : PauseValue = record { opening = inside.opening; jobs = inside.jobs; gathered = inside.gathered } in
-    all_left was.0 was.1 here was.2
 
 pub invariant_of-result : goal.invariant_of-result
 invariant_of-result c =
