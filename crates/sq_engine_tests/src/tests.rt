@@ -1,2 +1,4 @@
-// Engines that serve a client with jobs at random.
+// Engines that have jobs at random, what their client says where an answer is lost, and the gate of an epoch.
+mod gate;
+mod hearing;
 mod serving;

@@ -8,20 +8,32 @@ pub enum Failure {
     Memory,
     #[error("a job is refused for another reason than a full queue")]
     NotPosted,
+    #[error("another number of jobs were posted than there was room for")]
+    WrongPosted,
+    #[error("another number of jobs were answered than could be")]
+    WrongAnswered,
     #[error("an answer is of no job")]
     NoSuchJob,
+    #[error("an answer is of another root key than its job, or tells no number")]
+    WrongAnswer,
     #[error("a job was answered twice")]
     AnsweredTwice,
-    #[error("a root key's number is wrong")]
+    #[error("a partition told the numbers of a root key out of order")]
+    OutOfOrder,
+    #[error("a root key's numbers are not 1, 2, 3 and so on")]
     WrongNumber,
+    #[error("a job isn't answered")]
+    Unanswered,
     #[error("an answer isn't given")]
     NotGiven,
+    #[error("a partition has no thread")]
+    NoThread,
     #[error("an engine doesn't go to a plan")]
     NotMoved,
+    #[error("a move has another number of stages than its plan asks for")]
+    WrongStages,
     #[error("no page is taken")]
     NotTaken,
     #[error("a page is unsound")]
     Unsound,
-    #[error("jobs or stages don't come to their end")]
-    Unfinished,
 }

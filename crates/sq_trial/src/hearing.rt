@@ -1,38 +1,32 @@
 // What a client of an engine hears: each job is answered once, and each root key's numbers are 1, 2, 3 and so on.
 use crate::failure::Failure;
-use sq_node::Receipt;
-use sq_schema::{OpAnswer, Reply};
+use crate::heard::Heard;
+use crate::plans::{PARTS, ROOTS};
 use std::alloc::Global;
-use std::collections::BTreeSet;
 
 /// What was heard of jobs, each of which adds 1 to the number of its root key, which is 0 at first. Their ids are 0, 1, 2 and so
 /// on.
 #[derive(Drop)]
-pub(crate) struct Hearing {
-    // Of each id whether its job was answered, and how many were.
-    answered: Vec<bool>,
+pub struct Hearing {
+    // Of each id the root key of its job, and the number that it was answered, or 0 before that.
+    asked: Vec<(u64, u64)>,
+    // How many jobs were answered.
     count: u64,
-    // Each root key with each number that it was answered.
-    numbers: BTreeSet<(u64, u64)>,
-    // The greatest number of each root key.
-    greatest: Vec<u64>,
+    // By partition and root key the latest number that was told.
+    latest: Vec<u64>,
 }
 
 impl Hearing {
-    /// Of this many jobs on this many root keys, of which none was answered.
-    pub(crate) fn new(alloc: Global, jobs: usize, roots: usize) -> Result<Hearing, Failure> {
-        let Ok(answered) = vec![in alloc; false; jobs] else {
-            return Err(Failure::Memory);
-        };
-        let Ok(greatest) = vec![in alloc; 0; roots] else {
-            return Err(Failure::Memory);
-        };
-        Ok(Hearing {
-            answered,
-            count: 0,
-            numbers: BTreeSet::new(alloc),
-            greatest,
-        })
+    /// Of no jobs.
+    pub fn new(alloc: Global) -> Result<Hearing, Failure> {
+        match vec![in alloc; 0; PARTS as usize * ROOTS as usize] {
+            Ok(latest) => Ok(Hearing {
+                asked: Vec::new(alloc),
+                count: 0,
+                latest,
+            }),
+            Err(_) => Err(Failure::Memory),
+        }
     }
 
     /// How many jobs were answered.
@@ -40,62 +34,70 @@ impl Hearing {
         self.count
     }
 
-    /// Hears a receipt. Its job wasn't answered before, nor was this number of its root key.
-    pub(crate) fn hear(&mut self, receipt: &Receipt) -> Result<(), Failure> {
-        self.hear_id(receipt.id)?;
-        let number = number_of(receipt).ok_or(Failure::WrongNumber)?;
-        self.hear_number(receipt.root.number(), number)
+    /// One more job is asked for, on this root key.
+    pub fn ask(&mut self, root: u64) -> Result<(), Failure> {
+        match self.asked.push((root, 0)) {
+            Ok(()) => Ok(()),
+            Err(_) => Err(Failure::Memory),
+        }
     }
 
-    // Hears that the job of an id was answered.
-    fn hear_id(&mut self, id: u64) -> Result<(), Failure> {
-        let answered = self
-            .answered
-            .get_mut(id as usize)
-            .ok_or(Failure::NoSuchJob)?;
-        if *answered {
+    /// Hears what a partition tells: its numbers of a root key come in order.
+    pub fn hear_from(&mut self, part: u8, heard: Heard) -> Result<(), Failure> {
+        if heard.root >= ROOTS {
+            return Err(Failure::WrongAnswer);
+        }
+        let place = u64::from(part) * ROOTS + heard.root;
+        let Some(latest) = self.latest.get_mut(place as usize) else {
+            return Err(Failure::WrongAnswer);
+        };
+        if heard.number <= *latest {
+            return Err(Failure::OutOfOrder);
+        }
+        *latest = heard.number;
+        self.hear(heard)
+    }
+
+    /// Hears what an answer tells. Its job wasn't answered before.
+    pub(crate) fn hear(&mut self, heard: Heard) -> Result<(), Failure> {
+        let Some(asked) = self.asked.get_mut(heard.id as usize) else {
+            return Err(Failure::NoSuchJob);
+        };
+        if asked.1 > 0 {
             return Err(Failure::AnsweredTwice);
         }
-        *answered = true;
+        if asked.0 != heard.root || heard.number == 0 {
+            return Err(Failure::WrongAnswer);
+        }
+        asked.1 = heard.number;
         self.count = self.count.saturating_add(1);
         Ok(())
     }
 
-    // Hears the number of a root key.
-    fn hear_number(&mut self, root: u64, number: u64) -> Result<(), Failure> {
-        let greatest = self
-            .greatest
-            .get_mut(root as usize)
-            .ok_or(Failure::WrongNumber)?;
-        *greatest = number.max(*greatest);
-        let Ok(is_new) = self.numbers.insert((root, number)) else {
-            return Err(Failure::Memory);
-        };
-        if is_new && number > 0 {
-            Ok(())
-        } else {
-            Err(Failure::WrongNumber)
+    /// Whether each job was answered, and the numbers of each root key are 1, 2, 3 and so on.
+    pub fn judge(self) -> Result<(), Failure> {
+        let Hearing {
+            mut asked,
+            count,
+            latest: _,
+        } = self;
+        if count < asked.len() as u64 {
+            return Err(Failure::Unanswered);
         }
-    }
-
-    /// Whether each job was answered, and the numbers of each root key are 1, 2, 3 and so on: the greatest ones come to as many as
-    /// there are numbers.
-    pub(crate) fn is_complete(&self) -> bool {
-        let mut numbers = 0u64;
-        for greatest in &self.greatest {
-            numbers = numbers.saturating_add(*greatest);
-        }
-        numbers == self.numbers.len() as u64 && self.answered.iter().all(|answered| *answered)
+        asked.sort_unstable();
+        judge_numbers(&asked)
     }
 }
 
-// The number that a receipt tells.
-fn number_of(receipt: &Receipt) -> Option<u64> {
-    match &receipt.reply {
-        Reply::Committed(answers) => match answers.as_slice() {
-            [OpAnswer::Number(number)] => u64::try_from(*number).ok(),
-            _ => None,
-        },
-        Reply::Aborted { .. } => None,
+// Whether the numbers of each root key are 1, 2, 3 and so on, of pairs in order.
+fn judge_numbers(numbers: &[(u64, u64)]) -> Result<(), Failure> {
+    let mut last = (0u64, 0u64);
+    for (root, number) in numbers {
+        let before: u64 = if last.0 == *root { last.1 } else { 0 };
+        if before.checked_add(1) != Some(*number) {
+            return Err(Failure::WrongNumber);
+        }
+        last = (*root, *number);
     }
+    Ok(())
 }

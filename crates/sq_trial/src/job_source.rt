@@ -1,33 +1,31 @@
 // Jobs at random.
 use crate::dice::Dice;
 use crate::failure::Failure;
-use crate::plans::{PARTS, schema};
+use crate::plans::schema;
+use crate::workload::Workload;
 use sq_audit::Job;
 use sq_plan::PartId;
 use sq_schema::{Op, RowKey, Schema, Txn};
 use std::alloc::Global;
 
-/// Jobs with the ids 0, 1, 2 and so on. Each goes to any partition, and adds 1 to the number of any of the first root keys.
+/// The jobs of a workload, with the ids 0, 1, 2 and so on.
 #[derive(Drop)]
 pub(crate) struct JobSource {
     schema: Schema,
     dice: Dice,
-    // How many root keys there are. With 0 of them there is one.
-    roots: u64,
-    // How many jobs were made, and how many are made at most.
+    workload: Workload,
+    // How many jobs were made.
     made: u64,
-    most: u64,
 }
 
 impl JobSource {
-    /// So many jobs on the first root keys.
-    pub(crate) fn new(seed: u64, most: u64, roots: u64) -> JobSource {
+    /// Of which none was made.
+    pub(crate) fn new(workload: Workload) -> JobSource {
         JobSource {
             schema: schema(),
-            dice: Dice::new(seed),
-            roots,
+            dice: Dice::new(workload.seed),
+            workload,
             made: 0,
-            most,
         }
     }
 
@@ -36,16 +34,22 @@ impl JobSource {
         self.made
     }
 
-    /// The next job, if there is one.
-    pub(crate) fn make(&mut self, alloc: Global) -> Result<Option<Job>, Failure> {
-        if self.made >= self.most {
-            return Ok(None);
+    /// Whether all jobs were made.
+    pub(crate) fn is_spent(&self) -> bool {
+        self.made >= self.workload.jobs
+    }
+
+    /// The next job, and its root key.
+    pub(crate) fn make(&mut self, alloc: Global) -> Result<(Job, u64), Failure> {
+        let part = PartId::new(self.dice.below(u64::from(self.workload.parts.max(1))) as u8);
+        let root = self.dice.below(self.workload.roots.max(1));
+        match add_one(alloc, self.schema, self.made, root) {
+            Some(txn) => {
+                self.made = self.made.saturating_add(1);
+                Ok((Job { part, txn }, root))
+            }
+            None => Err(Failure::Memory),
         }
-        let part = PartId::new((self.dice.below(u64::from(PARTS))) as u8);
-        let root = self.dice.below(self.roots.max(1));
-        let txn = add_one(alloc, self.schema, self.made, root).ok_or(Failure::Memory)?;
-        self.made += 1;
-        Ok(Some(Job { part, txn }))
     }
 }
 

@@ -1,17 +1,26 @@
-//! A client of an engine that posts jobs at random and judges all that it hears, and what it does with its engine: moves in one
-//! stage and in several, and pages.
+//! A client of an engine that posts jobs at random and judges all that it hears, and lists of what is done with its engine: it runs,
+//! it serves the client, it goes to plans in one stage and in several, and pages are taken of it.
 #![tactic(auto)]
 
+mod calls;
+mod deed;
 mod dice;
 mod failure;
+mod heard;
 mod hearing;
 mod job_source;
 mod plans;
 mod random_client;
+mod scripts;
 mod trial;
+mod trying;
+mod workload;
 
-pub use dice::Dice;
+pub use deed::{Deed, PlanChoice};
 pub use failure::Failure;
-pub use plans::{GATHERED, PARTS, ROOTS, SPREAD, any_plan, opening_at, read_plan};
-pub use random_client::RandomClient;
-pub use trial::{close, go_to, open, serve_stages, serve_until, take_page};
+pub use heard::Heard;
+pub use hearing::Hearing;
+pub use plans::{PARTS, ROOTS};
+pub use scripts::{any_epochs, any_moves, rounds};
+pub use trying::try_engine;
+pub use workload::Workload;

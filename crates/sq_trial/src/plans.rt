@@ -1,4 +1,7 @@
 // Plans between which root keys move, and what an engine opens with.
+ghost use Rattle.std.specs.Prelude.{◌<◌};
+
+use crate::deed::PlanChoice;
 use crate::dice::Dice;
 use crate::failure::Failure;
 use sq_plan::Plan;
@@ -14,13 +17,17 @@ pub const PARTS: u8 = 4;
 /// How many root keys there are.
 pub const ROOTS: u64 = 30;
 
-/// The root keys stand at all partitions. Rows go there in stages.
-pub const SPREAD: &[u8] = br#"{"version":2,"partitions":4,"stages":"auto",
+const SPREAD: &[u8] = br#"{"version":2,"partitions":4,"stages":"auto",
 "ranges":[[0,8,0],[8,16,1],[16,24,2],[24,4294967296,3]]}"#;
 
-/// All root keys that have rows stand at the first partition.
-pub const GATHERED: &[u8] =
-    br#"{"version":1,"partitions":4,"ranges":[[0,30,0],[30,4294967296,3]]}"#;
+const GATHERED: &[u8] = br#"{"version":1,"partitions":4,"ranges":[[0,30,0],[30,4294967296,3]]}"#;
+
+// How a plan with a range for every five root keys begins.
+const IN_ONE_STAGE: &[u8] = br#"{"version":2,"partitions":4,"stages":"one","ranges":["#;
+
+const IN_STAGES: &[u8] = br#"{"version":2,"partitions":4,"stages":"auto","ranges":["#;
+
+const RANGE_ROOTS: u64 = 5;
 
 // How many root keys a leaf covers, how many bytes a chunk holds, and how many chunks the queue of a link.
 const CONFIG: Config = Config {
@@ -29,23 +36,60 @@ const CONFIG: Config = Config {
     capacity: 1,
 };
 
-/// The plan of a text, which is one.
-pub fn read_plan(alloc: Global, text: &[u8]) -> Result<Plan, Failure> {
+/// The schema: one table.
+pub(crate) fn schema() -> Schema {
+    Schema::new(1).unwrap()
+}
+
+/// The plan that is chosen.
+pub(crate) fn plan_of(alloc: Global, choice: PlanChoice) -> Result<Plan, Failure> {
+    match choice {
+        PlanChoice::Spread => read_plan(alloc, SPREAD),
+        PlanChoice::Gathered => read_plan(alloc, GATHERED),
+        PlanChoice::Any(seed) => any_plan(alloc, &mut Dice::new(seed)),
+    }
+}
+
+// The plan of a text, which is one.
+fn read_plan(alloc: Global, text: &[u8]) -> Result<Plan, Failure> {
     match Plan::read(alloc, text) {
         Ok(plan) => Ok(plan),
         Err(_) => Err(Failure::Memory),
     }
 }
 
-/// The schema: one table.
-pub(crate) fn schema() -> Schema {
-    Schema::new(1).unwrap()
+fn any_plan(alloc: Global, dice: &mut Dice) -> Result<Plan, Failure> {
+    let mut text = Vec::new(alloc);
+    match write_plan(&mut text, dice) {
+        Ok(()) => read_plan(alloc, &text),
+        Err(_) => Err(Failure::Memory),
+    }
+}
+
+// Writes any plan.
+fn write_plan(text: &mut Vec<u8>, dice: &mut Dice) -> io::Result<()> {
+    text.write_all(if dice.below(2) == 0 {
+        IN_ONE_STAGE
+    } else {
+        IN_STAGES
+    })?;
+    for range in 0..ROOTS / RANGE_ROOTS {
+        write_range(text, range * RANGE_ROOTS, dice.below(u64::from(PARTS)))?;
+    }
+    text.write_all(b"[30,4294967296,3]]}")
+}
+
+// Writes the range of five root keys that begins there.
+fn write_range(text: &mut Vec<u8>, lo: u64, part: u64) -> io::Result<()>
+    requires { lo < 30 }
+{
+    write!(text, "[{lo},{},{part}],", lo + RANGE_ROOTS)
 }
 
 /// Nothing moves at this plan, and each root key has the number 0.
-pub fn opening_at(alloc: Global, plan: &[u8]) -> Result<Opening, Failure> {
-    let old = read_plan(alloc, plan)?;
-    let new = read_plan(alloc, plan)?;
+pub(crate) fn opening_at(alloc: Global, choice: PlanChoice) -> Result<Opening, Failure> {
+    let old = plan_of(alloc, choice)?;
+    let new = plan_of(alloc, choice)?;
     let Ok(rows) = rows(alloc) else {
         return Err(Failure::Memory);
     };
@@ -68,27 +112,4 @@ fn rows(alloc: Global) -> Result<Vec<GivenRow>, AllocError> {
         })?;
     }
     Ok(rows)
-}
-
-/// Any plan: six ranges of five root keys, each at any partition, in one stage or in several.
-pub fn any_plan(alloc: Global, dice: &mut Dice) -> Result<Plan, Failure> {
-    let mut text = Vec::new(alloc);
-    match write_plan(&mut text, dice) {
-        Ok(()) => read_plan(alloc, &text),
-        Err(_) => Err(Failure::Memory),
-    }
-}
-
-// Writes it.
-fn write_plan(text: &mut Vec<u8>, dice: &mut Dice) -> io::Result<()> {
-    let stages = if dice.below(2) == 0 { "one" } else { "auto" };
-    write!(
-        text,
-        r#"{{"version":2,"partitions":4,"stages":"{stages}","ranges":["#
-    )?;
-    for (lo, hi) in [(0, 5), (5, 10), (10, 15), (15, 20), (20, 25), (25, 30)] {
-        let part = dice.below(u64::from(PARTS));
-        write!(text, "[{lo},{hi},{part}],")?;
-    }
-    write!(text, "[30,4294967296,3]]}}")
 }

@@ -1,7 +1,9 @@
 // A client of an engine.
 use crate::failure::Failure;
+use crate::heard::heard_in;
 use crate::hearing::Hearing;
 use crate::job_source::JobSource;
+use crate::workload::Workload;
 use sq_audit::Job;
 use sq_engine::{Client, Command, Engine, PostFault, StageProgress};
 use sq_node::Receipt;
@@ -9,13 +11,16 @@ use sq_plan::PartId;
 use std::alloc::Global;
 use std::sync::Wait;
 
-// How many of its jobs may wait for an answer while it posts.
+// How many of its jobs may wait for an answer while it is served.
 const AHEAD: u64 = 1_000;
 
-/// A client that posts jobs at random, and judges what it hears: each job is answered once, and each root key's numbers are 1, 2,
-/// 3 and so on.
+// How often it is asked for a job, one time after another in which it has none and no answer comes, before it takes what is missing
+// for lost.
+const PATIENCE: u64 = 100_000;
+
+/// A client that posts jobs at random, and judges what it hears.
 #[derive(Drop)]
-pub struct RandomClient {
+pub(crate) struct RandomClient {
     alloc: Global,
     source: JobSource,
     hearing: Hearing,
@@ -23,32 +28,46 @@ pub struct RandomClient {
     again: Option<Job>,
     // How many answers it waits for. Then it ends an epoch.
     awaited: u64,
+    // How often it was asked in vain since the last answer came.
+    asked_in_vain: u64,
+    // Whether it was served, so that it heard what a page has.
+    was_served: bool,
     // What was wrong first.
     failure: Option<Failure>,
 }
 
 impl RandomClient {
-    /// One that posts so many jobs on the first root keys.
-    pub fn new(alloc: Global, seed: u64, jobs: u64, roots: u64) -> Result<RandomClient, Failure> {
-        let hearing = Hearing::new(alloc, jobs as usize, roots as usize)?;
+    /// One with these jobs.
+    pub(crate) fn new(alloc: Global, workload: Workload) -> Result<RandomClient, Failure> {
+        let hearing = Hearing::new(alloc)?;
         Ok(RandomClient {
             alloc,
-            source: JobSource::new(seed, jobs, roots),
+            source: JobSource::new(workload),
             hearing,
             again: None,
             awaited: 0,
+            asked_in_vain: 0,
+            was_served: false,
             failure: None,
         })
     }
 
+    /// How many of its jobs were posted.
+    pub(crate) fn posted(&self) -> u64 {
+        self.source
+            .made()
+            .saturating_sub(u64::from(self.again.is_some()))
+    }
+
     /// How many of its jobs were answered.
-    pub fn answered(&self) -> u64 {
+    pub(crate) fn answered(&self) -> u64 {
         self.hearing.count()
     }
 
     /// From now on it ends an epoch once so many of its jobs are answered.
     pub(crate) fn wait_for(&mut self, answers: u64) {
         self.awaited = answers;
+        self.asked_in_vain = 0;
     }
 
     /// Whether as many of its jobs are answered as it waits for.
@@ -56,21 +75,21 @@ impl RandomClient {
         self.hearing.count() >= self.awaited
     }
 
-    /// What was wrong, if something was.
-    pub(crate) fn judge(&self) -> Result<(), Failure> {
+    /// What was wrong so far, if something was.
+    pub(crate) fn judge_so_far(&self) -> Result<(), Failure> {
         match self.failure {
             Some(failure) => Err(failure),
             None => Ok(()),
         }
     }
 
-    /// Whether nothing was wrong: each job was answered once, with the numbers 1, 2, 3 and so on of each root key.
-    pub fn is_satisfied(&self) -> bool {
-        self.failure.is_none() && self.hearing.is_complete()
+    /// Whether nothing was wrong, and all that was asked for is answered, where its engine came to this.
+    pub(crate) fn judge(self, outcome: Result<(), Failure>) -> Result<(), Failure> {
+        outcome.and(self.judge_so_far()).and(self.hearing.judge())
     }
 
-    /// Posts so many of its jobs to an engine, as far as the queues have room for them.
-    pub fn post<R: Wait>(
+    /// Posts so many of its jobs to an engine, as far as there are some and the queues have room for them.
+    pub(crate) fn post<R: Wait>(
         &mut self,
         rt: &R,
         engine: &mut Engine,
@@ -87,20 +106,35 @@ impl RandomClient {
         Ok(())
     }
 
-    /// Hears these answers.
-    pub fn hear(&mut self, receipts: &[Receipt]) -> Result<(), Failure> {
+    /// Hears the receipts of a page, unless it was served.
+    pub(crate) fn hear_page(&mut self, receipts: &[Receipt]) -> Result<(), Failure> {
+        if self.was_served {
+            return Ok(());
+        }
         for receipt in receipts {
-            self.hearing.hear(receipt)?;
+            self.hearing.hear(heard_in(receipt)?)?;
         }
         Ok(())
     }
 
+    // Hears an answer of a partition.
+    fn hear(&mut self, part: PartId, receipt: &Receipt) -> Result<(), Failure> {
+        self.was_served = true;
+        self.asked_in_vain = 0;
+        self.hearing.hear_from(part.number(), heard_in(receipt)?)
+    }
+
     // The job that came back, or else the next one, if there is one.
     fn next_job(&mut self) -> Result<Option<Job>, Failure> {
-        match self.again.take() {
-            Some(job) => Ok(Some(job)),
-            None => self.source.make(self.alloc),
+        if let Some(job) = self.again.take() {
+            return Ok(Some(job));
         }
+        if self.source.is_spent() {
+            return Ok(None);
+        }
+        let (job, root) = self.source.make(self.alloc)?;
+        self.hearing.ask(root)?;
+        Ok(Some(job))
     }
 
     // Keeps a job that came back for want of room.
@@ -112,14 +146,35 @@ impl RandomClient {
         Ok(())
     }
 
-    // The next job, if fewer wait for an answer than may.
-    fn near_job(&mut self) -> Result<Option<Job>, Failure> {
-        if self.source.made() >= self.hearing.count().saturating_add(AHEAD)
-            && self.again.is_none()
-        {
-            return Ok(None);
+    // Whether as many jobs wait for an answer as may.
+    fn is_far_ahead(&self) -> bool {
+        self.again.is_none() && self.source.made() >= self.hearing.count().saturating_add(AHEAD)
+    }
+
+    // What it wants next, where nothing was wrong.
+    fn command(&mut self) -> Result<Command, Failure> {
+        let job = if self.is_far_ahead() {
+            None
+        } else {
+            self.next_job()?
+        };
+        match job {
+            Some(job) => Ok(Command::Post(job)),
+            None => {
+                self.wait_longer()?;
+                Ok(Command::Rest)
+            }
         }
-        self.next_job()
+    }
+
+    // It is asked in vain once more.
+    fn wait_longer(&mut self) -> Result<(), Failure> {
+        self.asked_in_vain = self.asked_in_vain.saturating_add(1);
+        if self.asked_in_vain < PATIENCE {
+            Ok(())
+        } else {
+            Err(Failure::Unanswered)
+        }
     }
 
     // Keeps in mind what was wrong first.
@@ -139,9 +194,8 @@ impl Client for RandomClient {
         if self.failure.is_some() || self.has_heard_enough() {
             return Command::End;
         }
-        match self.near_job() {
-            Ok(Some(job)) => Command::Post(job),
-            Ok(None) => Command::Rest,
+        match self.command() {
+            Ok(command) => command,
             Err(failure) => {
                 self.note(Err(failure));
                 Command::End
@@ -149,8 +203,8 @@ impl Client for RandomClient {
         }
     }
 
-    fn take(&mut self, _part: PartId, receipt: Receipt) {
-        let outcome = self.hearing.hear(&receipt);
+    fn take(&mut self, part: PartId, receipt: Receipt) {
+        let outcome = self.hear(part, &receipt);
         self.note(outcome);
     }
 

@@ -1,22 +1,8 @@
-// What a client does with its engine.
-ghost use Rattle.sq_audit.specs.Answers.{IdsDiffer};
-
+// What is done with an engine, one deed after another. The engine may be of any type, so that no function here has a large one at
+// hand.
+use crate::deed::{Deed, EngineCall};
 use crate::failure::Failure;
 use crate::random_client::RandomClient;
-use sq_audit::Verdict;
-use sq_engine::{Closed, Engine, EngineServed, RestPage};
-use sq_page::audit_page;
-use sq_plan::Plan;
-use sq_ranges::{Opening, OpeningFault};
-use std::alloc::Global;
-use std::sync::Wait;
-use std::thread::Threads;
-
-// How many pumps claim in the background.
-const PUMPS: u32 = 2;
-
-// More turns than any worker takes.
-const TURNS: u64 = 1_000_000_000_000;
 
 // More epochs than a client is served at a time.
 const EPOCHS: u64 = 100_000;
@@ -24,185 +10,213 @@ const EPOCHS: u64 = 100_000;
 // How many jobs are posted as a stage begins.
 const STAGE_JOBS: u64 = 10;
 
-/// The engine of an opening.
-pub fn open<R: Threads + Sync>(rt: &R, alloc: Global, opening: Opening) -> Result<Engine, Failure> {
-    match Engine::open(rt, alloc, opening, PUMPS) {
-        Ok(engine) => Ok(engine),
-        Err(_) => Err(Failure::Memory),
-    }
+/// How an engine rests.
+#[derive(Clone, Copy, Debug, PartialEq, Eq)]
+pub(crate) enum Rest {
+    /// Rows move.
+    Moving,
+    /// Nothing moves.
+    AtRest,
+    /// Nothing moves, and a page should be taken.
+    LongLog,
 }
 
-/// Goes to a plan from rest.
-pub fn go_to<R: Wait>(
-    rt: &R,
-    alloc: Global,
-    engine: Engine,
-    plan: Plan,
-) -> Result<Engine, Failure> {
-    match engine.move_to(rt, alloc, plan) {
-        Ok(engine) => Ok(engine),
-        Err(_) => Err(Failure::NotMoved),
-    }
+/// An engine that is tried, and how it rests.
+#[derive(Drop)]
+pub(crate) struct Tried<E> {
+    pub(crate) engine: E,
+    pub(crate) rest: Rest,
 }
 
-// Serves a client for an epoch, if there is memory for it.
-fn serve_once<R: Threads + Wait + Sync>(
-    rt: &R,
-    alloc: Global,
-    engine: Engine,
+/// Does one deed after another with an engine, whose calls are made so.
+pub(crate) fn do_deeds<E, F>(
+    make: &F,
+    tried: Tried<E>,
     client: &mut RandomClient,
-) -> Option<EngineServed> {
-    engine.serve(rt, alloc, TURNS, client).ok()
+    deeds: &[Deed],
+) -> Result<Tried<E>, Failure>
+where
+    E: Drop,
+    F: Fn(E, &mut RandomClient, EngineCall) -> Result<Tried<E>, Failure>,
+    requires { F.IsAlwaysCallable make.now }
+{
+    let mut tried = tried;
+    for deed in deeds {
+        tried = do_deed(make, tried, client, *deed)?;
+    }
+    Ok(tried)
 }
 
-// The same. Each answer that was written is given.
-fn serve<R: Threads + Wait + Sync>(
-    rt: &R,
-    alloc: Global,
-    engine: Engine,
+// Does a deed.
+fn do_deed<E, F>(
+    make: &F,
+    tried: Tried<E>,
     client: &mut RandomClient,
-) -> Result<Engine, Failure> {
-    let EngineServed {
-        engine,
-        is_whole,
-        ..
-    } = serve_once(rt, alloc, engine, client).ok_or(Failure::Memory)?;
-    if is_whole {
-        Ok(engine)
-    } else {
-        Err(Failure::NotGiven)
+    deed: Deed,
+) -> Result<Tried<E>, Failure>
+where
+    E: Drop,
+    F: Fn(E, &mut RandomClient, EngineCall) -> Result<Tried<E>, Failure>,
+    requires { F.IsAlwaysCallable make.now }
+{
+    match deed {
+        Deed::GoTo(choice) => call_at_rest(make, tried, client, EngineCall::GoTo(choice)),
+        Deed::TakePage => call_at_rest(make, tried, client, EngineCall::TakePage),
+        Deed::Post(count) => make(tried.engine, client, EngineCall::Post(count)),
+        Deed::Run(turns) => make(tried.engine, client, EngineCall::Run(turns)),
+        Deed::ServeUntil(answers) => serve_until(make, tried, client, answers),
+        Deed::ServeStages(wanted) => serve_stages(make, tried, client, wanted),
+        Deed::RunToEnd => run_to_end(make, tried, client),
+        Deed::HasPosted(count) => {
+            check(client.posted() == count, Failure::WrongPosted)?;
+            Ok(tried)
+        }
+        Deed::HasAnswered(count) => {
+            check(client.answered() == count, Failure::WrongAnswered)?;
+            Ok(tried)
+        }
     }
 }
 
-/// Serves a client until it has heard so many answers. At rest a page is taken where the engine wants one.
-pub fn serve_until<R: Threads + Wait + Sync>(
-    rt: &R,
-    alloc: Global,
-    engine: Engine,
+// What has to be so, or else what is wrong.
+fn check(is_so: bool, failure: Failure) -> Result<(), Failure> {
+    if is_so { Ok(()) } else { Err(failure) }
+}
+
+// Makes a call where the engine is at rest.
+fn call_at_rest<E, F>(
+    make: &F,
+    tried: Tried<E>,
+    client: &mut RandomClient,
+    call: EngineCall,
+) -> Result<Tried<E>, Failure>
+where
+    E: Drop,
+    F: Fn(E, &mut RandomClient, EngineCall) -> Result<Tried<E>, Failure>,
+    requires { F.IsAlwaysCallable make.now }
+{
+    match tried.rest {
+        Rest::Moving => Ok(tried),
+        Rest::AtRest | Rest::LongLog => make(tried.engine, client, call),
+    }
+}
+
+// Serves a client until so many of its jobs are answered.
+fn serve_until<E, F>(
+    make: &F,
+    tried: Tried<E>,
     client: &mut RandomClient,
     answers: u64,
-) -> Result<Engine, Failure> {
+) -> Result<Tried<E>, Failure>
+where
+    E: Drop,
+    F: Fn(E, &mut RandomClient, EngineCall) -> Result<Tried<E>, Failure>,
+    requires { F.IsAlwaysCallable make.now }
+{
     client.wait_for(answers);
-    let mut engine = engine;
+    let mut tried = tried;
     for _epoch in 0..EPOCHS {
         if client.has_heard_enough() {
             break;
         }
-        engine = serve_and_make_room(rt, alloc, engine, client)?;
+        tried = serve(make, tried, client)?;
     }
-    Ok(engine)
+    Ok(tried)
 }
 
 // Serves a client for an epoch, and takes a page where the engine wants one.
-fn serve_and_make_room<R: Threads + Wait + Sync>(
-    rt: &R,
-    alloc: Global,
-    engine: Engine,
-    client: &mut RandomClient,
-) -> Result<Engine, Failure> {
-    let engine = serve(rt, alloc, engine, client)?;
-    client.judge()?;
-    make_room(rt, alloc, engine)
+fn serve<E, F>(make: &F, tried: Tried<E>, client: &mut RandomClient) -> Result<Tried<E>, Failure>
+where
+    E: Drop,
+    F: Fn(E, &mut RandomClient, EngineCall) -> Result<Tried<E>, Failure>,
+    requires { F.IsAlwaysCallable make.now }
+{
+    let tried = make(tried.engine, client, EngineCall::Serve)?;
+    client.judge_so_far()?;
+    match tried.rest {
+        Rest::LongLog => make(tried.engine, client, EngineCall::TakePage),
+        Rest::Moving | Rest::AtRest => Ok(tried),
+    }
 }
 
-/// Serves a client until nothing moves: an epoch for each stage. How many there were.
-pub fn serve_stages<R: Threads + Wait + Sync>(
-    rt: &R,
-    alloc: Global,
-    engine: Engine,
+// Serves a client until nothing moves: an epoch for each stage, and there are as many as are wanted.
+fn serve_stages<E, F>(
+    make: &F,
+    tried: Tried<E>,
     client: &mut RandomClient,
-) -> Result<(Engine, u64), Failure> {
+    wanted: Option<u64>,
+) -> Result<Tried<E>, Failure>
+where
+    E: Drop,
+    F: Fn(E, &mut RandomClient, EngineCall) -> Result<Tried<E>, Failure>,
+    requires { F.IsAlwaysCallable make.now }
+{
     client.wait_for(u64::MAX);
-    let mut engine = engine;
+    let mut tried = tried;
     let mut stages = 0u64;
     for _stage in 0..EPOCHS {
-        if engine.is_at_rest() {
+        if tried.rest != Rest::Moving {
             break;
         }
-        engine = serve_stage(rt, alloc, engine, client)?;
+        tried = serve_stage(make, tried, client)?;
         stages = stages.saturating_add(1);
     }
-    Ok((engine, stages))
+    check(
+        wanted.is_none_or(|wanted| wanted == stages),
+        Failure::WrongStages,
+    )?;
+    Ok(tried)
 }
 
-// Posts some jobs, and serves a client for an epoch.
-fn serve_stage<R: Threads + Wait + Sync>(
-    rt: &R,
-    alloc: Global,
-    engine: Engine,
+// Posts some jobs as a stage begins, and serves a client for an epoch.
+fn serve_stage<E, F>(
+    make: &F,
+    tried: Tried<E>,
     client: &mut RandomClient,
-) -> Result<Engine, Failure> {
-    let mut engine = engine;
-    client.post(rt, &mut engine, STAGE_JOBS)?;
-    let engine = serve(rt, alloc, engine, client)?;
-    client.judge()?;
-    Ok(engine)
-}
-
-// Takes a page at rest, where the engine wants one.
-fn make_room<R: Threads + Wait + Sync>(
-    rt: &R,
-    alloc: Global,
-    engine: Engine,
-) -> Result<Engine, Failure> {
-    if !engine.is_at_rest() || !engine.wants_page() {
-        return Ok(engine);
-    }
-    let (_page, engine) = take_page(rt, alloc, engine)?;
-    Ok(engine)
-}
-
-/// Takes a page at rest, which is sound.
-pub fn take_page<R: Threads + Wait + Sync>(
-    rt: &R,
-    alloc: Global,
-    engine: Engine,
-) -> Result<(RestPage, Engine), Failure> {
-    match engine.take_page(rt, alloc) {
-        Ok((page, engine)) => {
-            check_sound(page.audit(rt, alloc))?;
-            Ok((page, engine))
-        }
-        Err(_) => Err(Failure::NotTaken),
-    }
-}
-
-/// Closes an engine at rest. Its last page is sound.
-pub fn close<R: Threads + Wait + Sync>(
-    rt: &R,
-    alloc: Global,
-    engine: Engine,
-) -> Result<Closed, Failure> {
-    match engine.close(rt, alloc) {
-        Ok(closed) => {
-            check_last_page(rt, alloc, &closed)?;
-            Ok(closed)
-        }
-        Err(_) => Err(Failure::NotTaken),
-    }
-}
-
-// The last page of an engine is sound.
-fn check_last_page<R: Threads + Sync>(rt: &R, alloc: Global, closed: &Closed) -> Result<(), Failure>
-    requires { IdsDiffer closed.now.page.jobs.items }
+) -> Result<Tried<E>, Failure>
+where
+    E: Drop,
+    F: Fn(E, &mut RandomClient, EngineCall) -> Result<Tried<E>, Failure>,
+    requires { F.IsAlwaysCallable make.now }
 {
-    let opening = &closed.opening;
-    let plan = opening.new_plan();
-    check_sound(audit_page(
-        rt,
-        alloc,
-        opening.schema(),
-        plan,
-        opening.config(),
-        &closed.page,
-    ))
+    let tried = make(tried.engine, client, EngineCall::Post(STAGE_JOBS))?;
+    let tried = make(tried.engine, client, EngineCall::Serve)?;
+    client.judge_so_far()?;
+    Ok(tried)
 }
 
-// A page is sound by this verdict.
-fn check_sound(verdict: Result<Verdict, OpeningFault>) -> Result<(), Failure> {
-    match verdict {
-        Ok(Verdict::Sound) => Ok(()),
-        Ok(Verdict::Unsound(_)) => Err(Failure::Unsound),
-        Err(_) => Err(Failure::Memory),
+// Posts jobs and runs until nothing moves, and once more.
+fn run_to_end<E, F>(
+    make: &F,
+    tried: Tried<E>,
+    client: &mut RandomClient,
+) -> Result<Tried<E>, Failure>
+where
+    E: Drop,
+    F: Fn(E, &mut RandomClient, EngineCall) -> Result<Tried<E>, Failure>,
+    requires { F.IsAlwaysCallable make.now }
+{
+    let mut tried = tried;
+    for _epoch in 0..EPOCHS {
+        if tried.rest != Rest::Moving {
+            break;
+        }
+        tried = post_and_run(make, tried, client)?;
     }
+    post_and_run(make, tried, client)
+}
+
+// Posts the jobs that are left, as far as the queues have room for them, and runs until the workers are idle.
+fn post_and_run<E, F>(
+    make: &F,
+    tried: Tried<E>,
+    client: &mut RandomClient,
+) -> Result<Tried<E>, Failure>
+where
+    E: Drop,
+    F: Fn(E, &mut RandomClient, EngineCall) -> Result<Tried<E>, Failure>,
+    requires { F.IsAlwaysCallable make.now }
+{
+    let tried = make(tried.engine, client, EngineCall::Post(u64::MAX))?;
+    make(tried.engine, client, EngineCall::Run(u64::MAX))
 }

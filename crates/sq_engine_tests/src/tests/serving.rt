@@ -1,88 +1,153 @@
-// An engine that serves a client while its workers run: at rest, with pages where logs are long, and in a move of three stages and
-// one of one.
-use sq_engine::{Closed, Engine};
+// Engines that serve a client while their workers run, and engines to which jobs are posted between their epochs.
+use sq_node::JOB_PLACES;
 use sq_trial::{
-    Failure, GATHERED, ROOTS, RandomClient, SPREAD, close, go_to, open, opening_at, read_plan,
-    serve_stages, serve_until,
+    Deed, Failure, PARTS, PlanChoice, ROOTS, Workload, any_epochs, any_moves, rounds, try_engine,
 };
 use std::alloc::Global;
 use std::sync::Wait;
 use std::test::Fail;
 use std::thread::Threads;
 
-// How many jobs a client has in a move.
+// How many jobs a client has in moves.
 const JOBS: u64 = 600;
 
-// Serves a client of so many jobs at rest, from the opening to the end.
-fn serve_jobs<R: Threads + Wait + Sync>(
-    rt: &R,
-    alloc: Global,
-    client: &mut RandomClient,
-    jobs: u64,
-) -> Result<Closed, Failure> {
-    let engine = open(rt, alloc, opening_at(alloc, SPREAD)?)?;
-    let engine = serve_until(rt, alloc, engine, client, jobs)?;
-    close(rt, alloc, engine)
-}
+// How many transactions a log holds.
+const LOG: u64 = 4_096;
 
-// Whether so many jobs on so many root keys are answered at rest as they should be.
-fn serves_at_rest<R: Threads + Wait + Sync>(
-    rt: &R,
-    alloc: Global,
-    jobs: u64,
-    roots: u64,
-) -> Result<bool, Failure> {
-    let mut client = RandomClient::new(alloc, 7, jobs, roots)?;
-    drop(serve_jobs(rt, alloc, &mut client, jobs)?);
-    Ok(client.is_satisfied())
+// As many turns as a worker wants, or jobs as there are.
+const TURNS: u64 = u64::MAX;
+
+// So many jobs, to all partitions and on all root keys.
+fn jobs_on_all(seed: u64, jobs: u64) -> Workload {
+    Workload {
+        seed,
+        jobs,
+        parts: PARTS,
+        roots: ROOTS,
+    }
 }
 
 #[test]
 fn a_client_is_served_at_rest(rt: HostRuntime) -> Result<(), Fail> {
-    assert!(rt; serves_at_rest(&rt, rt.alloc(), 1_000, ROOTS)?);
+    let deeds = [Deed::ServeUntil(1_000)];
+    try_engine(
+        &rt,
+        rt.alloc(),
+        jobs_on_all(7, 1_000),
+        PlanChoice::Spread,
+        &deeds,
+    )?;
     Ok(())
 }
 
-// All jobs are on one root key. Its log holds 4,096 of them.
+// All jobs are on one root key. Its log would hold no more than 4,096 of them.
 #[test]
 fn pages_make_room_in_a_log(rt: HostRuntime) -> Result<(), Fail> {
-    assert!(rt; serves_at_rest(&rt, rt.alloc(), 4_200, 1)?);
+    let workload = Workload {
+        seed: 7,
+        jobs: LOG + 104,
+        parts: PARTS,
+        roots: 1,
+    };
+    let deeds = [Deed::ServeUntil(LOG + 104)];
+    try_engine(&rt, rt.alloc(), workload, PlanChoice::Spread, &deeds)?;
     Ok(())
 }
 
-// Goes to a plan while jobs come. In how many stages.
-fn move_to<R: Threads + Wait + Sync>(
-    rt: &R,
-    alloc: Global,
-    engine: Engine,
-    client: &mut RandomClient,
-    plan: &[u8],
-) -> Result<(Engine, u64), Failure> {
-    let plan = read_plan(alloc, plan)?;
-    let engine = go_to(rt, alloc, engine, plan)?;
-    serve_stages(rt, alloc, engine, client)
-}
-
-// All root keys go from one partition to four, and back. In how many stages.
-fn go_there_and_back<R: Threads + Wait + Sync>(
-    rt: &R,
-    alloc: Global,
-    client: &mut RandomClient,
-) -> Result<(u64, u64), Failure> {
-    let engine = open(rt, alloc, opening_at(alloc, GATHERED)?)?;
-    let (engine, there) = move_to(rt, alloc, engine, client, SPREAD)?;
-    let (engine, back) = move_to(rt, alloc, engine, client, GATHERED)?;
-    let engine = serve_until(rt, alloc, engine, client, JOBS)?;
-    drop(close(rt, alloc, engine)?);
-    Ok((there, back))
+// All jobs are for one partition and on one root key. Its queue takes as many as it has places, and its log as many; what comes then
+// isn't answered before a page has made room.
+#[test]
+fn a_full_queue_and_a_full_log_wait(rt: HostRuntime) -> Result<(), Fail> {
+    let places = JOB_PLACES as u64;
+    let workload = Workload {
+        seed: 2,
+        jobs: places + 7,
+        parts: 1,
+        roots: 1,
+    };
+    let deeds = [
+        Deed::Post(TURNS),
+        Deed::HasPosted(places),
+        Deed::Run(TURNS),
+        Deed::Post(TURNS),
+        Deed::HasPosted(places + 7),
+        Deed::Run(50),
+        Deed::TakePage,
+        Deed::HasAnswered(LOG),
+        Deed::Run(TURNS),
+        Deed::TakePage,
+        Deed::HasAnswered(LOG + 7),
+    ];
+    try_engine(&rt, rt.alloc(), workload, PlanChoice::Gathered, &deeds)?;
+    Ok(())
 }
 
 // The first partition gives root keys to three others, to each in a stage of its own; back they come in one stage.
 #[test]
 fn jobs_come_from_stage_to_stage(rt: HostRuntime) -> Result<(), Fail> {
-    let alloc = rt.alloc();
-    let mut client = RandomClient::new(alloc, 5, JOBS, ROOTS)?;
-    assert_eq!(rt; go_there_and_back(&rt, alloc, &mut client)?, (3, 1));
-    assert!(rt; client.is_satisfied());
+    let deeds = rounds(rt.alloc(), 1, JOBS)?;
+    try_engine(
+        &rt,
+        rt.alloc(),
+        jobs_on_all(5, JOBS),
+        PlanChoice::Gathered,
+        &deeds,
+    )?;
+    Ok(())
+}
+
+// Of a seed.
+fn serve_in_moves<R: Threads + Wait + Sync>(
+    rt: &R,
+    alloc: Global,
+    seed: u64,
+) -> Result<(), Failure> {
+    let deeds = any_moves(alloc, seed, 8, JOBS)?;
+    try_engine(
+        rt,
+        alloc,
+        jobs_on_all(seed, JOBS),
+        PlanChoice::Spread,
+        &deeds,
+    )
+}
+
+#[test]
+fn a_client_is_served_in_moves(rt: HostRuntime) -> Result<(), Fail> {
+    for seed in 1..4 {
+        assert_eq!(rt;
+            serve_in_moves(&rt, rt.alloc(), seed),
+            Ok(()),
+            "seed {seed}"
+        );
+    }
+    Ok(())
+}
+
+// Of a seed.
+fn answer_in_epochs<R: Threads + Wait + Sync>(
+    rt: &R,
+    alloc: Global,
+    seed: u64,
+) -> Result<(), Failure> {
+    let deeds = any_epochs(alloc, seed, 20)?;
+    try_engine(
+        rt,
+        alloc,
+        jobs_on_all(seed, JOBS),
+        PlanChoice::Spread,
+        &deeds,
+    )
+}
+
+#[test]
+fn jobs_are_answered_in_epochs(rt: HostRuntime) -> Result<(), Fail> {
+    for seed in 1..5 {
+        assert_eq!(rt;
+            answer_in_epochs(&rt, rt.alloc(), seed),
+            Ok(()),
+            "seed {seed}"
+        );
+    }
     Ok(())
 }
