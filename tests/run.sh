@@ -321,19 +321,24 @@ try_told() {
     summary jobs_of_each_stage "$links" '3 partitions, 21 committed, 0 aborted' --fold
     give "$stages/input" live --timeline "$room/moments.csv"
     judge 'live --timeline moments.csv' 0 "$stages/output" /dev/null
-    # One more job or segment on each line, no sooner than on the line before.
-    why=$(awk -F, 'NR == 1 && $0 != "milliseconds,jobs,segments" { print "heading " $0 }
-        NR > 1 && ($1 + 0 < at + 0 || $1 !~ /^[0-9]+\.[0-9][0-9][0-9]$/ || $2 + $3 != NR - 1 || $2 < jobs || $3 < segments) { print "line " NR ": " $0 }
+    # One more job or segment on each line, no sooner than on the line before. An answer has its job, posted once the run had begun.
+    why=$(awk -F, 'NR == 1 { if ($0 != "milliseconds,jobs,segments,partition,id,microseconds_since_post,waited") print "heading " $0; next }
+        NF != 7 || $1 + 0 < at + 0 || $1 !~ /^[0-9]+\.[0-9][0-9][0-9]$/ || $2 + $3 != NR - 1 || $2 < jobs || $3 < segments { print "line " NR ": " $0 }
+        $2 > jobs && ($4 !~ /^[012]$/ || seen[$5]++ || $6 !~ /^[0-9]+$/ || $6 > $1 * 1000 + 0.5 || $7 !~ /^(yes|no)$/) { print "answer " $0 }
+        $2 == jobs && $4 $5 $6 $7 != "" { print "segment " $0 }
         { at = $1; jobs = $2 + 0; segments = $3 + 0 }
         END { if (jobs != 21 || segments != 3 || NR != 25) print "ends with " $0 }' "$room/moments.csv")
     count moments_of_a_run "$why"
+    awk '$1 == "txn" { print $3 }' "$stages/input" | sort > "$room/wanted"
+    awk -F, 'NR > 1 && $5 != "" { print $5 }' "$room/moments.csv" | sort > "$room/told"
+    count jobs_of_a_timeline "$(difference "$room/wanted" "$room/told")"
     give "$stages/input" live --timeline "$room/moments.svg"
     judge 'live --timeline moments.svg' 0 "$stages/output" /dev/null
     chart=$(cat "$room/moments.svg")
     why=
-    case $chart in '<svg xmlns='*'jobs answered, of 21<'*'segments complete, of 3<'*'</svg>') ;; *) why='another chart' ;; esac
+    case $chart in '<svg xmlns='*'A live run of 21 jobs while 3 segments move<'*'>stage 0<'*'>stage 1<'*'jobs answered, of 21<'*'segments complete, of 3<'*'</svg>') ;; *) why='another chart' ;; esac
     # Both curves have a step for each moment.
-    if [ "$(grep -oE 'H[0-9]+V[0-9]+' "$room/moments.svg" | wc -l)" != 48 ]; then why='another number of steps'; fi
+    if [ "$(grep -E 'class="(jobs|segments)"' "$room/moments.svg" | grep -oE 'H[0-9]+V[0-9]+' | wc -l)" != 48 ]; then why='another number of steps'; fi
     count chart_of_a_run "$why"
     give "$stages/input" live --timeline "$room/nowhere/moments.csv"
     echo "squall: the file '$room/nowhere/moments.csv' can't be written: No such file or directory (os error 2)" > "$room/said"

@@ -10,7 +10,7 @@ use Rattle.sq_chart.specs.declared.moment.Happened.{Happened}
 use Rattle.sq_chart.specs.declared.moment.Happened.TheVariants.{JobAnswered, SegmentComplete}
 use Rattle.sq_chart.specs.declared.moment.Event.{Event}
 use Rattle.sq_chart.specs.declared.moment.Moment.{Moment}
-use Rattle.sq_chart.specs.Moments.{AreMoments, answers_job, moment_of, one_more, moment_after}
+use Rattle.sq_chart.specs.Moments.{AreMoments, answers_job, answer_in, moment_of, one_more, moment_after}
 
 -- what stands in a list with one more at its end
 push_stood : {X : Type 0} (xs : List X) (x : X) (i : ℕ) (y : X) → slice_get (xs ++ x ∷ []) i ≡ Some y → (slice_get xs i ≡ Some y) ⊎ ((i ≡ length xs) × (x ≡ y))
@@ -42,21 +42,23 @@ module _ (events : List Event) (moments : List Moment) (now : Moment) (i : ℕ) 
   what_is what is = ap (λ (e : Event). e.what) (get_or_from_slice_get events i event event there) ∙ is
 
   answered : (what : Happened) → event.what ≡ what → (one_more now event.micros what) ≡ moment_of (take (i + 1) events) event
-  answered JobAnswered is =
-      let yes = count_by_more_yes (λ (e : Event). answers_job e.what) events i event within (ap answers_job (what_is JobAnswered is)) in
-      let no = count_by_more_no (λ (e : Event). not (answers_job e.what)) events i event within (ap (λ what. not (answers_job what)) (what_is JobAnswered is)) in
+  answered (JobAnswered answer) is =
+      let yes = count_by_more_yes (λ (e : Event). answers_job e.what) events i event within (ap answers_job (what_is (JobAnswered answer) is)) in
+      let no = count_by_more_no (λ (e : Event). not (answers_job e.what)) events i event within (ap (λ what. not (answers_job what)) (what_is (JobAnswered answer) is)) in
+      let same = ap answer_in is in
       let jobs = so_far.jobs in
       let segments = so_far.segments in
       cc
   answered SegmentComplete is =
       let no = count_by_more_no (λ (e : Event). answers_job e.what) events i event within (ap answers_job (what_is SegmentComplete is)) in
       let yes = count_by_more_yes (λ (e : Event). not (answers_job e.what)) events i event within (ap (λ what. not (answers_job what)) (what_is SegmentComplete is)) in
+      let same = ap answer_in is in
       let jobs = so_far.jobs in
       let segments = so_far.segments in
       cc
 
   few : (what : Happened) → ((one_more now event.micros what).jobs ≤ i + 1) × ((one_more now event.micros what).segments ≤ i + 1)
-  few JobAnswered = let jobs = so_far.few_jobs in let segments = so_far.few_segments in (omega arith, omega arith)
+  few (JobAnswered _) = let jobs = so_far.few_jobs in let segments = so_far.few_segments in (omega arith, omega arith)
   few SegmentComplete = let jobs = so_far.few_jobs in let segments = so_far.few_segments in (omega arith, omega arith)
 
   pub goes_on : AreFirst events (moments ++ moment_after now event ∷ []) (moment_after now event) (i + 1)

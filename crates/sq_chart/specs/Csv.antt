@@ -1,7 +1,8 @@
 -- The moments of a run as comma-separated values.
-use Rattle.std.specs.Prelude.{ℕ, ◌^◌, ◌-◌, ◌/◌, ◌%◌, List, [], ◌∷◌, ◌++◌, decimal, codes}
-use Rattle.std.specs.List.{flat_map}
+use Rattle.std.specs.Prelude.{ℕ, ◌^◌, ◌-◌, ◌/◌, ◌%◌, Bool, if◌then◌else◌, Option, Some, None, List, [], ◌∷◌, ◌++◌, decimal, codes}
+use Rattle.std.specs.List.{concat, flat_map}
 use Rattle.std.specs.Fmt.{styled_decimal, format_spec}
+use Rattle.sq_chart.specs.declared.moment.TimedAnswer.{TimedAnswer}
 use Rattle.sq_chart.specs.declared.moment.Moment.{Moment}
 
 -- a number in three digits, with zeros in front
@@ -12,10 +13,29 @@ three_digits n = styled_decimal (format_spec 32 0 4 3 (2 ^ 64 - 1)) n
 abbrev pub milliseconds : ℕ → List ℕ
 milliseconds micros = decimal (micros / 1000) ++ (46 ∷ three_digits (micros % 1000))
 
+-- when a moment was, and how many jobs and segments were done by then
+abbrev pub counts_text : Moment → List ℕ
+counts_text moment = milliseconds moment.micros ++ (44 ∷ (decimal moment.jobs ++ (44 ∷ decimal moment.segments)))
+
+-- the word for whether something is so
+abbrev pub yes_or_no : Bool → List ℕ
+yes_or_no is_so = if is_so then codes "yes" else codes "no"
+
+-- the fields of an answer: its partition, the job, the microseconds since that was posted, and whether it had waited; they are
+-- empty where there is none
+abbrev pub timed_answer_text : Option TimedAnswer → List ℕ
+timed_answer_text (Some answer) =
+    concat (codes "," ∷ decimal answer.part ∷ codes "," ∷ decimal answer.id ∷ codes "," ∷ decimal answer.micros_since_post
+    ∷ codes "," ∷ yes_or_no answer.has_waited ∷ [])
+timed_answer_text None = codes ",,,,"
+
 -- the line of a moment
 abbrev pub csv_line : Moment → List ℕ
-csv_line moment = milliseconds moment.micros ++ (44 ∷ (decimal moment.jobs ++ (44 ∷ (decimal moment.segments ++ 10 ∷ []))))
+csv_line moment = counts_text moment ++ (timed_answer_text moment.answer ++ 10 ∷ [])
 
 -- the heading, and the line of each moment
+abbrev pub csv_heading : List ℕ
+csv_heading = codes "milliseconds,jobs,segments,partition,id,microseconds_since_post,waited\n"
+
 abbrev pub csv_text : List Moment → List ℕ
-csv_text moments = codes "milliseconds,jobs,segments\n" ++ flat_map csv_line moments
+csv_text moments = csv_heading ++ flat_map csv_line moments

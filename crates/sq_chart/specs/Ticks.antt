@@ -5,9 +5,13 @@ use Rattle.sq_chart.specs.declared.svg.TheConstants.{LEFT, WIDTH, STEPS, TICKS}
 use Rattle.sq_chart.specs.Csv.{milliseconds}
 use Rattle.sq_chart.specs.Curves.{share_of}
 
--- how many microseconds lie between two ticks: the first step of the list of which there are at most eight, or else one step for all
+-- the first step of the list that so many microseconds have at most so often, or else one step for all
+abbrev pub step_within : ℕ → ℕ → ℕ
+step_within micros most = unwrap_or (find (λ step. nat_lt (micros / most) step) STEPS) micros
+
+-- how many microseconds lie between two ticks, of which there are eight at most
 abbrev pub tick_step : ℕ → ℕ
-tick_step micros = unwrap_or (find (λ step. nat_lt (micros / 8) step) STEPS) micros
+tick_step micros = step_within micros 8
 
 -- microseconds, told in milliseconds, with decimals only where they aren't zero
 abbrev pub label_text : ℕ → List ℕ

@@ -4,11 +4,24 @@ ghost use Rattle.sq_chart.specs.Moments.{AreMoments, moment_after};
 
 use std::alloc::{AllocError, Global};
 
+/// An answer of a job.
+#[derive(Clone, Copy, Debug, PartialEq, Eq)]
+pub struct TimedAnswer {
+    /// The number of the partition that gave it.
+    pub part: u8,
+    /// The job's id.
+    pub id: u64,
+    /// How many microseconds had gone by since the job was posted.
+    pub micros_since_post: u64,
+    /// Whether the job had waited for rows at that partition.
+    pub has_waited: bool,
+}
+
 /// What happened in a run.
 #[derive(Clone, Copy, Debug, PartialEq, Eq)]
 pub enum Happened {
     /// A job was answered.
-    JobAnswered,
+    JobAnswered(TimedAnswer),
     /// A segment was complete.
     SegmentComplete,
 }
@@ -31,6 +44,17 @@ pub struct Moment {
     pub jobs: u64,
     /// How many segments were complete.
     pub segments: u64,
+    /// The answer that was given at this moment, if one was.
+    pub answer: Option<TimedAnswer>,
+}
+
+/// When a stage of a run began.
+#[derive(Clone, Copy, Debug, PartialEq, Eq)]
+pub struct StageStart {
+    /// The stage's number.
+    pub stage: u64,
+    /// How many microseconds the run had taken.
+    pub micros: u64,
 }
 
 impl Moment {
@@ -43,15 +67,17 @@ impl Moment {
         let Moment { jobs, segments, .. } = self;
         let micros = event.micros;
         match event.what {
-            Happened::JobAnswered => Moment {
+            Happened::JobAnswered(answer) => Moment {
                 micros,
                 jobs: jobs + 1,
                 segments,
+                answer: Some(answer),
             },
             Happened::SegmentComplete => Moment {
                 micros,
                 jobs,
                 segments: segments + 1,
+                answer: None,
             },
         }
     }
@@ -66,6 +92,7 @@ pub fn moments_of(alloc: Global, events: &[Event]) -> Result<Vec<Moment>, AllocE
         micros: 0,
         jobs: 0,
         segments: 0,
+        answer: None,
     };
     for event in events {
         now = now.after(*event);

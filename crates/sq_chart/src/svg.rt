@@ -3,24 +3,27 @@ ghost use Rattle.std.specs.Prelude.{◌≡◌, ◌≤◌, ◌<◌, OnOk};
 ghost use Rattle.std.specs.List.{flat_map};
 ghost use Rattle.std.specs.Io.KnownBytes.{Appends};
 ghost use Rattle.sq_chart.specs.Curves.{share_of, count_of, curve_class, curve_name, curve_start, step_text, curve_text, sample_text, legend_text};
-ghost use Rattle.sq_chart.specs.Ticks.{tick_step, label_text, tick_rule, tick_mark, tick_text, ticks_text};
-ghost use Rattle.sq_chart.specs.Chart.{drawn_text, ground_text, chart_svg};
+ghost use Rattle.sq_chart.specs.Ticks.{step_within, tick_step, label_text, tick_rule, tick_mark, tick_text, ticks_text};
+ghost use Rattle.sq_chart.specs.Intervals.{interval_len};
+ghost use Rattle.sq_chart.specs.Chart.{drawn_text, title_text, ground_text, stage_rule, stage_label, stage_text, curves_text, chart_svg};
 
-use crate::moment::Moment;
+use crate::intervals::{INTERVALS, intervals_of, write_intervals};
+use crate::moment::{Moment, StageStart};
+use std::alloc::Global;
 use std::io;
 use std::io::Write;
 
 /// Where the plot begins, from the left.
-const LEFT: u64 = 130;
+pub(crate) const LEFT: u64 = 130;
 
 /// Where the plot ends, from the top.
-const BOTTOM: u64 = 760;
+pub(crate) const BOTTOM: u64 = 760;
 
 /// How wide the plot is.
-const WIDTH: u64 = 1400;
+pub(crate) const WIDTH: u64 = 1400;
 
 /// How high the plot is.
-const HEIGHT: u64 = 600;
+pub(crate) const HEIGHT: u64 = 600;
 
 /// What is written before the ticks: the colors, the lines of percents, and the titles of both axes.
 const HEAD: &[u8] =
@@ -30,10 +33,12 @@ const HEAD: &[u8] =
 .grid { stroke: #e1e0d9; stroke-width: 1.5 } .axis { stroke: #a09f95; stroke-width: 2 }
 .jobs, .segments { fill: none; stroke-width: 4; stroke-linejoin: round }
 .jobs { stroke: #2a78d6 } .segments { stroke: #eb6834; stroke-dasharray: 14 7 }
+.rate { fill: #2a78d6; fill-opacity: 0.2 } .stage { stroke: #52514e; stroke-width: 2; stroke-dasharray: 3 6 }
 @media (prefers-color-scheme: dark) {
 .back { fill: #1a1a19 } .ink { fill: #ffffff } .soft { fill: #c3c2b7 }
 .grid { stroke: #2c2c2a } .axis { stroke: #73726b }
 .jobs { stroke: #3987e5 } .segments { stroke: #d95926 }
+.rate { fill: #3987e5 } .stage { stroke: #c3c2b7 }
 }
 </style>
 <rect class="back" width="1600" height="900"/>
@@ -122,24 +127,97 @@ impl Curve {
     }
 }
 
-/// Writes a chart of how many of all jobs were answered, and how many of all segments were complete, over time. `all` is the
-/// end of the run, with all jobs and all segments that there are. It is read in light and in dark. An error is the writer's.
-pub fn write_svg<W: Write>(writer: &mut W, moments: &[Moment], all: Moment) -> io::Result<()>
-    ensures { OnOk result (Appends (W.contents writer.old) (W.contents writer.new) (chart_svg moments.now all)) }
+/// Writes a chart of how many of all jobs were answered, and how many of all segments were complete, over time, of how many
+/// jobs were answered in each of short intervals, and of when each stage began. `all` is the end of the run, with all jobs and
+/// all segments that there are. It is read in light and in dark. An error is the writer's, or that there is no memory.
+pub fn write_svg<W: Write>(
+    alloc: Global,
+    writer: &mut W,
+    moments: &[Moment],
+    stages: &[StageStart],
+    all: Moment,
+) -> io::Result<()>
+    ensures { OnOk result (Appends (W.contents writer.old) (W.contents writer.new)
+        (chart_svg moments.now stages.now all)) }
 {
+    let intervals = intervals_of(alloc, moments, interval_len(all.micros))?;
     write_top(writer, all)?;
+    write_intervals(writer, all.micros, &intervals)?;
+    write_stages(writer, all.micros, stages)?;
+    write_curves(writer, moments, all)
+}
+
+// Writes the title, and what stands behind the curves.
+fn write_top<W: Write>(writer: &mut W, all: Moment) -> io::Result<()>
+    ensures { OnOk result (Appends (W.contents writer.old) (W.contents writer.new)
+        (ground_text all)) }
+{
+    writer.write_all(HEAD)?;
+    write_title(writer, all)?;
+    write_ticks(writer, all.micros, tick_step(all.micros), &TICKS)?;
+    writer.write_all(AXIS)
+}
+
+// Writes the title.
+fn write_title<W: Write>(writer: &mut W, all: Moment) -> io::Result<()>
+    ensures { OnOk result (Appends (W.contents writer.old) (W.contents writer.new)
+        (title_text all)) }
+{
+    let Moment { jobs, segments, .. } = all;
+    writeln!(
+        writer,
+        "<text class=\"ink\" x=\"130\" y=\"44\" font-size=\"32\">A live run of {jobs} jobs while {segments} segments move</text>"
+    )
+}
+
+// Writes both curves, and the end.
+fn write_curves<W: Write>(writer: &mut W, moments: &[Moment], all: Moment) -> io::Result<()>
+    ensures { OnOk result (Appends (W.contents writer.old) (W.contents writer.new)
+        (curves_text moments.now all)) }
+{
     write_drawn(writer, Curve::Jobs, all, 130, moments)?;
-    write_drawn(writer, Curve::Segments, all, 700, moments)?;
+    write_drawn(writer, Curve::Segments, all, 560, moments)?;
     writer.write_all(b"</svg>\n")
 }
 
-// Writes what stands behind the curves.
-fn write_top<W: Write>(writer: &mut W, all: Moment) -> io::Result<()>
-    ensures { OnOk result (Appends (W.contents writer.old) (W.contents writer.new) (ground_text all.micros)) }
+// Writes a line where each stage of a run of this many microseconds begins.
+fn write_stages<W: Write>(writer: &mut W, micros: u64, stages: &[StageStart]) -> io::Result<()>
+    ensures { OnOk result (Appends (W.contents writer.old) (W.contents writer.new)
+        (flat_map (stage_text micros) stages.now)) }
 {
-    writer.write_all(HEAD)?;
-    write_ticks(writer, all.micros, tick_step(all.micros), &TICKS)?;
-    writer.write_all(AXIS)
+    for stage in stages {
+        write_stage(writer, micros, *stage)?;
+    }
+    Ok(())
+}
+
+// Writes the line where a stage begins, and its number.
+fn write_stage<W: Write>(writer: &mut W, micros: u64, start: StageStart) -> io::Result<()>
+    ensures { OnOk result (Appends (W.contents writer.old) (W.contents writer.new)
+        (stage_text micros start)) }
+{
+    let x = LEFT + share_of(start.micros, micros, WIDTH);
+    write_stage_rule(writer, x)?;
+    write_stage_label(writer, x, start.stage)
+}
+
+// Writes the line where a stage begins, this far from the left.
+fn write_stage_rule<W: Write>(writer: &mut W, x: u64) -> io::Result<()>
+    ensures { OnOk result (Appends (W.contents writer.old) (W.contents writer.new)
+        (stage_rule x)) }
+{
+    write!(writer, "<path class=\"stage\" d=\"M{x} 160V760\"/>")
+}
+
+// Writes the number of a stage, this far from the left.
+fn write_stage_label<W: Write>(writer: &mut W, x: u64, stage: u64) -> io::Result<()>
+    ensures { OnOk result (Appends (W.contents writer.old) (W.contents writer.new)
+        (stage_label x stage)) }
+{
+    writeln!(
+        writer,
+        "<text class=\"soft\" x=\"{x}\" y=\"150\" font-size=\"20\">stage {stage}</text>"
+    )
 }
 
 // Writes a piece of a curve and what it is, this far from the left, and the curve.
@@ -158,20 +236,36 @@ fn write_drawn<W: Write>(
     write_curve(writer, curve, all, moments)
 }
 
-// The same share of a length as the part is of the whole, rounded down.
-fn share_of(part: u64, whole: u64, len: u64) -> u64
+/// The same share of a length as the part is of the whole, rounded down.
+pub(crate) fn share_of(part: u64, whole: u64, len: u64) -> u64
     ensures { result ≡ share_of part whole len }
 {
     let share = u128::from(len) * u128::from(part) / u128::from(whole.max(1));
     share.min(u128::from(len)) as u64
 }
 
+// The first step of the list that this many microseconds have at most so often, or else one step for all.
+fn step_within(micros: u64, most: u64) -> u64
+    requires { 0 < most }
+    ensures { result ≡ step_within micros most }
+{
+    let found = STEPS.iter().find(|step| micros / most < **step);
+    found.copied().unwrap_or(micros)
+}
+
 // How many microseconds lie between two ticks of an axis of this many.
 fn tick_step(micros: u64) -> u64
     ensures { result ≡ tick_step micros }
 {
-    let found = STEPS.iter().find(|step| micros / 8 < **step);
-    found.copied().unwrap_or(micros)
+    step_within(micros, 8)
+}
+
+/// How many microseconds an interval has of a run of this many.
+pub(crate) fn interval_len(micros: u64) -> u64
+    ensures len { result ≡ interval_len micros }
+    ensures some { 0 < result }
+{
+    step_within(micros, INTERVALS).max(1)
 }
 
 // Writes ticks of an axis of this many microseconds, with so many between two of them.
@@ -216,8 +310,8 @@ fn write_mark<W: Write>(writer: &mut W, micros: u64, at: u64) -> io::Result<()>
     writer.write_all(b"</text>\n")
 }
 
-// Writes microseconds as milliseconds, with decimals only where they aren't zero.
-fn write_label<W: Write>(writer: &mut W, micros: u64) -> io::Result<()>
+/// Writes microseconds as milliseconds, with decimals only where they aren't zero.
+pub(crate) fn write_label<W: Write>(writer: &mut W, micros: u64) -> io::Result<()>
     ensures { OnOk result (Appends (W.contents writer.old) (W.contents writer.new) (label_text micros)) }
 {
     let millis = micros / 1000;

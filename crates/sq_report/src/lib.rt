@@ -2,6 +2,7 @@
 //! answered and segments complete, what the jobs were answered, and the rows that stand at the end.
 #![tactic(auto)]
 
+mod answers;
 mod clock;
 mod counts;
 mod kept;

@@ -124,7 +124,10 @@ impl<'a, R: Wait + Clock, W: Watch> RecordingWatch<'a, R, W> {
         let moments = moments_of(alloc, &timeline.events(alloc)?)?;
         match form {
             TimelineForm::Csv => write_csv(writer, &moments),
-            TimelineForm::Svg => write_svg(writer, &moments, timeline.all()),
+            TimelineForm::Svg => {
+                let stages = timeline.stage_starts(alloc)?;
+                write_svg(alloc, writer, &moments, &stages, timeline.all())
+            }
         }
     }
 
@@ -164,7 +167,7 @@ impl<R: Wait + Clock + Sync, W: Watch> Gate for RecordingWatch<'_, R, W> {
     fn did(&self, who: WorkerId, event: WorkerEvent) {
         self.waits.hear(who, event);
         if let Some(timeline) = &self.timeline {
-            timeline.record(event);
+            timeline.record(who, event);
         }
         self.watch.did(who, event);
     }
@@ -196,6 +199,9 @@ impl<R: Wait + Clock + Sync, W: Watch> Watch for RecordingWatch<'_, R, W> {
 
     fn stage_begins(&self) {
         self.audits.end(self.clock.micros());
+        if let Some(timeline) = &self.timeline {
+            timeline.begin_stage();
+        }
         self.threads.begin(self.clock.micros());
         self.watch.stage_begins();
     }
@@ -203,7 +209,7 @@ impl<R: Wait + Clock + Sync, W: Watch> Watch for RecordingWatch<'_, R, W> {
     fn stage_ends(&self, nodes: &[Node]) {
         self.threads.end(self.clock.micros());
         if let Some(timeline) = &self.timeline {
-            timeline.go_on();
+            timeline.end_stage(nodes);
         }
         self.summary.add_nodes(self.rt, nodes);
         self.watch.stage_ends(nodes);

@@ -1,18 +1,22 @@
 // When jobs are answered and segments complete.
+use crate::answers::AnswerMarks;
 use crate::clock::Stopwatch;
-use sq_chart::{Event, Happened, Moment};
-use sq_driver::WorkerEvent;
+use sq_chart::{Event, Happened, Moment, StageStart, TimedAnswer};
+use sq_driver::{NodeStep, WorkerEvent, WorkerId};
+use sq_node::Node;
 use std::alloc::{AllocError, Global};
 use std::sync::atomic::{AtomicU64, Ordering};
 use std::time::Clock;
 
-/// Marks when jobs are answered and segments complete, told by many threads. It takes no memory while it is told: it has places
-/// for as many as were asked for, and one more than that is left out.
+/// Marks when jobs are answered, segments complete and stages begin, told by many threads. It takes no memory while it is told:
+/// it has places for as many as were asked for, and one more than that is left out.
 #[derive(Drop)]
 pub struct Timeline<'a, C> {
     clock: Stopwatch<'a, C>,
-    answered: Marks,
+    answered: AnswerMarks,
     complete: Marks,
+    /// When each stage began.
+    stages: Marks,
     /// How many jobs and segments there are.
     jobs: AtomicU64,
     segments: AtomicU64,
@@ -22,8 +26,8 @@ pub struct Timeline<'a, C> {
 }
 
 impl<'a, C: Clock> Timeline<'a, C> {
-    /// One to which nothing was told, with places for so many jobs and segments. It is refused only where there is no memory for
-    /// them.
+    /// One to which nothing was told, with places for so many jobs and segments, and for as many stages as segments. It is refused
+    /// only where there is no memory for them.
     pub fn new(
         alloc: Global,
         clock: &'a C,
@@ -32,8 +36,9 @@ impl<'a, C: Clock> Timeline<'a, C> {
     ) -> Result<Timeline<'a, C>, AllocError> {
         Ok(Timeline {
             clock: Stopwatch::start(clock),
-            answered: Marks::new(alloc, jobs)?,
+            answered: AnswerMarks::new(alloc, jobs)?,
             complete: Marks::new(alloc, segments)?,
+            stages: Marks::new(alloc, segments)?,
             jobs: AtomicU64::new(0),
             segments: AtomicU64::new(0),
             began: AtomicU64::new(0),
@@ -48,17 +53,26 @@ impl<'a, C: Clock> Timeline<'a, C> {
         self.began.store(self.clock.micros(), Ordering::SeqCst);
     }
 
-    /// It has come so far.
-    pub fn go_on(&self) {
+    /// A stage begins now. All jobs are posted by the first one.
+    pub fn begin_stage(&self) {
+        self.stages.mark(self.clock.micros());
+    }
+
+    /// A stage has ended, and left these nodes, which have the receipts of this stage alone.
+    pub fn end_stage(&self, nodes: &[Node]) {
         self.ended.store(self.clock.micros(), Ordering::SeqCst);
+        self.answered.name(nodes);
     }
 
     /// Marks a job that was answered, or a segment that is complete. What else a worker tells is none of these.
-    pub fn record(&self, event: WorkerEvent) {
-        match event {
-            WorkerEvent::Answered(_) => self.answered.mark(self.clock.micros()),
-            WorkerEvent::SegmentComplete => self.complete.mark(self.clock.micros()),
-            WorkerEvent::Made(_) => {}
+    pub fn record(&self, who: WorkerId, event: WorkerEvent) {
+        match (who, event) {
+            (WorkerId::Node(part), WorkerEvent::Answered(step)) => {
+                let has_waited = step == NodeStep::Resume;
+                self.answered.mark(self.clock.micros(), part, has_waited);
+            }
+            (_, WorkerEvent::SegmentComplete) => self.complete.mark(self.clock.micros()),
+            _ => {}
         }
     }
 
@@ -67,11 +81,20 @@ impl<'a, C: Clock> Timeline<'a, C> {
         let mut events = Vec::new(alloc);
         let began = self.began.load(Ordering::SeqCst);
         self.answered
-            .add_to(&mut events, Happened::JobAnswered, began)?;
-        self.complete
-            .add_to(&mut events, Happened::SegmentComplete, began)?;
+            .add_to(&mut events, self.stages.first(), began)?;
+        self.complete.add_to(&mut events, began)?;
         events.sort_unstable_by_key(|event| event.micros);
         Ok(events)
+    }
+
+    /// The answers of jobs, in any order.
+    pub fn answers(&self, alloc: Global) -> Result<Vec<TimedAnswer>, AllocError> {
+        self.answered.answers(alloc, self.stages.first())
+    }
+
+    /// When each stage began, by its time since the timeline began.
+    pub fn stage_starts(&self, alloc: Global) -> Result<Vec<StageStart>, AllocError> {
+        self.stages.starts(alloc, self.began.load(Ordering::SeqCst))
     }
 
     /// The end: the time that it came to, and all jobs and segments that there are.
@@ -81,6 +104,7 @@ impl<'a, C: Clock> Timeline<'a, C> {
             micros: self.ended.load(Ordering::SeqCst).saturating_sub(began),
             jobs: self.jobs.load(Ordering::SeqCst),
             segments: self.segments.load(Ordering::SeqCst),
+            answer: None,
         }
     }
 }
@@ -113,18 +137,38 @@ impl Marks {
         }
     }
 
-    // Adds an event for each time that was marked, less that of the beginning.
-    fn add_to(
-        &self,
-        events: &mut Vec<Event>,
-        what: Happened,
-        began: u64,
-    ) -> Result<(), AllocError> {
+    // The time that was marked first; 0 where none was.
+    fn first(&self) -> u64 {
+        match self.times.first() {
+            Some(time) => time.load(Ordering::SeqCst),
+            None => 0,
+        }
+    }
+
+    // Adds an event of a complete segment for each time that was marked, less that of the beginning.
+    fn add_to(&self, events: &mut Vec<Event>, began: u64) -> Result<(), AllocError> {
         let count = self.count.load(Ordering::SeqCst) as usize;
         for time in self.times.iter().take(count) {
             let micros = time.load(Ordering::SeqCst).saturating_sub(began);
-            events.push(Event { micros, what })?;
+            events.push(Event {
+                micros,
+                what: Happened::SegmentComplete,
+            })?;
         }
         Ok(())
+    }
+
+    // The starts of stages, in their order, for each time that was marked, less that of the beginning.
+    fn starts(&self, alloc: Global, began: u64) -> Result<Vec<StageStart>, AllocError> {
+        let count = self.count.load(Ordering::SeqCst) as usize;
+        let mut starts = Vec::new(alloc);
+        for (stage, time) in self.times.iter().take(count).enumerate() {
+            let micros = time.load(Ordering::SeqCst).saturating_sub(began);
+            starts.push(StageStart {
+                stage: stage as u64,
+                micros,
+            })?;
+        }
+        Ok(starts)
     }
 }

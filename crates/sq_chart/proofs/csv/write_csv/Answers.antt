@@ -1,9 +1,9 @@
-use Rattle.std.specs.Prelude.{codes}
 use Rattle.std.proofs.KnownBytes.{Appends-trans}
 use Rattle.std.proofs.lemmas.List.{take_all}
+use Rattle.sq_chart.specs.Csv.{csv_heading}
 use Rattle.sq_chart.proofs.csv.write_csv.Goals as goal
 
 pub returns : goal.returns
 returns g c =
     let past = c.loop-moment-test.false in
-    Appends-trans _ _ _ (codes "milliseconds,jobs,segments\n") _ c.in_ok-writeln.ensures.bytes (rw take_all at c.loop-moment.invariant)
+    Appends-trans _ _ _ csv_heading _ c.in_ok-writeln.ensures.bytes (rw take_all at c.loop-moment.invariant)

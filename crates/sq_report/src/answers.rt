@@ -1,0 +1,127 @@
+// When jobs are answered, by whom, and which.
+use sq_chart::{Event, Happened, TimedAnswer};
+use sq_node::Node;
+use std::alloc::{AllocError, Global};
+use std::sync::atomic::{AtomicBool, AtomicU8, AtomicU64, Ordering};
+
+// The partition of a place that isn't taken.
+const NO_PART: u8 = u8::MAX;
+
+/// Marks of answers, told by many threads. A gate doesn't hear which job was answered: each mark gets its job once the stage
+/// has ended, since the receipts of a node are in the order in which it told of them.
+#[derive(Drop)]
+pub(crate) struct AnswerMarks {
+    marks: Vec<AnswerMark>,
+    count: AtomicU64,
+    /// How many of them have their jobs.
+    named: AtomicU64,
+}
+
+#[derive(Drop)]
+struct AnswerMark {
+    micros: AtomicU64,
+    part: AtomicU8,
+    id: AtomicU64,
+    has_waited: AtomicBool,
+}
+
+impl AnswerMark {
+    // One that isn't set.
+    fn new() -> AnswerMark {
+        AnswerMark {
+            micros: AtomicU64::new(0),
+            part: AtomicU8::new(NO_PART),
+            id: AtomicU64::new(0),
+            has_waited: AtomicBool::new(false),
+        }
+    }
+
+    // The answer, of a job that was posted at this time.
+    fn answer(&self, posted: u64) -> TimedAnswer {
+        TimedAnswer {
+            part: self.part.load(Ordering::SeqCst),
+            id: self.id.load(Ordering::SeqCst),
+            micros_since_post: self.micros.load(Ordering::SeqCst).saturating_sub(posted),
+            has_waited: self.has_waited.load(Ordering::SeqCst),
+        }
+    }
+}
+
+impl AnswerMarks {
+    /// None of so many that may come.
+    pub(crate) fn new(alloc: Global, places: usize) -> Result<AnswerMarks, AllocError> {
+        let mut marks = Vec::new(alloc);
+        for _place in 0..places {
+            marks.push(AnswerMark::new())?;
+        }
+        Ok(AnswerMarks {
+            marks,
+            count: AtomicU64::new(0),
+            named: AtomicU64::new(0),
+        })
+    }
+
+    /// Marks an answer that a partition gives at this time. No other thread gets its place.
+    pub(crate) fn mark(&self, micros: u64, part: u8, has_waited: bool) {
+        let place = self.count.fetch_add(1, Ordering::SeqCst);
+        if let Some(mark) = self.marks.get(place as usize) {
+            mark.micros.store(micros, Ordering::SeqCst);
+            mark.has_waited.store(has_waited, Ordering::SeqCst);
+            mark.part.store(part, Ordering::SeqCst);
+        }
+    }
+
+    /// Gives the marks of a stage their jobs, by its nodes, which have the receipts of this stage alone.
+    pub(crate) fn name(&self, nodes: &[Node]) {
+        let count = self.count.load(Ordering::SeqCst);
+        let first = self.named.swap(count, Ordering::SeqCst);
+        for node in nodes {
+            self.name_by(node, first as usize);
+        }
+    }
+
+    // Gives the marks of a node from this place on their jobs.
+    fn name_by(&self, node: &Node, first: usize) {
+        let part = node.part().number();
+        let mut receipts = node.receipts().iter();
+        for mark in self.marks.iter().skip(first) {
+            if mark.part.load(Ordering::SeqCst) == part {
+                if let Some(receipt) = receipts.next() {
+                    mark.id.store(receipt.id, Ordering::SeqCst);
+                }
+            }
+        }
+    }
+
+    /// The answers of jobs that were posted at this time, in any order.
+    pub(crate) fn answers(
+        &self,
+        alloc: Global,
+        posted: u64,
+    ) -> Result<Vec<TimedAnswer>, AllocError> {
+        let count = self.count.load(Ordering::SeqCst) as usize;
+        let mut answers = Vec::new(alloc);
+        for mark in self.marks.iter().take(count) {
+            answers.push(mark.answer(posted))?;
+        }
+        Ok(answers)
+    }
+
+    /// Adds an event for each answer, by its time less that of the beginning.
+    pub(crate) fn add_to(
+        &self,
+        events: &mut Vec<Event>,
+        posted: u64,
+        began: u64,
+    ) -> Result<(), AllocError> {
+        let count = self.count.load(Ordering::SeqCst) as usize;
+        for mark in self.marks.iter().take(count) {
+            let micros = mark.micros.load(Ordering::SeqCst).saturating_sub(began);
+            events.push(Event {
+                micros,
+                what: Happened::JobAnswered(mark.answer(posted)),
+            })?;
+        }
+        Ok(())
+    }
+}
