@@ -319,6 +319,7 @@ try_told() {
     links=$(printf '%s\n' ' 0 -> 1             8           3 chunks' ' 0 -> 2             4           2 chunks')
     summary jobs_of_each_stage "$links" '3 partitions, 21 committed, 0 aborted'
     summary jobs_of_each_stage "$links" '3 partitions, 21 committed, 0 aborted' --fold
+    try_figures "$stages"
     give "$stages/input" live --timeline "$room/moments.csv"
     judge 'live --timeline moments.csv' 0 "$stages/output" /dev/null
     # One more job or segment on each line, no sooner than on the line before. An answer has its job, posted once the run had begun.
@@ -346,6 +347,48 @@ try_told() {
     give "$tests/cases/live/an_id_twice/input" live --summary --timeline "$room/fault.csv"
     judge 'live --summary of a fault' 2 "$tests/cases/live/an_id_twice/output" "$tests/cases/live/an_id_twice/errors"
     count no_moments_of_a_fault "$(ls "$room/fault.csv" 2> /dev/null || true)"
+}
+
+# try_figures CASE: the longer account of the live run of jobs in each stage, as JSON and as text. How many chunks there were,
+# where a job was answered, which had waited and how long they took depends on the threads.
+try_figures() {
+    local why
+    give "$1/input" live --summary-out "$room/figures.json"
+    judge 'live --summary-out figures.json' 0 "$1/output" /dev/null
+    # Of 5, 6 and 13 that go to partition 1, and of 9 and 11 that go to 2, each has one row without a note: 32 and 24 bytes.
+    echo '{"links":[{"bytes":168,"chunks":C,"dst":1,"families":3,"keys":8,"rows":3,"src":0,"stage":0},{"bytes":112,"chunks":C,"dst":2,"families":2,"keys":4,"rows":2,"src":0,"stage":1}]' > "$room/wanted"
+    sed -E 's/"chunks":[1-9][0-9]*/"chunks":C/g; s/,"microseconds":\{"audits":[0-9]+,"reading":[0-9]+,"threads":[0-9]+\},"partitions":\[.*\],"whole":true\}$//' \
+        "$room/figures.json" > "$room/told"
+    count figures_of_links "$(difference "$room/wanted" "$room/told")"
+    # Of each partition: aborted, the longest, median and 99th of all, committed, its number, those that waited, and the same of these.
+    why=$(sed 's/.*"partitions"//; s/p99/p/g; s/null/{"longest":0,"median":0,"p":0}/g; s/"aborted"/\n&/g' "$room/figures.json" | sed -E '1d; s/[^0-9]+/ /g' |
+        awk 'NF != 10 || $6 != NR - 1 || $3 > $4 || $4 > $2 || $9 > $10 || $10 > $8 || $8 > $2 || $7 > $1 + $5 || ($2 > 0) != ($1 + $5 > 0) || ($8 > 0) != ($7 > 0) { print "partition " $0 }
+        { committed += $5; aborted += $1 }
+        END { if (NR != 3 || committed != 21 || aborted != 0) print NR " partitions, " committed " committed, " aborted " aborted" }')
+    count figures_of_partitions "$why"
+    give "$1/input" live --summary-out "$room/figures.txt"
+    judge 'live --summary-out figures.txt' 0 "$1/output" /dev/null
+    {
+        echo 'stage  link        root keys    families        rows         bytes      chunks'
+        printf '%5d  %2d -> %-3d%12d%12d%12d%14d chunks\n' 0 0 1 8 3 3 168 1 0 2 4 2 2 112
+        echo 'partition   committed     aborted      waited'
+        echo 'microseconds from post to answer'
+        echo 'partition      median   99 of 100     longest'
+        echo 'of those that waited'
+        echo 'partition      median   99 of 100     longest'
+        echo 'milliseconds: reading TIME, threads TIME, audits TIME'
+    } > "$room/wanted"
+    sed -E '/^ *[0-9]+ +[0-9]+ +[0-9]+ +[0-9]+$/d; s/^(.* -> .*[^ ]) +[1-9][0-9]*$/\1 chunks/; s/[0-9]+\.[0-9]{3}/TIME/g' "$room/figures.txt" > "$room/told"
+    count figures_as_text "$(difference "$room/wanted" "$room/told")"
+    echo "squall: the file '$room/nowhere/figures.json' can't be written: No such file or directory (os error 2)" > "$room/said"
+    give "$1/input" live --summary-out "$room/nowhere/figures.json"
+    judge 'live --summary-out in no folder' 2 "$1/output" "$room/said"
+    echo "squall: --timeline names the file '$room/figures.txt', which another option names too" > "$room/said"
+    give "$1/input" live --summary-out "$room/figures.txt" --timeline "$room/figures.txt"
+    judge 'live --summary-out and --timeline into one file' 2 /dev/null "$room/said"
+    give "$tests/cases/live/an_id_twice/input" live --summary-out "$room/fault.json"
+    judge 'live --summary-out of a fault' 2 "$tests/cases/live/an_id_twice/output" "$tests/cases/live/an_id_twice/errors"
+    count no_figures_of_a_fault "$(ls "$room/fault.json" 2> /dev/null || true)"
 }
 
 # Rows that go to another partition, some of them back, and then there again, in three live runs, each from the rows that the

@@ -1,4 +1,6 @@
 pub mod Notes
 pub mod Counts
+pub mod Measures
+pub mod Figures
 pub mod SummaryValue
 pub mod Tables

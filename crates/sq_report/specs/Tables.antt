@@ -1,19 +1,10 @@
 -- The table of a summary.
-use Rattle.std.specs.Prelude.{ℕ, ◌-◌, ◌^◌, List, [], ◌∷◌, ◌++◌, length, slice_index_or, codes}
+use Rattle.std.specs.Prelude.{ℕ, List, [], ◌∷◌, ◌++◌, length, slice_index_or, codes}
 use Rattle.std.specs.List.{flat_map, range_with_len}
-use Rattle.std.specs.Fmt.{styled_decimal, format_spec}
-use Rattle.sq_chart.specs.Csv.{milliseconds}
-use Rattle.sq_report.specs.declared.clock.Times.{Times}
+use Rattle.sq_summary.specs.FiguresText.{right_aligned, left_aligned}
 use Rattle.sq_report.specs.declared.counts.LinkCount.{LinkCount}
 use Rattle.sq_report.specs.declared.counts.PartCount.{PartCount}
 use Rattle.sq_report.specs.SummaryValue.{SummaryValue, none_yet}
-
--- a number at the right of a column that is so wide, or at the left
-abbrev pub right_aligned : ℕ → ℕ → List ℕ
-right_aligned width n = styled_decimal (format_spec 32 3 0 width (2 ^ 64 - 1)) n
-
-abbrev pub left_aligned : ℕ → ℕ → List ℕ
-left_aligned width n = styled_decimal (format_spec 32 1 0 width (2 ^ 64 - 1)) n
 
 -- the line of a link: its ends, the root keys, the families and the chunks
 abbrev pub link_line : LinkCount → List ℕ
@@ -41,13 +32,3 @@ abbrev pub summary_text : SummaryValue → List ℕ → List ℕ
 summary_text summary waited =
     link_heading ++ (flat_map link_line summary.links ++ (part_heading
     ++ flat_map (part_line summary.parts waited) (range_with_len 0 (length summary.parts))))
-
--- a time in milliseconds, behind what it is that of
-abbrev pub time_text : List ℕ → ℕ → List ℕ
-time_text front micros = front ++ milliseconds micros
-
--- the line of the times
-abbrev pub times_text : Times → List ℕ
-times_text times =
-    time_text (codes "milliseconds: reading ") times.reading ++ (time_text (codes ", threads ") times.threads
-    ++ (time_text (codes ", audits ") times.audits ++ 10 ∷ []))

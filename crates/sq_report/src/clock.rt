@@ -2,20 +2,9 @@
 use std::sync::atomic::{AtomicU64, Ordering};
 use std::time::{Clock, Instant};
 
-/// How long the parts of a run took, in microseconds.
-#[derive(Clone, Copy, Debug, PartialEq, Eq)]
-pub struct Times {
-    /// Until its input was read.
-    pub reading: u64,
-    /// While its threads ran, in all stages.
-    pub threads: u64,
-    /// While what a stage left was audited, folded, and made ready for the next one, in all stages.
-    pub audits: u64,
-}
-
 /// Tells the time since it was started.
 #[derive(Drop)]
-pub(crate) struct Stopwatch<'a, C> {
+pub struct Stopwatch<'a, C> {
     clock: &'a C,
     /// When it was started. `None` where the clock couldn't be read.
     start: Option<Instant>,
@@ -23,7 +12,7 @@ pub(crate) struct Stopwatch<'a, C> {
 
 impl<'a, C: Clock> Stopwatch<'a, C> {
     /// One that starts now.
-    pub(crate) fn start(clock: &'a C) -> Stopwatch<'a, C> {
+    pub fn start(clock: &'a C) -> Stopwatch<'a, C> {
         Stopwatch {
             clock,
             start: Instant::now(clock).ok(),
@@ -31,7 +20,7 @@ impl<'a, C: Clock> Stopwatch<'a, C> {
     }
 
     /// How many microseconds have gone by; 0 where the clock can't be read.
-    pub(crate) fn micros(&self) -> u64 {
+    pub fn micros(&self) -> u64 {
         match (self.start, Instant::now(self.clock)) {
             (Some(start), Ok(now)) => {
                 let micros = now.duration_since(start).as_micros();

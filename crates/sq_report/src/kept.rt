@@ -1,4 +1,5 @@
 // A summary that is counted while a run goes on.
+use crate::counts::PartCount;
 use crate::summary::Summary;
 use crate::table::write_summary;
 use sq_gather::Gathered;
@@ -44,11 +45,30 @@ impl Kept {
         writer: &mut O,
         waited: &[u64],
     ) -> io::Result<()> {
-        if !self.is_whole.load(Ordering::SeqCst) {
+        if !self.is_whole() {
             writeln!(writer, "memory ran out before all was counted")?;
         }
         let summary = self.summary.lock(rt);
         write_summary(writer, &summary, waited)
+    }
+
+    /// What became of jobs at each partition.
+    pub(crate) fn parts<R: Wait>(
+        &self,
+        rt: &R,
+        alloc: Global,
+    ) -> Result<Vec<PartCount>, AllocError> {
+        let summary = self.summary.lock(rt);
+        let mut parts = Vec::new(alloc);
+        for part in summary.parts() {
+            parts.push(*part)?;
+        }
+        Ok(parts)
+    }
+
+    /// Whether there was memory for all that was to be counted.
+    pub(crate) fn is_whole(&self) -> bool {
+        self.is_whole.load(Ordering::SeqCst)
     }
 
     // Keeps in mind whether there was memory for what was to be added.

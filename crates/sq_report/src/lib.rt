@@ -5,7 +5,9 @@
 mod answers;
 mod clock;
 mod counts;
+mod figures;
 mod kept;
+mod measure;
 mod notes;
 mod recording;
 mod results;
@@ -14,9 +16,10 @@ mod table;
 mod timeline;
 mod waits;
 
-pub use clock::Times;
+pub use clock::Stopwatch;
 pub use counts::{LinkCount, PartCount};
 pub use recording::{RecordingWatch, Records, TimelineForm};
+pub use sq_summary::{FiguresForm, Times, write_times};
 pub use summary::Summary;
-pub use table::{write_summary, write_times};
+pub use table::write_summary;
 pub use timeline::Timeline;

@@ -43,8 +43,8 @@ fn count_between(store: &RunStore, lo: u64, hi: u64) -> u64
     count
 }
 
-// The first family of a store from one root key on and below another.
-fn first(store: &RunStore, lo: u64, hi: u64) -> Option<&Family>
+/// The first family of a store from one root key on and below another.
+pub(crate) fn first(store: &RunStore, lo: u64, hi: u64) -> Option<&Family>
     ensures { FirstIs store.now lo hi (option_copied result) }
 {
     let family = store.walk(lo)?;

@@ -2,10 +2,11 @@
 ghost use Rattle.std.specs.Prelude.{◌≡◌, ◌↔◌, IsTrue, codes, nat_eq};
 ghost use Rattle.std.specs.List.{ends_with};
 
-use crate::clock::{Elapsed, Stopwatch, Times};
+use crate::clock::{Elapsed, Stopwatch};
+use crate::counts::PartCount;
+use crate::figures::KeptLinks;
 use crate::kept::Kept;
 use crate::results::{KeptReplies, KeptRows};
-use crate::table::write_times;
 use crate::timeline::Timeline;
 use crate::waits::Waits;
 use sq_audit::Job;
@@ -15,6 +16,9 @@ use sq_gather::Gathered;
 use sq_live::{MAX_JOBS, Watch};
 use sq_node::Node;
 use sq_ranges::SEGMENT_LIMIT;
+use sq_summary::{
+    FiguresForm, PartFigures, RunFigures, Times, figures_json, write_figures, write_times,
+};
 use std::alloc::{AllocError, Global};
 use std::io;
 use std::io::Write;
@@ -27,6 +31,8 @@ use std::time::Clock;
 pub struct Records {
     /// For a timeline.
     pub timeline: bool,
+    /// For its figures.
+    pub figures: bool,
     /// For what the jobs are answered.
     pub replies: bool,
     /// For the rows that stand at the end.
@@ -46,7 +52,9 @@ pub struct RecordingWatch<'a, R, W> {
     reading: AtomicU64,
     threads: Elapsed,
     audits: Elapsed,
+    /// For a timeline, and for figures.
     timeline: Option<Timeline<'a, R>>,
+    links: Option<KeptLinks>,
     replies: Option<KeptReplies>,
     rows: Option<KeptRows>,
 }
@@ -82,7 +90,7 @@ impl<'a, R: Wait + Clock, W: Watch> RecordingWatch<'a, R, W> {
         watch: &'a W,
         records: Records,
     ) -> Result<RecordingWatch<'a, R, W>, AllocError> {
-        let timeline = if records.timeline {
+        let timeline = if records.timeline || records.figures {
             Some(Timeline::new(alloc, rt, MAX_JOBS, SEGMENT_LIMIT as usize)?)
         } else {
             None
@@ -98,6 +106,7 @@ impl<'a, R: Wait + Clock, W: Watch> RecordingWatch<'a, R, W> {
             threads: Elapsed::new(),
             audits: Elapsed::new(),
             timeline,
+            links: records.figures.then(|| KeptLinks::new(alloc)),
             replies: records.replies.then(|| KeptReplies::new(alloc)),
             rows: records.rows.then(|| KeptRows::new(alloc)),
         })
@@ -129,6 +138,51 @@ impl<'a, R: Wait + Clock, W: Watch> RecordingWatch<'a, R, W> {
                 write_svg(alloc, writer, &moments, &stages, timeline.all())
             }
         }
+    }
+
+    /// Writes the figures of the run in a form, with a line end behind; nothing where they aren't recorded. An error is the writer's,
+    /// or that there is no memory.
+    pub fn write_figures<O: Write>(
+        &self,
+        alloc: Global,
+        writer: &mut O,
+        form: FiguresForm,
+    ) -> io::Result<()> {
+        let (Some(links), Some(timeline)) = (&self.links, &self.timeline) else {
+            return Ok(());
+        };
+        let figures = self.figures(alloc, links, timeline)?;
+        match form {
+            FiguresForm::Json => {
+                let text = figures_json(alloc, &figures)?;
+                writeln!(writer, "{text}")
+            }
+            FiguresForm::Text => write_figures(writer, &figures),
+        }
+    }
+
+    // The figures of the run, by what was kept of its links and of its answers.
+    fn figures(
+        &self,
+        alloc: Global,
+        links: &KeptLinks,
+        timeline: &Timeline<'a, R>,
+    ) -> Result<RunFigures, AllocError> {
+        let answers = timeline.answers(alloc)?;
+        let mut parts = Vec::new(alloc);
+        let mut number: u8 = 0;
+        for count in &self.summary.parts(self.rt, alloc)? {
+            let PartCount { committed, aborted } = *count;
+            let part = PartFigures::of_answers(alloc, number, committed, aborted, &answers)?;
+            parts.push(part)?;
+            number = number.saturating_add(1);
+        }
+        Ok(RunFigures {
+            is_whole: self.summary.is_whole() && links.is_whole(),
+            links: links.links(self.rt)?,
+            parts,
+            times: self.times(),
+        })
     }
 
     /// Writes what each job was answered, a line for each in the order in which they were posted, and gives how many weren't
@@ -217,6 +271,9 @@ impl<R: Wait + Clock + Sync, W: Watch> Watch for RecordingWatch<'_, R, W> {
 
     fn gathers(&self, gathered: &Gathered) {
         self.summary.add_links(self.rt, gathered);
+        if let Some(links) = &self.links {
+            links.add(self.rt, gathered);
+        }
         if let Some(replies) = &self.replies {
             replies.take(self.rt, &gathered.receipts);
         }

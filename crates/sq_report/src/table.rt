@@ -2,9 +2,8 @@
 ghost use Rattle.std.specs.Prelude.{length, OnOk};
 ghost use Rattle.std.specs.List.{flat_map, range_with_len};
 ghost use Rattle.std.specs.Io.KnownBytes.{Appends};
-ghost use Rattle.sq_report.specs.Tables.{link_line, part_line, summary_text, time_text, times_text};
+ghost use Rattle.sq_report.specs.Tables.{link_line, part_line, summary_text};
 
-use crate::clock::Times;
 use crate::counts::{LinkCount, PartCount};
 use crate::summary::Summary;
 use std::io;
@@ -72,23 +71,4 @@ fn write_part<W: Write>(
     let PartCount { committed, aborted } = parts.get(number).copied().unwrap_or(PartCount::NONE);
     let waits = waited.get(number).copied().unwrap_or(0);
     writeln!(writer, "{number:>9}{committed:>12}{aborted:>12}{waits:>12}")
-}
-
-/// Writes the line of how long the parts of a run took, in milliseconds with three decimals. An error is the writer's.
-pub fn write_times<W: Write>(writer: &mut W, times: Times) -> io::Result<()>
-    ensures { OnOk result (Appends (W.contents writer.old) (W.contents writer.new) (times_text times)) }
-{
-    write_time(writer, "milliseconds: reading ", times.reading)?;
-    write_time(writer, ", threads ", times.threads)?;
-    write_time(writer, ", audits ", times.audits)?;
-    writer.write_all(b"\n")
-}
-
-// Writes a time in milliseconds, behind what it is that of.
-fn write_time<W: Write>(writer: &mut W, front: &str, micros: u64) -> io::Result<()>
-    ensures { OnOk result (Appends (W.contents writer.old) (W.contents writer.new) (time_text front.now micros)) }
-{
-    let millis = micros / 1000;
-    let rest = micros % 1000;
-    write!(writer, "{front}{millis}.{rest:03}")
 }

@@ -12,7 +12,7 @@ use crate::session::{REFUSED, explain, explain_write};
 use crate::source::Source;
 use sq_inputs::Recalling;
 use sq_live::{LiveEnding, LiveFault, LiveOutcome, Watch, live};
-use sq_report::{RecordingWatch, Records, TimelineForm};
+use sq_report::{FiguresForm, RecordingWatch, Records, TimelineForm};
 use sq_text::{InputLine, WriteFault};
 use std::fs;
 use std::io::{Read, Write};
@@ -50,8 +50,8 @@ pub struct RunReport<'a> {
 
 /// Runs the jobs in `reader` in threads, writes what that comes to, and says on standard error what it means, unless the run
 /// is sound. Its workers ask `watch` before each step. Tells of the run besides what was asked for: a summary on standard
-/// error, and in files a timeline, the answers of the jobs, and the rows that stand at the end. Of a run that ends in a fault
-/// nothing is told. Gives the exit status, which is 2 where the answers or the rows can't be written.
+/// error, and in files a timeline, a longer account, the answers of the jobs, and the rows that stand at the end. Of a run that
+/// ends in a fault nothing is told. Gives the exit status, which is 2 where one of the last three can't be written.
 pub fn live_run<
     T: Threads + Wait + Sync + Clock + Eprint + Files + AllocGlobal,
     R: Read,
@@ -97,10 +97,11 @@ fn recording<'a, T: Wait + Clock + Sync + Eprint + AllocGlobal, G: Watch>(
 ) -> Option<RecordingWatch<'a, T, G>> {
     let records = Records {
         timeline: report.timeline.is_some(),
+        figures: report.summary_out.is_some(),
         replies: report.replies.is_some(),
         rows: report.rows_out.is_some(),
     };
-    if !report.summary && !records.timeline && !records.replies && !records.rows {
+    if !report.summary && !is_any(records) {
         return None;
     }
     let told = RecordingWatch::new(rt, rt.alloc(), watch, records);
@@ -110,14 +111,27 @@ fn recording<'a, T: Wait + Clock + Sync + Eprint + AllocGlobal, G: Watch>(
     told.ok()
 }
 
-// Tells of a run what was asked for. Gives whether no answer of a job and no row is missing that was to be written.
+// Whether anything is to be recorded.
+fn is_any(records: Records) -> bool {
+    let Records {
+        timeline,
+        figures,
+        replies,
+        rows,
+    } = records;
+    timeline || figures || replies || rows
+}
+
+// Tells of a run what was asked for. Gives whether no figure, no answer of a job and no row is missing that was to be written.
 fn is_told<T: Wait + Clock + Sync + Eprint + Files + AllocGlobal, G: Watch>(
     rt: &T,
     report: RunReport<'_>,
     told: &Option<RecordingWatch<'_, T, G>>,
 ) -> bool {
     let Some(told) = told else {
-        return report.replies.is_none() && report.rows_out.is_none();
+        return report.summary_out.is_none()
+            && report.replies.is_none()
+            && report.rows_out.is_none();
     };
     if report.summary {
         print_summary(rt, told);
@@ -125,9 +139,25 @@ fn is_told<T: Wait + Clock + Sync + Eprint + Files + AllocGlobal, G: Watch>(
     if let Some(name) = report.timeline {
         draw_timeline(rt, name, told);
     }
+    let are_figures_saved = save_figures(rt, report.summary_out, told);
     let are_replies_saved = save_replies(rt, report.replies, told);
     let are_rows_saved = save_rows(rt, report.rows_out, told);
-    are_replies_saved && are_rows_saved
+    are_figures_saved && are_replies_saved && are_rows_saved
+}
+
+// Writes the figures of a run into the file of this name, where there is to be one: as JSON where the name ends in '.json', else
+// as text. Gives whether none is missing.
+fn save_figures<T: Wait + Clock + Sync + Eprint + Files + AllocGlobal, G: Watch>(
+    rt: &T,
+    summary_out: Option<&str>,
+    told: &RecordingWatch<'_, T, G>,
+) -> bool {
+    let Some(name) = summary_out else {
+        return true;
+    };
+    let mut text = Vec::new(rt.alloc());
+    let written = told.write_figures(rt.alloc(), &mut text, FiguresForm::of_file(name));
+    save_text(rt, name, written.map(|()| text))
 }
 
 // Writes what the jobs of a run were answered into the file of this name, where there is to be one, and says on standard

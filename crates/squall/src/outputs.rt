@@ -8,18 +8,20 @@ use std::io;
 use std::rt::Files;
 
 // The options of a task that name files to be written, and the names.
-fn named_outputs(task: Task<'_>) -> [(&'static str, Option<&str>); 3] {
-    let (timeline, replies, rows_out) = match task {
-        Task::Run { rows_out, .. } => (None, None, rows_out),
-        Task::Ranges { .. } | Task::Steps => (None, None, None),
+fn named_outputs(task: Task<'_>) -> [(&'static str, Option<&str>); 4] {
+    let (summary_out, timeline, replies, rows_out) = match task {
+        Task::Run { rows_out, .. } => (None, None, None, rows_out),
+        Task::Ranges { .. } | Task::Steps => (None, None, None, None),
         Task::Live {
+            summary_out,
             timeline,
             replies,
             rows_out,
             ..
-        } => (timeline, replies, rows_out),
+        } => (summary_out, timeline, replies, rows_out),
     };
     [
+        ("summary-out", summary_out),
         ("timeline", timeline),
         ("replies", replies),
         ("rows-out", rows_out),

@@ -1,6 +1,6 @@
 use Rattle.std.proofs.KnownBytes.{Appends-trans}
 use Rattle.std.proofs.lemmas.Result.{on_ok_weaker}
-use Rattle.sq_report.proofs.table.write_times.Goals as goal
+use Rattle.sq_summary.proofs.times.write_times.Goals as goal
 
 pub returns : goal.returns
 returns g c =

@@ -1,0 +1,5 @@
+pub mod Spreads
+pub mod Times
+pub mod PartsFigured
+pub mod FiguresJson
+pub mod FiguresText

@@ -1,0 +1,22 @@
+-- What became of jobs at a partition.
+use Rattle.std.specs.Prelude.{◌≡◌, ℕ, ◌==◌, ◌&&◌, List, length, map, filter}
+use Rattle.sq_chart.specs.declared.moment.TimedAnswer.{TimedAnswer}
+use Rattle.sq_summary.specs.declared.part_figures.PartFigures.{PartFigures}
+use Rattle.sq_summary.specs.Spreads.{IsSpreadOf}
+
+-- how long the jobs took that a partition answered, and those of them that had waited there
+abbrev pub times_at : List TimedAnswer → ℕ → List ℕ
+times_at answers part = map (λ answer. answer.micros_since_post) (filter (λ answer. answer.part == part) answers)
+
+abbrev pub waited_times_at : List TimedAnswer → ℕ → List ℕ
+waited_times_at answers part =
+    map (λ answer. answer.micros_since_post) (filter (λ answer. (answer.part == part) && answer.has_waited) answers)
+
+-- these are the figures of a partition that committed and aborted so many, where these are the answers of all
+pub record ArePartFigures (part committed aborted : ℕ) (answers : List TimedAnswer) (figures : PartFigures) : Type 0 where
+  pub number : figures.part ≡ part
+  pub commits : figures.committed ≡ committed
+  pub aborts : figures.aborted ≡ aborted
+  pub count : figures.waited ≡ length (waited_times_at answers part)
+  pub all : IsSpreadOf (times_at answers part) figures.answers
+  pub waiting : IsSpreadOf (waited_times_at answers part) figures.waits

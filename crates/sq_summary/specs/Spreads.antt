@@ -1,0 +1,24 @@
+-- How times spread.
+use Rattle.std.specs.Prelude.{◌≡◌, ℕ, ◌+◌, ◌-◌, ◌*◌, ◌/◌, List, [], ◌∷◌, length, slice_index_or, Option, Some, None}
+use Rattle.std.specs.List.Sorted.{IsPermutation, IsNonDecreasingBy}
+use Rattle.sq_summary.specs.declared.spread.Spread.{Spread}
+
+-- of sorted times the first of which so many in 100, or more, are no longer
+abbrev pub ranked : List ℕ → ℕ → ℕ
+ranked times percent = slice_index_or times ((length times * percent + 99) / 100 - 1) 0
+
+-- how sorted times spread
+abbrev pub spread_in : List ℕ → Option Spread
+spread_in [] = None
+spread_in (first ∷ others) = Some (record {
+  median = ranked (first ∷ others) 50;
+  p99 = ranked (first ∷ others) 99;
+  longest = ranked (first ∷ others) 100;
+})
+
+-- this is how times spread: once they are sorted
+pub record IsSpreadOf (times : List ℕ) (spread : Option Spread) : Type 0 where
+  pub sorted : List ℕ
+  pub same : IsPermutation times sorted
+  pub rise : IsNonDecreasingBy (λ (time : ℕ). time) sorted
+  pub is : spread ≡ spread_in sorted

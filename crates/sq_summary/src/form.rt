@@ -1,0 +1,25 @@
+// In which form figures are told.
+ghost use Rattle.std.specs.Prelude.{◌≡◌, ◌↔◌, IsTrue, codes, nat_eq};
+ghost use Rattle.std.specs.List.{ends_with};
+
+/// Whether figures are told as JSON or as text.
+#[derive(Clone, Copy, Debug, PartialEq, Eq)]
+pub enum FiguresForm {
+    /// One JSON value: [`figures_json`](crate::figures_json).
+    Json,
+    /// Tables: [`write_figures`](crate::write_figures).
+    Text,
+}
+
+impl FiguresForm {
+    /// That of a file of this name: JSON where it ends in `.json`, and else text.
+    pub fn of_file(name: &str) -> FiguresForm
+        ensures { (result ≡ FiguresForm.Json) ↔ IsTrue (ends_with nat_eq name.now (codes ".json")) }
+    {
+        if name.as_bytes().ends_with(b".json") {
+            FiguresForm::Json
+        } else {
+            FiguresForm::Text
+        }
+    }
+}

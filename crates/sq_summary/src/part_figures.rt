@@ -1,0 +1,67 @@
+// What became of jobs at a partition.
+ghost use Rattle.std.specs.Prelude.{◌≡◌, IfOk};
+ghost use Rattle.sq_summary.specs.PartsFigured.{times_at, waited_times_at, ArePartFigures};
+
+use crate::spread::{Spread, spread_of};
+use sq_chart::TimedAnswer;
+use std::alloc::{AllocError, Global};
+
+/// What became of jobs at a partition.
+#[derive(Clone, Copy, Debug, PartialEq, Eq)]
+pub struct PartFigures {
+    /// The partition's number.
+    pub part: u8,
+    /// How many it committed.
+    pub committed: u64,
+    /// How many it aborted.
+    pub aborted: u64,
+    /// How many had waited there for rows before they were answered.
+    pub waited: u64,
+    /// How long its jobs took from their posting to their answer, where there are any.
+    pub answers: Option<Spread>,
+    /// How long those took that had waited, where there are any.
+    pub waits: Option<Spread>,
+}
+
+impl PartFigures {
+    /// Those of a partition that committed and aborted so many jobs, where these are the answers of all partitions. The only
+    /// fault is that memory ran out.
+    pub fn of_answers(
+        alloc: Global,
+        part: u8,
+        committed: u64,
+        aborted: u64,
+        answers: &[TimedAnswer],
+    ) -> Result<PartFigures, AllocError>
+        ensures { IfOk result (ArePartFigures part committed aborted answers.now) }
+    {
+        let times = times_at(alloc, answers, part)?;
+        let waits = waited_times_at(alloc, answers, part)?;
+        Ok(PartFigures {
+            part,
+            committed,
+            aborted,
+            waited: waits.len() as u64,
+            answers: spread_of(times),
+            waits: spread_of(waits),
+        })
+    }
+}
+
+// How long the jobs took that this partition answered.
+fn times_at(alloc: Global, answers: &[TimedAnswer], part: u8) -> Result<Vec<u64>, AllocError>
+    ensures { IfOk result (λ times. times.items ≡ times_at answers.now part) }
+{
+    let own = answers.iter().filter(|answer| answer.part == part);
+    own.map(|answer| answer.micros_since_post).collect(alloc)
+}
+
+// How long those of them took that had waited there.
+fn waited_times_at(alloc: Global, answers: &[TimedAnswer], part: u8) -> Result<Vec<u64>, AllocError>
+    ensures { IfOk result (λ times. times.items ≡ waited_times_at answers.now part) }
+{
+    let own = answers
+        .iter()
+        .filter(|answer| answer.part == part && answer.has_waited);
+    own.map(|answer| answer.micros_since_post).collect(alloc)
+}
