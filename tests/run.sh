@@ -258,18 +258,19 @@ typed() {
     rm "$room/typed"
 }
 
-# At a terminal a live run tells how far it is, when it begins and then as it goes on, a hundred times at most and never less
-# than before, on one line that is blank before the run's own line is written. A carriage return stands before each.
+# At a terminal a live run tells how far it is, when it begins, then as it goes on, ten times a second at most, and when it ends,
+# never less than before, on one line that is blank before the run's own line is written. A carriage return stands before each.
 try_terminal() {
-    local jobs=42 segments=4 told why=
+    local jobs=42 segments=4 told why= began=$SECONDS
     script -qefc "exec '$squall' live < '$examples/live-move.txt'" /dev/null < /dev/null | tr '\r' '\n' > "$room/terminal"
     grep " jobs, " "$room/terminal" > "$room/told" || true
     told=$(wc -l < "$room/told")
-    if [ "$told" -gt 100 ]; then why="$told lines of progress"; fi
-    if ! awk '$1 < jobs || $5 < segments { exit 1 } { jobs = $1; segments = $5 }' "$room/told"; then why='less than before'; fi
-    if [ "$(head -n 1 "$room/told")" != "0 of $jobs jobs, 0 of $segments segments" ]; then why='another first line'; fi
-    if ! grep -qx "$jobs of $jobs jobs, $segments of $segments segments" "$room/told"; then why='no line of the whole'; fi
-    printf '%40s\n%s\n' '' 'sound 21 families 41 committed' > "$room/wanted"
+    if [ "$told" -gt $(((SECONDS - began + 1) * 10 + 3)) ]; then why="$told lines of progress"; fi
+    if ! awk '$1 < jobs || $5 < chunks || $7 < segments { exit 1 } { jobs = $1; chunks = $5; segments = $7 }' "$room/told"; then why='less than before'; fi
+    if [ "$(head -n 1 "$room/told")" != "0 of $jobs jobs, 0 chunks, 0 of $segments segments" ]; then why='another first line'; fi
+    # A segment is complete only once its chunks are loaded, of which there is one at least.
+    if ! tail -n 1 "$room/told" | grep -qxE "$jobs of $jobs jobs, [1-9][0-9]* chunks, $segments of $segments segments"; then why='no line of the whole'; fi
+    printf '%60s\n%s\n' '' 'sound 21 families 41 committed' > "$room/wanted"
     tail -n 3 "$room/terminal" | head -n 2 > "$room/ends"
     count progress_at_a_terminal "$why$(difference "$room/wanted" "$room/ends")"
     typed_input run_that_is_typed 'old PLAN' run

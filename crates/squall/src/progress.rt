@@ -1,39 +1,46 @@
 // How far a live run is, said while it goes on.
 use sq_driver::{Gate, NodeStep, WorkerEvent, WorkerId};
 use sq_live::Watch;
+use sq_report::Stopwatch;
 use std::sync::atomic::{AtomicBool, AtomicU64, Ordering};
+use std::time::Clock;
 
 // Takes the place of the longest line of progress.
-const BLANK: &str = "\r                                        \r";
+const BLANK: &str = "\r                                                            \r";
 
-// In how many steps the line is written again, besides the first time and the last: a hundred times at most.
-const STEPS: u64 = 98;
+// For how many microseconds the line stays as it is, at least.
+const PAUSE: u64 = 100_000;
 
-/// A gate that lets each worker pass, and says on standard error how many jobs are answered and how many segments are
-/// complete: on one line, which is written again as they grow, never falls, and is gone once the threads have ended.
+/// A gate that lets each worker pass, and says on standard error how many jobs are answered, how many chunks are loaded and how
+/// many segments are complete: on one line, which is written again as they grow, never falls, and is gone once the threads have
+/// ended.
 #[derive(Drop)]
 pub struct Progress<'a, E> {
     to: &'a E,
+    clock: Stopwatch<'a, E>,
     jobs: AtomicU64,
     segments: AtomicU64,
     answered: AtomicU64,
+    loaded: AtomicU64,
     complete: AtomicU64,
-    /// The step that was said last.
-    said: AtomicU64,
+    /// When it may be said again, in microseconds.
+    due: AtomicU64,
     /// Whether a worker says it now.
     busy: AtomicBool,
 }
 
-impl<'a, E: Eprint> Progress<'a, E> {
+impl<'a, E: Eprint + Clock> Progress<'a, E> {
     /// Of a run that hasn't begun.
     pub fn new(to: &'a E) -> Progress<'a, E> {
         Progress {
             to,
+            clock: Stopwatch::start(to),
             jobs: AtomicU64::new(0),
             segments: AtomicU64::new(0),
             answered: AtomicU64::new(0),
+            loaded: AtomicU64::new(0),
             complete: AtomicU64::new(0),
-            said: AtomicU64::new(0),
+            due: AtomicU64::new(0),
             busy: AtomicBool::new(false),
         }
     }
@@ -47,37 +54,29 @@ impl<'a, E: Eprint> Progress<'a, E> {
         }
     }
 
-    // Says how far the run is, where that is a step more than what was said last.
+    // Says how far the run is, where the line has stood for long enough.
     fn go_on(&self) {
-        let step = self.step();
-        if step > self.said.load(Ordering::SeqCst) {
-            self.said.store(step, Ordering::SeqCst);
+        let now = self.clock.micros();
+        if now >= self.due.load(Ordering::SeqCst) {
+            self.due.store(now.saturating_add(PAUSE), Ordering::SeqCst);
             self.say();
         }
-    }
-
-    // How many steps are done.
-    fn step(&self) -> u64 {
-        let answered = self.answered.load(Ordering::SeqCst);
-        let complete = self.complete.load(Ordering::SeqCst);
-        let jobs = self.jobs.load(Ordering::SeqCst);
-        let segments = self.segments.load(Ordering::SeqCst);
-        let done = answered.saturating_add(complete).saturating_mul(STEPS);
-        let all = jobs.saturating_add(segments).max(1);
-        done / all
     }
 
     // Says how far the run is.
     fn say(&self) {
         let answered = self.answered.load(Ordering::SeqCst);
         let jobs = self.jobs.load(Ordering::SeqCst);
+        let loaded = self.loaded.load(Ordering::SeqCst);
         let complete = self.complete.load(Ordering::SeqCst);
         let segments = self.segments.load(Ordering::SeqCst);
-        let _ = eprint!(self.to; "\r{answered} of {jobs} jobs, {complete} of {segments} segments");
+        let _ = eprint!(self.to;
+            "\r{answered} of {jobs} jobs, {loaded} chunks, {complete} of {segments} segments"
+        );
     }
 }
 
-impl<E: Eprint + Sync> Gate for Progress<'_, E> {
+impl<E: Eprint + Clock + Sync> Gate for Progress<'_, E> {
     fn pass(&self, _who: WorkerId, _step: NodeStep) -> bool {
         true
     }
@@ -86,21 +85,21 @@ impl<E: Eprint + Sync> Gate for Progress<'_, E> {
         match event {
             WorkerEvent::Answered(_) => self.count(&self.answered),
             WorkerEvent::SegmentComplete => self.count(&self.complete),
+            WorkerEvent::Made(NodeStep::Load) => self.count(&self.loaded),
             WorkerEvent::Made(_) => {}
         }
     }
 }
 
-impl<E: Eprint + Sync> Watch for Progress<'_, E> {
+impl<E: Eprint + Clock + Sync> Watch for Progress<'_, E> {
     fn begins(&self, jobs: u64, segments: u64) {
         self.jobs.store(jobs, Ordering::SeqCst);
         self.segments.store(segments, Ordering::SeqCst);
         self.say();
     }
 
-    // A worker may have counted while another one was at it.
     fn ends(&self) {
-        self.go_on();
+        self.say();
         let _ = eprint!(self.to; "{BLANK}");
     }
 }
