@@ -14,8 +14,8 @@ abbrev pub milliseconds : ℕ → List ℕ
 milliseconds micros = decimal (micros / 1000) ++ (46 ∷ three_digits (micros % 1000))
 
 -- when a moment was, and how many jobs and segments were done by then
-abbrev pub counts_text : Moment → List ℕ
-counts_text moment = milliseconds moment.micros ++ (44 ∷ (decimal moment.jobs ++ (44 ∷ decimal moment.segments)))
+abbrev pub moment_text : Moment → List ℕ
+moment_text moment = milliseconds moment.micros ++ (44 ∷ (decimal moment.jobs ++ (44 ∷ decimal moment.segments)))
 
 -- the word for whether something is so
 abbrev pub yes_or_no : Bool → List ℕ
@@ -31,7 +31,7 @@ timed_answer_text None = codes ",,,,"
 
 -- the line of a moment
 abbrev pub csv_line : Moment → List ℕ
-csv_line moment = counts_text moment ++ (timed_answer_text moment.answer ++ 10 ∷ [])
+csv_line moment = moment_text moment ++ (timed_answer_text moment.answer ++ 10 ∷ [])
 
 -- the heading, and the line of each moment
 abbrev pub csv_heading : List ℕ

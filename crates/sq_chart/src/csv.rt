@@ -1,7 +1,7 @@
 // The moments of a run as comma-separated values.
 ghost use Rattle.std.specs.Prelude.{◌≡◌, OnOk};
 ghost use Rattle.std.specs.Io.KnownBytes.{Appends};
-ghost use Rattle.sq_chart.specs.Csv.{counts_text, yes_or_no, timed_answer_text, csv_line, csv_text};
+ghost use Rattle.sq_chart.specs.Csv.{moment_text, yes_or_no, timed_answer_text, csv_line, csv_text};
 
 use crate::moment::{Moment, TimedAnswer};
 use std::io;
@@ -37,7 +37,7 @@ fn write_moment<W: Write>(writer: &mut W, moment: Moment) -> io::Result<()>
 // Writes when a moment was, and how many jobs and segments were done by then.
 fn write_counts<W: Write>(writer: &mut W, moment: Moment) -> io::Result<()>
     ensures { OnOk result (Appends (W.contents writer.old) (W.contents writer.new)
-        (counts_text moment)) }
+        (moment_text moment)) }
 {
     let Moment { jobs, segments, .. } = moment;
     let millis = moment.micros / 1000;
