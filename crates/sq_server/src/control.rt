@@ -30,7 +30,8 @@ impl<W: Write + Drop> Client for Control<'_, W> {
     ghost Becomes = { λ old call new.
         DeskBecomes (desk_value W.contents old.desk) call (desk_value W.contents new.desk) };
 
-    fn next(&mut self, _progress: StageProgress) -> Command {
+    fn next(&mut self, progress: StageProgress) -> Command {
+        self.desk.note_stage(progress);
         self.desk.begin_call(self.audit.goes_on());
         if self.ends() {
             return Command::End;

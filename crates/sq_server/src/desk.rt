@@ -12,7 +12,7 @@ use crate::outlet::Outlet;
 use crate::sides::SideQueues;
 use rtrb::Consumer;
 use sq_audit::Job;
-use sq_engine::{Command, PostFault};
+use sq_engine::{Command, PostFault, StageProgress};
 use sq_node::Receipt;
 use sq_plan::{PartId, Plan};
 use sq_schema::Txn;
@@ -74,9 +74,10 @@ impl JobCounts {
 /// How far a move is.
 #[derive(Clone, Copy, Debug, PartialEq, Eq)]
 pub struct MoveProgress {
-    /// How many segments are complete: those of the stages before.
-    pub complete: u64,
+    /// How many segments move.
     pub segments: u64,
+    /// How far the running stage is, as it was told last.
+    pub stage: StageProgress,
 }
 
 /// Between the lines that come and the epochs of an engine: jobs go to the engine, or wait beside the queue of their partition,
@@ -184,6 +185,15 @@ impl<W: Write + Drop> ServeDesk<W> {
         let is_due = self.counts.since_page >= self.fold_after;
         if is_due && !audit_goes_on && self.moving.is_none() && self.wish.is_none() {
             self.wish = Some(Wish::Page);
+        }
+    }
+
+    /// Takes note of how far the running stage is, where rows move.
+    pub fn note_stage(&mut self, stage: StageProgress)
+        ensures { desk_value W.contents self.new ≡ desk_value W.contents self.old }
+    {
+        if let Some(moving) = self.moving {
+            self.moving = Some(MoveProgress { stage, ..moving });
         }
     }
 
@@ -474,13 +484,13 @@ impl<W: Write + Drop> ServeDesk<W> {
         self.say(status);
     }
 
-    // How far a move is.
+    // How far the running stage of a move is.
     fn status(&self) -> ServeAnswer {
         match self.moving {
             None => ServeAnswer::AtRest,
-            Some(progress) => ServeAnswer::Progress {
-                complete: progress.complete,
-                segments: progress.segments,
+            Some(MoveProgress { stage, .. }) => ServeAnswer::Progress {
+                complete: stage.complete,
+                segments: stage.segments,
                 unanswered: self.unanswered(),
             },
         }
