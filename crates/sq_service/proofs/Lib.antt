@@ -1,0 +1,4 @@
+pub mod Served
+pub mod Planned
+pub mod Written
+pub mod Opened

@@ -1,0 +1,48 @@
+-- What a desk writes over all epochs together.
+use Rattle.std.proofs.Common.{◌≡◌, List, [], ◌∷◌, ◌++◌, length, map, sym, ap, subst, ◌∙◌, append-nil}
+use Rattle.sq_engine.specs.declared.standing.Standing.{Standing}
+use Rattle.sq_epoch.specs.Exchanges.{Exchange}
+use Rattle.sq_server.specs.declared.desk.AskedTxn.{AskedTxn}
+use Rattle.sq_server.specs.Becoming.{ServeDeskValue, jobs_waiting, Speaks}
+use Rattle.sq_server.specs.Written.{Other, WritesEach}
+use Rattle.std.specs.Io.KnownBytes.{Appends}
+use Rattle.sq_server.proofs.Epochs.{none_written, writes_then, others_said, others_tell_none}
+use Rattle.sq_service.specs.Events.{ServeEvent, EpochServed, PageTurned, GoneOn, Happens, HappenEach}
+
+-- other lines alone
+speaks_write : (a b : ServeDeskValue) → Speaks a b → WritesEach [] a b
+speaks_write a b says =
+    record {
+      goes_on = says.goes_on;
+      said = map Other says.others;
+      written = λ still.
+          subst (Appends a.written b.written) (sym (others_said says.others)) (says.written still);
+      told = λ part. others_tell_none part says.others;
+      more = [];
+      heard = says.heard ∙ sym (append-nil a.heard);
+      count = ap (λ (w : List (List AskedTxn)). length w) says.waiting;
+      jobs = λ still part within.
+          append-nil (jobs_waiting a.waiting part)
+          ∙ ap (λ (w : List (List AskedTxn)). jobs_waiting w part) (sym says.waiting);
+    }
+
+-- the exchanges by which a desk wrote what it wrote
+abbrev pub SomeWrite : ServeDeskValue → ServeDeskValue → Type 0
+SomeWrite before after = (exchanges : List Exchange) × WritesEach exchanges before after
+
+same_writes : (a b : ServeDeskValue) → b ≡ a → SomeWrite a b
+same_writes a b same = subst (SomeWrite a) (sym same) ([], none_written a)
+
+happens_write : (event : ServeEvent) (old : Standing) (before : ServeDeskValue) (new : Standing) (after : ServeDeskValue)
+    → Happens event old before new after → SomeWrite before after
+happens_write (EpochServed is_whole) old before new after is = (is.exchanges, is.writes)
+happens_write (PageTurned page) old before new after is = same_writes before after is.1
+happens_write GoneOn old before new after is = ([], speaks_write before after is.1)
+
+pub happen_write : (events : List ServeEvent) (old : Standing) (before : ServeDeskValue) (new : Standing) (after : ServeDeskValue)
+    → HappenEach events old before new after → SomeWrite before after
+happen_write [] old before new after none = same_writes before after none.1
+happen_write (event ∷ events) old before new after went =
+    let first = happens_write event old before went.0 went.1 went.2 in
+    let later = happen_write events went.0 went.1 new after went.3 in
+    (first.0 ++ later.0, writes_then first.0 later.0 before went.1 after first.1 later.1)

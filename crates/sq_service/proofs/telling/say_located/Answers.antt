@@ -1,0 +1,22 @@
+use Rattle.std.proofs.Common.{ℕ, ap, ◌∙◌}
+use Rattle.sq_text.specs.InputFaults.{input_fault_number}
+use Rattle.sq_text.specs.Texts.{fault_line}
+use Rattle.sq_serve.specs.declared.serve_answer.ServeAnswer.TheVariants.{Fault}
+use Rattle.sq_serve.specs.ServeAnswers.{serve_answer_line}
+use Rattle.sq_service.proofs.telling.say_located.Goals as goal
+
+pub returns-in-Some : goal.returns-in-Some
+returns-in-Some g c =
+    let fault = c.number-fault in
+    let line = c.number-line in (
+      serve_answer_line (Fault fault.result line.result),
+      rw c.in-Some.is
+          (λ fits.
+          ap (λ (n : ℕ). serve_answer_line (Fault n line.result)) fault.ensures
+          ∙ ap (λ (n : ℕ). serve_answer_line (Fault (input_fault_number c.args.located.fault) n)) (line.ensures fits)),
+      c.say.ensures,
+    )
+
+pub returns-in-None : goal.returns-in-None
+returns-in-None g c =
+    (fault_line c.number-fault.result, rw c.in-None.is (ap fault_line c.number-fault.ensures), c.say_fault.ensures)

@@ -1,0 +1,31 @@
+use Rattle.sq_server.specs.Becoming.{desk_value}
+use Rattle.sq_service.specs.Events.{GoneOn}
+use Rattle.std.proofs.Common.{[], ◌∷◌, refl}
+use Rattle.sq_engine.proofs.Goings.{stays}
+use Rattle.sq_service.proofs.Served.{ends_at_once, ends_with, stopped_ends, memory_ends, served_steps, speaks_only}
+use Rattle.sq_service.proofs.wishes.go_on.Goals as goal
+
+pub returns-in-Some : goal.returns-in-Some
+returns-in-Some g c =
+    let book = c.args.book.now in
+    ends_at_once book c.args.engine (desk_value g.W.Write.contents c.args.desk.now) c.in-Some.ending c.requires
+    (stopped_ends book.committed [] c.args.engine c.in-Some.ending c.in-Some.ensures)
+
+pub returns-in-Ok : goal.returns-in-Ok
+returns-in-Ok g c =
+    let book = c.args.book.now in
+    let before = desk_value g.W.Write.contents c.args.desk.now in
+    let told = desk_value g.W.Write.contents c.note_rest.new.desk in
+    let after = desk_value g.W.Write.contents c.page_or_wish.new.desk in
+    served_steps book book c.page_or_wish.new.book c.args.engine before c.args.engine told c.page_or_wish.result after
+    (speaks_only book c.args.engine before told c.note_rest.ensures.speaks) c.page_or_wish.ensures
+
+pub returns-in-Err : goal.returns-in-Err
+returns-in-Err g c =
+    let book = c.args.book.now in
+    let engine = c.args.engine in
+    let before = desk_value g.W.Write.contents c.args.desk.now in
+    let told = desk_value g.W.Write.contents c.note_rest.new.desk in
+    ends_with (GoneOn ∷ []) book engine before engine told c.in-Err.ending refl c.requires
+    (engine, told, (stays engine engine refl, c.note_rest.ensures.speaks), (refl, refl))
+    (memory_ends book.committed [] engine c.in-Err.ending c.in-Err.ensures.memory)

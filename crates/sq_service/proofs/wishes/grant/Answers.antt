@@ -1,0 +1,12 @@
+use Rattle.sq_server.specs.Becoming.{desk_value}
+use Rattle.sq_service.proofs.Served.{goes_or_ends, ends_at_once}
+use Rattle.sq_service.proofs.wishes.grant.Goals as goal
+
+pub returns-in-Move : goal.returns-in-Move
+returns-in-Move g c =
+    let dv = desk_value g.W.Write.contents in
+    goes_or_ends c.args.book.now c.args.engine (dv c.args.desk.now) c.begin_move.result (dv c.begin_move.new.desk) c.requires c.begin_move.ensures
+
+pub returns-in-Close : goal.returns-in-Close
+returns-in-Close g c =
+    ends_at_once c.args.book.now c.args.engine (desk_value g.W.Write.contents c.args.desk.now) c.close.result c.requires c.close.ensures

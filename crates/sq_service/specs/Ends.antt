@@ -1,0 +1,66 @@
+-- How an engine that is served ends.
+use Rattle.std.specs.Prelude.{◌≡◌, ◌⊎◌, ◌+◌, ◌^◌, ◌<◌, ℕ, List, [], ◌∷◌, ◌++◌, All, sum_by}
+use Rattle.sq_ranges.specs.Prelude.{IsSetUp}
+use Rattle.sq_audit.specs.declared.verdict.Verdict.{Verdict}
+use Rattle.sq_audit.specs.declared.verdict.Verdict.TheVariants as verdict
+use Rattle.sq_live.specs.Outcome.{stored_count, commit_count}
+use Rattle.sq_engine.specs.declared.closed.Closed.{Closed}
+use Rattle.sq_engine.specs.declared.standing.Standing.{Standing}
+use Rattle.sq_engine.specs.declared.rest_page.RestPage.{RestPage}
+use Rattle.sq_engine.specs.Taken.{HasClosedAfter}
+use Rattle.sq_server.specs.declared.ending.ServeEnding.{ServeEnding}
+use Rattle.sq_server.specs.declared.ending.ServeEnding.TheVariants.{Sound, Unsound, NoHeader, Memory, Unwritten}
+use Rattle.sq_server.specs.Becoming.{ServeDeskValue}
+use Rattle.sq_service.specs.declared.page_book.PageBook.{PageBook}
+use Rattle.sq_service.specs.Judging.{IsFoundAs, ClosesAs, page_commits}
+use Rattle.sq_service.specs.Events.{ServeEvent, HappenEach, pages_turned, page_due}
+
+-- an engine was closed, and this was found of its last page
+pub record ClosesFound (last : Standing) (found : Verdict) (closed : Closed) : Type 0 where
+  pub after : HasClosedAfter last closed
+  pub set_up : IsSetUp closed.opening
+  pub judged : ClosesAs found closed
+
+-- so many families and commits an engine had that was closed, where so many were committed before
+pub record HasTotals (before : ℕ) (closed : Closed) (families committed : ℕ) : Type 0 where
+  pub families_are : stored_count closed.gathered < 2 ^ 64 → families ≡ stored_count closed.gathered
+  pub committed_are : before + commit_count closed.page.run.receipts < 2 ^ 64
+      → committed ≡ before + commit_count closed.page.run.receipts
+
+-- so many were committed on these pages, and before
+abbrev pub commits_on_pages : ℕ → List RestPage → ℕ
+commits_on_pages before pages = before + sum_by page_commits pages
+
+-- what a closed engine comes to
+abbrev pub ClosedEndsBy : ℕ → Closed → ServeEnding → Type 0
+ClosedEndsBy committed_before closed (Sound families committed is_whole) =
+    ClosesAs verdict.Sound closed × HasTotals committed_before closed families committed
+ClosedEndsBy committed_before closed (Unsound defect) = ClosesAs (verdict.Unsound defect) closed
+ClosedEndsBy committed_before closed (NoHeader fault) = ⊥
+ClosedEndsBy committed_before closed Memory = Unit {0}
+ClosedEndsBy committed_before closed Unwritten = ⊥
+
+-- why an engine ended, where these pages weren't found sound so far: it was closed and its last page is sound; or that page, or
+-- the one that was audited last, has a defect. Where memory ran out, or nothing could be written, no more is said
+abbrev pub ServiceEndsBy : ℕ → List RestPage → Standing → ServeEnding → Type 0
+ServiceEndsBy committed_before rest last (Sound families committed is_whole) =
+    (rest ≡ []) × (closed : Closed) × ClosesFound last verdict.Sound closed × HasTotals committed_before closed families committed
+ServiceEndsBy committed_before rest last (Unsound defect) =
+    ((page : RestPage) × (rest ≡ page ∷ []) × IsFoundAs (verdict.Unsound defect) page)
+    ⊎ ((rest ≡ []) × (closed : Closed) × ClosesFound last (verdict.Unsound defect) closed)
+ServiceEndsBy committed_before rest last (NoHeader fault) = ⊥
+ServiceEndsBy committed_before rest last Memory = Unit {0}
+ServiceEndsBy committed_before rest last Unwritten = Unit {0}
+
+-- an engine was served until it ended so
+pub record HasEndedServing (was : PageBook) (old : Standing) (before : ServeDeskValue) (ending : ServeEnding) (after : ServeDeskValue) : Type 0 where
+  pub events : List ServeEvent
+  pub last : Standing
+  pub happened : HappenEach events old before last after
+  pub judged : List RestPage
+  pub rest : List RestPage
+  pub pages : page_due was.due ++ pages_turned events ≡ judged ++ rest
+  pub sound : All (IsFoundAs verdict.Sound) judged
+  pub ends : (total : ℕ)
+      × (commits_on_pages was.committed judged < 2 ^ 64 → total ≡ commits_on_pages was.committed judged)
+      × ServiceEndsBy total rest last ending

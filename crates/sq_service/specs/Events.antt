@@ -1,0 +1,59 @@
+-- What becomes of an engine that is served, and what its desk writes meanwhile.
+use Rattle.std.specs.Prelude.{◌≡◌, ◌+◌, ◌^◌, ◌<◌, ℕ, Bool, List, [], ◌∷◌, ◌++◌, All, sum_by, Option, Some, None}
+use Rattle.std.specs.List.{flat_map}
+use Rattle.sq_audit.specs.declared.verdict.Verdict.TheVariants.{Sound}
+use Rattle.sq_engine.specs.declared.standing.Standing.{Standing}
+use Rattle.sq_engine.specs.declared.rest_page.RestPage.{RestPage}
+use Rattle.sq_engine.specs.Engine.{KeepsHistoryAndJobs}
+use Rattle.sq_engine.specs.Taken.{TakesPage}
+use Rattle.sq_server.specs.Becoming.{ServeDeskValue, Speaks}
+use Rattle.sq_server.specs.Written.{EpochIsWritten}
+use Rattle.sq_service.specs.declared.page_audit.PageToAudit.{PageToAudit}
+use Rattle.sq_service.specs.declared.page_book.PageBook.{PageBook}
+use Rattle.sq_service.specs.Judging.{IsFoundAs, page_commits}
+
+-- an epoch is served, a page is taken, or the engine goes on, as where a move begins
+pub data ServeEvent : Type 0 where
+  EpochServed : (is_whole : Bool) → ServeEvent
+  PageTurned : (page : RestPage) → ServeEvent
+  GoneOn : ServeEvent
+
+-- what an event makes of an engine and of its desk
+abbrev pub Happens : ServeEvent → Standing → ServeDeskValue → Standing → ServeDeskValue → Type 0
+Happens (EpochServed is_whole) old before new after = EpochIsWritten old before new after is_whole
+Happens (PageTurned page) old before new after = TakesPage old page new × (after ≡ before)
+Happens GoneOn old before new after = KeepsHistoryAndJobs old new × Speaks before after
+
+-- what these events, one after another, make of them
+abbrev pub HappenEach : List ServeEvent → Standing → ServeDeskValue → Standing → ServeDeskValue → Type 0
+HappenEach [] old before new after = (new ≡ old) × (after ≡ before)
+HappenEach (event ∷ events) old before new after =
+    (mid : Standing) × (between : ServeDeskValue) × Happens event old before mid between × HappenEach events mid between new after
+
+abbrev pub page_turned : ServeEvent → List RestPage
+page_turned (EpochServed is_whole) = []
+page_turned (PageTurned page) = page ∷ []
+page_turned GoneOn = []
+
+-- the pages that were taken, in their order
+abbrev pub pages_turned : List ServeEvent → List RestPage
+pages_turned events = flat_map page_turned events
+
+-- the page that is to be audited, if there is one
+abbrev pub page_due : Option PageToAudit → List RestPage
+page_due (Some due) = due.page ∷ []
+page_due None = []
+
+-- so many more were committed, unless they are more than 64 bits count
+abbrev pub CountsCommits : ℕ → List RestPage → ℕ → Type 0
+CountsCommits before pages after = before + sum_by page_commits pages < 2 ^ 64 → after ≡ before + sum_by page_commits pages
+
+-- an engine was served for a while: of the pages that were to be audited or were taken each was found sound, but for the one
+-- that is to be audited now
+pub record HasServed (was : PageBook) (old : Standing) (before : ServeDeskValue) (now : PageBook) (new : Standing) (after : ServeDeskValue) : Type 0 where
+  pub events : List ServeEvent
+  pub happened : HappenEach events old before new after
+  pub judged : List RestPage
+  pub pages : page_due was.due ++ pages_turned events ≡ judged ++ page_due now.due
+  pub sound : All (IsFoundAs Sound) judged
+  pub committed : CountsCommits was.committed judged now.committed

@@ -1,0 +1,78 @@
+-- An engine that is served from its opening to its end.
+use Rattle.std.specs.Prelude.{◌≡◌, ◌⊎◌, ◌^◌, ◌<◌, false, ℕ, List, [], replicate, Option, None}
+use Rattle.sq_ranges.specs.OpeningValue.{OpeningValue}
+use Rattle.sq_engine.specs.declared.closed.Closed.{Closed}
+use Rattle.sq_engine.specs.declared.standing.Standing.{Standing}
+use Rattle.sq_engine.specs.Engine.{Stands}
+use Rattle.sq_live.specs.Outcome.{stored_count}
+use Rattle.sq_server.specs.declared.ending.ServeEnding.{ServeEnding}
+use Rattle.sq_server.specs.declared.ending.ServeEnding.TheVariants.{Sound, Unsound, NoHeader, Memory, Unwritten}
+use Rattle.sq_server.specs.declared.feed.Fed.{Fed}
+use Rattle.sq_server.specs.declared.outlet.Outlet.{Outlet}
+use Rattle.sq_server.specs.Becoming.{ServeDeskValue}
+use Rattle.sq_service.specs.declared.page_book.PageBook.{PageBook}
+use Rattle.sq_service.specs.Ends.{HasEndedServing}
+use Rattle.sq_service.specs.Planned.{EndsServingAsPlanned}
+use Rattle.sq_service.specs.Telling.{TellsEnding}
+
+-- no page was taken
+abbrev pub no_pages : PageBook
+no_pages = record { due = None; committed = 0 }
+
+-- an engine of which no page was taken was served until it ended so, and what its desk wrote by then is what the outlet holds
+pub record HasEndedWithOutlet {W : Type 0} (contents : W → Option (List ℕ)) (engine : Standing) (before : ServeDeskValue)
+    (ending : ServeEnding) (outlet : Outlet W) : Type 0 where
+  pub after : ServeDeskValue
+  pub ended : HasEndedServing no_pages engine before ending after
+  pub written : contents outlet.writer ≡ after.written
+  pub stopped : after.has_stopped ≡ false → outlet.has_failed ≡ false
+
+-- a desk that has heard this, for so many partitions, and has written what an outlet holds
+abbrev pub first_desk : {W : Type 0} → (W → Option (List ℕ)) → Outlet W → List Fed → ℕ → ServeDeskValue
+first_desk contents outlet heard parts =
+    record { written = contents outlet.writer; has_stopped = outlet.has_failed; heard = heard; waiting = replicate parts [] }
+
+-- where it ends sound, it ends as planned, with so many families
+abbrev pub SoundAsPlanned : OpeningValue → ServeEnding → Type 0
+SoundAsPlanned o (Sound families committed is_whole) =
+    (closed : Closed) × EndsServingAsPlanned o closed
+    × (stored_count closed.gathered < 2 ^ 64 → families ≡ stored_count closed.gathered)
+SoundAsPlanned o (Unsound defect) = Unit {0}
+SoundAsPlanned o (NoHeader fault) = Unit {0}
+SoundAsPlanned o Memory = Unit {0}
+SoundAsPlanned o Unwritten = Unit {0}
+
+-- an engine with this opening was served, by a desk that stood so, until it ended so
+abbrev pub EngineServes : {W : Type 0} → (W → Option (List ℕ)) → OpeningValue → ServeDeskValue → ServeEnding → Outlet W → Type 0
+EngineServes contents o before ending new =
+    (engine : Standing) × Stands o [] engine × HasEndedWithOutlet contents engine before ending new × SoundAsPlanned o ending
+
+-- or there was no memory for it
+abbrev pub ServesOpening : {W : Type 0} → (W → Option (List ℕ)) → OpeningValue → ServeDeskValue → Outlet W → ServeEnding → Outlet W → Type 0
+ServesOpening contents o before outlet ending new =
+    EngineServes contents o before ending new ⊎ ((ending ≡ Memory) × (new ≡ outlet))
+
+-- nothing was served, since the header has a fault or there was no memory
+abbrev pub ServesNone : ServeEnding → Type 0
+ServesNone (NoHeader fault) = Unit {0}
+ServesNone Memory = Unit {0}
+ServesNone (Sound families committed is_whole) = ⊥
+ServesNone (Unsound defect) = ⊥
+ServesNone Unwritten = ⊥
+
+-- an engine with some opening was served, or nothing was
+abbrev pub ServesSome : {W : Type 0} → (W → Option (List ℕ)) → Outlet W → ServeEnding → Outlet W → Type 0
+ServesSome contents outlet ending new =
+    ((o : OpeningValue) × (heard : List Fed) × EngineServes contents o (first_desk contents outlet heard o.new.parts) ending new)
+    ⊎ (ServesNone ending × (new ≡ outlet))
+
+-- what a writer holds grew by what an engine with some opening wrote, if one was served, and by the line of how it ended
+pub record ServesWriter {W : Type 0} (contents : W → Option (List ℕ)) (old new : W) (told : ServeEnding) : Type 0 where
+  pub first : Outlet W
+  pub first_writer : first.writer ≡ old
+  pub ending : ServeEnding
+  pub last : Outlet W
+  pub served : ServesSome contents first ending last
+  pub end : Outlet W
+  pub tells : TellsEnding contents last ending end told
+  pub end_writer : end.writer ≡ new

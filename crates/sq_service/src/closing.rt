@@ -1,0 +1,51 @@
+// How an engine that is served is closed.
+ghost use Rattle.std.specs.Prelude.{[]};
+ghost use Rattle.sq_ranges.specs.Prelude.{IsSetUp};
+ghost use Rattle.sq_audit.specs.Answers.{IdsDiffer};
+ghost use Rattle.sq_service.specs.Ends.{ServiceEndsBy, ClosedEndsBy};
+
+use crate::page_audit::{audit_closed, count_families};
+use sq_engine::{Closed, Engine};
+use sq_server::ServeEnding;
+use std::alloc::Global;
+use std::sync::Wait;
+use std::thread::Threads;
+
+/// Closes an engine at rest, all jobs of which are answered, and says how it ends. So many jobs were committed on the pages
+/// before, and the input was read to its end, or wasn't.
+pub(crate) fn close<T: Threads + Wait + Sync>(
+    rt: &T,
+    alloc: Global,
+    engine: Engine,
+    committed: u64,
+    is_whole: bool,
+) -> ServeEnding
+    ensures { ServiceEndsBy committed [] engine result }
+{
+    match engine.close(rt, alloc) {
+        Ok(closed) => judge_closed(rt, alloc, &closed, committed, is_whole),
+        Err(_) => ServeEnding::Memory,
+    }
+}
+
+// How a closed engine ends.
+fn judge_closed<T: Threads + Sync>(
+    rt: &T,
+    alloc: Global,
+    closed: &Closed,
+    committed: u64,
+    is_whole: bool,
+) -> ServeEnding
+    requires { IdsDiffer closed.now.page.jobs.items }
+    ensures ends { ClosedEndsBy committed closed.now result }
+    ensures set_up { IsSetUp closed.now.opening }
+{
+    match audit_closed(rt, alloc, closed) {
+        Ok(counts) => ServeEnding::Sound {
+            families: count_families(&closed.gathered.stores),
+            committed: committed.saturating_add(counts.committed),
+            is_whole,
+        },
+        Err(ending) => ending,
+    }
+}

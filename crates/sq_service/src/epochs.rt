@@ -1,0 +1,178 @@
+// The epochs of an engine that is served, with the audits beside them.
+ghost use Rattle.std.specs.Prelude.{◌≡◌, None, Some};
+ghost use Rattle.std.specs.Thread.{IsSync};
+ghost use Rattle.sq_server.specs.Becoming.{desk_value, Speaks};
+ghost use Rattle.sq_service.specs.Judging.{JudgesPage};
+ghost use Rattle.sq_service.specs.Steps.{IsWholeEngine, EpochGives, EntersPage, StepGives, first_ending};
+
+use crate::page_audit::{PageCounts, PageToAudit, audit_beside};
+use crate::page_book::PageBook;
+use sq_engine::{Engine, EngineServed, RestPage};
+use sq_serve::ServeAnswer;
+use sq_server::{AuditProgress, Control, ServeDesk, ServeEnding, serve_epoch};
+use std::alloc::Global;
+use std::io::Write;
+use std::sync::Wait;
+use std::thread::{Threads, join};
+
+/// Where an engine that is served stands: it goes on, or ends so.
+#[derive(Drop)]
+pub(crate) struct ServiceStep<W: Write + Drop> {
+    pub(crate) desk: ServeDesk<W>,
+    pub(crate) engine: Result<Engine, ServeEnding>,
+}
+
+/// Serves an epoch, and audits the page beside it that is due, if one is.
+pub(crate) fn go_through_epoch<T: Threads + Wait + Sync, W: Write + Drop>(
+    rt: &T,
+    alloc: Global,
+    engine: Engine,
+    desk: ServeDesk<W>,
+    audit: &AuditProgress,
+    book: &mut PageBook,
+) -> ServiceStep<W>
+    ensures gives { StepGives book.old engine (desk_value W.contents desk)
+        book.new result.engine (desk_value W.contents result.desk) }
+    ensures none_due { book.new.due ≡ None }
+{
+    match book.take_due() {
+        None => serve_one_epoch(rt, alloc, engine, desk, audit),
+        Some(due) => serve_with_due(rt, alloc, engine, desk, audit, due, book),
+    }
+}
+
+// Serves an epoch, audits beside it the page that is due, and takes note of what that comes to.
+fn serve_with_due<T: Threads + Wait + Sync, W: Write + Drop>(
+    rt: &T,
+    alloc: Global,
+    engine: Engine,
+    desk: ServeDesk<W>,
+    audit: &AuditProgress,
+    due: PageToAudit,
+    book: &mut PageBook,
+) -> ServiceStep<W>
+    requires { book.old.due ≡ None }
+    ensures gives { StepGives (record book.old { due = Some due }) engine
+        (desk_value W.contents desk)
+        book.new result.engine (desk_value W.contents result.desk) }
+    ensures none_due { book.new.due ≡ None }
+{
+    let PageToAudit { page, is_asked } = due;
+    let (judged, step) = serve_beside_audit(rt, alloc, engine, desk, audit, page);
+    audit.forget();
+    let ServiceStep { mut desk, engine } = step;
+    let entered = enter_page(book, judged, is_asked, &mut desk);
+    ServiceStep {
+        desk,
+        engine: unless_ended(entered, engine),
+    }
+}
+
+// The engine, unless the page beside its epoch ends it.
+fn unless_ended(
+    entered: Result<(), ServeEnding>,
+    engine: Result<Engine, ServeEnding>,
+) -> Result<Engine, ServeEnding>
+    ensures { result ≡ first_ending entered engine }
+{
+    match entered {
+        Ok(()) => engine,
+        Err(ending) => Err(ending),
+    }
+}
+
+// Serves an epoch. Where an answer or a thread is missing, it ends for want of memory.
+fn serve_one_epoch<T: Threads + Wait + Sync, W: Write + Drop>(
+    rt: &T,
+    alloc: Global,
+    engine: Engine,
+    desk: ServeDesk<W>,
+    audit: &AuditProgress,
+) -> ServiceStep<W>
+    ensures { EpochGives engine (desk_value W.contents desk)
+        result.engine (desk_value W.contents result.desk) }
+{
+    let mut control = Control { desk, audit };
+    let served = serve_epoch(rt, alloc, engine, &mut control);
+    let Control { desk, audit: _ } = control;
+    ServiceStep {
+        desk,
+        engine: whole_engine(served),
+    }
+}
+
+// The engine that was served, unless an answer or a thread is missing for want of memory.
+fn whole_engine(served: Result<EngineServed, Engine>) -> Result<Engine, ServeEnding>
+    ensures { IsWholeEngine served result }
+{
+    match served {
+        Ok(
+            EngineServed {
+                engine,
+                is_whole: true,
+                lacks_threads: false,
+            },
+        ) => Ok(engine),
+        Ok(_) | Err(_) => Err(ServeEnding::Memory),
+    }
+}
+
+// Serves an epoch, and audits a page beside it.
+fn serve_beside_audit<T: Threads + Wait + Sync, W: Write + Drop>(
+    rt: &T,
+    alloc: Global,
+    engine: Engine,
+    desk: ServeDesk<W>,
+    audit: &AuditProgress,
+    page: RestPage,
+) -> (Result<PageCounts, ServeEnding>, ServiceStep<W>)
+    ensures judged { JudgesPage page result.0 }
+    ensures gives { EpochGives engine (desk_value W.contents desk)
+        result.1.engine (desk_value W.contents result.1.desk) }
+{
+    join(
+        rt,
+        move || -> Result<PageCounts, ServeEnding>
+            requires { IsSync T.row }
+            ensures { JudgesPage page result }
+        { audit_beside(rt, alloc, page, audit) },
+        move || -> ServiceStep<W>
+            requires { IsSync T.row }
+            ensures { EpochGives engine (desk_value W.contents desk)
+                result.engine (desk_value W.contents result.desk) }
+        { serve_one_epoch(rt, alloc, engine, desk, audit) },
+    )
+}
+
+// Takes note of what the audit of a page came to, and tells it where a line asked for it.
+fn enter_page<W: Write + Drop>(
+    book: &mut PageBook,
+    judged: Result<PageCounts, ServeEnding>,
+    is_asked: bool,
+    desk: &mut ServeDesk<W>,
+) -> Result<(), ServeEnding>
+    ensures speaks { Speaks (desk_value W.contents desk.old) (desk_value W.contents desk.new) }
+    ensures due { book.new.due ≡ book.old.due }
+    ensures entered { EntersPage book.old.committed judged book.new.committed result }
+{
+    match judged {
+        Ok(counts) => {
+            book.enter(counts);
+            tell_folded(desk, is_asked, counts);
+            Ok(())
+        }
+        Err(ending) => Err(ending),
+    }
+}
+
+// Tells what a sound page has, where a line asked for it.
+fn tell_folded<W: Write + Drop>(desk: &mut ServeDesk<W>, is_asked: bool, counts: PageCounts)
+    ensures { Speaks (desk_value W.contents desk.old) (desk_value W.contents desk.new) }
+{
+    if is_asked {
+        desk.say(ServeAnswer::Folded {
+            families: counts.families,
+            committed: counts.committed,
+        });
+    }
+}

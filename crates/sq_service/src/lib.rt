@@ -1,0 +1,17 @@
+//! An engine behind a pipe: it reads an opening and then lines, for as long as they come, and answers each of them.
+#![tactic(auto)]
+
+mod closing;
+mod epochs;
+pub mod laws;
+mod moving;
+mod page_audit;
+mod page_book;
+mod plan_line;
+mod reading;
+mod service;
+mod serving;
+mod telling;
+mod wishes;
+
+pub use serving::{ServeConfig, serve};

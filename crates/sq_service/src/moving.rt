@@ -1,0 +1,100 @@
+// Moves of an engine that is served.
+ghost use Rattle.std.specs.Prelude.{◌≡◌, IfErr};
+ghost use Rattle.sq_server.specs.Becoming.{desk_value, Speaks};
+ghost use Rattle.sq_server.specs.declared.ending.ServeEnding.TheVariants.{Memory};
+ghost use Rattle.sq_service.specs.Steps.{GoesOrLacksMemory};
+
+use crate::telling::{tell_moved, tell_moving};
+use sq_engine::{Engine, NotMoved};
+use sq_plan::Plan;
+use sq_server::{MoveProgress, ServeDesk, ServeEnding};
+use std::alloc::{AllocError, Global};
+use std::io::Write;
+use std::sync::Wait;
+use std::thread::Threads;
+
+/// Begins a move to a plan, or refuses it.
+pub(crate) fn begin_move<T: Threads + Wait + Sync, W: Write + Drop>(
+    rt: &T,
+    alloc: Global,
+    engine: Engine,
+    plan: Plan,
+    desk: &mut ServeDesk<W>,
+) -> Result<Engine, ServeEnding>
+    ensures { GoesOrLacksMemory engine (desk_value W.contents desk.old)
+        result (desk_value W.contents desk.new) }
+{
+    match engine.move_to(rt, alloc, plan) {
+        Ok(engine) => tell_begun(engine, desk),
+        Err((why, engine)) => refuse_move(engine, why, desk),
+    }
+}
+
+// Refuses a move of an engine, or ends it where there is no memory.
+fn refuse_move<W: Write + Drop>(
+    engine: Engine,
+    why: NotMoved,
+    desk: &mut ServeDesk<W>,
+) -> Result<Engine, ServeEnding>
+    ensures { GoesOrLacksMemory engine (desk_value W.contents desk.old)
+        result (desk_value W.contents desk.new) }
+{
+    match why {
+        NotMoved::Plans(fault) => {
+            desk.say_refused(fault.number());
+            Ok(engine)
+        }
+        NotMoved::Moving | NotMoved::Memory => Err(ServeEnding::Memory),
+    }
+}
+
+// Tells that the move of an engine begins, and where nothing moves that it is done.
+fn tell_begun<W: Write + Drop>(
+    engine: Engine,
+    desk: &mut ServeDesk<W>,
+) -> Result<Engine, ServeEnding>
+    ensures { GoesOrLacksMemory engine (desk_value W.contents desk.old)
+        result (desk_value W.contents desk.new) }
+{
+    let progress = MoveProgress {
+        segments: engine.opening().recon().segments().len() as u64,
+        stage: engine.progress(),
+    };
+    tell_moving(desk, progress);
+    match note_rest(&engine, desk) {
+        Ok(()) => Ok(engine),
+        Err(ending) => Err(ending),
+    }
+}
+
+/// Tells where a move is done.
+pub(crate) fn note_rest<W: Write + Drop>(
+    engine: &Engine,
+    desk: &mut ServeDesk<W>,
+) -> Result<(), ServeEnding>
+    ensures speaks { Speaks (desk_value W.contents desk.old) (desk_value W.contents desk.new) }
+    ensures memory { IfErr result (λ ending. ending ≡ Memory) }
+{
+    match desk.moving {
+        Some(progress) if engine.is_at_rest() => end_move(engine, desk, progress.segments),
+        _ => Ok(()),
+    }
+}
+
+// Tells that a move of so many segments is done.
+fn end_move<W: Write + Drop>(
+    engine: &Engine,
+    desk: &mut ServeDesk<W>,
+    segments: u64,
+) -> Result<(), ServeEnding>
+    ensures speaks { Speaks (desk_value W.contents desk.old) (desk_value W.contents desk.new) }
+    ensures memory { IfErr result (λ ending. ending ≡ Memory) }
+{
+    match engine.opening().new_plan().write() {
+        Ok(plan) => {
+            tell_moved(desk, plan, segments);
+            Ok(())
+        }
+        Err(AllocError) => Err(ServeEnding::Memory),
+    }
+}

@@ -1,0 +1,112 @@
+// The audit of a page, beside an epoch or at the end.
+ghost use Rattle.std.specs.Prelude.{◌≡◌, ◌^◌, ◌<◌, sum_by};
+ghost use Rattle.std.specs.FinMap.{len};
+ghost use Rattle.sq_ranges.specs.Prelude.{IsSetUp};
+ghost use Rattle.sq_audit.specs.Answers.{IdsDiffer};
+ghost use Rattle.sq_service.specs.Judging.{JudgesPage, JudgesClosed, IsJudgedAs};
+
+use sq_audit::Verdict;
+use sq_engine::{Closed, RestPage};
+use sq_gather::Gathered;
+use sq_live::count_commits;
+use sq_page::audit_page;
+use sq_runs::RunStore;
+use sq_server::{AuditProgress, ServeEnding};
+use std::alloc::Global;
+use std::thread::Threads;
+
+/// A page that is to be audited.
+#[derive(Drop)]
+pub(crate) struct PageToAudit {
+    pub(crate) page: RestPage,
+    /// Whether a line asked for it.
+    pub(crate) is_asked: bool,
+}
+
+/// What a sound page has.
+#[derive(Clone, Copy, Debug, PartialEq, Eq)]
+pub(crate) struct PageCounts {
+    pub(crate) families: u64,
+    pub(crate) committed: u64,
+}
+
+/// Audits a page, and tells how far that is: what the page has, or how an engine ends whose page isn't sound.
+pub(crate) fn audit_beside<T: Threads + Sync>(
+    rt: &T,
+    alloc: Global,
+    page: RestPage,
+    progress: &AuditProgress,
+) -> Result<PageCounts, ServeEnding>
+    ensures { JudgesPage page result }
+{
+    progress.begin();
+    let judged = audit_rest_page(rt, alloc, &page);
+    // An epoch ends once the audit has: it shouldn't wait for the memory of the page.
+    drop(page);
+    progress.end();
+    judged
+}
+
+// What a page of an engine at rest has, or how an engine ends whose page isn't sound.
+fn audit_rest_page<T: Threads + Sync>(
+    rt: &T,
+    alloc: Global,
+    page: &RestPage,
+) -> Result<PageCounts, ServeEnding>
+    ensures { JudgesPage page.now result }
+{
+    match page.audit(rt, alloc) {
+        Ok(verdict) => judge(verdict, &page.page.run),
+        Err(_) => Err(ServeEnding::Memory),
+    }
+}
+
+/// What the last page of an engine has, or how an engine ends whose last page isn't sound.
+pub(crate) fn audit_closed<T: Threads + Sync>(
+    rt: &T,
+    alloc: Global,
+    closed: &Closed,
+) -> Result<PageCounts, ServeEnding>
+    requires { IdsDiffer closed.now.page.jobs.items }
+    ensures judged { JudgesClosed closed.now result }
+    ensures set_up { IsSetUp closed.now.opening }
+{
+    let opening = &closed.opening;
+    let audited = audit_page(
+        rt,
+        alloc,
+        opening.schema(),
+        opening.new_plan(),
+        opening.config(),
+        &closed.page,
+    );
+    match audited {
+        Ok(verdict) => judge(verdict, &closed.page.run),
+        Err(_) => Err(ServeEnding::Memory),
+    }
+}
+
+// What a page has by this verdict, or how an engine ends whose page isn't sound.
+fn judge(verdict: Verdict, run: &Gathered) -> Result<PageCounts, ServeEnding>
+    ensures { IsJudgedAs run.now verdict result }
+{
+    match verdict {
+        Verdict::Sound => Ok(PageCounts {
+            families: count_families(&run.stores),
+            committed: count_commits(&run.receipts),
+        }),
+        Verdict::Unsound(defect) => Err(ServeEnding::Unsound(defect)),
+    }
+}
+
+/// How many families stores have.
+pub(crate) fn count_families(stores: &[RunStore]) -> u64
+    ensures { sum_by (λ store. len store) stores.now < 2 ^ 64
+        → result ≡ sum_by (λ store. len store) stores.now }
+{
+    let mut count: u64 = 0;
+    for store in stores {
+        count = count.saturating_add(store.len() as u64);
+    }
+    count
+}

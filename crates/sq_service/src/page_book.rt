@@ -1,0 +1,49 @@
+// The pages of an engine that is served.
+ghost use Rattle.std.specs.Prelude.{◌≡◌, ◌+◌, ◌^◌, ◌<◌, None, Some};
+
+use crate::page_audit::{PageCounts, PageToAudit};
+
+/// What is known of the pages of an engine that is served.
+#[derive(Drop)]
+pub(crate) struct PageBook {
+    /// The page that is to be audited beside the next epoch.
+    pub(crate) due: Option<PageToAudit>,
+    /// How many jobs were committed, by the pages that were found sound.
+    pub(crate) committed: u64,
+}
+
+impl PageBook {
+    /// Of an engine of which no page was taken.
+    pub(crate) fn new() -> PageBook
+        ensures { result ≡ record { due = None; committed = 0 } }
+    {
+        PageBook {
+            due: None,
+            committed: 0,
+        }
+    }
+
+    /// Takes the page that is to be audited, if there is one.
+    pub(crate) fn take_due(&mut self) -> Option<PageToAudit>
+        ensures due { result ≡ self.old.due }
+        ensures taken { self.new ≡ record self.old { due = None } }
+    {
+        self.due.take()
+    }
+
+    /// Lets a page be audited beside the next epoch.
+    pub(crate) fn put_due(&mut self, page: PageToAudit)
+        ensures { self.new ≡ record self.old { due = Some page } }
+    {
+        self.due = Some(page);
+    }
+
+    /// Takes note of what a sound page has.
+    pub(crate) fn enter(&mut self, counts: PageCounts)
+        ensures due { self.new.due ≡ self.old.due }
+        ensures committed { self.old.committed + counts.committed < 2 ^ 64
+            → self.new.committed ≡ self.old.committed + counts.committed }
+    {
+        self.committed = self.committed.saturating_add(counts.committed);
+    }
+}

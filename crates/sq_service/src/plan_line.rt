@@ -1,0 +1,77 @@
+// The first line of an engine's input, which spells the plan.
+use sq_inputs::plan_lines;
+use sq_text::{InputFault, InputLine, LocatedFault, MAX_LINE};
+use std::alloc::{AllocError, Global};
+use std::io::Read;
+
+// What the first line begins with.
+const PLAN: &[u8] = b"plan ";
+
+// The byte that ends a line.
+const LINE_END: u8 = 10;
+
+/// The first two lines of a header both of whose plans are the one of the first line of an input, which is `plan JSON`.
+pub(crate) fn header_start<I: Read>(alloc: Global, input: &mut I) -> Result<Vec<u8>, LocatedFault> {
+    match first_line(alloc, input) {
+        Ok(line) => plan_twice(alloc, line.as_slice()),
+        Err(InputFault::Memory) => Err(InputFault::Memory.at_no_line()),
+        Err(fault) => Err(fault.at(InputLine::Old)),
+    }
+}
+
+// The two lines of the plan that a line spells.
+fn plan_twice(alloc: Global, line: &[u8]) -> Result<Vec<u8>, LocatedFault> {
+    if !line.starts_with(PLAN) {
+        return Err(InputFault::BadHeader.at(InputLine::Old));
+    }
+    let text = &line[PLAN.len()..];
+    match plan_lines(alloc, text, text) {
+        Ok(lines) => Ok(lines),
+        Err(AllocError) => Err(InputFault::Memory.at_no_line()),
+    }
+}
+
+// The bytes of the first line, without its end. What stands behind it isn't read.
+fn first_line<I: Read>(alloc: Global, input: &mut I) -> Result<Vec<u8>, InputFault> {
+    let mut line = Vec::new(alloc);
+    for _byte in 0..=MAX_LINE {
+        match next_byte(input)? {
+            None => return Err(InputFault::BadHeader),
+            Some(LINE_END) => return Ok(line),
+            Some(byte) => match line.push(byte) {
+                Ok(()) => {}
+                Err(_) => return Err(InputFault::Memory),
+            },
+        }
+    }
+    Err(InputFault::LineTooLong)
+}
+
+// The next byte, if there is one.
+fn next_byte<I: Read>(input: &mut I) -> Result<Option<u8>, InputFault> {
+    let mut byte = [0];
+    match input.read(&mut byte) {
+        Ok(0) => Ok(None),
+        Ok(_) => Ok(Some(byte[0])),
+        Err(_) => Err(InputFault::ReadFailed),
+    }
+}
+
+/// A fault of a header whose plan stands on one line, by the one in which it stands on two.
+pub(crate) fn on_one_line(located: LocatedFault) -> LocatedFault {
+    LocatedFault {
+        fault: located.fault,
+        line: located.line.map(line_before),
+    }
+}
+
+// The line of an input whose plan stands on one line that is this line of one in which it stands on two.
+fn line_before(line: InputLine) -> InputLine {
+    match line {
+        InputLine::Old | InputLine::New => InputLine::Old,
+        InputLine::Config => InputLine::New,
+        InputLine::Row(0) => InputLine::Config,
+        InputLine::Row(at) => InputLine::Row(at.saturating_sub(1)),
+        InputLine::Later(number) => InputLine::Later(number.saturating_sub(1)),
+    }
+}

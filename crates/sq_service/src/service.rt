@@ -1,0 +1,65 @@
+// An engine that is served, epoch by epoch.
+ghost use Rattle.std.specs.Prelude.{◌≡◌, None};
+ghost use Rattle.sq_server.specs.Becoming.{desk_value};
+ghost use Rattle.sq_service.specs.Steps.{StepGives};
+ghost use Rattle.sq_service.specs.Service.{HasEndedWithOutlet};
+
+use crate::epochs::{ServiceStep, go_through_epoch};
+use crate::page_book::PageBook;
+use crate::wishes::go_on;
+use sq_engine::Engine;
+use sq_server::{AuditProgress, Outlet, ServeDesk, ServeEnding};
+use std::alloc::Global;
+use std::io::Write;
+use std::sync::Wait;
+use std::thread::Threads;
+
+/// Serves an engine of which no page was taken until it ends, epoch by epoch.
+pub(crate) fn serve_engine<T: Threads + Wait + Sync, W: Write + Drop>(
+    rt: &T,
+    alloc: Global,
+    engine: Engine,
+    desk: ServeDesk<W>,
+) -> (Outlet<W>, ServeEnding)
+    ensures { HasEndedWithOutlet W.contents engine (desk_value W.contents desk)
+        result.1 result.0 }
+{
+    let audit = AuditProgress::none();
+    let mut book = PageBook::new();
+    let mut engine = engine;
+    let mut desk = desk;
+    for _ in rt.forever() {
+        let step = serve_step(rt, alloc, engine, desk, &audit, &mut book);
+        desk = step.desk;
+        match step.engine {
+            Ok(next) => engine = next,
+            Err(ending) => return (desk.outlet, ending),
+        }
+    }
+    unreachable!()
+}
+
+// Serves an epoch, and does what it ended for.
+fn serve_step<T: Threads + Wait + Sync, W: Write + Drop>(
+    rt: &T,
+    alloc: Global,
+    engine: Engine,
+    desk: ServeDesk<W>,
+    audit: &AuditProgress,
+    book: &mut PageBook,
+) -> ServiceStep<W>
+    ensures { StepGives book.old engine (desk_value W.contents desk)
+        book.new result.engine (desk_value W.contents result.desk) }
+{
+    let ServiceStep { mut desk, engine } = go_through_epoch(rt, alloc, engine, desk, audit, book);
+    match engine {
+        Ok(engine) => {
+            let engine = go_on(rt, alloc, engine, &mut desk, book);
+            ServiceStep { desk, engine }
+        }
+        Err(ending) => ServiceStep {
+            desk,
+            engine: Err(ending),
+        },
+    }
+}

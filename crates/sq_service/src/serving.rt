@@ -1,0 +1,176 @@
+// An engine behind a pipe.
+ghost use Rattle.std.specs.Prelude.{◌≡◌, ◌≤◌, IfOk, IfErr};
+ghost use Rattle.rtrb.specs.Ring.{received};
+ghost use Rattle.sq_pull.specs.declared.numbers.TheConstants.{MAX_PUMPS};
+ghost use Rattle.sq_server.specs.Becoming.{desk_value};
+ghost use Rattle.sq_service.specs.Service.{first_desk, ServesOpening, ServesSome, ServesWriter};
+
+use crate::reading::{Feeds, Header, read_all};
+use crate::service::serve_engine;
+use crate::telling::tell_ending;
+use rtrb::{Consumer, RingBuffer};
+use sq_engine::Engine;
+use sq_plan::Plan;
+use sq_ranges::Opening;
+use sq_server::{FEED_ROOM, Fed, Outlet, ServeDesk, ServeEnding, SideQueues, wait_for};
+use std::alloc::{AllocError, Global};
+use std::io::{Read, Write};
+use std::sync::Wait;
+use std::thread::{Builder, Threads};
+
+/// How an engine is served.
+#[derive(Clone, Copy, Debug, PartialEq, Eq)]
+pub struct ServeConfig {
+    /// How many pumps there are.
+    pub pumps: u32,
+    /// After how many answers a page is taken.
+    pub fold_after: u64,
+}
+
+/// What a reader hands on.
+#[derive(Drop)]
+struct Handed {
+    header: Consumer<Header>,
+    lines: Consumer<Fed>,
+}
+
+/// Serves an engine until its input ends: reads its header and then lines, and writes what these are answered.
+pub fn serve<T, I, W>(
+    rt: &T,
+    alloc: Global,
+    input: I,
+    writer: W,
+    config: ServeConfig,
+) -> (W, ServeEnding)
+where
+    T: Threads + Wait + Sync + Copy + Send + 'static,
+    I: Read + Send + Drop + 'static,
+    W: Write + Drop,
+    requires { config.pumps ≤ MAX_PUMPS }
+    ensures { ServesWriter W.contents writer result.0 result.1 }
+{
+    let outlet = Outlet::new(writer);
+    let (outlet, ending) = serve_input(rt, alloc, input, outlet, config);
+    let (outlet, ending) = tell_ending(outlet, ending);
+    (outlet.writer, ending)
+}
+
+// Serves an engine until its input ends.
+fn serve_input<T, I, W>(
+    rt: &T,
+    alloc: Global,
+    input: I,
+    outlet: Outlet<W>,
+    config: ServeConfig,
+) -> (Outlet<W>, ServeEnding)
+where
+    T: Threads + Wait + Sync + Copy + Send + 'static,
+    I: Read + Send + Drop + 'static,
+    W: Write + Drop,
+    requires { config.pumps ≤ MAX_PUMPS }
+    ensures { ServesSome W.contents outlet result.1 result.0 }
+{
+    match start_reader(rt, alloc, input) {
+        Ok(handed) => serve_handed(rt, alloc, handed, outlet, config),
+        Err(AllocError) => (outlet, ServeEnding::Memory),
+    }
+}
+
+// Starts a thread that reads an input. It isn't joined, since a read can't be cut off.
+fn start_reader<T, I>(rt: &T, alloc: Global, input: I) -> Result<Handed, AllocError>
+where
+    T: Threads + Wait + Sync + Copy + Send + 'static,
+    I: Read + Send + Drop + 'static,
+{
+    let (header_end, header) = RingBuffer::new(alloc, 1)?;
+    let (lines_end, lines) = RingBuffer::new(alloc, FEED_ROOM)?;
+    let feeds = Feeds {
+        header: header_end,
+        lines: lines_end,
+    };
+    let there = *rt;
+    match Builder::new().spawn(rt, move || read_all(&there, alloc, feeds, input)) {
+        Ok(_handle) => Ok(Handed { header, lines }),
+        Err(_) => Err(AllocError),
+    }
+}
+
+// Serves an engine whose input is handed on there.
+fn serve_handed<T: Threads + Wait + Sync, W: Write + Drop>(
+    rt: &T,
+    alloc: Global,
+    handed: Handed,
+    outlet: Outlet<W>,
+    config: ServeConfig,
+) -> (Outlet<W>, ServeEnding)
+    requires { config.pumps ≤ MAX_PUMPS }
+    ensures { ServesSome W.contents outlet result.1 result.0 }
+{
+    let Handed { mut header, lines } = handed;
+    match wait_for(rt, &mut header) {
+        Some(Ok(opening)) => serve_opening(rt, alloc, opening, lines, outlet, config),
+        Some(Err(fault)) => (outlet, ServeEnding::NoHeader(fault)),
+        None => (outlet, ServeEnding::Memory),
+    }
+}
+
+// Serves the engine of an opening.
+fn serve_opening<T: Threads + Wait + Sync, W: Write + Drop>(
+    rt: &T,
+    alloc: Global,
+    opening: Opening,
+    lines: Consumer<Fed>,
+    outlet: Outlet<W>,
+    config: ServeConfig,
+) -> (Outlet<W>, ServeEnding)
+    requires { config.pumps ≤ MAX_PUMPS }
+    ensures { ServesOpening W.contents opening
+        (first_desk W.contents outlet (received lines) opening.new.parts)
+        outlet result.1 result.0 }
+{
+    match desk_for(alloc, opening.new_plan(), lines, outlet, config.fold_after) {
+        Ok(desk) => serve_at_desk(rt, alloc, opening, desk, config.pumps),
+        Err(outlet) => (outlet, ServeEnding::Memory),
+    }
+}
+
+// The desk of an engine that begins with this plan. Where there is no memory the outlet comes back.
+fn desk_for<W: Write + Drop>(
+    alloc: Global,
+    plan: &Plan,
+    lines: Consumer<Fed>,
+    outlet: Outlet<W>,
+    fold_after: u64,
+) -> Result<ServeDesk<W>, Outlet<W>>
+    ensures desk { IfOk result (λ desk. desk_value W.contents desk
+        ≡ first_desk W.contents outlet (received lines) plan.now.parts) }
+    ensures outlet { IfOk result (λ desk. desk.outlet ≡ outlet) }
+    ensures returned { IfErr result (λ back. back ≡ outlet) }
+{
+    let Ok(text) = plan.write() else {
+        return Err(outlet);
+    };
+    let parts = plan.parts();
+    match SideQueues::new(alloc, parts) {
+        Ok(sides) => Ok(ServeDesk::new(lines, outlet, sides, text, fold_after)),
+        Err(_) => Err(outlet),
+    }
+}
+
+// Opens an engine, and serves it with a desk.
+fn serve_at_desk<T: Threads + Wait + Sync, W: Write + Drop>(
+    rt: &T,
+    alloc: Global,
+    opening: Opening,
+    desk: ServeDesk<W>,
+    pumps: u32,
+) -> (Outlet<W>, ServeEnding)
+    requires { pumps ≤ MAX_PUMPS }
+    ensures { ServesOpening W.contents opening (desk_value W.contents desk)
+        desk.outlet result.1 result.0 }
+{
+    match Engine::open(rt, alloc, opening, pumps) {
+        Ok(engine) => serve_engine(rt, alloc, engine, desk),
+        Err(_) => (desk.outlet, ServeEnding::Memory),
+    }
+}

@@ -1,0 +1,80 @@
+// What is told of moves, and of how an engine that was served ends.
+ghost use Rattle.sq_server.specs.Becoming.{desk_value, Speaks};
+ghost use Rattle.sq_service.specs.Telling.{IsLineOfFault, IsLineOfEnding, SaysLine, TellsEnding};
+
+use sq_live::LiveOutcome;
+use sq_schema::OUT_OF_MEMORY;
+use sq_serve::ServeAnswer;
+use sq_server::{MoveProgress, Outlet, ServeDesk, ServeEnding};
+use sq_text::LocatedFault;
+use std::io::Write;
+
+/// Tells that a move of so many segments begins.
+pub(crate) fn tell_moving<W: Write + Drop>(desk: &mut ServeDesk<W>, progress: MoveProgress)
+    ensures { Speaks (desk_value W.contents desk.old) (desk_value W.contents desk.new) }
+{
+    let segments = progress.segments;
+    desk.say(ServeAnswer::Moving { segments });
+    desk.moving = Some(progress);
+}
+
+/// Tells that a move of so many segments to the plan with this text is done.
+pub(crate) fn tell_moved<W: Write + Drop>(desk: &mut ServeDesk<W>, plan: String, segments: u64)
+    ensures { Speaks (desk_value W.contents desk.old) (desk_value W.contents desk.new) }
+{
+    desk.plan = plan;
+    desk.moving = None;
+    desk.say(ServeAnswer::Moved { segments });
+}
+
+/// Writes how an engine that was served ended, and sees that all goes out.
+pub(crate) fn tell_ending<W: Write + Drop>(
+    outlet: Outlet<W>,
+    ending: ServeEnding,
+) -> (Outlet<W>, ServeEnding)
+    ensures { TellsEnding W.contents outlet ending result.0 result.1 }
+{
+    let mut outlet = outlet;
+    say_ending(&mut outlet, ending);
+    outlet.flush();
+    let told = if outlet.has_failed {
+        ServeEnding::Unwritten
+    } else {
+        ending
+    };
+    (outlet, told)
+}
+
+// Writes the line of an ending, if it has one.
+fn say_ending<W: Write + Drop>(outlet: &mut Outlet<W>, ending: ServeEnding)
+    ensures { SaysLine (IsLineOfEnding ending) W.contents outlet.old outlet.new }
+{
+    match ending {
+        ServeEnding::Sound {
+            families,
+            committed,
+            ..
+        } => outlet.say_outcome(LiveOutcome::Sound {
+            families,
+            committed,
+        }),
+        ServeEnding::Unsound(defect) => outlet.say_outcome(LiveOutcome::Unsound(defect)),
+        ServeEnding::NoHeader(located) => say_located(outlet, located),
+        ServeEnding::Memory => outlet.say_fault(OUT_OF_MEMORY),
+        ServeEnding::Unwritten => {}
+    }
+}
+
+// Writes a fault of a header, with its line if it has one.
+fn say_located<W: Write + Drop>(outlet: &mut Outlet<W>, located: LocatedFault)
+    ensures { SaysLine (IsLineOfFault located) W.contents outlet.old outlet.new }
+{
+    let fault = located.fault.number();
+    match located.line {
+        Some(line) => {
+            let line = line.number();
+            outlet.say(ServeAnswer::Fault { fault, line });
+        }
+        None => outlet.say_fault(fault),
+    }
+}

@@ -1,0 +1,120 @@
+// What an epoch of an engine that is served ended for.
+ghost use Rattle.std.specs.Prelude.{◌≡◌, None};
+ghost use Rattle.sq_server.specs.Becoming.{desk_value};
+ghost use Rattle.sq_service.specs.Steps.{StepGives};
+
+use crate::closing::close;
+use crate::moving::{begin_move, note_rest};
+use crate::page_audit::PageToAudit;
+use crate::page_book::PageBook;
+use sq_engine::Engine;
+use sq_server::{InputEnd, ServeDesk, ServeEnding, Wish};
+use std::alloc::Global;
+use std::io::Write;
+use std::sync::Wait;
+use std::thread::Threads;
+
+/// Goes on after an epoch: tells where a move is done, and does what the epoch ended for.
+pub(crate) fn go_on<T: Threads + Wait + Sync, W: Write + Drop>(
+    rt: &T,
+    alloc: Global,
+    engine: Engine,
+    desk: &mut ServeDesk<W>,
+    book: &mut PageBook,
+) -> Result<Engine, ServeEnding>
+    requires { book.old.due ≡ None }
+    ensures { StepGives book.old engine (desk_value W.contents desk.old)
+        book.new result (desk_value W.contents desk.new) }
+{
+    if let Some(ending) = desk.stop_ending() {
+        return Err(ending);
+    }
+    match note_rest(&engine, desk) {
+        Ok(()) => page_or_wish(rt, alloc, engine, desk, book),
+        Err(ending) => Err(ending),
+    }
+}
+
+// Does what an epoch ended for. Where a log is long and nothing moves, a page is taken before.
+fn page_or_wish<T: Threads + Wait + Sync, W: Write + Drop>(
+    rt: &T,
+    alloc: Global,
+    engine: Engine,
+    desk: &mut ServeDesk<W>,
+    book: &mut PageBook,
+) -> Result<Engine, ServeEnding>
+    requires { book.old.due ≡ None }
+    ensures { StepGives book.old engine (desk_value W.contents desk.old)
+        book.new result (desk_value W.contents desk.new) }
+{
+    if engine.is_at_rest() && engine.wants_page() && !desk.wants_page() {
+        take_page(rt, alloc, engine, desk, book, false)
+    } else {
+        fulfil(rt, alloc, engine, desk, book)
+    }
+}
+
+// Does what an epoch ended for.
+fn fulfil<T: Threads + Wait + Sync, W: Write + Drop>(
+    rt: &T,
+    alloc: Global,
+    engine: Engine,
+    desk: &mut ServeDesk<W>,
+    book: &mut PageBook,
+) -> Result<Engine, ServeEnding>
+    requires { book.old.due ≡ None }
+    ensures { StepGives book.old engine (desk_value W.contents desk.old)
+        book.new result (desk_value W.contents desk.new) }
+{
+    match desk.take_wish() {
+        None => Ok(engine),
+        Some(wish) => grant(rt, alloc, engine, desk, book, wish),
+    }
+}
+
+// Does what is wished of an engine.
+fn grant<T: Threads + Wait + Sync, W: Write + Drop>(
+    rt: &T,
+    alloc: Global,
+    engine: Engine,
+    desk: &mut ServeDesk<W>,
+    book: &mut PageBook,
+    wish: Wish,
+) -> Result<Engine, ServeEnding>
+    requires { book.old.due ≡ None }
+    ensures { StepGives book.old engine (desk_value W.contents desk.old)
+        book.new result (desk_value W.contents desk.new) }
+{
+    match wish {
+        Wish::Page => take_page(rt, alloc, engine, desk, book, false),
+        Wish::Fold => take_page(rt, alloc, engine, desk, book, true),
+        Wish::Move(plan) => begin_move(rt, alloc, engine, plan, desk),
+        Wish::Close => {
+            let is_whole = desk.end == Some(InputEnd::Whole);
+            Err(close(rt, alloc, engine, book.committed, is_whole))
+        }
+    }
+}
+
+// Takes a page of an engine at rest, which is audited beside the next epoch.
+fn take_page<T: Threads + Wait + Sync, W: Write + Drop>(
+    rt: &T,
+    alloc: Global,
+    engine: Engine,
+    desk: &mut ServeDesk<W>,
+    book: &mut PageBook,
+    is_asked: bool,
+) -> Result<Engine, ServeEnding>
+    requires { book.old.due ≡ None }
+    ensures { StepGives book.old engine (desk_value W.contents desk.old)
+        book.new result (desk_value W.contents desk.new) }
+{
+    match engine.take_page(rt, alloc) {
+        Ok((page, engine)) => {
+            desk.counts.since_page = 0;
+            book.put_due(PageToAudit { page, is_asked });
+            Ok(engine)
+        }
+        Err(_) => Err(ServeEnding::Memory),
+    }
+}
