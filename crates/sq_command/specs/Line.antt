@@ -46,12 +46,6 @@ IsFormOf rows Json =
 IsFormOf rows Svg =
     FlagOf (one_of (codes "json") rows) false × FlagOf (one_of (codes "svg") rows) true
 
--- a form tells sizes, or they aren't asked for
-abbrev pub HasSizes : Form → Bool → Type 0
-HasSizes Lines sizes = Unit {0}
-HasSizes Json sizes = Unit {0}
-HasSizes Svg sizes = sizes ≡ false
-
 -- the task is a run, with the flags and the file of these options
 abbrev pub IsRunTask : List Row → Task → Type 0
 IsRunTask rows (Run echoes strict rows_out) =
@@ -107,12 +101,10 @@ FormClash rows kind =
     (kind ≡ ArgumentConflict) × FlagOf (one_of (codes "json") rows) true
     × FlagOf (one_of (codes "svg") rows) true
 
--- a listing is refused since two forms are asked for, or sizes in a picture, or a file of a plan is missing
+-- a listing is refused since two forms are asked for, or a file of a plan is missing
 abbrev pub RangesClash : List Row → ErrorKind → Type 0
 RangesClash rows kind =
-    FormClash rows kind
-    ⊎ (((kind ≡ ArgumentConflict) × IsFormOf rows Svg × FlagOf (one_of (codes "sizes") rows) true)
-    ⊎ LacksPlan rows kind)
+    FormClash rows kind ⊎ LacksPlan rows kind
 
 -- the names of the program's subcommands
 abbrev pub subcommand_names : List Text
@@ -158,10 +150,10 @@ ComesOf words (Ok line) =
     (fault_of squall words ≡ []) × IsAskedOf (subcommand_of squall words) (Ok line)
 ComesOf words (Err error) = HasKind (fault_of squall words) error ⊎ ClashesAt words (kind_of error)
 
--- the numbers of a task are within their limits, and its form tells the sizes that are asked for
+-- the numbers of a task are within their limits
 abbrev pub IsWithin : Task → Type 0
 IsWithin (Run echoes strict rows_out) = Unit {0}
-IsWithin (Ranges form sizes) = HasSizes form sizes
+IsWithin (Ranges form sizes) = Unit {0}
 IsWithin (Live turns pumps folds summary summary_out timeline replies rows_out) =
     (1 ≤ turns) × (turns ≤ MAX_TURNS) × (1 ≤ pumps) × (pumps ≤ MAX_PUMPS)
 IsWithin Steps = Unit {0}

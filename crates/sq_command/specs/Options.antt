@@ -7,7 +7,7 @@ use Rattle.clap.specs.Walk.{Text, Row, first_of}
 use Rattle.clap.specs.declared.error.kind.ErrorKind.{ErrorKind}
 use Rattle.clap.specs.declared.error.kind.ErrorKind.TheVariants.{MissingRequiredArgument, ArgumentConflict, ValueValidation, OutOfMemory}
 use Rattle.sq_command.specs.declared.clash.Clash.{Clash}
-use Rattle.sq_command.specs.declared.clash.Clash.TheVariants.{TwoForms, DrawnSizes, BadKey, Memory}
+use Rattle.sq_command.specs.declared.clash.Clash.TheVariants.{TwoForms, BadKey, Memory}
 use Rattle.sq_command.specs.declared.line.Input.{Input}
 use Rattle.sq_command.specs.declared.line.Plans.{Plans}
 
@@ -64,7 +64,6 @@ lacks_plan rows =
 -- the kind of error that a clash is told as
 abbrev pub clash_kind : Clash → ErrorKind
 clash_kind TwoForms = ArgumentConflict
-clash_kind DrawnSizes = ArgumentConflict
 clash_kind BadKey = ValueValidation
 clash_kind Memory = OutOfMemory
 clash_kind clash = MissingRequiredArgument

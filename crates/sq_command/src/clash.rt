@@ -18,8 +18,6 @@ pub enum Clash {
     NoPlans,
     /// What moves is to be told in two forms.
     TwoForms,
-    /// How much moves is to be told in a picture.
-    DrawnSizes,
     /// No root key is named.
     NoKeys,
     /// A word that is to be a root key is none.
@@ -49,7 +47,7 @@ impl Clash {
         ensures { result ≡ clash_kind self }
     {
         match self {
-            Clash::TwoForms | Clash::DrawnSizes => ErrorKind::ArgumentConflict,
+            Clash::TwoForms => ErrorKind::ArgumentConflict,
             Clash::BadKey => ErrorKind::ValueValidation,
             Clash::Memory => ErrorKind::OutOfMemory,
             _ => ErrorKind::MissingRequiredArgument,
@@ -65,7 +63,6 @@ impl Clash {
                 "the following required arguments were not provided:\n  --old <FILE>\n  --new <FILE>"
             }
             Clash::TwoForms => "the argument '--json' cannot be used with '--svg'",
-            Clash::DrawnSizes => "the argument '--sizes' cannot be used with '--svg'",
             Clash::NoKeys => "the following required arguments were not provided:\n  <KEY>...",
             Clash::BadKey => "a root key is a whole number below 4294967296",
             Clash::NoFolder => "the following required arguments were not provided:\n  <DIR>",
@@ -80,7 +77,7 @@ impl Clash {
         match self {
             Clash::NoOld | Clash::NoNew => "--old <FILE> --new <FILE> [FILE]",
             Clash::NoPlans => "--old <FILE> --new <FILE> --rows <FILE> [FILE]",
-            Clash::TwoForms | Clash::DrawnSizes | Clash::Memory => "[OPTIONS] [FILE]",
+            Clash::TwoForms | Clash::Memory => "[OPTIONS] [FILE]",
             Clash::NoKeys | Clash::BadKey => "--old <FILE> --new <FILE> <KEY>...",
             Clash::NoFolder => "<DIR>",
             Clash::NoEnginePlan => "--plan <FILE> --rows <FILE> [FILE]",

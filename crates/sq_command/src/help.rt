@@ -134,7 +134,7 @@ with --svg as a picture.
 
 With --sizes the rows are read too, and lines, or the JSON value, tell besides
 how many families (a root key with its rows), rows, bytes and chunks move in
-each range, segment and stage.
+each range, segment and stage, and the picture tells it of each range.
 
 Example:
 

@@ -1,12 +1,12 @@
 // The subcommands that do something with an input: `run`, `ranges`, `live` and `steps`.
-ghost use Rattle.std.specs.Prelude.{◌≡◌, IfOk, IfErr, false, true};
+ghost use Rattle.std.specs.Prelude.{◌≡◌, IfOk, false};
 ghost use Rattle.clap.specs.Matches.{found_of};
 ghost use Rattle.clap.specs.Walk.{rows_of};
 ghost use Rattle.clap.specs.Words.{shape_of};
 ghost use Rattle.clap.specs.declared.builder.command.Command.TheViews.{out-Command};
 ghost use Rattle.sq_command.specs.Commands.{run_shape, ranges_shape, numbered_shape, live_shape, steps_shape};
 ghost use Rattle.sq_command.specs.Options.{Asks, LacksPlan};
-ghost use Rattle.sq_command.specs.Line.{IsWorkLine, IsRunTask, IsRangesTask, IsLiveTask, IsStepsTask, IsFormOf, FormClash, RangesClash, HasSizes, LineIsWithin};
+ghost use Rattle.sq_command.specs.Line.{IsWorkLine, IsRunTask, IsRangesTask, IsLiveTask, IsStepsTask, IsFormOf, FormClash, RangesClash, LineIsWithin};
 
 use crate::clash::Clash;
 use crate::commands::{flag, option, path, subcommand, with, with_input};
@@ -72,25 +72,14 @@ pub fn ranges_line<'a>(options: &ArgMatches<'a>) -> Result<Line<'a>, Clash>
     ensures line { Asks (IsWorkLine IsRangesTask) RangesClash (rows_of (found_of options.now)) result }
     ensures within { IfOk result LineIsWithin }
 {
-    let form = form_of(options)?;
-    let sizes = sizes_in(form, is_given(options, "sizes"))?;
+    let task = Task::Ranges {
+        form: form_of(options)?,
+        sizes: is_given(options, "sizes"),
+    };
     Ok(Line::Work {
-        task: Task::Ranges { form, sizes },
+        task,
         input: input_of(options)?,
     })
-}
-
-// Whether sizes are told in a form, where they are asked for or aren't.
-fn sizes_in(form: Form, asked: bool) -> Result<bool, Clash>
-    ensures told { IfOk result (λ sizes. (sizes ≡ asked) × HasSizes form sizes) }
-    ensures refused { IfErr result
-        (λ clash. (clash ≡ Clash.DrawnSizes) × (form ≡ Form.Svg) × (asked ≡ true)) }
-{
-    match form {
-        Form::Svg if asked => Err(Clash::DrawnSizes),
-        Form::Svg => Ok(false),
-        Form::Lines | Form::Json => Ok(asked),
-    }
 }
 
 // The form that options ask for.

@@ -1,4 +1,4 @@
 use Rattle.sq_command.proofs.tasks.ranges_line.Goals as goal
 
 pub returns-clause-line : goal.returns-clause-line
-returns-clause-line c = ((c.in_ok-form.ensures, rw c.in_ok-sizes.ensures.told.0 c.is_given.ensures), c.in_ok-input_of.ensures)
+returns-clause-line c = ((c.in_ok-form_of.ensures, c.is_given.ensures), c.in_ok-input_of.ensures)
