@@ -17,7 +17,7 @@ top=$(dirname "$tests")
 examples=$top/examples
 
 # What is tried without a case, since it needs more than words and an input: each KIND by try_KIND in tests/run.sh.
-kinds='numbers plans pairs streams late_write memory session header_session terminal told results pumps again rounds steps'
+kinds='numbers plans pairs streams late_write memory session header_session terminal told results serve pumps again rounds steps demo'
 
 # --- cases ---
 

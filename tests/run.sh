@@ -16,6 +16,7 @@
 # Rattle's own compiler does. SQUALL=PATH takes another one.
 set -eu
 . "$(dirname "$0")/lib.sh"
+. "$(dirname "$0")/serving.sh"
 pattern=${1:-}
 built=$top/crates/squall/out/squall
 room=$(mktemp -d)
@@ -541,6 +542,76 @@ try_steps() {
         why=; if [ "$cuts" != "$chunks" ]; then why="$cuts chunks are cut, and $chunks told"; fi
         count "chunks of ${case##*/}" "$why"
     done
+}
+
+# demo_of NAME WORD..: makes the files of an input to begin with in a folder of this name, which is to write the two commands that
+# run them.
+demo_of() {
+    local files=$room/demo/$1
+    give /dev/null demo "${@:2}" "$files"
+    printf 'squall %s --old %s/old.json --new %s/new.json --rows %s/rows.txt %s/jobs.txt\n' \
+        'ranges --sizes' "$files" "$files" "$files" "$files" live "$files" "$files" "$files" "$files" > "$room/wanted"
+    judge "demo $1" 0 "$room/wanted" /dev/null
+}
+
+# try_demo_of NAME PARTITIONS ROOTS ROWS JOBS HOT SEED [WORD]: an input to begin with has these sizes, its move is one that
+# 'ranges' tells, and its live run is sound and answers each job once, with this number of rows at the end.
+try_demo_of() {
+    local files=$room/demo/$1 families=$3 why
+    demo_of "$1" --partitions "$2" --roots "$3" --rows-per-root "$4" --jobs "$5" --hot "$6" --seed "$7" ${8:+"$8"}
+    why=$(grep -q "\"partitions\":$2," "$files/old.json" || echo 'other partitions'
+        [ "$(grep -c '^row ' "$files/rows.txt")" = $(($3 * $4)) ] || echo 'other rows'
+        [ "$(grep -c '^txn ' "$files/jobs.txt")" = "$5" ] || echo 'other jobs')
+    count "sizes of demo $1" "$why"
+    give "$files/jobs.txt" ranges --old "$files/old.json" --new "$files/new.json"
+    count "moves of demo $1" "$(grep -q '^range .* 0 1$' "$room/output" || echo 'no range goes from 0 to 1')"
+    echo "sound $families families $5 committed" > "$room/wanted"
+    give "$files/jobs.txt" live --old "$files/old.json" --new "$files/new.json" --rows "$files/rows.txt" \
+        --replies "$files/replies" --rows-out "$files/rows"
+    judge "live run of demo $1" 0 "$room/wanted" /dev/null
+    count "replies of demo $1" "$(awk '{ print $2 }' "$files/replies" | sort -n | cmp - <(seq 0 $(($5 - 1))) 2>&1)"
+    count "rows of demo $1" "$(cat "$files/rows" | awk -v sum=$((100 * $3 + $5)) \
+        '$3 == 0 { got += $5 } END { if (got + 0 != sum) print got " in place of " sum }')"
+}
+
+# An input to begin with, of several sizes and seeds: of one seed it is the same one, of another one its jobs are others. A hot key's
+# jobs are as many of a hundred as are asked for: all of them, and with 0 as many as others have. No file is written where one of the
+# four is there, and no input has too many lines.
+try_demo() {
+    local file
+    rm -rf "$room/demo"
+    mkdir "$room/demo"
+    try_demo_of least 2 1 1 0 0 0
+    try_demo_of small 2 16 1 100 100 1
+    try_demo_of stages 5 400 3 1000 70 7 --stages
+    try_demo_of most 16 3000 2 4096 30 4294967295 --stages
+    demo_of again --partitions 5 --roots 400 --rows-per-root 3 --jobs 1000 --hot 70 --seed 7 --stages
+    demo_of other --partitions 5 --roots 400 --rows-per-root 3 --jobs 1000 --hot 70 --seed 8 --stages
+    for file in old.json new.json rows.txt jobs.txt; do
+        count "$file of one seed" "$(difference "$room/demo/stages/$file" "$room/demo/again/$file")"
+    done
+    count 'jobs of another seed' "$(if cmp -s "$room/demo/again/jobs.txt" "$room/demo/other/jobs.txt"; then echo 'the same'; fi)"
+    # The hot keys of 16 on 2 partitions: an eighth of the 8 of partition 0, which is key 0.
+    count 'all jobs hot' "$(awk '$1 == "txn" && $4 != 0' "$room/demo/small/jobs.txt" | head -n 1)"
+    try_bad_demos
+}
+
+# Inputs to begin with that aren't written.
+try_bad_demos() {
+    local files=$room/demo/bad
+    mkdir "$files"
+    echo mine > "$files/rows.txt"
+    echo "squall: the file '$files/rows.txt' can't be written: entity already exists" > "$room/said"
+    give /dev/null demo "$files"
+    judge 'demo over a file' 2 /dev/null "$room/said"
+    count 'a file of a folder that stays' "$(cat "$files"/* | grep -vx mine; ls "$files" | grep -vx rows.txt)"
+    echo "squall: the folder '$files/rows.txt/under' can't be made: Not a directory (os error 20)" > "$room/said"
+    give /dev/null demo "$files/rows.txt/under"
+    judge 'demo below a file' 2 /dev/null "$room/said"
+    echo 'squall: the files would have 1000003 lines, and may have 1000000' > "$room/said"
+    give /dev/null demo --roots 1000000 --rows-per-root 1 --jobs 0 "$files/large"
+    judge 'demo of too many lines' 2 /dev/null "$room/said"
+    count 'no folder of too many lines' "$(ls "$files" | grep -x large)"
 }
 
 # A move of five partitions in four stages under as many jobs as there may be, a hundred times: with one pump and with 16,

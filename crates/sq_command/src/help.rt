@@ -202,8 +202,8 @@ unsound NUMBER                         the first defect that the audit found
 fault NUMBER                           of the input, and then no thread ran, or
                                        memory ran out
 
-At a terminal standard error tells meanwhile how many jobs are answered and how
-many segments are complete.
+At a terminal standard error tells meanwhile how many jobs are answered, how
+many chunks are loaded, and how many segments are complete.
 
 With --summary standard error tells besides what moved along each link, what
 became of the jobs at each partition, and how long the parts of the run took.
@@ -344,7 +344,6 @@ move JSON            rows move to the places of this plan
 fold                 what was answered is audited, and the logs are folded
 status               how far a move is
 plan                 the plan that is in force
-rows                 the rows that stand
 
 At the end of the input all jobs are answered, a move goes to its end, and what
 is left is audited: 'sound F families N committed' is the last line.

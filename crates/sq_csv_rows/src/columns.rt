@@ -33,7 +33,7 @@ pub(crate) fn is_header(values: &ByteRecord) -> bool {
             .all(|(column, name)| values.get(column) == Some(*name))
 }
 
-/// The line of the row that a record says: the word `row`, and a word for each field. That of a faulty field is faulty too.
+/// The line of the row that a record says: the word `row`, and a word for each field. A faulty field has a faulty word.
 pub(crate) fn record_line(alloc: Global, values: &ByteRecord) -> Result<Vec<u8>, AllocError>
     ensures { IfOk result (λ line. line.items ≡ record_line (fields_of values.now)) }
 {

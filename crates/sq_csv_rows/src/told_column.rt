@@ -84,7 +84,7 @@ impl Display for InColumn {
 struct Field<'a>(&'a [u8]);
 
 impl<'a> Field<'a> {
-    // That of the word of this number, from 1.
+    // The field of the word of this number, from 1.
     fn of(line: &'a [u8], at: usize) -> Field<'a> {
         let mut words = Words::of(line);
         let mut word = words.next_long();

@@ -1,12 +1,11 @@
 -- Wider leaves cut a move into fewer segments.
-use Rattle.std.proofs.Common.{◌≡◌, ℕ, ◌+◌, ◌-◌, ◌*◌, ◌/◌, ◌<◌, ◌≤◌, List, [], ◌∷◌, length, length-append, arith, None, ap, sym, ◌∙◌, refl, true, not, nat_lt, nat_le, ◌==◌, eq-eqb, if◌then◌else◌, Bool, false, Some, Option}
-use Rattle.std.proofs.Math.Nat.{div-mul-le_self, lt-div-mul-add, mul-le-mul_left}
+use Rattle.std.proofs.Common.{◌≡◌, ℕ, ◌+◌, ◌-◌, ◌*◌, ◌/◌, ◌<◌, ◌≤◌, List, [], ◌∷◌, length, length-append, arith, None, refl, true, not, nat_lt, nat_le, ◌==◌, eq-eqb, if◌then◌else◌, Bool, false, Some}
+use Rattle.std.proofs.Math.Nat.{lt-div-mul-add, mul-le-mul_left}
 use Rattle.std.proofs.lemmas.Nat.{div_below}
 use Rattle.std.proofs.lemmas.Bool.{and_from, le-leb, le-ltb}
 use Rattle.sq_plan.specs.PlanValue.{PlanValue}
 use Rattle.sq_ranges.specs.declared.recon.TheConstants.{MAX_WIDTH}
 use Rattle.sq_ranges.specs.declared.recon.Range.{Range}
-use Rattle.sq_ranges.specs.declared.fault.ReconFault.{ReconFault}
 use Rattle.sq_ranges.specs.declared.fault.ReconFault.TheVariants.{PartitionsDiffer, Width, TooManySegments}
 use Rattle.sq_ranges.specs.ReconValue.{segment_width, segment_count, segments_in, segments_of, is_width}
 use Rattle.sq_ranges.specs.Moves.{moves_of}

@@ -12,7 +12,7 @@ use Rattle.squall.specs.Session.{EndsTask, EndsMain, EndsInput}
 refused_task : (task : Task) (known before now : Option (List ℕ)) → EndsTask task known before now 2
 refused_task (Run echoes strict rows_out) known before now = record { ran = Err (record {}); holds = tt; status_is = refl }
 refused_task (Ranges form sizes) known before now = record { ran = Err (record {}); holds = tt; status_is = refl }
-refused_task (Live turns pumps folds summary timeline replies rows_out) known before now = record { ran = Err (record {}); holds = tt; status_is = refl }
+refused_task (Live turns pumps folds summary summary_out timeline replies rows_out) known before now = record { ran = Err (record {}); holds = tt; status_is = refl }
 refused_task Steps known before now = record { ran = Err (record {}); holds = tt; status_is = refl }
 
 refused_main : (task : Task) (plans : Option Plans) (file : Option (Bor Text)) (known before now : Option (List ℕ)) → EndsMain task plans file known before now 2

@@ -1,1 +1,2 @@
+pub mod DemoCommands
 pub mod Session

@@ -16,12 +16,16 @@ use Rattle.sq_world.specs.Listing.{Lists, Tells}
 use Rattle.sq_steps.specs.Scripts.{WritesScript}
 use Rattle.sq_ranges.specs.declared.recon.TheConstants.{MAX_WIDTH}
 use Rattle.sq_sizes.specs.Asked.{TellsOpening}
+use Rattle.sq_sizes.specs.Owners.{IsOwnersText}
 use Rattle.sq_sizes.specs.SizeLines.{TellsSizesAsLines}
 use Rattle.sq_sizes.specs.SizeJson.{TellsSizesAsJson}
+use Rattle.sq_sizes.specs.SizeSvg.{TellsSizesAsSvg}
 use Rattle.sq_picture.specs.Json.{TellsAsJson}
 use Rattle.sq_picture.specs.MovesSvg.{TellsAsSvg}
 use Rattle.sq_live.specs.declared.ending.LiveEnding.{LiveEnding}
 use Rattle.sq_live.specs.Live.{RunsLive, ending_status}
+use Rattle.sq_server.specs.declared.ending.ServeEnding.{ServeEnding}
+use Rattle.sq_server.specs.Ending.{serve_status}
 use Rattle.sq_explain.specs.Meanings.{Explains}
 use Rattle.sq_command.specs.declared.line.Input.{Input}
 use Rattle.sq_command.specs.declared.line.Plans.{Plans}
@@ -30,8 +34,9 @@ use Rattle.sq_command.specs.declared.line.Form.TheVariants.{Lines, Json, Svg}
 use Rattle.sq_command.specs.declared.line.Task.{Task}
 use Rattle.sq_command.specs.declared.line.Task.TheVariants.{Run, Ranges, Live, Steps}
 use Rattle.sq_command.specs.declared.line.Line.{Line}
-use Rattle.sq_command.specs.declared.line.Line.TheVariants.{Work, Owner, Explain}
+use Rattle.sq_command.specs.declared.line.Line.TheVariants.{Work, Owner, Demo, Serve, Explain}
 use Rattle.sq_command.specs.Line.{ComesOf}
+use Rattle.squall.specs.DemoCommands.{EndsDemo}
 
 -- the exit status after a run
 abbrev pub exit_status : Result Ending WriteFault → ℕ
@@ -60,11 +65,11 @@ MovesAs Lines = Lists MAX_TABLES
 MovesAs Json = Tells TellsAsJson MAX_TABLES
 MovesAs Svg = Tells TellsAsSvg MAX_TABLES
 
--- the same with its sizes, but for a picture
+-- the same with its sizes
 abbrev pub SizesAs : Form → Option (List ℕ) → Option (List ℕ) → Option (List ℕ) → Ending → Type 0
 SizesAs Lines = TellsOpening TellsSizesAsLines MAX_TABLES
 SizesAs Json = TellsOpening TellsSizesAsJson MAX_TABLES
-SizesAs Svg = Tells TellsAsSvg MAX_TABLES
+SizesAs Svg = TellsOpening TellsSizesAsSvg MAX_TABLES
 
 -- either of them
 abbrev pub ListsAs : Form → Bool → Option (List ℕ) → Option (List ℕ) → Option (List ℕ) → Ending → Type 0
@@ -75,7 +80,7 @@ ListsAs form true = SizesAs form
 abbrev pub EndsTask : Task → Option (List ℕ) → Option (List ℕ) → Option (List ℕ) → ℕ → Type 0
 EndsTask (Run echoes strict rows_out) known before now = EndsAs (Runs (in_manner echoes strict) MAX_TABLES known before now) exit_status
 EndsTask (Ranges form sizes) known before now = EndsAs (ListsAs form sizes known before now) exit_status
-EndsTask (Live turns pumps folds summary timeline replies rows_out) known before now = EndsAs (RunsLive folds MAX_TABLES known before now) live_status
+EndsTask (Live turns pumps folds summary summary_out timeline replies rows_out) known before now = EndsAs (RunsLive folds MAX_TABLES known before now) live_status
 EndsTask Steps known before now = EndsAs (WritesScript MAX_TABLES known before now) exit_status
 
 -- what stands behind the plans: the main part of an input, and behind its first line the rows, where they have a file
@@ -117,11 +122,24 @@ EndsInput task input known before now status = EndsMain task input.plans input.f
 abbrev pub widest_config : Option ℕ → List ℕ
 widest_config width = codes "config " ++ decimal (unwrap_or width MAX_WIDTH) ++ codes " 64 1\n"
 
--- what a line asks for was done with what the reader or the files give, unless a file can't be read, and ended with this status;
--- of what is told of owners nothing is said here
+-- it was told who owns these root keys by two plans, in leaves of this width, or else a file can't be read, or memory ran out
+abbrev pub EndsOwners : List ℕ → Option ℕ → Option (List ℕ) → Option (List ℕ) → ℕ → Type 0
+EndsOwners keys width before now status =
+    ((old : List ℕ) × (new : List ℕ)
+    × EndsAs (TellsOpening (IsOwnersText (is_some width) keys) MAX_TABLES
+    (option_append (Some (plan_lines old new)) (Some (widest_config width))) before now) exit_status status)
+    ⊎ (status ≡ 2)
+
+-- the status is that of how an engine ended, or 2, where a file can't be read or there was no memory for it
+abbrev pub EndsEngine : ℕ → Type 0
+EndsEngine status = (status ≡ 2) ⊎ ((ending : ServeEnding) × (status ≡ serve_status ending))
+
+-- what a line asks for was done with what the reader or the files give, unless a file can't be read, and ended with this status
 abbrev pub EndsLine : Line → Option (List ℕ) → Option (List ℕ) → Option (List ℕ) → ℕ → Type 0
 EndsLine (Work task input) known before now status = EndsInput task input known before now status
-EndsLine (Owner keys plans width) known before now status = Unit {0}
+EndsLine (Owner keys plans width) known before now status = EndsOwners keys.items width before now status
+EndsLine (Demo demo folder) known before now status = EndsDemo folder.now before now status
+EndsLine (Serve pumps fold_after files file) known before now status = EndsEngine status
 EndsLine (Explain number) known before now status = EndsAs (Explains number before now) explain_status status
 
 -- the words have no fault, and what their subcommand asks for ended with this status

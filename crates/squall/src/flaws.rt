@@ -97,6 +97,22 @@ pub fn tell_misfit<T: Eprint + Files + AllocGlobal, R: Read>(
     }
 }
 
+/// Says on standard error how many segments a move would have, where its fault is that they are too many, and the width of a leaf
+/// that does. It names no line.
+pub fn tell_segments<T: Eprint + AllocGlobal, R: Read>(
+    rt: &T,
+    reader: &Recalling<R>,
+    located: &LocatedFault,
+) {
+    let Some(line) = located.line else {
+        return;
+    };
+    let recalled = reader.line(line.number() as usize);
+    if let Some(misfit) = misfit_of_segments(rt.alloc(), reader, located.fault, recalled) {
+        let _ = eprintln!(rt; "squall: {misfit}");
+    }
+}
+
 /// Says on standard error which of the plans of an input is of the first version and has stages, which aren't read there.
 pub fn tell_unread_stages<T: Eprint + AllocGlobal, R: Read>(
     rt: &T,

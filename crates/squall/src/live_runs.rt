@@ -40,6 +40,8 @@ pub struct Manner {
 pub struct RunReport<'a> {
     /// Whether a summary is.
     pub summary: bool,
+    /// The name of the file into which a longer account of it is written, where one is.
+    pub summary_out: Option<&'a str>,
     /// The name of the file into which a timeline is written, where one is.
     pub timeline: Option<&'a str>,
     /// The name of the file into which the answers of the jobs are written, where they are.

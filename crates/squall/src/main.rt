@@ -5,6 +5,7 @@ ghost use Rattle.std.specs.Prelude.{map};
 ghost use Rattle.sq_command.specs.Line.{IsWithin};
 ghost use Rattle.squall.specs.Session.{EndsTask, EndsWithRows, EndsParts, EndsInput, EndsWith, EndsBuffered};
 
+mod beginning;
 mod explaining;
 mod flaws;
 mod live_runs;
@@ -12,17 +13,20 @@ mod outputs;
 mod owning;
 mod plans;
 mod progress;
+mod serving;
 mod session;
 mod source;
 mod steps;
 mod streams;
 
+use beginning::write_demo;
 use explaining::explanation;
 use live_runs::{Manner, RunReport, live_run};
 use outputs::refuse_outputs;
 use owning::owners;
 use plans::lines_of_plans;
 use progress::Progress;
+use serving::{EngineInput, serve_engine};
 use session::{
     listing, open_input, print_usage, refuse_file, refuse_for_memory, refuse_words, script,
 };
@@ -34,6 +38,7 @@ use sq_inputs::{Inserting, Recalling};
 use sq_live::Watch;
 use sq_outputs::PipeEnd;
 use sq_row_lines::RowLines;
+use sq_service::ServeConfig;
 use sq_world::ScriptManner;
 use std::cell::Cell;
 use std::convert::AsStr;
@@ -174,6 +179,7 @@ where
                 pumps,
                 folds,
                 summary,
+                summary_out,
                 timeline,
                 replies,
                 rows_out,
@@ -185,6 +191,7 @@ where
                 };
                 let report = RunReport {
                     summary,
+                    summary_out,
                     timeline,
                     replies,
                     rows_out,
@@ -197,12 +204,26 @@ where
 
 // Does what the words of a command line ask for, and gives the exit status.
 fn obey<
-    T: Threads + Wait + Sync + Clock + Print + Eprint + Files + AllocGlobal,
+    T: Threads
+        + Wait
+        + Sync
+        + Clock
+        + Print
+        + Eprint
+        + Files
+        + AllocGlobal
+        + io::Input
+        + Copy
+        + Send
+        + 'static,
     S: AsStr,
     R: Read,
     W: Write,
     G: Watch,
 >(rt: &T, words: &[S], reader: &mut R, writer: &mut W, watch: &G, streams: Streams<'_>) -> u8
+where
+    T::File: Send + 'static,
+    T::Reader: Send + 'static,
     ensures { EndsWith (map S.text words.now) (R.remaining reader.old) (W.contents writer.old) (W.contents writer.new) result }
 {
     match line_of(rt.alloc(), words) {
@@ -219,6 +240,20 @@ fn obey<
         Ok(Line::Owner { keys, plans, width }) => {
             owners(rt, writer, plans, width, &keys, streams.is_closed)
         }
+        Ok(Line::Demo { demo, folder }) => {
+            write_demo(rt, writer, demo, folder, streams.is_closed)
+        }
+        Ok(
+            Line::Serve {
+                pumps,
+                fold_after,
+                files,
+                file,
+            },
+        ) => {
+            let config = ServeConfig { pumps, fold_after };
+            serve_engine(rt, writer, EngineInput { files, file }, config, streams)
+        }
         Ok(Line::Explain { number }) => explanation(rt, writer, number, streams.is_closed),
         Err(error) => print_usage(rt, &error),
     }
@@ -226,12 +261,26 @@ fn obey<
 
 // The same with a buffer in front of the writer. After a failed write nothing more is written.
 fn obey_buffered<
-    T: Threads + Wait + Sync + Clock + Print + Eprint + Files + AllocGlobal,
+    T: Threads
+        + Wait
+        + Sync
+        + Clock
+        + Print
+        + Eprint
+        + Files
+        + AllocGlobal
+        + io::Input
+        + Copy
+        + Send
+        + 'static,
     S: AsStr,
     R: Read,
     W: Write + Drop,
     G: Watch,
 >(rt: &T, words: &[S], reader: &mut R, writer: W, watch: &G, is_typed: bool) -> u8
+where
+    T::File: Send + 'static,
+    T::Reader: Send + 'static,
     ensures { EndsBuffered (map S.text words.now) (R.remaining reader.old) (W.contents writer) result }
 {
     let is_closed = Cell::new(false);

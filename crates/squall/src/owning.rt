@@ -1,7 +1,8 @@
 // Who owns root keys, before a move and after it.
 ghost use Rattle.std.specs.Prelude.{◌≡◌, IfOk, string_bytes};
-ghost use Rattle.squall.specs.Session.{widest_config};
+ghost use Rattle.squall.specs.Session.{widest_config, EndsOwners};
 
+use crate::flaws::{tell_segments, tell_unread_stages};
 use crate::plans::lines_of_plans;
 use crate::session::{exit_status, explain, explain_write, refuse_for_memory};
 use crate::source::Source;
@@ -11,7 +12,7 @@ use sq_inputs::Recalling;
 use sq_ranges::MAX_WIDTH;
 use sq_schema::Root;
 use sq_sizes::{OwnersAsLines, tell_opening};
-use sq_text::{InputLine, WriteFault};
+use sq_text::{InputLine, LocatedFault, WriteFault};
 use sq_world::Ending;
 use std::alloc::{AllocError, Global};
 use std::cell::Cell;
@@ -27,7 +28,9 @@ pub fn owners<T: Print + Eprint + Files + AllocGlobal, W: Write>(
     width: Option<u32>,
     keys: &[u32],
     is_closed: &Cell<bool>,
-) -> u8 {
+) -> u8
+    ensures { EndsOwners keys.now width (W.contents writer.old) (W.contents writer.new) result }
+{
     let lines = match lines_of_plans(rt, plans) {
         Ok(lines) => lines,
         Err(status) => return status,
@@ -70,7 +73,7 @@ fn config_line(alloc: Global, width: Option<u32>) -> Result<String, AllocError>
     format!(in alloc; "config {width} 64 1\n")
 }
 
-// Says on standard error what the fault of a plan means. One of both plans belongs to no line that there is.
+// Says on standard error what the fault of a plan means, and which plan has stages that aren't read.
 fn explain_owners<T: Eprint + Files + AllocGlobal, R: Read>(
     rt: &T,
     plans: Plans<'_>,
@@ -78,14 +81,6 @@ fn explain_owners<T: Eprint + Files + AllocGlobal, R: Read>(
     told: Result<Ending, WriteFault>,
     is_closed: &Cell<bool>,
 ) {
-    let located = match told {
-        Ok(Ending::Done | Ending::Stopped(_)) => return,
-        Ok(Ending::Fault(located)) if located.line == Some(InputLine::Config) => {
-            located.fault.at_no_line()
-        }
-        Ok(Ending::Fault(located)) => located,
-        Err(fault) => return explain_write(rt, fault, is_closed.get()),
-    };
     let rows = Cell::new(None);
     let records = RecordLines::new(rt.alloc());
     let input = Input {
@@ -98,5 +93,25 @@ fn explain_owners<T: Eprint + Files + AllocGlobal, R: Read>(
         records: &records,
         is_closed,
     };
-    explain(rt, &source, reader, &located);
+    match told {
+        Ok(Ending::Done | Ending::Stopped(_)) => {}
+        Ok(Ending::Fault(located)) => explain_fault(rt, &source, reader, located),
+        Err(fault) => explain_write(rt, fault, is_closed.get()),
+    }
+    tell_unread_stages(rt, &source, reader);
+}
+
+// Says on standard error what the fault of a plan means. One of both plans belongs to no line that there is.
+fn explain_fault<T: Eprint + Files + AllocGlobal, R: Read>(
+    rt: &T,
+    source: &Source<'_>,
+    reader: &Recalling<R>,
+    located: LocatedFault,
+) {
+    if located.line == Some(InputLine::Config) {
+        explain(rt, source, reader, &located.fault.at_no_line());
+        tell_segments(rt, reader, &located);
+    } else {
+        explain(rt, source, reader, &located);
+    }
 }

@@ -17,7 +17,7 @@ use sq_explain::entry;
 use sq_inputs::{Recalled, Recalling};
 use sq_picture::{AsJson, AsSvg};
 use sq_results::write_world_rows;
-use sq_sizes::{SizesAsJson, SizesAsLines, tell_opening};
+use sq_sizes::{SizesAsJson, SizesAsLines, SizesAsSvg, tell_opening};
 use sq_text::{InputFault, InputLine, LocatedFault, Meaning, WriteFault};
 use sq_world::{Ending, RefusedLine, ScriptManner, World, list, ranges, run_in_manner};
 use std::alloc::Global;
@@ -32,7 +32,7 @@ pub const REFUSED: u8 = 2;
 
 /// Runs the script in `reader` in this manner, writes what it comes to, and says on standard error what its fault means, or
 /// the refusal behind which it stopped. Unless it ends by a fault, the rows that stand at its end go into the file that is
-/// named for them. Gives the exit status.
+/// named for them. Gives the exit status, which is 2 where they can't be written.
 pub fn script<T: Eprint + Files + AllocGlobal, R: Read, W: Write>(
     rt: &T,
     reader: &mut Recalling<R>,
@@ -125,7 +125,7 @@ fn list_moves<R: Read, W: Write>(
     }
 }
 
-// The same with its sizes, but in a picture without them.
+// The same with its sizes.
 fn list_sizes<R: Read, W: Write>(
     alloc: Global,
     reader: &mut R,
@@ -138,7 +138,7 @@ fn list_sizes<R: Read, W: Write>(
     match form {
         Form::Lines => tell_opening(alloc, reader, writer, &SizesAsLines),
         Form::Json => tell_opening(alloc, reader, writer, &SizesAsJson),
-        Form::Svg => list(alloc, reader, writer, &AsSvg),
+        Form::Svg => tell_opening(alloc, reader, writer, &SizesAsSvg),
     }
 }
 

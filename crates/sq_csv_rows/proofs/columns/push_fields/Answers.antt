@@ -2,7 +2,7 @@
 use Rattle.std.proofs.Common.{◌≡◌, ℕ, ◌+◌, ◌<◌, ◌≤◌, List, ◌∷◌, ◌++◌, ◌∙◌, length, take, Vec, Global, sym, subst}
 use Rattle.std.specs.List.{flat_map, enumerate_from}
 use Rattle.csv.specs.Records.{fields_of}
-use Rattle.csv.proofs.RecordFacts.{field-there, cut-length}
+use Rattle.csv.proofs.RecordFacts.{field-there}
 use Rattle.std.proofs.lemmas.List.FromFn.{length-enumerate_from}
 use Rattle.sq_csv_rows.specs.Columns.{field_word}
 use Rattle.sq_csv_rows.proofs.Pieces.{field_found, numbered_text_next, text_all}

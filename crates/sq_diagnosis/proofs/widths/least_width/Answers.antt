@@ -1,4 +1,4 @@
-use Rattle.std.proofs.Common.{◌≡◌, ◌+◌, ◌/◌, ◌<◌, refl, sym, ◌∙◌, arith}
+use Rattle.std.proofs.Common.{◌+◌, ◌/◌, ◌<◌, refl, sym, ◌∙◌, arith}
 use Rattle.std.proofs.lemmas.Bool.{false≢true}
 use Rattle.sq_ranges.specs.declared.recon.TheConstants.{MAX_WIDTH}
 use Rattle.sq_diagnosis.proofs.WidthLemmas.{does_within, wider_does, width_from}

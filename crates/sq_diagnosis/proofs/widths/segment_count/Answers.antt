@@ -1,4 +1,4 @@
-use Rattle.std.proofs.Common.{◌≡◌, ◌-◌, ◌∙◌, sym, arith}
+use Rattle.std.proofs.Common.{◌-◌, ◌∙◌, sym, arith}
 use Rattle.sq_ranges.specs.ReconValue.{segment_width}
 use Rattle.sq_ranges.proofs.Cuts.{count_is}
 use Rattle.sq_ranges.proofs.Segments.{width_bounds}

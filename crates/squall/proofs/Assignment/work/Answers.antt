@@ -13,4 +13,4 @@ returns-in-Steps g c = with_recalled Steps _ (g.R.Read.remaining c.new-reader.re
 
 pub returns : goal.returns
 returns g c =
-    with_recalled (Live c.in-Live.turns c.in-Live.pumps c.in-Live.folds c.in-Live.summary c.in-Live.timeline c.in-Live.replies c.in-Live.rows_out) _ (g.R.Read.remaining c.new-reader.result.inner) _ _ _ _ c.in-Live.is c.new-reader.ensures c.live_run.ensures
+    with_recalled (Live c.in-Live.turns c.in-Live.pumps c.in-Live.folds c.in-Live.summary c.in-Live.summary_out c.in-Live.timeline c.in-Live.replies c.in-Live.rows_out) _ (g.R.Read.remaining c.new-reader.result.inner) _ _ _ _ c.in-Live.is c.new-reader.ensures c.live_run.ensures

@@ -1,0 +1,197 @@
+# What a client of `squall serve` sees. tests/run.sh sources it.
+
+# The plan of an engine with two partitions, by which all root keys are in partition 0, and one that gives four of them away.
+all_at_0='{"version":1,"partitions":2,"ranges":[[0,4294967296,0]]}'
+four_at_1='{"version":1,"partitions":2,"ranges":[[0,4,0],[4,8,1],[8,4294967296,0]]}'
+
+# opening: the header of such an engine, with two rows.
+opening() {
+    printf '%s\n' "plan $all_at_0" 'config 1 64 1' 'row 5 0 0 10 -' 'row 9 0 0 20 -'
+}
+
+# begin_engine WORD..: starts an engine with these words, that a client talks with by the descriptors 7 and 8.
+begin_engine() {
+    mkfifo "$room/asked" "$room/answered"
+    (trap '' PIPE; exec timeout 60 "$squall" serve "$@" < "$room/asked" > "$room/answered" 2> "$room/errors" 7>&- 8>&-) &
+    engine=$!
+    exec 8> "$room/asked" 7< "$room/answered"
+    rm "$room/asked" "$room/answered"
+    why=
+}
+
+# ask LINE ANSWER..: sends a line; the next lines that come are to be these.
+ask() {
+    local answer wanted
+    echo "$1" >&8
+    for wanted in "${@:2}"; do
+        answer=
+        read -r -t 30 answer <&7 || true
+        if [ "$answer" != "$wanted" ]; then why="$why$1: $answer, and not $wanted; "; fi
+    done
+}
+
+# end_engine NAME LINE..: ends the input of an engine, which then writes these lines and no more, says nothing on standard
+# error, and ends with the status 0.
+end_engine() {
+    exec 8>&-
+    cat <&7 > "$room/output"
+    exec 7<&-
+    ended=0
+    wait "$engine" || ended=$?
+    printf '%s\n' "${@:2}" > "$room/wanted"
+    if [ "$ended" != 0 ]; then why="${why}status $ended; "; fi
+    count "$1" "$why$(difference "$room/wanted" "$room/output")$(cat "$room/errors")"
+}
+
+# Each answer comes before the next line is sent: of jobs, of moves, of folds, and of the plan in force.
+served_session() {
+    begin_engine
+    opening >&8
+    ask 'txn 0 1 5 add 0 0 1' 'commit 1 11'
+    ask 'txn 1 2 9 get 0 0' 'commit 2 20/-'
+    ask 'status' 'at rest'
+    ask "move $four_at_1" 'moving 1' 'moved 1'
+    ask 'txn 0 3 5 add 0 0 1' 'commit 3 12'
+    ask 'plan' 'plan {"partitions":2,"ranges":[[0,4,0],[4,8,1],[8,4294967296,0]],"version":1}'
+    ask 'fold' 'folded 2 3'
+    ask 'txn 0 3 5 check 0 0 99' 'abort 3 0 small'
+    ask "move $four_at_1" 'moving 0' 'moved 0'
+    ask "move $all_at_0" 'moving 1' 'moved 1'
+    ask 'fold' 'folded 1 0'
+    end_engine 'serve: a session' 'sound 2 families 3 committed'
+}
+
+# Lines that ask nothing are told with their numbers, and the engine goes on: one that is none, one that is too long, an id that
+# is taken, a partition and a table that aren't there, a text that is no plan, a plan for three partitions, and a line without
+# its end.
+served_faults() {
+    begin_engine
+    opening >&8
+    ask 'mov' 'fault 126 5'
+    ask "$(head -c 65537 /dev/zero | tr '\0' a)" 'fault 231 6'
+    ask 'txn 0 1 5 get 0 0' 'commit 1 10/-'
+    ask 'txn 0 1 5 get 0 0' 'fault 127 8'
+    ask 'txn 2 2 5 get 0 0' 'fault 219 9'
+    ask 'txn 0 2 5 get 99 0' 'fault 133 10'
+    ask 'move {' 'refused 101'
+    ask "move ${all_at_0/2/3}" 'refused 111'
+    ask '' 'fault 126 13'
+    ask 'txn 0 2 5 get 0 0' 'commit 2 10/-'
+    printf 'status' >&8
+    end_engine 'serve: lines that ask nothing' 'fault 126 15' 'sound 2 families 2 committed'
+}
+
+# The example, whose answers come in any order.
+served_example() {
+    give "$examples/engine.txt" serve
+    grep -v -e ' jobs open$' -e '^at rest$' "$room/output" | sort > "$room/told"
+    printf '%s\n' 'abort 4 0 small' 'commit 1 11' 'commit 2 12' 'commit 3 20/-' 'moved 1' 'moving 1' \
+        'sound 2 families 3 committed' > "$room/wanted"
+    count 'serve: the example' "$(difference "$room/wanted" "$room/told")"
+}
+
+# An input that ends in the midst of a move: it goes to its end, and each job is answered.
+served_end_in_a_move() {
+    {
+        opening
+        echo "move $four_at_1"
+        seq -f 'txn 0 %.0f 5 add 0 0 1' 1 100
+    } > "$room/jobs"
+    give "$room/jobs" serve
+    sed 's/^commit .*/commit/' "$room/output" | sort | uniq -c | sed 's/^ *//' > "$room/told"
+    printf '%s\n' '100 commit' '1 moved 1' '1 moving 1' '1 sound 2 families 100 committed' > "$room/wanted"
+    count 'serve: an end in a move' "$([ "$ended" = 0 ] || echo "status $ended; ")$(difference "$room/wanted" "$room/told")"
+}
+
+# Jobs on one root key that moves there and back, with pages meanwhile: each is answered once, and the numbers are 1, 2, 3 ..
+served_moves() {
+    local owner from=1 plan='{"version":1,"partitions":2,"ranges":[[0,8,OWNER],[8,4294967296,0]]}'
+    {
+        printf '%s\n' "plan ${plan/OWNER/0}" 'config 1 64 1' 'row 5 0 0 0 -'
+        for owner in 1 0 1 0; do
+            seq -f 'txn 0 %.0f 5 add 0 0 1' "$from" $((from + 499))
+            echo "move ${plan/OWNER/$owner}"
+            from=$((from + 500))
+        done
+    } > "$room/jobs"
+    give "$room/jobs" serve --fold-after 700
+    grep '^commit ' "$room/output" | cut -d ' ' -f 3 | sort -n > "$room/numbers"
+    seq 1 2000 > "$room/wanted"
+    count 'serve: numbers of a root key that moves' "$(difference "$room/wanted" "$room/numbers")"
+    tail -n 1 "$room/output" > "$room/end"
+    echo 'sound 1 families 2000 committed' > "$room/wanted"
+    count 'serve: the end of its moves' "$([ "$ended" = 0 ] || echo "status $ended; ")$(difference "$room/wanted" "$room/end")"
+}
+
+# The file is read first, and then standard input; the plan and the rows may have files of their own, and the rows a table.
+served_files() {
+    opening > "$room/begin"
+    echo 'txn 0 1 5 add 0 0 5' >> "$room/begin"
+    echo 'txn 0 2 5 add 0 0 5' > "$room/more"
+    give "$room/more" serve "$room/begin"
+    printf '%s\n' 'commit 1 15' 'commit 2 20' 'sound 2 families 2 committed' > "$room/wanted"
+    judge 'serve: a file and standard input' 0 "$room/wanted" /dev/null
+    echo "$all_at_0" > "$room/plan.json"
+    opening | grep '^row ' > "$room/rows.txt"
+    printf '%s\n' '5,0,0,10,' '9,0,0,20,' > "$room/rows.csv"
+    printf '%s\n' 'config 1 64 1' 'txn 0 1 5 add 0 0 5' > "$room/more"
+    printf '%s\n' 'commit 1 15' 'sound 2 families 1 committed' > "$room/wanted"
+    for rows in rows.txt rows.csv; do
+        give "$room/more" serve --plan "$room/plan.json" --rows "$room/$rows"
+        judge "serve: the plan in a file, and $rows" 0 "$room/wanted" /dev/null
+    done
+    give "$room/more" serve --plan "$room/plan.json" "$room/rows.none"
+    : > "$room/wanted"
+    echo "squall: the file '$room/rows.none' can't be read: No such file or directory (os error 2)" > "$room/said"
+    judge 'serve: a file that is not there' 2 "$room/wanted" "$room/said"
+}
+
+# Headers that have a fault.
+served_headers() {
+    local fault line text said
+    while IFS='|' read -r fault line text; do
+        tr ';' '\n' <<< "$text" > "$room/header"
+        give "$room/header" serve
+        echo "fault $fault $line" > "$room/wanted"
+        said=$(cat "$room/errors")
+        case $said in "squall: line $line: fault $fault: "?*) said= ;; esac
+        if [ "$ended" != 2 ]; then said="$said status $ended"; fi
+        count "serve: a header with fault $fault in line $line" "$said$(difference "$room/wanted" "$room/output")"
+    done <<END
+121|1|
+121|1|config 1 64 1
+101|1|plan {
+112|2|plan $all_at_0;config 0 64 1
+132|3|plan $all_at_0;config 1 64 1;row 4294967296 0 0 1 -
+136|4|plan $all_at_0;config 1 64 1;row 5 0 0 1 -;row 5 0 0 1 -
+END
+}
+
+# A closed output ends the engine at once, also while its input is silent; and so does a full device.
+served_closed_output() {
+    begin_engine
+    opening >&8
+    ask 'txn 0 1 5 get 0 0' 'commit 1 10/-'
+    exec 7<&-
+    echo 'txn 0 2 5 get 0 0' >&8
+    ended=0
+    wait "$engine" || ended=$?
+    exec 8>&-
+    count 'serve: a closed output' "$why$([ "$ended" = 2 ] || echo "status $ended; ")$(cat "$room/errors")"
+    said 124 > "$room/said"
+    write_nowhere 'serve: a full device' "$examples/engine.txt" serve
+}
+
+try_serve() {
+    local engine why rows
+    trap '' PIPE
+    served_session
+    served_faults
+    served_closed_output
+    trap - PIPE
+    served_example
+    served_end_in_a_move
+    served_moves
+    served_files
+    served_headers
+}
