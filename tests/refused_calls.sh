@@ -46,7 +46,7 @@ failing=800
 # of calls. Growths of `run` are refused by tests/refused.sh.
 tries() {
     cat <<'TRIES'
-steps resumes_in_order 733-746 begin cut load resume txn
+steps resumes_in_order 732-746 begin cut load resume txn
 steps operations_and_their_aborts 731-742 txn
 steps cuts_by_size 733-736,746-746 txn
 list moves_four_keys 731-774 back begin cut load txn
