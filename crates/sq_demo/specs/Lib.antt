@@ -1,3 +1,4 @@
 pub mod Sizes
 pub mod Demo
 pub mod Texts
+pub mod Commands

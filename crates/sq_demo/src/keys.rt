@@ -16,7 +16,7 @@ pub(crate) struct KeySource {
 }
 
 impl KeySource {
-    /// Those of an input to begin with.
+    /// A source of root keys for an input to begin with.
     pub(crate) fn new(sizes: &DemoSizes) -> KeySource
         ensures { result.roots ≡ sizes.now.roots }
     {

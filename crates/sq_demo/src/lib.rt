@@ -1,6 +1,8 @@
-//! An input to begin with: the texts of two plans, of rows and of jobs, of which many are for root keys that move.
+//! An input to begin with: the texts of two plans, of rows and of jobs, of which many are for root keys that move; and the
+//! commands that run it.
 #![tactic(auto)]
 
+mod commands;
 mod jobs;
 mod keys;
 mod plans;
@@ -8,5 +10,6 @@ mod rows;
 mod sizes;
 mod texts;
 
+pub use commands::write_commands;
 pub use sizes::DemoSizes;
 pub use texts::DemoTexts;

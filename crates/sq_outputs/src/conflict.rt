@@ -9,6 +9,8 @@ pub struct Output<'a> {
     pub option: &'a str,
     /// The name that it has there.
     pub name: &'a str,
+    /// Whether it is the file beside the one of this name, which is written first.
+    pub is_part: bool,
     /// Where it stands, in one spelling.
     pub place: String,
 }

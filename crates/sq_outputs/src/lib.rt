@@ -11,5 +11,5 @@ mod system;
 pub use conflict::{Conflict, Output, conflict_among};
 pub use folder::Folder;
 pub use pipe::PipeEnd;
-pub use saving::save;
-pub use system::{SystemFolder, place_of};
+pub use saving::{part_name, save};
+pub use system::{SystemFolder, place_of, place_of_standard_input};

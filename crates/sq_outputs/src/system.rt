@@ -8,6 +8,9 @@ use std::path::Path;
 use std::rt::Files;
 use std::{fs, io};
 
+// The name that leads to standard input.
+const STANDARD_INPUT: &str = "/dev/stdin";
+
 /// The files of the system. Nothing is known of what they hold. No file takes the place of a folder, a device or a pipe.
 #[derive(Drop)]
 pub struct SystemFolder<'a, T> {
@@ -49,6 +52,14 @@ pub fn place_of<T: Files + AllocGlobal>(rt: &T, name: &str) -> io::Result<String
             Ok(format!(in rt.alloc(); "{device}\0{node}")?)
         }
         Err(_) => place_in_folder(rt, name),
+    }
+}
+
+/// Where standard input stands, if it is a file.
+pub fn place_of_standard_input<T: Files + AllocGlobal>(rt: &T) -> io::Result<Option<String>> {
+    match fs::metadata(rt, STANDARD_INPUT) {
+        Ok(there) if there.is_file() => Ok(Some(place_of(rt, STANDARD_INPUT)?)),
+        _ => Ok(None),
     }
 }
 

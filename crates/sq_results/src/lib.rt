@@ -6,4 +6,4 @@ mod row_lines;
 mod standing;
 
 pub use replies::Replies;
-pub use standing::{write_gathered_rows, write_world_rows};
+pub use standing::{write_gathered_rows, write_stored_rows, write_world_rows};

@@ -42,6 +42,22 @@ pub fn write_gathered_rows<W: Write>(alloc: Global, writer: &mut W, g: &Gathered
     write_sorted(writer, families)
 }
 
+/// The same of the stores of partitions.
+pub fn write_stored_rows<W: Write>(
+    alloc: Global,
+    writer: &mut W,
+    stores: &[RunStore],
+) -> io::Result<()>
+    ensures { OnOk result (WritesRows (flat_map families_in stores.now)
+        (W.contents writer.old) (W.contents writer.new)) }
+{
+    let mut families = Vec::new(alloc);
+    for store in stores {
+        add_store(&mut families, store)?;
+    }
+    write_sorted(writer, families)
+}
+
 // Writes the rows of families, by rising root key.
 fn write_sorted<W: Write>(writer: &mut W, mut families: Vec<&Family>) -> io::Result<()>
     ensures { OnOk result (WritesRows (lent_values families.entry.items)

@@ -38,7 +38,7 @@ digit_is c small = grind (arith, nat_tests)
 digit_is_plain : (c : ℕ) → digit_value c < 10 → not (c == 32) ≡ true
 digit_is_plain c small = grind (arith, nat_tests)
 
-all_digits : (text : List ℕ) → AllDigits 10 text → list_all is_ascii_digit text ≡ true
+pub all_digits : (text : List ℕ) → AllDigits 10 text → list_all is_ascii_digit text ≡ true
 all_digits [] all = refl
 all_digits (c ∷ cs) all = and_from _ _ (digit_is c all.0) (all_digits cs all.1)
 
@@ -64,7 +64,7 @@ reads (first ∷ others) n some digits value fits alone =
     rw (lone first others (λ e. omega (arith, alone e)), digits, value, lt-ltb n (2 ^ 64) fits) refl
 
 -- a number is read as it was written
-number_is_read : (n : ℕ) → n < 2 ^ 64 → unsigned_in (decimal n) ≡ Some n
+pub number_is_read : (n : ℕ) → n < 2 ^ 64 → unsigned_in (decimal n) ≡ Some n
 number_is_read n fits =
     let is = decimal_is_IsNumeral n fits in
     reads (decimal n) n is.0.0 (all_digits (decimal n) is.0.1) is.1 fits (no_leading_zero n fits)

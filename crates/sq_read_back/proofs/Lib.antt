@@ -1,0 +1,5 @@
+mod LineWords
+mod TakenLines
+mod TakenRows
+mod TakenFamilies
+mod Fit
