@@ -1,4 +1,4 @@
--- What the passes tell, in the words of the clauses.
+-- What the passes find, in the words of the clauses.
 use Rattle.std.proofs.Common.{◌≡◌, inl, inr, ⊎_elim, ℕ, zero, suc, ◌<◌, ◌==◌, ◌&&◌, Bool, true, false, List, [], ◌∷◌, length, take, Contains, Option, Some, None, refl, sym, ap, ◌∙◌, subst, arith, true≢false, eqb-true, eq-eqb}
 use Rattle.std.specs.Prelude.{cond, count_by, unwrap_or, not}
 use Rattle.std.specs.List.{AllPass}

@@ -46,7 +46,7 @@ pub one_there : (o : Option ℕ) (n : ℕ) → unwrap_or o 0 ≡ n → (o ≡ So
 one_there None n is = ((λ e. absurd (cc)), (λ e. absurd (let z : 0 ≡ 1 = is ∙ e in omega (arith, z))))
 one_there (Some m) n is = ((λ e. let s : m ≡ 1 = cc in sym is ∙ s), (λ e. ap Some (is ∙ e)))
 
--- a value that a test tells from one
+-- a value that a test finds different from one
 pub is_one : (o : Option ℕ) → (not (option_eq nat_eq o (Some 1)) ≡ false → o ≡ Some 1) × (not (option_eq nat_eq o (Some 1)) ≡ true → o ≡ Some 1 → ⊥)
 is_one None = ((λ e. absurd (cc)), (λ e same. cc))
 is_one (Some n) =

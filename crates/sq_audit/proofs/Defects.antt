@@ -26,7 +26,7 @@ number_one Unanswered Unanswered same = refl
 number_one _ _ same = absurd (omega (arith, same))
 
 module _ (o : OpeningValue) (g : GatheredValue) (jobs : List Job) where
-  -- known receipts of commits tell what the logs have
+  -- known receipts of commits name what the logs have
   pub told_known : AreKnown g jobs → AreTold g
   told_known known receipt there commits =
       let answer = known receipt there in

@@ -1,4 +1,4 @@
--- What a loop over a list tells of each element.
+-- What a loop over a list finds of each element.
 use Rattle.std.proofs.Common.{◌≡◌, ⊎_elim, ℕ, ◌+◌, ◌<◌, ◌≤◌, Bool, true, false, List, length, slice_get, Contains, Some, refl, sym, ◌∙◌, subst, arith, true≢false, Bor, ltb-true, ltb-false, Option, None, ap, ◌==◌, eq-eqb}
 use Rattle.std.specs.Bool.{Decides}
 use Rattle.std.specs.Option.{option_copied}
@@ -36,11 +36,11 @@ each_done P xs n before whole = (
 pub decides_not : {P : Type 0} → (P → ⊥) → Decides false P
 decides_not fails = ((λ e. absurd (true≢false (sym e))), (λ holds. absurd (fails holds)))
 
--- one of which it doesn't hold
+-- one that doesn't have the property
 pub each_fails : {X : Type 0} (P : X → Type 0) (xs : List X) (n : ℕ) (x : X) → slice_get xs n ≡ Some x → (P x → ⊥) → Decides false ((x : X) → Contains xs x → P x)
 each_fails P xs n x at fails = decides_not (λ all. fails (all x (Contains-slice_get xs n x at)))
 
--- what a test told where it failed, and where it didn't
+-- the finding of a test where it failed, and where it didn't
 pub refuted : {P : Type 0} (b : Bool) → Decides b P → b ≡ false → P → ⊥
 refuted b d e p = true≢false (sym (d.1 p) ∙ e)
 

@@ -45,7 +45,7 @@ module _ (notes : List Note) (i : ℕ) (note : Note) (at : slice_get notes i ≡
       ∙ list_any-append (λ (n : Note). is_about seg node n && n.last) (take i notes) (note ∷ [])
 
   module _ (was : Bool) (old : BTreeSet (ℕ × ℕ)) (so_far : contains key_order old (seg, node) ≡ (was || has_last seg node (take i notes))) where
-    -- one that isn't its node's last tells nothing
+    -- a note that isn't its node's last says nothing
     pub not_ended : note.last ≡ false → contains key_order old (seg, node) ≡ (was || has_last seg node (take (i + 1) notes))
     not_ended none = so_far ∙ skipped was (has_last seg node (take i notes)) (is_about seg node note) note.last none ∙ ap (λ b. was || b) (sym last_more)
 

@@ -1,4 +1,4 @@
--- What is folded: the jobs that have a receipt, the table and the stores of all families, and what they come to.
+-- What is folded: the jobs that have a receipt, the table and the stores of all families, and the result.
 use Rattle.std.proofs.Common.{◌≡◌, ⊎_elim, ℕ, zero, suc, ◌+◌, ◌==◌, Bool, true, false, if◌then◌else◌, List, [], ◌∷◌, filter, map, length, slice_get, Contains, Option, Some, None, refl, sym, ap, ◌∙◌, subst, arith, true≢false}
 use Rattle.std.specs.Prelude.{not, nat_lt, count_by, option_and_then, option_map}
 use Rattle.std.specs.FinMap.{get}
@@ -30,10 +30,12 @@ use Rattle.sq_audit.specs.declared.job.Job.{Job}
 use Rattle.sq_audit.specs.declared.folded.Folded.{Folded}
 use Rattle.sq_audit.specs.declared.folding.Ready.{Ready}
 use Rattle.sq_audit.specs.Answers.{IdsDiffer}
+use Rattle.sq_audit.specs.ById.{ListsIds, is_listed}
 use Rattle.sq_audit.specs.Counts.{Counts, is_counted}
 use Rattle.sq_audit.specs.Rows.{rows_among}
 use Rattle.sq_audit.specs.Folding.{has_receipt, answered_jobs, jobs_left, IsReadyToFold, IsFold}
 use Rattle.sq_audit.proofs.Lists.{nothing_there}
+use Rattle.sq_audit.proofs.Searching.{listed_count}
 use Rattle.sq_audit.proofs.Among.{rows_alone, rows_stand, rows_come}
 
 -- what a part of a list contains by a test, the whole does
@@ -48,7 +50,7 @@ in_whole {X} p (x ∷ xs) y has = by (in_whole p xs y) (p x) has
     by rest true there = ⊎_elim (λ same. Contains-slice_get (x ∷ xs) zero y (ap Some same)) (λ more. later (rest more)) (Contains-cases x (filter p xs) y there)
     by rest false there = later (rest there)
 
--- jobs whose ids differ from that of one before them
+-- jobs whose ids differ from the id of one before them
 differ_behind : (one : Job) (jobs : List Job) → ((k : ℕ) (other : Job) → slice_get jobs k ≡ Some other → one.txn.id ≡ other.txn.id → ⊥) → IdsDiffer jobs → IdsDiffer (one ∷ jobs)
 differ_behind one jobs apart differ zero zero a b at also same = refl
 differ_behind one jobs apart differ zero (suc j) a b at also same = absurd (let first : one ≡ a = cc in apart j b also (ap (λ (job : Job). job.txn.id) first ∙ same))
@@ -70,7 +72,7 @@ some_differ p (job ∷ jobs) differ = by (some_differ p jobs (λ i j one other a
     by rest true = differ_behind job (filter p jobs) apart rest
     by rest false = rest
 
--- the counts tell which jobs have a receipt
+-- the counts say which jobs have a receipt
 module _ (receipts : List ReceiptValue) (counts : _) (is : Counts receipts counts) where
   counted : (job : Job) → is_counted counts job ≡ has_receipt receipts job
   counted job = ap (nat_lt 0) (is job.txn.id job.txn.root)
@@ -78,11 +80,22 @@ module _ (receipts : List ReceiptValue) (counts : _) (is : Counts receipts count
   pub answered_are : (jobs : List Job) → filter (is_counted counts) jobs ≡ answered_jobs receipts jobs
   answered_are jobs = filter_agree (is_counted counts) (has_receipt receipts) counted jobs
 
-  pub counted_are : (jobs : List Job) → count_by (is_counted counts) jobs ≡ length (answered_jobs receipts jobs)
-  counted_are jobs = sym (length-filter (is_counted counts) jobs) ∙ ap length (answered_are jobs)
-
   pub left_are : (jobs : List Job) → filter (λ job. not (is_counted counts job)) jobs ≡ jobs_left receipts jobs
   left_are jobs = filter_agree (λ job. not (is_counted counts job)) (λ job. not (has_receipt receipts job)) (λ job. ap not (counted job)) jobs
+
+-- their ids tell it too
+module _ (receipts : List ReceiptValue) (ids : List (ℕ × ℕ)) (lists : ListsIds receipts ids) where
+  pub listed : (job : Job) → is_listed ids job ≡ has_receipt receipts job
+  listed job = ap (nat_lt 0) (listed_count receipts ids lists job.txn.id job.txn.root)
+
+  pub answered_by : (jobs : List Job) → filter (is_listed ids) jobs ≡ answered_jobs receipts jobs
+  answered_by jobs = filter_agree (is_listed ids) (has_receipt receipts) listed jobs
+
+  pub listed_are : (jobs : List Job) → count_by (is_listed ids) jobs ≡ length (answered_jobs receipts jobs)
+  listed_are jobs = sym (length-filter (is_listed ids) jobs) ∙ ap length (answered_by jobs)
+
+  pub left_by : (jobs : List Job) → filter (λ job. not (is_listed ids job)) jobs ≡ jobs_left receipts jobs
+  left_by jobs = filter_agree (λ job. not (is_listed ids job)) (λ job. not (has_receipt receipts job)) (λ job. ap not (listed job)) jobs
 
 -- a family of a folded store is the folded one of the store
 fold_same : (found : Option FamilyValue) → fold_of found ≡ option_and_then folded_family found
@@ -126,7 +139,7 @@ module _ (o : OpeningValue) (is : IsOpening o) (g : GatheredValue) (p : IsPlaced
 -- what is put together of it is folded
 pub is_fold : (o : OpeningValue) → IsOpening o → (g : GatheredValue) → IsStageDone o g → (jobs : List Job) → IdsDiffer jobs → (ready : Ready) → IsReadyToFold o g jobs ready → (folded : Folded)
     → folded.opening ≡ folded_opening o ready.table → folded.gathered ≡ folded_gathered g (map folded_store g.stores)
-    → folded.jobs.items ≡ filter (λ job. not (is_counted ready.counts job)) jobs → IsFold o g jobs folded
+    → folded.jobs.items ≡ filter (λ job. not (is_listed ready.ids.items job)) jobs → IsFold o g jobs folded
 is_fold o is g done jobs differ ready judged folded opening gathered left =
     let p = judged.sound.placed in
     let stores = map folded_store g.stores in
@@ -138,8 +151,8 @@ is_fold o is g done jobs differ ready judged folded opening gathered left =
       is_folded = subst (λ (q : TableValue × List StoreValue). IsFolded o g q.0 q.1) (λ k. (same_table k, same_stores k)) all;
       opening = opening ∙ ap (folded_opening o) same_table;
       gathered = gathered ∙ ap (folded_gathered g) same_stores;
-      left = left ∙ left_are g.receipts ready.counts judged.counts jobs;
-      differ = subst IdsDiffer (sym left) (some_differ (λ job. not (is_counted ready.counts job)) jobs differ);
+      left = left ∙ left_by g.receipts ready.ids.items judged.ids jobs;
+      differ = subst IdsDiffer (sym left) (some_differ (λ job. not (is_listed ready.ids.items job)) jobs differ);
       placed = subst (λ (q : OpeningValue × GatheredValue). IsPlaced q.0 q.1) (λ k. (sym opening k, sym gathered k)) (folded_placed o is g p done ready.table stores all);
       done = subst (λ (q : OpeningValue × GatheredValue). IsStageDone q.0 q.1) (λ k. (sym opening k, sym gathered k)) (folded_done o is g p done ready.table stores all);
     }

@@ -1,12 +1,10 @@
 -- The index of jobs by id, as it grows, and the families that root keys have.
-use Rattle.std.proofs.Common.{◌≡◌, ◌⊎◌, inl, inr, ⊎_elim, ℕ, ◌+◌, ◌-◌, ◌<◌, ◌≤◌, nat_lt, Bool, true, false, List, [], ◌∷◌, length, slice_get, Some, None, sym, ap, ◌∙◌, subst, arith, ltb-true, ltb-false}
+use Rattle.std.proofs.Common.{◌≡◌, ◌⊎◌, inl, inr, ⊎_elim, ℕ, ◌+◌, ◌-◌, ◌<◌, ◌≤◌, nat_lt, Bool, true, false, List, [], ◌∷◌, ◌++◌, length, slice_get, Contains, Some, None, sym, ap, ◌∙◌, subst, arith, ltb-true, ltb-false}
 use Rattle.std.specs.Bool.{Decides}
-use Rattle.std.specs.Ordering.{nat_cmp}
-use Rattle.std.specs.Cmp.{unsigned_tied}
-use Rattle.std.specs.BTreeMap.{BTreeMap, get, Updates}
-use Rattle.std.specs.List.Sorted.{IsNonDecreasingBy, IsPartitionPoint}
-use Rattle.std.proofs.lemmas.List.Sorted.{IsPartitionedBy-ltb}
-use Rattle.std.proofs.lemmas.Bool.{cases_lt, cases_eq, ne_eqb}
+use Rattle.std.specs.List.Sorted.{IsPermutation, IsNonDecreasingBy, IsPartitionPoint}
+use Rattle.std.proofs.lemmas.List.Elements.{Contains-append_cases, Contains-append_left, Contains-append_right}
+use Rattle.std.proofs.lemmas.List.Sorted.{IsPartitionedBy-ltb, IsPermutation-sym, Contains-permutation}
+use Rattle.std.proofs.lemmas.Bool.{cases_lt, cases_eq}
 use Rattle.std.proofs.lemmas.Bool.Decides.{Decides-and, Decides-like}
 use Rattle.std.proofs.lemmas.Option.{slice_get_within, get_or_from_slice_get}
 use Rattle.sq_node_model.proofs.Lists.{at_map, map_at, stands_at}
@@ -16,7 +14,9 @@ use Rattle.sq_audit.specs.declared.located.Site.{Site}
 use Rattle.sq_audit.specs.declared.located.Site.TheVariants.{Store, Chunk}
 use Rattle.sq_audit.specs.contracts.located.SitePartialEq.TheImpl as site
 use Rattle.sq_audit.specs.Located.{Entry, spot_of, entry_of, entries_in, AreByRoot}
+use Rattle.sq_audit.specs.ById.{AreById}
 use Rattle.sq_audit.specs.Index.{IsIndexTo, IsIndexOf, Agree, HasFamily, AgreeTo, AgreeOnSpots}
+use Rattle.sq_audit.proofs.Counting.{pair_is}
 use Rattle.sq_audit.proofs.Each.{decides_not, same_of, no_some}
 use Rattle.sq_audit.proofs.Lists.{PartsAt}
 use Rattle.std.specs.Cmp.{unsigned_Decides}
@@ -28,39 +28,43 @@ site_same (Chunk link chunk) (Chunk other again) =
     Decides-like _ (λ same. let one = same.0 in let two = same.1 in cc) (λ same. ((cc), (cc))) (Decides-and _ _ (unsigned_Decides link other) (unsigned_Decides chunk again))
 site_same _ _ = ((λ wrong. cc), (λ same. cc))
 
-module _ {X : Type 0} (key : X → ℕ) (xs : List X) (upto k : ℕ) (old new : BTreeMap ℕ ℕ) (one : X) (there : slice_get xs upto ≡ Some one) (is : key one ≡ k)
-    (updates : Updates nat_cmp old new k (Some upto)) (so_far : IsIndexTo key xs upto old) where
-  new_here : (q : ℕ) → k ≡ q → get nat_cmp new q ≡ Some upto
-  new_here q same = ap (get nat_cmp new) (sym same) ∙ updates.1
+-- no keys of those before the first
+pub index_none : {X : Type 0} (key : X → ℕ) (xs : List X) → IsIndexTo key xs 0 []
+index_none key xs =
+    record {
+      found = λ k place has. let none = Contains-nothing {X = ℕ × ℕ} (k, place) has in absurd none;
+      each = λ place x below at. absurd (omega (arith, below));
+    }
 
-  new_other : (q : ℕ) → (k ≡ q → ⊥) → get nat_cmp new q ≡ get nat_cmp old q
-  new_other q apart = updates.2 q (unsigned_tied k q ∙ ne_eqb k q apart)
+module _ {X : Type 0} (key : X → ℕ) (xs : List X) (upto k : ℕ) (old new : List (ℕ × ℕ)) (one : X) (there : slice_get xs upto ≡ Some one) (is : key one ≡ k)
+    (pushed : new ≡ old ++ (k, upto) ∷ []) (so_far : IsIndexTo key xs upto old) where
+  old_or_last : (q place : ℕ) → Contains {X = ℕ × ℕ} new (q, place) → Contains {X = ℕ × ℕ} old (q, place) ⊎ Contains {X = ℕ × ℕ} ((k, upto) ∷ []) (q, place)
+  old_or_last q place has = Contains-append_cases old ((k, upto) ∷ []) (q, place) (subst (λ (list : List (ℕ × ℕ)). Contains list (q, place)) pushed has)
 
-  place_here : (q place : ℕ) → k ≡ q → get nat_cmp new q ≡ Some place → upto ≡ place
-  place_here q place same at = let e = sym (new_here q same) ∙ at in cc
+  last_is : (q place : ℕ) → Contains {X = ℕ × ℕ} ((k, upto) ∷ []) (q, place) → Path (ℕ × ℕ) (k, upto) (q, place)
+  last_is q place has = ⊎_elim (λ same. same) (λ more. absurd (Contains-nothing {X = ℕ × ℕ} (q, place) more)) (Contains-cases {X = ℕ × ℕ} (k, upto) [] (q, place) has)
+
+  last_in : Contains {X = ℕ × ℕ} new (k, upto)
+  last_in = subst (λ (list : List (ℕ × ℕ)). Contains list (k, upto)) (sym pushed) (Contains-append_right old ((k, upto) ∷ []) (k, upto) (Contains-first {X = ℕ × ℕ} (k, upto) []))
 
   pub index_next : IsIndexTo key xs (upto + 1) new
   index_next =
       record {
-        found = λ q place at.
+        found = λ q place has.
             ⊎_elim
-            (λ same. record { one = one; there = subst (λ n. slice_get xs n ≡ Some one) (place_here q place same at) there; key_is = is ∙ same })
-            (λ apart. so_far.found q place (sym (new_other q apart) ∙ at))
-            (cases_eq k q);
-        before = λ q place at.
+            (so_far.found q place)
+            (λ last.
+            let same = last_is q place last in
+            record { one = one; there = subst (λ n. slice_get xs n ≡ Some one) (ap (λ (p : ℕ × ℕ). p.1) same) there; key_is = is ∙ ap (λ (p : ℕ × ℕ). p.0) same })
+            (old_or_last q place has);
+        each = λ place x below at.
             ⊎_elim
-            (λ same. let e = place_here q place same at in omega (arith, e))
-            (λ apart. let low = so_far.before q place (sym (new_other q apart) ∙ at) in omega (arith, low))
-            (cases_eq k q);
-        none = λ q none place x below at key_is.
-            ⊎_elim
-            (λ same. no_some upto (sym none ∙ new_here q same))
-            (λ apart.
-            ⊎_elim
-            (λ low. so_far.none q (sym (new_other q apart) ∙ none) place x low at key_is)
-            (λ from. apart (sym is ∙ ap key (sym (same_of xs upto place one x there at (omega (arith, below, from)))) ∙ key_is))
-            (cases_lt place upto))
-            (cases_eq k q);
+            (λ low. subst (λ (list : List (ℕ × ℕ)). Contains list (key x, place)) (sym pushed) (Contains-append_left old ((k, upto) ∷ []) (key x, place) (so_far.each place x low at)))
+            (λ from.
+            let here : place ≡ upto = omega (arith, below, from) in
+            let same = same_of xs upto place one x there at here in
+            subst (λ (p : ℕ × ℕ). Contains new p) (pair_is (sym is ∙ ap key (sym same)) (sym here)) last_in)
+            (cases_lt place upto);
       }
 
 -- that the root keys don't fall, of entries and of what they are of
@@ -188,15 +192,17 @@ module _ (entries : List Entry) (rise : AreByRoot entries) (at : ℕ) (some : 1 
       (cases_lt j at))
       (cases_lt i at)
 
--- the index once all are in it
-pub index_whole : {X : Type 0} (key : X → ℕ) (xs : List X) (upto : ℕ) (places : BTreeMap ℕ ℕ) → length xs ≤ upto → IsIndexTo key xs upto places → IsIndexOf key xs places
-index_whole key xs upto places whole so_far =
+-- the index once all are in it, and in order
+pub index_whole : {X : Type 0} (key : X → ℕ) (xs : List X) (upto : ℕ) (places sorted : List (ℕ × ℕ)) → length xs ≤ upto → IsIndexTo key xs upto places → IsPermutation places sorted → AreById sorted
+    → IsIndexOf key xs sorted
+index_whole key xs upto places sorted whole so_far same by =
     record {
-      found = so_far.found;
-      none = λ k none x has key_is.
+      by = by;
+      found = λ k place has. so_far.found k place (Contains-permutation sorted places (k, place) (IsPermutation-sym places sorted same) has);
+      each = λ x has.
           let at = slice_get-Contains xs x has in
           let within = slice_get_within xs has.0 x at in
-          so_far.none k none has.0 x (omega (arith, within, whole)) at key_is;
+          (has.0, Contains-permutation places sorted (key x, has.0) same (so_far.each has.0 x (omega (arith, within, whole)) at));
     }
 
 pub agree_whole : (entries : List Entry) (upto : ℕ) (once : Bool) → length entries ≤ upto → Decides once (AgreeTo entries upto) → Decides once (AgreeOnSpots entries)

@@ -1,4 +1,4 @@
--- What receipts tell, whatever their order.
+-- What receipts say, whatever their order.
 use Rattle.std.proofs.Common.{◌≡◌, inl, inr, ℕ, ◌+◌, ◌==◌, ◌&&◌, Bool, List, [], ◌∷◌, filter, IsPermutation, Result, Ok, Err, refl, sym, ap, ◌∙◌, arith}
 use Rattle.std.specs.Prelude.{cond, count_by, IfOk}
 use Rattle.std.specs.Bool.{Decides}
@@ -16,7 +16,6 @@ use Rattle.sq_audit.specs.Told.{TellsLog, TellLogs, TellNoLog, KnowsAll, is_name
 pub count_first : {X : Type 0} (p : X → Bool) (x : X) (xs : List X) → count_by p (x ∷ xs) ≡ cond (p x) 1 0 + count_by p xs
 count_first p x xs = sum_by-append (λ y. cond (p y) 1 0) (x ∷ []) xs ∙ (let e : (0 + cond (p x) 1 0) + count_by p xs ≡ cond (p x) 1 0 + count_by p xs = omega arith in e)
 
--- a count of what is kept
 pub count_kept : {X : Type 0} (q p : X → Bool) (xs : List X) → count_by p (filter q xs) ≡ count_by (λ x. q x && p x) xs
 count_kept q p [] = refl
 count_kept q p (x ∷ xs) =
@@ -31,7 +30,7 @@ count_kept q p (x ∷ xs) =
           ∙ ap (λ b. cond (b && p x) 1 0 + count_by (λ y. q y && p y) xs) (sym fails) ∙ sym first
     ]
 
--- receipts in another order tell the same
+-- receipts in another order say the same
 log_permuted : (jobs : List Job) (family : FamilyValue) (root : ℕ) (xs ys : List ReceiptValue) → IsPermutation xs ys → TellsLog jobs family (receipts_of root xs) → TellsLog jobs family (receipts_of root ys)
 log_permuted jobs family root xs ys same tells =
     let of = λ (r : ReceiptValue). r.root == root in

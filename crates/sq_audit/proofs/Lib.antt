@@ -22,4 +22,5 @@ pub mod Placing
 pub mod Fitting
 pub mod Tables
 pub mod Among
+pub mod Searching
 pub mod Folds

@@ -1,4 +1,4 @@
--- That all families of what was gathered are listed: those of a store by rising root key, those of a chunk in their order.
+-- All families of what was gathered are listed: those of a store by rising root key, those of a chunk in their order.
 use Rattle.std.proofs.Common.{IsPermutation, ◌≡◌, ⊎_elim, ℕ, ◌+◌, ◌<◌, ◌≤◌, ◌==◌, get_or, true, nat_le, nat_lt, if◌then◌else◌, List, [], ◌∷◌, ◌++◌, map, length, slice_get, Contains, Some, None, sym, ap, ◌∙◌, subst, arith, append_assoc, eqb-true, eq-eqb}
 use Rattle.std.proofs.lemmas.List.Sorted.{IsPermutation-sym, Contains-permutation}
 use Rattle.std.specs.Prelude.{option_and_then, All}
@@ -48,7 +48,7 @@ item_of {X} xs ys i x same is within = ap (λ (list : List X). slice_get list i)
 pub end_of : {X : Type 0} (xs ys : List X) (i : ℕ) → xs ≡ ys → i ≤ length xs → length xs ≤ i → i ≡ length ys
 end_of xs ys i same upto past = omega (arith, upto, past, ap length same)
 
--- a family whose log is its own is that of its root key
+-- a family whose log is its own is the family of its root key
 of_root : (root : ℕ) (family : FamilyValue) → family.root ≡ root → All (λ txn. txn.root ≡ family.root) family.log → IsOf root family
 of_root root family same own = record { same_root = same; own_log = subst (λ k. All (λ txn. txn.root ≡ k) family.log) same own }
 

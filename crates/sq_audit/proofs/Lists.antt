@@ -27,7 +27,7 @@ counted p (x ∷ xs) some =
 pub count_parts : {X : Type 0} (p : X → Bool) (xs : List X) (i : ℕ) → count_by p xs ≡ count_by p (take i xs) + count_by p (drop i xs)
 count_parts p xs i = ap (count_by p) (sym (take-append-drop i xs)) ∙ sum_by-append (λ x. cond (p x) 1 0) (take i xs) (drop i xs)
 
--- what stands in a part
+-- what is in a part
 pub record StoodBefore {X : Type 0} (xs : List X) (i k : ℕ) (x : X) : Type 0 where
   pub there : slice_get xs k ≡ Some x
   pub before : k < i

@@ -27,7 +27,7 @@ cmp_equal x y same = is_equal (nat_cmp x y) (unsigned_tied x y ∙ eq-eqb x y sa
 key_total : IsTotalOrder key_order
 key_total = then_total (then_total (on_total (λ (k : ReceiptKey). k.0) nat_cmp_total) (on_total (λ (k : ReceiptKey). k.1) nat_cmp_total)) (on_total (λ (k : ReceiptKey). k.2) bool_cmp_total)
 
--- what the order says of two receipts, the first of which comes before
+-- the order of two receipts: the first comes before the second
 abbrev pub Precedes : ReceiptValue → ReceiptValue → Type 0
 Precedes one other =
     (one.root < other.root)

@@ -1,4 +1,4 @@
--- That there is just one link wherever a range moves.
+-- There is just one link wherever a range moves.
 use Rattle.std.proofs.Common.{◌≡◌, inl, inr, ⊎_elim, ℕ, zero, suc, ◌+◌, ◌<◌, ◌≤◌, ◌==◌, ◌||◌, Bool, true, List, [], ◌∷◌, length, take, drop, slice_get, Some, None, refl, sym, ap, ◌∙◌, subst, arith, true≢false, eqb-true, eq-eqb}
 use Rattle.std.specs.Prelude.{cond, count_by, position, is_some, not, nat_lt}
 use Rattle.std.specs.List.{prefix_len, list_any}
@@ -160,6 +160,6 @@ known_again o stage gathered links others are also known at has =
     let is = known at has in
     ((also.all (closed_ends at)).1 ((are.all (closed_ends at)).0 is.0), is.1)
 
--- what is told of a reconfiguration, a stage and links, of what these are
+-- what holds of a reconfiguration, a stage and links holds of equal ones
 pub told_of : (P : ReconValue → ℕ → List GatheredLink → Type 0) (r s : ReconValue) (i j : ℕ) (xs ys : List GatheredLink) → r ≡ s → i ≡ j → xs ≡ ys → P r i xs → P s j ys
 told_of P r s i j xs ys recon stage links told = subst (P s j) links (subst (λ k. P s k xs) stage (subst (λ q. P q i xs) recon told))

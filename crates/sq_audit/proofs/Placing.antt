@@ -274,7 +274,7 @@ module _ (o : OpeningValue) (g : GatheredValue) (parts : HasEachPart o g) (links
             go true is = loaded_there is ∙ sym (ap (λ (b : Bool). if b then At one.0.dst else Under_way one.0) is)
             go false is = cut_there is ∙ sym (ap (λ (b : Bool). if b then At one.0.dst else Under_way one.0) is)
 
-      -- the note that is found to cover a root key tells its place
+      -- the note that is found to cover a root key gives its place
       place_is : gathered_place o g root ≡ place_by o g.stage root (find (is_over root) notes)
       place_is = go (find (is_over root) notes) refl
         where

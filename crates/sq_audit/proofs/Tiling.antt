@@ -1,4 +1,4 @@
--- Walks over notes, the oldest first, of which lists with the newest first are told.
+-- Walks over notes, the oldest first, against lists with the newest first.
 use Rattle.std.proofs.Common.{◌≡◌, inl, inr, ℕ, ◌+◌, Bool, true, false, ◌==◌, ◌&&◌, ◌||◌, List, [], ◌∷◌, ◌++◌, length, take, drop, slice_get, find, Option, Some, refl, sym, ap, ◌∙◌, subst, subst₂, arith}
 use Rattle.std.specs.Prelude.{cond, reverse}
 use Rattle.std.specs.Ordering.{nat_cmp}
@@ -43,7 +43,7 @@ number_at notes i note at numbered =
     let here = subst AreNumbered (walked_more notes i note at) (walked_holds AreNumbered (λ x xs all. all.1) notes (i + 1) numbered) in
     here.0 ∙ count
 
--- of notes that tile, the newest one of a node tells whether its last note is among them
+-- of notes that tile, the newest one of a node shows whether its last note is among them
 or_none : (a b : Bool) → b ≡ false → (a || b) ≡ a
 or_none true b none = refl
 or_none false b none = none
@@ -64,7 +64,7 @@ last_is o (note ∷ ns) tiles seg node =
           ∙ sym (ap is_last_note (cond-false (is_about seg node note) (Some note) (find (is_about seg node) ns) other))
     ]
 
--- so a note goes on exactly if it continues the newest one
+-- so a note continues exactly if it follows the newest one
 module _ (o : OpeningValue) (ns : List Note) (tiles : Tiles o ns) (note : Note) where
   abbrev extent : Extent
   extent = extent_of o note.seg note.node

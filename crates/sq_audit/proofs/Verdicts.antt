@@ -41,7 +41,7 @@ module _ (o : OpeningValue) (g : GatheredValue) (jobs : List Job) where
   pub all_clear : ClearBelow o g jobs 307 → IsSoundRun o g jobs
   all_clear below = sound_from o g jobs (λ defect. below defect (bounds defect).1)
 
-  -- what is told of the defect at a place where there is none before it
+  -- what holds of the defect at a place where there is none before it
   module _ (i : ℕ) (low : i < 6) (below : ClearBelow o g jobs (301 + i)) where
     pub lower_clear : ClearBelow o g jobs (defect_number (defect_at i))
     lower_clear = subst (ClearBelow o g jobs) (sym (number_at i low)) below

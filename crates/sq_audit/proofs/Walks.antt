@@ -178,7 +178,7 @@ module _ (jobs : List Job) (family : FamilyValue) (group : List ReceiptValue) wh
         named = λ q. sym (none_from q 0 (omega arith));
       }
 
-  -- once all receipts are walked over, the log is told where its end is reached
+  -- once all receipts are walked over, the log is complete where its end is reached
   pub walk_ends : (i position : ℕ) (rows : RowList) → WalkedTo i position rows → length group ≤ i → position ≡ length family.log → TellsLog jobs family group
   walk_ends i position rows so_far whole ends =
       record {

@@ -10,7 +10,7 @@ use Rattle.sq_audit.specs.Notes.{AreOfLast}
 use Rattle.sq_audit.proofs.Lists.{at_dropped}
 use Rattle.sq_audit.proofs.Each.{same_of}
 
--- a list that is mapped, told place by place
+-- a list that is mapped, place by place
 map_is : {X Y : Type 0} (f : X → Y) (xs : List X) (ys : List Y) → length xs ≡ length ys → ((i : ℕ) (x : X) → slice_get xs i ≡ Some x → slice_get ys i ≡ Some (f x)) → map f xs ≡ ys
 map_is f [] [] same each = refl
 map_is f [] (y ∷ ys) same each = absurd (omega (arith, same))

@@ -13,8 +13,10 @@ use Rattle.sq_audit.specs.declared.folded.Folded.{Folded}
 use Rattle.sq_audit.specs.declared.folded.Unfolded.{Unfolded}
 use Rattle.sq_audit.specs.declared.folded.Unfolded.TheVariants.{Unsound, Memory}
 use Rattle.sq_audit.specs.declared.folding.Ready.{Ready}
+use Rattle.sq_audit.specs.declared.folding.Prepared.{Prepared}
+use Rattle.sq_audit.specs.declared.folding.Prepared.TheVariants as prepared
 use Rattle.sq_audit.specs.Answers.{is_of, IdsDiffer}
-use Rattle.sq_audit.specs.Counts.{Counts}
+use Rattle.sq_audit.specs.ById.{ListsIds}
 use Rattle.sq_audit.specs.Rows.{rows_among}
 use Rattle.sq_audit.specs.Sound.{IsSoundRun}
 use Rattle.sq_audit.specs.Defects.{IsFirstDefect}
@@ -31,12 +33,17 @@ answered_jobs receipts jobs = filter (has_receipt receipts) jobs
 abbrev pub jobs_left : List ReceiptValue → List Job → List Job
 jobs_left receipts jobs = filter (λ job. not (has_receipt receipts job)) jobs
 
--- the jobs that have a receipt are sound, the table has the rows of the families, and the counts are those of the receipts
+-- the jobs that have a receipt are sound, the table has the rows of the families, and the ids are those of the receipts
 pub record IsReadyToFold (o : OpeningValue) (g : GatheredValue) (jobs : List Job) (ready : Ready) : Type 0 where
   pub sound : IsSoundRun o g (answered_jobs g.receipts jobs)
-  pub counts : Counts g.receipts ready.counts
+  pub ids : ListsIds g.receipts ready.ids.items
   pub rows : (root : ℕ) → rows_in ready.table root ≡ rows_among [] g.stores root
   pub bound : (root : ℕ) → ROOT_END ≤ root → rows_in ready.table root ≡ []
+
+-- all is ready for a fold; or the jobs that have a receipt have this defect first
+abbrev pub IsPrepared : OpeningValue → GatheredValue → List Job → Prepared → Type 0
+IsPrepared o g jobs (prepared.Ready ready) = IsReadyToFold o g jobs ready
+IsPrepared o g jobs (prepared.Unsound defect) = IsFirstDefect o g (answered_jobs g.receipts jobs) defect
 
 -- the jobs that have a receipt are sound; folded are the opening, which has the rows of the families that stand, and what was
 -- gathered, which is placed there with the segments of its stage complete; and the jobs without a receipt are left, whose ids

@@ -1,4 +1,4 @@
--- What is told of the parts of a list, each by itself.
+-- What holds of the parts of a list, each on its own.
 use Rattle.std.specs.Prelude.{◌≡◌, Bool, true, false, List, Result, Ok, Contains}
 
 -- all parts were found to hold, or one not to

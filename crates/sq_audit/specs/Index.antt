@@ -1,11 +1,10 @@
--- An index from keys to places in a list, and what root keys and their families tell.
-use Rattle.std.specs.Prelude.{◌≡◌, ◌<◌, ℕ, List, slice_get, Some, None, Contains}
-use Rattle.std.specs.Ordering.{nat_cmp}
-use Rattle.std.specs.BTreeMap.{BTreeMap, get}
+-- An index from keys to places in a list, and what holds of root keys and their families.
+use Rattle.std.specs.Prelude.{◌≡◌, ◌<◌, ℕ, List, slice_get, Some, Contains}
 use Rattle.sq_schema.specs.Effect.{RowList, RowTable}
 use Rattle.sq_schema.specs.Family.{FamilyValue}
 use Rattle.sq_schema.specs.Table.{TableValue}
 use Rattle.sq_audit.specs.Located.{Entry}
+use Rattle.sq_audit.specs.ById.{AreById}
 
 -- what stands at this place has this key
 pub record HasKeyAt {X : Type 0} (key : X → ℕ) (xs : List X) (k place : ℕ) : Type 0 where
@@ -13,16 +12,16 @@ pub record HasKeyAt {X : Type 0} (key : X → ℕ) (xs : List X) (k place : ℕ)
   pub there : slice_get xs place ≡ Some one
   pub key_is : key one ≡ k
 
--- the index has the place of one of each key that some have, of those before a place
-pub record IsIndexTo {X : Type 0} (key : X → ℕ) (xs : List X) (upto : ℕ) (places : BTreeMap ℕ ℕ) : Type 0 where
-  pub found : (k place : ℕ) → get nat_cmp places k ≡ Some place → HasKeyAt key xs k place
-  pub before : (k place : ℕ) → get nat_cmp places k ≡ Some place → place < upto
-  pub none : (k : ℕ) → get nat_cmp places k ≡ None → (place : ℕ) (x : X) → place < upto → slice_get xs place ≡ Some x → key x ≡ k → ⊥
+-- the index has a place of each key that some have, of those before a place
+pub record IsIndexTo {X : Type 0} (key : X → ℕ) (xs : List X) (upto : ℕ) (places : List (ℕ × ℕ)) : Type 0 where
+  pub found : (k place : ℕ) → Contains places (k, place) → HasKeyAt key xs k place
+  pub each : (place : ℕ) (x : X) → place < upto → slice_get xs place ≡ Some x → Contains places (key x, place)
 
--- the index has the place of one of each key that some have
-pub record IsIndexOf {X : Type 0} (key : X → ℕ) (xs : List X) (places : BTreeMap ℕ ℕ) : Type 0 where
-  pub found : (k place : ℕ) → get nat_cmp places k ≡ Some place → HasKeyAt key xs k place
-  pub none : (k : ℕ) → get nat_cmp places k ≡ None → (x : X) → Contains xs x → key x ≡ k → ⊥
+-- the index has a place of each key that some have, and its keys don't fall
+pub record IsIndexOf {X : Type 0} (key : X → ℕ) (xs : List X) (places : List (ℕ × ℕ)) : Type 0 where
+  pub by : AreById places
+  pub found : (k place : ℕ) → Contains places (k, place) → HasKeyAt key xs k place
+  pub each : (x : X) → Contains xs x → (place : ℕ) × Contains places (key x, place)
 
 -- two entries of one root key have one spot
 abbrev pub Agree : Entry → Entry → Type 0

@@ -3,6 +3,7 @@ pub mod Answers
 pub mod Sound
 pub mod Defects
 pub mod Located
+pub mod ById
 pub mod Index
 pub mod Told
 pub mod InThreads

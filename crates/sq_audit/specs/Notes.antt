@@ -1,4 +1,4 @@
--- What holds of the notes of links, and where a note goes on from the newest one of its node.
+-- What holds of the notes of links, and where a note continues the newest one of its node.
 use Rattle.std.specs.Prelude.{◌≡◌, ℕ, ◌≤◌, Bool, true, false, ◌==◌, ◌-◌, List, length, map, drop, slice_get, Option, Some, None, Contains}
 use Rattle.sq_chunk.specs.declared.chunk.Note.{Note}
 use Rattle.sq_chunk.specs.ChunkValue.{ChunkValue, are_within}
@@ -36,7 +36,8 @@ pub record IsPart (extent : Extent) (from : ℕ) (note : Note) : Type 0 where
   pub within : note.hi ≤ extent.hi
   pub last : note.last ≡ (note.hi == extent.hi)
 
--- the note goes on where the newest one of its node ends, which wasn't its last, or where there is none at the low end of the node's extent
+-- the note continues where the newest one of its node ends, which wasn't its last, or where there is none at the low
+-- end of the node's extent
 pub record FollowsNewest (extent : Extent) (newest : Option Note) (note : Note) : Type 0 where
   pub part : IsPart extent (end_of_note extent.lo newest) note
   pub unfinished : is_last_note newest ≡ false

@@ -1,4 +1,4 @@
--- What is told of the statuses of trees.
+-- What holds of the statuses of trees.
 use Rattle.std.specs.Prelude.{◌≡◌, ℕ, true, false}
 use Rattle.std.specs.BTreeSet.{BTreeSet, contains}
 use Rattle.sq_tree.specs.declared.status.Status.{Status}

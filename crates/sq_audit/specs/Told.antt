@@ -1,4 +1,4 @@
--- Whether receipts tell what jobs had to be answered, and each position of the logs.
+-- Whether receipts say what jobs had to be answered, and name each position of the logs.
 use Rattle.std.specs.Prelude.{◌≡◌, ◌⊎◌, ◌<◌, ◌==◌, ◌&&◌, ℕ, Bool, true, nat_lt, if◌then◌else◌, List, [], map, filter, length, slice_get, count_by, Option, Some, None, Contains}
 use Rattle.std.specs.Option.{option_map_or}
 use Rattle.std.specs.declared.cmp.Ordering.{Ordering}
@@ -30,7 +30,8 @@ pub record IsOneJob (jobs : List Job) (receipt : ReceiptValue) (txn : TxnValue) 
   pub is : is_of txn receipt ≡ true
   pub only : (other : Job) → Contains jobs other → is_of other.txn receipt ≡ true → other.txn ≡ txn
 
--- on these rows, where a log goes on with this transaction, the receipt is what a job is answered: a commit is that transaction
+-- on these rows, where a log continues with this transaction, the receipt is what a job is answered: a commit is that
+-- transaction
 abbrev pub IsAnswerOn : List Job → RowList → Option TxnValue → ReceiptValue → Type 0
 IsAnswerOn jobs rows next receipt =
     (job : Job) × Contains jobs job × (is_of job.txn receipt ≡ true) × (receipt.reply ≡ reply rows job.txn)
@@ -63,11 +64,11 @@ pub record TellsLog (jobs : List Job) (family : FamilyValue) (receipts : List Re
 abbrev pub receipts_of : ℕ → List ReceiptValue → List ReceiptValue
 receipts_of root receipts = filter (λ receipt. receipt.root == root) receipts
 
--- the receipts tell the log of an entry's family
+-- the receipts name the log of an entry's family
 abbrev pub TellsEntry : List Job → List ReceiptValue → Entry → Type 0
 TellsEntry jobs receipts entry = TellsLog jobs entry.1 (receipts_of entry.1.root receipts)
 
--- each family's log is told
+-- each family's log is named
 abbrev pub TellLogs : List Entry → List Job → List ReceiptValue → Type 0
 TellLogs entries jobs receipts = (entry : Entry) → Contains entries entry → TellsEntry jobs receipts entry
 
@@ -78,7 +79,7 @@ TellsNoLog entries jobs receipt = (HasFamily entries receipt.root → ⊥) → (
 abbrev pub TellNoLog : List Entry → List Job → List ReceiptValue → Type 0
 TellNoLog entries jobs receipts = (receipt : ReceiptValue) → Contains receipts receipt → TellsNoLog entries jobs receipt
 
--- each family's log is told, and each receipt of a root key without a family is of an abort on no rows
+-- each family's log is named, and each receipt of a root key without a family is of an abort on no rows
 pub record KnowsAll (entries : List Entry) (jobs : List Job) (receipts : List ReceiptValue) : Type 0 where
   pub logs : TellLogs entries jobs receipts
   pub nothing : TellNoLog entries jobs receipts

@@ -1,14 +1,13 @@
 // Whether jobs are answered.
-ghost use Rattle.std.specs.Prelude.{◌≡◌, ◌≤◌, length, filter, not, IfOk};
+ghost use Rattle.std.specs.Prelude.{◌≡◌, ◌==◌, ◌≤◌, length, filter, take_while, count_by, nat_lt, not, IfOk};
 ghost use Rattle.std.specs.Bool.{Decides};
 ghost use Rattle.sq_audit.specs.Answers.{AreAnsweredBy};
-ghost use Rattle.sq_audit.specs.Counts.{Counts, is_counted};
+ghost use Rattle.sq_audit.specs.ById.{AreById, ListsIds, is_id_and_root, is_listed};
 ghost use Rattle.sq_audit.specs.Folding.{answered_jobs};
 
 use crate::job::Job;
 use sq_node::Receipt;
 use std::alloc::{AllocError, Global};
-use std::collections::BTreeMap;
 
 /// Whether each job has one receipt.
 pub(crate) fn are_answered(
@@ -18,10 +17,9 @@ pub(crate) fn are_answered(
 ) -> Result<bool, AllocError>
     ensures { IfOk result (λ answered. Decides answered (AreAnsweredBy receipts.now jobs.now)) }
 {
-    let counts = count(alloc, receipts)?;
+    let ids = list_ids(alloc, receipts)?;
     for job in jobs {
-        let key = (job.txn.id(), job.txn.root().number());
-        if counts.get(&key).copied() != Some(1) {
+        if count_of(&ids, job) != 1 {
             return Ok(false);
         }
     }
@@ -37,65 +35,87 @@ pub fn count_answered(
     ensures answered { IfOk result (λ answered. answered ≡ length (answered_jobs receipts.now jobs.now)) }
     ensures most { IfOk result (λ answered. answered ≤ length jobs.now) }
 {
-    let counts = count(alloc, receipts)?;
+    let ids = list_ids(alloc, receipts)?;
     let mut answered = 0;
     for job in jobs {
-        if is_counted(&counts, job) {
+        if is_listed(&ids, job) {
             answered += 1;
         }
     }
     Ok(answered)
 }
 
-/// How many receipts there are of each id and root key, where there are some.
-pub(crate) fn count(
-    alloc: Global,
-    receipts: &[Receipt],
-) -> Result<BTreeMap<(u64, u64), u64>, AllocError>
-    ensures { IfOk result (Counts receipts.now) }
+/// The ids of receipts, each with its root key, by id. By them jobs that have a receipt are told from the others.
+pub fn list_ids(alloc: Global, receipts: &[Receipt]) -> Result<Vec<(u64, u64)>, AllocError>
+    ensures { IfOk result (λ ids. ListsIds receipts.now ids.items) }
 {
-    let mut counts = BTreeMap::new(alloc);
+    let mut ids = Vec::with_capacity(alloc, receipts.len())?;
     for receipt in receipts {
-        let key = (receipt.id, receipt.root.number());
-        let before = counts.get(&key).copied().unwrap_or(0);
-        counts.insert(key, before + 1)?;
+        ids.push((receipt.id, receipt.root.number()))?;
     }
-    Ok(counts)
+    ids.sort_by_key(|one| one.0)?;
+    Ok(ids)
 }
 
-/// Copies of the jobs that have a receipt by these counts, in their order.
-pub(crate) fn copy_answered(
+/// Copies of the jobs that have a receipt by these ids, in their order.
+pub fn copy_answered(
     alloc: Global,
-    counts: &BTreeMap<(u64, u64), u64>,
+    ids: &[(u64, u64)],
     jobs: &[Job],
 ) -> Result<Vec<Job>, AllocError>
-    ensures { IfOk result (λ answered. answered.items ≡ filter (is_counted counts.now) jobs.now) }
+    requires { AreById ids.now }
+    ensures { IfOk result (λ answered. answered.items ≡ filter (is_listed ids.now) jobs.now) }
 {
     let mut answered = Vec::new(alloc);
     for job in jobs {
-        if is_counted(counts, job) {
+        if is_listed(ids, job) {
             answered.push(copy(job)?)?;
         }
     }
     Ok(answered)
 }
 
-/// Leaves the jobs that have no receipt by these counts, in their order.
-pub(crate) fn leave_unanswered(counts: &BTreeMap<(u64, u64), u64>, jobs: &mut Vec<Job>)
-    ensures { jobs.new.items ≡ filter (λ job. not (is_counted counts.now job)) jobs.old.items }
+/// Leaves the jobs that have no receipt by these ids, in their order.
+pub fn leave_unanswered(ids: &[(u64, u64)], jobs: &mut Vec<Job>)
+    requires { AreById ids.now }
+    ensures { jobs.new.items ≡ filter (λ job. not (is_listed ids.now job)) jobs.old.items }
 {
-    jobs.retain(|job| !is_counted(counts, job));
+    jobs.retain(|job| !is_listed(ids, job));
 }
 
-// Whether a job has a receipt by these counts.
-fn is_counted(counts: &BTreeMap<(u64, u64), u64>, job: &Job) -> bool
-    ensures { result ≡ is_counted counts.now job.now }
+// Whether a job has a receipt by these ids.
+fn is_listed(ids: &[(u64, u64)], job: &Job) -> bool
+    requires { AreById ids.now }
+    ensures { result ≡ is_listed ids.now job.now }
 {
-    let key = (job.txn.id(), job.txn.root().number());
-    counts.get(&key).copied().unwrap_or(0) > 0
+    count_of(ids, job) > 0
 }
 
-// A copy of a job.
+// How many of these ids are a job's, with its root key.
+fn count_of(ids: &[(u64, u64)], job: &Job) -> usize
+    requires { AreById ids.now }
+    ensures { result ≡ count_by (is_id_and_root job.now.txn.id job.now.txn.root) ids.now }
+{
+    let id = job.txn.id();
+    let root = job.txn.root().number();
+    let first = ids.partition_point(
+        |one: &(u64, u64)| -> bool
+            ensures { result ≡ nat_lt one.now.0 id }
+        { one.0 < id },
+    );
+    count_first(&ids[first..], id, root)
+}
+
+// How many of the first of these, while they have the id, have the root key.
+fn count_first(ids: &[(u64, u64)], id: u64, root: u64) -> usize
+    ensures { result ≡ count_by (λ one. one.1 == root) (take_while (λ one. one.0 == id) ids.now) }
+{
+    ids.iter()
+        .take_while(|one| one.0 == id)
+        .filter(|one| one.1 == root)
+        .count()
+}
+
 fn copy(job: &Job) -> Result<Job, AllocError>
     ensures { IfOk result (λ copy. copy ≡ job.now) }
 {

@@ -23,7 +23,7 @@ pub(crate) fn fit(
     requires { ListsAll g.now (entries_in all.now) }
     ensures { IfOk result (λ fit. Decides fit (FitTogether opening.now g.now)) }
 {
-    // For the proof alone: it tells that the opening is set up.
+    // For the proof alone: the opening is set up.
     let _ = opening.recon();
     if !has_parts(opening, g) {
         return Ok(false);
@@ -57,7 +57,6 @@ fn has_parts(opening: &Opening, g: &Gathered) -> bool
     have_one_each(recon, g.stage, recon.links(), &g.links)
 }
 
-// Whether each link that was gathered is one of these, and of the stage.
 fn are_known_links(recon: &Recon, stage: u64, links: &[Link], gathered: &[ClosedLink]) -> bool
     ensures { Decides result (AreKnownLinks recon.now stage links.now gathered.now) }
 {

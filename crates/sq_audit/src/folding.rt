@@ -5,13 +5,10 @@ ghost use Rattle.sq_schema.specs.Prelude.{rows_in};
 ghost use Rattle.sq_store.specs.Prelude.{folded_store};
 ghost use Rattle.sq_node_model.specs.Prelude.{IsStageDone, folded_opening, folded_gathered};
 ghost use Rattle.sq_audit.specs.Answers.{IdsDiffer};
-ghost use Rattle.sq_audit.specs.Counts.{Counts, is_counted};
-ghost use Rattle.sq_audit.specs.Rows.{rows_among};
-ghost use Rattle.sq_audit.specs.Sound.{IsSoundRun};
-ghost use Rattle.sq_audit.specs.Defects.{IsFirstDefect};
-ghost use Rattle.sq_audit.specs.Folding.{answered_jobs, IsReadyToFold, IsFold, IsUnfolded};
+ghost use Rattle.sq_audit.specs.ById.{AreById, is_listed};
+ghost use Rattle.sq_audit.specs.Folding.{IsPrepared, IsFold, IsUnfolded};
 
-use crate::answered::{copy_answered, count, leave_unanswered};
+use crate::answered::{copy_answered, leave_unanswered, list_ids};
 use crate::folded::{Folded, Unchanged, Unfolded};
 use crate::job::Job;
 use crate::passes::audit;
@@ -23,13 +20,12 @@ use sq_runs::RunStore;
 use sq_schema::Table;
 use sq_store::FamilyStore;
 use std::alloc::{AllocError, Global};
-use std::collections::BTreeMap;
 use std::thread::Threads;
 
-/// Folds what was gathered of a stage whose segments are complete: audits the jobs that have a receipt, whose ids differ
-/// as those of all jobs do, and where they are sound gives the families anew from their rows, the opening with these
-/// rows, no receipts, and the jobs without one. Else it tells the first defect; and where there is no memory for it all
-/// comes back as it was.
+/// Folds what was gathered of a stage whose segments are complete: audits the jobs that have a receipt, whose ids
+/// differ as those of all jobs do, and where they are sound gives the families anew from their rows, the opening with
+/// these rows, no receipts, and the jobs without one. Else the answer is the first defect; and where there is no memory
+/// for it all comes back as it was.
 pub fn fold<R: Threads + Sync>(
     rt: &R,
     alloc: Global,
@@ -42,11 +38,11 @@ pub fn fold<R: Threads + Sync>(
     ensures folded { IfOk result (IsFold opening gathered jobs.items) }
     ensures unfolded { IfErr result (IsUnfolded opening gathered jobs.items) }
 {
-    // For the proof alone: it tells that the opening is set up.
+    // For the proof alone: the opening is set up.
     let _ = opening.recon();
     match prepare(rt, alloc, &opening, &gathered, &jobs) {
-        Ok(Ok(ready)) => Ok(finish(alloc, opening, gathered, jobs, ready)),
-        Ok(Err(defect)) => Err(Unfolded::Unsound(defect)),
+        Ok(Prepared::Ready(ready)) => Ok(finish(alloc, opening, gathered, jobs, ready)),
+        Ok(Prepared::Unsound(defect)) => Err(Unfolded::Unsound(defect)),
         Err(_) => Err(Unfolded::Memory(Unchanged {
             opening,
             gathered,
@@ -55,32 +51,40 @@ pub fn fold<R: Threads + Sync>(
     }
 }
 
-// What a fold needs: how many receipts there are of each job, and the table of the rows of all families.
+// What a fold needs: the ids of the receipts with their root keys, by id, and the table of the rows of all families.
 #[derive(Drop)]
 struct Ready {
-    counts: BTreeMap<(u64, u64), u64>,
+    ids: Vec<(u64, u64)>,
     table: Table,
 }
 
-// What a fold needs, where the jobs that have a receipt are sound, or else their first defect.
+// What the audit before a fold came to.
+#[derive(Drop)]
+enum Prepared {
+    // The jobs that have a receipt are sound.
+    Ready(Ready),
+    // They have this defect first.
+    Unsound(Defect),
+}
+
+// Audits the jobs that have a receipt, and makes what a fold needs.
 fn prepare<R: Threads + Sync>(
     rt: &R,
     alloc: Global,
     opening: &Opening,
     g: &Gathered,
     jobs: &[Job],
-) -> Result<Result<Ready, Defect>, AllocError>
+) -> Result<Prepared, AllocError>
     requires { IdsDiffer jobs.now }
-    ensures ready { IfOk result (λ judged. IfOk judged (IsReadyToFold opening.now g.now jobs.now)) }
-    ensures unsound { IfOk result (λ judged. IfErr judged (IsFirstDefect opening.now g.now (answered_jobs g.now.receipts jobs.now))) }
+    ensures { IfOk result (IsPrepared opening.now g.now jobs.now) }
 {
-    let counts = count(alloc, &g.receipts)?;
-    let answered = copy_answered(alloc, &counts, jobs)?;
+    let ids = list_ids(alloc, &g.receipts)?;
+    let answered = copy_answered(alloc, &ids, jobs)?;
     if let Verdict::Unsound(defect) = audit(rt, opening, g, &answered)? {
-        return Ok(Err(defect));
+        return Ok(Prepared::Unsound(defect));
     }
     let table = table_of(alloc, &g.stores)?;
-    Ok(Ok(Ready { counts, table }))
+    Ok(Prepared::Ready(Ready { ids, table }))
 }
 
 // The opening with the table, what was gathered with its logs folded and without receipts, and the jobs left.
@@ -91,12 +95,13 @@ fn finish(
     mut jobs: Vec<Job>,
     ready: Ready,
 ) -> Folded
-    requires { (root : ℕ) → ROOT_END ≤ root → rows_in ready.table root ≡ [] }
+    requires by_id { AreById ready.ids.items }
+    requires bound { (root : ℕ) → ROOT_END ≤ root → rows_in ready.table root ≡ [] }
     ensures opening { result.opening ≡ folded_opening opening ready.table }
     ensures gathered { result.gathered ≡ folded_gathered gathered (map folded_store gathered.stores) }
-    ensures jobs { result.jobs.items ≡ filter (λ job. not (is_counted ready.counts job)) jobs.items }
+    ensures jobs { result.jobs.items ≡ filter (λ job. not (is_listed ready.ids.items job)) jobs.items }
 {
-    leave_unanswered(&ready.counts, &mut jobs);
+    leave_unanswered(&ready.ids, &mut jobs);
     Folded {
         opening: opening.with_table(ready.table),
         gathered: with_logs_folded(alloc, gathered),

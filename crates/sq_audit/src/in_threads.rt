@@ -1,4 +1,4 @@
-// Families in parts, each of which is looked at in a thread of its own.
+// Families in parts, each in a thread of its own.
 ghost use Rattle.std.specs.Prelude.{◌<◌, IfOk};
 ghost use Rattle.sq_audit.specs.InThreads.{IsSaidOfAll};
 

@@ -1,5 +1,5 @@
-// What is told of root keys, where all families are listed by them: that each of a table has a family, that each has one
-// alone, and that its family starts from its opening rows.
+// Checks of root keys where all families are listed by them: each of a table has a family, each has one alone, and its
+// family starts from its opening rows.
 ghost use Rattle.std.specs.Prelude.{◌≡◌, nat_lt, IfOk};
 ghost use Rattle.std.specs.Bool.{Decides};
 ghost use Rattle.sq_schema.specs.Prelude.{rows_in};

@@ -1,4 +1,4 @@
-//! What the definitions come to. The functions do nothing: each states a law, which the checker proves.
+//! What follows from the definitions. The functions do nothing: each states a law, which the checker proves.
 ghost use Rattle.std.specs.Prelude.{◌≡◌, ◌↔◌, true, List, is_some};
 ghost use Rattle.sq_explain.specs.Meanings.{meaning_of};
 ghost use Rattle.sq_ranges.specs.Prelude.{OpeningValue};
@@ -21,8 +21,8 @@ pub fn one_verdict()
         → IsVerdict o g jobs other → one ≡ other }
 {}
 
-/// What is found sound is placed: each family is where the notes place its root key, and nowhere else, it starts from its
-/// opening rows, and the receipts tell its log.
+/// What is found sound is placed: each family is where the notes place its root key, and nowhere else, it starts from
+/// its opening rows, and the receipts name its log.
 pub fn sound_is_placed()
     ensures { (o : OpeningValue) (g : GatheredValue) (jobs : List Job) → IsVerdict o g jobs Verdict.Sound → IsPlaced o g }
 {}

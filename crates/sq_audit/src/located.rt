@@ -66,7 +66,7 @@ fn add_stored<'a>(
     ensures { OnOk result (AddsAll (spot_of site) (get store.now) (entries_in all.old.items) (entries_in all.new.items)) }
 {
     for family in store.families() {
-        // For the proof alone: it tells that the log is of the family's own root key, as that of each family is.
+        // For the proof alone: the log is of the family's own root key, as that of each family is.
         family.log();
         all.push(Located { site, family })?;
     }

@@ -61,7 +61,7 @@ fn are_of_last(chunks: &[Chunk], notes: &[Note]) -> bool
         if chunk.note() != notes[loaded + at] {
             return false;
         }
-        // For the proof alone: it tells that the families are of keys that the note covers, as those of each chunk are.
+        // For the proof alone: the families are of keys that the note covers, as those of each chunk are.
         chunk.families();
     }
     true

@@ -85,7 +85,7 @@ pub(crate) fn part_of(opening: &Opening, stage: u64, spans: &[Span], root: Root)
     }
 }
 
-// Who owned a root key as a stage began: the new owner where it had moved before, else the old one.
+// The owner of a root key as a stage began: the new one where it had moved before, else the old one.
 fn owner_in(opening: &Opening, stage: u64, root: Root) -> PartId
     ensures { result ≡ owner_in opening.now stage root }
 {

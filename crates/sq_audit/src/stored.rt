@@ -16,7 +16,7 @@ pub(crate) fn next_family(store: &RunStore, at: u64) -> Option<(&Family, u64)>
     let Some(family) = store.walk(at) else {
         return None;
     };
-    // For the proof alone: it tells that the log is of the family's own root key, as that of each family is.
+    // For the proof alone: the log is of the family's own root key, as that of each family is.
     family.log();
     Some((family, family.root().number() + 1))
 }

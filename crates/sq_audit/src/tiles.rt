@@ -33,7 +33,7 @@ fn extent_of(recon: &Recon, seg: SegId, node: NodeId) -> Extent
     recon.extent(seg, node).unwrap_or(Extent { lo: 0, hi: 0 })
 }
 
-// Whether a note goes on where the newest one of its node, which has this extent, ends.
+// Whether a note continues where the newest one of its node, which has this extent, ends.
 fn continues(extent: Extent, newest: Option<Note>, note: Note) -> bool
     ensures { Decides result (FollowsNewest extent newest note) }
 {

@@ -1,4 +1,4 @@
-// Whether receipts tell what jobs had to be answered, and each position of the logs.
+// Whether receipts say what jobs had to be answered, and name each position of the logs.
 ghost use Rattle.std.specs.Prelude.{◌≡◌, ℕ, ◌<◌, ◌≤◌, [], true, length, slice_get, Some, option_copied, IfOk};
 ghost use Rattle.std.specs.Bool.{Decides};
 ghost use Rattle.std.specs.List.Sorted.{IsPermutation, IsSortedByKey};
@@ -16,7 +16,6 @@ use crate::located::Located;
 use sq_node::Receipt;
 use sq_schema::{Family, Reply, Rows, Txn};
 use std::alloc::{AllocError, Global};
-use std::collections::BTreeMap;
 use std::thread;
 use std::thread::Threads;
 
@@ -41,13 +40,14 @@ pub(crate) fn are_known<R: Threads + Sync>(
     tell_no_log(alloc, all, jobs, &ids, receipts)
 }
 
-// Whether receipts, in order, tell the logs of families that are by root key: parts of the families in threads of their own.
+// Whether receipts, in order, name the logs of families that are by root key: parts of the families in threads of their
+// own.
 fn tell_all_logs<R: Threads + Sync>(
     rt: &R,
     alloc: Global,
     all: &[Located],
     jobs: &[Job],
-    ids: &BTreeMap<u64, usize>,
+    ids: &[(u64, usize)],
     sorted: &[&Receipt],
 ) -> Result<bool, AllocError>
     requires ids { IdsDiffer jobs.now }
@@ -73,12 +73,12 @@ fn tell_all_logs<R: Threads + Sync>(
     all_hold(&said)
 }
 
-// Whether receipts, in order, tell the logs of families that are by root key.
+// Whether receipts, in order, name the logs of families that are by root key.
 fn tell_logs(
     alloc: Global,
     all: &[Located],
     jobs: &[Job],
-    ids: &BTreeMap<u64, usize>,
+    ids: &[(u64, usize)],
     sorted: &[&Receipt],
 ) -> Result<bool, AllocError>
     requires ids { IdsDiffer jobs.now }
@@ -99,12 +99,12 @@ fn tell_logs(
     Ok(true)
 }
 
-// Whether the receipts of root keys without a family tell aborts on no rows.
+// Whether the receipts of root keys without a family are of aborts on no rows.
 fn tell_no_log(
     alloc: Global,
     all: &[Located],
     jobs: &[Job],
-    ids: &BTreeMap<u64, usize>,
+    ids: &[(u64, usize)],
     receipts: &[Receipt],
 ) -> Result<bool, AllocError>
     requires ids { IdsDiffer jobs.now }
@@ -127,7 +127,7 @@ fn tell_no_log(
 fn tells_no_log(
     alloc: Global,
     jobs: &[Job],
-    ids: &BTreeMap<u64, usize>,
+    ids: &[(u64, usize)],
     receipt: &Receipt,
 ) -> Result<bool, AllocError>
     requires ids { IdsDiffer jobs.now }
@@ -140,11 +140,11 @@ fn tells_no_log(
     is_answered(alloc, jobs, ids, &mut Rows::new(alloc), None, receipt)
 }
 
-// Whether receipts of a family's root key, by position and at one position the aborts first, tell its log.
+// Whether receipts of a family's root key, by position and at one position the aborts first, name its log.
 fn tells_log(
     alloc: Global,
     jobs: &[Job],
-    ids: &BTreeMap<u64, usize>,
+    ids: &[(u64, usize)],
     family: &Family,
     receipts: &[&Receipt],
 ) -> Result<bool, AllocError>
@@ -173,12 +173,12 @@ fn tells_log(
     Ok(position == family.log().len())
 }
 
-// Whether the receipt is what its job is answered on rows, where the log goes on with `next`: a commit has to be that
+// Whether the receipt is what its job is answered on rows, where the log continues with `next`: a commit has to be that
 // one. The rows are then those after the job.
 fn is_answered(
     alloc: Global,
     jobs: &[Job],
-    ids: &BTreeMap<u64, usize>,
+    ids: &[(u64, usize)],
     rows: &mut Rows,
     next: Option<&Txn>,
     receipt: &Receipt,
@@ -219,7 +219,6 @@ fn is_next(next: Option<&Txn>, txn: &Txn) -> bool
     }
 }
 
-// Whether the receipt is of a commit.
 fn commits(receipt: &Receipt) -> bool
     ensures { result ≡ is_commit receipt.now.reply }
 {
@@ -238,11 +237,15 @@ fn sort(alloc: Global, receipts: &[Receipt]) -> Result<Vec<&Receipt>, AllocError
     for receipt in receipts {
         sorted.push(receipt)?;
     }
-    sorted.sort_by_key(|receipt| (receipt.root.number(), receipt.position, commits(receipt)))?;
+    sorted.sort_by_cached_key(|receipt| (
+        receipt.root.number(),
+        receipt.position,
+        commits(receipt),
+    ))?;
     Ok(sorted)
 }
 
-// Of receipts by root key the place of the first one from here on whose root key isn't below this.
+// The place of the first of receipts by root key, from here on, whose root key isn't below this.
 fn first_from(sorted: &[&Receipt], from: usize, root: u64) -> usize
     requires { from ≤ length sorted.now }
     ensures from { from ≤ result }

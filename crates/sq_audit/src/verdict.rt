@@ -5,8 +5,8 @@ ghost use Rattle.sq_audit.specs.Defects.{defect_number};
 use sq_explain::meaning;
 use thiserror::Error;
 
-/// What is wrong with what was gathered, in the order in which it is looked for, in which the numbers rise by one. What each
-/// means stands in the table of `sq_explain`.
+/// What is wrong with what was gathered, in the order in which it is looked for, in which the numbers rise by one. The
+/// table of `sq_explain` says what each means.
 #[derive(Clone, Copy, Debug, PartialEq, Eq, Error)]
 #[error("{}", meaning(self.number()))]
 pub enum Defect {

@@ -3,4 +3,4 @@ use Rattle.sq_audit.specs.Told.{id_of}
 use Rattle.sq_audit.proofs.by_id.by_id.Given as goal
 
 abbrev pub invariant-loop-at : goal.invariant-loop-at
-invariant-loop-at l = IsIndexTo id_of l.jobs l.at l.places
+invariant-loop-at l = IsIndexTo id_of l.jobs l.at l.places.items

@@ -18,7 +18,7 @@ use Rattle.sq_audit.proofs.tiles.tile.Goals.{After-continues}
 note_there : (c : After-continues) → slice_get c.args.notes.now c.loop-note.note-index ≡ Some c.note-item.result
 note_there c = item_at c.args.notes.now c.loop-note.note-index c.note-item.result c.note-item.is c.loop-note-test.true
 
--- whether it goes on where the newest one of its node ends
+-- whether it continues where the newest one of its node ends
 goes_on : (c : After-continues) → let note = c.note-item.result in Decides c.continues.result (FollowsNewest (extent_of c.args.opening.now note.seg note.node) (get key_order c.loop-note.newest (note.seg, note.node)) note)
 goes_on c =
     let note = c.note-item.result in

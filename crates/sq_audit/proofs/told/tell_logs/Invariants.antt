@@ -5,7 +5,7 @@ use Rattle.sq_audit.specs.Told.{values_of, TellsEntry}
 use Rattle.sq_audit.proofs.Each.{EachTo}
 use Rattle.sq_audit.proofs.told.tell_logs.Given as goal
 
--- the logs so far are told, and the receipts before a place are of root keys below those of the families that are left
+-- the logs so far are named, and the receipts before a place are of root keys below those of the families that are left
 abbrev pub invariant-loop-located : goal.invariant-loop-located
 invariant-loop-located l = record {
   told : EachTo (TellsEntry l.jobs (values_of l.sorted)) (entries_in l.all) l.located-index;

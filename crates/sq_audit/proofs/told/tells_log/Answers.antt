@@ -9,7 +9,7 @@ use Rattle.sq_audit.proofs.Walks.{WalkedTo, none_walked, step_commit, step_abort
 use Rattle.sq_audit.proofs.told.tells_log.Goals as goal
 use Rattle.sq_audit.proofs.told.tells_log.Goals.{In_ok-is_answered, then-commits, else-commits}
 
--- the receipt that is looked at, and the transaction of the log that it may tell
+-- the receipt that is looked at, and the transaction of the log that it may name
 receipt_there : (c : In_ok-is_answered) → slice_get (values_of c.args.receipts.now) c.loop-receipt.receipt-index ≡ Some c.receipt-item.result.now
 receipt_there c =
     let i = c.loop-receipt.receipt-index in
