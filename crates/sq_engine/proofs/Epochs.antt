@@ -286,7 +286,7 @@ module _ (o : OpeningValue) where
         },
       )
 
-  -- a page was taken of a pause, and what it left goes on
+  -- a page was taken of a pause, and what it left continues
   pub page_follows : (past : List Episode) (pause left : PauseValue) → IsOpening pause.opening → HasDoneStage pause
       → left.opening ≡ pause.opening → left.jobs ≡ jobs_left pause.gathered.receipts pause.jobs → left.gathered ≡ left_gathered pause.gathered
       → PausesAfter o past pause → GoesOnAfterPage o past left

@@ -1,4 +1,4 @@
--- How an engine goes on, step by step.
+-- How an engine continues, step by step.
 use Rattle.std.proofs.Common.{◌≡◌, List, [], ◌∷◌, ◌++◌, map, refl, sym, ap, ◌∙◌, subst}
 use Rattle.sq_ranges.specs.OpeningValue.{OpeningValue}
 use Rattle.sq_engine.specs.declared.standing.Standing.{Standing}
@@ -7,11 +7,11 @@ use Rattle.sq_engine.specs.Values.{EpochValue, PauseValue}
 use Rattle.sq_engine.specs.History.{Episode, EpochEnded, with_other_rows, EndsEpochAfter, RunsAfter, PausesAfter, IsDueAfter}
 use Rattle.sq_engine.specs.Engine.{Stands, KeepsHistory, KeepsHistoryAndJobs}
 
--- an engine that stays as it is goes on
+-- an engine that stays as it is continues
 pub stays : (old new : Standing) → new ≡ old → KeepsHistoryAndJobs old new
 stays old new same = subst (KeepsHistoryAndJobs old) (sym same) ((λ o past at. ([], at)), refl)
 
--- what goes on twice goes on
+-- what continues twice continues
 pub goes_further : (old mid new : Standing) → KeepsHistoryAndJobs old mid → KeepsHistoryAndJobs mid new → KeepsHistoryAndJobs old new
 goes_further old mid new first second = (
   (λ o past at.

@@ -5,3 +5,5 @@ pub mod Logs
 pub mod Endings
 pub mod LongLogs
 pub mod ServedRuns
+pub mod Tellings
+pub mod Verdicts

@@ -15,7 +15,7 @@ use Rattle.sq_epoch.proofs.Passing.{none_posted}
 use Rattle.sq_engine.specs.Served.{EpochIsServed}
 use Rattle.sq_engine.proofs.Epochs.{driven_runs}
 
--- what becomes of the parts of an epoch becomes of the epoch
+-- what happens to the parts of an epoch happens to the epoch
 pub epoch_served : {X : Type 0} (becomes : X → ClientCall → X → Type 0) (old : EpochValue) (nodes : List NodeState) (before : X) (parts : ServedParts) (after : X)
     → nodes ≡ old.nodes → IsServedWith becomes old.fabric nodes old.pumps old.jobs before parts after
     → EpochIsServed becomes old before (record old { jobs = parts.jobs; nodes = parts.nodes.items; pumps = parts.pumps.items }) after parts.is_whole parts.lacks_threads

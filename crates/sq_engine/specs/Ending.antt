@@ -25,7 +25,7 @@ abbrev pub latest_pause : List Episode → List PauseValue
 latest_pause [] = []
 latest_pause (episode ∷ earlier) = pause_after episode ∷ []
 
--- the pauses of which pages were taken, the latest first
+-- the pauses that pages were taken of, the latest first
 abbrev pub paged : List Episode → List PauseValue
 paged [] = []
 paged (EpochEnded pause ∷ earlier) = paged earlier
@@ -58,7 +58,7 @@ family_after pause root =
     let owner = owner_in pause.opening (pause.gathered.stage + 1) root in
     unwrap_or (family_at_spot pause.gathered (Store owner) root) (absent root)
 
--- its logs at these pauses, the latest of which is the first of them, one after another
+-- its logs at these pauses, one after another; the first of the list is the latest
 abbrev pub logs_over : List PauseValue → ℕ → List TxnValue
 logs_over [] root = []
 logs_over (pause ∷ earlier) root = logs_over earlier root ++ (family_after pause root).log

@@ -1,4 +1,4 @@
--- An engine, and how it goes on.
+-- An engine, and how it continues.
 use Rattle.std.specs.Prelude.{◌≡◌, ◌≤◌, List, [], ◌++◌, map, Option, None, Some}
 use Rattle.sq_plan.specs.PlanValue.{PlanValue}
 use Rattle.sq_store.specs.StoreValue.{StoreValue}
@@ -39,8 +39,8 @@ stores_in (Running epoch) = None
 stores_in (Paused pause) = Some pause.gathered.stores
 stores_in (Due due) = Some due.gathered.stores
 
--- how many segments move in the running stage, and how many of them are complete: at a pause by their trees, in an epoch as
--- many as its workers told, and none of a move that is due
+-- how many segments move in the running stage, and how many of them are complete: at a pause by their trees, in an
+-- epoch as many as its workers reported, and none of a move that is due
 abbrev pub HasProgress : Standing → StageProgress → Type 0
 HasProgress (Running epoch) progress =
     (progress.segments ≡ stage_segments epoch.opening.recon epoch.fabric.stage) × (progress.complete ≤ progress.segments)
@@ -59,19 +59,23 @@ Stands o past (Running epoch) = RunsAfter o past epoch
 Stands o past (Paused pause) = PausesAfter o past pause
 Stands o past (Due due) = IsDueAfter o past due
 
--- an engine went on: whatever episodes it had come by, it has come by them and perhaps by more, in which epochs ended
+-- an engine continued: whatever episodes it had come by, it has come by them and perhaps by more, in which epochs ended
 abbrev pub KeepsHistory : Standing → Standing → Type 0
 KeepsHistory old new =
     (o : OpeningValue) (past : List Episode) → Stands o past old
     → (more : List PauseValue) × Stands o (map EpochEnded more ++ past) new
 
--- an engine went on, and no job was posted or went onto a page
+-- an engine continued, and no job was posted or put onto a page
 abbrev pub KeepsHistoryAndJobs : Standing → Standing → Type 0
 KeepsHistoryAndJobs old new = KeepsHistory old new × (posted_jobs new ≡ posted_jobs old)
 
 -- an engine goes to the same plan still
 abbrev pub KeepsPlan : Standing → Standing → Type 0
 KeepsPlan old new = (opening_in new).new ≡ (opening_in old).new
+
+-- an engine has the same receipts since its last page
+abbrev pub KeepsReceipts : Standing → Standing → Type 0
+KeepsReceipts old new = receipts_in new ≡ receipts_in old
 
 -- why an engine doesn't go to another plan: where rows move or the plans have a fault it is as it was
 abbrev pub IsNotMoved : Standing → PlanValue → NotMoved → Standing → Type 0

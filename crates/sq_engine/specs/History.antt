@@ -28,7 +28,7 @@ IsInForce kept o = o ≡ folded_opening kept o.table
 abbrev pub with_other_rows : PauseValue → TableValue → PauseValue
 with_other_rows pause table = record pause { opening = folded_opening pause.opening table }
 
--- what becomes of an engine: an epoch ends, or a page is taken; and the pause after that, with the opening in force
+-- an episode of an engine: an epoch ends, or a page is taken; and the pause after that, with the opening in force
 pub data Episode : Type 0 where
   EpochEnded : (pause : PauseValue) → Episode
   PageTaken : (pause : PauseValue) → Episode
@@ -100,8 +100,8 @@ pub record IsRunning (start : StartValue) (epoch : EpochValue) : Type 0 where
   pub jobs : HaveGrown start.jobs epoch.jobs
   pub run : IsRunInStage start.opening start.began epoch.fabric epoch.nodes epoch.pumps
 
--- an epoch that began so left this, whatever its threads did: it is placed, each family goes on from the one that its root key
--- was given, and the receipts so far stand before those of the epoch
+-- an epoch that began so left this, whatever its threads did: it is placed, each family continues the one that its root
+-- key was given, and the receipts so far stand before those of the epoch
 pub record HasLeft (start : StartValue) (pause : PauseValue) : Type 0 where
   pub opening : pause.opening ≡ start.opening
   pub jobs : HaveGrown start.jobs pause.jobs
@@ -129,7 +129,7 @@ pub record IsLeftByPage (old new : PauseValue) : Type 0 where
   pub jobs : new.jobs ≡ jobs_left old.gathered.receipts old.jobs
   pub gathered : new.gathered ≡ left_gathered old.gathered
 
--- an epoch begins so after these episodes, the latest of which is the first of them
+-- an epoch begins so after these episodes, the latest of them first
 abbrev pub StartsAfter : OpeningValue → List Episode → StartValue → Type 0
 StartsAfter o [] start = start ≡ first_start o
 StartsAfter o (episode ∷ earlier) start = Follows (pause_after episode) start
@@ -143,7 +143,7 @@ abbrev pub PagedAfter : List Episode → PauseValue → Type 0
 PagedAfter [] new = ⊥
 PagedAfter (episode ∷ earlier) new = IsLeftByPage (pause_after episode) new
 
--- an engine that opened with this has come by these episodes, the latest of which is the first of them
+-- an engine that opened with this has come by these episodes, the latest of them first
 abbrev pub HaveCome : OpeningValue → List Episode → Type 0
 HaveCome o [] = Unit {0}
 HaveCome o (EpochEnded pause ∷ earlier) = HaveCome o earlier × LeftAfter o earlier pause
@@ -169,12 +169,12 @@ abbrev pub EndsEpochAfter : OpeningValue → List Episode → PauseValue → Typ
 EndsEpochAfter o past pause =
     (table : TableValue) × PausesAfter o (EpochEnded (with_other_rows pause table) ∷ past) pause
 
--- a page was taken after these episodes, and this pause goes on
+-- a page was taken after these episodes, and this pause continues
 abbrev pub GoesOnAfterPage : OpeningValue → List Episode → PauseValue → Type 0
 GoesOnAfterPage o past pause =
     (table : TableValue) × PausesAfter o (PageTaken (with_other_rows pause table) ∷ past) pause
 
--- a move to a plan is due after a pause, of which it has the jobs and what was gathered
+-- a move to a plan is due after a pause, with its jobs and what was gathered
 pub record IsDueFrom (pause due : PauseValue) : Type 0 where
   pub was : IsOpening pause.opening
   pub done : HasDoneStage pause

@@ -5,3 +5,5 @@ pub mod Engine
 pub mod Taken
 pub mod Ending
 pub mod Served
+pub mod Told
+pub mod Verdicts

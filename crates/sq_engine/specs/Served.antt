@@ -1,12 +1,30 @@
 -- An epoch that was served, and an engine.
-use Rattle.std.specs.Prelude.{◌≡◌, Bool, true, List, [], ◌++◌}
+use Rattle.std.specs.Prelude.{◌≡◌, Bool, true, List, [], ◌∷◌, ◌++◌}
+use Rattle.std.specs.List.{flat_map}
+use Rattle.std.specs.List.Sorted.{IsPermutation}
+use Rattle.sq_node_model.specs.NodeValue.{ReceiptValue}
 use Rattle.sq_engine.specs.Values.{EpochValue}
 use Rattle.sq_engine.specs.History.{OnlyDriven}
 use Rattle.sq_engine.specs.declared.standing.Standing.{Standing}
 use Rattle.sq_engine.specs.declared.standing.Standing.TheVariants.{Running}
-use Rattle.sq_engine.specs.Engine.{KeepsHistory, KeepsHistoryAndJobs}
-use Rattle.sq_epoch.specs.Exchanges.{ClientCall, Exchange, ExchangesEach, posted_in, commands_in}
+use Rattle.sq_engine.specs.Engine.{receipts_in, KeepsHistory, KeepsHistoryAndJobs}
+use Rattle.sq_epoch.specs.Exchanges.{ClientCall, Exchange, Answers, Posts, Refuses, Rests, Ends, ExchangesEach, posted_in, commands_in}
 use Rattle.sq_epoch.specs.Serving.{AllAreGiven}
+
+abbrev pub told_answer : Exchange → List ReceiptValue
+told_answer (Answers part receipt) = receipt ∷ []
+told_answer (Posts job) = []
+told_answer (Refuses job fault) = []
+told_answer Rests = []
+told_answer Ends = []
+
+-- the answers that were given, in their order
+abbrev pub told_answers : List Exchange → List ReceiptValue
+told_answers exchanges = flat_map told_answer exchanges
+
+-- receipts grew by the answers that were given, each once: those of each partition stand together
+abbrev pub GrowByTold : List ReceiptValue → List Exchange → List ReceiptValue → Type 0
+GrowByTold old exchanges new = IsPermutation (old ++ told_answers exchanges) new
 
 -- a client posted jobs, the workers ran, nothing else changed, and the client was given the answers that the nodes wrote. Where a
 -- node had no thread it was asked for nothing, so that it posted none
@@ -18,7 +36,8 @@ pub record EpochIsServed {X : Type 0} (becomes : X → ClientCall → X → Type
   pub given : AllAreGiven is_whole exchanges old.nodes new.nodes
   pub none_asked : lacks_threads ≡ true → commands_in exchanges ≡ []
 
--- an engine went on to an epoch, that was served, and the engine went on from there
+-- an engine went on to an epoch, that was served, and the engine went on from there. Where each answer was given, its receipts since
+-- the last page grew by just these
 pub record EngineIsServed {X : Type 0} (becomes : X → ClientCall → X → Type 0) (old : Standing) (before : X)
     (new : Standing) (after : X) (is_whole lacks_threads : Bool) : Type 0 where
   pub epoch : EpochValue
@@ -27,3 +46,4 @@ pub record EngineIsServed {X : Type 0} (becomes : X → ClientCall → X → Typ
   pub served : EpochIsServed becomes epoch before served_epoch after is_whole lacks_threads
   pub history : KeepsHistory (Running epoch) (Running served_epoch)
   pub goes_on : KeepsHistoryAndJobs (Running served_epoch) new
+  pub told : is_whole ≡ true → GrowByTold (receipts_in old) served.exchanges (receipts_in new)

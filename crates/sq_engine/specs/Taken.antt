@@ -1,5 +1,5 @@
 -- Pages that are taken of an engine, the last of them when it is closed.
-use Rattle.std.specs.Prelude.{◌≡◌, List}
+use Rattle.std.specs.Prelude.{◌≡◌, List, []}
 use Rattle.sq_ranges.specs.OpeningValue.{OpeningValue}
 use Rattle.sq_page.specs.declared.page.Page.{Page}
 use Rattle.sq_engine.specs.declared.closed.Closed.{Closed}
@@ -11,7 +11,7 @@ use Rattle.sq_engine.specs.declared.rest_page.RestPage.{RestPage}
 use Rattle.sq_engine.specs.Values.{PauseValue}
 use Rattle.sq_engine.specs.History.{Episode, IsLastStage, HasDoneStage, PausesAfter, GoesOnAfterPage}
 use Rattle.sq_engine.specs.Outcomes.{IsPageFrom, HasClosed}
-use Rattle.sq_engine.specs.Engine.{opening_in, EngineRests, KeepsHistoryAndJobs}
+use Rattle.sq_engine.specs.Engine.{opening_in, receipts_in, EngineRests, KeepsHistoryAndJobs, KeepsReceipts}
 
 -- a page was taken of a pause, and left this: whatever the engine had come by, it has come by this then
 abbrev pub LeavesPage : PauseValue → PauseValue → Type 0
@@ -19,8 +19,8 @@ LeavesPage pause left =
     (o : OpeningValue) (past : List Episode)
     → PausesAfter o past pause → GoesOnAfterPage o past left
 
--- a page was taken of an engine once it had gone on to a pause at which the last stage of a move was done, and it went on from
--- what that left
+-- a page was taken of an engine once it had gone on to a pause at which the last stage of a move was done, with the receipts since
+-- the page before, and it went on from what that left, without receipts
 pub record TakesItsPage (old : Standing) (page : Page) (new : Standing) : Type 0 where
   pub pause : PauseValue
   pub comes : KeepsHistoryAndJobs old (Paused pause)
@@ -31,6 +31,8 @@ pub record TakesItsPage (old : Standing) (page : Page) (new : Standing) : Type 0
   pub left : PauseValue
   pub leaves : LeavesPage pause left
   pub goes_on : KeepsHistoryAndJobs (Paused left) new
+  pub receipts : KeepsReceipts old (Paused pause)
+  pub none_since : receipts_in new ≡ []
 
 -- and the page has the plan that was reached
 pub record TakesPage (old : Standing) (page : RestPage) (new : Standing) : Type 0 where
@@ -47,10 +49,12 @@ abbrev pub IsNotPaused : Standing → NotTaken → Standing → Type 0
 IsNotPaused old Moving new = (new ≡ old) × (EngineRests old → ⊥)
 IsNotPaused old Memory new = (new ≡ old) × EngineRests old
 
--- an engine was closed once it had gone on to a pause at which the last stage of a move was done
+-- an engine was closed once it had gone on to a pause at which the last stage of a move was done, with the receipts since the last
+-- page
 pub record HasClosedAfter (standing : Standing) (closed : Closed) : Type 0 where
   pub pause : PauseValue
   pub comes : KeepsHistoryAndJobs standing (Paused pause)
   pub done : HasDoneStage pause
   pub last : IsLastStage pause
   pub has : HasClosed pause closed
+  pub receipts : KeepsReceipts standing (Paused pause)

@@ -1,4 +1,6 @@
 // A closed engine.
+ghost use Rattle.sq_audit.specs.Answers.{IdsDiffer};
+
 use sq_gather::Gathered;
 use sq_page::Page;
 use sq_ranges::Opening;
@@ -12,4 +14,5 @@ pub struct Closed {
     pub page: Page,
     /// What the page left: the families with their logs folded, and no receipts.
     pub gathered: Gathered,
+    ghost differ: { IdsDiffer page.jobs.items },
 }

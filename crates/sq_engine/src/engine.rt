@@ -8,7 +8,7 @@ ghost use Rattle.sq_ranges.specs.Between.{recon_fault};
 ghost use Rattle.sq_engine.specs.History.{onward_opening};
 ghost use Rattle.sq_engine.specs.Engine.{opening_in, posted_jobs, receipts_in, stores_in};
 ghost use Rattle.sq_engine.specs.Engine.{HasProgress, EngineRests, Stands, KeepsHistory};
-ghost use Rattle.sq_engine.specs.Engine.{KeepsHistoryAndJobs, KeepsPlan, IsNotMoved};
+ghost use Rattle.sq_engine.specs.Engine.{KeepsHistoryAndJobs, KeepsPlan, KeepsReceipts, IsNotMoved};
 ghost use Rattle.sq_epoch.specs.Posted.{is_id_in};
 ghost use Rattle.sq_epoch.specs.LongLog.{shows_long_log};
 ghost use Rattle.sq_engine.specs.Served.{EngineIsServed};
@@ -72,7 +72,7 @@ impl Model for Engine {
 /// An engine that was served.
 #[derive(Drop)]
 pub struct EngineServed {
-    /// The engine, which has gone on where it could.
+    /// The engine, which has continued where it could.
     pub engine: Engine,
     /// Whether each answer that was written was given, as in [`Served`].
     pub is_whole: bool,
@@ -92,6 +92,7 @@ impl Engine {
         requires { pumps ≤ MAX_PUMPS }
         ensures opened { IfOk result (Stands opening []) }
         ensures none_posted { IfOk result (λ engine. posted_jobs engine ≡ []) }
+        ensures none_written { IfOk result (λ engine. receipts_in engine ≡ []) }
         ensures returned { IfErr result (λ back. back ≡ opening) }
     {
         let epoch = Epoch::open(rt, alloc, opening, pumps)?;
@@ -120,8 +121,8 @@ impl Engine {
         self.opening().recon().ranges().is_empty()
     }
 
-    /// How far the running stage is: how many segments move in it, and how many of them are complete. In an epoch the workers
-    /// told that; at a pause it is read off the trees; and a move that is due has completed none.
+    /// How far the running stage is: how many segments move in it, and how many of them are complete. In an epoch the
+    /// workers reported that; at a pause it is read off the trees; and a move that is due has completed none.
     pub fn progress(&self) -> StageProgress
         ensures { HasProgress self.now result }
     {
@@ -150,6 +151,7 @@ impl Engine {
         ensures paused { IfOk result (λ engine. KeepsHistoryAndJobs self engine) }
         ensures opening { IfOk result (λ engine. opening_in engine ≡ opening_in self) }
         ensures lent { IfOk result (λ engine. IsSome (stores_in engine)) }
+        ensures receipts { IfOk result (KeepsReceipts self) }
         ensures not_paused { IfErr result (λ refused. IsNotPaused self refused.0 refused.1) }
     {
         if !self.is_at_rest() {
@@ -170,6 +172,7 @@ impl Engine {
         ensures repeated { IsErrOf result PostFault.RepeatedId
             → IsTrue (is_id_in (posted_jobs self.old) txn.now.id) }
         ensures history { KeepsHistory self.old self.new }
+        ensures receipts { KeepsReceipts self.old self.new }
     {
         match &mut self.standing {
             Standing::Running(epoch) => epoch.post(rt, part, txn),
@@ -177,9 +180,9 @@ impl Engine {
         }
     }
 
-    /// Runs the workers of the epoch, as [`Epoch::run`] does, and then goes on where it can: once each segment of the stage is
-    /// complete to the next stage, and after the last one to rest. Workers that go on where they are idle end then too. Where
-    /// there is no memory to go on it waits, and the next call tries it first.
+    /// Runs the workers of the epoch, as [`Epoch::run`] does, and then continues where it can: once each segment of the
+    /// stage is complete to the next stage, and after the last one to rest. Workers that continue where they are idle
+    /// end then too. Where there is no memory to continue it waits, and the next call tries it first.
     pub fn run_epoch<R: Threads + Wait + Sync, G: Gate + Sync>(
         self,
         rt: &R,
@@ -201,8 +204,9 @@ impl Engine {
     }
 
     /// Runs the epoch with a client, as [`Epoch::serve`] does, and then goes on where it can, as [`Engine::run_epoch`] does. At
-    /// rest the epoch ends too where an answer shows that a page should be taken ([`Engine::wants_page`]). Where there is no
-    /// memory the engine comes back, perhaps in a later stage, and the client was not called.
+    /// rest the epoch ends too where an answer shows that a page should be taken ([`Engine::wants_page`]). Where each answer was
+    /// given, the receipts since the last page have grown by just these. Where there is no memory the engine comes back, perhaps
+    /// in a later stage, and the client was not called.
     pub fn serve<C: Client, R: Threads + Wait + Sync>(
         self,
         rt: &R,
@@ -215,8 +219,10 @@ impl Engine {
             served.is_whole served.lacks_threads) }
         ensures not_asked { IfOk result (λ served.
             served.lacks_threads ≡ true → KeepsHistoryAndJobs self served.engine) }
-        ensures plan { MatchResult result (λ served. KeepsPlan self served.engine) (KeepsPlan self) }
+        ensures plan { MatchResult result
+            (λ served. KeepsPlan self served.engine) (KeepsPlan self) }
         ensures not_served { IfErr result (KeepsHistoryAndJobs self) }
+        ensures none_written { IfErr result (KeepsReceipts self) }
         ensures not_called { OnErr result (client.new ≡ client.old) }
     {
         let Engine { standing, pumps } = self;
@@ -270,6 +276,8 @@ impl Engine {
         ensures opening { IfOk result (λ engine.
             opening_in engine ≡ onward_opening (opening_in self) plan) }
         ensures not_moved { IfErr result (λ refused. IsNotMoved self plan refused.0 refused.1) }
+        ensures receipts { MatchResult result (KeepsReceipts self)
+            (λ refused. KeepsReceipts self refused.1) }
     {
         if !self.is_at_rest() {
             return Err((NotMoved::Moving, self));
@@ -284,8 +292,8 @@ impl Engine {
         }
     }
 
-    /// Takes a page of an engine at rest, for the jobs that have a receipt, as [`Pause::take_page`] does, and goes on without
-    /// it. Where there is no memory for it an epoch may have ended.
+    /// Takes a page of an engine at rest, for the jobs that have a receipt, as [`Pause::take_page`] does, and continues
+    /// without it. Where there is no memory for it an epoch may have ended.
     pub fn take_page<R: Threads + Wait + Sync>(
         self,
         rt: &R,
@@ -295,6 +303,7 @@ impl Engine {
         ensures taken { IfOk result (λ taken. TakesPage self taken.0 taken.1) }
         ensures same_plan { IfOk result (λ taken. KeepsPlan self taken.1) }
         ensures not_taken { IfErr result (λ refused. IsNotTaken self refused.0 refused.1) }
+        ensures receipts { IfErr result (λ refused. KeepsReceipts self refused.1) }
     {
         if !self.is_at_rest() {
             return Err((NotTaken::Moving, self));
@@ -320,7 +329,9 @@ impl Engine {
     }
 
     /// Closes an engine at rest: the epoch ends, and the last page is taken of what it left, as [`Pause::close`] does. Where
-    /// there is no memory for it an epoch may have ended.
+    /// there is no memory for it an epoch may have ended. What the engine had is judged by [`Closed::audit`]: where that is sound,
+    /// and so was each page before, it ends as planned (the law
+    /// [`a_sound_engine_ends_where_planned`](crate::laws::a_sound_engine_ends_where_planned)).
     pub fn close<R: Threads + Wait + Sync>(
         self,
         rt: &R,
@@ -329,6 +340,7 @@ impl Engine {
         ensures at_rest { OnOk result (EngineRests self) }
         ensures closed { IfOk result (HasClosedAfter self) }
         ensures not_closed { IfErr result (λ refused. IsNotTaken self refused.0 refused.1) }
+        ensures receipts { IfErr result (λ refused. KeepsReceipts self refused.1) }
     {
         if !self.is_at_rest() {
             return Err((NotTaken::Moving, self));
@@ -346,6 +358,7 @@ fn end_epoch<R: Wait>(rt: &R, alloc: Global, standing: Standing) -> Result<Stand
     ensures goes { IfOk result (λ new. KeepsHistoryAndJobs standing new) }
     ensures opening { IfOk result (λ new. opening_in new ≡ opening_in standing) }
     ensures lent { IfOk result (λ new. IsSome (stores_in new)) }
+    ensures receipts { IfOk result (KeepsReceipts standing) }
     ensures returned { IfErr result (λ back. back ≡ standing) }
 {
     match standing {
@@ -358,11 +371,12 @@ fn end_epoch<R: Wait>(rt: &R, alloc: Global, standing: Standing) -> Result<Stand
     }
 }
 
-// Goes on from an epoch that ran, where the segments of its stage are complete by what its workers told.
+// Continues from an epoch that ran, where the segments of its stage are complete by the reports of its workers.
 fn end_stage<R: Wait>(rt: &R, alloc: Global, epoch: Epoch, pumps: u32) -> Standing
     requires { pumps ≤ MAX_PUMPS }
     ensures goes { KeepsHistoryAndJobs (Standing.Running epoch) result }
     ensures plan { KeepsPlan (Standing.Running epoch) result }
+    ensures receipts { KeepsReceipts (Standing.Running epoch) result }
 {
     if !epoch.is_stage_done() {
         return Standing::Running(epoch);
@@ -386,6 +400,7 @@ fn go_to<R: Wait>(
     ensures opening { IfOk result (λ new.
         opening_in new ≡ onward_opening (opening_in standing) plan) }
     ensures stays { IfErr result (KeepsHistoryAndJobs standing) }
+    ensures receipts { MatchResult result (KeepsReceipts standing) (KeepsReceipts standing) }
 {
     let ready = begin_due(alloc, standing, pumps);
     let pause = pause_of(rt, alloc, ready)?;
@@ -402,7 +417,7 @@ fn plan_fault(opening: &Opening, plan: &Plan) -> Option<ReconFault>
     Recon::fault(opening.new_plan(), plan, opening.config().width)
 }
 
-// Takes a page of an engine at rest, and goes on. Where there is no memory for it, the engine may be paused.
+// Takes a page of an engine at rest, which continues. Where there is no memory for it, the engine may be paused.
 fn page_of<R: Threads + Wait + Sync>(
     rt: &R,
     alloc: Global,
@@ -413,6 +428,7 @@ fn page_of<R: Threads + Wait + Sync>(
     ensures taken { IfOk result (λ taken. TakesItsPage standing taken.0 taken.1) }
     ensures plan { IfOk result (λ taken. KeepsPlan standing taken.1) }
     ensures stays { IfErr result (KeepsHistoryAndJobs standing) }
+    ensures receipts { IfErr result (KeepsReceipts standing) }
 {
     let pause = done_pause_of(rt, alloc, standing, pumps)?;
     match pause.take_page(rt, alloc) {
@@ -431,6 +447,7 @@ fn close_standing<R: Threads + Wait + Sync>(
     requires { pumps ≤ MAX_PUMPS }
     ensures closed { IfOk result (HasClosedAfter standing) }
     ensures stays { IfErr result (KeepsHistoryAndJobs standing) }
+    ensures receipts { IfErr result (KeepsReceipts standing) }
 {
     let pause = done_pause_of(rt, alloc, standing, pumps)?;
     match pause.close(rt, alloc) {

@@ -84,6 +84,7 @@ impl Epoch {
         requires { pumps ≤ MAX_PUMPS }
         ensures opened { IfOk result (λ epoch. RunsAfter opening [] epoch) }
         ensures none_posted { IfOk result (λ epoch. epoch.jobs ≡ []) }
+        ensures none_written { IfOk result (λ epoch. receipts_since_page epoch ≡ []) }
         ensures returned { IfErr result (λ back. back ≡ opening) }
     {
         let Ok((fabric, nodes, pumps)) = Fabric::open_in_threads(rt, alloc, &opening, pumps) else {
@@ -128,7 +129,7 @@ impl Epoch {
         stage_segments(self.opening.recon(), self.fabric.stage())
     }
 
-    /// How many segments move in the stage, and how many of them are complete by what the workers told.
+    /// How many segments move in the stage, and how many of them are complete by the reports of the workers.
     pub fn progress(&self) -> StageProgress
         ensures segments { result.segments
             ≡ stage_segments self.now.opening.recon self.now.fabric.stage }
@@ -151,16 +152,18 @@ impl Epoch {
         ensures err { OnErr result (self.new ≡ self.old) }
         ensures repeated { IsErrOf result PostFault.RepeatedId
             → IsTrue (is_id_in self.old.jobs txn.now.id) }
+        ensures receipts { receipts_since_page self.new ≡ receipts_since_page self.old }
         ensures history { (o : OpeningValue) (past : List Episode)
             → RunsAfter o past self.old → RunsAfter o past self.new }
     {
         post_job(rt, &self.fabric, &mut self.jobs, part, txn)
     }
 
-    /// Runs the workers: each partition and each pump in a thread of its own, for this many turns at most. All of them have
-    /// ended when it returns. A node ends before where it is idle, and each worker where the gate says so. Where nodes that are
-    /// idle go on by the gate, they end once each segment that moves in the stage is complete. All end too where one of them rests
-    /// for some seconds while no thread can be had for a node. Jobs may be posted after that, and the workers run again.
+    /// Runs the workers: each partition and each pump in a thread of its own, for this many turns at most. All of them
+    /// have ended when it returns. A node ends before where it is idle, and each worker where the gate says so. Where
+    /// nodes that are idle continue by the gate, they end once each segment that moves in the stage is complete. All
+    /// end too where one of them rests for some seconds while no thread can be had for a node. Jobs may be posted after
+    /// that, and the workers run again.
     pub fn run<R: Threads + Wait + Sync, G: Gate + Sync>(
         self,
         rt: &R,
@@ -195,13 +198,16 @@ impl Epoch {
         }
     }
 
-    /// Ends the epoch: what its workers left is gathered. It is placed, whatever they did. Where there is no memory the epoch
-    /// comes back as it was.
+    /// Ends the epoch: what its workers left is gathered. It is placed, whatever they did. Its receipts are those since the last
+    /// page: the ones from before the epoch, and behind them those of each partition. Where there is no memory the epoch comes back
+    /// as it was.
     pub fn end<R: Wait>(self, rt: &R, alloc: Global) -> Result<Pause, Epoch>
         ensures ended { IfOk result (λ pause. (o : OpeningValue) (past : List Episode)
             → RunsAfter o past self → EndsEpochAfter o past pause) }
         ensures opening { IfOk result (λ pause. pause.opening ≡ self.opening) }
         ensures jobs { IfOk result (λ pause. pause.jobs ≡ self.jobs) }
+        ensures receipts { IfOk result (λ pause.
+            pause.gathered.receipts ≡ receipts_since_page self) }
         ensures returned { IfErr result (λ back. back ≡ self) }
     {
         let Epoch {
@@ -244,7 +250,7 @@ impl Epoch {
         any_shows_long_log(self.fabric.receipts()) || any_node_shows_long_log(&self.nodes)
     }
 
-    // Whether segments move in the stage, and all of them are complete by what the workers told.
+    // Whether segments move in the stage, and all of them are complete by the reports of the workers.
     pub(crate) fn is_stage_done(&self) -> bool {
         self.progress.is_done()
     }

@@ -1,16 +1,26 @@
 //! What holds of engines. The functions do nothing: each states a law, which the checker proves.
-ghost use Rattle.std.specs.Prelude.{◌≡◌, ◌∷◌, List};
+ghost use Rattle.std.specs.Prelude.{◌≡◌, ◌∷◌, List, []};
+ghost use Rattle.std.specs.List.{flat_map};
+ghost use Rattle.std.specs.List.Sorted.{IsPermutation};
 ghost use Rattle.sq_ranges.specs.Prelude.{OpeningValue, IsOpening};
 ghost use Rattle.sq_node_model.specs.Prelude.{GatheredValue, IsPlaced};
 ghost use Rattle.sq_audit.specs.declared.job.Job.{Job};
 ghost use Rattle.sq_audit.specs.declared.verdict.Verdict.{Verdict};
 ghost use Rattle.sq_audit.specs.Sound.{IsSoundRun};
 ghost use Rattle.sq_audit.specs.Defects.{IsVerdict};
+ghost use Rattle.sq_page.specs.declared.page.Page.{Page};
 ghost use Rattle.sq_page.specs.Pages.{IsPageOf, SpeaksForRuns};
+ghost use Rattle.sq_epoch.specs.Exchanges.{Exchange};
 ghost use Rattle.sq_epoch.specs.declared.long_log.TheConstants.{LONG_LOG};
 ghost use Rattle.sq_engine.specs.History.{Episode, pause_after, HaveCome, IsLastStage};
 ghost use Rattle.sq_engine.specs.History.{HasDoneStage};
 ghost use Rattle.sq_engine.specs.Ending.{paged, AllSound, EngineEndsAsPlanned};
+ghost use Rattle.sq_engine.specs.declared.closed.Closed.{Closed};
+ghost use Rattle.sq_engine.specs.declared.standing.Standing.{Standing};
+ghost use Rattle.sq_engine.specs.Engine.{receipts_in};
+ghost use Rattle.sq_engine.specs.Taken.{TakesItsPage, HasClosedAfter};
+ghost use Rattle.sq_engine.specs.Served.{told_answers};
+ghost use Rattle.sq_engine.specs.Told.{TellsInTurn};
 
 /// The limit of engines, in digits.
 pub fn the_limits()
@@ -48,4 +58,15 @@ pub fn a_sound_engine_ends_where_planned()
         → IsSoundRun (pause_after episode).opening (pause_after episode).gathered
         (pause_after episode).jobs
         → EngineEndsAsPlanned o (episode ∷ past) (pause_after episode) }
+{}
+
+/// What an engine told is on its pages: where it told, since it was opened or since its last page, each answer that was written, the
+/// receipts of its next page, or of the last one, are just the answers that its clients were given, each once.
+pub fn what_was_told_is_on_the_page()
+    ensures page { (first last next : Standing) (told : List (List Exchange)) (page : Page)
+        → receipts_in first ≡ [] → TellsInTurn told first last → TakesItsPage last page next
+        → IsPermutation (flat_map told_answers told) page.run.receipts }
+    ensures closed { (first last : Standing) (told : List (List Exchange)) (closed : Closed)
+        → receipts_in first ≡ [] → TellsInTurn told first last → HasClosedAfter last closed
+        → IsPermutation (flat_map told_answers told) closed.page.run.receipts }
 {}

@@ -3,6 +3,7 @@ ghost use Rattle.std.specs.Prelude.{◌≡◌, ◌≤◌, List, IfOk, IfErr};
 ghost use Rattle.sq_pull.specs.declared.numbers.TheConstants.{MAX_PUMPS};
 ghost use Rattle.sq_ranges.specs.Prelude.{OpeningValue, IsSetUp};
 ghost use Rattle.sq_epoch.specs.Progress.{stage_segments};
+ghost use Rattle.sq_engine.specs.Values.{receipts_since_page};
 ghost use Rattle.sq_engine.specs.History.{Episode, IsDueAfter, RunsAfter};
 
 use crate::epoch::Epoch;
@@ -15,8 +16,8 @@ use std::marker::Model;
 // The stage in which a move begins.
 const FIRST_STAGE: u64 = 0;
 
-/// An engine that goes on to another plan: a move is due, with what was gathered of the last stage of the one before. To a
-/// contract it is a `PauseValue`.
+/// An engine on its way to another plan: a move is due, with what was gathered of the last stage of the one before. To
+/// a contract it is a `PauseValue`.
 #[derive(Drop)]
 pub struct NextMove {
     pub(crate) opening: Opening,
@@ -78,6 +79,8 @@ impl NextMove {
             → IsDueAfter o past self → RunsAfter o past epoch) }
         ensures opening { IfOk result (λ epoch. epoch.opening ≡ self.opening) }
         ensures jobs { IfOk result (λ epoch. epoch.jobs ≡ self.jobs) }
+        ensures receipts { IfOk result (λ epoch.
+            receipts_since_page epoch ≡ self.gathered.receipts) }
         ensures returned { IfErr result (λ back. back ≡ self) }
     {
         let NextMove {

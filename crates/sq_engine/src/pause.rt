@@ -1,5 +1,5 @@
 // What an epoch left.
-ghost use Rattle.std.specs.Prelude.{◌≡◌, ◌+◌, ◌<◌, ◌≤◌, true, false, List, filter, None};
+ghost use Rattle.std.specs.Prelude.{◌≡◌, ◌+◌, ◌<◌, ◌≤◌, true, false, List, [], filter, None};
 ghost use Rattle.std.specs.Prelude.{MatchResult, IfOk, IfErr, OnOk};
 ghost use Rattle.sq_schema.specs.Prelude.{TableValue};
 ghost use Rattle.sq_pull.specs.declared.numbers.TheConstants.{MAX_PUMPS};
@@ -8,7 +8,7 @@ ghost use Rattle.sq_ranges.specs.Refused.{config_fault, MayRefuse};
 ghost use Rattle.sq_node_model.specs.Prelude.{IsPlaced, folded_opening};
 ghost use Rattle.sq_audit.specs.Answers.{IdsDiffer};
 ghost use Rattle.sq_audit.specs.Counts.{Counts, is_counted};
-ghost use Rattle.sq_engine.specs.Values.{whole_segments};
+ghost use Rattle.sq_engine.specs.Values.{receipts_since_page, whole_segments};
 ghost use Rattle.sq_epoch.specs.Progress.{stage_segments};
 ghost use Rattle.sq_engine.specs.History.{Episode, HasMoreStages, IsLastStage, HasDoneStage};
 ghost use Rattle.sq_engine.specs.History.{RunsAfter, PausesAfter, GoesOnAfterPage, IsDueAfter};
@@ -146,6 +146,8 @@ impl Pause {
             → PausesAfter o past self → RunsAfter o past epoch) }
         ensures opening { IfOk result (λ epoch. epoch.opening ≡ self.opening) }
         ensures jobs { IfOk result (λ epoch. epoch.jobs ≡ self.jobs) }
+        ensures receipts { IfOk result (λ epoch.
+            receipts_since_page epoch ≡ self.gathered.receipts) }
         ensures returned { IfErr result (λ back. back ≡ self) }
     {
         let Pause {
@@ -173,8 +175,8 @@ impl Pause {
         }
     }
 
-    /// Goes on to another plan, from the one that was reached. Otherwise all comes back as it was, with the first fault of
-    /// the plans, or that memory ran out.
+    /// Continues to another plan, from the one that was reached. Otherwise all comes back as it was, with the first
+    /// fault of the plans, or that memory ran out.
     pub fn move_to(self, alloc: Global, plan: Plan) -> Result<NextMove, (OpeningFault, Pause)>
         requires done { HasDoneStage self }
         requires last { IsLastStage self }
@@ -182,6 +184,7 @@ impl Pause {
             → PausesAfter o past self → IsDueAfter o past due) }
         ensures opening { IfOk result (λ due. due.opening ≡ onward_opening self.opening plan) }
         ensures jobs { IfOk result (λ due. due.jobs ≡ self.jobs) }
+        ensures gathered { IfOk result (λ due. due.gathered ≡ self.gathered) }
         ensures fault { let fault = config_fault self.opening.new plan self.opening.config in
             MatchResult result (λ _. fault ≡ None) (λ refused. MayRefuse fault fault refused.0) }
         ensures returned { IfErr result (λ refused. refused.1 ≡ self) }
@@ -210,9 +213,9 @@ impl Pause {
         }
     }
 
-    /// Takes a page for the jobs that have a receipt: the receipts go with it, and families with their logs, as [`take_page`]
-    /// does. What goes on has the logs folded and the jobs without a receipt; the ids of the others may come again. Where a
-    /// segment of the stage isn't complete, and where there is no memory, all comes back as it was.
+    /// Takes a page for the jobs that have a receipt: the receipts go with it, and families with their logs, as
+    /// [`take_page`] does. What continues has the logs folded and the jobs without a receipt; the ids of the others may
+    /// come again. Where a segment of the stage isn't complete, and where there is no memory, all comes back as it was.
     pub fn take_page<R: Threads + Sync>(
         self,
         rt: &R,
@@ -221,6 +224,7 @@ impl Pause {
         ensures done { OnOk result (HasDoneStage self) }
         ensures page { IfOk result (λ taken. IsPageFrom self taken.0) }
         ensures opening { IfOk result (λ taken. taken.1.opening ≡ self.opening) }
+        ensures receipts { IfOk result (λ taken. taken.1.gathered.receipts ≡ []) }
         ensures history { IfOk result (λ taken. (o : OpeningValue) (past : List Episode)
             → PausesAfter o past self → GoesOnAfterPage o past taken.1) }
         ensures why { IfErr result (λ refused. GivesNoPage self refused.0) }
@@ -265,6 +269,7 @@ impl Pause {
         requires { HasDoneStage self }
         ensures page { IfOk result (λ taken. IsPageFrom self taken.0) }
         ensures opening { IfOk result (λ taken. taken.1.opening ≡ self.opening) }
+        ensures receipts { IfOk result (λ taken. taken.1.gathered.receipts ≡ []) }
         ensures history { IfOk result (λ taken. (o : OpeningValue) (past : List Episode)
             → PausesAfter o past self → GoesOnAfterPage o past taken.1) }
         ensures returned { IfErr result (λ back. back ≡ self) }

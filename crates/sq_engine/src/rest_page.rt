@@ -11,8 +11,8 @@ use sq_schema::Schema;
 use std::alloc::Global;
 use std::thread::Threads;
 
-/// A page that was taken of an engine at rest, with what its audit needs. It is a value of its own: it may be audited in another
-/// thread while the engine goes on.
+/// A page that was taken of an engine at rest, with what its audit needs. It is a value of its own: it may be audited
+/// in another thread while the engine continues.
 #[derive(Drop)]
 pub struct RestPage {
     /// The page.
@@ -27,8 +27,8 @@ pub struct RestPage {
 }
 
 impl RestPage {
-    /// Whether the page is sound, or else its first defect. That is the verdict on what the engine had when the page was taken.
-    /// It is refused where there is no memory for it.
+    /// Whether the page is sound, or else its first defect. The verdict is that on what the engine had when the page
+    /// was taken. It is refused where there is no memory for it.
     pub fn audit<R: Threads + Sync>(&self, rt: &R, alloc: Global) -> Result<Verdict, OpeningFault>
         ensures { IfOk result
             (SpeaksForRuns self.now.plan self.now.page.run self.now.page.jobs.items) }

@@ -2,7 +2,7 @@
 ghost use Rattle.std.specs.Prelude.{◌≡◌, ◌≤◌, IfOk, IfErr};
 ghost use Rattle.sq_pull.specs.declared.numbers.TheConstants.{MAX_PUMPS};
 ghost use Rattle.sq_engine.specs.History.{IsLastStage, HasDoneStage, onward_opening};
-ghost use Rattle.sq_engine.specs.Engine.{opening_in, KeepsHistoryAndJobs, KeepsPlan};
+ghost use Rattle.sq_engine.specs.Engine.{opening_in, KeepsHistoryAndJobs, KeepsPlan, KeepsReceipts};
 
 use crate::epoch::Epoch;
 use crate::next_move::NextMove;
@@ -22,11 +22,12 @@ pub enum Standing {
     Due(NextMove),
 }
 
-/// Goes on from where an engine waits for memory, where there is memory for it.
+/// Continues where an engine waits for memory, where there is memory for it.
 pub(crate) fn resume(alloc: Global, standing: Standing, pumps: u32) -> Standing
     requires { pumps ≤ MAX_PUMPS }
     ensures goes { KeepsHistoryAndJobs standing result }
     ensures plan { KeepsPlan standing result }
+    ensures receipts { KeepsReceipts standing result }
 {
     match standing {
         Standing::Running(epoch) => Standing::Running(epoch),
@@ -40,6 +41,7 @@ pub(crate) fn begin_due(alloc: Global, standing: Standing, pumps: u32) -> Standi
     requires { pumps ≤ MAX_PUMPS }
     ensures goes { KeepsHistoryAndJobs standing result }
     ensures opening { opening_in result ≡ opening_in standing }
+    ensures receipts { KeepsReceipts standing result }
 {
     match standing {
         Standing::Due(due) => begin(alloc, due, pumps),
@@ -57,6 +59,7 @@ pub(crate) fn pause_of<R: Wait>(
 ) -> Result<Pause, Standing>
     ensures paused { IfOk result (λ pause. KeepsHistoryAndJobs standing (Standing.Paused pause)) }
     ensures opening { IfOk result (λ pause. pause.opening ≡ opening_in standing) }
+    ensures receipts { IfOk result (λ pause. KeepsReceipts standing (Standing.Paused pause)) }
     ensures returned { IfErr result (λ back. back ≡ standing) }
 {
     match standing {
@@ -81,7 +84,9 @@ pub(crate) fn done_pause_of<R: Wait>(
     ensures opening { IfOk result (λ pause. pause.opening ≡ opening_in standing) }
     ensures done { IfOk result HasDoneStage }
     ensures last { IfOk result IsLastStage }
+    ensures receipts { IfOk result (λ pause. KeepsReceipts standing (Standing.Paused pause)) }
     ensures stays { IfErr result (KeepsHistoryAndJobs standing) }
+    ensures receipts_stay { IfErr result (KeepsReceipts standing) }
 {
     let ready = begin_due(alloc, standing, pumps);
     let pause = pause_of(rt, alloc, ready)?;
@@ -101,6 +106,7 @@ pub(crate) fn move_from(
     requires { pumps ≤ MAX_PUMPS }
     ensures goes { IfOk result (KeepsHistoryAndJobs (Standing.Paused pause)) }
     ensures opening { IfOk result (λ new. opening_in new ≡ onward_opening pause.opening plan) }
+    ensures receipts { IfOk result (KeepsReceipts (Standing.Paused pause)) }
     ensures returned { IfErr result (λ back. back ≡ pause) }
 {
     match pause.stage_end() {
@@ -112,12 +118,13 @@ pub(crate) fn move_from(
     }
 }
 
-/// Goes on after a pause, where there is memory for it: to the next stage, or after the last one to rest. Where a segment of
-/// the stage isn't complete nothing changes.
+/// Continues after a pause, where there is memory for it: to the next stage, or after the last one to rest. Where a
+/// segment of the stage isn't complete nothing changes.
 pub(crate) fn go_on(alloc: Global, pause: Pause, pumps: u32) -> Standing
     requires { pumps ≤ MAX_PUMPS }
     ensures goes { KeepsHistoryAndJobs (Standing.Paused pause) result }
     ensures plan { KeepsPlan (Standing.Paused pause) result }
+    ensures receipts { KeepsReceipts (Standing.Paused pause) result }
 {
     match pause.stage_end() {
         StageEnd::Missing => Standing::Paused(pause),
@@ -136,6 +143,7 @@ fn rest(alloc: Global, pause: Pause, pumps: u32) -> Standing
     requires last { IsLastStage pause }
     ensures goes { KeepsHistoryAndJobs (Standing.Paused pause) result }
     ensures plan { KeepsPlan (Standing.Paused pause) result }
+    ensures receipts { KeepsReceipts (Standing.Paused pause) result }
 {
     let Ok(plan) = pause.opening().new_plan().clone() else {
         return Standing::Paused(pause);
@@ -151,6 +159,7 @@ fn begin(alloc: Global, due: NextMove, pumps: u32) -> Standing
     requires { pumps ≤ MAX_PUMPS }
     ensures goes { KeepsHistoryAndJobs (Standing.Due due) result }
     ensures opening { opening_in result ≡ due.opening }
+    ensures receipts { KeepsReceipts (Standing.Due due) result }
 {
     match due.begin(alloc, pumps) {
         Ok(epoch) => Standing::Running(epoch),

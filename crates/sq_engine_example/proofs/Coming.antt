@@ -5,10 +5,8 @@ use Rattle.std.specs.Result.{result_ok}
 use Rattle.std.proofs.lemmas.Option.{same_Some, none-some}
 use Rattle.sq_plan.specs.PlanValue.{PlanValue}
 use Rattle.sq_ranges.specs.OpeningValue.{OpeningValue}
-use Rattle.sq_ranges.specs.Opening.{IsOpening}
 use Rattle.sq_model.proofs.Lists.{Contains-cases, Contains-nothing}
 use Rattle.sq_node_model.specs.Folded.{folded_opening}
-use Rattle.sq_gather.proofs.Running.{rowless_opening}
 use Rattle.sq_audit.specs.declared.job.Job.{Job}
 use Rattle.sq_audit.specs.declared.verdict.Verdict.{Verdict}
 use Rattle.sq_audit.specs.declared.verdict.Verdict.TheVariants.{Sound}
@@ -26,7 +24,8 @@ use Rattle.sq_engine.specs.Engine.{Stands, KeepsHistory}
 use Rattle.sq_engine.specs.Taken.{LeavesPage, TakesPage}
 use Rattle.sq_epoch.specs.Exchanges.{ClientCall}
 use Rattle.sq_engine.specs.Served.{EngineIsServed}
-use Rattle.sq_engine.proofs.Endings.{page_speaks, ends_as_planned}
+use Rattle.sq_engine.specs.Verdicts.{SpeaksForEngines}
+use Rattle.sq_engine.proofs.Endings.{page_speaks}
 use Rattle.sq_engine_example.specs.declared.ThereAndBack.{ThereAndBack}
 use Rattle.sq_engine_example.specs.Return.{CameByPages, ClosesLater, IsJudgedPage, HasComeBack}
 
@@ -113,26 +112,12 @@ module _ (o : OpeningValue) where
 
   -- an engine is closed, and the audit of its last page speaks for what it had
   closes_at : (here pause : PauseValue) (came : ThereAndBack) (past : List Episode)
-      → HasDoneStage pause → IsLastStage pause → HasClosed pause came.closed → IsOpening came.closed.opening
-      → SpeaksForRuns came.closed.opening.new came.closed.page.run came.closed.page.jobs.items came.last_verdict
+      → HasDoneStage pause → IsLastStage pause → HasClosed pause came.closed → SpeaksForEngines came.closed came.last_verdict
       → PausesAfter o past pause → paged past ≡ here ∷ [] → IsJudgedPage here came.page came.verdict → HasComeBack o came
-  closes_at here pause came [] done last has is speaks at one audited = absurd at.1
-  closes_at here pause came (latest ∷ earlier) done last has is speaks at one audited =
+  closes_at here pause came [] done last has speaks at one audited = absurd at.1
+  closes_at here pause came (latest ∷ earlier) done last has speaks at one audited =
       let closed = came.closed in
-      let there = pause_after latest in
-      let opens : IsOpening there.opening =
-      subst (λ (p : PauseValue). IsOpening p.opening) (sym at.1)
-      (rowless_opening pause.opening there.opening.table (subst IsOpening has.opening is)) in
-      let over = subst HasDoneStage (sym at.1) done in
-      let end = subst IsLastStage (sym at.1) last in
-      let jobs : closed.page.jobs.items ≡ there.jobs = has.jobs ∙ ap (λ (p : PauseValue). p.jobs) (sym at.1) in
-      let reached : closed.opening.new ≡ there.opening.new =
-      ap (λ (opening : OpeningValue). opening.new) has.opening ∙ ap (λ (p : PauseValue). p.opening.new) (sym at.1) in
-      let right : IsVerdict there.opening there.gathered there.jobs came.last_verdict =
-      subst (λ (list : List Job). IsVerdict there.opening there.gathered list came.last_verdict) jobs
-      (page_speaks o earlier latest at.0 opens over end closed.page.run closed.page.jobs.items came.last_verdict
-      (subst (λ (p : PauseValue). IsPageOf p.gathered closed.page.run) (sym at.1) has.run)
-      (subst (λ (to : PlanValue). SpeaksForRuns to closed.page.run closed.page.jobs.items came.last_verdict) reached speaks)) in
+      let end = speaks o (latest ∷ earlier) pause at done last has in
       record {
         earlier = earlier;
         latest = latest;
@@ -146,25 +131,20 @@ module _ (o : OpeningValue) where
                 ap (λ (opening : OpeningValue). folded_opening opening closed.opening.table) has.opening
                 ∙ ap (λ (p : PauseValue). folded_opening p.opening closed.opening.table) (sym at.1);
             run = subst (λ (p : PauseValue). IsPageOf p.gathered closed.page.run) (sym at.1) has.run;
-            jobs = jobs;
+            jobs = has.jobs ∙ ap (λ (p : PauseValue). p.jobs) (sym at.1);
             differ = has.differ;
             gathered = has.gathered ∙ ap (λ (p : PauseValue). left_gathered p.gathered) (sym at.1);
           };
-          right = right;
+          right = end.right;
         };
-        planned = λ sound last_sound.
-            ends_as_planned o earlier latest at.0 opens over end
-            (all_sound here came.page came.verdict (paged (latest ∷ earlier)) one sound audited)
-            (subst (IsVerdict there.opening there.gathered there.jobs) last_sound right);
+        planned = λ sound last_sound. end.planned last_sound (all_sound here came.page came.verdict (paged (latest ∷ earlier)) one sound audited);
       }
 
   -- an engine that had come so far gave a page, went on, and was closed
   pub comes_back : (there rest : Standing) (came : ThereAndBack) → CameByPages o [] there → TakesPage there came.page rest
       → SpeaksForRuns came.page.plan came.page.page.run came.page.page.jobs.items came.verdict
-      → ClosesLater rest came.closed → IsOpening came.closed.opening
-      → SpeaksForRuns came.closed.opening.new came.closed.page.run came.closed.page.jobs.items came.last_verdict
-      → HasComeBack o came
-  comes_back there rest came come takes speaks later is last_speaks =
+      → ClosesLater rest came.closed → SpeaksForEngines came.closed came.last_verdict → HasComeBack o came
+  comes_back there rest came come takes speaks later last_speaks =
       let taken = takes.taken in
       let closes = later.2 in
       let before = goes_on [] there (Paused taken.pause) taken.comes.0 come in
@@ -173,4 +153,4 @@ module _ (o : OpeningValue) where
       let pages = paged_there.0 ∷ [] in
       let after = goes_on pages (Paused taken.left) rest taken.goes_on.0 paged_there.1 in
       let end = goes_on pages later.0 (Paused closes.pause) closes.comes.0 (goes_on pages rest later.0 later.1 after) in
-      closes_at paged_there.0 closes.pause came end.0 closes.done closes.last closes.has is last_speaks end.1 end.2 paged_there.2
+      closes_at paged_there.0 closes.pause came end.0 closes.done closes.last closes.has last_speaks end.1 end.2 paged_there.2

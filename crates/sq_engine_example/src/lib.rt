@@ -3,11 +3,10 @@
 #![tactic(auto)]
 
 ghost use Rattle.std.specs.Prelude.{[], IfSome};
-ghost use Rattle.sq_ranges.specs.Prelude.{IsSetUp};
-ghost use Rattle.sq_audit.specs.Answers.{IdsDiffer};
 ghost use Rattle.sq_page.specs.Pages.{SpeaksForRuns};
 ghost use Rattle.sq_engine.specs.Engine.{KeepsHistory};
 ghost use Rattle.sq_engine.specs.Taken.{TakesPage};
+ghost use Rattle.sq_engine.specs.Verdicts.{SpeaksForEngines};
 ghost use Rattle.sq_engine_example.specs.Return.{CameByPages, ClosesLater, HasComeBack};
 
 mod asker;
@@ -17,7 +16,6 @@ use asker::{Asker, JOBS};
 use broker::Broker;
 use sq_audit::Verdict;
 use sq_engine::{Closed, Engine, RestPage};
-use sq_page::audit_page;
 use sq_plan::Plan;
 use sq_ranges::Opening;
 use std::alloc::Global;
@@ -141,14 +139,12 @@ fn come_back<R: Threads + Wait + Sync>(
     broker: &mut Broker<R>,
 ) -> Option<(Closed, Verdict)>
     ensures closed { IfSome result (λ end. ClosesLater engine end.0) }
-    ensures verdict { IfSome result (λ end.
-        SpeaksForRuns end.0.opening.new end.0.page.run end.0.page.jobs.items end.1) }
-    ensures set_up { IfSome result (λ end. IsSetUp end.0.opening) }
+    ensures verdict { IfSome result (λ end. SpeaksForEngines end.0 end.1) }
 {
     let engine = go_to(rt, alloc, engine, plan, broker)?;
     let engine = serve_until(rt, alloc, engine, broker, 2 * JOBS)?;
     let closed = engine.close(rt, alloc).ok()?;
-    let verdict = audit_end(rt, alloc, &closed)?;
+    let verdict = closed.audit(rt, alloc).ok()?;
     Some((closed, verdict))
 }
 
@@ -185,24 +181,4 @@ fn serve_until<R: Threads + Wait + Sync>(
     broker.end_after(jobs);
     let served = engine.serve(rt, alloc, TURNS, broker).ok()?;
     Some(served.engine)
-}
-
-// The verdict on what a closed engine had.
-fn audit_end<R: Threads + Sync>(rt: &R, alloc: Global, closed: &Closed) -> Option<Verdict>
-    requires { IdsDiffer closed.now.page.jobs.items }
-    ensures verdict { IfSome result
-        (SpeaksForRuns closed.now.opening.new closed.now.page.run closed.now.page.jobs.items) }
-    ensures set_up { IsSetUp closed.now.opening }
-{
-    let opening = &closed.opening;
-    let plan = opening.new_plan();
-    audit_page(
-        rt,
-        alloc,
-        opening.schema(),
-        plan,
-        opening.config(),
-        &closed.page,
-    )
-    .ok()
 }

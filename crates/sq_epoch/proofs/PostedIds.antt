@@ -14,7 +14,7 @@ use Rattle.sq_audit.specs.Answers.{IdsDiffer}
 use Rattle.sq_audit.proofs.Folds.{some_differ}
 use Rattle.sq_epoch.specs.Posted.{is_id_in, HaveJustIds, ForgetsIds}
 
--- what stands in a list behind which one more was put
+-- what is in a list behind which one more was put
 last_or : {X : Type 0} (xs : List X) (x y : X) (i : ℕ) → slice_get (xs ++ x ∷ []) i ≡ Some y → (slice_get xs i ≡ Some y) ⊎ ((i ≡ length xs) × (y ≡ x))
 last_or [] x y zero at = inr (refl, cc)
 last_or [] x y (suc i) at = absurd cc
@@ -123,7 +123,7 @@ module _ (jobs : List Job) (job : Job) (old new : BTreeSet ℕ) where
           updates.2 id (unsigned_tied job.txn.id id ∙ apart) ∙ have.each id ∙ sym (with_another jobs job id apart))
           (cases_eq job.txn.id id)
 
-  -- the ids without that of the last job
+  -- the ids without the last job's
   pub ids_without : HaveJustIds (jobs ++ job ∷ []) old → Updates nat_cmp old new job.txn.id false → HaveJustIds jobs new
   ids_without have updates = record { differ = differ; each = each }
     where

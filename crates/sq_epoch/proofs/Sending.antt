@@ -1,4 +1,4 @@
--- What a teller sends of the receipts that it was told.
+-- What a teller sends of the receipts that it heard of.
 use Rattle.std.proofs.Common.{◌≡◌, Bool, true, false, List, [], ◌∷◌, ◌++◌, refl, sym, ap, ◌∙◌, subst, append_assoc, true≢false}
 use Rattle.rtrb.specs.Ring.{sent, SameProducer}
 use Rattle.sq_node_model.specs.NodeValue.{ReceiptValue}

@@ -12,7 +12,7 @@ pub record IsCrewOf (fabric : FabricValue) (crew : Crew) : Type 0 where
   pub nodes : All (λ pair. IsNodeOf fabric pair.node) crew.pairs.items
   pub pumps : All (HasAllSeats fabric) crew.pumps.items
 
--- they were driven, and what the nodes wrote was told
+-- they were driven, and tellers heard of what the nodes wrote
 pub record IsDriven (fabric : FabricValue) (old new : Crew) : Type 0 where
   pub nodes : AllDrivenTelling SendsOrBreaksOff fabric old.pairs.items new.pairs.items
   pub pumps : AllPumpsDriven fabric old.pumps.items new.pumps.items

@@ -7,7 +7,7 @@ use Rattle.sq_epoch.specs.declared.posted.PostFault.{PostFault}
 use Rattle.sq_epoch.specs.declared.client.Command.{Command}
 use Rattle.sq_epoch.specs.declared.client.Command.TheVariants.{Post, Rest, End}
 
--- a client was asked for its next command, was told an answer of a partition, or had a job returned that isn't posted
+-- a client was asked for its next command, was given an answer of a partition, or had a job returned that isn't posted
 pub data ClientCall : Type 0 where
   Asked : (command : Command) → ClientCall
   Told : (part : ℕ) → (receipt : ReceiptValue) → ClientCall

@@ -63,7 +63,6 @@ fn is_counted(counts: &BTreeMap<(u64, u64), u64>, job: &Job) -> bool
     counts.get(&key).copied().unwrap_or(0) > 0
 }
 
-// A copy of a job.
 fn copy(job: &Job) -> Result<Job, AllocError>
     ensures { IfOk result (λ copy. copy ≡ job.now) }
 {

@@ -24,7 +24,7 @@ pub(crate) struct Attendance {
 }
 
 impl Attendance {
-    /// Of the nodes of so many partitions, none of which has come.
+    /// The nodes of so many partitions; none has come yet.
     pub(crate) fn new(parts: u8) -> Attendance {
         Attendance {
             parts,

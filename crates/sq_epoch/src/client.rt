@@ -1,4 +1,4 @@
-// Who posts jobs to an epoch while its workers run, and is given their answers.
+// Clients that post jobs to an epoch while its workers run, and are given their answers.
 ghost use Rattle.sq_epoch.specs.Exchanges.{ClientCall, Asked, Told, Returned};
 
 use crate::posted::PostFault;
@@ -10,21 +10,21 @@ use sq_plan::PartId;
 /// What a client wants next.
 #[derive(Debug, Drop)]
 pub enum Command {
-    /// That a job is posted.
+    /// A job is posted.
     Post(Job),
     /// Nothing now. It is asked again.
     Rest,
-    /// That the epoch ends. It isn't asked again in this epoch.
+    /// The epoch ends. The client isn't asked again in this epoch.
     End,
 }
 
-/// Who posts jobs to an epoch while its workers run, and is given each answer as soon as it comes.
+/// A client posts jobs to an epoch while its workers run, and is given each answer as soon as it comes.
 pub trait Client {
     /// What a call makes of a client.
     ghost Becomes: { Self → ClientCall → Self → Type 0 };
 
-    /// What it wants next, where the stage is so far by what the workers told. A call has to return, since no answer is given
-    /// meanwhile.
+    /// What it wants next, where the stage is so far by the reports of the workers. A call has to return, since no
+    /// answer is given meanwhile.
     fn next(&mut self, progress: StageProgress) -> Command
         ensures { Becomes self.old (Asked result) self.new };
 

@@ -63,7 +63,7 @@ impl EpochGate {
         }
     }
 
-    /// How many answers were written. The teller of each had been told of it before.
+    /// How many answers were written. The teller of each had heard of it before.
     pub(crate) fn answers(&self) -> u64 {
         self.answers.load(Ordering::SeqCst)
     }

@@ -90,9 +90,9 @@ impl Front {
         unreachable!()
     }
 
-    // Gives a client what has come, and does what it wants next, unless the epoch is over. It is over where an answer that was
-    // told hasn't come, since its teller broke off then, and at rest where what came shows a long log. Whether there was
-    // something to do.
+    // Gives a client what has come, and does what it wants next, unless the epoch is over. It is over where an answer
+    // that was written hasn't come, since its teller broke off then, and at rest where what came shows a long log.
+    // Whether there was something to do.
     fn take_turn<C: Client, R: Wait>(
         &mut self,
         rt: &R,

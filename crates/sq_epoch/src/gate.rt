@@ -37,7 +37,7 @@ impl<'a, G: Gate> CountingGate<'a, G> {
         }
     }
 
-    // Whether no worker goes on: a node has no thread, or the stage is done and workers that are idle don't end.
+    // Whether no worker continues: a node has no thread, or the stage is done and workers that are idle don't end.
     fn is_over(&self) -> bool {
         self.lacks_threads.load(Ordering::SeqCst)
             || (self.progress().is_done() && !self.gate.ends_idle())

@@ -57,7 +57,8 @@ impl PostedJobs {
         }
     }
 
-    /// These jobs without those that have a receipt by these counts, of which these are copies. Their ids may come again.
+    /// These jobs without those that have a receipt by these counts, which are copies of theirs. Their ids may come
+    /// again.
     pub fn without_answered(
         self,
         counts: &BTreeMap<(u64, u64), u64>,

@@ -13,7 +13,7 @@ use sq_node::Receipt;
 use sq_plan::PartId;
 use sq_teller::RingTeller;
 
-/// What came over rings: how many receipts, and whether one of them shows a long log.
+/// What has come over rings: how many receipts, and whether one of them shows a long log.
 #[derive(Clone, Copy, Debug)]
 pub(crate) struct Arrivals {
     pub(crate) count: u64,
@@ -75,7 +75,8 @@ pub(crate) fn give_come<C: Client>(
     came
 }
 
-/// Gives a client each receipt that is still on its way, once the tellers tell no more: it has been given all that they sent.
+/// Gives a client each receipt that is still on its way, once the tellers send no more: it has been given all that they
+/// sent.
 pub(crate) fn give_rest<C: Client>(
     parts: u8,
     pairs: &mut [TellingNode<RingTeller>],

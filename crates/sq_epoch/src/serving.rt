@@ -40,7 +40,7 @@ pub struct ServedParts {
     pub nodes: Vec<Node>,
     /// Its pumps, which were driven.
     pub pumps: Vec<Pump>,
-    /// How far its stage is, by what the workers told.
+    /// How far its stage is, by the reports of the workers.
     pub progress: StageProgress,
     /// Whether each answer that was written was given.
     pub is_whole: bool,

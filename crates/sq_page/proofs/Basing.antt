@@ -1,4 +1,4 @@
--- The bases of the families of stores, of which one at most has a family of a root key.
+-- The bases of the families of stores; at most one of them has a family of a root key.
 use Rattle.std.proofs.Common.{◌≡◌, ◌⊎◌, inl, inr, ℕ, zero, suc, ◌==◌, Bool, true, false, if◌then◌else◌, List, [], ◌∷◌, length, slice_get, Option, Some, None, refl, sym, ap, ◌∙◌, subst, arith, eqb-true}
 use Rattle.std.specs.Prelude.{fold, option_and_then}
 use Rattle.std.specs.FinMap.{get}

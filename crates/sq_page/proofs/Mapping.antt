@@ -1,4 +1,4 @@
--- A list each element of which is what is made of the one at its place.
+-- A list whose elements are made of those at their places.
 use Rattle.std.proofs.Common.{◌≡◌, ℕ, zero, suc, ◌<◌, List, [], ◌∷◌, length, map, get_or, refl, arith}
 
 pub map_each : {X : Type 0} (f : X → X) (xs ys : List X) → length ys ≡ length xs → ((i : ℕ) (d : X) → i < length xs → get_or ys i d ≡ f (get_or xs i d)) → ys ≡ map f xs

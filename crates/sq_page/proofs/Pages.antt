@@ -1,4 +1,4 @@
--- What the audit says of a page by itself it says of the run that the page was taken of.
+-- The audit's verdict on a page is the one on the run that the page was taken of.
 use Rattle.std.proofs.Common.{◌≡◌, inl, inr, ◌+◌, lit≤, List, Contains, sym, ap, ◌∙◌, subst}
 use Rattle.sq_schema.specs.Family.{FamilyValue}
 use Rattle.sq_plan.specs.PlanValue.{PlanValue}
@@ -49,11 +49,11 @@ module _ (g page : GatheredValue) (is : IsPageOf g page) where
   pub answered_in_page : (jobs : List Job) → AreAnswered g jobs → AreAnswered page jobs
   answered_in_page jobs answered = subst (λ (rs : List ReceiptValue). AreAnsweredBy rs jobs) (sym is.receipts) answered
 
-  -- where the page is sound the run is, of which it is known that it is placed
+  -- where the page is sound the run is, if the run is placed
   pub sound_in_run : (o rest : OpeningValue) (jobs : List Job) → IsPlaced o g → IsSoundRun rest page jobs → IsSoundRun o g jobs
   sound_in_run o rest jobs placed sound = record { placed = placed; known = known_in_run jobs sound.known; answered = answered_in_run jobs sound.answered }
 
--- its receipts tell the logs of its families
+-- its receipts name the logs of its families
 module _ (o : OpeningValue) (g page : GatheredValue) (p : IsPlaced o g) (is : IsPageOf g page) where
   pub page_named : NameEach page
   page_named spot root family stands position =
@@ -65,7 +65,7 @@ module _ (o : OpeningValue) (g page : GatheredValue) (p : IsPlaced o g) (is : Is
       let told = p.told receipt has commits in
       (told.0, told.1, is.named receipt told.0 told.1 has told.2, told.3)
 
--- the page is placed, and what the audit says of it by itself it says of the run
+-- the page is placed, and the audit's verdict on it is the one on the run
 module _ (o rest : OpeningValue) (opening : IsOpening o) (g page : GatheredValue) (plan : PlanValue) (p : IsPlaced o g) (done : IsStageDone o g) (is : IsPageOf g page) (after : IsPlanAfter o g plan)
     (r : IsAtRest plan page rest) where
   pub page_placed : IsPlaced rest page

@@ -1,4 +1,4 @@
--- That the copies of families that receipts name are a page.
+-- The copies of families that receipts name are a page.
 use Rattle.std.proofs.Common.{◌≡◌, ⊎_elim, ℕ, ◌+◌, ◌<◌, ◌≤◌, ◌==◌, Bool, true, false, if◌then◌else◌, List, length, slice_get, Contains, Some, None, refl, sym, ap, ◌∙◌, subst, arith}
 use Rattle.std.specs.Prelude.{◌||◌, cond, not, option_and_then}
 use Rattle.std.specs.Ordering.{nat_cmp}

@@ -88,7 +88,7 @@ module _ (g : GatheredValue) (jobs : List Job) (count : ℕ) (part_of : ℕ → 
       let n = part_of job.txn.root in
       answered_in_page (λ root. part_of root == n) g (part n) (are n (within job.txn.root)) jobs (answered n (within job.txn.root)) job has (eq-eqb n n refl)
 
--- where each part of it is sound it is, of which it is known that it is placed
+-- where each part of it is sound it is, if it is placed
 sound_in_parts : (o : OpeningValue) (g : GatheredValue) (jobs : List Job) (count : ℕ) (part_of : ℕ → ℕ) (part : ℕ → GatheredValue)
     → IsPlaced o g → ((root : ℕ) → part_of root < count) → ((n : ℕ) → n < count → IsPartOf (λ root. part_of root == n) g (part n))
     → (rest : (n : ℕ) → n < count → OpeningValue) → ((n : ℕ) (low : n < count) → IsSoundRun (rest n low) (part n) (jobs_of (λ root. part_of root == n) jobs)) → IsSoundRun o g jobs
@@ -108,7 +108,7 @@ known_if o part jobs (Unsound defect) first least =
     let below : defect_number ReceiptUnknown < defect_number defect = omega (arith, last) in
     (first.first ReceiptUnknown below).0
 
--- the least of the defects that the parts tell is the first of the whole
+-- the least of the defects of the parts is the first of the whole
 module _ (o : OpeningValue) (g : GatheredValue) (jobs : List Job) (count : ℕ) (part_of : ℕ → ℕ) (part : ℕ → GatheredValue) (verdicts : ℕ → Verdict) (p : IsPlaced o g)
     (within : (root : ℕ) → part_of root < count) (are : (n : ℕ) → n < count → IsPartOf (λ root. part_of root == n) g (part n))
     (judged : (n : ℕ) → n < count → IsJudged (part n) (jobs_of (λ root. part_of root == n) jobs) (verdicts n)) where

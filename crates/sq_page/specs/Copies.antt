@@ -35,7 +35,7 @@ abbrev pub IsCopyOrEmpty : Bool → BTreeSet ℕ → StoreValue → StoreValue �
 IsCopyOrEmpty true named store copy = IsCopyOf named store copy
 IsCopyOrEmpty false named store copy = copy ≡ empty
 
--- it is so of each of these and the store at its place, of which the one is at this place
+-- it is so of each of these and the store at its place; the first is at this place
 abbrev pub AreCopiesOrEmpty : BTreeSet ℕ → List StoreValue → ℕ → List StoreValue → Type 0
 AreCopiesOrEmpty named stores part copies =
     (place : ℕ) (store copy : StoreValue)

@@ -1,4 +1,4 @@
--- A page: what is taken of a run to be audited by itself, while the run goes on without it.
+-- A page: what is taken of a run to be audited on its own, while the run continues without it.
 use Rattle.std.specs.Prelude.{◌≡◌, ◌+◌, ◌≤◌, ℕ, List, [], length, map, Contains}
 use Rattle.std.specs.List.{flat_map}
 use Rattle.std.specs.FinMap.{entries}

@@ -1,4 +1,4 @@
--- A run, or a page of one, in parts, each of which is audited by itself.
+-- A run, or a page of one, in parts, each of which is audited on its own.
 use Rattle.std.specs.Prelude.{◌≡◌, ◌<◌, ◌≤◌, ℕ, Bool, true, List, filter}
 use Rattle.sq_schema.specs.Family.{FamilyValue}
 use Rattle.sq_ranges.specs.OpeningValue.{OpeningValue}
@@ -35,14 +35,14 @@ pub record IsJudged (part : GatheredValue) (jobs : List Job) (told : Verdict) : 
   pub placed : IsPlaced rest part
   pub verdict : IsVerdict rest part jobs told
 
--- one of so many verdicts tells the defect, and none tells one with a lower number
+-- one of so many verdicts is the defect, and none is one with a lower number
 pub record IsLeastDefect (count : ℕ) (verdicts : ℕ → Verdict) (defect : Defect) : Type 0 where
   pub part : ℕ
   pub there : part < count
   pub told : verdicts part ≡ Unsound defect
   pub least : (n : ℕ) (other : Defect) → n < count → verdicts n ≡ Unsound other → defect_number defect ≤ defect_number other
 
--- all of so many verdicts are sound, or this is the least defect that one tells
+-- all of so many verdicts are sound, or this is the least defect among them
 abbrev pub IsLeastVerdict : ℕ → (ℕ → Verdict) → Verdict → Type 0
 IsLeastVerdict count verdicts Sound = (n : ℕ) → n < count → verdicts n ≡ Sound
 IsLeastVerdict count verdicts (Unsound defect) = IsLeastDefect count verdicts defect

@@ -52,14 +52,13 @@ fn at_rest(
     }
 }
 
-// The opening with this table.
 fn with_bases(opening: Opening, table: Table) -> Opening
     requires { (root : ℕ) → ROOT_END ≤ root → rows_in table root ≡ [] }
     ensures opening { result ≡ record opening { table = table } }
     ensures set_up { IsOpening result }
 {
     let opening = opening.with_table(table);
-    // For the proof alone: it tells that the opening is set up.
+    // For the proof alone: the opening is set up.
     let _recon = opening.recon();
     opening
 }
@@ -98,7 +97,7 @@ fn add_base(table: &mut Table, family: &Family) -> Result<(), AllocError>
         → rows_in table.new root ≡ rows_in table.old root) }
 {
     let root = family.root();
-    // For the proof alone: it tells that the number is below `ROOT_END`.
+    // For the proof alone: the number is below `ROOT_END`.
     let _number = root.number();
     let base = family.base();
     if !base.is_empty() {

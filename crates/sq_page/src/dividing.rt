@@ -93,7 +93,6 @@ fn is_owned(plan: &Plan, part: usize, root: Root) -> bool
     usize::from(plan.owner(root).number()) == part
 }
 
-// A copy of a receipt.
 fn copy_of_receipt(receipt: &Receipt) -> Result<Receipt, AllocError>
     ensures { IfOk result (λ copy. copy ≡ receipt.now) }
 {
@@ -105,7 +104,6 @@ fn copy_of_receipt(receipt: &Receipt) -> Result<Receipt, AllocError>
     })
 }
 
-// A copy of a job.
 fn copy_of_job(job: &Job) -> Result<Job, AllocError>
     ensures { IfOk result (λ copy. copy ≡ job.now) }
 {

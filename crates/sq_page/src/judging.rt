@@ -16,10 +16,10 @@ use std::alloc::Global;
 use std::thread;
 use std::thread::Threads;
 
-/// Whether a page of jobs whose ids differ is sound, or else its first defect, where the stage of the run that it was taken of
-/// led to this plan. That is the verdict on the run: each family of a run is where it has to be, so a defect is one of receipts
-/// or of jobs. Each partition's part of the page is audited in a thread of its own, where one can be had. It is refused for a
-/// fault of the sizes, and where there is no memory for it.
+/// Whether a page of jobs whose ids differ is sound, or else its first defect, where the stage of the run that it was
+/// taken of led to this plan. The verdict is that on the run: each family of a run is where it has to be, so a defect
+/// is one of receipts or of jobs. Each partition's part of the page is audited in a thread of its own, where one can be
+/// had. It is refused for a fault of the sizes, and where there is no memory for it.
 pub fn audit_page<R: Threads + Sync>(
     rt: &R,
     alloc: Global,

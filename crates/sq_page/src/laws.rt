@@ -10,9 +10,9 @@ ghost use Rattle.sq_audit.specs.Defects.{IsVerdict};
 ghost use Rattle.sq_page.specs.Pages.{AllStored, IsStill, IsPageOf, IsPlanAfter, IsAtRest, IsAboutReceipts, left_opening, left_gathered};
 ghost use Rattle.sq_page.specs.Parts.{IsPartOf, jobs_of, IsJudged, IsLeastVerdict};
 
-/// A page speaks for all: where a run is placed, and a page of it is sound by itself for some jobs, under whatever opening it
-/// is read, the run is sound for these jobs. And where the stage of the run is done, and the page is at rest with the plan that
-/// the stage led to, the verdict on the page is that on the run.
+/// A page speaks for all: where a run is placed, and a page of it is sound on its own for some jobs, under whatever
+/// opening it is read, the run is sound for these jobs. And where the stage of the run is done, and the page is at rest
+/// with the plan that the stage led to, the verdict on the page is that on the run.
 pub fn a_page_speaks_for_all()
     ensures sound { (o rest : OpeningValue) (g page : GatheredValue) (jobs : List Job)
         → IsPlaced o g → IsPageOf g page
@@ -62,9 +62,9 @@ pub fn a_part_at_rest_is_placed()
         → IsPlaced rest part }
 {}
 
-/// The parts of a run speak for it: where it is placed, and so is each of so many parts, of which each root key has one, it is
-/// sound where each part is sound by itself for the jobs of its root keys; and else the least of the defects that the parts
-/// have first is the first of all.
+/// The parts of a run speak for it: where it is placed, and so is each of so many parts, of which each root key has
+/// one, it is sound where each part is sound on its own for the jobs of its root keys; and else the least of the
+/// defects that the parts have first is the first of all.
 pub fn parts_speak_for_all()
     ensures { (o : OpeningValue) (g : GatheredValue) (jobs : List Job) (count : ℕ)
         (part_of : ℕ → ℕ) (part : ℕ → GatheredValue) (verdicts : ℕ → Verdict) (verdict : Verdict)

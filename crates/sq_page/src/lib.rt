@@ -1,4 +1,4 @@
-//! Pages: what is taken of a run whose stage is done, so that it is audited by itself while the run goes on.
+//! Pages: what is taken of a run whose stage is done, so that it is audited on its own while the run continues.
 #![tactic(auto)]
 
 mod bases;

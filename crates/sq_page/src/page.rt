@@ -2,7 +2,7 @@
 use sq_audit::Job;
 use sq_gather::Gathered;
 
-/// A page of a run, to be audited by itself.
+/// A page of a run, to be audited on its own.
 #[derive(Drop)]
 pub struct Page {
     /// All receipts of the run, and of each partition the families that they name or that have a log, as they stood. Nothing

@@ -12,9 +12,10 @@ use sq_runs::RunStore;
 use std::alloc::Global;
 use std::thread::Threads;
 
-/// Takes a page of what was gathered, of which no family is under way, for these jobs. Its receipts go with the page, with
-/// copies of the families that they name or that have a log; and the logs of all families are folded. Each partition is gone
-/// over in a thread of its own, where one can be had. All memory is taken first: where there is none all comes back as it was.
+/// Takes a page of what was gathered, with no family under way, for these jobs. Its receipts go with the page, with
+/// copies of the families that they name or that have a log; and the logs of all families are folded. Each partition is
+/// gone over in a thread of its own, where one can be had. All memory is taken first: where there is none all comes
+/// back as it was.
 pub fn take_page<R: Threads + Sync>(
     rt: &R,
     alloc: Global,

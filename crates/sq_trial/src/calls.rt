@@ -1,6 +1,4 @@
 // The calls that are made of an engine.
-ghost use Rattle.sq_audit.specs.Answers.{IdsDiffer};
-
 use crate::deed::{EngineCall, PlanChoice};
 use crate::failure::Failure;
 use crate::plans::{opening_at, plan_of};
@@ -9,7 +7,6 @@ use crate::trial::Rest;
 use sq_audit::Verdict;
 use sq_driver::OpenGate;
 use sq_engine::{Closed, Engine, EngineServed, RestPage};
-use sq_page::audit_page;
 use sq_ranges::OpeningFault;
 use std::alloc::Global;
 use std::sync::Wait;
@@ -166,19 +163,8 @@ fn check_last_page<R: Threads + Sync>(
     alloc: Global,
     closed: &Closed,
     client: &mut RandomClient,
-) -> Result<(), Failure>
-    requires { IdsDiffer closed.now.page.jobs.items }
-{
-    let opening = &closed.opening;
-    let plan = opening.new_plan();
-    check_sound(audit_page(
-        rt,
-        alloc,
-        opening.schema(),
-        plan,
-        opening.config(),
-        &closed.page,
-    ))?;
+) -> Result<(), Failure> {
+    check_sound(closed.audit(rt, alloc))?;
     client.hear_page(&closed.page.run.receipts)
 }
 

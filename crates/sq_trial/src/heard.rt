@@ -1,9 +1,9 @@
-// What an answer tells.
+// The content of an answer.
 use crate::failure::Failure;
 use sq_node::Receipt;
 use sq_schema::{OpAnswer, Reply};
 
-/// What an answer tells: that a job made this the number of its root key.
+/// The content of an answer: a job made this the number of its root key.
 #[derive(Clone, Copy, Debug)]
 pub struct Heard {
     pub id: u64,
@@ -11,7 +11,7 @@ pub struct Heard {
     pub number: u64,
 }
 
-/// What a receipt tells.
+/// The content of a receipt.
 pub(crate) fn heard_in(receipt: &Receipt) -> Result<Heard, Failure> {
     match number_of(&receipt.reply) {
         Some(number) => Ok(Heard {
@@ -23,7 +23,6 @@ pub(crate) fn heard_in(receipt: &Receipt) -> Result<Heard, Failure> {
     }
 }
 
-// The number that a reply tells.
 fn number_of(reply: &Reply) -> Option<u64> {
     match reply {
         Reply::Committed(answers) => match answers.as_slice() {

@@ -4,20 +4,20 @@ use crate::heard::Heard;
 use crate::plans::{PARTS, ROOTS};
 use std::alloc::Global;
 
-/// What was heard of jobs, each of which adds 1 to the number of its root key, which is 0 at first. Their ids are 0, 1, 2 and so
-/// on.
+/// What was heard of jobs that each add 1 to the number of their root key, which is 0 at first. Their ids are 0, 1, 2
+/// and so on.
 #[derive(Drop)]
 pub struct Hearing {
-    // Of each id the root key of its job, and the number that it was answered, or 0 before that.
+    // For each id the root key of its job, and the number that it was answered, or 0 before that.
     asked: Vec<(u64, u64)>,
     // How many jobs were answered.
     count: u64,
-    // By partition and root key the latest number that was told.
+    // The latest number that was heard, by partition and root key.
     latest: Vec<u64>,
 }
 
 impl Hearing {
-    /// Of no jobs.
+    /// What was heard of no jobs.
     pub fn new(alloc: Global) -> Result<Hearing, Failure> {
         match vec![in alloc; 0; PARTS as usize * ROOTS as usize] {
             Ok(latest) => Ok(Hearing {
@@ -42,7 +42,7 @@ impl Hearing {
         }
     }
 
-    /// Hears what a partition tells: its numbers of a root key come in order.
+    /// Hears an answer of a partition: its numbers of a root key come in order.
     pub fn hear_from(&mut self, part: u8, heard: Heard) -> Result<(), Failure> {
         if heard.root >= ROOTS {
             return Err(Failure::WrongAnswer);
@@ -58,7 +58,7 @@ impl Hearing {
         self.hear(heard)
     }
 
-    /// Hears what an answer tells. Its job wasn't answered before.
+    /// Hears an answer. Its job wasn't answered before.
     pub(crate) fn hear(&mut self, heard: Heard) -> Result<(), Failure> {
         let Some(asked) = self.asked.get_mut(heard.id as usize) else {
             return Err(Failure::NoSuchJob);

@@ -19,7 +19,7 @@ pub(crate) struct JobSource {
 }
 
 impl JobSource {
-    /// Of which none was made.
+    /// A source that has made no job yet.
     pub(crate) fn new(workload: Workload) -> JobSource {
         JobSource {
             schema: schema(),

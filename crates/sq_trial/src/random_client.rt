@@ -83,7 +83,7 @@ impl RandomClient {
         }
     }
 
-    /// Whether nothing was wrong, and all that was asked for is answered, where its engine came to this.
+    /// Whether nothing was wrong, and all that was asked for is answered, where this is its engine's outcome.
     pub(crate) fn judge(self, outcome: Result<(), Failure>) -> Result<(), Failure> {
         outcome.and(self.judge_so_far()).and(self.hearing.judge())
     }

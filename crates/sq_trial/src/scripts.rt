@@ -60,8 +60,8 @@ fn add_any_move(deeds: &mut Vec<Deed>, dice: &mut Dice, answers: u64) -> Result<
     Ok(())
 }
 
-/// So many epochs, before each of which some jobs are posted, and each of which ends after some turns. Where the engine is at rest
-/// then, it may go to a plan at random, or a page is taken. In the end all are answered.
+/// So many epochs, with some jobs posted before each; each ends after some turns. Where the engine is at rest then, it
+/// may go to a plan at random, or a page is taken. In the end all are answered.
 pub fn any_epochs(alloc: Global, seed: u64, epochs: u64) -> Result<Vec<Deed>, Failure> {
     let mut deeds = Vec::new(alloc);
     let mut dice = Dice::new(seed);

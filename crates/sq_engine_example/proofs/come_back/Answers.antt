@@ -1,12 +1,8 @@
+use Rattle.sq_audit.specs.declared.verdict.Verdict.{Verdict}
 use Rattle.sq_engine.specs.Taken.{HasClosedAfter}
+use Rattle.sq_engine.specs.Verdicts.{SpeaksForEngines}
 use Rattle.sq_engine_example.proofs.Coming.{from_ok, further}
 use Rattle.sq_engine_example.proofs.come_back.Goals as goal
-
-pub audit_end-requires : goal.audit_end-requires
-audit_end-requires g c =
-    let closes = from_ok (HasClosedAfter c.in_ok-engine-2.engine) c.close.result c.in_ok-closed.closed
-    c.in_ok-closed.ensures.value c.close.ensures.closed in
-    (c.type_bounds.sync-R, closes.has.differ)
 
 pub returns-clause-closed : goal.returns-clause-closed
 returns-clause-closed g c =
@@ -16,3 +12,8 @@ returns-clause-closed g c =
       further c.args.engine there later c.in_ok-engine.ensures c.in_ok-engine-2.ensures,
       from_ok (HasClosedAfter later) c.close.result c.in_ok-closed.closed c.in_ok-closed.ensures.value c.close.ensures.closed,
     )
+
+pub returns-clause-verdict : goal.returns-clause-verdict
+returns-clause-verdict g c =
+    from_ok (λ (verdict : Verdict). SpeaksForEngines c.in_ok-closed.closed verdict) c.audit.result c.in_ok-verdict.verdict
+    c.in_ok-verdict.ensures.value c.audit.ensures.engine

@@ -11,5 +11,4 @@ returns g c =
       last_verdict = c.in_ok-closed.last_verdict;
     } in
     comes_back c.args.opening c.in_ok-engine.engine c.in_ok-page.engine came c.in_ok-engine.ensures
-    c.in_ok-page.ensures.taken c.in_ok-page.ensures.verdict c.in_ok-closed.ensures.closed
-    c.in_ok-closed.ensures.set_up.opening c.in_ok-closed.ensures.verdict
+    c.in_ok-page.ensures.taken c.in_ok-page.ensures.verdict c.in_ok-closed.ensures.closed c.in_ok-closed.ensures.verdict

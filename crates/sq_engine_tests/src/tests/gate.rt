@@ -10,7 +10,7 @@ const FIRST: WorkerId = WorkerId::Node(0);
 
 const SECOND: WorkerId = WorkerId::Node(1);
 
-// Of two nodes one comes, and rests for this many turns. Whether it may go on.
+// Of two nodes one comes, and rests for this many turns. Says whether it may continue.
 #[test]
 fn a_node_without_a_thread_ends_an_epoch(rt: HostRuntime) -> Result<(), Fail> {
     for (turns, goes_on) in [(1, true), (MANY_TURNS, false)] {

@@ -3,10 +3,10 @@ use sq_trial::{Failure, Heard, Hearing};
 use std::alloc::Global;
 use std::test::Fail;
 
-// Three jobs were asked for, on these root keys. Partitions told this of them.
+// Three jobs were asked for, on these root keys. Partitions answered this.
 const ASKED: [u64; 3] = [4, 4, 9];
 
-// What a client says where partitions tell these ids, root keys and numbers.
+// What a client says where partitions answer with these ids, root keys and numbers.
 fn judge(alloc: Global, told: &[(u8, u64, u64, u64)]) -> Result<(), Failure> {
     let mut hearing = Hearing::new(alloc)?;
     for root in ASKED {

@@ -96,7 +96,7 @@ fn jobs_come_from_stage_to_stage(rt: HostRuntime) -> Result<(), Fail> {
     Ok(())
 }
 
-// Of a seed.
+// The same for one seed.
 fn serve_in_moves<R: Threads + Wait + Sync>(
     rt: &R,
     alloc: Global,
@@ -124,7 +124,7 @@ fn a_client_is_served_in_moves(rt: HostRuntime) -> Result<(), Fail> {
     Ok(())
 }
 
-// Of a seed.
+// The same for one seed.
 fn answer_in_epochs<R: Threads + Wait + Sync>(
     rt: &R,
     alloc: Global,

@@ -13,6 +13,7 @@ returns-in-Ok-clause-closed g c =
       done = at.done;
       last = at.last;
       has = c.in-Ok.ensures.closed;
+      receipts = at.receipts;
     }
 
 -- the engine is paused

@@ -1,4 +1,4 @@
-use Rattle.std.proofs.Common.{sym, subst}
+use Rattle.std.proofs.Common.{sym, ◌∙◌, subst}
 use Rattle.sq_engine.specs.declared.standing.Standing.TheVariants.{Paused}
 use Rattle.sq_engine.specs.Values.{PauseValue}
 use Rattle.sq_engine.specs.Engine.{KeepsHistoryAndJobs}
@@ -17,6 +17,8 @@ returns-in-Ok-clause-taken g c =
       left = c.in-Ok.left;
       leaves = c.in-Ok.ensures.history;
       goes_on = c.go_on.ensures.goes;
+      receipts = at.receipts;
+      none_since = c.go_on.ensures.receipts ∙ c.in-Ok.ensures.receipts;
     }
 
 -- the engine is paused

@@ -1,9 +1,11 @@
-use Rattle.std.proofs.Common.{ap, subst}
+use Rattle.std.proofs.Common.{List, sym, ap, subst}
+use Rattle.sq_node_model.specs.NodeValue.{ReceiptValue}
 use Rattle.sq_engine.specs.declared.standing.Standing.{Standing}
 use Rattle.sq_engine.specs.declared.standing.Standing.TheVariants.{Running}
 use Rattle.sq_engine.specs.Engine.{KeepsHistoryAndJobs}
-use Rattle.sq_engine.specs.Served.{EngineIsServed}
+use Rattle.sq_engine.specs.Served.{GrowByTold, EngineIsServed}
 use Rattle.sq_engine.proofs.Goings.{stays, goes_further, runs_on, runs_still}
+use Rattle.sq_engine.proofs.Tellings.{epoch_grows}
 use Rattle.sq_engine.proofs.engine.Engine.serve.Goals as goal
 
 pub returns-in-Ok-clause-served : goal.returns-in-Ok-clause-served
@@ -20,6 +22,11 @@ returns-in-Ok-clause-served g c =
       served = c.in-Ok.ensures.served;
       history = runs_still before after c.in-Ok.ensures.history;
       goes_on = c.end_stage-standing.ensures.goes;
+      told = λ whole.
+          let served = c.in-Ok.ensures.served in
+          subst (λ (p : List ReceiptValue × List ReceiptValue). GrowByTold p.0 served.exchanges p.1)
+          (λ i. (c.in-Running.ensures.receipts i, sym c.end_stage-standing.ensures.receipts i))
+          (epoch_grows becomes before c.args.client.now after c.serve.new.client c.in-Ok.field-0.is_whole c.in-Ok.field-0.lacks_threads served whole);
     })
 
 -- where a node had no thread the workers of the epoch ran at most

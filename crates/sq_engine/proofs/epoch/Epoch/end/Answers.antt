@@ -1,5 +1,5 @@
-use Rattle.std.proofs.Common.{◌∷◌, sym, subst}
-use Rattle.sq_engine.specs.Values.{EpochValue, PauseValue}
+use Rattle.std.proofs.Common.{◌≡◌, ◌∷◌, sym, subst}
+use Rattle.sq_engine.specs.Values.{EpochValue, PauseValue, receipts_since_page}
 use Rattle.sq_engine.specs.History.{EpochEnded, with_other_rows, RunsAfter}
 use Rattle.sq_engine.proofs.Epochs.{gathered_comes}
 use Rattle.sq_engine.proofs.epoch.Epoch.end.Goals as goal
@@ -36,3 +36,7 @@ returns-in-Ok-clause-ended g c = λ o past runs.
     let left = c.in-Ok.ensures in
     gathered_comes o past epoch c.in-Ok.gathered c.recon-recon.ensures.set_up.opening
     (subst (λ (e : EpochValue). RunsAfter o past e) (sym c.self.view_is) runs) left.gathered left.placed left.grows
+
+pub returns-in-Ok-clause-receipts : goal.returns-in-Ok-clause-receipts
+returns-in-Ok-clause-receipts g c =
+    subst (λ (e : EpochValue). c.in-Ok.gathered.receipts ≡ receipts_since_page e) c.self.view_is c.in-Ok.ensures.gathered.receipts

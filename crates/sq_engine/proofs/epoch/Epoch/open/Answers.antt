@@ -1,8 +1,11 @@
-use Rattle.std.proofs.Common.{List, [], sym, subst}
+use Rattle.std.proofs.Common.{List, [], ◌++◌, sym, ap, ◌∙◌, subst}
+use Rattle.sq_node_model.specs.NodeValue.{ReceiptValue}
+use Rattle.sq_node.specs.Opened.{opened_stores}
 use Rattle.sq_audit.specs.declared.job.Job.{Job}
 use Rattle.sq_gather.proofs.Running.{run_begins}
 use Rattle.sq_engine.specs.History.{RunsAfter}
 use Rattle.sq_engine.proofs.Epochs.{opened_runs}
+use Rattle.sq_engine.proofs.Tellings.{written_by, new_wrote_nothing}
 use Rattle.sq_engine.proofs.epoch.Epoch.open.Goals as goal
 
 pub returns-clause-opened : goal.returns-clause-opened
@@ -27,3 +30,12 @@ invariant_of-result g c =
           (opened_runs o fabric nodes pumps
           (run_begins o c.args.pumps fabric nodes pumps c.recon-recon.ensures.set_up.opening c.trees-trees.ensures.fabric c.in-Ok.ensures)),
     )
+
+pub returns-clause-none_written : goal.returns-clause-none_written
+returns-clause-none_written g c =
+    let o = c.args.opening in
+    let fabric = c.in-Ok.fabric in
+    let nodes = c.in-Ok.nodes.items in
+    let opened = c.in-Ok.ensures in
+    ap (λ (list : List ReceiptValue). list ++ written_by nodes) (sym opened.begun.receipts)
+    ∙ new_wrote_nothing o fabric (opened_stores o) nodes opened.each_node

@@ -1,7 +1,8 @@
-use Rattle.std.proofs.Common.{sym, subst}
+use Rattle.std.proofs.Common.{sym, ap, ◌∙◌, subst}
 use Rattle.sq_engine.specs.Values.{PauseValue}
 use Rattle.sq_engine.specs.History.{IsDueAfter}
 use Rattle.sq_engine.proofs.Epochs.{move_runs}
+use Rattle.sq_engine.proofs.Tellings.{reopened_keeps}
 use Rattle.sq_engine.proofs.next_move.NextMove.begin.Goals as goal
 
 pub invariant_of-result : goal.invariant_of-result
@@ -17,3 +18,8 @@ returns-in-Ok-clause-begun c = λ o past follows.
     let due : PauseValue = record { opening = inside.opening; jobs = inside.jobs; gathered = inside.gathered } in
     move_runs o past due c.in-Ok.fabric c.in-Ok.nodes.items c.in-Ok.pumps.items
     (subst (λ (d : PauseValue). IsDueAfter o past d) (sym c.self.view_is) follows) c.in-Ok.ensures.run
+
+pub returns-in-Ok-clause-receipts : goal.returns-in-Ok-clause-receipts
+returns-in-Ok-clause-receipts c =
+    reopened_keeps _ _ _ _ _ c.in-Ok.fabric c.in-Ok.nodes.items c.in-Ok.pumps.items c.in-Ok.ensures.reopened
+    ∙ ap (λ (p : PauseValue). p.gathered.receipts) c.self.view_is

@@ -21,17 +21,21 @@ take_page-requires g c =
           inside.gathered placed.1 (subst HasDoneStage (sym c.self.view_is) c.requires),
     )
 
+pub invariant_of-result : goal.invariant_of-result
+invariant_of-result g c = record { differ = subst IdsDiffer (sym c.in-Ok.ensures.jobs) c.into_parts-jobs.ensures.ids.differ }
+
 pub returns-in-Ok-clause-closed : goal.returns-in-Ok-clause-closed
 returns-in-Ok-clause-closed g c =
     let inside = c.self.inside in
     let here : PauseValue = record { opening = inside.opening; jobs = inside.jobs; gathered = inside.gathered } in
     let paged = c.in-Ok.paged in
-    let closed : Closed = record { opening = inside.opening; page = paged.page; gathered = paged.left } in
+    let differ = c.result-1.given.0 in
+    let closed : Closed = record { opening = inside.opening; page = paged.page; gathered = paged.left; differ = differ } in
     let has : HasClosed here closed = record {
       opening = refl;
       run = c.in-Ok.ensures.page;
       jobs = c.in-Ok.ensures.jobs ∙ c.into_parts-jobs.ensures.jobs;
-      differ = subst IdsDiffer (sym c.in-Ok.ensures.jobs) c.into_parts-jobs.ensures.ids.differ;
+      differ = differ;
       gathered = c.in-Ok.ensures.left;
     } in
     subst (λ (p : PauseValue). HasClosed p closed) c.self.view_is has

@@ -1,7 +1,8 @@
-use Rattle.std.proofs.Common.{sym, subst}
+use Rattle.std.proofs.Common.{sym, ap, ◌∙◌, subst}
 use Rattle.sq_engine.specs.Values.{PauseValue}
 use Rattle.sq_engine.specs.History.{HasMoreStages, HasDoneStage, PausesAfter}
 use Rattle.sq_engine.proofs.Epochs.{stage_runs}
+use Rattle.sq_engine.proofs.Tellings.{reopened_keeps}
 use Rattle.sq_engine.proofs.pause.Pause.next_stage.Goals as goal
 
 pub invariant_of-result : goal.invariant_of-result
@@ -24,3 +25,8 @@ returns-in-Ok-clause-begun c = λ o past at.
     (subst (λ (p : PauseValue). PausesAfter o past p) (sym c.self.view_is) at)
     (subst HasDoneStage (sym c.self.view_is) c.requires.done)
     (subst HasMoreStages (sym c.self.view_is) c.requires.more) c.in-Ok.ensures.run
+
+pub returns-in-Ok-clause-receipts : goal.returns-in-Ok-clause-receipts
+returns-in-Ok-clause-receipts c =
+    reopened_keeps _ _ _ _ _ c.in-Ok.fabric c.in-Ok.nodes.items c.in-Ok.pumps.items c.in-Ok.ensures.reopened
+    ∙ ap (λ (p : PauseValue). p.gathered.receipts) c.self.view_is
