@@ -46,7 +46,6 @@ pub one_spells_none : (words : List (Bor Text)) (i : ℕ) (word : Bor Text) → 
 one_spells_none words i word within none all =
     none (subst SpellsKey (get_or-map (λ (w : Bor Text). w.now) words i word word.now within) (all i word.now (subst (λ (n : ℕ). i < n) (sym (length-map words (λ (w : Bor Text). w.now))) within)))
 
--- the words that are named
 pub words_named : (rows : List Row) (named : Option (Bor (List (Bor Text)))) (words : Bor (List (Bor Text))) → option_map (λ list. texts_of list.now) named ≡ all_of (codes "key") rows → named ≡ Some words
     → key_words rows ≡ texts_of words.now
 words_named rows named words are is = ap (λ (texts : Option (List Text)). unwrap_or texts []) (sym are ∙ ap (option_map (λ (list : Bor (List (Bor Text))). texts_of list.now)) is)

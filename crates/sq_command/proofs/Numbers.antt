@@ -39,7 +39,6 @@ module _ (least most : ℕ) where
   number_none None spells = refl
   number_none (Some t) spells = λ within. spells t refl (within.0, within.1)
 
-  -- one that is given
   pub number_given : (default : ℕ) (text : Option Text) (n : ℕ) → GivenNumberOf least most text (Some n) → NumberOf least most default text n
   number_given default None n given = absurd (no_some n given)
   number_given default (Some t) n given = inl given

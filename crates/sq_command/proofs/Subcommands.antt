@@ -127,7 +127,7 @@ module _ (s : Shape) (names : Names) (enabled : s.disable_help_subcommand ≡ fa
 abbrev name_met : Option (Text × List Row) → Option Text
 name_met = option_map (λ sub. sub.0)
 
--- the name is that of one of these
+-- the name is one of these commands' names
 abbrev IsNamed : List Shape → Option Text → Type 0
 IsNamed shapes name = IsSomeAnd name (λ n. list_any (bytes_eq n) (map (λ s. s.name) shapes) ≡ true)
 
@@ -154,7 +154,7 @@ found answers words (s ∷ shapes) last other met = either (answers s) (λ is. f
     either true among met = ap (λ same. same || list_any (bytes_eq s.name) (map (λ s. s.name) shapes)) ((bytes_eq-Decides s.name s.name).1 refl)
     either false among met = later (name_met (option_map (λ s. rows_at s words) (find answers (shapes ++ last ∷ [])))) (among met)
 
--- the name is that of a subcommand of the command
+-- the name is a subcommand's name of the command
 abbrev pub IsOwn : Option Text → Type 0
 IsOwn name = IsSomeAnd name IsSubcommand
 
@@ -270,7 +270,7 @@ is_explain name own no_run no_ranges no_live no_steps no_owner no_demo no_serve 
     let last : (bytes_eq name (codes "explain") || false) ≡ true = past _ _ no_serve past_demo in
     (bytes_eq-Decides name (codes "explain")).0 (sym (or-false (bytes_eq name (codes "explain"))) ∙ last)
 
--- what comes of words in which no fault is found, by what the options of their subcommand ask for
+-- the result of words in which no fault is found, by what the options of their subcommand ask for
 module _ (words : List Text) (name : Text) (rows : List Row) (free : fault_of squall words ≡ []) (met : subcommand_of squall words ≡ Some (name, rows)) where
   pub settled_comes : (asked : Result Line Clash) (result : Result Line Error) → Settles asked result → IsAskedOf (Some (name, rows)) asked → ComesOf words result
   settled_comes (Ok line) (Ok settled) same asks = (free, rw (met, same) asks)

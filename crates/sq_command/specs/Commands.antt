@@ -11,7 +11,7 @@ use Rattle.sq_command.specs.declared.owner.TheConstants.{MAX_WIDTH}
 use Rattle.sq_command.specs.declared.demo.TheConstants.{LEAST_PARTITIONS, MAX_PARTITIONS, MAX_ROOTS, MAX_ROWS_PER_ROOT, MAX_JOBS, MAX_HOT, MAX_SEED}
 use Rattle.sq_command.specs.declared.serve.TheConstants.{MAX_FOLD_AFTER}
 
--- the program tells its version, and wants a subcommand
+-- the program has a version, and wants a subcommand
 abbrev pub program : Shape
 program = record (new_shape (codes "squall")) { has_version = true; subcommand_required = true }
 
@@ -19,7 +19,7 @@ program = record (new_shape (codes "squall")) { has_version = true; subcommand_r
 abbrev pub valued_rule : Text → Rule
 valued_rule name = record (new_rule name) { long = Some name; value_names = 1 }
 
--- one whose value this parser takes, and the value that stands where it isn't given
+-- one whose value this parser takes, and its default
 abbrev pub option_rule : Text → ValueParser → Text → Rule
 option_rule name parser default =
     record (valued_rule name) { parser = Some parser; defaults = default ∷ [] }
@@ -56,13 +56,13 @@ run_shape =
     with_input (larger (larger (larger (new_shape (codes "run"))
     (flag_rule (codes "echo"))) (flag_rule (codes "strict"))) (valued_rule (codes "rows-out")))
 
--- the subcommand that tells what moves
+-- the subcommand that lists what moves
 abbrev pub ranges_shape : Shape
 ranges_shape =
     with_input (larger (larger (larger (new_shape (codes "ranges"))
     (flag_rule (codes "json"))) (flag_rule (codes "svg"))) (flag_rule (codes "sizes")))
 
--- an option for a number from the least up to the most, and the text of the one that stands where it isn't given
+-- an option for a number from the least up to the most, and the text of its default
 abbrev pub counted_rule : Text → ℕ → ℕ → Text → Rule
 counted_rule name least most default = option_rule name (Unsigned least most) default
 
@@ -102,7 +102,7 @@ keys_rule = record (new_rule (codes "key")) {
 abbrev pub width_rule : Rule
 width_rule = record (valued_rule (codes "width")) { parser = Some (Unsigned 1 MAX_WIDTH) }
 
--- the subcommand that tells who owns root keys
+-- the subcommand that lists the owners of root keys
 abbrev pub owner_shape : Shape
 owner_shape =
     larger (larger (larger (larger (new_shape (codes "owner"))
@@ -144,7 +144,7 @@ serve_shape =
     larger (larger (larger served_shape (valued_rule (codes "plan"))) (valued_rule (codes "rows")))
     file_rule
 
--- the subcommand that tells what numbers mean
+-- the subcommand that says what numbers mean
 abbrev pub explain_shape : Shape
 explain_shape = larger (new_shape (codes "explain")) number_rule
 

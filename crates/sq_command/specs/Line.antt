@@ -37,7 +37,7 @@ GivenNumber (Some text) None = SpellsShort text → ⊥
 GivenNumber (Some text) (Some number) =
     SpellsShort text × (number ≡ digits_value 10 (without_leading_plus text))
 
--- what moves is told as lines, or else as the one flag says
+-- what moves is written as lines, or else as the one flag says
 abbrev pub IsFormOf : List Row → Form → Type 0
 IsFormOf rows Lines =
     FlagOf (one_of (codes "json") rows) false × FlagOf (one_of (codes "svg") rows) false
@@ -79,7 +79,7 @@ IsLiveTask rows Steps = ⊥
 abbrev pub IsStepsTask : List Row → Task → Type 0
 IsStepsTask rows task = task ≡ Steps
 
--- the line does a task of which this holds with the input that is named
+-- the line does a task that has this property with the input that is named
 abbrev pub IsWorkLine : (List Row → Task → Type 0) → List Row → Line → Type 0
 IsWorkLine IsTask rows (Work task input) = IsTask rows task × IsInputOf rows input
 IsWorkLine IsTask rows (Owner keys plans width) = ⊥
@@ -87,7 +87,7 @@ IsWorkLine IsTask rows (Demo demo folder) = ⊥
 IsWorkLine IsTask rows (Serve pumps fold_after files file) = ⊥
 IsWorkLine IsTask rows (Explain number) = ⊥
 
--- the line tells the number that is named
+-- the line asks for the number that is named
 abbrev pub IsExplainLine : List Row → Line → Type 0
 IsExplainLine rows (Work task input) = ⊥
 IsExplainLine rows (Owner keys plans width) = ⊥
@@ -116,7 +116,7 @@ subcommand_names =
 abbrev pub IsSubcommand : Text → Type 0
 IsSubcommand name = list_any (bytes_eq name) subcommand_names ≡ true
 
--- this is what words come to by which `clap` finds this subcommand with these options
+-- this is what words ask for by which `clap` finds this subcommand with these options
 abbrev pub IsAskedOf : Option (Text × List Row) → Result Line Clash → Type 0
 IsAskedOf None asked = ⊥
 IsAskedOf (Some sub) asked =
@@ -143,8 +143,8 @@ ClashesAt words kind =
     × ((clash : Clash) × IsAskedOf (subcommand_of squall words) (Err clash)
     × (kind ≡ clash_kind clash))
 
--- what comes of words: a line, where they have no fault;
--- else memory ran out, `clap` finds a fault of this kind, or options don't go together
+-- the result of words: a line, where they have no fault; else memory ran out, `clap` finds a fault of this kind, or
+-- options don't go together
 abbrev pub ComesOf : List Text → Result Line Error → Type 0
 ComesOf words (Ok line) =
     (fault_of squall words ≡ []) × IsAskedOf (subcommand_of squall words) (Ok line)
@@ -158,7 +158,7 @@ IsWithin (Live turns pumps folds summary summary_out timeline replies rows_out) 
     (1 ≤ turns) × (turns ≤ MAX_TURNS) × (1 ≤ pumps) × (pumps ≤ MAX_PUMPS)
 IsWithin Steps = Unit {0}
 
--- and so are those of a line, which has a root key at least where it tells some
+-- and so are those of a line, which has a root key at least where it asks for owners
 abbrev pub LineIsWithin : Line → Type 0
 LineIsWithin (Work task input) = IsWithin task
 LineIsWithin (Owner keys plans width) =

@@ -18,7 +18,7 @@ GivenNumberOf least most (Some text) None = IsUnsignedIn least most text → ⊥
 GivenNumberOf least most (Some text) (Some number) =
     IsUnsignedIn least most text × (number ≡ digits_value 10 (without_leading_plus text))
 
--- the same, or else the one that stands for it
+-- the same, or else its default
 abbrev pub NumberOf : ℕ → ℕ → ℕ → Option Text → ℕ → Type 0
 NumberOf least most default None number = number ≡ default
 NumberOf least most default (Some text) number =
@@ -61,7 +61,7 @@ lacks_plan rows =
     let new = is_some (first_of (codes "new") rows) in
     (old || (new || is_some (first_of (codes "rows") rows))) && not (old && new)
 
--- the kind of error that a clash is told as
+-- the kind of error of a clash
 abbrev pub clash_kind : Clash → ErrorKind
 clash_kind TwoForms = ArgumentConflict
 clash_kind BadKey = ValueValidation
@@ -72,7 +72,7 @@ clash_kind clash = MissingRequiredArgument
 abbrev pub LacksPlan : List Row → ErrorKind → Type 0
 LacksPlan rows kind = (kind ≡ MissingRequiredArgument) × (lacks_plan rows ≡ true)
 
--- what options come to: something of which the first holds, or a clash among them, whose kind has the second
+-- the result of options: something that the first accepts, or a clash among them, whose kind has the second
 abbrev pub Asks : {A : Type 0} → (List Row → A → Type 0) → (List Row → ErrorKind → Type 0)
     → List Row → Result A Clash → Type 0
 Asks Holds Refuses rows (Ok asked) = Holds rows asked

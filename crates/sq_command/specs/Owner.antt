@@ -1,4 +1,4 @@
--- Which root keys are told, and where the plans are.
+-- Which root keys are asked for, and where the plans are.
 use Rattle.std.specs.Prelude.{◌≡◌, ◌⊎◌, ◌<◌, ◌^◌, ℕ, List, [], Some, None, map, unwrap_or, codes, Result, Ok, Err}
 use Rattle.std.specs.List.{All}
 use Rattle.std.specs.Str.Parse.{IsNumeral, digits_value, without_leading_plus}
@@ -50,7 +50,7 @@ abbrev pub PlansClash : List Row → ErrorKind → Type 0
 PlansClash rows kind =
     LacksPlan rows kind ⊎ ((kind ≡ MissingRequiredArgument) × IsNameOf (codes "old") rows None)
 
--- the line tells the keys that are named, by these plans and leaves
+-- the line asks for the keys that are named, by these plans and leaves
 abbrev pub IsOwnerLine : List Row → Line → Type 0
 IsOwnerLine rows (Owner keys plans width) =
     AreKeysOf rows keys.items × HasPlans rows plans

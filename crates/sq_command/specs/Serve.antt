@@ -10,7 +10,7 @@ use Rattle.sq_command.specs.declared.tasks.TheConstants.{MAX_PUMPS, PUMPS}
 use Rattle.sq_command.specs.declared.serve.TheConstants.{MAX_FOLD_AFTER, FOLD_AFTER}
 use Rattle.sq_command.specs.Options.{NumberOf, IsNameOf, IsMainOf}
 
--- the engine begins with the file of a plan that is named, and that of rows if it is named; or neither is
+-- the engine begins with the file of a plan that is named, and the file of rows if it is named; or neither is
 abbrev pub AreEngineFilesOf : List Row → Option EngineFiles → Type 0
 AreEngineFilesOf rows None = IsNameOf (codes "plan") rows None × IsNameOf (codes "rows") rows None
 AreEngineFilesOf rows (Some files) =

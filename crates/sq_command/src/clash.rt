@@ -1,4 +1,4 @@
-// Options that don't go together, and how that is told.
+// Options that don't go together, and their errors.
 ghost use Rattle.std.specs.Prelude.{◌≡◌, IfOk};
 ghost use Rattle.clap.specs.Values.{kind_of};
 ghost use Rattle.sq_command.specs.Options.{clash_kind};
@@ -16,7 +16,7 @@ pub enum Clash {
     NoNew,
     /// A file of rows is named, and none of the plans.
     NoPlans,
-    /// What moves is to be told in two forms.
+    /// What moves is to be written in two forms.
     TwoForms,
     /// No root key is named.
     NoKeys,
@@ -42,7 +42,7 @@ impl From<AllocFailed<u32>> for Clash {
 }
 
 impl Clash {
-    // As which kind of error it is told.
+    // Which kind of error it is.
     fn kind(self) -> ErrorKind
         ensures { result ≡ clash_kind self }
     {
@@ -85,7 +85,7 @@ impl Clash {
     }
 }
 
-/// The error by which a clash among the options of the subcommand of this name is told. Memory may run out.
+/// The error of a clash among the options of the subcommand of this name. Memory may run out.
 pub fn refusal(alloc: Global, name: &str, clash: Clash) -> Result<Error, AllocError>
     ensures { IfOk result (λ error. kind_of error ≡ clash_kind clash) }
 {

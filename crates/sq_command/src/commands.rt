@@ -16,10 +16,10 @@ use clap::builder::ValueParser;
 use clap::{Arg, ArgAction, Command};
 use std::alloc::{AllocError, Global};
 
-// The version that `--version` tells.
+// The version that `--version` prints.
 const VERSION: &str = "0.1.0";
 
-// The program's command without its subcommands, of which it wants one.
+// The program's command without its subcommands, one of which it wants.
 fn program<'a>(alloc: Global) -> Command<'a>
     ensures app { app_of result ≡ record { top = program; subs = [] } }
     ensures local { (out-Command result).has_globals ≡ false }
@@ -57,7 +57,7 @@ pub fn valued<'a>(alloc: Global, name: &'a str, value: &'a str, help: &'a str) -
         .help(help)
 }
 
-/// An option for a number, and the one that stands where it isn't given.
+/// An option for a number, and its default.
 pub fn option<'a>(
     alloc: Global,
     name: &'a str,

@@ -34,7 +34,7 @@ pub const MAX_HOT: u64 = 100;
 /// The largest seed.
 pub const MAX_SEED: u64 = 4_294_967_295;
 
-/// What stands where no option says it.
+/// The defaults of options.
 pub const PARTITIONS: u64 = 4;
 
 pub const ROOTS: u64 = 1_000;
@@ -47,7 +47,7 @@ pub const HOT: u64 = 50;
 
 pub const SEED: u64 = 1;
 
-// As the words say that stand in place of these options.
+// As the texts of these defaults say.
 const _: () = prove!(PARTITIONS == 4 && ROOTS == 1_000 && ROWS_PER_ROOT == 4);
 
 const _: () = prove!(JOBS == 2_000 && HOT == 50 && SEED == 1);

@@ -1,4 +1,4 @@
-// The subcommand that tells what numbers mean.
+// The subcommand that says what numbers mean.
 ghost use Rattle.std.specs.Prelude.{◌≡◌, IfOk, false};
 ghost use Rattle.clap.specs.Matches.{found_of};
 ghost use Rattle.clap.specs.Walk.{rows_of};
@@ -13,7 +13,7 @@ use crate::line::Line;
 use clap::{Arg, ArgMatches, Command, value_parser};
 use std::alloc::{AllocError, Global};
 
-/// The subcommand that tells what numbers mean.
+/// The subcommand that says what numbers mean.
 pub fn explain<'a>(alloc: Global) -> Result<Command<'a>, AllocError>
     ensures shape { IfOk result (λ command. shape_of command ≡ explain_shape) }
     ensures local { IfOk result (λ command. (out-Command command).has_globals ≡ false) }
@@ -26,7 +26,7 @@ pub fn explain<'a>(alloc: Global) -> Result<Command<'a>, AllocError>
     with(plain, number)
 }
 
-/// The number to be told that options name.
+/// The number that options name.
 pub fn explain_line<'a>(options: &ArgMatches<'a>) -> Line<'a>
     ensures { IsExplainLine (rows_of (found_of options.now)) result }
 {

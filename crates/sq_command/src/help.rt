@@ -33,20 +33,20 @@ After a fault the last line of standard output is its number, as in 'fault 105',
 and standard error says what it means, and on which line it is. squall explain
 105 tells more of it, and squall explain tells all numbers.";
 
-/// Of the file that is read.
+/// Help on the file that is read.
 pub const FILE: &str = "The file to read, in place of standard input";
 
-/// Of the files of the plans and of the rows.
+/// Help on the files of the plans and of the rows.
 pub const OLD: &str = "The plan before the move, in a file of its own";
 
 pub const NEW: &str = "The plan after the move, in a file of its own";
 
 pub const ROWS: &str = "The lines of the rows, in a file of their own";
 
-/// Of the file for the rows in the end.
+/// Help on the file for the rows in the end.
 pub const ROWS_OUT: &str = "Write into this file the rows that stand at the end";
 
-/// Of `run`, of its options, and behind these.
+/// Help on `run` and its options, and the text behind these.
 pub const RUN_ABOUT: &str = "Makes the steps of a script, and answers each";
 
 pub const ECHO: &str = "Write each step before its answer, and explain refusals";
@@ -107,7 +107,7 @@ Exit status:
   3  with --strict, a line that was refused"#
 );
 
-/// Of `ranges`, of its options, and behind these.
+/// Help on `ranges` and its options, and the text behind these.
 pub const RANGES_ABOUT: &str = "Tells what moves between two plans";
 
 pub const JSON: &str = "Write it as one JSON value, for a program";
@@ -154,7 +154,7 @@ Exit status:
   0  done
   2  a fault, or a command line that is refused"#;
 
-/// Of `live`, of its options, and behind these.
+/// Help on `live` and its options, and the text behind these.
 pub const LIVE_ABOUT: &str = "Runs jobs in threads while rows move, and audits what is left";
 
 pub const TURNS: &str = "Most turns of a thread in a stage";
@@ -238,7 +238,7 @@ Exit status:
   4  unsound"#
 );
 
-/// Of `steps`, and behind its options.
+/// Help on `steps`, and the text behind its options.
 pub const STEPS_ABOUT: &str = "Writes the script that makes a whole move";
 
 pub const STEPS: &str = with_header!(
@@ -265,7 +265,7 @@ Exit status:
   2  a fault, or a command line that is refused"#
 );
 
-/// Of `owner`, of its options and its words, and behind these.
+/// Help on `owner`, its options and its words, and the text behind these.
 pub const OWNER_ABOUT: &str = "Tells who owns root keys before a move and after it";
 
 pub const WIDTH: &str = "How many root keys a leaf has, as the line config says";
@@ -286,7 +286,7 @@ Exit status:
   0  done
   2  a fault, or a command line that is refused";
 
-/// Of `demo`, of its options and its folder, and behind these.
+/// Help on `demo`, its options and its folder, and the text behind these.
 pub const DEMO_ABOUT: &str = "Writes plans, rows and jobs to begin with";
 
 pub const PARTITIONS: &str = "How many partitions there are, 2 to 16";
@@ -327,7 +327,7 @@ Exit status:
   0  done
   2  a file that can't be written, or a command line that is refused";
 
-/// Of `serve`, of its options, and behind these.
+/// Help on `serve` and its options, and the text behind these.
 pub const SERVE_ABOUT: &str = "Answers jobs for as long as lines come, while rows move";
 
 pub const FOLD_AFTER: &str = "After how many answers logs are folded";
@@ -344,6 +344,8 @@ move JSON            rows move to the places of this plan
 fold                 what was answered is audited, and the logs are folded
 status               how far a move is
 plan                 the plan that is in force
+rows                 each row, as a line 'row ..', where nothing moves
+rows FILE            the same, written into this file
 
 At the end of the input all jobs are answered, a move goes to its end, and what
 is left is audited: 'sound F families N committed' is the last line.
@@ -357,7 +359,7 @@ Exit status:
   2  a fault that ends it, or a command line that is refused
   4  unsound";
 
-/// Of `explain`, of its number, and behind these.
+/// Help on `explain` and its number, and the text behind these.
 pub const EXPLAIN_ABOUT: &str =
     "Tells what a number means, where it is given, and what to do about it";
 

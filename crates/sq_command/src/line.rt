@@ -25,11 +25,11 @@ pub enum Line<'a> {
     },
     /// Tell which partition owns root keys before a move and after it, and where in the move they stand.
     Owner {
-        /// The root keys, in the order in which they are told.
+        /// The root keys, in the order in which they are written.
         keys: Vec<u32>,
         /// The files of the plans.
         plans: Plans<'a>,
-        /// How many root keys a leaf has, where it is told in which segment and leaf a root key stands.
+        /// How many root keys a leaf has, where the segment and the leaf of a root key are to be written.
         width: Option<u32>,
     },
     /// Write an input to begin with.
@@ -85,7 +85,7 @@ pub struct EngineFiles<'a> {
     pub rows: Option<&'a str>,
 }
 
-/// How it is told what moves.
+/// The form in which what moves is written.
 #[derive(Clone, Copy, Debug, PartialEq, Eq)]
 pub enum Form {
     /// A line for each range and for each segment.
@@ -110,9 +110,9 @@ pub enum Task<'a> {
     },
     /// Tell what moves between two plans.
     Ranges {
-        /// How it is told.
+        /// The form.
         form: Form,
-        /// Whether it is told how much moves.
+        /// Whether it is written how much moves.
         sizes: bool,
     },
     /// Run jobs in threads while rows move.
@@ -123,7 +123,7 @@ pub enum Task<'a> {
         pumps: u32,
         /// Whether the logs are folded between stages.
         folds: bool,
-        /// Whether it is told what the run did.
+        /// Whether a summary is written.
         summary: bool,
         /// The name of the file into which a longer account of it is written, where there is to be one.
         summary_out: Option<&'a str>,
@@ -157,10 +157,11 @@ pub struct Demo {
     pub seed: u64,
 }
 
-/// What the words of a command line ask for; the first of them is the program's name. An error is told in `clap`'s form:
-/// the words aren't of the command's form, or ask for a help text or the version, or have options that don't go together,
-/// or memory ran out. `--old` and `--new` stand together or not at all, `--rows` wants both, and of `--json` and `--svg`
-/// there is one at most. `owner` wants the plans and a key, `demo` a folder, and the `--rows` of `serve` its `--plan`.
+/// What the words of a command line ask for; the first of them is the program's name. An error is in `clap`'s form: the
+/// words aren't of the command's form, or ask for a help text or the version, or have options that don't go together,
+/// or memory ran out. `--old` and `--new` stand together or not at all, `--rows` wants both, and of `--json` and
+/// `--svg` there is one at most. `owner` wants the plans and a key, `demo` a folder, and the `--rows` of `serve` its
+/// `--plan`.
 pub fn line_of<'a, S: AsStr>(alloc: Global, words: &'a [S]) -> Result<Line<'a>, Error>
     ensures comes { ComesOf (map S.text words.now) result }
     ensures within { IfOk result LineIsWithin }
@@ -197,7 +198,7 @@ fn asked<'a>(alloc: Global, name: &str, options: &ArgMatches<'a>) -> Result<Line
     }
 }
 
-// The line, or the error by which a clash among the options of the subcommand of this name is told.
+// The line, or the error of a clash among the options of the subcommand of this name.
 fn settle<'a>(alloc: Global, name: &str, asked: Result<Line<'a>, Clash>) -> Result<Line<'a>, Error>
     ensures { Settles asked.entry result }
 {

@@ -59,7 +59,7 @@ pub fn name_of<'a>(options: &ArgMatches<'a>, option: &str) -> Option<&'a str>
     options.get_str(option)
 }
 
-/// The number of an option, from the least up to the most that it may be, or else the one that stands for it.
+/// The number of an option, from the least up to the most that it may be, or else its default.
 pub fn number_of(options: &ArgMatches<'_>, name: &str, least: u64, most: u64, default: u64) -> u64
     requires some { least ≤ default }
     requires within { default ≤ most }

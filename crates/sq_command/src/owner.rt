@@ -1,4 +1,4 @@
-// The subcommand that tells who owns root keys.
+// The subcommand that lists the owners of root keys.
 ghost use Rattle.std.specs.Prelude.{◌≡◌, ◌≤◌, IfOk, IfSome, false, length, codes};
 ghost use Rattle.clap.specs.Matches.{found_of};
 ghost use Rattle.clap.specs.Walk.{one_of, rule_of, rows_of};
@@ -51,7 +51,7 @@ fn width<'a>(alloc: Global) -> Arg<'a>
     ))
 }
 
-/// The subcommand that tells who owns root keys.
+/// The subcommand that lists the owners of root keys.
 pub fn owner<'a>(alloc: Global) -> Result<Command<'a>, AllocError>
     ensures shape { IfOk result (λ command. shape_of command ≡ owner_shape) }
     ensures local { IfOk result (λ command. (out-Command command).has_globals ≡ false) }
@@ -62,7 +62,7 @@ pub fn owner<'a>(alloc: Global) -> Result<Command<'a>, AllocError>
     with(with(with_new, width(alloc))?, keys(alloc))
 }
 
-/// The root keys that are told, with the plans, as options name them.
+/// The root keys, with the plans, as options name them.
 pub fn owner_line<'a>(alloc: Global, options: &ArgMatches<'a>) -> Result<Line<'a>, Clash>
     ensures line { Asks IsOwnerLine OwnerClash (rows_of (found_of options.now)) result }
     ensures within { IfOk result LineIsWithin }

@@ -24,7 +24,7 @@ pub const MAX_FOLD_AFTER: u64 = 1_000_000_000;
 /// After how many answers that is, where no option says it.
 pub const FOLD_AFTER: u64 = 262_144;
 
-// As the words say that stand in place of these options.
+// As the texts of these defaults say.
 const _: () = prove!(FOLD_AFTER == 262_144 && PUMPS == 1);
 
 // The subcommand with its options for numbers.

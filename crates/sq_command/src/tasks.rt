@@ -55,7 +55,7 @@ pub fn run_line<'a>(options: &ArgMatches<'a>) -> Result<Line<'a>, Clash>
     })
 }
 
-/// The subcommand that tells what moves.
+/// The subcommand that lists what moves.
 pub fn ranges<'a>(alloc: Global) -> Result<Command<'a>, AllocError>
     ensures shape { IfOk result (λ command. shape_of command ≡ ranges_shape) }
     ensures local { IfOk result (λ command. (out-Command command).has_globals ≡ false) }
@@ -94,7 +94,7 @@ fn form_of(options: &ArgMatches<'_>) -> Result<Form, Clash>
     }
 }
 
-// As the words say that stand in place of these options.
+// As the texts of these defaults say.
 const _: () = prove!(TURNS == 1_000_000 && PUMPS == 1);
 
 // The subcommand that runs jobs in threads, with its options for numbers.

@@ -1,2 +1,3 @@
 mod Follows
 mod Portioned
+mod Names

@@ -2,7 +2,7 @@
 use Rattle.std.specs.Prelude.{ℕ, List, [], ◌∷◌, codes, decimal}
 use Rattle.sq_text.specs.Texts.{line}
 use Rattle.sq_serve.specs.declared.serve_answer.ServeAnswer.{ServeAnswer}
-use Rattle.sq_serve.specs.declared.serve_answer.ServeAnswer.TheVariants.{Fault, Moving, Moved, Folded, AtRest, Progress}
+use Rattle.sq_serve.specs.declared.serve_answer.ServeAnswer.TheVariants.{Fault, Moving, Moved, Folded, Rows, AtRest, Progress}
 
 -- the line of an answer
 abbrev pub serve_answer_line : ServeAnswer → List ℕ
@@ -10,6 +10,7 @@ serve_answer_line (Fault fault number) = line (codes "fault" ∷ decimal fault �
 serve_answer_line (Moving segments) = line (codes "moving" ∷ decimal segments ∷ [])
 serve_answer_line (Moved segments) = line (codes "moved" ∷ decimal segments ∷ [])
 serve_answer_line (Folded families committed) = line (codes "folded" ∷ decimal families ∷ decimal committed ∷ [])
+serve_answer_line (Rows count) = line (codes "rows" ∷ decimal count ∷ [])
 serve_answer_line AtRest = line (codes "at" ∷ codes "rest" ∷ [])
 serve_answer_line (Progress complete segments unanswered) =
     line (codes "moving" ∷ decimal complete ∷ codes "of" ∷ decimal segments ∷ codes "segments," ∷ decimal unanswered

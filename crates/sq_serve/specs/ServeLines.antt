@@ -1,6 +1,7 @@
 -- What a line behind the header asks of an engine.
 use Rattle.std.specs.Prelude.{◌≡◌, ◌⊎◌, ℕ, true, nat_eq, nat_lt, if◌then◌else◌, List, [], ◌∷◌, find, drop, length, Option, Some, None, Result, Ok, Err, bytes_eq, codes}
 use Rattle.std.specs.List.{starts_with}
+use Rattle.std.specs.Str.{is_utf8}
 use Rattle.sq_plan.specs.declared.fault.PlanFault.{PlanFault}
 use Rattle.sq_plan.specs.PlanValue.{PlanValue}
 use Rattle.sq_plan.specs.Reading.{plan_in}
@@ -23,6 +24,7 @@ first_word (asks.Move plan) = codes "move"
 first_word asks.Fold = codes "fold"
 first_word asks.Status = codes "status"
 first_word asks.Rows = codes "rows"
+first_word (asks.RowsTo name) = codes "rows"
 first_word asks.Plan = codes "plan"
 
 -- what a line asks that is one word
@@ -33,6 +35,10 @@ word_alone line = find (λ asks. bytes_eq line (first_word asks)) (asks.Fold ∷
 abbrev pub move_to : Result PlanValue PlanFault → Result ServeLine ServeFault
 move_to (Ok plan) = Ok (asks.Move plan)
 move_to (Err fault) = Err (Plan fault)
+
+-- the rows go into the file that a text names, which is UTF-8
+abbrev pub rows_to : List ℕ → Result ServeLine ServeFault
+rows_to name = if is_utf8 name then Ok (asks.RowsTo name) else Err NotAServeLine
 
 -- the job of a line, by the step that it spells
 abbrev pub job_of_step : Result Step LineFault → Result ServeLine ServeFault
@@ -53,13 +59,16 @@ abbrev pub serve_line_of : ℕ → List ℕ → Result ServeLine ServeFault
 serve_line_of tables line =
     if nat_lt MAX_LINE (length line) then Err TooLong
     else (if starts_with nat_eq line (codes "move ") then move_to (plan_in (drop (length (codes "move ")) line))
-    else word_or_job (word_alone line) (step_of tables line))
+    else (if starts_with nat_eq line (codes "rows ") then rows_to (drop (length (codes "rows ")) line)
+    else word_or_job (word_alone line) (step_of tables line)))
 
 -- what is wanted was read, unless memory ran out
 abbrev pub IsServeLine : Result ServeLine ServeFault → Result ServeLine ServeFault → Type 0
 IsServeLine (Err Memory) wanted = Unit {0}
 IsServeLine read wanted = read ≡ wanted
 
--- the line is read into memory: it begins with the word txn or move
+-- the line is read into memory: it begins with the word txn, move or rows
 abbrev pub TakesMemory : List ℕ → Type 0
-TakesMemory line = (begins_txn (words_of line) ≡ true) ⊎ (starts_with nat_eq line (codes "move ") ≡ true)
+TakesMemory line =
+    (begins_txn (words_of line) ≡ true)
+    ⊎ ((starts_with nat_eq line (codes "move ") ≡ true) ⊎ (starts_with nat_eq line (codes "rows ") ≡ true))

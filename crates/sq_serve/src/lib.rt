@@ -3,12 +3,16 @@
 
 mod following;
 mod portions;
+mod rows_file;
 mod serve_answer;
 mod serve_fault;
 mod serve_line;
+mod watch;
 
 pub use following::Following;
 pub use portions::Portions;
+pub use rows_file::RowsFile;
 pub use serve_answer::{ServeAnswer, write_plan, write_serve_answer};
 pub use serve_fault::ServeFault;
 pub use serve_line::{ServeLine, read_serve_line};
+pub use watch::{ServeMark, ServeWatch};

@@ -29,6 +29,10 @@ pub enum ServeAnswer {
         families: u64,
         committed: u64,
     },
+    /// So many rows were told, or written into a file.
+    Rows {
+        count: u64,
+    },
     /// Nothing moves.
     AtRest,
     /// So many of the segments that move are complete, and so many jobs have no answer.
@@ -52,6 +56,7 @@ pub fn write_serve_answer<W: Write>(writer: &mut W, answer: ServeAnswer) -> Resu
             families,
             committed,
         } => writeln!(writer, "folded {families} {committed}")?,
+        ServeAnswer::Rows { count } => writeln!(writer, "rows {count}")?,
         ServeAnswer::AtRest => writeln!(writer, "at rest")?,
         ServeAnswer::Progress {
             complete,

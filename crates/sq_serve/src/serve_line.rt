@@ -1,16 +1,18 @@
 // What the lines behind a header ask of an engine.
-ghost use Rattle.std.specs.Prelude.{◌≡◌, true, Err};
+ghost use Rattle.std.specs.Prelude.{◌≡◌, true, Ok, Err};
 ghost use Rattle.sq_plan.specs.Reading.{plan_in};
 ghost use Rattle.sq_text.specs.Steps.{step_of, begins_txn};
 ghost use Rattle.sq_text.specs.Words.{words_of};
-ghost use Rattle.sq_serve.specs.ServeLines.{word_alone, move_to, job_of_step, serve_line_of, IsServeLine, TakesMemory};
+ghost use Rattle.sq_serve.specs.ServeLines.{word_alone, move_to, rows_to, job_of_step, serve_line_of, IsServeLine, TakesMemory};
+ghost use Rattle.sq_serve.specs.declared.serve_line.ServeLine.TheVariants as kind;
 
+use crate::rows_file::RowsFile;
 use crate::serve_fault::ServeFault;
 use sq_model::Step;
 use sq_plan::{Plan, PlanFault};
 use sq_schema::{Schema, Txn};
 use sq_text::{LineFault, MAX_LINE, read_step};
-use std::alloc::Global;
+use std::alloc::{AllocError, Global};
 
 /// What a line behind the header asks of an engine.
 #[derive(Debug, Drop)]
@@ -25,6 +27,8 @@ pub enum ServeLine {
     Status,
     /// Which rows there are.
     Rows,
+    /// That they are written into this file.
+    RowsTo(RowsFile),
     /// Which plan is in force.
     Plan,
 }
@@ -32,12 +36,16 @@ pub enum ServeLine {
 // The first word of a line that goes to another plan, with its space.
 const MOVE: &[u8] = b"move ";
 
-/// What a line behind the header asks of an engine: `txn P ID ROOT OP..`, as [`read_step`] has it, `move JSON`, or one of the
-/// words `fold`, `status`, `rows` and `plan` alone.
+// The same of a line that has rows written into a file.
+const ROWS: &[u8] = b"rows ";
+
+/// What a line behind the header asks of an engine: `txn P ID ROOT OP..`, as [`read_step`] has it, `move JSON`, `rows FILE`, or
+/// one of the words `fold`, `status`, `rows` and `plan` alone.
 ///
 /// Refused with [`ServeFault::TooLong`] where the line has over [`MAX_LINE`] bytes, with [`ServeFault::NotAServeLine`] where it
-/// is none of these, with [`ServeFault::Txn`] where the schema doesn't have its transaction, and with [`ServeFault::Plan`] where
-/// its text is no plan. [`ServeFault::Memory`] may come in place of any answer to a line that begins with `txn` or `move`.
+/// is none of these or the name of the file isn't UTF-8, with [`ServeFault::Txn`] where the schema doesn't have its transaction,
+/// and with [`ServeFault::Plan`] where its text is no plan. [`ServeFault::Memory`] may come in place of any answer to a line that
+/// begins with `txn`, `move` or `rows`.
 pub fn read_serve_line(alloc: Global, schema: &Schema, line: &[u8]) -> Result<ServeLine, ServeFault>
     ensures asks { IsServeLine result (serve_line_of schema.now line.now) }
     ensures memory { result ≡ Err ServeFault.Memory → TakesMemory line.now }
@@ -47,6 +55,9 @@ pub fn read_serve_line(alloc: Global, schema: &Schema, line: &[u8]) -> Result<Se
     }
     if line.starts_with(MOVE) {
         return move_to(alloc, &line[MOVE.len()..]);
+    }
+    if line.starts_with(ROWS) {
+        return rows_to(alloc, &line[ROWS.len()..]);
     }
     match word_alone(line) {
         Some(asks) => Ok(asks),
@@ -80,6 +91,26 @@ fn move_to(alloc: Global, text: &[u8]) -> Result<ServeLine, ServeFault>
         Ok(plan) => Ok(ServeLine::Move(plan)),
         Err(PlanFault::Memory) => Err(ServeFault::Memory),
         Err(fault) => Err(ServeFault::Plan(fault)),
+    }
+}
+
+// The file for the rows that a text names.
+fn rows_to(alloc: Global, name: &[u8]) -> Result<ServeLine, ServeFault>
+    ensures { IsServeLine result (rows_to name.now) }
+{
+    match str::from_utf8(name) {
+        Ok(name) => rows_to_file(alloc, name),
+        Err(_) => Err(ServeFault::NotAServeLine),
+    }
+}
+
+// The file of this name for the rows.
+fn rows_to_file(alloc: Global, name: &str) -> Result<ServeLine, ServeFault>
+    ensures { IsServeLine result (Ok (kind.RowsTo name.now)) }
+{
+    match RowsFile::new(alloc, name) {
+        Ok(file) => Ok(ServeLine::RowsTo(file)),
+        Err(AllocError) => Err(ServeFault::Memory),
     }
 }
 

@@ -1,17 +1,15 @@
--- What becomes of a desk, step by step.
+-- How a desk changes, step by step.
 use Rattle.std.proofs.Common.{◌≡◌, ⊎_elim, ℕ, ◌<◌, ◌≤◌, ◌==◌, ◌||◌, Bool, true, false, if◌then◌else◌, List, [], ◌∷◌, ◌++◌, length, map, refl, sym, ap, subst, ◌∙◌, append_assoc, append-nil, arith}
-use Rattle.std.specs.Prelude.{filter, Option, Some, None, Ok}
+use Rattle.std.specs.Prelude.{Option, Ok}
 use Rattle.std.specs.List.{flat_map}
 use Rattle.std.specs.Io.KnownBytes.{Appends}
 use Rattle.std.proofs.lemmas.List.{map-append}
 use Rattle.std.proofs.lemmas.Grind.{flat_map-append}
 use Rattle.std.proofs.lemmas.List.Elements.{filter-append}
 use Rattle.std.proofs.lemmas.Bool.{or_parts, cases_eq, eq-eqb, ne_eqb}
-use Rattle.sq_node_model.specs.NodeValue.{ReceiptValue}
 use Rattle.sq_audit.specs.declared.job.Job.{Job}
 use Rattle.sq_schema.specs.TxnValue.{TxnValue}
 use Rattle.sq_text.proofs.Appending.{both, appends_none}
-use Rattle.sq_told.specs.Lines.{receipt_line}
 use Rattle.sq_serve.specs.declared.serve_line.ServeLine.{ServeLine}
 use Rattle.sq_serve.specs.declared.serve_line.ServeLine.TheVariants as asks
 use Rattle.sq_server.specs.declared.feed.Fed.{Fed}
@@ -20,7 +18,7 @@ use Rattle.sq_server.specs.declared.desk.AskedTxn.{AskedTxn}
 use Rattle.sq_server.specs.declared.outlet.Outlet.{Outlet}
 use Rattle.sq_server.specs.Saying.{Says, OtherLine, other_line}
 use Rattle.sq_server.specs.Sides.{waiting_at, ChangesAt, TakesFirst}
-use Rattle.sq_server.specs.Becoming.{ServeDeskValue, job_asked, asked_by, jobs_waiting, jobs_for, Handles, Hears, Speaks, WritesReceipt}
+use Rattle.sq_server.specs.Becoming.{ServeDeskValue, job_asked, asked_by, jobs_waiting, jobs_for, Handles, Hears, Speaks, WritesBytes}
 
 pub false-not-true : {P : Type 0} → true ≡ false → P
 false-not-true e = cc
@@ -141,7 +139,7 @@ stops more back offered a b stopped count =
       jobs = λ still. false-not-true (sym stopped ∙ still);
     }
 
--- the desk after that of which something holds
+-- the desk after one that has this property
 pub heard_before : (fed : Fed) (a popped b : ServeDeskValue) (offered : List Job) → popped.written ≡ a.written → popped.has_stopped ≡ a.has_stopped
     → popped.waiting ≡ a.waiting → popped.heard ≡ a.heard ++ fed ∷ [] → b.heard ≡ popped.heard → Handles (fed ∷ []) [] popped offered b
     → Hears [] a offered b
@@ -202,11 +200,11 @@ module _ {W : Type 0} (contents : W → Option (List ℕ)) where
         waiting = refl;
       }
 
-  -- one that wrote the line of a receipt
-  pub writes_receipt : (receipt : ReceiptValue) (lacks_memory : Bool) (heard : List Fed) (waiting : List (List AskedTxn)) (old new : Outlet W)
-      → Says contents old (receipt_line receipt) new
-      → WritesReceipt receipt (over lacks_memory heard waiting old) (over lacks_memory heard waiting new)
-  writes_receipt receipt lacks_memory heard waiting old new says =
+  -- one that wrote these bytes
+  pub writes_bytes : (bytes : List ℕ) (lacks_memory : Bool) (heard : List Fed) (waiting : List (List AskedTxn)) (old new : Outlet W)
+      → Says contents old bytes new
+      → WritesBytes bytes (over lacks_memory heard waiting old) (over lacks_memory heard waiting new)
+  writes_bytes bytes lacks_memory heard waiting old new says =
       record {
         goes_on = λ still.
             let parts = or_parts lacks_memory new.has_failed still in
@@ -329,6 +327,7 @@ no_job (asks.Move plan) differs part = refl
 no_job asks.Fold differs part = refl
 no_job asks.Status differs part = refl
 no_job asks.Rows differs part = refl
+no_job (asks.RowsTo name) differs part = refl
 no_job asks.Plan differs part = refl
 
 -- a job comes back whose partition there isn't

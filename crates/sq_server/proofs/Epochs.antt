@@ -1,6 +1,5 @@
 -- What a desk writes over an epoch.
-use Rattle.std.proofs.Common.{◌≡◌, ℕ, ◌<◌, ◌==◌, false, List, [], ◌∷◌, ◌++◌, length, map, refl, sym, ap, subst, ◌∙◌, append_assoc, append-nil}
-use Rattle.std.specs.Prelude.{filter}
+use Rattle.std.proofs.Common.{◌≡◌, ℕ, ◌<◌, ◌==◌, List, [], ◌∷◌, ◌++◌, length, map, refl, sym, ap, subst, ◌∙◌, append_assoc, append-nil}
 use Rattle.std.specs.List.{flat_map}
 use Rattle.std.specs.Io.KnownBytes.{Appends}
 use Rattle.std.proofs.lemmas.Grind.{flat_map-append}
@@ -15,8 +14,8 @@ use Rattle.sq_told.specs.Lines.{receipt_line}
 use Rattle.sq_server.specs.declared.feed.Fed.{Fed}
 use Rattle.sq_server.specs.declared.desk.AskedTxn.{AskedTxn}
 use Rattle.sq_server.specs.Saying.{OtherLine, other_line}
-use Rattle.sq_server.specs.Becoming.{ServeDeskValue, asked_by, jobs_waiting, jobs_for, Handles, Hears, WritesReceipt, comes_back, Becomes}
-use Rattle.sq_server.specs.Written.{SaidLine, OfReceipt, Other, said_line, receipt_at, told_from, settled_job, settled_in, WritesEach}
+use Rattle.sq_server.specs.Becoming.{ServeDeskValue, asked_by, jobs_waiting, jobs_for, Hears, WritesReceipt, comes_back, Becomes}
+use Rattle.sq_server.specs.Written.{OfReceipt, Other, said_line, receipt_at, told_from, settled_job, settled_in, WritesEach}
 use Rattle.sq_server.proofs.Desks.{through, hears_then}
 
 -- other lines, among all
@@ -91,7 +90,6 @@ hears_once exchange offered a b settles none hears =
           ∙ ap (λ (l : List Job). jobs_for part l ++ jobs_waiting b.waiting part) (sym settles);
     }
 
--- an answer
 answers_once : (part : ℕ) (receipt : ReceiptValue) (a b : ServeDeskValue) → WritesReceipt receipt a b → WritesEach (Answers part receipt ∷ []) a b
 answers_once part receipt a b writes =
     record {

@@ -1,3 +1,5 @@
 pub mod Changes
 pub mod Desks
 pub mod Epochs
+mod Sayings
+mod Interleaved

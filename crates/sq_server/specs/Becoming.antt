@@ -44,6 +44,7 @@ job_asked part (asks.Move plan) = []
 job_asked part asks.Fold = []
 job_asked part asks.Status = []
 job_asked part asks.Rows = []
+job_asked part (asks.RowsTo name) = []
 job_asked part asks.Plan = []
 
 abbrev pub asked_by : ℕ → Fed → List Job
@@ -85,12 +86,16 @@ pub record Speaks (old new : ServeDeskValue) : Type 0 where
   pub heard : new.heard ≡ old.heard
   pub waiting : new.waiting ≡ old.waiting
 
--- the line of a receipt was written, and nothing else changed
-pub record WritesReceipt (receipt : ReceiptValue) (old new : ServeDeskValue) : Type 0 where
+-- these bytes were written, and nothing else changed
+pub record WritesBytes (bytes : List ℕ) (old new : ServeDeskValue) : Type 0 where
   pub goes_on : new.has_stopped ≡ false → old.has_stopped ≡ false
-  pub written : new.has_stopped ≡ false → Appends old.written new.written (receipt_line receipt)
+  pub written : new.has_stopped ≡ false → Appends old.written new.written bytes
   pub heard : new.heard ≡ old.heard
   pub waiting : new.waiting ≡ old.waiting
+
+-- the line of a receipt was
+abbrev pub WritesReceipt : ReceiptValue → ServeDeskValue → ServeDeskValue → Type 0
+WritesReceipt receipt old new = WritesBytes (receipt_line receipt) old new
 
 abbrev pub job_list : Option Job → List Job
 job_list (Some job) = job ∷ []

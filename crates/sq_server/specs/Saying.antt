@@ -1,8 +1,12 @@
 -- What is written, unless a write failed.
-use Rattle.std.specs.Prelude.{◌≡◌, Bool, false, ℕ, List, Option}
+use Rattle.std.specs.Prelude.{◌≡◌, ◌==◌, false, ℕ, List, ◌++◌, Option, count_by}
+use Rattle.std.specs.List.{flat_map}
 use Rattle.std.specs.Io.KnownBytes.{Appends}
+use Rattle.sq_schema.specs.Family.{FamilyValue}
 use Rattle.sq_text.specs.Texts.{refused_line}
+use Rattle.sq_results.specs.RowLines.{root_lines}
 use Rattle.sq_serve.specs.declared.serve_answer.ServeAnswer.{ServeAnswer}
+use Rattle.sq_serve.specs.declared.serve_answer.ServeAnswer.TheVariants.{Rows}
 use Rattle.sq_serve.specs.ServeAnswers.{serve_answer_line, plan_line}
 use Rattle.sq_server.specs.declared.outlet.Outlet.{Outlet}
 
@@ -11,14 +15,24 @@ pub record Says {W : Type 0} (contents : W → Option (List ℕ)) (old : Outlet 
   pub goes_on : new.has_failed ≡ false → old.has_failed ≡ false
   pub written : new.has_failed ≡ false → Appends (contents old.writer) (contents new.writer) bytes
 
--- what a line is that isn't what a job was answered
+-- how many lines a text has
+abbrev pub lines_in : List ℕ → ℕ
+lines_in text = count_by (λ byte. byte == 10) text
+
+-- the lines of rows, and how many these are
+abbrev pub rows_told : List ℕ → List ℕ
+rows_told lines = lines ++ serve_answer_line (Rows (lines_in lines))
+
+-- what a line is that isn't what a job was answered, or what lines are that go together: those of the rows of families
 pub data OtherLine : Type 0 where
   Answered : (answer : ServeAnswer) → OtherLine
   Refused : (number : ℕ) → OtherLine
   PlanTold : (text : List ℕ) → OtherLine
+  RowLines : (families : List FamilyValue) → OtherLine
 
 -- its bytes
 abbrev pub other_line : OtherLine → List ℕ
 other_line (Answered answer) = serve_answer_line answer
 other_line (Refused number) = refused_line number
 other_line (PlanTold text) = plan_line text
+other_line (RowLines families) = flat_map root_lines families

@@ -1,10 +1,9 @@
 -- What is written over an epoch.
-use Rattle.std.specs.Prelude.{◌≡◌, ℕ, ◌<◌, ◌==◌, Bool, false, if◌then◌else◌, List, [], ◌∷◌, ◌++◌, length}
-use Rattle.std.specs.List.{flat_map}
+use Rattle.std.specs.Prelude.{◌≡◌, ℕ, ◌<◌, ◌==◌, Bool, false, if◌then◌else◌, List, [], ◌∷◌, ◌++◌, length, map}
+use Rattle.std.specs.List.{flat_map, range_with_len}
 use Rattle.std.specs.Io.KnownBytes.{Appends}
 use Rattle.sq_node_model.specs.NodeValue.{ReceiptValue}
 use Rattle.sq_audit.specs.declared.job.Job.{Job}
-use Rattle.sq_epoch.specs.declared.posted.PostFault.{PostFault}
 use Rattle.sq_epoch.specs.declared.posted.PostFault.TheVariants as fault
 use Rattle.sq_engine.specs.declared.standing.Standing.{Standing}
 use Rattle.sq_engine.specs.declared.standing.Standing.TheVariants.{Running}
@@ -35,6 +34,18 @@ receipt_at part (Other line) = []
 abbrev pub told_from : ℕ → List SaidLine → List ReceiptValue
 told_from part said = flat_map (receipt_at part) said
 
+abbrev pub receipt_said : SaidLine → List ReceiptValue
+receipt_said (OfReceipt part receipt) = receipt ∷ []
+receipt_said (Other line) = []
+
+-- the receipts of all partitions whose lines were written, in their order
+abbrev pub receipts_said : List SaidLine → List ReceiptValue
+receipts_said said = flat_map receipt_said said
+
+-- the answers that were given of each of so many partitions
+abbrev pub given_by_parts : ℕ → List Exchange → List (List ReceiptValue)
+given_by_parts parts exchanges = map (λ part. given_from part exchanges) (range_with_len 0 parts)
+
 abbrev pub settled_job : Exchange → List Job
 settled_job (Answers part receipt) = []
 settled_job (Posts job) = job ∷ []
@@ -64,8 +75,8 @@ pub record WritesEach (exchanges : List Exchange) (old new : ServeDeskValue) : T
       → jobs_waiting old.waiting part ++ flat_map (asked_by part) more
       ≡ jobs_for part (settled_in exchanges) ++ jobs_waiting new.waiting part
 
--- an engine went on to an epoch, and on from it: in the epoch a desk was given the answers that the nodes wrote, and wrote each
--- of them
+-- an engine reached an epoch, and continued from it: in the epoch a desk was given the answers that the nodes wrote,
+-- and wrote each of them
 pub record EpochIsWritten (old : Standing) (before : ServeDeskValue) (new : Standing) (after : ServeDeskValue) (is_whole : Bool) : Type 0 where
   pub epoch : EpochValue
   pub comes : KeepsHistoryAndJobs old (Running epoch)

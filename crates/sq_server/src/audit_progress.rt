@@ -1,7 +1,7 @@
 // How far the audit of a page is.
 use std::sync::atomic::{AtomicBool, Ordering};
 
-/// How far the audit of a page is that goes on beside an epoch.
+/// How far the audit of a page is that runs beside an epoch.
 #[derive(Drop)]
 pub struct AuditProgress {
     has_begun: AtomicBool,
@@ -9,7 +9,7 @@ pub struct AuditProgress {
 }
 
 impl AuditProgress {
-    /// Of no audit.
+    /// No audit.
     pub fn none() -> AuditProgress {
         AuditProgress {
             has_begun: AtomicBool::new(false),
@@ -33,7 +33,7 @@ impl AuditProgress {
         self.has_ended.store(false, Ordering::SeqCst);
     }
 
-    /// Whether an audit goes on.
+    /// Whether an audit runs.
     pub fn goes_on(&self) -> bool {
         self.has_begun.load(Ordering::SeqCst) && !self.has_ended()
     }

@@ -1,22 +1,25 @@
 // The client of an engine's epochs.
 use crate::audit_progress::AuditProgress;
 use crate::desk::ServeDesk;
+use crate::marks::EpochMarks;
 use sq_audit::Job;
 use sq_engine::{Client, Command, PostFault, StageProgress};
 use sq_node::Receipt;
 use sq_plan::PartId;
+use sq_serve::ServeWatch;
 use std::io::Write;
 
-/// The client of an engine's epochs: a desk, and how far the audit is that goes on beside the epoch.
+/// The client of an engine's epoch: a desk, how far the audit is that goes on beside the epoch, and who marks what is done in it.
 #[derive(Drop)]
-pub struct Control<'a, W: Write + Drop> {
+pub struct Control<'a, W: Write + Drop, V: ServeWatch> {
     pub desk: ServeDesk<W>,
     pub audit: &'a AuditProgress,
+    pub marks: EpochMarks<'a, V>,
 }
 
-impl<W: Write + Drop> Control<'_, W> {
-    // Whether the epoch is to end: at once where the desk has stopped and where an audit has ended, and for a wish unless an
-    // audit goes on.
+impl<W: Write + Drop, V: ServeWatch> Control<'_, W, V> {
+    // Whether the epoch is to end: at once where the desk has stopped and where an audit has ended, and for a wish
+    // unless an audit runs.
     fn ends(&self) -> bool {
         self.desk.has_stopped()
             || self.audit.has_ended()
@@ -24,22 +27,28 @@ impl<W: Write + Drop> Control<'_, W> {
     }
 }
 
-impl<W: Write + Drop> Client for Control<'_, W> {
+impl<W: Write + Drop, V: ServeWatch> Client for Control<'_, W, V> {
     ghost use Rattle.sq_server.specs.Becoming.{desk_value, Becomes as DeskBecomes};
 
     ghost Becomes = { λ old call new.
         DeskBecomes (desk_value W.contents old.desk) call (desk_value W.contents new.desk) };
 
     fn next(&mut self, progress: StageProgress) -> Command {
+        self.marks.begin(self.desk.moving);
+        self.marks.note_progress(progress);
         self.desk.note_stage(progress);
         self.desk.begin_call(self.audit.goes_on());
         if self.ends() {
+            self.marks.end();
             return Command::End;
         }
-        self.desk.next_command()
+        let command = self.desk.next_command();
+        self.marks.offer(&command);
+        command
     }
 
-    fn take(&mut self, _part: PartId, receipt: Receipt) {
+    fn take(&mut self, part: PartId, receipt: Receipt) {
+        self.marks.answer(part, &receipt);
         self.desk.take(receipt);
     }
 

@@ -4,11 +4,12 @@ ghost use Rattle.rtrb.specs.Ring.{received};
 ghost use Rattle.sq_serve.specs.declared.serve_line.ServeLine.TheVariants as asks;
 ghost use Rattle.sq_server.specs.declared.feed.Fed.TheVariants as fed;
 ghost use Rattle.sq_server.specs.Ending.{EndsStopped};
-ghost use Rattle.sq_server.specs.Becoming.{desk_value, Handles, Hears, Speaks, WritesReceipt, job_list, offered_by, comes_back};
+ghost use Rattle.sq_server.specs.Becoming.{desk_value, Handles, Hears, Speaks, WritesBytes, WritesReceipt, job_list, offered_by, comes_back};
+ghost use Rattle.sq_server.specs.Saying.{rows_told};
 
 use crate::ending::ServeEnding;
 use crate::feed::{Fed, InputEnd};
-use crate::outlet::Outlet;
+use crate::outlet::{Outlet, lines_in};
 use crate::sides::SideQueues;
 use rtrb::Consumer;
 use sq_audit::Job;
@@ -16,10 +17,10 @@ use sq_engine::{Command, PostFault, StageProgress};
 use sq_node::Receipt;
 use sq_plan::{PartId, Plan};
 use sq_schema::Txn;
-use sq_serve::{ServeAnswer, ServeFault, ServeLine};
+use sq_serve::{RowsFile, ServeAnswer, ServeFault, ServeLine};
 use std::io::Write;
 
-// How many lines are taken in a call at most, so that answers go on.
+// How many lines are taken in a call at most, so that answers keep coming.
 const LINES_A_CALL: usize = 256;
 
 // After how many calls a full queue is tried again, while lines come.
@@ -39,12 +40,22 @@ const REPEATED_ID: u16 = 127;
 pub enum Wish {
     /// Rows are to move to the places of this plan.
     Move(Plan),
-    /// A page is to be taken, and its audit is to be told.
+    /// A page is to be taken, and its audit is to be answered.
     Fold,
     /// A page is to be taken.
     Page,
+    /// The rows are to be told.
+    Rows(AskedRows),
     /// All is done.
     Close,
+}
+
+/// Where the rows go that a line asks for.
+#[derive(Debug, Drop)]
+pub struct AskedRows {
+    pub line: u64,
+    /// The file into which they are to be written; `None` where they are told behind what was told before.
+    pub file: Option<RowsFile>,
 }
 
 /// A transaction, and the line that asks for it.
@@ -76,7 +87,7 @@ impl JobCounts {
 pub struct MoveProgress {
     /// How many segments move.
     pub segments: u64,
-    /// How far the running stage is, as it was told last.
+    /// How far the running stage is, by the last report.
     pub stage: StageProgress,
 }
 
@@ -177,7 +188,7 @@ impl<W: Write + Drop> ServeDesk<W> {
         wish
     }
 
-    /// Begins a call. Where no audit goes on, a page may be due.
+    /// Begins a call. Where no audit runs, a page may be due.
     pub fn begin_call(&mut self, audit_goes_on: bool)
         ensures { desk_value W.contents self.new ≡ desk_value W.contents self.old }
     {
@@ -386,9 +397,9 @@ impl<W: Write + Drop> ServeDesk<W> {
             ServeLine::Fold => self.want_at_rest(Wish::Fold),
             ServeLine::Status => self.say_status(),
             ServeLine::Plan => self.say_plan(),
-            ServeLine::Rows | ServeLine::Job { .. } => {
-                self.say_fault(number, ServeFault::NotAServeLine.number());
-            }
+            ServeLine::Rows => self.want_rows(number, None),
+            ServeLine::RowsTo(file) => self.want_rows(number, Some(file)),
+            ServeLine::Job { .. } => self.say_fault(number, ServeFault::NotAServeLine.number()),
         }
     }
 
@@ -415,7 +426,7 @@ impl<W: Write + Drop> ServeDesk<W> {
         }
     }
 
-    // There is no memory to go on.
+    // There is no memory to continue.
     fn stop_for_memory(&mut self)
         ensures { Speaks (desk_value W.contents self.old) (desk_value W.contents self.new) }
     {
@@ -433,6 +444,13 @@ impl<W: Write + Drop> ServeDesk<W> {
         } else {
             self.next_wish = Some(wish);
         }
+    }
+
+    // The rows are to be told, or written into a file; that is refused where rows move or are to move.
+    fn want_rows(&mut self, line: u64, file: Option<RowsFile>)
+        ensures { Speaks (desk_value W.contents self.old) (desk_value W.contents self.new) }
+    {
+        self.want_at_rest(Wish::Rows(AskedRows { line, file }));
     }
 
     // Refuses a plan with this fault; where rows move it isn't looked at.
@@ -467,6 +485,23 @@ impl<W: Write + Drop> ServeDesk<W> {
         ensures { Speaks (desk_value W.contents self.old) (desk_value W.contents self.new) }
     {
         self.outlet.say_refused(number);
+    }
+
+    /// Writes the lines of rows, and behind them how many these are.
+    pub fn say_rows(&mut self, lines: &[u8])
+        ensures { WritesBytes (rows_told lines.now) (desk_value W.contents self.old)
+            (desk_value W.contents self.new) }
+    {
+        self.outlet.say_rows(lines);
+    }
+
+    /// Writes how many rows have these lines.
+    pub fn say_row_count(&mut self, lines: &[u8])
+        ensures { Speaks (desk_value W.contents self.old) (desk_value W.contents self.new) }
+    {
+        self.say(ServeAnswer::Rows {
+            count: lines_in(lines),
+        });
     }
 
     // Writes the plan in force.
@@ -540,7 +575,8 @@ impl<W: Write + Drop> ServeDesk<W> {
         self.outlet.say_receipt(receipt);
     }
 
-    /// Takes a job back that isn't posted: it waits before those of its partition where the queue is full, and is told else.
+    /// Takes a job back that isn't posted: it waits before those of its partition where the queue is full, and else is
+    /// answered by its fault.
     pub fn take_back(&mut self, job: Job, fault: PostFault)
         ensures { Hears (comes_back job fault) (desk_value W.contents self.old) []
             (desk_value W.contents self.new) }

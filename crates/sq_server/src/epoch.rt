@@ -6,17 +6,18 @@ ghost use Rattle.sq_server.specs.Written.{EpochIsWritten};
 
 use crate::control::Control;
 use sq_engine::{Engine, EngineServed};
+use sq_serve::ServeWatch;
 use std::alloc::Global;
 use std::io::Write;
 use std::sync::Wait;
 use std::thread::Threads;
 
 /// Serves an epoch of an engine, as [`Engine::serve`] does: its jobs come from a desk, and each answer is written there.
-pub fn serve_epoch<T: Threads + Wait + Sync, W: Write + Drop>(
+pub fn serve_epoch<T: Threads + Wait + Sync, W: Write + Drop, V: ServeWatch>(
     rt: &T,
     alloc: Global,
     engine: Engine,
-    control: &mut Control<'_, W>,
+    control: &mut Control<'_, W, V>,
 ) -> Result<EngineServed, Engine>
     ensures served { IfOk result (λ served.
         EpochIsWritten engine (desk_value W.contents control.old.desk)

@@ -30,7 +30,7 @@ pub enum Fed {
         number: u64,
         asks: Result<ServeLine, ServeFault>,
     },
-    /// That nothing more comes.
+    /// Nothing more comes.
     End(InputEnd),
 }
 

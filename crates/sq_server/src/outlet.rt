@@ -4,7 +4,7 @@ ghost use Rattle.sq_text.specs.Texts.{refused_line, fault_line};
 ghost use Rattle.sq_told.specs.Lines.{receipt_line};
 ghost use Rattle.sq_serve.specs.ServeAnswers.{serve_answer_line, plan_line};
 ghost use Rattle.sq_live.specs.Outcome.{outcome_line};
-ghost use Rattle.sq_server.specs.Saying.{Says};
+ghost use Rattle.sq_server.specs.Saying.{Says, lines_in, rows_told};
 
 use sq_live::{LiveOutcome, write_outcome};
 use sq_model::Answer;
@@ -83,7 +83,28 @@ impl<W: Write + Drop> Outlet<W> {
         self.note(failed);
     }
 
-    /// Writes what all came to.
+    /// Writes the lines of rows, and behind them how many these are.
+    pub fn say_rows(&mut self, lines: &[u8])
+        ensures { Says W.contents self.old (rows_told lines.now) self.new }
+    {
+        self.say_lines(lines);
+        self.say(ServeAnswer::Rows {
+            count: lines_in(lines),
+        });
+    }
+
+    // Writes the lines of rows.
+    fn say_lines(&mut self, lines: &[u8])
+        ensures { Says W.contents self.old lines.now self.new }
+    {
+        if self.has_failed {
+            return;
+        }
+        let failed = self.writer.write_all(lines).is_err();
+        self.note(failed);
+    }
+
+    /// Writes the outcome of all.
     pub fn say_outcome(&mut self, outcome: LiveOutcome)
         ensures { Says W.contents self.old (outcome_line outcome) self.new }
     {
@@ -123,4 +144,14 @@ impl<W: Write + Drop> Outlet<W> {
         self.has_failed = failed;
         self.is_unflushed = true;
     }
+}
+
+// The byte that ends a line.
+const LINE_END: u8 = 10;
+
+/// How many lines a text has.
+pub(crate) fn lines_in(text: &[u8]) -> u64
+    ensures { result ≡ lines_in text.now }
+{
+    text.iter().filter(|byte| **byte == LINE_END).count() as u64
 }

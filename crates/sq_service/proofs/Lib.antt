@@ -2,3 +2,4 @@ pub mod Served
 pub mod Planned
 pub mod Written
 pub mod Opened
+mod GivenRows

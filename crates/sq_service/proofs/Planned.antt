@@ -27,7 +27,7 @@ use Rattle.sq_server.specs.declared.ending.ServeEnding.{ServeEnding}
 use Rattle.sq_server.specs.declared.ending.ServeEnding.TheVariants as ending
 use Rattle.sq_server.specs.Becoming.{ServeDeskValue}
 use Rattle.sq_service.specs.Judging.{IsFoundAs}
-use Rattle.sq_service.specs.Events.{ServeEvent, EpochServed, PageTurned, GoneOn, Happens, HappenEach, page_turned, pages_turned}
+use Rattle.sq_service.specs.Events.{ServeEvent, EpochServed, PageTurned, RowsTold, GoneOn, Happens, HappenEach, page_turned, pages_turned}
 use Rattle.sq_service.specs.Ends.{ClosesFound, HasEndedServing}
 use Rattle.sq_service.specs.Planned.{EndsServingAsPlanned}
 use Rattle.sq_service.specs.Service.{no_pages, SoundAsPlanned}
@@ -108,6 +108,7 @@ module _ (o : OpeningValue) where
       (keeps_sound (Running is.epoch) (Running is.served_epoch) is.history (keeps_sound old (Running is.epoch) is.comes.0 at))
   happens_sound (PageTurned page) old before new after is sound at =
       takes_sound old new page is.0 (All-head (IsFoundAs Sound) page [] sound) at
+  happens_sound RowsTold old before new after is sound at = keeps_sound old new is.0.0 at
   happens_sound GoneOn old before new after is sound at = keeps_sound old new is.0.0 at
 
   happen_sound : (events : List ServeEvent) (old : Standing) (before : ServeDeskValue) (new : Standing) (after : ServeDeskValue)

@@ -1,4 +1,4 @@
--- What becomes of an engine that is served, step by step.
+-- How an engine that is served changes, step by step.
 use Rattle.std.proofs.Common.{◌≡◌, ⊎_elim, inl, inr, ℕ, ◌+◌, ◌<◌, ◌^◌, Bool, true, List, [], ◌∷◌, ◌++◌, refl, sym, ap, subst, ◌∙◌, append_assoc, append-nil, arith}
 use Rattle.std.specs.Prelude.{sum_by, Option, Some, None, Result, Ok, Err, IfOk, OnErr}
 use Rattle.std.specs.List.{flat_map}
@@ -28,7 +28,8 @@ use Rattle.sq_service.specs.declared.page_audit.PageCounts.{PageCounts}
 use Rattle.sq_service.specs.declared.page_audit.PageToAudit.{PageToAudit}
 use Rattle.sq_service.specs.declared.page_book.PageBook.{PageBook}
 use Rattle.sq_service.specs.Judging.{IsFoundAs, ClosesAs, page_commits, EndsAsFound, JudgesPage}
-use Rattle.sq_service.specs.Events.{ServeEvent, EpochServed, PageTurned, GoneOn, HappenEach, page_turned, pages_turned, page_due, HasServed}
+use Rattle.sq_service.specs.Rows.{TellsRowsOrSpeaks}
+use Rattle.sq_service.specs.Events.{ServeEvent, EpochServed, PageTurned, RowsTold, GoneOn, HappenEach, page_turned, pages_turned, page_due, HasServed}
 use Rattle.sq_service.specs.Ends.{ClosedEndsBy, ServiceEndsBy, HasEndedServing}
 use Rattle.sq_service.specs.Steps.{IsWholeEngine, EpochGives, GoesOrLacksMemory, EntersPage, StepGives, first_ending}
 
@@ -137,11 +138,21 @@ no_page_judged events was now old before new after none due committed happened =
 pub not_yet : (book : PageBook) (old : Standing) (before : ServeDeskValue) → HasServed book old before book old before
 not_yet book old before = no_page_judged [] book book old before old before refl refl refl (refl, refl)
 
--- an engine went on, and other lines were written
+-- an engine continued, and other lines were written
 pub goes_on : (book : PageBook) (old : Standing) (before : ServeDeskValue) (new : Standing) (after : ServeDeskValue)
     → KeepsHistoryAndJobs old new → Speaks before after → HasServed book old before book new after
 goes_on book old before new after keeps says =
     no_page_judged (GoneOn ∷ []) book book old before new after refl refl refl (new, after, (keeps, says), (refl, refl))
+
+-- rows were told, or other lines were written
+pub rows_gone : (book : PageBook) (old : Standing) (before : ServeDeskValue) (new : Standing) (after : ServeDeskValue)
+    → TellsRowsOrSpeaks old before new after → HasServed book old before book new after
+rows_gone book old before new after is =
+    ⊎_elim
+    (λ told.
+    no_page_judged (RowsTold ∷ []) book book old before new after refl refl refl (new, after, (is.0, told), (refl, refl)))
+    (λ says. goes_on book old before new after is.0 says)
+    is.1
 
 -- only lines were written
 pub speaks_only : (book : PageBook) (old : Standing) (before after : ServeDeskValue) → Speaks before after → HasServed book old before book old after
@@ -163,7 +174,6 @@ ends_with events was old before last after ending none due happened ends =
       ends = (was.committed, (λ fits. omega arith), ends);
     }
 
--- it ends at once
 pub ends_at_once : (was : PageBook) (old : Standing) (before : ServeDeskValue) (ending : ServeEnding) → was.due ≡ None
     → ServiceEndsBy was.committed [] old ending → HasEndedServing was old before ending before
 ends_at_once was old before ending due ends = ends_with [] was old before old before ending refl due (refl, refl) ends
@@ -180,7 +190,7 @@ stopped_ends committed rest last (NoHeader fault) stopped = absurd stopped
 stopped_ends committed rest last Memory stopped = tt
 stopped_ends committed rest last Unwritten stopped = tt
 
--- an engine goes on or lacks memory, where no page is due
+-- an engine continues or lacks memory, where no page is due
 pub goes_or_ends : (book : PageBook) (old : Standing) (before : ServeDeskValue) (result : Result Standing ServeEnding) (after : ServeDeskValue)
     → book.due ≡ None → GoesOrLacksMemory old before result after → StepGives book old before book result after
 goes_or_ends book old before (Ok new) after due gives = goes_on book old before new after gives.0 gives.1
@@ -346,13 +356,13 @@ closed_ends committed last closed (NoHeader fault) after set_up is = absurd is
 closed_ends committed last closed Memory after set_up is = tt
 closed_ends committed last closed Unwritten after set_up is = absurd is
 
--- an engine went on, and then it goes on or lacks memory
+-- an engine continued, and then it continues or lacks memory
 pub gone_then : (old mid : Standing) (before : ServeDeskValue) (result : Result Standing ServeEnding) (after : ServeDeskValue)
     → KeepsHistoryAndJobs old mid → GoesOrLacksMemory mid before result after → GoesOrLacksMemory old before result after
 gone_then old mid before (Ok new) after keeps gives = (goes_further old mid new keeps gives.0, gives.1)
 gone_then old mid before (Err ending) after keeps gives = gives
 
--- an engine that isn't moved may have gone on
+-- an engine that isn't moved may have continued
 pub not_moved_goes : (old : Standing) (plan : PlanValue) (reason : NotMoved) (new : Standing) → IsNotMoved old plan reason new → KeepsHistoryAndJobs old new
 not_moved_goes old plan why.Moving new is = stays old new is.0
 not_moved_goes old plan (why.Plans fault) new is = stays old new is.0

@@ -1,5 +1,10 @@
 -- What a desk writes over all epochs together.
-use Rattle.std.proofs.Common.{◌≡◌, List, [], ◌∷◌, ◌++◌, length, map, sym, ap, subst, ◌∙◌, append-nil}
+use Rattle.std.proofs.Common.{◌≡◌, ℕ, List, [], ◌∷◌, ◌++◌, length, map, refl, sym, ap, subst, ◌∙◌, append-nil}
+use Rattle.std.specs.List.{flat_map}
+use Rattle.sq_results.specs.RowLines.{root_lines}
+use Rattle.sq_serve.specs.declared.serve_answer.ServeAnswer.TheVariants.{Rows}
+use Rattle.sq_serve.specs.ServeAnswers.{serve_answer_line}
+use Rattle.sq_server.specs.Saying.{Answered, RowLines, lines_in, rows_told}
 use Rattle.sq_engine.specs.declared.standing.Standing.{Standing}
 use Rattle.sq_epoch.specs.Exchanges.{Exchange}
 use Rattle.sq_server.specs.declared.desk.AskedTxn.{AskedTxn}
@@ -7,7 +12,8 @@ use Rattle.sq_server.specs.Becoming.{ServeDeskValue, jobs_waiting, Speaks}
 use Rattle.sq_server.specs.Written.{Other, WritesEach}
 use Rattle.std.specs.Io.KnownBytes.{Appends}
 use Rattle.sq_server.proofs.Epochs.{none_written, writes_then, others_said, others_tell_none}
-use Rattle.sq_service.specs.Events.{ServeEvent, EpochServed, PageTurned, GoneOn, Happens, HappenEach}
+use Rattle.sq_service.specs.Rows.{TellsRows}
+use Rattle.sq_service.specs.Events.{ServeEvent, EpochServed, PageTurned, RowsTold, GoneOn, Happens, HappenEach}
 
 -- other lines alone
 speaks_write : (a b : ServeDeskValue) → Speaks a b → WritesEach [] a b
@@ -18,6 +24,27 @@ speaks_write a b says =
       written = λ still.
           subst (Appends a.written b.written) (sym (others_said says.others)) (says.written still);
       told = λ part. others_tell_none part says.others;
+      more = [];
+      heard = says.heard ∙ sym (append-nil a.heard);
+      count = ap (λ (w : List (List AskedTxn)). length w) says.waiting;
+      jobs = λ still part within.
+          append-nil (jobs_waiting a.waiting part)
+          ∙ ap (λ (w : List (List AskedTxn)). jobs_waiting w part) (sym says.waiting);
+    }
+
+-- rows
+rows_write : (engine : Standing) (a b : ServeDeskValue) → TellsRows engine a b → WritesEach [] a b
+rows_write engine a b tells =
+    let says = tells.told in
+    let count = serve_answer_line (Rows (lines_in tells.lines)) in
+    let whole : rows_told tells.lines ≡ flat_map root_lines tells.is.sorted ++ (count ++ []) =
+    ap (λ (l : List ℕ). l ++ count) tells.is.wrote
+    ∙ ap (λ (l : List ℕ). flat_map root_lines tells.is.sorted ++ l) (sym (append-nil count)) in
+    record {
+      goes_on = says.goes_on;
+      said = Other (RowLines tells.is.sorted) ∷ Other (Answered (Rows (lines_in tells.lines))) ∷ [];
+      written = λ still. subst (Appends a.written b.written) whole (says.written still);
+      told = λ part. refl;
       more = [];
       heard = says.heard ∙ sym (append-nil a.heard);
       count = ap (λ (w : List (List AskedTxn)). length w) says.waiting;
@@ -37,6 +64,7 @@ happens_write : (event : ServeEvent) (old : Standing) (before : ServeDeskValue) 
     → Happens event old before new after → SomeWrite before after
 happens_write (EpochServed is_whole) old before new after is = (is.exchanges, is.writes)
 happens_write (PageTurned page) old before new after is = same_writes before after is.1
+happens_write RowsTold old before new after is = ([], rows_write new before after is.1)
 happens_write GoneOn old before new after is = ([], speaks_write before after is.1)
 
 pub happen_write : (events : List ServeEvent) (old : Standing) (before : ServeDeskValue) (new : Standing) (after : ServeDeskValue)

@@ -31,7 +31,7 @@ pub record HasTotals (before : ℕ) (closed : Closed) (families committed : ℕ)
 abbrev pub commits_on_pages : ℕ → List RestPage → ℕ
 commits_on_pages before pages = before + sum_by page_commits pages
 
--- what a closed engine comes to
+-- the ending of a closed engine
 abbrev pub ClosedEndsBy : ℕ → Closed → ServeEnding → Type 0
 ClosedEndsBy committed_before closed (Sound families committed is_whole) =
     ClosesAs verdict.Sound closed × HasTotals committed_before closed families committed

@@ -1,4 +1,4 @@
--- What becomes of an engine that is served, and what its desk writes meanwhile.
+-- How an engine that is served changes, and what its desk writes meanwhile.
 use Rattle.std.specs.Prelude.{◌≡◌, ◌+◌, ◌^◌, ◌<◌, ℕ, Bool, List, [], ◌∷◌, ◌++◌, All, sum_by, Option, Some, None}
 use Rattle.std.specs.List.{flat_map}
 use Rattle.sq_audit.specs.declared.verdict.Verdict.TheVariants.{Sound}
@@ -11,17 +11,20 @@ use Rattle.sq_server.specs.Written.{EpochIsWritten}
 use Rattle.sq_service.specs.declared.page_audit.PageToAudit.{PageToAudit}
 use Rattle.sq_service.specs.declared.page_book.PageBook.{PageBook}
 use Rattle.sq_service.specs.Judging.{IsFoundAs, page_commits}
+use Rattle.sq_service.specs.Rows.{TellsRows}
 
--- an epoch is served, a page is taken, or the engine goes on, as where a move begins
+-- an epoch is served, a page is taken, rows are told, or the engine goes on, as where a move begins
 pub data ServeEvent : Type 0 where
   EpochServed : (is_whole : Bool) → ServeEvent
   PageTurned : (page : RestPage) → ServeEvent
+  RowsTold : ServeEvent
   GoneOn : ServeEvent
 
 -- what an event makes of an engine and of its desk
 abbrev pub Happens : ServeEvent → Standing → ServeDeskValue → Standing → ServeDeskValue → Type 0
 Happens (EpochServed is_whole) old before new after = EpochIsWritten old before new after is_whole
 Happens (PageTurned page) old before new after = TakesPage old page new × (after ≡ before)
+Happens RowsTold old before new after = KeepsHistoryAndJobs old new × TellsRows new before after
 Happens GoneOn old before new after = KeepsHistoryAndJobs old new × Speaks before after
 
 -- what these events, one after another, make of them
@@ -33,6 +36,7 @@ HappenEach (event ∷ events) old before new after =
 abbrev pub page_turned : ServeEvent → List RestPage
 page_turned (EpochServed is_whole) = []
 page_turned (PageTurned page) = page ∷ []
+page_turned RowsTold = []
 page_turned GoneOn = []
 
 -- the pages that were taken, in their order

@@ -1,4 +1,4 @@
--- What the audit of a page comes to.
+-- The outcome of the audit of a page.
 use Rattle.std.specs.Prelude.{◌≡◌, ◌^◌, ◌<◌, ℕ, Result, Ok, Err}
 use Rattle.sq_node_model.specs.Gathered.{GatheredValue}
 use Rattle.sq_audit.specs.declared.verdict.Verdict.{Verdict}
@@ -20,7 +20,7 @@ pub record HasCounts (run : GatheredValue) (counts : PageCounts) : Type 0 where
   pub families : stored_count run < 2 ^ 64 → counts.families ≡ stored_count run
   pub committed : counts.committed ≡ commit_count run.receipts
 
--- what comes of this verdict on a page
+-- the result of this verdict on a page
 abbrev pub IsJudgedAs : GatheredValue → Verdict → Result PageCounts ServeEnding → Type 0
 IsJudgedAs run verdict.Sound (Ok counts) = HasCounts run counts
 IsJudgedAs run verdict.Sound (Err ending) = ⊥
@@ -43,7 +43,7 @@ EndsAsFound found (Sound families committed is_whole) = ⊥
 EndsAsFound found (NoHeader fault) = ⊥
 EndsAsFound found Unwritten = ⊥
 
--- what the audit of a page came to: it was found sound, or it wasn't, or there was no memory for that
+-- the outcome of the audit of a page: it was found sound, or it wasn't, or there was no memory for it
 abbrev pub JudgesPage : RestPage → Result PageCounts ServeEnding → Type 0
 JudgesPage page (Ok counts) = IsFoundAs verdict.Sound page × HasCounts page.page.run counts
 JudgesPage page (Err ending) = EndsAsFound (λ found. IsFoundAs found page) ending

@@ -1,4 +1,5 @@
 pub mod Judging
+pub mod Rows
 pub mod Events
 pub mod Ends
 pub mod Steps

@@ -19,7 +19,7 @@ use Rattle.sq_service.specs.Telling.{TellsEnding}
 abbrev pub no_pages : PageBook
 no_pages = record { due = None; committed = 0 }
 
--- an engine of which no page was taken was served until it ended so, and what its desk wrote by then is what the outlet holds
+-- an engine without a page was served until it ended so, and what its desk wrote by then is what the outlet holds
 pub record HasEndedWithOutlet {W : Type 0} (contents : W → Option (List ℕ)) (engine : Standing) (before : ServeDeskValue)
     (ending : ServeEnding) (outlet : Outlet W) : Type 0 where
   pub after : ServeDeskValue

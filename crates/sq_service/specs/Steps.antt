@@ -1,4 +1,4 @@
--- What a step of an engine that is served comes to.
+-- The outcome of a step of an engine that is served.
 use Rattle.std.specs.Prelude.{◌≡◌, ◌⊎◌, ◌+◌, ◌^◌, ◌<◌, ℕ, Bool, true, Result, Ok, Err}
 use Rattle.sq_engine.specs.declared.engine.EngineServed.{EngineServed}
 use Rattle.sq_engine.specs.declared.standing.Standing.{Standing}
@@ -25,12 +25,12 @@ EpochGives old before (Err ending) after =
     (ending ≡ Memory)
     × ((after ≡ before) ⊎ ((new : Standing) × (is_whole : Bool) × EpochIsWritten old before new after is_whole))
 
--- an engine went on and other lines were written, or memory ran out and only lines were written
+-- an engine continued and other lines were written, or memory ran out and only lines were written
 abbrev pub GoesOrLacksMemory : Standing → ServeDeskValue → Result Standing ServeEnding → ServeDeskValue → Type 0
 GoesOrLacksMemory old before (Ok new) after = KeepsHistoryAndJobs old new × Speaks before after
 GoesOrLacksMemory old before (Err ending) after = (ending ≡ Memory) × Speaks before after
 
--- an engine goes on to be served, or has ended
+-- an engine continues to be served, or has ended
 abbrev pub StepGives : PageBook → Standing → ServeDeskValue → PageBook → Result Standing ServeEnding → ServeDeskValue → Type 0
 StepGives was old before now (Ok new) after = HasServed was old before now new after
 StepGives was old before now (Err ending) after = HasEndedServing was old before ending after

@@ -11,7 +11,7 @@ use std::alloc::Global;
 use std::sync::Wait;
 use std::thread::Threads;
 
-/// Closes an engine at rest, all jobs of which are answered, and says how it ends. So many jobs were committed on the pages
+/// Closes an engine at rest with all jobs answered, and says how it ends. So many jobs were committed on the pages
 /// before, and the input was read to its end, or wasn't.
 pub(crate) fn close<T: Threads + Wait + Sync>(
     rt: &T,

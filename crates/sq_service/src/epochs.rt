@@ -5,17 +5,18 @@ ghost use Rattle.sq_server.specs.Becoming.{desk_value, Speaks};
 ghost use Rattle.sq_service.specs.Judging.{JudgesPage};
 ghost use Rattle.sq_service.specs.Steps.{IsWholeEngine, EpochGives, EntersPage, StepGives, first_ending};
 
+use crate::beside::Beside;
 use crate::page_audit::{PageCounts, PageToAudit, audit_beside};
 use crate::page_book::PageBook;
 use sq_engine::{Engine, EngineServed, RestPage};
-use sq_serve::ServeAnswer;
-use sq_server::{AuditProgress, Control, ServeDesk, ServeEnding, serve_epoch};
+use sq_serve::{ServeAnswer, ServeWatch};
+use sq_server::{Control, EpochMarks, ServeDesk, ServeEnding, serve_epoch};
 use std::alloc::Global;
 use std::io::Write;
 use std::sync::Wait;
 use std::thread::{Threads, join};
 
-/// Where an engine that is served stands: it goes on, or ends so.
+/// Whether an engine that is served continues, or how it ends.
 #[derive(Drop)]
 pub(crate) struct ServiceStep<W: Write + Drop> {
     pub(crate) desk: ServeDesk<W>,
@@ -23,12 +24,12 @@ pub(crate) struct ServiceStep<W: Write + Drop> {
 }
 
 /// Serves an epoch, and audits the page beside it that is due, if one is.
-pub(crate) fn go_through_epoch<T: Threads + Wait + Sync, W: Write + Drop>(
+pub(crate) fn go_through_epoch<T: Threads + Wait + Sync, W: Write + Drop, V: ServeWatch>(
     rt: &T,
     alloc: Global,
     engine: Engine,
     desk: ServeDesk<W>,
-    audit: &AuditProgress,
+    beside: &Beside<'_, V>,
     book: &mut PageBook,
 ) -> ServiceStep<W>
     ensures gives { StepGives book.old engine (desk_value W.contents desk)
@@ -36,18 +37,18 @@ pub(crate) fn go_through_epoch<T: Threads + Wait + Sync, W: Write + Drop>(
     ensures none_due { book.new.due ≡ None }
 {
     match book.take_due() {
-        None => serve_one_epoch(rt, alloc, engine, desk, audit),
-        Some(due) => serve_with_due(rt, alloc, engine, desk, audit, due, book),
+        None => serve_one_epoch(rt, alloc, engine, desk, beside),
+        Some(due) => serve_with_due(rt, alloc, engine, desk, beside, due, book),
     }
 }
 
-// Serves an epoch, audits beside it the page that is due, and takes note of what that comes to.
-fn serve_with_due<T: Threads + Wait + Sync, W: Write + Drop>(
+// Serves an epoch, audits beside it the page that is due, and notes the outcome.
+fn serve_with_due<T: Threads + Wait + Sync, W: Write + Drop, V: ServeWatch>(
     rt: &T,
     alloc: Global,
     engine: Engine,
     desk: ServeDesk<W>,
-    audit: &AuditProgress,
+    beside: &Beside<'_, V>,
     due: PageToAudit,
     book: &mut PageBook,
 ) -> ServiceStep<W>
@@ -58,8 +59,8 @@ fn serve_with_due<T: Threads + Wait + Sync, W: Write + Drop>(
     ensures none_due { book.new.due ≡ None }
 {
     let PageToAudit { page, is_asked } = due;
-    let (judged, step) = serve_beside_audit(rt, alloc, engine, desk, audit, page);
-    audit.forget();
+    let (judged, step) = serve_beside_audit(rt, alloc, engine, desk, beside, page);
+    beside.audit.forget();
     let ServiceStep { mut desk, engine } = step;
     let entered = enter_page(book, judged, is_asked, &mut desk);
     ServiceStep {
@@ -82,19 +83,27 @@ fn unless_ended(
 }
 
 // Serves an epoch. Where an answer or a thread is missing, it ends for want of memory.
-fn serve_one_epoch<T: Threads + Wait + Sync, W: Write + Drop>(
+fn serve_one_epoch<T: Threads + Wait + Sync, W: Write + Drop, V: ServeWatch>(
     rt: &T,
     alloc: Global,
     engine: Engine,
     desk: ServeDesk<W>,
-    audit: &AuditProgress,
+    beside: &Beside<'_, V>,
 ) -> ServiceStep<W>
     ensures { EpochGives engine (desk_value W.contents desk)
         result.engine (desk_value W.contents result.desk) }
 {
-    let mut control = Control { desk, audit };
+    let mut control = Control {
+        desk,
+        audit: &beside.audit,
+        marks: EpochMarks::new(beside.watch),
+    };
     let served = serve_epoch(rt, alloc, engine, &mut control);
-    let Control { desk, audit: _ } = control;
+    let Control {
+        desk,
+        audit: _,
+        marks: _,
+    } = control;
     ServiceStep {
         desk,
         engine: whole_engine(served),
@@ -118,18 +127,19 @@ fn whole_engine(served: Result<EngineServed, Engine>) -> Result<Engine, ServeEnd
 }
 
 // Serves an epoch, and audits a page beside it.
-fn serve_beside_audit<T: Threads + Wait + Sync, W: Write + Drop>(
+fn serve_beside_audit<T: Threads + Wait + Sync, W: Write + Drop, V: ServeWatch>(
     rt: &T,
     alloc: Global,
     engine: Engine,
     desk: ServeDesk<W>,
-    audit: &AuditProgress,
+    beside: &Beside<'_, V>,
     page: RestPage,
 ) -> (Result<PageCounts, ServeEnding>, ServiceStep<W>)
     ensures judged { JudgesPage page result.0 }
     ensures gives { EpochGives engine (desk_value W.contents desk)
         result.1.engine (desk_value W.contents result.1.desk) }
 {
+    let audit = &beside.audit;
     join(
         rt,
         move || -> Result<PageCounts, ServeEnding>
@@ -140,11 +150,11 @@ fn serve_beside_audit<T: Threads + Wait + Sync, W: Write + Drop>(
             requires { IsSync T.row }
             ensures { EpochGives engine (desk_value W.contents desk)
                 result.engine (desk_value W.contents result.desk) }
-        { serve_one_epoch(rt, alloc, engine, desk, audit) },
+        { serve_one_epoch(rt, alloc, engine, desk, beside) },
     )
 }
 
-// Takes note of what the audit of a page came to, and tells it where a line asked for it.
+// Notes the outcome of the audit of a page, and writes it where a line asked for it.
 fn enter_page<W: Write + Drop>(
     book: &mut PageBook,
     judged: Result<PageCounts, ServeEnding>,

@@ -1,6 +1,7 @@
 //! An engine behind a pipe: it reads an opening and then lines, for as long as they come, and answers each of them.
 #![tactic(auto)]
 
+mod beside;
 mod closing;
 mod epochs;
 pub mod laws;
@@ -9,6 +10,7 @@ mod page_audit;
 mod page_book;
 mod plan_line;
 mod reading;
+mod rows;
 mod service;
 mod serving;
 mod telling;

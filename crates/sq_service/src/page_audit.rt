@@ -30,7 +30,7 @@ pub(crate) struct PageCounts {
     pub(crate) committed: u64,
 }
 
-/// Audits a page, and tells how far that is: what the page has, or how an engine ends whose page isn't sound.
+/// Audits a page, and says how far that is: what the page has, or how an engine ends whose page isn't sound.
 pub(crate) fn audit_beside<T: Threads + Sync>(
     rt: &T,
     alloc: Global,

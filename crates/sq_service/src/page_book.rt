@@ -13,7 +13,7 @@ pub(crate) struct PageBook {
 }
 
 impl PageBook {
-    /// Of an engine of which no page was taken.
+    /// The book of an engine without a page.
     pub(crate) fn new() -> PageBook
         ensures { result ≡ record { due = None; committed = 0 } }
     {

@@ -31,7 +31,7 @@ fn plan_twice(alloc: Global, line: &[u8]) -> Result<Vec<u8>, LocatedFault> {
     }
 }
 
-// The bytes of the first line, without its end. What stands behind it isn't read.
+// The bytes of the first line, without its end. What is behind it isn't read.
 fn first_line<I: Read>(alloc: Global, input: &mut I) -> Result<Vec<u8>, InputFault> {
     let mut line = Vec::new(alloc);
     for _byte in 0..=MAX_LINE {

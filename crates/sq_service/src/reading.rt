@@ -104,7 +104,7 @@ fn read_first<R: Wait, I: Read + Drop>(
     }
 }
 
-// Hands on what the lines of a portion ask, the first of which has this number.
+// Hands on what the lines of a portion ask; the first has this number.
 fn read_portion<R: Wait, I: Read + Drop>(
     rt: &R,
     alloc: Global,
@@ -118,7 +118,7 @@ fn read_portion<R: Wait, I: Read + Drop>(
     }
 }
 
-// Hands on what lines ask, the first of which has this number. Says how they end; `None` where nobody takes what is handed on.
+// Hands on what lines ask; the first has this number. Says how they end; `None` where nobody takes what is handed on.
 fn read_lines<R: Wait, I: Read + Drop>(
     rt: &R,
     alloc: Global,

@@ -12,6 +12,7 @@ use rtrb::{Consumer, RingBuffer};
 use sq_engine::Engine;
 use sq_plan::Plan;
 use sq_ranges::Opening;
+use sq_serve::ServeWatch;
 use sq_server::{FEED_ROOM, Fed, Outlet, ServeDesk, ServeEnding, SideQueues, wait_for};
 use std::alloc::{AllocError, Global};
 use std::io::{Read, Write};
@@ -34,44 +35,49 @@ struct Handed {
     lines: Consumer<Fed>,
 }
 
-/// Serves an engine until its input ends: reads its header and then lines, and writes what these are answered.
-pub fn serve<T, I, W>(
+/// Serves an engine until its input ends: reads its header and then lines, and writes what these are answered. Rows that a line
+/// wants in a file are saved by who watches.
+pub fn serve<T, I, W, V>(
     rt: &T,
     alloc: Global,
     input: I,
     writer: W,
     config: ServeConfig,
+    watch: &V,
 ) -> (W, ServeEnding)
 where
     T: Threads + Wait + Sync + Copy + Send + 'static,
     I: Read + Send + Drop + 'static,
     W: Write + Drop,
+    V: ServeWatch,
     requires { config.pumps ≤ MAX_PUMPS }
     ensures { ServesWriter W.contents writer result.0 result.1 }
 {
     let outlet = Outlet::new(writer);
-    let (outlet, ending) = serve_input(rt, alloc, input, outlet, config);
+    let (outlet, ending) = serve_input(rt, alloc, input, outlet, config, watch);
     let (outlet, ending) = tell_ending(outlet, ending);
     (outlet.writer, ending)
 }
 
 // Serves an engine until its input ends.
-fn serve_input<T, I, W>(
+fn serve_input<T, I, W, V>(
     rt: &T,
     alloc: Global,
     input: I,
     outlet: Outlet<W>,
     config: ServeConfig,
+    watch: &V,
 ) -> (Outlet<W>, ServeEnding)
 where
     T: Threads + Wait + Sync + Copy + Send + 'static,
     I: Read + Send + Drop + 'static,
     W: Write + Drop,
+    V: ServeWatch,
     requires { config.pumps ≤ MAX_PUMPS }
     ensures { ServesSome W.contents outlet result.1 result.0 }
 {
     match start_reader(rt, alloc, input) {
-        Ok(handed) => serve_handed(rt, alloc, handed, outlet, config),
+        Ok(handed) => serve_handed(rt, alloc, handed, outlet, config, watch),
         Err(AllocError) => (outlet, ServeEnding::Memory),
     }
 }
@@ -96,32 +102,34 @@ where
 }
 
 // Serves an engine whose input is handed on there.
-fn serve_handed<T: Threads + Wait + Sync, W: Write + Drop>(
+fn serve_handed<T: Threads + Wait + Sync, W: Write + Drop, V: ServeWatch>(
     rt: &T,
     alloc: Global,
     handed: Handed,
     outlet: Outlet<W>,
     config: ServeConfig,
+    watch: &V,
 ) -> (Outlet<W>, ServeEnding)
     requires { config.pumps ≤ MAX_PUMPS }
     ensures { ServesSome W.contents outlet result.1 result.0 }
 {
     let Handed { mut header, lines } = handed;
     match wait_for(rt, &mut header) {
-        Some(Ok(opening)) => serve_opening(rt, alloc, opening, lines, outlet, config),
+        Some(Ok(opening)) => serve_opening(rt, alloc, opening, lines, outlet, config, watch),
         Some(Err(fault)) => (outlet, ServeEnding::NoHeader(fault)),
         None => (outlet, ServeEnding::Memory),
     }
 }
 
 // Serves the engine of an opening.
-fn serve_opening<T: Threads + Wait + Sync, W: Write + Drop>(
+fn serve_opening<T: Threads + Wait + Sync, W: Write + Drop, V: ServeWatch>(
     rt: &T,
     alloc: Global,
     opening: Opening,
     lines: Consumer<Fed>,
     outlet: Outlet<W>,
     config: ServeConfig,
+    watch: &V,
 ) -> (Outlet<W>, ServeEnding)
     requires { config.pumps ≤ MAX_PUMPS }
     ensures { ServesOpening W.contents opening
@@ -129,7 +137,7 @@ fn serve_opening<T: Threads + Wait + Sync, W: Write + Drop>(
         outlet result.1 result.0 }
 {
     match desk_for(alloc, opening.new_plan(), lines, outlet, config.fold_after) {
-        Ok(desk) => serve_at_desk(rt, alloc, opening, desk, config.pumps),
+        Ok(desk) => serve_at_desk(rt, alloc, opening, desk, config.pumps, watch),
         Err(outlet) => (outlet, ServeEnding::Memory),
     }
 }
@@ -158,19 +166,20 @@ fn desk_for<W: Write + Drop>(
 }
 
 // Opens an engine, and serves it with a desk.
-fn serve_at_desk<T: Threads + Wait + Sync, W: Write + Drop>(
+fn serve_at_desk<T: Threads + Wait + Sync, W: Write + Drop, V: ServeWatch>(
     rt: &T,
     alloc: Global,
     opening: Opening,
     desk: ServeDesk<W>,
     pumps: u32,
+    watch: &V,
 ) -> (Outlet<W>, ServeEnding)
     requires { pumps ≤ MAX_PUMPS }
     ensures { ServesOpening W.contents opening (desk_value W.contents desk)
         desk.outlet result.1 result.0 }
 {
     match Engine::open(rt, alloc, opening, pumps) {
-        Ok(engine) => serve_engine(rt, alloc, engine, desk),
+        Ok(engine) => serve_engine(rt, alloc, engine, desk, watch),
         Err(_) => (desk.outlet, ServeEnding::Memory),
     }
 }

@@ -1,4 +1,4 @@
-// What is told of moves, and of how an engine that was served ends.
+// Lines about moves, and about how an engine that was served ends.
 ghost use Rattle.sq_server.specs.Becoming.{desk_value, Speaks};
 ghost use Rattle.sq_service.specs.Telling.{IsLineOfFault, IsLineOfEnding, SaysLine, TellsEnding};
 

@@ -7,19 +7,22 @@ use crate::closing::close;
 use crate::moving::{begin_move, note_rest};
 use crate::page_audit::PageToAudit;
 use crate::page_book::PageBook;
+use crate::rows::tell_rows;
 use sq_engine::Engine;
+use sq_serve::ServeWatch;
 use sq_server::{InputEnd, ServeDesk, ServeEnding, Wish};
 use std::alloc::Global;
 use std::io::Write;
 use std::sync::Wait;
 use std::thread::Threads;
 
-/// Goes on after an epoch: tells where a move is done, and does what the epoch ended for.
-pub(crate) fn go_on<T: Threads + Wait + Sync, W: Write + Drop>(
+/// Continues after an epoch: says where a move is done, and does what the epoch ended for.
+pub(crate) fn go_on<T: Threads + Wait + Sync, W: Write + Drop, V: ServeWatch>(
     rt: &T,
     alloc: Global,
     engine: Engine,
     desk: &mut ServeDesk<W>,
+    watch: &V,
     book: &mut PageBook,
 ) -> Result<Engine, ServeEnding>
     requires { book.old.due ≡ None }
@@ -30,17 +33,18 @@ pub(crate) fn go_on<T: Threads + Wait + Sync, W: Write + Drop>(
         return Err(ending);
     }
     match note_rest(&engine, desk) {
-        Ok(()) => page_or_wish(rt, alloc, engine, desk, book),
+        Ok(()) => page_or_wish(rt, alloc, engine, desk, watch, book),
         Err(ending) => Err(ending),
     }
 }
 
 // Does what an epoch ended for. Where a log is long and nothing moves, a page is taken before.
-fn page_or_wish<T: Threads + Wait + Sync, W: Write + Drop>(
+fn page_or_wish<T: Threads + Wait + Sync, W: Write + Drop, V: ServeWatch>(
     rt: &T,
     alloc: Global,
     engine: Engine,
     desk: &mut ServeDesk<W>,
+    watch: &V,
     book: &mut PageBook,
 ) -> Result<Engine, ServeEnding>
     requires { book.old.due ≡ None }
@@ -50,16 +54,17 @@ fn page_or_wish<T: Threads + Wait + Sync, W: Write + Drop>(
     if engine.is_at_rest() && engine.wants_page() && !desk.wants_page() {
         take_page(rt, alloc, engine, desk, book, false)
     } else {
-        fulfil(rt, alloc, engine, desk, book)
+        fulfil(rt, alloc, engine, desk, watch, book)
     }
 }
 
 // Does what an epoch ended for.
-fn fulfil<T: Threads + Wait + Sync, W: Write + Drop>(
+fn fulfil<T: Threads + Wait + Sync, W: Write + Drop, V: ServeWatch>(
     rt: &T,
     alloc: Global,
     engine: Engine,
     desk: &mut ServeDesk<W>,
+    watch: &V,
     book: &mut PageBook,
 ) -> Result<Engine, ServeEnding>
     requires { book.old.due ≡ None }
@@ -68,16 +73,17 @@ fn fulfil<T: Threads + Wait + Sync, W: Write + Drop>(
 {
     match desk.take_wish() {
         None => Ok(engine),
-        Some(wish) => grant(rt, alloc, engine, desk, book, wish),
+        Some(wish) => grant(rt, alloc, engine, desk, watch, book, wish),
     }
 }
 
 // Does what is wished of an engine.
-fn grant<T: Threads + Wait + Sync, W: Write + Drop>(
+fn grant<T: Threads + Wait + Sync, W: Write + Drop, V: ServeWatch>(
     rt: &T,
     alloc: Global,
     engine: Engine,
     desk: &mut ServeDesk<W>,
+    watch: &V,
     book: &mut PageBook,
     wish: Wish,
 ) -> Result<Engine, ServeEnding>
@@ -89,6 +95,7 @@ fn grant<T: Threads + Wait + Sync, W: Write + Drop>(
         Wish::Page => take_page(rt, alloc, engine, desk, book, false),
         Wish::Fold => take_page(rt, alloc, engine, desk, book, true),
         Wish::Move(plan) => begin_move(rt, alloc, engine, plan, desk),
+        Wish::Rows(asked) => Ok(tell_rows(rt, alloc, engine, desk, watch, asked)),
         Wish::Close => {
             let is_whole = desk.end == Some(InputEnd::Whole);
             Err(close(rt, alloc, engine, book.committed, is_whole))

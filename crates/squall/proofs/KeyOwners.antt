@@ -1,4 +1,4 @@
--- What was told of owners.
+-- What was written of owners.
 use Rattle.std.proofs.Common.{◌≡◌, ◌∙◌, ℕ, Bool, List, inl, ap, subst}
 use Rattle.std.specs.Prelude.{Option, Some, is_some, Result, IfOk}
 use Rattle.std.specs.Fmt.{option_append}
@@ -10,7 +10,7 @@ use Rattle.sq_sizes.specs.Asked.{TellsOpening}
 use Rattle.sq_sizes.specs.Owners.{IsOwnersText}
 use Rattle.squall.specs.Session.{exit_status, widest_config, EndsOwners}
 
--- it was told of an opening that the lines of two plans and of the sizes spell
+-- the text is of an opening that the lines of two plans and of the sizes spell
 pub told_owners : (keys roots : List ℕ) (width : Option ℕ) (tells_leaves : Bool) (lines given config : List ℕ) (held before now : Option (List ℕ)) (told : Result Ending WriteFault) (status : ℕ)
     → ((old : List ℕ) × (new : List ℕ) × (lines ≡ plan_lines old new)) → given ≡ lines → config ≡ widest_config width → held ≡ option_append (Some given) (Some config) → roots ≡ keys → tells_leaves ≡ is_some width
     → IfOk told (TellsOpening (IsOwnersText tells_leaves roots) MAX_TABLES held before now) → status ≡ exit_status told → EndsOwners keys width before now status

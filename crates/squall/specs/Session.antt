@@ -48,13 +48,13 @@ abbrev pub live_status : Result LiveEnding WriteFault → ℕ
 live_status (Ok ending) = ending_status ending
 live_status (Err fault) = 2
 
--- what ran came to something of which this holds, unless a write failed, and ended with the status of that
+-- the run had an outcome of which this holds, unless a write failed, and ended with its status
 pub record EndsAs {E : Type 0} (Holds : E → Type 0) (status_of : Result E WriteFault → ℕ) (status : ℕ) : Type 0 where
   pub ran : Result E WriteFault
   pub holds : IfOk ran Holds
   pub status_is : status ≡ status_of ran
 
--- the exit status after numbers were told, or after one that is no number of the table
+-- the exit status after numbers were explained, or after one that is no number of the table
 abbrev pub explain_status : Result Bool WriteFault → ℕ
 explain_status (Ok told) = if told then 0 else 2
 explain_status (Err fault) = 2
@@ -83,7 +83,7 @@ EndsTask (Ranges form sizes) known before now = EndsAs (ListsAs form sizes known
 EndsTask (Live turns pumps folds summary summary_out timeline replies rows_out) known before now = EndsAs (RunsLive folds MAX_TABLES known before now) live_status
 EndsTask Steps known before now = EndsAs (WritesScript MAX_TABLES known before now) exit_status
 
--- what stands behind the plans: the main part of an input, and behind its first line the rows, where they have a file
+-- what is behind the plans: the main part of an input, and behind its first line the rows, where they have a file
 abbrev pub IsBehindPlans : Option (Bor Text) → Option (List ℕ) → Option (List ℕ) → Type 0
 IsBehindPlans None main behind = behind ≡ main
 IsBehindPlans (Some file) main behind = (rows : Option (List ℕ)) × (behind ≡ inserted_text main rows)
@@ -122,7 +122,8 @@ EndsInput task input known before now status = EndsMain task input.plans input.f
 abbrev pub widest_config : Option ℕ → List ℕ
 widest_config width = codes "config " ++ decimal (unwrap_or width MAX_WIDTH) ++ codes " 64 1\n"
 
--- it was told who owns these root keys by two plans, in leaves of this width, or else a file can't be read, or memory ran out
+-- the owners of these root keys by two plans were written, in leaves of this width, or else a file can't be read, or
+-- memory ran out
 abbrev pub EndsOwners : List ℕ → Option ℕ → Option (List ℕ) → Option (List ℕ) → ℕ → Type 0
 EndsOwners keys width before now status =
     ((old : List ℕ) × (new : List ℕ)
@@ -130,7 +131,7 @@ EndsOwners keys width before now status =
     (option_append (Some (plan_lines old new)) (Some (widest_config width))) before now) exit_status status)
     ⊎ (status ≡ 2)
 
--- the status is that of how an engine ended, or 2, where a file can't be read or there was no memory for it
+-- the status is the one of how an engine ended, or 2, where a file can't be read or there was no memory for it
 abbrev pub EndsEngine : ℕ → Type 0
 EndsEngine status = (status ≡ 2) ⊎ ((ending : ServeEnding) × (status ≡ serve_status ending))
 

@@ -2,11 +2,12 @@
 ghost use Rattle.std.specs.Prelude.{◌≡◌, None, OnOk};
 ghost use Rattle.std.specs.Io.KnownBytes.{Appends};
 ghost use Rattle.sq_command.specs.Demo.{DemoIsWithin};
-ghost use Rattle.squall.specs.DemoCommands.{demo_command, demo_commands, EndsDemo};
+ghost use Rattle.sq_demo.specs.Commands.{demo_commands};
+ghost use Rattle.squall.specs.DemoCommands.{EndsDemo};
 
 use crate::session::{REFUSED, explain_write, refuse_for_memory};
 use sq_command::Demo;
-use sq_demo::{DemoSizes, DemoTexts};
+use sq_demo::{DemoSizes, DemoTexts, write_commands};
 use sq_outputs::{Folder, save};
 use sq_text::WriteFault;
 use std::cell::Cell;
@@ -174,24 +175,4 @@ fn tell_commands<W: Write>(writer: &mut W, folder: &str) -> io::Result<()>
     write_commands(writer, folder)?;
     writer.flush()?;
     Ok(())
-}
-
-// Writes these commands, and leaves what is written to be flushed.
-fn write_commands<W: Write>(writer: &mut W, folder: &str) -> io::Result<()>
-    ensures { OnOk result
-        (Appends (W.contents writer.old) (W.contents writer.new) (demo_commands folder.now)) }
-{
-    write_command(writer, "ranges --sizes", folder)?;
-    write_command(writer, "live", folder)
-}
-
-// Writes the command that gives the input in a folder to a subcommand.
-fn write_command<W: Write>(writer: &mut W, subcommand: &str, folder: &str) -> io::Result<()>
-    ensures { OnOk result (Appends (W.contents writer.old) (W.contents writer.new)
-        (demo_command subcommand.now folder.now)) }
-{
-    writeln!(
-        writer,
-        "squall {subcommand} --old {folder}/old.json --new {folder}/new.json --rows {folder}/rows.txt {folder}/jobs.txt"
-    )
 }

@@ -9,8 +9,8 @@ use sq_text::WriteFault;
 use std::cell::Cell;
 use std::io::Write;
 
-/// Writes what this number means, what it is given to and what to do about it, or that of all numbers. Where there is no such
-/// number standard error says so. Gives the exit status.
+/// Writes what this number means, what it is given to and what to do about it, or the same of all numbers. Where there
+/// is no such number standard error says so. Gives the exit status.
 pub fn explanation<W: Write>(
     rt: &impl Eprint,
     writer: &mut W,
@@ -50,7 +50,7 @@ fn refuse_number(rt: &impl Eprint, number: Option<u16>) {
     }
 }
 
-// The exit status after numbers were told: 0, or 2 where there was no such number or a write failed.
+// The exit status after numbers were explained: 0, or 2 where there was no such number or a write failed.
 fn explain_status(told: Result<bool, WriteFault>) -> u8
     ensures { result ≡ explain_status told }
 {

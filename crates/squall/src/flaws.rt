@@ -67,7 +67,7 @@ impl Display for Misfit<'_> {
     }
 }
 
-/// Says on standard error what doesn't fit in the line that a fault of an input belongs to, where that can be told.
+/// Says on standard error what doesn't fit in the line that a fault of an input belongs to, where that can be found.
 pub fn tell_misfit<T: Eprint + Files + AllocGlobal, R: Read>(
     rt: &T,
     source: &Source<'_>,
@@ -135,7 +135,7 @@ pub fn tell_unread_stages<T: Eprint + AllocGlobal, R: Read>(
     }
 }
 
-/// Says on standard error what doesn't fit in the line of a job that has a fault, where that can be told.
+/// Says on standard error what doesn't fit in the line of a job that has a fault, where that can be found.
 pub fn tell_misfit_of_job<T: Eprint, R: Read>(
     rt: &T,
     place: FaultPlace<'_>,

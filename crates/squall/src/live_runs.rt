@@ -35,7 +35,7 @@ pub struct Manner {
     pub folds: bool,
 }
 
-/// What is told of a live run besides its line.
+/// What is written of a live run besides its line.
 #[derive(Clone, Copy, Debug, PartialEq, Eq)]
 pub struct RunReport<'a> {
     /// Whether a summary is.
@@ -46,14 +46,14 @@ pub struct RunReport<'a> {
     pub timeline: Option<&'a str>,
     /// The name of the file into which the answers of the jobs are written, where they are.
     pub replies: Option<&'a str>,
-    /// The name of the file into which the rows are written that stand at the end, where they are.
+    /// The name of the file into which the rows at the end are written, where they are.
     pub rows_out: Option<&'a str>,
 }
 
-/// Runs the jobs in `reader` in threads, writes what that comes to, and says on standard error what it means, unless the run
-/// is sound. Its workers ask `watch` before each step. Tells of the run besides what was asked for: a summary on standard
-/// error, and in files a timeline, a longer account, the answers of the jobs, and the rows that stand at the end. Of a run that
-/// ends in a fault nothing is told. Gives the exit status, which is 2 where one of the last three can't be written.
+/// Runs the jobs in `reader` in threads, writes the outcome, and says on standard error what it means, unless the run
+/// is sound. Its workers ask `watch` before each step. Also writes what was asked for: a summary on standard error, and
+/// in files a timeline, a longer account, the answers of the jobs, and the rows at the end. A run that ends in a fault
+/// leaves none of this. Gives the exit status, which is 2 where one of the last three can't be written.
 pub fn live_run<
     T: Threads + Wait + Sync + Clock + Eprint + Files + AllocGlobal,
     R: Read,
@@ -90,8 +90,8 @@ pub fn live_run<
     status
 }
 
-// A watch before another one that keeps count for what is to be told of a run. `None` where nothing is, or where there is no
-// memory for it, which standard error says: then the run goes on without. The time of reading goes from here on.
+// A watch before another one that keeps count for what is to be said of a run. `None` where nothing is, or where there
+// is no memory for it, which standard error says: the run then does without. The time of reading begins here.
 fn recording<'a, T: Wait + Clock + Sync + Eprint + AllocGlobal, G: Watch>(
     rt: &'a T,
     report: RunReport<'_>,
@@ -184,7 +184,7 @@ fn save_replies<T: Wait + Clock + Sync + Eprint + Files + AllocGlobal, G: Watch>
     }
 }
 
-// Writes the rows that stand at the end of a run into the file of this name, where there is to be one. Gives whether none is
+// Writes the rows at the end of a run into the file of this name, where there is to be one. Gives whether none is
 // missing.
 fn save_rows<T: Wait + Clock + Sync + Eprint + Files + AllocGlobal, G: Watch>(
     rt: &T,
@@ -238,7 +238,7 @@ pub fn live_status(ran: Result<LiveEnding, WriteFault>) -> u8
     }
 }
 
-// Says on standard error what a live run came to, unless it is sound.
+// Says on standard error what the outcome of a live run means, unless the run is sound.
 fn explain_live<T: Eprint + Files + AllocGlobal, R: Read>(
     rt: &T,
     source: &Source<'_>,

@@ -1,4 +1,4 @@
-//! The program `squall`: it reads what to do from standard input, and writes what came of it to standard output.
+//! The program `squall`: it reads what to do from standard input, and writes the result to standard output.
 #![tactic(auto)]
 
 ghost use Rattle.std.specs.Prelude.{map};
@@ -13,6 +13,7 @@ mod outputs;
 mod owning;
 mod plans;
 mod progress;
+mod rows_saver;
 mod serving;
 mod session;
 mod source;
@@ -55,7 +56,7 @@ use streams::Streams;
 // How many bytes go out at a time.
 const WRITE_SIZE: usize = 65_536;
 
-// The words of the command line, of which the first is the program's name.
+// The words of the command line; the first is the program's name.
 fn words_of(rt: &(impl Env + AllocGlobal)) -> io::Result<Vec<String>> {
     let words = env::args(rt)?.collect(rt.alloc())?;
     Ok(words)
@@ -77,8 +78,8 @@ where
     T: Threads + Wait + Sync + Clock + Print + Eprint + Files + AllocGlobal,
     G: Watch,
 {
-    // Does the task with its input, of which standard input gives the main part or a file, and gives the exit status: 2 where
-    // a file can't be read, or is one that the task would write.
+    // Does the task with its input, whose main part is standard input or a file, and gives the exit status: 2 where a
+    // file can't be read, or is one that the task would write.
     fn carry_out<R: Read, W: Write>(&self, reader: &mut R, writer: &mut W) -> u8
         requires { IsWithin self.now.task }
         ensures { EndsInput self.now.task self.now.input (R.remaining reader.old) (W.contents writer.old) (W.contents writer.new) result }
@@ -96,7 +97,7 @@ where
         }
     }
 
-    // Does the task with the input of which a reader gives the main part, and gives the exit status: 2 where a file of the
+    // Does the task with the input whose main part a reader gives, and gives the exit status: 2 where a file of the
     // plans or of the rows can't be read.
     fn work_on_parts<R: Read + Drop, W: Write>(&self, main: R, writer: &mut W) -> u8
         requires { IsWithin self.now.task }
@@ -304,7 +305,7 @@ fn main(rt: HostRuntime) -> ExitCode {
             let mut reader = rt.reader();
             let writer = io::writer(&rt);
             let is_typed = rt.stdin().is_terminal();
-            // At a terminal standard error tells how far a live run is.
+            // At a terminal standard error shows how far a live run is.
             if rt.stderr().is_terminal() {
                 let progress = Progress::new(&rt);
                 obey_buffered(&rt, &words, &mut reader, writer, &progress, is_typed)

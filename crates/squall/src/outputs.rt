@@ -3,9 +3,15 @@ ghost use Rattle.std.specs.Prelude.{◌≡◌, IfSome};
 
 use crate::session::{REFUSED, refuse_for_memory};
 use sq_command::{Input, Task};
-use sq_outputs::{Conflict, Output, SystemFolder, conflict_among, place_of, save};
+use sq_outputs::{
+    Conflict, Output, SystemFolder, conflict_among, part_name, place_of, place_of_standard_input,
+    save,
+};
 use std::io;
 use std::rt::Files;
+
+// The option of the file that isn't written whole or not at all.
+const TIMELINE: &str = "timeline";
 
 // The options of a task that name files to be written, and the names.
 fn named_outputs(task: Task<'_>) -> [(&'static str, Option<&str>); 4] {
@@ -22,7 +28,7 @@ fn named_outputs(task: Task<'_>) -> [(&'static str, Option<&str>); 4] {
     };
     [
         ("summary-out", summary_out),
-        ("timeline", timeline),
+        (TIMELINE, timeline),
         ("replies", replies),
         ("rows-out", rows_out),
     ]
@@ -39,7 +45,8 @@ fn named_inputs(input: Input<'_>) -> [Option<&str>; 4] {
     ]
 }
 
-// The files that a task writes, and where they stand.
+// The files that a task writes, and where they stand: those that its options name, and then those that are written first, beside
+// them.
 fn outputs_of<'a, T: Files + AllocGlobal>(rt: &T, task: Task<'a>) -> io::Result<Vec<Output<'a>>> {
     let mut outputs = Vec::new(rt.alloc());
     for (option, name) in named_outputs(task) {
@@ -48,11 +55,37 @@ fn outputs_of<'a, T: Files + AllocGlobal>(rt: &T, task: Task<'a>) -> io::Result<
             outputs.push(Output {
                 option,
                 name,
+                is_part: false,
                 place,
             })?;
         }
     }
+    add_parts(rt, task, &mut outputs)?;
     Ok(outputs)
+}
+
+// Adds the files beside those that are written whole or not at all.
+fn add_parts<'a, T: Files + AllocGlobal>(
+    rt: &T,
+    task: Task<'a>,
+    outputs: &mut Vec<Output<'a>>,
+) -> io::Result<()> {
+    for (option, name) in named_outputs(task) {
+        let Some(name) = name else {
+            continue;
+        };
+        if option != TIMELINE {
+            let part = part_name(rt.alloc(), name)?;
+            let place = place_of(rt, part.as_str())?;
+            outputs.push(Output {
+                option,
+                name,
+                is_part: true,
+                place,
+            })?;
+        }
+    }
+    Ok(())
 }
 
 // Where the files stand that an input comes from.
@@ -61,6 +94,11 @@ fn inputs_of<T: Files + AllocGlobal>(rt: &T, input: Input<'_>) -> io::Result<Vec
     for name in named_inputs(input) {
         if let Some(name) = name {
             places.push(place_of(rt, name)?)?;
+        }
+    }
+    if input.file.is_none() {
+        if let Some(place) = place_of_standard_input(rt)? {
+            places.push(place)?;
         }
     }
     Ok(places)
@@ -82,8 +120,8 @@ pub fn refuse_outputs<T: Print + Eprint + Files + AllocGlobal>(
     }
 }
 
-// Whether a task would write a file that it reads too, or one file twice, which standard error says. An error is that there is
-// no memory to tell.
+// Whether a task would write a file that it reads too, or one file twice, which standard error says. An error is that
+// there is no memory for the answer.
 fn is_in_conflict<T: Eprint + Files + AllocGlobal>(
     rt: &T,
     task: Task<'_>,
@@ -105,17 +143,17 @@ fn is_in_conflict<T: Eprint + Files + AllocGlobal>(
 
 // Says on standard error why a file can't be written.
 fn explain_conflict(rt: &impl Eprint, conflict: Conflict<'_>) {
-    match conflict {
-        Conflict::IsRead(Output { option, name, .. }) => {
-            let _ = eprintln!(rt;
-                "squall: --{option} names the file '{name}', which the run reads"
-            );
-        }
-        Conflict::NamedTwice(Output { option, name, .. }) => {
-            let _ = eprintln!(rt;
-                "squall: --{option} names the file '{name}', which another option names too"
-            );
-        }
+    let (output, why) = match conflict {
+        Conflict::IsRead(output) => (output, "which the run reads"),
+        Conflict::NamedTwice(output) => (output, "which another option names too"),
+    };
+    let (option, name) = (output.option, output.name);
+    if output.is_part {
+        let _ = eprintln!(rt;
+            "squall: --{option} writes the file '{name}.squall-part' first, {why}"
+        );
+    } else {
+        let _ = eprintln!(rt; "squall: --{option} names the file '{name}', {why}");
     }
 }
 

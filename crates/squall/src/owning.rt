@@ -1,4 +1,4 @@
-// Who owns root keys, before a move and after it.
+// The owners of root keys, before a move and after it.
 ghost use Rattle.std.specs.Prelude.{◌≡◌, IfOk, string_bytes};
 ghost use Rattle.squall.specs.Session.{widest_config, EndsOwners};
 

@@ -1,4 +1,4 @@
-// How far a live run is, said while it goes on.
+// How far a live run is, said meanwhile.
 use sq_driver::{Gate, NodeStep, WorkerEvent, WorkerId};
 use sq_live::Watch;
 use sq_report::Stopwatch;
@@ -30,7 +30,7 @@ pub struct Progress<'a, E> {
 }
 
 impl<'a, E: Eprint + Clock> Progress<'a, E> {
-    /// Of a run that hasn't begun.
+    /// The progress of a run that hasn't begun.
     pub fn new(to: &'a E) -> Progress<'a, E> {
         Progress {
             to,

@@ -4,13 +4,14 @@ ghost use Rattle.sq_pull.specs.declared.numbers.TheConstants.{MAX_PUMPS};
 ghost use Rattle.squall.specs.Session.{EndsEngine};
 
 use crate::plans::read_plan;
+use crate::rows_saver::RowsSaver;
 use crate::session::{explain_write, open_input, refuse_file, refuse_for_memory};
 use crate::source::is_table;
 use crate::streams::Streams;
 use sq_command::EngineFiles;
 use sq_csv_rows::{CsvRows, RecordLines};
 use sq_row_lines::RowLines;
-use sq_serve::Following;
+use sq_serve::{Following, ServeWatch};
 use sq_server::ServeEnding;
 use sq_service::{ServeConfig, serve};
 use sq_text::{InputFault, LocatedFault, WriteFault};
@@ -53,14 +54,37 @@ where
     requires { config.pumps ≤ MAX_PUMPS }
     ensures { EndsEngine result }
 {
+    match RowsSaver::new(rt, input) {
+        Ok(saver) => serve_watched(rt, writer, input, config, streams, &saver),
+        Err(_) => refuse_for_memory(rt),
+    }
+}
+
+// Serves an engine with who watches it.
+fn serve_watched<T, W, V: ServeWatch>(
+    rt: &T,
+    writer: &mut W,
+    input: EngineInput<'_>,
+    config: ServeConfig,
+    streams: Streams<'_>,
+    watch: &V,
+) -> u8
+where
+    T: Threads + Wait + Sync + Print + Eprint + Files + AllocGlobal + Input + Copy + Send + 'static,
+    T::File: Send + 'static,
+    T::Reader: Send + 'static,
+    W: Write,
+    requires { config.pumps ≤ MAX_PUMPS }
+    ensures { EndsEngine result }
+{
     let Some(name) = input.file else {
         say_wait(rt, input, streams);
-        return serve_parts(rt, writer, rt.reader(), input.files, config, streams);
+        return serve_parts(rt, writer, rt.reader(), input.files, config, streams, watch);
     };
     match open_input(rt, name) {
         Ok(file) => {
             let main = Following::new(file, rt.reader());
-            serve_parts(rt, writer, main, input.files, config, streams)
+            serve_parts(rt, writer, main, input.files, config, streams, watch)
         }
         Err(error) => refuse_file(rt, name, &error),
     }
@@ -81,47 +105,54 @@ fn say_wait(rt: &impl Eprint, input: EngineInput<'_>, streams: Streams<'_>) {
 }
 
 // Serves an engine with this main input, whose plan and rows may have files of their own.
-fn serve_parts<T, I, W>(
+fn serve_parts<T, I, W, V>(
     rt: &T,
     writer: &mut W,
     main: I,
     files: Option<EngineFiles<'_>>,
     config: ServeConfig,
     streams: Streams<'_>,
+    watch: &V,
 ) -> u8
 where
     T: Threads + Wait + Sync + Print + Eprint + Files + AllocGlobal + Copy + Send + 'static,
     I: Read + Send + Drop + 'static,
     W: Write,
+    V: ServeWatch,
     requires { config.pumps ≤ MAX_PUMPS }
     ensures { EndsEngine result }
 {
     let Some(files) = files else {
-        return serve_input(rt, writer, main, config, streams);
+        return serve_input(rt, writer, main, config, streams, watch);
     };
     let mut main = main;
     match opening_text(rt, files, &mut main) {
-        Ok(text) => serve_input(rt, writer, Cursor::new(text).chain(main), config, streams),
+        Ok(text) => {
+            let input = Cursor::new(text).chain(main);
+            serve_input(rt, writer, input, config, streams, watch)
+        }
         Err(status) => status,
     }
 }
 
 // Serves an engine with an input.
-fn serve_input<T, I, W>(
+fn serve_input<T, I, W, V>(
     rt: &T,
     writer: &mut W,
     input: I,
     config: ServeConfig,
     streams: Streams<'_>,
+    watch: &V,
 ) -> u8
 where
     T: Threads + Wait + Sync + Eprint + AllocGlobal + Copy + Send + 'static,
     I: Read + Send + Drop + 'static,
     W: Write,
+    V: ServeWatch,
     requires { config.pumps ≤ MAX_PUMPS }
     ensures { EndsEngine result }
 {
-    let (_writer, ending) = serve(rt, rt.alloc(), input, writer, config);
+    let (_writer, ending) = serve(rt, rt.alloc(), input, writer, config, watch);
     explain_engine(rt, ending, streams);
     ending.status()
 }

@@ -30,9 +30,9 @@ use std::{fs, io};
 /// The exit status after a fault, and after a command line that was refused.
 pub const REFUSED: u8 = 2;
 
-/// Runs the script in `reader` in this manner, writes what it comes to, and says on standard error what its fault means, or
-/// the refusal behind which it stopped. Unless it ends by a fault, the rows that stand at its end go into the file that is
-/// named for them. Gives the exit status, which is 2 where they can't be written.
+/// Runs the script in `reader` in this manner, writes its answers, and says on standard error what its fault means, or
+/// the refusal behind which it stopped. Unless it ends by a fault, the rows that stand at its end go into the file that
+/// is named for them. Gives the exit status, which is 2 where they can't be written.
 pub fn script<T: Eprint + Files + AllocGlobal, R: Read, W: Write>(
     rt: &T,
     reader: &mut Recalling<R>,

@@ -24,7 +24,7 @@ pub struct Source<'a> {
 pub enum FaultPlace<'a> {
     /// The line of the input that has this number.
     Line(u64),
-    /// The file of this name, of which all is one line of the input.
+    /// The file of this name, which is one line of the input.
     File(&'a str),
     /// The line of this file that has this number.
     LineOf(&'a str, u64),

@@ -1,6 +1,5 @@
 use Rattle.std.proofs.lemmas.Result.{IfOk-weaker}
 use Rattle.sq_engine.specs.declared.engine.EngineServed.{EngineServed}
-use Rattle.sq_server.specs.declared.control.Control.{Control}
 use Rattle.sq_server.specs.Becoming.{desk_value}
 use Rattle.sq_server.specs.Written.{EpochIsWritten}
 use Rattle.sq_server.proofs.Epochs.{writes_each}

@@ -1,5 +1,5 @@
 use Rattle.sq_server.specs.Becoming.{desk_value}
-use Rattle.sq_service.proofs.Served.{goes_or_ends, ends_at_once}
+use Rattle.sq_service.proofs.Served.{goes_or_ends, ends_at_once, rows_gone}
 use Rattle.sq_service.proofs.wishes.grant.Goals as goal
 
 pub returns-in-Move : goal.returns-in-Move
@@ -10,3 +10,8 @@ returns-in-Move g c =
 pub returns-in-Close : goal.returns-in-Close
 returns-in-Close g c =
     ends_at_once c.args.book.now c.args.engine (desk_value g.W.Write.contents c.args.desk.now) c.close.result c.requires c.close.ensures
+
+pub returns-in-Rows : goal.returns-in-Rows
+returns-in-Rows g c =
+    let dv = desk_value g.W.Write.contents in
+    rows_gone c.args.book.now c.args.engine (dv c.args.desk.now) c.tell_rows.result (dv c.tell_rows.new.desk) c.tell_rows.ensures

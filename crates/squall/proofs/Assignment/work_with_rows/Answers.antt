@@ -1,4 +1,4 @@
--- What stands behind the main part's first line is what the reader of the rows gives.
+-- What is behind the main part's first line is what the reader of the rows gives.
 use Rattle.squall.proofs.Parts.{with_rows}
 use Rattle.squall.proofs.Assignment.work_with_rows.Goals as goal
 

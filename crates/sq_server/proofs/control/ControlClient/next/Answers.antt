@@ -8,5 +8,6 @@ returns-then-ends g c = speaks_hears _ _ (silent _ _ (c.begin_call.ensures ∙ c
 
 pub returns : goal.returns
 returns g c =
-    subst (λ (desk : ServeDeskValue). Hears [] desk (offered_by c.next_command.result) (desk_value g.W.Write.contents c.next_command.new.self))
-    (c.begin_call.ensures ∙ c.note_stage.ensures) c.next_command.ensures
+    let next = c.next_command-command in
+    subst (λ (desk : ServeDeskValue). Hears [] desk (offered_by next.result) (desk_value g.W.Write.contents next.new.self))
+    (c.begin_call.ensures ∙ c.note_stage.ensures) next.ensures

@@ -1,4 +1,4 @@
-use Rattle.std.proofs.Common.{◌≡◌, [], length, replicate, sum_by, map}
+use Rattle.std.proofs.Common.{◌≡◌, [], length, replicate, sum_by}
 use Rattle.sq_server.proofs.Changes.{jobs_of}
 use Rattle.sq_server.proofs.sides.SideQueues.new.Given as goal
 

@@ -1,0 +1,44 @@
+// Who watches an engine that is served.
+ghost use Rattle.std.specs.Prelude.{ℕ, Bool, List, is_ok};
+
+use sq_plan::PartId;
+use std::io;
+
+/// What is done by an engine that is served.
+#[derive(Clone, Copy, Debug, PartialEq, Eq)]
+pub enum ServeMark {
+    /// An epoch begins: in a move of so many segments, or at rest.
+    EpochBegins {
+        segments: Option<u64>,
+    },
+    /// So many segments of its stage are complete.
+    SegmentsComplete {
+        complete: u64,
+    },
+    /// It is to end.
+    EpochEnds,
+    /// The job with this id is offered to the engine, for the first time or once more.
+    JobOffered {
+        id: u64,
+    },
+    /// It is answered by a partition, which committed or aborted it.
+    JobAnswered {
+        part: PartId,
+        id: u64,
+        is_commit: bool,
+    },
+}
+
+/// Who watches an engine that is served, and saves its rows. It changes nothing of what lines are answered, but for whether rows
+/// were saved.
+pub trait ServeWatch {
+    // That a text was to be saved under a name, and was or wasn't.
+    ghost Saves: { Self → List ℕ → List ℕ → Bool → Type 0 };
+
+    /// Takes note of what is done.
+    fn mark(&self, mark: ServeMark);
+
+    /// Saves a text under a name.
+    fn save(&self, name: &str, text: &[u8]) -> io::Result<()>
+        ensures { Saves self.now name.now text.now (is_ok result) };
+}

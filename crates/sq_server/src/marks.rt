@@ -1,0 +1,69 @@
+// What is done in an epoch, as it is marked for who watches.
+use crate::desk::MoveProgress;
+use sq_engine::{Command, StageProgress};
+use sq_node::Receipt;
+use sq_plan::PartId;
+use sq_schema::Reply;
+use sq_serve::{ServeMark, ServeWatch};
+
+/// Marks what is done in an epoch.
+#[derive(Drop)]
+pub struct EpochMarks<'a, V: ServeWatch> {
+    watch: &'a V,
+    has_begun: bool,
+    // How many segments were complete, as was marked last.
+    complete: u64,
+}
+
+impl<'a, V: ServeWatch> EpochMarks<'a, V> {
+    /// For this one, in an epoch that hasn't begun.
+    pub fn new(watch: &'a V) -> EpochMarks<'a, V> {
+        EpochMarks {
+            watch,
+            has_begun: false,
+            complete: 0,
+        }
+    }
+
+    // Marks at the first call that the epoch begins.
+    pub(crate) fn begin(&mut self, moving: Option<MoveProgress>) {
+        if self.has_begun {
+            return;
+        }
+        self.has_begun = true;
+        let segments = moving.map(|moving| moving.segments);
+        self.watch.mark(ServeMark::EpochBegins { segments });
+    }
+
+    // Marks how far the stage is, where that has changed.
+    pub(crate) fn note_progress(&mut self, stage: StageProgress) {
+        let complete = stage.complete;
+        if self.complete != complete {
+            self.complete = complete;
+            self.watch.mark(ServeMark::SegmentsComplete { complete });
+        }
+    }
+
+    // Marks the job that a command offers, if it offers one.
+    pub(crate) fn offer(&self, command: &Command) {
+        if let Command::Post(job) = command {
+            self.watch.mark(ServeMark::JobOffered { id: job.txn.id() });
+        }
+    }
+
+    // Marks an answer of a partition.
+    pub(crate) fn answer(&self, part: PartId, receipt: &Receipt) {
+        let is_commit = matches!(&receipt.reply, Reply::Committed(_));
+        let id = receipt.id;
+        self.watch.mark(ServeMark::JobAnswered {
+            part,
+            id,
+            is_commit,
+        });
+    }
+
+    // Marks that the epoch is to end.
+    pub(crate) fn end(&self) {
+        self.watch.mark(ServeMark::EpochEnds);
+    }
+}

@@ -1,0 +1,21 @@
+// What stands beside an engine that is served.
+use sq_serve::ServeWatch;
+use sq_server::AuditProgress;
+
+/// What stands beside an engine that is served: the audit of a page, and who watches.
+#[derive(Drop)]
+pub(crate) struct Beside<'a, V: ServeWatch> {
+    /// How far the audit is that goes on.
+    pub(crate) audit: AuditProgress,
+    pub(crate) watch: &'a V,
+}
+
+impl<'a, V: ServeWatch> Beside<'a, V> {
+    /// No audit, and this one, who watches.
+    pub(crate) fn new(watch: &'a V) -> Beside<'a, V> {
+        Beside {
+            audit: AuditProgress::none(),
+            watch,
+        }
+    }
+}

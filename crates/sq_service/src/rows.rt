@@ -1,0 +1,130 @@
+// The rows of an engine that is served.
+ghost use Rattle.std.specs.Prelude.{◌⊎◌, IfOk, IsSome, Some};
+ghost use Rattle.sq_engine.specs.Engine.{stores_in};
+ghost use Rattle.sq_server.specs.Becoming.{desk_value, Speaks};
+ghost use Rattle.sq_service.specs.Rows.{IsRowsText, GivesRows, RowsAreGiven, TellsRowsOrSpeaks};
+
+use sq_engine::{Engine, NotTaken};
+use sq_results::write_stored_rows;
+use sq_runs::RunStore;
+use sq_schema::OUT_OF_MEMORY;
+use sq_serve::{RowsFile, ServeAnswer, ServeWatch};
+use sq_server::{AskedRows, ServeDesk};
+use std::alloc::Global;
+use std::io;
+use std::io::Write;
+use std::sync::Wait;
+
+// The number of the refusal while rows move.
+const MOVING: u16 = 217;
+
+// The number of the refusal where a file can't be written.
+const UNWRITTEN: u16 = 124;
+
+/// Tells the rows of an engine at rest, or has them saved in the file that a line names. Where rows move, or there is no memory, it
+/// tells that.
+pub(crate) fn tell_rows<R: Wait, W: Write + Drop, V: ServeWatch>(
+    rt: &R,
+    alloc: Global,
+    engine: Engine,
+    desk: &mut ServeDesk<W>,
+    watch: &V,
+    asked: AskedRows,
+) -> Engine
+    ensures { TellsRowsOrSpeaks engine (desk_value W.contents desk.old)
+        result (desk_value W.contents desk.new) }
+{
+    match engine.pause(rt, alloc) {
+        Ok(engine) => {
+            give_engine_rows(alloc, &engine, desk, watch, asked);
+            engine
+        }
+        Err((why, engine)) => {
+            say_not_paused(desk, why, asked.line);
+            engine
+        }
+    }
+}
+
+// Tells why the rows that a line asks for aren't told.
+fn say_not_paused<W: Write + Drop>(desk: &mut ServeDesk<W>, why: NotTaken, line: u64)
+    ensures { Speaks (desk_value W.contents desk.old) (desk_value W.contents desk.new) }
+{
+    match why {
+        NotTaken::Moving => desk.say_refused(MOVING),
+        NotTaken::Memory => say_memory(desk, line),
+    }
+}
+
+// Tells that there is no memory for what a line asks.
+fn say_memory<W: Write + Drop>(desk: &mut ServeDesk<W>, line: u64)
+    ensures { Speaks (desk_value W.contents desk.old) (desk_value W.contents desk.new) }
+{
+    desk.say(ServeAnswer::Fault {
+        fault: OUT_OF_MEMORY,
+        line,
+    });
+}
+
+// Tells the rows of an engine no epoch of which runs, or has them saved. Where there is no memory for that it tells so.
+fn give_engine_rows<W: Write + Drop, V: ServeWatch>(
+    alloc: Global,
+    engine: &Engine,
+    desk: &mut ServeDesk<W>,
+    watch: &V,
+    asked: AskedRows,
+)
+    requires { IsSome (stores_in engine.now) }
+    ensures { RowsAreGiven (V.Saves watch.now) engine.now asked.file
+        (desk_value W.contents desk.old) (desk_value W.contents desk.new)
+        ⊎ Speaks (desk_value W.contents desk.old) (desk_value W.contents desk.new) }
+{
+    let Some(stores) = engine.stores() else {
+        unreachable!()
+    };
+    match rows_text(alloc, stores) {
+        Ok(text) => give_rows(desk, watch, &text, asked.file),
+        Err(_) => say_memory(desk, asked.line),
+    }
+}
+
+// The lines of the rows of stores. An error is that there is no memory.
+fn rows_text(alloc: Global, stores: &[RunStore]) -> io::Result<Vec<u8>>
+    ensures { IfOk result (λ text. IsRowsText stores.now text.items) }
+{
+    let mut text = Vec::new(alloc);
+    write_stored_rows(alloc, &mut text, stores)?;
+    Ok(text)
+}
+
+// Tells rows with these lines, or has them saved in a file.
+fn give_rows<W: Write + Drop, V: ServeWatch>(
+    desk: &mut ServeDesk<W>,
+    watch: &V,
+    lines: &[u8],
+    file: Option<RowsFile>,
+)
+    ensures { GivesRows (V.Saves watch.now) file lines.now
+        (desk_value W.contents desk.old) (desk_value W.contents desk.new) }
+{
+    match file {
+        None => desk.say_rows(lines),
+        Some(file) => save_rows(desk, watch, &file, lines),
+    }
+}
+
+// Has rows with these lines saved in a file, and tells how many there are, or that the file can't be written.
+fn save_rows<W: Write + Drop, V: ServeWatch>(
+    desk: &mut ServeDesk<W>,
+    watch: &V,
+    file: &RowsFile,
+    lines: &[u8],
+)
+    ensures { GivesRows (V.Saves watch.now) (Some file.now) lines.now
+        (desk_value W.contents desk.old) (desk_value W.contents desk.new) }
+{
+    match watch.save(file.name(), lines) {
+        Ok(()) => desk.say_row_count(lines),
+        Err(_) => desk.say_refused(UNWRITTEN),
+    }
+}
