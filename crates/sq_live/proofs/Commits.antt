@@ -58,7 +58,6 @@ each_one f (x ∷ xs) one =
     let e : sum_by f (x ∷ xs) ≡ length (x ∷ xs) = omega (arith, here, rest, all) in
     e
 
--- one that is there counts
 some_count : {X : Type 0} (p : X → Bool) (xs : List X) (x : X) → Contains xs x → p x ≡ true → 1 ≤ count_by p xs
 some_count p [] x has passes = absurd (Contains-nothing x has)
 some_count p (y ∷ ys) x has passes = elim (Contains-cases y ys x has) [

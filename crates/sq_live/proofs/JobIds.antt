@@ -12,7 +12,7 @@ use Rattle.sq_audit.specs.Answers.{IdsDiffer}
 use Rattle.sq_live.specs.declared.job_list.TheConstants.{MAX_JOBS}
 use Rattle.sq_live.specs.Jobs.{has_id, HasIds}
 
--- what stands in a list behind which one more was put
+-- what is in a list behind which one more was put
 last_or : {X : Type 0} (xs : List X) (x y : X) (i : ℕ) → slice_get (xs ++ x ∷ []) i ≡ Some y → (slice_get xs i ≡ Some y) ⊎ ((i ≡ length xs) × (y ≡ x))
 last_or [] x y zero at = inr (refl, cc)
 last_or [] x y (suc i) at = absurd cc

@@ -27,7 +27,7 @@ use Rattle.sq_text.specs.Steps.{step_of}
 
 -- ---- one line
 
--- what comes of a job for which there is room, and which is of a partition and new
+-- the result of a job for which there is room, and which is of a partition and new
 taken : (full within known : Bool) (made job : Job) → (if full then Err faults.TooMany else (if within then (if known then Err faults.RepeatedId else Ok made) else Err faults.NoSuchPartition)) ≡ Ok job → (within ≡ true) × (made ≡ job)
 taken true within known made job e = absurd cc
 taken false false known made job e = absurd cc

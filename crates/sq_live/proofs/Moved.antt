@@ -63,7 +63,7 @@ below_or_at a b le = elim (cases_lt a b) [
 ]
 
 module _ (o : OpeningValue) (g : GatheredValue) (is : IsOpening o) where
-  -- where marks tell which segments are complete, as many count
+  -- where marks say which segments are complete, as many count
   pub marks_counted : (moved : List Bool) → MarksMoved g.statuses moved → marked_count o.recon g.stage moved ≡ moved_count o g
   marks_counted moved each = same_count _ (segment_has_moved o g) 0 (length o.recon.segments) (λ seg low high.
       let few = is.few_segments in

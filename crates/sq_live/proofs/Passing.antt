@@ -25,9 +25,10 @@ use Rattle.sq_live.specs.Stages.{ContinuesWith, HavePassed, IsReady, ComesAfterS
 use Rattle.sq_live.specs.Live.{WereRun}
 use Rattle.sq_stages.proofs.Complete.{complete_by, marked_by, gone_on_by, ended_by}
 
--- ---- what the leader was told of marks, in the stage that was gathered
+-- ---- what the leader heard of marks, in the stage that was gathered
 
--- a stage ran and left this, and the leader was told in that stage of the segments that are marked: they are the complete ones
+-- a stage ran and left this, and the leader heard in that stage of the segments that are marked: they are the complete
+-- ones
 pub record WasTold (account : AccountValue) (moving : StageValue) (began : BeganWith) (g : GatheredValue) (moved : List Bool) : Type 0 where
   pub is : IsOpening account.opening
   pub ran : RanFrom account.opening began g
@@ -47,7 +48,7 @@ module _ (account : AccountValue) (moving : StageValue) (began : BeganWith) (g :
   ended : (at : StageValue) → HasEnded account.opening moving.stage (is_told_whole moved) at → HasEnded account.opening g.stage (is_whole_in g) at
   ended at has = subst (λ (n : ℕ). HasEnded account.opening n (is_whole_in g) at) told.now (ended_by account.opening moving.stage (is_told_whole moved) (is_whole_in g) same at has)
 
-  -- it went on
+  -- it continued
   module _ (next : StageValue) (led : Leads account.opening moving.stage (is_told_whole moved) (Next next)) where
     pub done_before : IsStageDone account.opening g
     done_before = stage_done led.1
@@ -73,7 +74,7 @@ module _ (account : AccountValue) (moving : StageValue) (began : BeganWith) (g :
   pub not_done : Leads account.opening moving.stage (is_told_whole moved) Missing → IsStageDone account.opening g → ⊥
   not_done none done = none (marked_by account.opening moving.stage (is_told_whole moved) (is_whole_in g) same (subst (λ (n : ℕ). AreComplete account.opening n (is_whole_in g)) (sym told.now) done))
 
--- ---- what a run goes on with
+-- ---- what a run continues with
 
 -- it is placed, with the segments of the same stage complete, and moves the same
 pub record GoesOnWith (old : AccountValue) (g : GatheredValue) (new : AccountValue) (next : GatheredValue) : Type 0 where
@@ -173,7 +174,6 @@ module _ (folds : Bool) (o : OpeningValue) (jobs : List Job) where
     were_run ending comes =
         record { set_up = at.set_up; differ = at.differ; earlier = at.earlier; account = ready.account; began = at.began; passed = at.passed; gathered = comes.0; ran = comes.1; came = comes.2 }
 
-    -- fewer are left then
     pub fewer_left : (next : Ready) → ComesAfterStage folds ready.account at.began (Continue next) → ready.moving.stage < stages ready.moving.recon → stages_left next < stages_left ready
     fewer_left next comes within =
         let (g, later, passed, is) = comes in

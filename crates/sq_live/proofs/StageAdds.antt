@@ -1,4 +1,4 @@
--- What a stage that was found sound adds to a run: the logs of its families, and the receipts that tell them.
+-- What a stage that was found sound adds to a run: the logs of its families, and the receipts that name them.
 use Rattle.std.proofs.Common.{◌≡◌, inl, inr, ℕ, ◌+◌, ◌≤◌, ◌==◌, true, false, List, [], length, slice_get, Contains, Option, Some, None, refl, sym, ap, ap₂, ◌∙◌, subst, arith}
 use Rattle.std.specs.Prelude.{◌&&◌, not, count_by, unwrap_or}
 use Rattle.std.proofs.lemmas.Bool.{cases_Bool, and_parts, eqb-true, lt-ltb, not-false}
@@ -32,7 +32,7 @@ use Rattle.sq_audit.proofs.Lists.{counted}
 use Rattle.sq_audit.proofs.Parts.{counted_once, at_most_once}
 use Rattle.sq_live.specs.WholeRun.{stored_family}
 
--- a transaction of a log is a job's, and a receipt of a commit tells it at its position
+-- a transaction of a log is a job's, and a receipt of a commit names it at its position
 pub record IsLogged (g : GatheredValue) (taken : List Job) (root position : ℕ) (txn : TxnValue) : Type 0 where
   pub job : Job
   pub among : Contains taken job
@@ -131,7 +131,7 @@ module _ (o : OpeningValue) (is : IsOpening o) (table : TableValue) where
         let (job, family, among, of, answer) = sound.known receipt has in
         (job, among, subst (λ (f : FamilyValue). IsAnswerTo f job.txn receipt) (family_is receipt.root family of) answer)
 
-    -- and each transaction of its log is told
+    -- and each transaction of its log has a receipt
     pub logged : (root position : ℕ) (txn : TxnValue) → slice_get (stored_then root).log position ≡ Some txn → IsLogged g taken root position txn
     logged root position txn at = by (family_at_spot g (Store (owner_then root)) root) refl
       where

@@ -84,7 +84,7 @@ abbrev pub IsSettled : List ReceiptValue → List Job → Job → Type 0
 IsSettled receipts left job =
     (Contains left job × (count_by (is_of job.txn) receipts ≡ 0)) ⊎ ((Contains left job → ⊥) × (count_by (is_of job.txn) receipts ≡ 1))
 
--- these stages told the answers of the jobs that are no more left, and the rows now are those of the whole logs
+-- these stages had the answers of the jobs that are no more left, and the rows now are those of the whole logs
 pub record HaveTold (o : OpeningValue) (jobs : List Job) (stages : List GatheredValue) (rows : ℕ → RowList) (left : List Job)
     (committed : ℕ) : Type 0 where
   pub rows_are : (root : ℕ) → rows root ≡ rows_of (whole_family o stages root)
@@ -226,7 +226,7 @@ module _ (o : OpeningValue) (is : IsOpening o) (jobs : List Job) (differ : IdsDi
       ))
       (told.settled job has)
 
-  -- the stage told more
+  -- the stage added more
   pub told_more : (rows : ℕ → RowList) → ((root : ℕ) → rows root ≡ rows_of (stored root)) → HaveTold o jobs (g ∷ earlier) rows rest (committed + commit_count g.receipts)
   told_more rows same =
       let commits = told.commits in
@@ -243,7 +243,7 @@ module _ (o : OpeningValue) (is : IsOpening o) (jobs : List Job) (differ : IdsDi
 
 -- ---- from stage to stage
 
--- so it is once a run goes on with this account
+-- so it is once a run continues with this account
 pub record HaveToldTo (o : OpeningValue) (jobs : List Job) (stages : List GatheredValue) (account : AccountValue) : Type 0 where
   pub opening : account.opening ≡ folded_opening o account.opening.table
   pub told : HaveTold o jobs stages (λ root. rows_in account.opening.table root) account.jobs account.committed
@@ -319,14 +319,14 @@ module _ (o : OpeningValue) (is : IsOpening o) (jobs : List Job) (differ : IdsDi
       told = subst (λ (p : TableValue × List Job × ℕ). HaveTold o jobs (g ∷ earlier) (λ root. rows_in p.0 root) p.1 p.2) (λ i. (sym new_table i, sym new_jobs i, sym fold.committed i)) at_fold;
     }
 
-  -- with folds each stage tells its own
+  -- with folds each stage has its own
   pub told_by_folds : (earlier : List GatheredValue) (account : AccountValue) (began : BeganWith) → HavePassed true o jobs earlier account began → HaveToldTo o jobs earlier account
   told_by_folds [] account began passed = at_begin account passed.0
   told_by_folds (g ∷ earlier) account began passed =
       let (old, before, have, has) = passed in
       once_folded earlier old (told_by_folds earlier old before have) g account has.next has.done has.continues
 
-  -- without them all is told in the end
+  -- without them the end has all
   same_account : (earlier : List GatheredValue) (account : AccountValue) (began : BeganWith) → HavePassed false o jobs earlier account began → account ≡ first_account o jobs
   same_account [] account began passed = passed.0
   same_account (g ∷ earlier) account began passed =

@@ -26,7 +26,7 @@ live_fault_number (Job told) = job_fault_number told.fault
 abbrev pub out_of_memory : LiveFault
 out_of_memory = Input (located input.Memory None)
 
--- the fault of the line with this number. That memory ran out belongs to no line
+-- the fault of the line with this number; want of memory has no line
 abbrev pub fault_at : ℕ → JobFault → LiveFault
 fault_at line Memory = out_of_memory
 fault_at line fault = Job (record { fault = fault; line = line })

@@ -27,7 +27,7 @@ fresh_job parts jobs part txn =
     if nat_lt part parts then (if has_id txn.id jobs then Err RepeatedId else Ok (record { part = part; txn = txn }))
     else Err NoSuchPartition
 
--- what is told of a transaction, unless there are as many jobs as there may be
+-- the finding on a transaction, unless there are as many jobs as there may be
 abbrev pub if_room : List Job → Result Job JobFault → Result Job JobFault
 if_room jobs told = if length jobs == MAX_JOBS then Err TooMany else told
 
@@ -73,11 +73,11 @@ AddsJob tables parts old line (Ok done) new = (job : Job) × (job_of tables part
 AddsJob tables parts old line (Err Memory) new = new ≡ old
 AddsJob tables parts old line (Err fault) new = (job_of tables parts old line ≡ Err fault) × (new ≡ old)
 
--- these are the jobs that what comes of a reader of lines spells
+-- these are the jobs that the pieces of a reader of lines spell
 abbrev pub AreJobs : ℕ → ℕ → LinesValue → List Job → Type 0
 AreJobs tables parts lines jobs = (pieces : List PieceValue) × CanCome lines pieces × (jobs_in tables parts [] pieces ≡ Ok jobs)
 
--- this is the first fault of what comes of a reader of lines, unless memory ran out
+-- this is the first fault of the pieces of a reader of lines, unless memory ran out
 abbrev pub IsFirstFault : ℕ → ℕ → LinesValue → LiveFault → Type 0
 IsFirstFault tables parts lines fault =
     (pieces : List PieceValue) × CanCome lines pieces × (fault ≢ out_of_memory → jobs_in tables parts [] pieces ≡ Err fault)

@@ -11,7 +11,7 @@ use Rattle.sq_live.specs.declared.job_list.TheConstants.{MAX_JOBS}
 abbrev pub has_id : ℕ → List Job → Bool
 has_id id jobs = list_any (λ job. job.txn.id == id) jobs
 
--- these are the ids of the jobs, no two of which have the same, and there are not too many
+-- these are the ids of the jobs, which all differ, and there are not too many
 pub record HasIds (jobs : List Job) (ids : BTreeSet ℕ) : Type 0 where
   pub differ : IdsDiffer jobs
   pub each : (id : ℕ) → contains nat_cmp ids id ≡ has_id id jobs

@@ -49,8 +49,8 @@ pub record HasJobFault (tables : ℕ) (given : List PieceValue) (fault : LiveFau
 abbrev pub HaveFault : ℕ → List PieceValue → LiveFault → Type 0
 HaveFault tables given fault = HasHeaderFault tables given fault ⊎ HasJobFault tables given fault
 
--- jobs were run from an opening, stage by stage, with or without folds between them.
--- Whatever the threads did, what each stage left is placed and goes on from what it began with, and this is what the last one came to
+-- jobs were run from an opening, stage by stage, with or without folds between them. Whatever the threads did, what
+-- each stage left is placed and continues what it began with, and this is the outcome of the last one
 pub record WereRun (folds : Bool) (o : OpeningValue) (jobs : List Job) (outcome : LiveOutcome) : Type 0 where
   pub set_up : IsOpening o
   pub differ : IdsDiffer jobs
@@ -63,7 +63,7 @@ pub record WereRun (folds : Bool) (o : OpeningValue) (jobs : List Job) (outcome 
   pub ran : RanFrom account.opening began gathered
   pub came : CameTo folds account gathered outcome
 
--- the jobs that the pieces spell were run and came to this, or the pieces have this fault
+-- the jobs that the pieces spell were run with this outcome, or the pieces have this fault
 abbrev pub EndsLive : Bool → ℕ → List PieceValue → LiveEnding → Type 0
 EndsLive folds tables given (Done outcome) =
     (o : OpeningValue) × (jobs : List Job) × SpellJobs tables given o jobs × WereRun folds o jobs outcome
@@ -79,11 +79,11 @@ abbrev pub RunsLive : Bool → ℕ → Option (List ℕ) → Option (List ℕ) �
 RunsLive folds tables known before now ending =
     (given : List PieceValue) × IsGiven known given × EndsLive folds tables given ending × Appends before now (ending_line ending)
 
--- what can come of a reader of lines spells these jobs
+-- pieces that a reader of lines may give spell these jobs
 abbrev pub ComesToSpell : ℕ → LinesValue → OpeningValue → List Job → Type 0
 ComesToSpell tables lines o jobs = (given : List PieceValue) × CanCome lines given × SpellJobs tables given o jobs
 
--- what can come of a reader of lines has this fault
+-- pieces that a reader of lines may give have this fault
 abbrev pub ComesToFail : ℕ → LinesValue → LiveFault → Type 0
 ComesToFail tables lines fault = (given : List PieceValue) × CanCome lines given × HaveFault tables given fault
 

@@ -1,4 +1,4 @@
--- What live runs come to, by what was gathered of their last stage and what is counted of those before.
+-- The outcomes of live runs, by what was gathered of their last stage and what is counted of those before.
 use Rattle.std.specs.Prelude.{◌≡◌, ◌⊎◌, ℕ, ◌+◌, ◌^◌, ◌<◌, ◌||◌, Bool, true, nat_lt, List, [], ◌∷◌, length, sum_by, count_by, codes, decimal}
 use Rattle.std.specs.List.{range_with_len}
 use Rattle.std.specs.FinMap.{len}
@@ -38,8 +38,8 @@ outcome_status (Unsound defect) = 4
 abbrev pub answered_count : List ReceiptValue → List Job → ℕ
 answered_count receipts jobs = length (answered_jobs receipts jobs)
 
--- the segment of this number is complete:
--- it moved in an earlier stage than the one that was gathered, or its node 1 reads complete; one of which no statuses were gathered doesn't
+-- the segment of this number is complete: it moved in an earlier stage than the one that was gathered, or its node 1
+-- reads complete; a segment without gathered statuses doesn't
 abbrev pub segment_has_moved : OpeningValue → GatheredValue → ℕ → Bool
 segment_has_moved o g seg = nat_lt (stage_at o.recon seg) g.stage || is_whole_in g seg
 
@@ -86,14 +86,14 @@ pub record IsFoundSound (account : AccountValue) (g : GatheredValue) (families c
   pub families_are : stored_count g < 2 ^ 64 → families ≡ stored_count g
   pub committed_are : committed ≡ account.committed + commit_count g.receipts
 
--- an audit found this defect first: that of the fold between two stages, or that of all jobs in the end
+-- an audit found this defect first: the fold's between two stages, or the one of all jobs in the end
 abbrev pub IsFoundUnsound : Bool → AccountValue → GatheredValue → Defect → Type 0
 IsFoundUnsound folds account g defect =
     ((folds ≡ true) × (leader : StageValue) × HasGoneOn account.opening g.stage (is_whole_in g) leader
     × IsFirstDefect account.opening g (answered_jobs g.receipts account.jobs) defect)
     ⊎ (IsDone account g × IsFirstDefect account.opening g account.jobs defect)
 
--- this is what a run comes to whose last stage left this; the logs are folded between stages, or not
+-- this is the outcome of a run whose last stage left this; the logs are folded between stages, or not
 abbrev pub CameTo : Bool → AccountValue → GatheredValue → LiveOutcome → Type 0
 CameTo folds account g (Sound families committed) = IsFoundSound account g families committed
 CameTo folds account g (Stopped answered posted complete segments) = HasStopped account g answered posted complete segments

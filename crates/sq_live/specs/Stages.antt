@@ -20,7 +20,8 @@ use Rattle.sq_live.specs.Account.{AccountValue, first_account}
 use Rattle.sq_stages.specs.Leading.{leading, HasGoneOn}
 use Rattle.sq_live.specs.Outcome.{commit_count, CameTo}
 
--- the jobs with receipts were audited and the logs are folded: both are counted, and what is gone on with is what the fold gave
+-- the jobs with receipts were audited and the logs are folded: both are counted, and what is continued with is what the
+-- fold gave
 pub record HasFolded (old : AccountValue) (g : GatheredValue) (new : AccountValue) (next : GatheredValue) : Type 0 where
   pub folded : Folded
   pub is : IsFold old.opening g old.jobs folded
@@ -30,18 +31,18 @@ pub record HasFolded (old : AccountValue) (g : GatheredValue) (new : AccountValu
   pub committed : new.committed ≡ old.committed + commit_count g.receipts
   pub gathered : next ≡ folded.gathered
 
--- what a run goes on with after a stage: what the fold gives, or where logs aren't folded all as it is
+-- what a run continues with after a stage: what the fold gives, or where logs aren't folded all as it is
 abbrev pub ContinuesWith : Bool → AccountValue → GatheredValue → AccountValue → GatheredValue → Type 0
 ContinuesWith true old g new next = HasFolded old g new next
 ContinuesWith false old g new next = (new ≡ old) × (next ≡ g)
 
--- a run goes on so, or the fold's audit found a defect
+-- a run continues so, or the fold's audit found a defect
 abbrev pub Continues : Bool → AccountValue → GatheredValue → ControlFlow Defect (AccountValue × GatheredValue) → Type 0
 Continues folds old g (Continue now) = ContinuesWith folds old g now.0 now.1
 Continues folds old g (Break defect) = (folds ≡ true) × IsFirstDefect old.opening g (answered_jobs g.receipts old.jobs) defect
 
--- a stage that began so left this, with all of its segments complete, the leader went on,
--- and the next stage began with what the run goes on with
+-- a stage that began so left this, with all of its segments complete, the leader moved on, and the next stage began
+-- with what the run continues with
 pub record HasPassed (folds : Bool) (old : AccountValue) (began : BeganWith) (g : GatheredValue) (new : AccountValue)
     (later : BeganWith) : Type 0 where
   pub ran : RanFrom old.opening began g
@@ -70,7 +71,7 @@ ComesAfterStage folds account began (Break outcome) =
 ComesAfterStage folds account began (Continue ready) =
     (g : GatheredValue) × (later : BeganWith) × HasPassed folds account began g ready.account later × IsReady later ready
 
--- what a run goes on to where the leader goes on: the next stage is ready, or the fold's audit ended the run at a defect
+-- the next stage is ready, where the leader moved on, or the fold's audit ended the run at a defect
 abbrev pub GoesOnTo : Bool → AccountValue → GatheredValue → ControlFlow LiveOutcome Ready → Type 0
 GoesOnTo folds old g (Break ended) =
     (defect : Defect) × (ended ≡ outcome.Unsound defect) × Continues folds old g (Break defect)

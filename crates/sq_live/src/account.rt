@@ -35,7 +35,7 @@ impl Model for Account {
 }
 
 impl Account {
-    /// That of a run before its first stage.
+    /// The account of a run before its first stage.
     pub(crate) fn new(opening: Opening, jobs: JobList) -> Account
         ensures { result ≡ first_account opening jobs }
     {

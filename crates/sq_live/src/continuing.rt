@@ -1,4 +1,4 @@
-// What a run goes on with after a stage.
+// What a run continues with after a stage.
 ghost use Rattle.std.specs.Prelude.{IfOk, true};
 ghost use Rattle.sq_node_model.specs.Prelude.{IsStageDone};
 ghost use Rattle.sq_live.specs.Stages.{Continues};
@@ -11,8 +11,8 @@ use std::alloc::{AllocError, Global};
 use std::ops::ControlFlow;
 use std::thread::Threads;
 
-/// What a run goes on with after a stage whose segments are complete: with all as it is, or, if it folds logs, with what
-/// [`fold`] gives, once that is counted. It breaks off at the first defect of what was gathered.
+/// What a run continues with after a stage whose segments are complete: with all as it is, or, if it folds logs, with
+/// what [`fold`] gives, once that is counted. It breaks off at the first defect of what was gathered.
 pub(crate) fn continue_with<R: Threads + Sync>(
     rt: &R,
     alloc: Global,

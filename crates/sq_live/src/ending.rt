@@ -8,14 +8,14 @@ use crate::outcome::LiveOutcome;
 /// How a live run ends.
 #[derive(Clone, Copy, Debug, PartialEq, Eq)]
 pub enum LiveEnding {
-    /// It came to this, and the line of it was written.
+    /// This is the outcome, and its line was written.
     Done(LiveOutcome),
     /// It has this fault, whose number was written.
     Fault(LiveFault),
 }
 
 impl LiveEnding {
-    /// The exit status: that of the outcome, and 2 after a fault.
+    /// The exit status: the outcome's, and 2 after a fault.
     pub fn status(self) -> u8
         ensures { result ≡ ending_status self }
     {

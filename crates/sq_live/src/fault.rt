@@ -64,7 +64,7 @@ impl JobFault {
         }
     }
 
-    // The fault of the line with this number. That memory ran out belongs to no line.
+    // The fault of the line with this number. Want of memory has no line.
     pub(crate) fn at(self, line: u32) -> LiveFault
         ensures { result ≡ fault_at line self }
     {

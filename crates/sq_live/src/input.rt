@@ -25,18 +25,19 @@ use std::io::{Read, Write};
 use std::sync::Wait;
 use std::thread::Threads;
 
-/// Reads an input, runs its jobs in threads while rows move, audits what is left, and writes one line of what that comes to.
+/// Reads an input, runs its jobs in threads while rows move, audits what is left, and writes one line with the outcome.
 ///
-/// The input is a header, as [`read_header`] has it for a schema of [`MAX_TABLES`] tables, and jobs, as [`read_jobs`] has
-/// them. Where it has a fault, no thread is started, and the line tells the fault. Else the stages of the move run one after
-/// another: each partition and each pump runs in a thread of its own, each of them up to so many turns in a stage, and asks
-/// `watch` before each step. A stage whose segments aren't all complete then stops the run. With `folds` the jobs that are
-/// answered are audited between two stages, and the logs folded. Where memory runs out, the line is that of its fault.
+/// The input is a header, as [`read_header`] has it for a schema of [`MAX_TABLES`] tables, and jobs, as [`read_jobs`]
+/// has them. Where it has a fault, no thread is started, and the line has the fault. Else the stages of the move run
+/// one after another: each partition and each pump runs in a thread of its own, each of them up to so many turns in a
+/// stage, and asks `watch` before each step. A stage whose segments aren't all complete then stops the run. With
+/// `folds` the jobs that are answered are audited between two stages, and the logs folded. Where memory runs out, the
+/// line is that of its fault.
 ///
 /// An error is a write or a flush that failed.
 ///
-/// Whatever the threads do, what they leave is placed, and the line says `sound` only where each audit found it so. Then the
-/// run ended as [`a_sound_run_ends_where_planned`](crate::laws::a_sound_run_ends_where_planned) has it.
+/// Whatever the threads do, what they leave is placed, and the line says `sound` only where each audit found it so.
+/// Then the run ended as [`a_sound_run_ends_where_planned`](crate::laws::a_sound_run_ends_where_planned) has it.
 pub fn live<T: Threads + Wait + Sync, R: Read, W: Write, G: Watch>(
     rt: &T,
     alloc: Global,
@@ -123,7 +124,7 @@ fn read_input<R: Read>(
     Ok((opening, jobs))
 }
 
-// What a run of jobs from an opening comes to. The move starts before the first thread does.
+// The outcome of a run of jobs from an opening. The move starts before the first thread does.
 fn run_input<T: Threads + Wait + Sync, G: Watch>(
     rt: &T,
     alloc: Global,

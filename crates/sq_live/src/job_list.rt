@@ -88,7 +88,6 @@ impl JobList {
         }
     }
 
-    // Adds a job.
     fn add(&mut self, parts: u8, part: u64, txn: Txn) -> Result<(), JobFault>
         ensures { AddsFresh parts self.old part txn result self.new }
     {

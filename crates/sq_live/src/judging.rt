@@ -1,4 +1,4 @@
-// What a live run came to, by what was gathered of its last stage.
+// The outcome of a live run, by what was gathered of its last stage.
 ghost use Rattle.std.specs.Prelude.{◌≡◌, ◌≤◌, ◌<◌, ◌+◌, ◌^◌, ◌||◌, nat_lt, Bool, length, sum_by, IfOk};
 ghost use Rattle.std.specs.FinMap.{len};
 ghost use Rattle.sq_ranges.specs.declared.segment.TheConstants.{SEGMENT_LIMIT};
@@ -25,8 +25,8 @@ use std::thread::Threads;
 /// How many segments there are at most, as the length of an array.
 const SEGMENTS: usize = SEGMENT_LIMIT as usize;
 
-/// What a run came to whose last stage left this, where the leader ended the move. `moved` marks the segments that are
-/// complete. The run is audited only where each job is answered, and it is sound only where the audit found it so.
+/// The outcome of a run whose last stage left this, where the leader ended the move. `moved` marks the segments that
+/// are complete. The run is audited only where each job is answered, and it is sound only where the audit found it so.
 pub(crate) fn judge_end<R: Threads + Sync>(
     rt: &R,
     alloc: Global,
@@ -55,7 +55,7 @@ pub(crate) fn judge_end<R: Threads + Sync>(
     }
 }
 
-/// What a run came to that stopped after a stage, of which a segment isn't complete.
+/// The outcome of a run that stopped after a stage with a segment that isn't complete.
 pub(crate) fn judge_stopped(
     alloc: Global,
     account: &Account,

@@ -21,9 +21,9 @@ pub fn the_limits()
     ensures jobs { MAX_JOBS ≡ 4096 }
 {}
 
-/// A sound run ends where it was planned: each family is in the store of its owner by the new plan; the rows of each root key
-/// are those of the input, with the jobs on it that committed replayed in the order of its whole log; and each job has one
-/// receipt, which tells what that log gave it. With folds the receipts and logs of all stages count.
+/// A sound run ends where it was planned: each family is in the store of its owner by the new plan; the rows of each
+/// root key are those of the input, with the jobs on it that committed replayed in the order of its whole log; and each
+/// job has one receipt, with what that log gave it. With folds the receipts and logs of all stages count.
 pub fn a_sound_run_ends_where_planned()
     ensures run { (folds : Bool) (o : OpeningValue) (jobs : List Job) (families committed : ℕ)
         → (run : WereRun folds o jobs (LiveOutcome.Sound families committed))

@@ -1,4 +1,4 @@
-// What live runs come to.
+// The outcomes of live runs.
 ghost use Rattle.std.specs.Prelude.{◌≡◌, OnOk};
 ghost use Rattle.std.specs.Io.KnownBytes.{Appends};
 ghost use Rattle.sq_live.specs.Outcome.{outcome_status, outcome_line};
@@ -7,7 +7,7 @@ use sq_audit::Defect;
 use std::io;
 use std::io::Write;
 
-/// What a live run comes to.
+/// The outcome of a live run.
 #[derive(Clone, Copy, Debug, PartialEq, Eq)]
 pub enum LiveOutcome {
     /// Each job is answered, each segment is complete, and each audit found what was gathered sound.
@@ -46,7 +46,7 @@ impl LiveOutcome {
     }
 }
 
-/// Writes the line that a live run comes to. An error is the writer's.
+/// Writes the line of an outcome of a live run. An error is the writer's.
 pub fn write_outcome<W: Write>(writer: &mut W, outcome: LiveOutcome) -> io::Result<()>
     ensures { OnOk result (Appends (W.contents writer.old) (W.contents writer.new) (outcome_line outcome)) }
 {

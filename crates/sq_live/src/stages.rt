@@ -47,9 +47,9 @@ pub(crate) struct Ready {
     pub(crate) run: StageRun,
 }
 
-/// Runs the jobs of an account stage by stage, from the first to the last one or to the first that stops it: each partition
-/// and each pump runs in a thread of its own, and so again in each stage. What the whole run comes to, whatever the threads
-/// did.
+/// Runs the jobs of an account stage by stage, from the first to the last one or to the first that stops it: each
+/// partition and each pump runs in a thread of its own, and so again in each stage. The outcome of the whole run,
+/// whatever the threads did.
 pub(crate) fn run_stages<R: Threads + Wait + Sync, G: Watch>(
     rt: &R,
     alloc: Global,
@@ -106,7 +106,7 @@ fn post_all<R: Wait>(rt: &R, fabric: &Fabric, jobs: &[Job]) -> Result<(), AllocE
     Ok(())
 }
 
-// Runs a stage to its end, and makes the next one ready where the leader goes on.
+// Runs a stage to its end, and makes the next one ready where the leader moves on.
 fn run_stage<R: Threads + Wait + Sync, G: Watch>(
     rt: &R,
     alloc: Global,
@@ -145,7 +145,7 @@ fn free_families<R: Threads + Sync>(rt: &R, stores: Vec<RunStore>) {
     drop(thread::map_vec(rt, stores, &|store: RunStore| drop(store)));
 }
 
-// What comes after a stage whose segments are complete where the leader goes on.
+// Prepares the next stage after a completed one.
 fn go_on<R: Threads + Sync>(
     rt: &R,
     alloc: Global,
@@ -168,8 +168,8 @@ fn go_on<R: Threads + Sync>(
     }
 }
 
-// Drives each partition and each pump in a thread of its own, and gathers what they left. Whatever the threads did, it is
-// placed. `watch` is told before the threads are started, after they have ended, and what was gathered.
+// Drives each partition and each pump in a thread of its own, and gathers what they left. Whatever the threads did, it
+// is placed. `watch` hears of it before the threads are started, after they have ended, and of what was gathered.
 fn drive_all<R: Threads + Wait + Sync, G: Watch>(
     rt: &R,
     alloc: Global,

@@ -1,4 +1,4 @@
--- What the notes of a link come to.
+-- The counts of the notes of a link.
 use Rattle.std.specs.Prelude.{ℕ, ◌-◌, ◌^◌, min, length}
 use Rattle.sq_store.specs.StoreValue.{StoreValue, families_between}
 use Rattle.sq_chunk.specs.declared.chunk.Note.{Note}

@@ -7,7 +7,7 @@ use Rattle.sq_report.specs.declared.counts.LinkCount.{LinkCount}
 use Rattle.sq_report.specs.declared.counts.PartCount.{PartCount}
 use Rattle.sq_report.specs.Counts.{counted}
 
--- by link what moved along it, and by partition what became of jobs there
+-- by link what moved along it, and by partition how jobs ended there
 pub record SummaryValue : Type 0 where
   pub links : List LinkCount
   pub parts : List PartCount

@@ -7,8 +7,8 @@ use std::sync::atomic::{AtomicBool, AtomicU8, AtomicU64, Ordering};
 // The partition of a place that isn't taken.
 const NO_PART: u8 = u8::MAX;
 
-/// Marks of answers, told by many threads. A gate doesn't hear which job was answered: each mark gets its job once the stage
-/// has ended, since the receipts of a node are in the order in which it told of them.
+/// Marks of answers, set by many threads. A gate doesn't hear which job was answered: each mark gets its job once the
+/// stage has ended, since the receipts of a node are in the order of its marks.
 #[derive(Drop)]
 pub(crate) struct AnswerMarks {
     marks: Vec<AnswerMark>,
@@ -107,7 +107,7 @@ impl AnswerMarks {
         Ok(answers)
     }
 
-    /// Adds an event for each answer, by its time less that of the beginning.
+    /// Adds an event for each answer, by its time since the beginning.
     pub(crate) fn add_to(
         &self,
         events: &mut Vec<Event>,

@@ -31,7 +31,7 @@ impl<'a, C: Clock> Stopwatch<'a, C> {
     }
 }
 
-// When a span began that isn't going on.
+// The beginning of a span that isn't running.
 const STOPPED: u64 = u64::MAX;
 
 /// Adds up the time between each beginning and the end that follows.
@@ -55,14 +55,14 @@ impl Elapsed {
         self.began.store(micros, Ordering::SeqCst);
     }
 
-    /// It ends at this time, if it goes on.
+    /// It ends at this time, if it is running.
     pub(crate) fn end(&self, micros: u64) {
         let began = self.began.swap(STOPPED, Ordering::SeqCst);
         self.total
             .fetch_add(micros.saturating_sub(began), Ordering::SeqCst);
     }
 
-    /// How many microseconds that comes to.
+    /// Its microseconds in all.
     pub(crate) fn total(&self) -> u64 {
         self.total.load(Ordering::SeqCst)
     }

@@ -25,7 +25,7 @@ pub struct LinkCount {
     pub chunks: u64,
 }
 
-/// What became of jobs at a partition.
+/// How jobs ended at a partition.
 #[derive(Clone, Copy, Debug, PartialEq, Eq)]
 pub struct PartCount {
     /// How many it committed.
@@ -35,7 +35,7 @@ pub struct PartCount {
 }
 
 impl PartCount {
-    /// Of no jobs.
+    /// The counts of no jobs.
     pub const NONE: PartCount = PartCount {
         committed: 0,
         aborted: 0,

@@ -1,4 +1,4 @@
-// The figures of a run, which are counted while it goes on.
+// The figures of a run, which are counted meanwhile.
 ghost use Rattle.std.specs.Prelude.{◌≡◌, ◌++◌, map, OnOk};
 ghost use Rattle.sq_report.specs.Figures.{link_figures};
 
@@ -19,7 +19,7 @@ pub(crate) struct KeptLinks {
 }
 
 impl KeptLinks {
-    /// That of no stage.
+    /// The figures of no stage.
     pub(crate) fn new(alloc: Global) -> KeptLinks {
         KeptLinks {
             links: Mutex::new(Vec::new(alloc)),

@@ -1,4 +1,4 @@
-// A summary that is counted while a run goes on.
+// A summary that is counted during a run.
 use crate::counts::PartCount;
 use crate::summary::Summary;
 use crate::table::write_summary;
@@ -10,7 +10,7 @@ use std::io::Write;
 use std::sync::atomic::{AtomicBool, Ordering};
 use std::sync::{Mutex, Wait};
 
-/// A summary that is counted while a run goes on, and whether there was memory for all that was to be counted.
+/// A summary that is counted during a run, and whether there was memory for all that was to be counted.
 #[derive(Drop)]
 pub(crate) struct Kept {
     summary: Mutex<Summary>,
@@ -18,7 +18,7 @@ pub(crate) struct Kept {
 }
 
 impl Kept {
-    /// That of no stage.
+    /// An empty summary.
     pub(crate) fn new(alloc: Global) -> Kept {
         Kept {
             summary: Mutex::new(Summary::new(alloc)),
@@ -52,7 +52,7 @@ impl Kept {
         write_summary(writer, &summary, waited)
     }
 
-    /// What became of jobs at each partition.
+    /// How jobs ended at each partition.
     pub(crate) fn parts<R: Wait>(
         &self,
         rt: &R,

@@ -1,5 +1,5 @@
-//! What is told of live runs besides their line: counts by link and by partition, the time that they took, when jobs were
-//! answered and segments complete, what the jobs were answered, and the rows that stand at the end.
+//! What is written of live runs besides their line: counts by link and by partition, the time that they took, when jobs
+//! were answered and segments complete, what the jobs were answered, and the rows at the end.
 #![tactic(auto)]
 
 mod answers;

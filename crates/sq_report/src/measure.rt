@@ -20,7 +20,7 @@ pub(crate) enum Measure {
 }
 
 impl Measure {
-    // That of a family.
+    // The measure of a family.
     fn of(self, family: &Family) -> u64
         ensures { result ≡ measure_of self family.now }
     {
@@ -30,8 +30,8 @@ impl Measure {
         }
     }
 
-    // That of the families of a store from one root key on and below another. A sum that no number holds stays at the
-    // greatest, as in each of these.
+    // The measure of the families of a store from one root key on and below another. A sum that no number holds stays
+    // at the greatest, as in each of these.
     fn between(self, store: &RunStore, lo: u64, hi: u64) -> u64
         ensures { result ≡ told (sum_by (measure_of self) (families_between store.now lo hi)) }
     {
@@ -44,7 +44,7 @@ impl Measure {
         sum
     }
 
-    // That of the families that a store has of the root keys that notes cover.
+    // The measure of the families that a store has of the root keys that notes cover.
     fn stored(self, store: &RunStore, notes: &[Note]) -> u64
         ensures { result ≡ told (sum_by (stored_measure self store.now) notes.now) }
     {
@@ -55,7 +55,7 @@ impl Measure {
         sum
     }
 
-    // That of the families in a chunk.
+    // The measure of the families in a chunk.
     fn carried(self, chunk: &Chunk) -> u64
         ensures { result ≡ told (carried_measure self chunk.now) }
     {
@@ -66,7 +66,7 @@ impl Measure {
         sum
     }
 
-    // That of the families in chunks.
+    // The measure of the families in chunks.
     fn under_way(self, chunks: &[Chunk]) -> u64
         ensures { result ≡ told (sum_by (carried_measure self) chunks.now) }
     {
@@ -77,8 +77,8 @@ impl Measure {
         sum
     }
 
-    /// That of the families of the root keys that the notes of a link cover: at its destination, where the partitions have
-    /// these stores, and in its chunks under way.
+    /// The measure of the families of the root keys that the notes of a link cover: at its destination, where the
+    /// partitions have these stores, and in its chunks under way.
     pub(crate) fn of_link(self, stores: &[RunStore], link: &ClosedLink) -> u64
         ensures { result ≡ told (link_measure self stores.now link.now) }
     {

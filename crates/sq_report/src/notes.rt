@@ -1,4 +1,4 @@
-// What the notes and the chunks of a link come to.
+// The counts of the notes and the chunks of a link.
 ghost use Rattle.std.specs.Prelude.{◌≡◌, length, sum_by, option_copied};
 ghost use Rattle.sq_store.specs.Prelude.{families_between, FirstIs};
 ghost use Rattle.sq_report.specs.Notes.{told, covered_keys, stored_in};

@@ -1,4 +1,4 @@
-// A watch that tells afterwards what a run did.
+// A watch that says afterwards what a run did.
 ghost use Rattle.std.specs.Prelude.{◌≡◌, ◌↔◌, IsTrue, codes, nat_eq};
 ghost use Rattle.std.specs.List.{ends_with};
 
@@ -35,12 +35,12 @@ pub struct Records {
     pub figures: bool,
     /// For what the jobs are answered.
     pub replies: bool,
-    /// For the rows that stand at the end.
+    /// For the rows at the end.
     pub rows: bool,
 }
 
-/// A watch that tells another one all that it is told, keeps count for a summary, and keeps what else it is to record.
-/// Whether a worker goes on is as the other one says.
+/// A watch that passes all on to another one, keeps count for a summary, and keeps what else it is to record. The other
+/// one decides whether a worker continues.
 #[derive(Drop)]
 pub struct RecordingWatch<'a, R, W> {
     rt: &'a R,
@@ -69,7 +69,7 @@ pub enum TimelineForm {
 }
 
 impl TimelineForm {
-    /// That of a file of this name: comma-separated values where it ends in `.csv`, and else a chart.
+    /// The form of a file of this name: comma-separated values where it ends in `.csv`, and else a chart.
     pub fn of_file(name: &str) -> TimelineForm
         ensures { (result ≡ TimelineForm.Csv) ↔ IsTrue (ends_with nat_eq name.now (codes ".csv")) }
     {
@@ -82,8 +82,8 @@ impl TimelineForm {
 }
 
 impl<'a, R: Wait + Clock, W: Watch> RecordingWatch<'a, R, W> {
-    /// One that was told nothing, before another watch. The time of reading goes from now on. It is refused only where there
-    /// is no memory for it.
+    /// A new recorder that forwards to another watch. The time of reading begins now. It is refused only where there is
+    /// no memory for it.
     pub fn new(
         rt: &'a R,
         alloc: Global,
@@ -194,8 +194,8 @@ impl<'a, R: Wait + Clock, W: Watch> RecordingWatch<'a, R, W> {
         }
     }
 
-    /// Writes the rows that stand at the end, as lines of a header by rising key; nothing where they aren't recorded. An error
-    /// is the writer's, or that there was no memory.
+    /// Writes the rows at the end, as lines of a header by rising key; nothing where they aren't recorded. An error is
+    /// the writer's, or that there was no memory.
     pub fn write_rows<O: Write>(&self, writer: &mut O) -> io::Result<()> {
         match &self.rows {
             Some(rows) => rows.write(self.rt, writer),

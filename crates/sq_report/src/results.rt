@@ -1,4 +1,4 @@
-// What a run leaves, which is kept while it goes on.
+// What a run leaves, kept during the run.
 use sq_audit::Job;
 use sq_gather::Gathered;
 use sq_node::Receipt;
@@ -33,7 +33,7 @@ impl KeptReplies {
         }
     }
 
-    /// Takes what receipts tell.
+    /// Takes the answers of receipts.
     pub(crate) fn take<R: Wait>(&self, rt: &R, receipts: &[Receipt]) {
         let taken = self.replies.lock(rt).take(receipts);
         self.note(taken);

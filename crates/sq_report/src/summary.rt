@@ -11,7 +11,7 @@ use sq_runs::RunStore;
 use std::alloc::{AllocError, Global};
 use std::marker::Model;
 
-/// What is counted over the stages of a run: what moved along each link, and what became of jobs at each partition. To a
+/// What is counted over the stages of a run: what moved along each link, and how jobs ended at each partition. To a
 /// contract it is a `SummaryValue`.
 #[derive(Debug, Drop)]
 pub struct Summary {
@@ -28,7 +28,7 @@ impl Model for Summary {
 }
 
 impl Summary {
-    /// That of no stage.
+    /// An empty summary.
     pub fn new(alloc: Global) -> Summary
         ensures { result ≡ record { links = []; parts = [] } }
     {
@@ -64,7 +64,7 @@ impl Summary {
         &self.links
     }
 
-    /// What became of jobs at each partition.
+    /// How jobs ended at each partition.
     pub fn parts(&self) -> &[PartCount]
         ensures { result.now ≡ self.now.parts }
     {

@@ -8,8 +8,8 @@ use std::alloc::{AllocError, Global};
 use std::sync::atomic::{AtomicU64, Ordering};
 use std::time::Clock;
 
-/// Marks when jobs are answered, segments complete and stages begin, told by many threads. It takes no memory while it is told:
-/// it has places for as many as were asked for, and one more than that is left out.
+/// Marks when jobs are answered, segments complete and stages begin, for many threads. It takes no memory meanwhile: it
+/// has places for as many as were asked for, and one more than that is left out.
 #[derive(Drop)]
 pub struct Timeline<'a, C> {
     clock: Stopwatch<'a, C>,
@@ -26,8 +26,8 @@ pub struct Timeline<'a, C> {
 }
 
 impl<'a, C: Clock> Timeline<'a, C> {
-    /// One to which nothing was told, with places for so many jobs and segments, and for as many stages as segments. It is refused
-    /// only where there is no memory for them.
+    /// An empty one, with places for so many jobs and segments, and for as many stages as segments. It is refused only
+    /// where there is no memory for them.
     pub fn new(
         alloc: Global,
         clock: &'a C,
@@ -64,7 +64,7 @@ impl<'a, C: Clock> Timeline<'a, C> {
         self.answered.name(nodes);
     }
 
-    /// Marks a job that was answered, or a segment that is complete. What else a worker tells is none of these.
+    /// Marks a job that was answered, or a segment that is complete. Other events of a worker are none of these.
     pub fn record(&self, who: WorkerId, event: WorkerEvent) {
         match (who, event) {
             (WorkerId::Node(part), WorkerEvent::Answered(step)) => {
@@ -97,7 +97,7 @@ impl<'a, C: Clock> Timeline<'a, C> {
         self.stages.starts(alloc, self.began.load(Ordering::SeqCst))
     }
 
-    /// The end: the time that it came to, and all jobs and segments that there are.
+    /// The end: its time, and all jobs and segments that there are.
     pub fn all(&self) -> Moment {
         let began = self.began.load(Ordering::SeqCst);
         Moment {
@@ -145,7 +145,7 @@ impl Marks {
         }
     }
 
-    // Adds an event of a complete segment for each time that was marked, less that of the beginning.
+    // Adds an event of a complete segment for each time that was marked, counted from the beginning.
     fn add_to(&self, events: &mut Vec<Event>, began: u64) -> Result<(), AllocError> {
         let count = self.count.load(Ordering::SeqCst) as usize;
         for time in self.times.iter().take(count) {
@@ -158,7 +158,7 @@ impl Marks {
         Ok(())
     }
 
-    // The starts of stages, in their order, for each time that was marked, less that of the beginning.
+    // The starts of stages, in their order, for each time that was marked, counted from the beginning.
     fn starts(&self, alloc: Global, began: u64) -> Result<Vec<StageStart>, AllocError> {
         let count = self.count.load(Ordering::SeqCst) as usize;
         let mut starts = Vec::new(alloc);

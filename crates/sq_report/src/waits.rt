@@ -4,8 +4,8 @@ use sq_pull::MAX_OWNERS;
 use std::alloc::{AllocError, Global};
 use std::sync::atomic::{AtomicU64, Ordering};
 
-/// Counts, by partition, the jobs that were answered after they had waited there: a node tells of their answer in the step in
-/// which it takes up a transaction that waits.
+/// Counts, by partition, the jobs that were answered after they had waited there: a node reports their answer in the
+/// step in which it takes up a transaction that waits.
 #[derive(Drop)]
 pub(crate) struct Waits {
     parts: Vec<AtomicU64>,
@@ -21,7 +21,7 @@ impl Waits {
         Ok(Waits { parts })
     }
 
-    /// Hears what a worker tells. A pump answers no jobs.
+    /// Hears what a worker reports. A pump answers no jobs.
     pub(crate) fn hear(&self, who: WorkerId, event: WorkerEvent) {
         let WorkerId::Node(part) = who else {
             return;

@@ -29,7 +29,7 @@ ran g c began ready = c.in_ok-gathered.ensures c.args.ready.account.opening bega
 statuses : (g : Over) (c : After-deref g) → c.deref.result.now ≡ c.in_ok-gathered.gathered.statuses
 statuses g c = c.deref.ensures.value ∙ ap (λ (g : GatheredValue). g.statuses) c.gathered.view_is
 
--- the leader was told of the segments that are complete
+-- the leader heard of the segments that are complete
 told : (g : Over) (c : After-deref g) → (moved : List Bool) → MarksMoved c.deref.result.now moved → (began : BeganWith) → IsReady began c.args.ready
     → WasTold c.args.ready.account c.args.ready.moving began c.in_ok-gathered.gathered moved
 told g c moved marks began ready =
