@@ -1,20 +1,36 @@
-// Posts jobs to `squall serve`, moves the hot root keys in the middle, and tells how the answers came.
+// Posts jobs to `squall serve`, moves root keys in the middle, and tells how the answers came.
 //
-//   load SQUALL PARTITIONS ROOTS JOBS RATE CHUNK STAGES PUMPS
+//   load SQUALL NAME=VALUE ..
 //
-// There are ROOTS families of one row, as many in each partition. Half of the jobs are for root keys of partition 0, by a Zipf
-// law; the others are for any root key, by chance. A third of JOBS are posted before the move, which gives the hotter half of
-// the root keys of partition 0 to the others; more are posted until all has moved, and a third after that. RATE is how many jobs are
-// posted in a second, 0 for as many as the engine takes. CHUNK is the limit of a chunk in bytes; with STAGES other than 0 the
-// move has several stages. A job adds one to a number.
+//   parts=N     partitions (4)
+//   roots=N     families of one row, as many in each partition (100000)
+//   jobs=N      how many jobs, a third of which is posted before the move and a third after it; while rows move as many as come (1200000)
+//   rate=N      how many jobs are due in a second; 0 for as many as the engine takes (0)
+//   window=N    how many jobs have no answer at most where there is no rate (16384)
+//   hot=N       how many jobs of 100 are for root keys of partition 0, by a Zipf law; the others are for any root key (50)
+//   moves=WHAT  hot: the hotter half of the root keys of partition 0 goes to the others (the move if left out);
+//               half: half of the root keys of each partition goes to the next one
+//   chunk=N     the limit of a chunk in bytes (65536)
+//   stages=N    1 for a move in several stages (0)
+//   pumps=N     pumps (1)
+//   manner=HOW  live: jobs are posted while rows move (what is done if left out);
+//               stop: none is, from the answer of the last one before the move on until all rows have moved
+//   series=FILE for each 10 milliseconds a line: their number, how many answers came, and of those the median, the 99th part in
+//               a hundred and the longest of the waiting times in microseconds; the first line has the milliseconds at which the
+//               move began and was done
 //
-// It prints a line for the time before, during and after the move: how many jobs were answered, answers a second, the median, the 99th
-// part in a hundred and the longest of the waiting times in milliseconds, and the longest time without an answer. At last it
-// prints the exit status of the engine. It ends with 1 where a job has no answer, has two, or isn't committed.
+// A job adds one to a number. It waits from when it is due, where there is a rate, and else from when it is posted, until its
+// answer is read.
+//
+// It prints a line for the time before, during and after the move, as the script that calls it takes it apart: seconds, answers,
+// answers a second, the median, the 99th part in a hundred and the longest of the waiting times of the jobs that became due
+// then, and the longest time without an answer, all in milliseconds. It ends with 1 where a job has no answer, has two, or isn't
+// committed, and where the engine doesn't end with 0.
 #define _GNU_SOURCE
 #include <fcntl.h>
 #include <math.h>
 #include <pthread.h>
+#include <stdatomic.h>
 #include <stdint.h>
 #include <stdio.h>
 #include <stdlib.h>
@@ -26,16 +42,23 @@
 enum { BEFORE, DURING, AFTER, PHASES };
 static const char *const phase_names[PHASES] = {"before", "during", "after"};
 static const uint64_t key_end = 4294967296;
+static const double interval = 0.01;
 
 struct job {
-    double posted, answered;
+    double due, answered;
 };
 
+static uint64_t parts = 4, roots = 100000, count_of_jobs = 1200000, hot = 50, window = 16384, size;
+static double rate, started;
+static char *chunk = "65536", *pumps = "1", *series;
+static int in_stages, moves_half, stops;
+
 static struct job *jobs;
-static uint64_t most, posted;
+static uint64_t most, posted, first;
+static atomic_uint_fast64_t answered;
 static double moved_at, move_at;
-static volatile int has_moved, faults;
-static FILE *answers;
+static atomic_int has_moved, faults;
+static FILE *engine, *answers;
 
 static double now(void) {
     struct timespec t;
@@ -55,15 +78,22 @@ static void fail(const char *why) {
     exit(1);
 }
 
+static void *room(uint64_t count, size_t each) {
+    void *found = calloc(count + 1, each);
+    if (!found) fail("no memory");
+    return found;
+}
+
 static void answer(uint64_t id, double at) {
     if (id >= most || jobs[id].answered != 0) faults++;
     else jobs[id].answered = at;
+    answered++;
 }
 
 static void *read_answers(void *unused) {
     char *line = NULL;
-    size_t room = 0;
-    while (getline(&line, &room, answers) > 0) {
+    size_t length = 0;
+    while (getline(&line, &length, answers) > 0) {
         double at = now();
         if (strncmp(line, "commit ", 7) == 0) answer(strtoull(line + 7, NULL, 10), at);
         else if (strncmp(line, "moved ", 6) == 0) moved_at = at, has_moved = 1;
@@ -89,13 +119,12 @@ static uint64_t zipf(const double *sums, uint64_t count) {
     return low;
 }
 
-static uint64_t parts, roots, size;
-
-// Which partition has a root key: of the hotter half of partition 0 another one, once it has moved.
+// Which partition has a root key.
 static uint64_t owner(uint64_t root, int moved) {
-    if (root >= size) return root / size;
-    if (!moved || root >= size / 2) return 0;
-    return 1 + root * (parts - 1) / (size / 2 + 1);
+    uint64_t part = root / size;
+    if (!moved || root % size >= size / 2) return part;
+    if (moves_half) return (part + 1) % parts;
+    return part > 0 ? part : 1 + root * (parts - 1) / (size / 2 + 1);
 }
 
 static void plan(FILE *to, int moved, int stages) {
@@ -110,23 +139,31 @@ static void plan(FILE *to, int moved, int stages) {
     fprintf(to, "[%llu,%llu,0]]}\n", (unsigned long long)from, (unsigned long long)key_end);
 }
 
-static double started, rate;
-static FILE *engine;
-
-// Posts a job, at its time where there is a rate.
+// Posts a job, once it is due where there is a rate.
 static void post(const double *sums) {
-    uint64_t root = dice(2) ? zipf(sums, size) : dice(size * parts);
+    uint64_t root = dice(100) < hot ? zipf(sums, size) : dice(size * parts);
+    double due;
+    if (rate == 0 && posted - answered >= window) {
+        fflush(engine);
+        while (posted - answered >= window && !faults) usleep(20);
+    }
+    due = now();
     if (rate > 0) {
-        double due = started + (double)posted / rate;
+        due = started + (double)(posted - first) / rate;
         while (now() < due) {
             fflush(engine);
             usleep(50);
         }
     }
-    jobs[posted].posted = now();
+    jobs[posted].due = due;
     fprintf(engine, "txn %llu %llu %llu add 0 0 1\n", (unsigned long long)owner(root, has_moved), (unsigned long long)posted,
             (unsigned long long)root);
     posted++;
+}
+
+static void await_answers(void) {
+    fflush(engine);
+    while (answered < posted && !faults) usleep(50);
 }
 
 static int by_size(const void *left, const void *right) {
@@ -134,30 +171,58 @@ static int by_size(const void *left, const void *right) {
     return (a > b) - (a < b);
 }
 
-// Tells of the jobs that were answered from one moment to another.
-static void tell(const char *name, double from, double to) {
-    double *waits = malloc(sizeof *waits * (posted + 1)), *times = malloc(sizeof *times * (posted + 1)), silence = 0, last = from;
-    uint64_t count = 0, id;
-    if (!waits || !times) fail("no memory");
-    for (id = 0; id < posted; id++)
-        if (jobs[id].answered >= from && jobs[id].answered < to) {
-            times[count] = jobs[id].answered;
-            waits[count++] = jobs[id].answered - jobs[id].posted;
-        }
-    qsort(waits, count, sizeof *waits, by_size);
+// The median, the 99th part in a hundred, and the longest, of times that get sorted.
+static void spread(double *times, uint64_t count, double *of) {
     qsort(times, count, sizeof *times, by_size);
-    for (id = 0; id < count; last = times[id++])
+    of[0] = count ? times[count / 2] : 0;
+    of[1] = count ? times[count - 1 - count / 100] : 0;
+    of[2] = count ? times[count - 1] : 0;
+}
+
+// Tells of the time from one moment to another.
+static void tell(const char *name, double from, double to) {
+    double *waits = room(posted, sizeof *waits), *times = room(posted, sizeof *times), of[3], silence = 0, last = from;
+    uint64_t due = 0, count = 0, id;
+    for (id = first; id < posted; id++) {
+        if (jobs[id].due >= from && jobs[id].due < to) waits[due++] = jobs[id].answered - jobs[id].due;
+        if (jobs[id].answered >= from && jobs[id].answered < to) times[count++] = jobs[id].answered;
+    }
+    spread(waits, due, of);
+    qsort(times, count, sizeof *times, by_size);
+    times[count] = to;
+    for (id = 0; id <= count; last = times[id++])
         if (times[id] - last > silence) silence = times[id] - last;
-    if (count == 0) printf("%s 0\n", name);
-    else
-        printf("%s %llu answers, %.0f a second, waited %.3f %.3f %.3f ms, silent %.3f ms\n", name, (unsigned long long)count,
-               (double)count / (to - from), waits[count / 2] * 1e3, waits[count - 1 - count / 100] * 1e3, waits[count - 1] * 1e3,
-               silence * 1e3);
+    printf("%s %.3f %llu %.0f %.3f %.3f %.3f %.3f\n", name, to - from, (unsigned long long)count, (double)count / (to - from),
+           of[0] * 1e3, of[1] * 1e3, of[2] * 1e3, silence * 1e3);
     free(waits);
     free(times);
 }
 
-static pid_t start(char *program, char *pumps) {
+static int by_answer(const void *left, const void *right) {
+    double a = ((const struct job *)left)->answered, b = ((const struct job *)right)->answered;
+    return (a > b) - (a < b);
+}
+
+// Writes the series of intervals.
+static void write_series(void) {
+    FILE *to = fopen(series, "w");
+    double *waits = room(posted, sizeof *waits), of[3];
+    uint64_t id = first, number = 0, count;
+    if (!to) fail("the series can't be written");
+    qsort(jobs + first, posted - first, sizeof *jobs, by_answer);
+    fprintf(to, "move %.3f %.3f\n", (move_at - started) * 1e3, (moved_at - started) * 1e3);
+    for (; id < posted; number++) {
+        for (count = 0; id < posted && jobs[id].answered < started + (double)(number + 1) * interval; id++)
+            waits[count++] = jobs[id].answered - jobs[id].due;
+        spread(waits, count, of);
+        fprintf(to, "%llu %llu %.0f %.0f %.0f\n", (unsigned long long)number, (unsigned long long)count, of[0] * 1e6, of[1] * 1e6,
+                of[2] * 1e6);
+    }
+    fclose(to);
+    free(waits);
+}
+
+static pid_t start(char *program) {
     int in[2], out[2];
     pid_t child;
     if (pipe2(in, O_CLOEXEC) || pipe2(out, O_CLOEXEC)) fail("no pipe");
@@ -171,54 +236,83 @@ static pid_t start(char *program, char *pumps) {
     }
     close(in[0]);
     close(out[1]);
+    fcntl(in[1], F_SETPIPE_SZ, 1 << 20);
     engine = fdopen(in[1], "w");
     answers = fdopen(out[0], "r");
     return child;
 }
 
+static int is(const char *word, const char *name, char **value) {
+    size_t length = strlen(name);
+    if (strncmp(word, name, length) != 0 || word[length] != '=') return 0;
+    *value = (char *)word + length + 1;
+    return 1;
+}
+
+static void read_word(char *word) {
+    char *value;
+    if (is(word, "parts", &value)) parts = strtoull(value, NULL, 10);
+    else if (is(word, "roots", &value)) roots = strtoull(value, NULL, 10);
+    else if (is(word, "jobs", &value)) count_of_jobs = strtoull(value, NULL, 10);
+    else if (is(word, "rate", &value)) rate = strtod(value, NULL);
+    else if (is(word, "window", &value)) window = strtoull(value, NULL, 10);
+    else if (is(word, "hot", &value)) hot = strtoull(value, NULL, 10);
+    else if (is(word, "moves", &value)) moves_half = strcmp(value, "half") == 0;
+    else if (is(word, "chunk", &value)) chunk = value;
+    else if (is(word, "stages", &value)) in_stages = atoi(value);
+    else if (is(word, "pumps", &value)) pumps = value;
+    else if (is(word, "manner", &value)) stops = strcmp(value, "stop") == 0;
+    else if (is(word, "series", &value)) series = value;
+    else fail(word);
+}
+
 int main(int count, char **words) {
     uint64_t third, id, root;
-    double *sums, end;
-    int status, stages;
+    double *sums, end = 0;
+    int status, word;
     pthread_t reader;
     pid_t child;
-    if (count != 9) fail("load SQUALL PARTITIONS ROOTS JOBS RATE CHUNK STAGES PUMPS");
-    parts = strtoull(words[2], NULL, 10);
-    roots = strtoull(words[3], NULL, 10);
-    third = strtoull(words[4], NULL, 10) / 3;
-    rate = strtod(words[5], NULL);
-    stages = atoi(words[7]);
+    if (count < 2) fail("load SQUALL NAME=VALUE ..");
+    for (word = 2; word < count; word++) read_word(words[word]);
+    third = count_of_jobs / 3;
     if (parts < 2 || roots / parts < 4 || third == 0) fail("two partitions, four root keys in each and three jobs at least");
     size = roots / parts;
-    most = third * 20;
-    jobs = calloc(most, sizeof *jobs);
-    sums = malloc(sizeof *sums * size);
-    if (!jobs || !sums) fail("no memory");
+    most = third * 12;
+    jobs = room(most, sizeof *jobs);
+    sums = room(size, sizeof *sums);
     for (root = 0; root < size; root++) sums[root] = (root ? sums[root - 1] : 0) + pow((double)(root + 1), -0.99);
-    child = start(words[1], words[8]);
+    child = start(words[1]);
     fprintf(engine, "plan ");
     plan(engine, 0, 0);
-    fprintf(engine, "config %llu %s 64\n", (unsigned long long)(size / 32 / 8 + 1), words[6]);
+    fprintf(engine, "config %llu %s 64\n", (unsigned long long)(size / 32 / 8 + 1), chunk);
     for (root = 0; root < size * parts; root++) fprintf(engine, "row %llu 0 0 0 -\n", (unsigned long long)root);
-    fflush(engine);
     if (pthread_create(&reader, NULL, read_answers, NULL)) fail("no thread");
+    // The first answer, which isn't counted, shows that all rows are read.
     started = now();
-    while (posted < third) post(sums);
+    post(sums);
+    await_answers();
+    first = posted;
+    started = now();
+    while (posted - first < third) post(sums);
+    if (stops) await_answers();
     fprintf(engine, "move ");
-    plan(engine, 1, stages);
+    plan(engine, 1, in_stages);
     fflush(engine);
     move_at = now();
-    while (!has_moved && posted < most - third) post(sums);
+    while (!has_moved && posted < most - third)
+        if (stops) usleep(50);
+        else post(sums);
     for (id = 0; id < third; id++) post(sums);
     fclose(engine);
     pthread_join(reader, NULL);
-    end = now();
     if (waitpid(child, &status, 0) < 0) fail("no status");
+    for (id = 0; id < posted; id++) {
+        if (jobs[id].answered == 0) faults++;
+        if (jobs[id].answered > end) end = jobs[id].answered;
+    }
     tell(phase_names[BEFORE], started, move_at);
     tell(phase_names[DURING], move_at, moved_at);
     tell(phase_names[AFTER], moved_at, end);
-    printf("status %d\n", WIFEXITED(status) ? WEXITSTATUS(status) : -1);
-    for (id = 0; id < posted; id++)
-        if (jobs[id].answered == 0) faults++;
+    if (series) write_series();
     return faults != 0 || status != 0;
 }

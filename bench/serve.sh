@@ -1,16 +1,20 @@
 #!/usr/bin/env bash
 # What a move costs those who use an engine that is served.
 #
-#   bash bench/serve.sh [PARTITIONS]      (4 if left out)
+#   SQUALL=PROGRAM bash bench/serve.sh FOLDER
 #
-# bench/load.c says what is posted: half of the jobs are for root keys of partition 0, by a Zipf law, and in the middle the
-# hotter half of its root keys goes to the other partitions. There are ROOTS families (100000 if left out) and JOBS jobs
-# (600000) besides those that are posted while rows move.
+# writes into FOLDER the tables serve.md and the picture serve.svg, in some three minutes. bench/load.c says what is posted and
+# what the figures are. There are four partitions; a job adds one to a number.
 #
-# First jobs are posted as fast as the engine takes them: for each limit of a chunk, in one stage and in several, by one pump.
-# Then they are posted at half the rate that was seen before the first move. Each run gives three lines, before, during and
-# after the move: answers, answers a second, the median, the 99th of a hundred and the longest of the waiting times, and the
-# longest time without an answer.
+# First, a hot partition: half of the jobs are for root keys of partition 0, by a Zipf law, and in the middle the hotter half of
+# its root keys goes to the other partitions. There are ROOTS families (100000 if left out); a third of JOBS jobs (1200000) is
+# posted before the move, and a third after it. Each form of the move is made twice: while as many jobs are posted as the engine
+# takes, of which at most 16384 have no answer, and at half the rate that it answered before the first of these moves. The forms:
+# chunks of 8 KiB, 64 KiB and 1 MiB; 64 KiB in several stages, with four pumps, and with a stop: then no job is posted while rows
+# move.
+#
+# Then jobs for any root key, of MANY families (999000, since a header has a million lines at most), half of which move, in the same two
+# ways.
 #
 # The program is crates/squall/out/squall, which `rt run` leaves in crates/squall; SQUALL=PATH takes another. A C compiler, cc,
 # has to be there.
@@ -18,24 +22,161 @@ set -eu
 export LC_ALL=C
 top=$(cd "$(dirname "$0")/.." && pwd)
 squall=${SQUALL:-$top/crates/squall/out/squall}
-parts=${1:-4}
+folder=${1:?'bash bench/serve.sh FOLDER'}
 roots=${ROOTS:-100000}
-jobs=${JOBS:-600000}
+many=${MANY:-999000}
+jobs=${JOBS:-1200000}
+mkdir -p "$folder"
 room=$(mktemp -d)
 trap 'rm -r "$room"' EXIT
 cc -O2 -o "$room/load" "$top/bench/load.c" -lm -lpthread
 
-# run RATE CHUNK STAGES PUMPS: a run, whose lines are left in $room/lines.
+# run NAME WORD..: a run, whose three lines go into $room/NAME, and whose series goes into $room/NAME.series.
 run() {
-    echo "rate $1, chunks of $2 bytes, $([ "$3" = 0 ] && echo one stage || echo several stages), pumps $4"
-    "$room/load" "$squall" "$parts" "$roots" "$jobs" "$@" | tee "$room/lines"
+    echo "$1: ${*:2}" >&2
+    "$room/load" "$squall" "${@:2}" "series=$room/$1.series" > "$room/$1"
 }
 
-for chunk in 8192 65536 1048576; do
-    for stages in 0 1; do
-        run 0 "$chunk" "$stages" 1
-        if [ ! -e "$room/full" ]; then cp "$room/lines" "$room/full"; fi
+# rate_of NAME PHASE: answers a second in a phase of a run.
+rate_of() { awk -v phase="$2" '$1 == phase { print $4 }' "$room/$1"; }
+
+# half_of RATE: half of it, as a whole number.
+half_of() { awk -v rate="$1" 'BEGIN { print int(rate / 2) }'; }
+
+# The forms of the move, with what the table calls them.
+forms='8k|chunks of 8 KiB|chunk=8192
+64k|chunks of 64 KiB|chunk=65536
+1m|chunks of 1 MiB|chunk=1048576
+stages|64 KiB, in several stages|chunk=65536 stages=1
+pumps|64 KiB, four pumps|chunk=65536 pumps=4
+stop|64 KiB, no job while rows move|chunk=65536 manner=stop'
+
+# table NAME..: the rows of a table of these runs, each of which has its form's name behind a colon.
+table() {
+    local each
+    echo '| Move | | Seconds | Answers a second | Of those before | Median | 99 of 100 | Longest | Without an answer |'
+    echo '|---|---|---|---|---|---|---|---|---|'
+    for each in "$@"; do
+        awk -v form="${each#*:}" '$1 == "before" { base = $4 }
+            { printf "| %s | %s | %.2f | %d | %.0f %% | %.2f | %.2f | %.1f | %.1f |\n", NR == 1 ? form : "", $1, $2, $4,
+              100 * $4 / base, $5, $6, $7, $8 }' "$room/${each%%:*}"
     done
-done
-half=$(awk '/^before/ { for (i = 1; i < NF; i++) if ($(i + 1) == "a") print int($i / 2) }' "$room/full")
-for chunk in 8192 65536 1048576; do run "$half" "$chunk" 0 1; done
+}
+
+# goal WORDS FIGURE WANTED: a line of the goals.
+goal() { echo "| $1 | $2 | $3 |"; }
+
+full=() slow=()
+while IFS='|' read -r name form words; do
+    # shellcheck disable=SC2086
+    run "full-$name" "roots=$roots" "jobs=$jobs" $words
+    full+=("full-$name:$form")
+done <<< "$forms"
+rate=$(half_of "$(rate_of full-8k before)")
+while IFS='|' read -r name form words; do
+    # shellcheck disable=SC2086
+    run "half-$name" "roots=$roots" "jobs=$jobs" "rate=$rate" $words
+    slow+=("half-$name:$form")
+done <<< "$forms"
+many_words=("roots=$many" "jobs=$jobs" hot=0 moves=half)
+run many-8k "${many_words[@]}" chunk=8192
+run many-64k "${many_words[@]}" chunk=65536
+many_rate=$(half_of "$(rate_of many-64k before)")
+run many-8k-half "${many_words[@]}" chunk=8192 "rate=$many_rate"
+run many-64k-half "${many_words[@]}" chunk=65536 "rate=$many_rate"
+
+figure() { awk -v phase="$2" -v at="$3" '$1 == phase { print $at }' "$room/$1"; }
+{
+    echo "# What a move costs those who use an engine"
+    echo
+    echo "Waiting times and the longest time without an answer are in milliseconds. Waiting times are those of the jobs that became due"
+    echo "before, during and after the move; answers are counted when they were read."
+    echo
+    echo "## A hot partition, $roots families, as many jobs as the engine takes"
+    echo
+    table "${full[@]}"
+    echo
+    echo "## The same at $rate jobs a second"
+    echo
+    table "${slow[@]}"
+    echo
+    echo "## Half of $many families move, as many jobs as the engine takes"
+    echo
+    table 'many-8k:chunks of 8 KiB' 'many-64k:chunks of 64 KiB'
+    echo
+    echo "## The same at $many_rate jobs a second"
+    echo
+    table 'many-8k-half:chunks of 8 KiB' 'many-64k-half:chunks of 64 KiB'
+    echo
+    echo "## Goals"
+    echo
+    echo '| What | Here | Goal |'
+    echo '|---|---|---|'
+    goal 'answers a second at rest, 4 partitions, jobs of one operation' "$(figure many-64k before 4)" '500000'
+    goal "answers a second while half of $many families move, of those at rest" \
+        "$(awk -v a="$(figure many-64k during 4)" -v b="$(figure many-64k before 4)" 'BEGIN { printf "%.0f %%", 100 * a / b }')" '60 %'
+    goal 'longest time without an answer while they move, at half the rate' "$(figure many-64k-half during 8) ms" '100 ms'
+    goal '99 of 100 waiting times while they move, at half the rate' "$(figure many-64k-half during 6) ms" '5 ms'
+} > "$folder/serve.md"
+
+# The picture: for each form of the move at half the rate, answers in each 10 milliseconds and the 99th part in a hundred of their
+# waiting times.
+panel='
+function y_of_count(count) { return bottom - 200 * (count > most ? most : count) / most }
+function y_of_wait(micros) { if (micros < 10) micros = 10; if (micros > 1e7) micros = 1e7; return bottom - 200 * log(micros / 10) / log(1e6) }
+function x_of(ms) { return left + 660 * ms / span }
+FNR == 1 { moved_from = $2; moved_to = $3; next }
+{ count[n] = $2; wait[n] = $4; n++ }
+END {
+    span = n * 10; if (span < 1) span = 1
+    printf "<g><text class=\"ink\" x=\"%d\" y=\"%d\">%s</text>\n", left, bottom - 214, form
+    printf "<rect class=\"move\" x=\"%.1f\" y=\"%d\" width=\"%.1f\" height=\"200\"/>\n", x_of(moved_from), bottom - 200, x_of(moved_to) - x_of(moved_from)
+    for (line = 0; line <= 3; line++) {
+        y = y_of_wait(10 ^ (2 * line) * 10)
+        printf "<path class=\"grid\" d=\"M%d %.1fh660\"/><text class=\"soft\" x=\"%d\" y=\"%.1f\">%s</text>\n", left, y, left + 666, y + 6,
+            line == 0 ? "10 us" : line == 1 ? "1 ms" : line == 2 ? "100 ms" : "10 s"
+    }
+    printf "<text class=\"soft\" x=\"%d\" y=\"%d\" text-anchor=\"end\">%d</text><text class=\"soft\" x=\"%d\" y=\"%d\" text-anchor=\"end\">0</text>\n",
+        left - 8, bottom - 192, most * 100, left - 8, bottom + 6
+    printf "<path class=\"rate\" d=\"M%d %d", left, bottom
+    for (i = 0; i < n; i++) printf "L%.1f %.1fH%.1f", x_of(i * 10), y_of_count(count[i]), x_of(i * 10 + 10)
+    printf "V%dZ\"/>\n<path class=\"wait\" d=\"", bottom
+    joined = 0
+    for (i = 0; i < n; i++) {
+        if (count[i] == 0) { joined = 0; continue }
+        printf "%s%.1f %.1f", joined ? "L" : "M", x_of(i * 10 + 5), y_of_wait(wait[i])
+        joined = 1
+    }
+    printf "\"/>\n<path class=\"axis\" d=\"M%d %dh660\"/>\n", left, bottom
+    for (tick = 0; tick <= span; tick += span > 8000 ? 2000 : span > 4000 ? 1000 : 500)
+        printf "<text class=\"soft\" x=\"%.1f\" y=\"%d\" text-anchor=\"middle\">%.1f s</text>\n", x_of(tick), bottom + 22, tick / 1000
+    print "</g>"
+}'
+{
+    cat <<END
+<svg xmlns="http://www.w3.org/2000/svg" viewBox="0 0 1700 960" width="1020" height="576" font-family="system-ui, sans-serif" font-size="18">
+<style>
+.back { fill: #fcfcfb } .ink { fill: #0b0b0b } .soft { fill: #52514e }
+.grid { stroke: #e1e0d9; stroke-width: 1.5 } .axis { stroke: #a09f95; stroke-width: 2 }
+.rate { fill: #2a78d6; fill-opacity: 0.35 } .wait { fill: none; stroke: #eb6834; stroke-width: 2; stroke-linejoin: round }
+.move { fill: #52514e; fill-opacity: 0.12 }
+@media (prefers-color-scheme: dark) {
+.back { fill: #1a1a19 } .ink { fill: #ffffff } .soft { fill: #c3c2b7 }
+.grid { stroke: #2c2c2a } .axis { stroke: #73726b }
+.rate { fill: #3987e5 } .wait { stroke: #d95926 } .move { fill: #c3c2b7 }
+}
+</style>
+<rect class="back" width="1700" height="960"/>
+<text class="ink" x="90" y="40" font-size="24">An engine at $rate jobs a second, before, during and after a move of its hot root keys</text>
+<path class="rate" d="M90 62h40v14h-40Z"/><text class="ink" x="140" y="76">answers a second</text>
+<path class="wait" d="M340 70h40"/><text class="ink" x="390" y="76">waiting time, 99 of 100</text>
+<path class="move" d="M640 62h40v14h-40Z"/><text class="ink" x="690" y="76">rows move</text>
+END
+    at=0
+    most=$(awk 'FNR > 1 && $2 > most { most = $2 } END { print (most > 0 ? most : 1) }' "$room/half-64k.series")
+    while IFS='|' read -r name form words; do
+        awk -v left=$((90 + at % 2 * 830)) -v bottom=$((340 + at / 2 * 290)) -v most="$most" -v form="$form" "$panel" "$room/half-$name.series"
+        at=$((at + 1))
+    done <<< "$forms"
+    echo '</svg>'
+} > "$folder/serve.svg"

@@ -1,5 +1,5 @@
 #!/usr/bin/env bash
-# The commands of docs/guide.md: each is run in a folder that begins empty, and what it writes must be what the page shows.
+# The commands of docs/guide/start.md: each is run in a folder that begins empty, and what it writes must be what the page shows.
 #
 #   tests/guide.sh [PROGRAM]
 #
@@ -18,7 +18,7 @@ take_apart() {
         /^```sh$/ { number++; into = room "/" number ".sh"; next }
         /^```text$/ { into = room "/" number ".text"; next }
         /^```/ { into = ""; next }
-        into != "" { print > into }' "$top/docs/guide.md"
+        into != "" { print > into }' "$top/docs/guide/start.md"
 }
 
 # follow PROGRAM: runs the blocks in their order, and counts those that write something else.

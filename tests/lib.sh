@@ -3,9 +3,9 @@
 # A case is a folder KIND/NAME with these files, none of which has to be there:
 #
 #   words    the words of the command line, one a line; without it the KIND is the only word
-#   input    standard input; without it there is none
-#   output   what is wanted on standard output, byte for byte; without it nothing
-#   errors   what is wanted on standard error; without it nothing
+#   in       standard input; without it there is none
+#   out      what is wanted on standard output, byte for byte; without it nothing
+#   err      what is wanted on standard error; without it nothing
 #   status   the exit status that is wanted; without it 0
 #
 # Another file is one that the words name, as KIND/NAME/FILE, since a case is run in the folder above its KIND.
@@ -17,7 +17,7 @@ top=$(dirname "$tests")
 examples=$top/examples
 
 # What is tried without a case, since it needs more than words and an input: each KIND by try_KIND in tests/run.sh.
-kinds='numbers plans pairs streams late_write memory session header_session terminal told results serve pumps again rounds steps demo'
+kinds='numbers plans pairs helps streams late_write memory session header_session terminal told results serve pumps again rounds steps demo'
 
 # --- cases ---
 
@@ -79,11 +79,11 @@ difference() {
 }
 
 # judge NAME STATUS OUTPUT ERRORS: counts a run by its exit status, which stands in `ended`, and by what it wrote, which lies
-# in $room/output and $room/errors.
+# in $room/out and $room/err.
 judge() {
     local output errors why=
-    output=$(difference "$3" "$room/output")
-    errors=$(difference "$4" "$room/errors")
+    output=$(difference "$3" "$room/out")
+    errors=$(difference "$4" "$room/err")
     if [ "$ended" != "$2" ]; then why="status $ended, and not $2"; fi
     if [ -n "$errors" ]; then why="standard error (>) isn't the wanted one (<): $errors"; fi
     if [ -n "$output" ]; then why="the output (>) isn't the wanted one (<): $output"; fi
@@ -94,7 +94,7 @@ judge() {
 judge_case() {
     local status=0
     if [ -e "$1/$2/status" ]; then read -r status < "$1/$2/status"; fi
-    judge "$2" "$status" "$(stored "$1/$2/output")" "$(stored "$1/$2/errors")"
+    judge "$2" "$status" "$(stored "$1/$2/out")" "$(stored "$1/$2/err")"
 }
 
 # --- faults ---
@@ -136,7 +136,7 @@ try_pages() {
 
 # The tour has two walks.
 try_tour() {
-    local page=$top/docs/tour.md
+    local page=$top/docs/guide/tour.md
     walk tour "$(sed '/^## A second walk/,$d' "$page")"
     walk tour_in_stages "$(sed -n '/^## A second walk/,$p' "$page")"
 }
@@ -144,10 +144,10 @@ try_tour() {
 # walk NAME TEXT: a walk of the tour is a case: the lines of its blocks that begin with '> ' are the input, and the others the
 # output.
 walk() {
-    sed -n 's/^    > //p' <<< "$2" > "$room/input"
-    sed -n '/^    > /d; s/^    //p' <<< "$2" > "$room/output"
+    sed -n 's/^    > //p' <<< "$2" > "$room/in"
+    sed -n '/^    > /d; s/^    //p' <<< "$2" > "$room/out"
     count "$1_as_it_is_told" \
-        "$(difference "$tests/cases/run/$1/input" "$room/input"; difference "$tests/cases/run/$1/output" "$room/output")"
+        "$(difference "$tests/cases/run/$1/in" "$room/in"; difference "$tests/cases/run/$1/out" "$room/out")"
 }
 
 # The answers in the README are those of its first example.
@@ -156,27 +156,24 @@ try_readme() {
     count answers_as_they_are_told "$(difference "$examples/first-move.out" "$room/told")"
 }
 
-# The code in docs/library.md is that of the callers of the library: its first block stands in the one, its second in the one
-# that embeds threads, and its third and fourth in that of an engine, line by line.
+# Each block of code in docs/guide/library.md stands in a caller of the library: the first in the one, the second in the one that
+# embeds threads, the third and fourth in that of an engine.
 try_library() {
-    tell_block 1
-    sed -n "/^use sq_world/,/^}\$/p" "$top/crates/sq_example/src/lib.rt" > "$room/code"
-    count code_as_it_is_told "$(difference "$room/code" "$room/told")"
-    tell_block 2
-    sed -n '/^use sq_audit/,$p' "$top/crates/sq_thread_example/src/lib.rt" > "$room/code"
-    count code_of_threads_as_it_is_told "$(difference "$room/code" "$room/told")"
-    tell_block 3
-    sed -n '/^use asker/,$p' "$top/crates/sq_engine_example/src/lib.rt" > "$room/code"
-    count code_of_an_engine_as_it_is_told "$(difference "$room/code" "$room/told")"
-    tell_block 4
-    sed -n '/^impl<R: Wait> Client/,$p' "$top/crates/sq_engine_example/src/broker.rt" > "$room/code"
-    count code_of_a_client_as_it_is_told "$(difference "$room/code" "$room/told")"
+    try_block 1 code_as_it_is_told crates/sq_example/src/lib.rt
+    try_block 2 code_of_threads_as_it_is_told crates/sq_thread_example/src/lib.rt
+    try_block 3 code_of_an_engine_as_it_is_told crates/sq_engine_example/src/lib.rt
+    try_block 4 code_of_a_client_as_it_is_told crates/sq_engine_example/src/broker.rt
 }
 
-# tell_block NUMBER: the block of code of this number in docs/library.md.
-tell_block() {
+# try_block NUMBER NAME FILE: whether the block of this number isn't empty and stands in the file, line by line.
+try_block() {
     awk -v wanted="$1" '/^```rust$/ { block++; inside = 1; next } /^```$/ { inside = 0 } inside && block == wanted' \
-        "$top/docs/library.md" > "$room/told"
+        "$top/docs/guide/library.md" > "$room/told"
+    if [ -s "$room/told" ] && [[ $'\n'$(< "$top/$3")$'\n' = *$'\n'"$(< "$room/told")"$'\n'* ]]; then
+        count "$2" ""
+    else
+        count "$2" "the block isn't in $3"
+    fi
 }
 
 # The pictures in docs: of the crates, as they are drawn; of what moves, as it is stored, of the example; of a tree before a
@@ -184,8 +181,8 @@ tell_block() {
 try_drawings() {
     bash "$tests/crates_graph.sh" > "$room/picture"
     count crates_as_they_are_drawn "$(difference "$top/docs/crates.svg" "$room/picture")"
-    count moves_as_they_are_drawn "$(difference "$tests/cases/pictures/two_ranges_svg/output" "$top/docs/moves.svg")"
-    count moves_of_the_example "$(difference "$examples/ranges.txt" "$tests/cases/pictures/two_ranges_svg/input")"
+    count moves_as_they_are_drawn "$(difference "$tests/cases/pictures/two_ranges_svg/out" "$top/docs/moves.svg")"
+    count moves_of_the_example "$(difference "$examples/ranges.txt" "$tests/cases/pictures/two_ranges_svg/in")"
     cat "$top/docs/tree-before.svg" "$top/docs/tree-after.svg" > "$room/picture"
     count trees_as_they_are_drawn "$(difference "$top/crates/sq_tree_example/stdout" "$room/picture")"
 }

@@ -26,16 +26,16 @@ letters() { head -c "$1" /dev/zero | tr '\0' a; }
 input() {
     mkdir "$1"
     echo "${2:-run}" > "$1/words"
-    cat > "$1/input"
+    cat > "$1/in"
 }
 
 # output NAME: the output that is read is what a case is to write.
-output() { cat > "$1/output"; }
+output() { cat > "$1/out"; }
 
 # ends_with_fault NAME NUMBER LINE [MISFIT]: the run of a case ends with this fault, which belongs to this line, in which this
 # doesn't fit.
 ends_with_fault() {
-    said "$2" "$3" "${4:-}" > "$1/errors"
+    said "$2" "$3" "${4:-}" > "$1/err"
     echo 2 > "$1/status"
 }
 
@@ -52,7 +52,7 @@ fault() {
 # An input has at most 1,000,000 lines, of which these are four for the header.
 { header; repeat 999996 ''; } | input most_lines
 { repeat 999996 'refused 230'; dump idle; } | output most_lines
-{ cat most_lines/input; printf x; } | input more_than_1000000_lines
+{ cat most_lines/in; printf x; } | input more_than_1000000_lines
 { repeat 999996 'refused 230'; echo 'fault 122'; } | output more_than_1000000_lines
 ends_with_fault more_than_1000000_lines 122 1000001
 
@@ -360,12 +360,12 @@ for stage in $(seq 0 62); do given+="[$((4 * stage)),$((4 * stage + 4)),$((stage
 } | output moves_1024_segments
 
 # A live run has at most 4,096 jobs, and a line of at most 65,536 bytes.
-header_of_a_live_run() { head -n 4 "$tests/cases/live/move_without_jobs/input"; }
+header_of_a_live_run() { head -n 4 "$tests/cases/live/move_without_jobs/in"; }
 { header_of_a_live_run; seq -f 'txn 0 %.0f 9 get 0 0' 1 4096; } | input live_with_4096_jobs live
 echo 'sound 2 families 4096 committed' | output live_with_4096_jobs
-{ cat live_with_4096_jobs/input; echo 'txn 9 1 9'; } | input live_with_4097_jobs live
+{ cat live_with_4096_jobs/in; echo 'txn 9 1 9'; } | input live_with_4097_jobs live
 fault live_with_4097_jobs 125 4101
 { header_of_a_live_run; letters 65537; echo; } | input live_with_a_line_of_65537_bytes live
 echo 'fault 231' | output live_with_a_line_of_65537_bytes
 echo 2 > live_with_a_line_of_65537_bytes/status
-echo 'squall: line 5: fault 231: a line has more than 65536 bytes' > live_with_a_line_of_65537_bytes/errors
+echo 'squall: line 5: fault 231: a line has more than 65536 bytes' > live_with_a_line_of_65537_bytes/err

@@ -24,7 +24,7 @@ alike() {
 # fails CASE ERRORS: the case is to end with status 2, and to say this.
 fails() {
     echo 2 > "$1/status"
-    echo "$2" > "$1/errors"
+    echo "$2" > "$1/err"
 }
 
 # --- examples ---
@@ -33,17 +33,17 @@ fails() {
 example() {
     local case=examples/$1${3:-}
     make "$case" "${@:2}"
-    cp "$examples/$1.txt" "$case/input"
-    cp "$examples/$1.out" "$case/output"
+    cp "$examples/$1.txt" "$case/in"
+    cp "$examples/$1.out" "$case/out"
 }
 
 # help_example WORD: the example in a subcommand's help text, pasted: the lines up to END are given, and those behind
 # 'writes' are wanted.
 help_example() {
-    local case=examples/help_of_$1 text=$tests/cases/usage/help_of_$1/output
+    local case=examples/help_of_$1 text=$tests/cases/usage/help_of_$1/out
     make "$case" "$1"
-    sed -n "/<<'END'\$/,/^END\$/p" "$text" | sed '1d;$d' > "$case/input"
-    sed -n '/^writes$/,/^Exit status:$/p' "$text" | sed '1,2d;$d' | sed '$d' > "$case/output"
+    sed -n "/<<'END'\$/,/^END\$/p" "$text" | sed '1d;$d' > "$case/in"
+    sed -n '/^writes$/,/^Exit status:$/p' "$text" | sed '1,2d;$d' | sed '$d' > "$case/out"
 }
 
 make_examples() {
@@ -82,6 +82,16 @@ make_faults_of_ranges() {
     done
 }
 
+# A fault of a header is the same for `steps`, which writes nothing else.
+make_faults_of_steps() {
+    local status case
+    for status in "$tests"/cases/run/*/status; do
+        case=${status%/*}
+        if [ -e "$case/words" ] || [ "$(wc -l < "$case/out")" != 1 ]; then continue; fi
+        alike "faults_of_steps/${case##*/}" "run/${case##*/}" steps
+    done
+}
+
 # Folds between the stages of a live run change no line.
 make_folds() {
     local name words
@@ -112,22 +122,22 @@ echoed() {
 # files of their own.
 make_echoes() {
     local case name
-    sed -n '/^## Numbers/,/^## Dump/s/^| \([0-9]*\) | \([^|]*\) |.*/\1 \2/p' "$top/docs/formats.md" > meanings
+    sed -n '/^## Numbers/,/^## How/s/^| \([0-9]*\) | \([^|]*\) |.*/\1 \2/p' "$top/docs/guide/numbers.md" > meanings
     for case in "$tests"/cases/run/*; do
         name=${case##*/}
-        if [ -e "$case/status" ] || [ -n "$(tail -c 1 "$case/input" | tr -d '\n')" ]; then continue; fi
+        if [ -e "$case/status" ] || [ -n "$(tail -c 1 "$case/in" | tr -d '\n')" ]; then continue; fi
         if [ -e "$case/old.json" ]; then continue; fi
         alike "echoes/$name" "run/$name" run --echo
-        echoed "$case/input" "$case/output" > "echoes/$name/output"
+        echoed "$case/in" "$case/out" > "echoes/$name/out"
     done
     rm script meanings
     make echoes/a_line_without_an_end run --echo
-    { head -n 4 "$four_keys/input"; printf 'start\nrest'; } > echoes/a_line_without_an_end/input
+    { head -n 4 "$four_keys/in"; printf 'start\nrest'; } > echoes/a_line_without_an_end/in
     printf '%s\n' "start -> refused 228: a partition isn't prepared" "rest -> refused 230: a line is of no step's form" \
-        'end idle' 'at 0 5 0 0.0=10/-' > echoes/a_line_without_an_end/output
+        'end idle' 'at 0 5 0 0.0=10/-' > echoes/a_line_without_an_end/out
     make echoes/a_fault run --echo
-    head -n 3 "$four_keys/input" | sed 's/^config .*/config/' > echoes/a_fault/input
-    echo 'fault 121' > echoes/a_fault/output
+    head -n 3 "$four_keys/in" | sed 's/^config .*/config/' > echoes/a_fault/in
+    echo 'fault 121' > echoes/a_fault/out
     fails echoes/a_fault "$(said 121 3 "word 2 is missing: a number up to 18446744073709551615, in decimal digits without a leading zero")"
 }
 
@@ -137,28 +147,28 @@ make_echoes() {
 end_at() {
     local case=ends/${#1} misfit='it has no line end (the byte 0A)' ended_lines=${1//[!$'\n']/}
     make "$case" run
-    printf %s "$1" > "$case/input"
+    printf %s "$1" > "$case/in"
     case $1 in '' | *$'\n') misfit='the input ends before it' ;; esac
-    echo 'fault 121' > "$case/output"
+    echo 'fault 121' > "$case/out"
     fails "$case" "$(said 121 $((${#ended_lines} + 1)) "$misfit")"
 }
 
 # Behind the first three lines an end is no fault, unless it is within a row.
 make_ends() {
     local length header
-    header=$(head -n 3 "$four_keys/input"; echo .)
+    header=$(head -n 3 "$four_keys/in"; echo .)
     header=${header%.}
     for ((length = 0; length < ${#header}; length++)); do end_at "${header:0:length}"; done
     make ends/in_a_row run
-    { head -n 3 "$four_keys/input"; printf 'row 5'; } > ends/in_a_row/input
-    echo 'fault 121' > ends/in_a_row/output
+    { head -n 3 "$four_keys/in"; printf 'row 5'; } > ends/in_a_row/in
+    echo 'fault 121' > ends/in_a_row/out
     fails ends/in_a_row "$(said 121 4 'it has no line end (the byte 0A)')"
     make ends/behind_the_sizes run
-    head -n 3 "$four_keys/input" > ends/behind_the_sizes/input
-    echo 'end idle' > ends/behind_the_sizes/output
+    head -n 3 "$four_keys/in" > ends/behind_the_sizes/in
+    echo 'end idle' > ends/behind_the_sizes/out
     make ends/in_what_may_be_a_row run
-    { head -n 3 "$four_keys/input"; printf ro; } > ends/in_what_may_be_a_row/input
-    printf '%s\n' 'refused 230' 'end idle' > ends/in_what_may_be_a_row/output
+    { head -n 3 "$four_keys/in"; printf ro; } > ends/in_what_may_be_a_row/in
+    printf '%s\n' 'refused 230' 'end idle' > ends/in_what_may_be_a_row/out
 }
 
 # --- files ---
@@ -168,7 +178,7 @@ of_a_file() {
     local case=files/$1
     make "$case" "${@:3}" "$case/$2.txt"
     cp "$examples/$2.txt" "$case/"
-    cp "$examples/$2.out" "$case/output"
+    cp "$examples/$2.out" "$case/out"
 }
 
 # An input may be a file that is named; one that can't be read is told by its name.
@@ -180,11 +190,11 @@ make_files() {
     for word in run ranges live; do
         case=files/${word}_of_no_file
         make "$case" "$word" "$case/nothing"
-        cp "$examples/first-move.txt" "$case/input"
+        cp "$examples/first-move.txt" "$case/in"
         fails "$case" "squall: the file '$case/nothing' can't be read: No such file or directory (os error 2)"
         case=files/${word}_of_a_folder
         make "$case" "$word" "$case"
-        cp "$examples/first-move.txt" "$case/input"
+        cp "$examples/first-move.txt" "$case/in"
         cp "$examples/first-move.txt" "$case/file"
         fails "$case" "squall: the file '$case' can't be read: is a directory"
     done
@@ -195,30 +205,30 @@ make_files() {
 # parts CASE OTHER WORD: a case that gives a stored one's input in parts: its plans over many lines in old.json and new.json,
 # its rows in rows.txt without the end of the last line, and the rest as the input.
 parts() {
-    local whole=$tests/cases/$2/input
+    local whole=$tests/cases/$2/in
     make "$1" "$3" --old "$1/old.json" --new "$1/new.json" --rows "$1/rows.txt"
     sed -n '1s/^old //p' "$whole" | sed 's/,/ ,\n  /g' > "$1/old.json"
     sed -n '2s/^new //p' "$whole" | sed 's/,/ ,\n  /g' > "$1/new.json"
     awk 'NR > 3 && (past || !/^row /) { past = 1 } NR > 3 && !past' "$whole" | head -c -1 > "$1/rows.txt"
-    awk 'NR == 3; NR > 3 && (past || !/^row /) { past = 1; print }' "$whole" > "$1/input"
+    awk 'NR == 3; NR > 3 && (past || !/^row /) { past = 1; print }' "$whole" > "$1/in"
 }
 
 # in_parts OTHER: what comes of the parts of a stored case is what comes of the whole, and so it is if the rest is a file too.
 in_parts() {
     local case=parts/${1#*/}
     parts "$case" "$1" "${1%/*}"
-    cp "$tests/cases/$1/output" "$case/"
+    cp "$tests/cases/$1/out" "$case/"
     case=${case}_in_files
     parts "$case" "$1" "${1%/*}"
-    cp "$tests/cases/$1/output" "$case/"
-    mv "$case/input" "$case/main.txt"
+    cp "$tests/cases/$1/out" "$case/"
+    mv "$case/in" "$case/main.txt"
     echo "$case/main.txt" >> "$case/words"
 }
 
 # fault_in_parts CASE NUMBER PLACE TEXT [MISFIT]: wants of parts this fault, which is said of this place with this text, and
 # with what doesn't fit there.
 fault_in_parts() {
-    echo "fault $2" > "$1/output"
+    echo "fault $2" > "$1/out"
     fails "$1" "squall: $3: fault $2: $4${5:+$'\n'squall: $3: $5}"
 }
 
@@ -248,13 +258,13 @@ make_faults_in_parts() {
     fault_in_parts "$case" 231 /dev/zero 'a line of the header has more than 65536 bytes'
     case=parts/sizes_without_a_line_end
     parts "$case" run/moves_four_keys run
-    printf 'config 1 64 1' > "$case/input"
+    printf 'config 1 64 1' > "$case/in"
     fault_in_parts "$case" 121 'standard input: line 1' "$(sed -n 's/^121 //p' "$tests/texts")" \
         "it has no line end (the byte 0A)"
-    sed -i "1a squall: standard input: line 1 is to be $(form 3)" "$case/errors"
+    sed -i "1a squall: standard input: line 1 is to be $(form 3)" "$case/err"
     case=parts/sizes_of_the_main_part
     parts "$case" run/moves_four_keys live
-    sed -i 's/^config [0-9]*/config 0/' "$case/input"
+    sed -i 's/^config [0-9]*/config 0/' "$case/in"
     fault_in_parts "$case" 112 'standard input: line 1' "the width of a leaf isn't from 1 to 65536" "word 2 is '0'"
     case=parts/row_in_a_file
     parts "$case" run/moves_four_keys run
@@ -262,12 +272,12 @@ make_faults_in_parts() {
     fault_in_parts "$case" 133 "$case/rows.txt: line 3" "a table isn't in the schema" "word 3 is '99'"
     case=parts/row_in_the_main_part
     parts "$case" run/moves_four_keys run
-    sed -i '1a row 6 0 0 1 -\nrow 7 99 0 1 -' "$case/input"
+    sed -i '1a row 6 0 0 1 -\nrow 7 99 0 1 -' "$case/in"
     fault_in_parts "$case" 133 'standard input: line 3' "a table isn't in the schema" "word 3 is '99'"
     case=parts/job_in_the_main_part
     parts "$case" live/moves_in_two_stages live
-    echo 'txn 0 1' >> "$case/input"
-    fault_in_parts "$case" 126 "standard input: line $(wc -l < "$case/input")" 'a line behind the header is no transaction' \
+    echo 'txn 0 1' >> "$case/in"
+    fault_in_parts "$case" 126 "standard input: line $(wc -l < "$case/in")" 'a line behind the header is no transaction' \
         'word 4 is missing: a number up to 18446744073709551615, in decimal digits without a leading zero'
 }
 
@@ -293,8 +303,8 @@ make_parts() {
     done
     # Rows in the main part stand behind those of the file.
     parts parts/rows_in_both_parts run/moves_four_keys run
-    sed -i '1a row 5 1 3 7 -' parts/rows_in_both_parts/input
-    sed 's,0\.0=10/-,& 1.3=7/-,' "$four_keys/output" > parts/rows_in_both_parts/output
+    sed -i '1a row 5 1 3 7 -' parts/rows_in_both_parts/in
+    sed 's,0\.0=10/-,& 1.3=7/-,' "$four_keys/out" > parts/rows_in_both_parts/out
     make_faults_in_parts
     make_missing_parts
 }
@@ -302,6 +312,7 @@ make_parts() {
 make_examples
 make_usage
 make_faults_of_ranges
+make_faults_of_steps
 make_folds
 make_echoes
 make_ends

@@ -42,11 +42,11 @@ hand_over() {
     if is_left "$1" "$2"; then left=$((left + 1)); return; fi
     lane=$room/lane$((${#tried[@]} / 2 % lanes))
     to=$lane/given/${2/\//.}
-    cp "$(stored "$case/input")" "$to"
+    cp "$(stored "$case/in")" "$to"
     words_of "$1" "$2" > "$to.args"
     for file in "$case"/*; do
         case ${file##*/} in
-            words | input | output | errors | status) ;;
+            words | in | out | err | status) ;;
             *) printf '%s\n' --data "$2/${file##*/}=$file" >> "$lane/data" ;;
         esac
     done
@@ -79,8 +79,8 @@ judge_tried() {
     local name=${2/\//.}
     ended=none
     if [ -e "$room/ended/$name" ]; then read -r ended < "$room/ended/$name"; fi
-    cp "$(stored "$room/outputs/$name")" "$room/output"
-    cp "$(stored "$room/said/$name")" "$room/errors"
+    cp "$(stored "$room/outputs/$name")" "$room/out"
+    cp "$(stored "$room/said/$name")" "$room/err"
     judge_case "$1" "$2"
 }
 

@@ -1,13 +1,13 @@
 #!/usr/bin/env bash
-# Refused growths: runs of `squall run`, in each of which one allocation fails, each one of the run in turn.
+# Refused allocations: runs of `squall run`, in each of which one allocation fails, each one of the run in turn.
 #
 #   tests/refused.sh
 #
 # The program is the proved one, which `rt ci` leaves in crates/squall/out; SQUALL=PATH takes another. The C compiler (cc, or
 # the one that CC names) makes of tests/programs/refuse.c what lets an allocation fail.
 #
-# Where a growth of the command line is refused, nothing is written, and the status is 2. Where a growth in the header is
-# refused, the fault 222 is all that is written. A step whose growth is refused answers 222 and changes nothing: it goes when
+# Where an allocation of the command line is refused, nothing is written, and the status is 2. Where an allocation in the header is
+# refused, the fault 222 is all that is written. A step whose allocation is refused answers 222 and changes nothing: it goes when
 # it is given again, and the other answers and the dump are as if it was given once less.
 set -eu
 . "$(dirname "$0")/lib.sh"
@@ -18,22 +18,7 @@ trap 'rm -r "$room"' EXIT
 # The steps with their answers. Those that take memory are given twice: after the line stands the answer to the first
 # that goes, and then the answer to the second. The transactions that commit count in the dump.
 steps() {
-    cat <<'STEPS'
-txn 0 1 5 put 1 8 4 ff get 1 7 add 0 0 -3|commit 1 ok 3/6869 7|commit 1 ok 3/6869 4
-txn 0 2 6 put 0 0 1 61|commit 2 ok|commit 2 ok
-prepare 0|ok
-prepare 1|ok
-start|ok
-claim 0 1 2|ok
-begin 0 1 2|ok|refused 207
-txn 1 3 5 get 1 7|waits 3 0 1|waits 3 0 1
-cut 0 1|cut 0 0 1 4 6 more 1|refused 210
-push 0 1|ok
-pop 0 1|ok
-load 0 1|load 0 0 1 4 6 more 1|refused 215
-resume 1|commit 3 3/6869|commit 3 3/6869
-cut 0 1|cut 1 0 1 6 8 last 1|refused 210
-STEPS
+    cat "$tests/programs/refused_steps"
 }
 
 # The input: each step that takes memory is given twice.
@@ -49,7 +34,7 @@ input() {
     done
 }
 
-# output STEP: what is to be written where the growth of this step, counted from 1, is refused; 0: of none.
+# output STEP: what is to be written where the allocation of this step, counted from 1, is refused; 0: of none.
 output() {
     local line first second step=0 changes=2 puts=2 resumes=2
     case $1 in
@@ -77,22 +62,22 @@ output() {
 run_refused() {
     rm -f "$room/refused"
     ended=0
-    REFUSE=$1 REFUSED=$room/refused LD_PRELOAD=$room/refuse.so "$squall" run < "$room/input" > "$room/output" \
-        2> "$room/errors" || ended=$?
+    REFUSE=$1 REFUSED=$room/refused LD_PRELOAD=$room/refuse.so "$squall" run < "$room/in" > "$room/out" \
+        2> "$room/err" || ended=$?
 }
 
-# judge_refused NUMBER: counts what was written where the allocation of this number was refused, and notes what it was for. A
-# growth that isn't needed changes nothing where it is refused.
+# judge_refused NUMBER: counts what was written where the allocation of this number was refused, and notes what it was for. An
+# allocation that isn't needed changes nothing where it is refused.
 judge_refused() {
     local got step why=
-    got=$(cat "$room/output")
-    step=$(grep -n -m 1 -x 'refused 222' "$room/output" | cut -d : -f 1 || true)
+    got=$(cat "$room/out")
+    step=$(grep -n -m 1 -x 'refused 222' "$room/out" | cut -d : -f 1 || true)
     if [ -z "$got" ] && [ "$ended" = 2 ]; then
         step=words
     elif [ "$got" = 'fault 222' ] && [ "$ended" = 2 ]; then
         step=header
     elif [ "$got" != "$(output "${step:-0}")" ] || [ "$ended" != 0 ]; then
-        why="status $ended, and not the wanted output (<) but: $(diff <(output "${step:-0}") "$room/output" | head -n 4)"
+        why="status $ended, and not the wanted output (<) but: $(diff <(output "${step:-0}") "$room/out" | head -n 4)"
     fi
     met[${step:-none}]=1
     count "allocation $1" "$why"
@@ -103,7 +88,7 @@ if [ ! -x "$squall" ]; then
     exit 1
 fi
 "${CC:-cc}" -shared -fPIC -o "$room/refuse.so" "$tests/programs/refuse.c" -ldl
-input > "$room/input"
+input > "$room/in"
 declare -A met
 number=1
 run_refused "$number"
@@ -113,9 +98,9 @@ while [ -e "$room/refused" ]; do
     run_refused "$number"
 done
 
-# What takes memory: the command line, the header and these steps; a growth of each was refused in some run.
+# What takes memory: the command line, the header and these steps; an allocation of each was refused in some run.
 for step in words header 1 2 3 4 9 11 13 17 19 20 21; do
-    if [ -z "${met[$step]:-}" ]; then count "step $step" 'no growth of it was refused'; fi
+    if [ -z "${met[$step]:-}" ]; then count "step $step" 'no allocation of it was refused'; fi
 done
-echo "$passed refused growths passed, $failed failed"
+echo "$passed refused allocations passed, $failed failed"
 [ "$failed" = 0 ]

@@ -1,5 +1,5 @@
 #!/usr/bin/env bash
-# Refused growths of calls of the library: runs in each of which one allocation fails.
+# Refused allocations of calls of the library: runs in each of which one allocation fails.
 #
 #   tests/refused_calls.sh
 #
@@ -16,7 +16,8 @@
 #   nodes        a tree and a link by themselves, and two pulls of a leaf, the second of which is under way at the end
 #   two_stages   a move in two stages with a fold between them
 #   page         a page of a run at rest, which is taken and audited
-#   engine       an engine: a client of three jobs at rest, a page, a move with a client, a move back without one, and the end
+#   engine       an engine: a client of three jobs at rest, a pause, a page, a move with a client, a move back without one, and the
+#                end, with the verdict
 #   chain        the epochs of an engine one by one: a move in two stages, a page between them, a move back, and the end
 #
 # All tell first that they start, so that an output that is empty is a run that died.
@@ -24,14 +25,14 @@
 # A step that answered 222 changed nothing: made once more it answers as it was to, and so do all later ones, with the same
 # dump. Of a list at most one step is refused, and the rest is what the rules say of the script without it.
 #
-# `nodes` and `two_stages` are runs that crates/sq_thread_tests makes by hand. Where a growth of a tree, of a link, or of what a
-# run opens with (its trees, links, queues, nodes and pumps) is refused, it is opened once more. A step whose growth is refused
-# answers so, and its work is done at a later turn. A gathering, a fold and a next stage whose growth is refused hand all back,
+# `nodes` and `two_stages` are runs that crates/sq_thread_tests makes by hand. Where an allocation of a tree, of a link, or of what a
+# run opens with (its trees, links, queues, nodes and pumps) is refused, it is opened once more. A step whose allocation is refused
+# answers so, and its work is done at a later turn. A gathering, a fold and a next stage whose allocation is refused hand all back,
 # and are called once more with what came back; and so do the taking and the audit of a page, and the calls of an engine. So what
 # is gathered in the end is always the same.
 #
-# The workers of `engine` and `chain` run in threads, so that an allocation of the same number isn't always of the same call: of most
-# calls two numbers are tried.
+# The workers of `engine` and `chain` run in threads, so that an allocation of the same number isn't always of the same call: of each
+# call several numbers are tried.
 set -eu
 . "$(dirname "$0")/lib.sh"
 room=$(mktemp -d)
@@ -41,24 +42,11 @@ trap 'rm -r "$room"' EXIT
 failing=800
 
 # The calls that are tried, each with the stored run that it is called on, with how many spaces its inputs begin with, and with
-# what takes memory in it. With the fewest none of its growths is refused, and with the most one is that comes before the call
-# or isn't tried. In between are those that refuse a growth which no other input refuses: one that is asked for by another chain
-# of calls. Growths of `run` are refused by tests/refused.sh.
+# what takes memory in it. With the fewest none of its allocations is refused, and with the most one is that comes before the call
+# or isn't tried. In between are those that refuse an allocation which no other input refuses: one that is asked for by another chain
+# of calls. Allocations of `run` are refused by tests/refused.sh.
 tries() {
-    cat <<'TRIES'
-steps resumes_in_order 732-746 begin cut load resume txn
-steps operations_and_their_aborts 731-742 txn
-steps cuts_by_size 733-736,746-746 txn
-list moves_four_keys 731-774 back begin cut load txn
-vec store 787-798 apply take give
-block store 785-798 apply take give
-runs store 786-798 apply take give
-nodes none 638-638,646-650,656-669,675-745,754-776,790-790 tree link open job request cut load resume gather
-two_stages none 450-450,512-592,594-614,649-653,655-670,790-790 open job fold reopen
-page none 640-640,668-726,790-790 gather take audit
-engine none 30-30,132-133,184-185,512-513,549-549,638-639,685-686,727-728,790-790 open serve page audit move run close
-chain none 150-150,308-309,418-419,446-447,558-559,592-593,597-598,640-641,645-646,790-790 open post end page stage move begin close
-TRIES
+    cat "$tests/programs/refused_calls/tries"
 }
 
 # spaces_of RANGES: the numbers of spaces.
@@ -84,7 +72,7 @@ make_program() {
 make_inputs() {
     local spaces
     for spaces in $(spaces_of "$3"); do
-        { printf '%*s%s' "$spaces" '' "${1:0:1}"; cat "$(stored "$tests/cases/run/$2/input")"; } > "$room/inputs/$1.$2.$spaces"
+        { printf '%*s%s' "$spaces" '' "${1:0:1}"; cat "$(stored "$tests/cases/run/$2/in")"; } > "$room/inputs/$1.$2.$spaces"
     done
 }
 
@@ -101,7 +89,7 @@ run_inputs() {
 # list_without STEP: what the shortest whole move comes to where this step of it is refused for want of memory.
 list_without() {
     local step=$1
-    awk -v step="$step" 'NR < step' "$tests/cases/run/moves_four_keys/output"
+    awk -v step="$step" 'NR < step' "$tests/cases/run/moves_four_keys/out"
     echo 'refused 222'
     case $step in
         5) printf 'refused %s\n' 209 211 213 215 227 218 218 ;;
@@ -119,13 +107,7 @@ list_without() {
 
 # The calls of a store, each with its answer, and the families after it.
 calls() {
-    cat <<'CALLS'
-apply|commit 1 ok|at 0 5 1 0.0=5/61
-apply|commit 2 ok|at 0 5 1 0.0=5/61;at 0 6 1 0.0=7/-
-apply|commit 3 6|at 0 5 2 0.0=6/61;at 0 6 1 0.0=7/-
-take|took 5|at 0 6 1 0.0=7/-
-give|gave|at 0 5 2 0.0=6/61;at 0 6 1 0.0=7/-
-CALLS
+    cat "$tests/programs/refused_calls/calls"
 }
 
 # of_store CALL: what is to be written by the calls of a store where the call of this number, counted from 1, is refused; 0:
@@ -148,7 +130,7 @@ of_store() {
 
 # wanted CALL RUN STEP: what is to be written by a call on a stored run where its step of this number is refused; 0: of none.
 wanted() {
-    local out=$tests/cases/run/$2/output
+    local out=$tests/cases/run/$2/out
     case $1 in
         steps)
             printf '%s\n' starts opened
@@ -163,125 +145,7 @@ wanted() {
 
 # of_nodes CALL: what a call writes where nothing is refused.
 of_nodes() {
-    case $1 in
-        nodes)
-            cat <<'OUTPUT'
-starts
-read
-tree true Claimed(2) Free
-link 3 1 2 0
-opened
-works
-worked
-posted
-gathered
-at 1 5 1 0.0=10/-
-note 0 1 0 0 33 5 6 true
-note 0 1 1 0 34 6 7 true
-way 0 1 1 0 34 6 7 last 1
-in 6 0 0.0=7/-
-node 1 Split
-node 2 Split
-node 4 Split
-node 8 Split
-node 16 Split
-node 17 Split
-node 33 Complete(3)
-node 34 Partial(131)
-receipt 5 0 commit 9 10/-
-left 0
-left 1
-OUTPUT
-            ;;
-        two_stages)
-            cat <<'OUTPUT'
-starts
-read
-opened
-works
-worked
-posted
-gathered
-folds
-left 1
-gathered
-at 1 5 0 0.0=11/-
-at 2 9 1 0.0=20/-
-note 0 2 0 1 1 8 12 true
-node 1 Complete(0)
-receipt 9 0 commit 2 20/-
-OUTPUT
-            ;;
-        page)
-            cat <<'OUTPUT'
-starts
-read
-opened
-works
-worked
-gathered
-taken
-Sound
-at 0 5 0 0.0=10/-
-at 1 12 1 0.0=4/-
-receipt 5 0 abort 1 0 small
-receipt 12 0 commit 2 4
-at 0 5 0 0.0=10/-
-at 0 6 0 0.0=7/-
-at 1 12 0 0.0=4/-
-OUTPUT
-            ;;
-        engine)
-            cat <<'OUTPUT'
-starts
-read
-opened
-serves
-served
-taken
-moves
-serves
-served
-moves back
-ran
-closed
-Sound
-at 0 5 1 0.0=11/-
-at 1 9 1 0.0=21/-
-at 2 14 1 0.0=31/-
-receipt 5 0 commit 1 11
-receipt 9 0 commit 2 21
-receipt 14 0 commit 3 31
-at 0 5 1 0.0=12/-
-receipt 5 0 commit 4 12
-at 0 5 0 0.0=12/-
-at 1 9 0 0.0=21/-
-at 2 14 0 0.0=31/-
-OUTPUT
-            ;;
-        chain)
-            cat <<'OUTPUT'
-starts
-read
-opened
-works
-worked
-taken
-works
-worked
-moves
-works
-worked
-closed
-at 1 5 1 0.0=11/-
-receipt 5 0 commit 1 11
-at 2 9 1 0.0=21/-
-receipt 9 0 commit 2 21
-at 0 5 0 0.0=11/-
-at 2 9 0 0.0=21/-
-OUTPUT
-            ;;
-    esac
+    cat "$tests/programs/refused_calls/$1.out"
 }
 
 # --- judging ---
@@ -291,7 +155,7 @@ wrong() {
     count "$1 of $2 with $3 spaces" "not the wanted output (<) but: $(diff - "$room/outputs/$1.$2.$3" <<< "$4" | head -n 4)"
 }
 
-# is_refused WORD: a growth of this was refused, or `none` was.
+# is_refused WORD: an allocation of this was refused, or `none` was.
 is_refused() {
     met[$1]=1
     if [ "$1" != none ]; then count "$1" ''; fi
@@ -307,7 +171,7 @@ judge_steps() {
     local got step word=none
     got=$(cat "$room/outputs/$1.$2.$3")
     case $1,$got in
-        # Refused was a growth of what reads the input, which is no part of the call.
+        # Refused was an allocation of what reads the input, which is no part of the call.
         steps,starts | list,starts | vec,starts | block,starts | runs,starts) met[before]=1; return ;;
     esac
     if [ "$1" = list ] && [ "$(grep -n -x back <<< "$got")" = 3:back ]; then
@@ -324,7 +188,7 @@ judge_steps() {
     case $1,$step in
         *,) ;;
         vec,* | block,* | runs,*) word=$(calls | sed -n "${step}s/|.*//p") ;;
-        *) word=$(grep -v -E '^(old|new|config|row) ' "$tests/cases/run/$2/input" | sed -n "${step}s/ .*//p") ;;
+        *) word=$(grep -v -E '^(old|new|config|row) ' "$tests/cases/run/$2/in" | sed -n "${step}s/ .*//p") ;;
     esac
     if [ -n "$word" ]; then is_refused "$word"; fi
 }
@@ -336,7 +200,7 @@ judge_nodes() {
     # Which parts of a segment a pump claims depends on the threads.
     case $1 in chain) got=$(grep -v -E '^(note|node) ' <<< "$got" || true) ;; esac
     whole=$(of_nodes "$1")
-    # Refused was a growth of what isn't tried: of reading the header, of a job, of the list of jobs or of the text.
+    # Refused was an allocation of what isn't tried: of reading the header, of a job, of the list of jobs or of the text.
     if [[ $got != "$whole" && $whole = "$got"* ]]; then
         case ${got##*$'\n'} in
             starts) met[before]=1; return ;;
@@ -356,7 +220,7 @@ judge_input() {
     esac
 }
 
-# check CALL RUN RANGES WORDS..: judges all inputs of a call on a stored run; a growth of each of these was refused in some
+# check CALL RUN RANGES WORDS..: judges all inputs of a call on a stored run; an allocation of each of these was refused in some
 # input, and of nothing else; in the first none was, and in the last none, or one before the call.
 check() {
     local call=$1 run=$2 numbers what at
@@ -364,10 +228,10 @@ check() {
     shift 3
     declare -A met=()
     judge_input "$call" "$run" "${numbers[0]}"
-    if [ "${!met[*]}" != none ]; then count "$call of $run" "with the fewest spaces a growth was refused"; fi
+    if [ "${!met[*]}" != none ]; then count "$call of $run" "with the fewest spaces an allocation was refused"; fi
     for ((at = 1; at < ${#numbers[@]} - 1; at++)); do judge_input "$call" "$run" "${numbers[at]}"; done
     for what in "$@"; do
-        if [ -z "${met[$what]:-}" ]; then count "$call of $run" "no growth of $what was refused"; fi
+        if [ -z "${met[$what]:-}" ]; then count "$call of $run" "no allocation of $what was refused"; fi
         unset "met[$what]"
     done
     judge_input "$call" "$run" "${numbers[at]}"
@@ -382,5 +246,5 @@ while read -r call run ranges words; do
     # shellcheck disable=SC2086
     check "$call" "$run" "$ranges" $words
 done < <(tries)
-echo "$passed refused growths of calls passed, $failed failed"
+echo "$passed refused allocations of calls passed, $failed failed"
 [ "$failed" = 0 ]

@@ -27,14 +27,14 @@ give() {
     local input=$1
     shift
     ended=0
-    timeout 120 "$squall" "$@" < "$input" > "$room/output" 2> "$room/errors" || ended=$?
+    timeout 120 "$squall" "$@" < "$input" > "$room/out" 2> "$room/err" || ended=$?
 }
 
 # run_case FOLDER CASE: gives a case to the program.
 run_case() {
     local words
     mapfile -t words < <(words_of "$1" "$2")
-    give "$(stored "$1/$2/input")" "${words[@]}"
+    give "$(stored "$1/$2/in")" "${words[@]}"
     judge_case "$1" "$2"
 }
 
@@ -46,21 +46,21 @@ compare() {
     judge "$1" "$3" "$room/wanted" "$room/said"
 }
 
-# What is told of a number is of one table: the texts of faults in tests/texts, the table of docs/formats.md, and what
+# What is told of a number is of one table: the texts of faults in tests/texts, the table of docs/guide/numbers.md, and what
 # 'squall explain' tells of each number alone.
 try_numbers() {
     local number text
     give /dev/null explain
-    cp "$room/output" "$room/all"
+    cp "$room/out" "$room/all"
     : > "$room/one_by_one"
     while read -r number _; do
         give /dev/null explain "$number"
-        cat "$room/output" >> "$room/one_by_one"
+        cat "$room/out" >> "$room/one_by_one"
     done < <(grep '^[0-9]' "$room/all")
     count numbers_one_by_one "$(difference "$room/all" "$room/one_by_one")"
     awk '/^[0-9]/ { number = $1; sub(/^[0-9]+ /, ""); meaning = $0; getline; sub(/^ +/, ""); print "| " number " | " meaning " | " $0 " |" }' \
         "$room/all" > "$room/wanted"
-    sed -n '/^## Numbers/,/^## Dump/p' "$top/docs/formats.md" | grep '^| [0-9]' > "$room/told"
+    sed -n '/^## Numbers/,/^## How/p' "$top/docs/guide/numbers.md" | grep '^| [0-9]' > "$room/told"
     count numbers_as_they_are_told "$(difference "$room/wanted" "$room/told")"
     grep '^[0-9]' "$room/all" > "$room/meanings"
     while read -r number text; do
@@ -83,7 +83,7 @@ try_plans() {
         echo "old ${line#* }" > "$room/plan"
         echo "fault $number" > "$room/wanted"
         give "$room/plan" run
-        count "plan ${line#* }" "$(difference "$room/wanted" "$room/output"; if [ "$ended" != 2 ]; then echo "status $ended"; fi)"
+        count "plan ${line#* }" "$(difference "$room/wanted" "$room/out"; if [ "$ended" != 2 ]; then echo "status $ended"; fi)"
     done < "$tests/plans"
 }
 
@@ -91,19 +91,32 @@ try_plans() {
 try_pairs() {
     local case=$room/cases/parts/moves_four_keys
     give "$examples/first-move.txt" run --echo
-    cp "$room/output" "$room/wanted"
+    cp "$room/out" "$room/wanted"
     give /dev/null run "$examples/first-move.txt" --echo
     judge run_of_a_file_with_echo 0 "$room/wanted" /dev/null
-    grep -v '^row ' "$tests/cases/run/moves_four_keys/input" > "$room/whole"
+    grep -v '^row ' "$tests/cases/run/moves_four_keys/in" > "$room/whole"
     give "$room/whole" run
-    cp "$room/output" "$room/wanted"
-    give "$case/input" run --old "$case/old.json" --new "$case/new.json"
+    cp "$room/out" "$room/wanted"
+    give "$case/in" run --old "$case/old.json" --new "$case/new.json"
     judge plans_in_files_and_no_rows 0 "$room/wanted" /dev/null
+}
+
+# The help text of each subcommand has at most 80 columns.
+try_helps() {
+    local word count=0
+    give /dev/null help
+    cp "$room/out" "$room/help"
+    for word in $(sed -n '/^Commands:$/,/^$/s/^  \([a-z]*\) .*/\1/p' "$room/help" | grep -vx help); do
+        give /dev/null help "$word"
+        count "columns of the help of $word" "$(awk 'length > 80' "$room/out" | head -n 1; [ -s "$room/out" ] || echo none)"
+        count=$((count + 1))
+    done
+    count columns_of_the_help "$(awk 'length > 80' "$room/help" | head -n 1; [ "$count" -ge 8 ] || echo "$count subcommands")"
 }
 
 # An input without end ends the run, a directory can't be read, and a full device can't be written.
 try_streams() {
-    local four_keys=$tests/cases/run/moves_four_keys/input jobs=$tests/cases/live/move_without_jobs/input
+    local four_keys=$tests/cases/run/moves_four_keys/in jobs=$tests/cases/live/move_without_jobs/in
     echo "fault 122" > "$room/wanted"
     compare endless_input <(head -n 4 "$four_keys"; tr '\0' a < /dev/zero) 2 5
     compare live_without_end <(head -n 4 "$jobs"; tr '\0' a < /dev/zero) 2 5 live
@@ -113,11 +126,13 @@ try_streams() {
     compare live_that_is_not_read "$room" 2 1 live
     said 124 > "$room/said"
     write_nowhere output_that_is_not_written "$four_keys" run
-    write_nowhere listing_that_is_not_written "$tests/cases/ranges/the_last_key/input" ranges
+    write_nowhere listing_that_is_not_written "$tests/cases/ranges/the_last_key/in" ranges
     write_nowhere live_that_is_not_written "$jobs" live
+    write_nowhere steps_that_are_not_written "$jobs" steps
     write_nowhere help_that_is_not_written /dev/null --help
     write_to_no_one output_that_no_one_reads "$four_keys" run
     write_to_no_one live_that_no_one_reads "$jobs" live
+    write_to_no_one steps_that_no_one_reads "$jobs" steps
     write_to_no_one numbers_that_no_one_reads /dev/null explain
     write_to_no_one help_that_no_one_reads /dev/null --help
 }
@@ -125,8 +140,8 @@ try_streams() {
 # write_nowhere NAME INPUT WORD: gives an input to the program, whose standard output is full.
 write_nowhere() {
     ended=0
-    timeout 120 "$squall" "$3" < "$2" > /dev/full 2> "$room/errors" || ended=$?
-    : > "$room/output"
+    timeout 120 "$squall" "$3" < "$2" > /dev/full 2> "$room/err" || ended=$?
+    : > "$room/out"
     judge "$1" 2 /dev/null "$room/said"
 }
 
@@ -137,10 +152,10 @@ write_to_no_one() {
     exec 9<> "$room/unread" 8> "$room/unread"
     exec 9>&-
     ended=0
-    (trap '' PIPE; exec timeout 120 "$squall" "$3" < "$2" >&8 2> "$room/errors" 8>&-) || ended=$?
+    (trap '' PIPE; exec timeout 120 "$squall" "$3" < "$2" >&8 2> "$room/err" 8>&-) || ended=$?
     exec 8>&-
     rm "$room/unread"
-    : > "$room/output"
+    : > "$room/out"
     judge "$1" 2 /dev/null /dev/null
 }
 
@@ -155,7 +170,7 @@ try_late_write() {
     (
         ulimit -f 1
         trap '' XFSZ
-        exec "$squall" run < "$tests/cases/run/empty_input/input" >> "$room/answers" 2>&9 6<&- 9>&-
+        exec "$squall" run < "$tests/cases/run/empty_input/in" >> "$room/answers" 2>&9 6<&- 9>&-
     ) &
     running=$!
     while [ "$state" != S ] && [ "$looks" -lt 600 ]; do
@@ -166,15 +181,15 @@ try_late_write() {
         looks=$((looks + 1))
     done
     : > "$room/answers"
-    tr -d '\0' <&6 9>&- > "$room/errors" &
+    tr -d '\0' <&6 9>&- > "$room/err" &
     ended=0
     wait "$running" || ended=$?
     exec 9>&-
     wait "$!"
     exec 6<&-
-    cp "$room/answers" "$room/output"
+    cp "$room/answers" "$room/out"
     rm "$room/answers" "$room/late"
-    if [ "$state" != S ]; then echo 'it has not waited' >> "$room/errors"; fi
+    if [ "$state" != S ]; then echo 'it has not waited' >> "$room/err"; fi
     said 124 > "$room/said"
     judge output_that_is_written_no_more 2 /dev/null "$room/said"
 }
@@ -193,11 +208,11 @@ give_in_16_mib() {
 # that is all that is written.
 try_memory() {
     local line='txn 0 1 9 check 0 0 1 get 0 0 get 0 0 get 0 0'
-    { head -n 4 "$tests/cases/run/moves_four_keys/input"; yes "$line" | head -n 900000; } > "$room/large.in"
+    { head -n 4 "$tests/cases/run/moves_four_keys/in"; yes "$line" | head -n 900000; } > "$room/large.in"
     { yes 'abort 1 0 absent' | head -n 900000; printf '%s\n' 'end idle' 'at 0 5 0 0.0=10/-'; } > "$room/wanted"
     give_in_16_mib "$room/large.in" run
     judge memory_that_does_not_grow 0 "$room/wanted" /dev/null
-    { head -n 3 "$tests/cases/run/moves_four_keys/input"; seq -f 'row %.0f 0 0 1 -' 0 499999; } > "$room/large.in"
+    { head -n 3 "$tests/cases/run/moves_four_keys/in"; seq -f 'row %.0f 0 0 1 -' 0 499999; } > "$room/large.in"
     echo 'fault 222' > "$room/wanted"
     said 222 > "$room/said"
     give_in_16_mib "$room/large.in" run
@@ -210,7 +225,7 @@ try_memory() {
 try_session() {
     local answer why=
     coproc session { timeout 120 "$squall" run 2> /dev/null; }
-    head -n 4 "$tests/cases/run/moves_four_keys/input" >&"${session[1]}"
+    head -n 4 "$tests/cases/run/moves_four_keys/in" >&"${session[1]}"
     for line in 'prepare 0=ok' 'x=refused 230' 'prepare 1=ok' 'start=ok' 'status 0 1=is free not-started'; do
         echo "${line%%=*}" >&"${session[1]}"
         answer=
@@ -234,14 +249,14 @@ typed() {
     local fault lines running
     mkfifo "$room/typed"
     while IFS='|' read -r fault lines; do
-        timeout 60 "$squall" "$1" < "$room/typed" > "$room/output" 2> "$room/errors" &
+        timeout 60 "$squall" "$1" < "$room/typed" > "$room/out" 2> "$room/err" &
         running=$!
         exec 9> "$room/typed"
         tr ';' '\n' <<< "$lines" >&9
         wait "$running" || true
         exec 9>&-
         echo "fault $fault" > "$room/wanted"
-        count "header of $1 typed up to fault $fault" "$(difference "$room/wanted" "$room/output")"
+        count "header of $1 typed up to fault $fault" "$(difference "$room/wanted" "$room/out")"
     done < <(
         old='old {"version":1,"partitions":2,"ranges":[[0,4294967296,0]]}'
         new='new {"version":1,"partitions":2,"ranges":[[0,4096,1],[4096,4294967296,0]]}'
@@ -290,7 +305,7 @@ typed_input() {
 # counted: a summary without what depends on the threads: in how many chunks keys moved, at which partition a job was answered
 # and whether it had waited there, and the times. A job that waited was answered.
 counted() {
-    sed -E 's/^( *[0-9]+ -> [0-9]+ +[0-9]+ +[0-9]+) +[1-9][0-9]*$/\1 chunks/; s/[0-9]+\.[0-9]{3}/TIME/g' "$room/errors" | awk '
+    sed -E 's/^( *[0-9]+ -> [0-9]+ +[0-9]+ +[0-9]+) +[1-9][0-9]*$/\1 chunks/; s/[0-9]+\.[0-9]{3}/TIME/g' "$room/err" | awk '
         inside && NF == 4 && $1 == parts { parts++; committed += $2; aborted += $3; if ($4 > $2 + $3) print "more waited"; next }
         inside { print parts " partitions, " committed + 0 " committed, " aborted + 0 " aborted"; inside = 0 }
         /^partition / { inside = 1 }
@@ -307,10 +322,10 @@ summary() {
         echo "$3"
         echo 'milliseconds: reading TIME, threads TIME, audits TIME'
     } > "$room/said"
-    give "$case/input" live --summary "${@:4}"
+    give "$case/in" live --summary "${@:4}"
     counted > "$room/counted"
-    cp "$room/counted" "$room/errors"
-    judge "live --summary $1 ${*:4}" 0 "$case/output" "$room/said"
+    cp "$room/counted" "$room/err"
+    judge "live --summary $1 ${*:4}" 0 "$case/out" "$room/said"
 }
 
 # What a live run tells besides its line: a summary, and a timeline of jobs and segments. Nothing of a fault.
@@ -322,8 +337,8 @@ try_told() {
     summary jobs_of_each_stage "$links" '3 partitions, 21 committed, 0 aborted'
     summary jobs_of_each_stage "$links" '3 partitions, 21 committed, 0 aborted' --fold
     try_figures "$stages"
-    give "$stages/input" live --timeline "$room/moments.csv"
-    judge 'live --timeline moments.csv' 0 "$stages/output" /dev/null
+    give "$stages/in" live --timeline "$room/moments.csv"
+    judge 'live --timeline moments.csv' 0 "$stages/out" /dev/null
     # One more job or segment on each line, no sooner than on the line before. An answer has its job, posted once the run had begun.
     why=$(awk -F, 'NR == 1 { if ($0 != "milliseconds,jobs,segments,partition,id,microseconds_since_post,waited") print "heading " $0; next }
         NF != 7 || $1 + 0 < at + 0 || $1 !~ /^[0-9]+\.[0-9][0-9][0-9]$/ || $2 + $3 != NR - 1 || $2 < jobs || $3 < segments { print "line " NR ": " $0 }
@@ -332,22 +347,22 @@ try_told() {
         { at = $1; jobs = $2 + 0; segments = $3 + 0 }
         END { if (jobs != 21 || segments != 3 || NR != 25) print "ends with " $0 }' "$room/moments.csv")
     count moments_of_a_run "$why"
-    awk '$1 == "txn" { print $3 }' "$stages/input" | sort > "$room/wanted"
+    awk '$1 == "txn" { print $3 }' "$stages/in" | sort > "$room/wanted"
     awk -F, 'NR > 1 && $5 != "" { print $5 }' "$room/moments.csv" | sort > "$room/told"
     count jobs_of_a_timeline "$(difference "$room/wanted" "$room/told")"
-    give "$stages/input" live --timeline "$room/moments.svg"
-    judge 'live --timeline moments.svg' 0 "$stages/output" /dev/null
+    give "$stages/in" live --timeline "$room/moments.svg"
+    judge 'live --timeline moments.svg' 0 "$stages/out" /dev/null
     chart=$(cat "$room/moments.svg")
     why=
     case $chart in '<svg xmlns='*'A live run of 21 jobs while 3 segments move<'*'>stage 0<'*'>stage 1<'*'jobs answered, of 21<'*'segments complete, of 3<'*'</svg>') ;; *) why='another chart' ;; esac
     # Both curves have a step for each moment.
     if [ "$(grep -E 'class="(jobs|segments)"' "$room/moments.svg" | grep -oE 'H[0-9]+V[0-9]+' | wc -l)" != 48 ]; then why='another number of steps'; fi
     count chart_of_a_run "$why"
-    give "$stages/input" live --timeline "$room/nowhere/moments.csv"
+    give "$stages/in" live --timeline "$room/nowhere/moments.csv"
     echo "squall: the file '$room/nowhere/moments.csv' can't be written: No such file or directory (os error 2)" > "$room/said"
-    judge 'live --timeline in no folder' 0 "$stages/output" "$room/said"
-    give "$tests/cases/live/an_id_twice/input" live --summary --timeline "$room/fault.csv"
-    judge 'live --summary of a fault' 2 "$tests/cases/live/an_id_twice/output" "$tests/cases/live/an_id_twice/errors"
+    judge 'live --timeline in no folder' 0 "$stages/out" "$room/said"
+    give "$tests/cases/live/an_id_twice/in" live --summary --timeline "$room/fault.csv"
+    judge 'live --summary of a fault' 2 "$tests/cases/live/an_id_twice/out" "$tests/cases/live/an_id_twice/err"
     count no_moments_of_a_fault "$(ls "$room/fault.csv" 2> /dev/null || true)"
 }
 
@@ -355,8 +370,8 @@ try_told() {
 # where a job was answered, which had waited and how long they took depends on the threads.
 try_figures() {
     local why
-    give "$1/input" live --summary-out "$room/figures.json"
-    judge 'live --summary-out figures.json' 0 "$1/output" /dev/null
+    give "$1/in" live --summary-out "$room/figures.json"
+    judge 'live --summary-out figures.json' 0 "$1/out" /dev/null
     # Of 5, 6 and 13 that go to partition 1, and of 9 and 11 that go to 2, each has one row without a note: 32 and 24 bytes.
     echo '{"links":[{"bytes":168,"chunks":C,"dst":1,"families":3,"keys":8,"rows":3,"src":0,"stage":0},{"bytes":112,"chunks":C,"dst":2,"families":2,"keys":4,"rows":2,"src":0,"stage":1}]' > "$room/wanted"
     sed -E 's/"chunks":[1-9][0-9]*/"chunks":C/g; s/,"microseconds":\{"audits":[0-9]+,"reading":[0-9]+,"threads":[0-9]+\},"partitions":\[.*\],"whole":true\}$//' \
@@ -368,8 +383,8 @@ try_figures() {
         { committed += $5; aborted += $1 }
         END { if (NR != 3 || committed != 21 || aborted != 0) print NR " partitions, " committed " committed, " aborted " aborted" }')
     count figures_of_partitions "$why"
-    give "$1/input" live --summary-out "$room/figures.txt"
-    judge 'live --summary-out figures.txt' 0 "$1/output" /dev/null
+    give "$1/in" live --summary-out "$room/figures.txt"
+    judge 'live --summary-out figures.txt' 0 "$1/out" /dev/null
     {
         echo 'stage  link        root keys    families        rows         bytes      chunks'
         printf '%5d  %2d -> %-3d%12d%12d%12d%14d chunks\n' 0 0 1 8 3 3 168 1 0 2 4 2 2 112
@@ -383,13 +398,13 @@ try_figures() {
     sed -E '/^ *[0-9]+ +[0-9]+ +[0-9]+ +[0-9]+$/d; s/^(.* -> .*[^ ]) +[1-9][0-9]*$/\1 chunks/; s/[0-9]+\.[0-9]{3}/TIME/g' "$room/figures.txt" > "$room/told"
     count figures_as_text "$(difference "$room/wanted" "$room/told")"
     echo "squall: the file '$room/nowhere/figures.json' can't be written: No such file or directory (os error 2)" > "$room/said"
-    give "$1/input" live --summary-out "$room/nowhere/figures.json"
-    judge 'live --summary-out in no folder' 2 "$1/output" "$room/said"
+    give "$1/in" live --summary-out "$room/nowhere/figures.json"
+    judge 'live --summary-out in no folder' 2 "$1/out" "$room/said"
     echo "squall: --timeline names the file '$room/figures.txt', which another option names too" > "$room/said"
-    give "$1/input" live --summary-out "$room/figures.txt" --timeline "$room/figures.txt"
+    give "$1/in" live --summary-out "$room/figures.txt" --timeline "$room/figures.txt"
     judge 'live --summary-out and --timeline into one file' 2 /dev/null "$room/said"
-    give "$tests/cases/live/an_id_twice/input" live --summary-out "$room/fault.json"
-    judge 'live --summary-out of a fault' 2 "$tests/cases/live/an_id_twice/output" "$tests/cases/live/an_id_twice/errors"
+    give "$tests/cases/live/an_id_twice/in" live --summary-out "$room/fault.json"
+    judge 'live --summary-out of a fault' 2 "$tests/cases/live/an_id_twice/out" "$tests/cases/live/an_id_twice/err"
     count no_figures_of_a_fault "$(ls "$room/fault.json" 2> /dev/null || true)"
 }
 
@@ -410,14 +425,18 @@ try_results() {
     done
     { cat "$folder/jobs1"; sed 1d "$folder/jobs2"; sed 1d "$folder/jobs3"; } > "$folder/script"
     give "$folder/script" run --old "$folder/0.json" --new "$folder/0.json" --rows "$folder/rows0" --rows-out "$folder/rows"
-    sed '/^end /,$d' "$room/output" > "$room/wanted"
+    sed '/^end /,$d' "$room/out" > "$room/wanted"
     cat "$folder"/replies[123] > "$room/told"
     count replies_of_a_chain "$(difference "$room/wanted" "$room/told")"
     count rows_of_a_chain "$(difference "$folder/rows" "$folder/rows3")"
-    give "$tests/cases/run/chunks_in_each_place/input" run --rows-out "$folder/moving"
-    grep '^row ' "$tests/cases/run/chunks_in_each_place/input" > "$room/wanted"
+    give "$tests/cases/run/chunks_in_each_place/in" run --rows-out "$folder/moving"
+    grep '^row ' "$tests/cases/run/chunks_in_each_place/in" > "$room/wanted"
     count rows_in_each_place "$(difference "$room/wanted" "$folder/moving")"
+    try_chain_of_scripts "$folder"
+    try_results_with_folds "$folder"
     try_bad_outputs "$folder"
+    try_clashes "$folder"
+    try_broken_writes "$folder"
     count no_part_of_a_file "$(find "$folder" -name '*.squall-part')"
 }
 
@@ -441,6 +460,89 @@ chain_jobs() {
     echo 'config 1 64 1'
     for root in 9 8 7 6 5 4 3 2 1 0; do
         echo "txn 0 $1$root $root add 0 0 $1 put 1 $1 $root 0a$1$1 get 2 4294967295 check 0 0 1"
+    done
+}
+
+# try_chain_of_scripts FOLDER: the chain in three scripts: in each the same transactions run where their keys are, before all
+# moves by the steps that `steps` writes. They leave the same rows.
+try_chain_of_scripts() {
+    local at words
+    cp "$1/rows0" "$1/script_rows0"
+    for at in 1 2 3; do
+        words=(--old "$1/$((at - 1)).json" --new "$1/$at.json" --rows "$1/script_rows$((at - 1))")
+        # The keys from 0 to 7 are at partition 1 before the second move, and those from 4 on before the third.
+        chain_jobs "$at" | awk -v at="$at" '$1 == "txn" { $2 = at == 1 ? 0 : at == 2 ? ($4 < 8) : ($4 >= 4) } { print }' > "$1/script$at"
+        give "$1/script$at" steps "${words[@]}"
+        cat "$room/out" >> "$1/script$at"
+        give "$1/script$at" run --strict "${words[@]}" --rows-out "$1/script_rows$at"
+        count "script $at of a chain" "$(if [ "$ended" != 0 ]; then echo "status $ended"; fi
+            grep -c '^commit ' "$room/out" | grep -vx 10; grep -qx 'end ended' "$room/out" || echo 'the move has not ended')"
+    done
+    count rows_of_a_chain_of_scripts "$(difference "$1/rows" "$1/script_rows3")"
+}
+
+# try_results_with_folds FOLDER: answers and rows of a run that folds its logs between two stages, in whatever order its jobs run.
+# Two of them abort.
+try_results_with_folds() {
+    local case=$tests/cases/live/aborts_in_two_stages_folded
+    give "$case/in" live --fold --replies "$1/replies_with_folds" --rows-out "$1/rows_with_folds"
+    judge 'live --fold --replies --rows-out' 0 "$case/out" /dev/null
+    printf '%s\n' 'abort 1 0 small' 'abort 2 0 small' 'commit 3 21' 'commit 4 11' > "$room/wanted"
+    count replies_with_folds "$(difference "$room/wanted" "$1/replies_with_folds")"
+    printf '%s\n' 'row 5 0 0 11 -' 'row 9 0 0 21 -' > "$room/wanted"
+    count rows_with_folds "$(difference "$room/wanted" "$1/rows_with_folds")"
+}
+
+# try_clashes FOLDER: an output that is the file of standard input, and outputs beside which a file would be written first that the
+# run reads, or that another option names. A file that is only standard input isn't read where the input has a name.
+try_clashes() {
+    local plans=(--old "$1/0.json" --new "$1/1.json")
+    chain_jobs 1 > "$1/jobs"
+    cp "$1/jobs" "$1/given"
+    echo "squall: --rows-out names the file '$1/given', which the run reads" > "$room/said"
+    give "$1/given" live "${plans[@]}" --rows "$1/rows0" --rows-out "$1/given"
+    judge 'live --rows-out over standard input' 2 /dev/null "$room/said"
+    count standard_input_stays "$(difference "$1/jobs" "$1/given")"
+    echo 'sound 10 families 10 committed' > "$room/wanted"
+    give "$1/given" live "${plans[@]}" --rows "$1/rows0" --rows-out "$1/given" "$1/jobs"
+    judge 'live --rows-out over what is not read' 0 "$room/wanted" /dev/null
+    cp "$1/rows0" "$1/kept.squall-part"
+    echo "squall: --replies writes the file '$1/kept.squall-part' first, which the run reads" > "$room/said"
+    give "$1/jobs" live "${plans[@]}" --rows "$1/kept.squall-part" --replies "$1/kept"
+    judge 'live --replies beside its rows' 2 /dev/null "$room/said"
+    count rows_beside_an_output "$(difference "$1/rows0" "$1/kept.squall-part")"
+    rm -f "$1/kept.squall-part"
+    echo "squall: --rows-out writes the file '$1/beside.squall-part' first, which another option names too" > "$room/said"
+    give "$1/jobs" live "${plans[@]}" --rows "$1/rows0" --rows-out "$1/beside" --replies "$1/beside.squall-part"
+    judge 'live --rows-out beside its replies' 2 /dev/null "$room/said"
+}
+
+# give_with_short_files INPUT WORD..: gives an input to the program, which can write no more than 1 KiB into a file.
+give_with_short_files() {
+    (
+        ulimit -f 1
+        trap '' XFSZ
+        give "$@"
+        echo "$ended" > "$room/ended"
+    )
+    ended=$(cat "$room/ended")
+}
+
+# try_broken_writes FOLDER: a write that fails in the middle leaves the file as it was, and none beside it.
+try_broken_writes() {
+    local option
+    {
+        head -n 3 "$tests/cases/live/move_without_jobs/in"
+        seq -f 'row %.0f 0 0 1 -' 100 199
+        seq -f 'txn 0 %.0f 150 get 0 0' 100 199
+    } > "$1/long"
+    echo 'sound 100 families 100 committed' > "$room/wanted"
+    echo "squall: the file '$1/stands' can't be written: File too large (os error 27)" > "$room/said"
+    for option in rows-out replies; do
+        echo before > "$1/stands"
+        give_with_short_files "$1/long" live "--$option" "$1/stands"
+        judge "live --$option into a file that may not be so long" 2 "$room/wanted" "$room/said"
+        count "file that stands after --$option" "$(cat "$1/stands" | grep -vx before; ls "$1" | grep '^stands\.')"
     done
 }
 
@@ -474,9 +576,9 @@ try_bad_outputs() {
     echo "squall: --rows-out names the file '$1/../results/both', which another option names too" > "$room/said"
     give "$1/jobs" live "${words[@]}" --replies "$1/both" --rows-out "$1/../results/both"
     judge 'live --replies and --rows-out into one file' 2 /dev/null "$room/said"
-    { cat "$tests/cases/live/one_turn_for_two_jobs/errors"; echo 'squall: jobs without an answer: 1'; } > "$room/said"
-    give "$tests/cases/live/one_turn_for_two_jobs/input" live --turns 1 --replies "$1/answered"
-    judge 'live --replies of a run that stops' 3 "$tests/cases/live/one_turn_for_two_jobs/output" "$room/said"
+    { cat "$tests/cases/live/one_turn_for_two_jobs/err"; echo 'squall: jobs without an answer: 1'; } > "$room/said"
+    give "$tests/cases/live/one_turn_for_two_jobs/in" live --turns 1 --replies "$1/answered"
+    judge 'live --replies of a run that stops' 3 "$tests/cases/live/one_turn_for_two_jobs/out" "$room/said"
     echo 'commit 1 ok' > "$room/wanted"
     count replies_of_a_run_that_stops "$(difference "$room/wanted" "$1/answered")"
 }
@@ -485,7 +587,7 @@ try_bad_outputs() {
 # looked at.
 most_threads() {
     local running most=0 threads
-    "$squall" live --pumps "$1" --turns 1000000000 < "$tests/cases/live/as_many_segments_as_there_may_be/input" > /dev/null &
+    "$squall" live --pumps "$1" --turns 1000000000 < "$tests/cases/live/as_many_segments_as_there_may_be/in" > /dev/null &
     running=$!
     threads=("/proc/$running/task"/*)
     while [ -e "${threads[0]}" ]; do
@@ -516,8 +618,8 @@ try_again() {
     local times=0 words
     mapfile -t words < "$tests/cases/live/four_partitions_round/words"
     while [ "$times" -lt 100 ]; do
-        give "$tests/cases/live/four_partitions_round/input" "${words[@]}"
-        judge 'four_partitions_round again' 0 "$tests/cases/live/four_partitions_round/output" /dev/null
+        give "$tests/cases/live/four_partitions_round/in" "${words[@]}"
+        judge 'four_partitions_round again' 0 "$tests/cases/live/four_partitions_round/out" /dev/null
         times=$((times + 1))
     done
 }
@@ -528,17 +630,17 @@ try_steps() {
     local case why cuts chunks
     for case in "$tests"/cases/live/*; do
         if [ -e "$case/status" ] || [ -e "$case/old.json" ]; then continue; fi
-        grep -v '^txn ' "$case/input" > "$room/header"
+        grep -v '^txn ' "$case/in" > "$room/header"
         give "$room/header" steps
         why=$(if [ "$ended" != 0 ]; then echo "status $ended"; fi)
-        cat "$room/header" "$room/output" > "$room/whole"
+        cat "$room/header" "$room/out" > "$room/whole"
         give "$room/whole" run
-        why+=$(if [ "$ended" != 0 ]; then echo "status $ended of the run"; fi; grep '^refused' "$room/output" || true
-            grep -qx 'end ended' "$room/output" || echo 'the move has not ended')
+        why+=$(if [ "$ended" != 0 ]; then echo "status $ended of the run"; fi; grep '^refused' "$room/out" || true
+            grep -qx 'end ended' "$room/out" || echo 'the move has not ended')
         count "steps of ${case##*/}" "$why"
-        cuts=$(grep -c '^cut ' "$room/output" || true)
+        cuts=$(grep -c '^cut ' "$room/out" || true)
         give "$room/header" ranges --sizes
-        chunks=$(awk '$1 == "stage" { sum += $NF } END { print sum + 0 }' "$room/output")
+        chunks=$(awk '$1 == "stage" { sum += $NF } END { print sum + 0 }' "$room/out")
         why=; if [ "$cuts" != "$chunks" ]; then why="$cuts chunks are cut, and $chunks told"; fi
         count "chunks of ${case##*/}" "$why"
     done
@@ -564,7 +666,7 @@ try_demo_of() {
         [ "$(grep -c '^txn ' "$files/jobs.txt")" = "$5" ] || echo 'other jobs')
     count "sizes of demo $1" "$why"
     give "$files/jobs.txt" ranges --old "$files/old.json" --new "$files/new.json"
-    count "moves of demo $1" "$(grep -q '^range .* 0 1$' "$room/output" || echo 'no range goes from 0 to 1')"
+    count "moves of demo $1" "$(grep -q '^range .* 0 1$' "$room/out" || echo 'no range goes from 0 to 1')"
     echo "sound $families families $5 committed" > "$room/wanted"
     give "$files/jobs.txt" live --old "$files/old.json" --new "$files/new.json" --rows "$files/rows.txt" \
         --replies "$files/replies" --rows-out "$files/rows"
@@ -593,7 +695,19 @@ try_demo() {
     count 'jobs of another seed' "$(if cmp -s "$room/demo/again/jobs.txt" "$room/demo/other/jobs.txt"; then echo 'the same'; fi)"
     # The hot keys of 16 on 2 partitions: an eighth of the 8 of partition 0, which is key 0.
     count 'all jobs hot' "$(awk '$1 == "txn" && $4 != 0' "$room/demo/small/jobs.txt" | head -n 1)"
+    try_demo_in_a_quoted_folder
     try_bad_demos
+}
+
+# The commands that are printed run in a shell, whatever the name of the folder is.
+try_demo_in_a_quoted_folder() {
+    local files="$room/demo/it's \$HOME; a \"shop\""
+    give /dev/null demo --roots 16 --jobs 100 "$files"
+    cp "$room/out" "$room/commands"
+    ended=0
+    (PATH=$room:$PATH sh "$room/commands") > "$room/out" 2> "$room/err" || ended=$?
+    count 'commands of a demo in a quoted folder' "$(if [ "$ended" != 0 ]; then echo "status $ended"; fi; head -n 1 "$room/err"
+        tail -n 1 "$room/out" | grep -vx 'sound 16 families 100 committed'; grep -q '^range ' "$room/out" || echo 'no range')"
 }
 
 # Inputs to begin with that aren't written.
@@ -618,7 +732,7 @@ try_bad_demos() {
 # with folds and without.
 try_rounds() {
     local times=0 id pumps fold
-    sed '/^txn /d' "$tests/cases/live/five_partitions_in_four_stages/input" > "$room/jobs.in"
+    sed '/^txn /d' "$tests/cases/live/five_partitions_in_four_stages/in" > "$room/jobs.in"
     for ((id = 0; id < 4096; id++)); do
         echo "txn $((id % 5)) $id $((2 * (id * 37 % 100))) add 0 0 1"
     done >> "$room/jobs.in"

@@ -6,13 +6,13 @@ four_at_1='{"version":1,"partitions":2,"ranges":[[0,4,0],[4,8,1],[8,4294967296,0
 
 # opening: the header of such an engine, with two rows.
 opening() {
-    printf '%s\n' "plan $all_at_0" 'config 1 64 1' 'row 5 0 0 10 -' 'row 9 0 0 20 -'
+    printf '%s\n' "plan $all_at_0" 'config 64 64 1' 'row 5 0 0 10 -' 'row 9 0 0 20 -'
 }
 
 # begin_engine WORD..: starts an engine with these words, that a client talks with by the descriptors 7 and 8.
 begin_engine() {
     mkfifo "$room/asked" "$room/answered"
-    (trap '' PIPE; exec timeout 60 "$squall" serve "$@" < "$room/asked" > "$room/answered" 2> "$room/errors" 7>&- 8>&-) &
+    (trap '' PIPE; exec timeout 60 "$squall" serve "$@" < "$room/asked" > "$room/answered" 2> "$room/err" 7>&- 8>&-) &
     engine=$!
     exec 8> "$room/asked" 7< "$room/answered"
     rm "$room/asked" "$room/answered"
@@ -34,13 +34,13 @@ ask() {
 # error, and ends with the status 0.
 end_engine() {
     exec 8>&-
-    cat <&7 > "$room/output"
+    cat <&7 > "$room/out"
     exec 7<&-
     ended=0
     wait "$engine" || ended=$?
     printf '%s\n' "${@:2}" > "$room/wanted"
     if [ "$ended" != 0 ]; then why="${why}status $ended; "; fi
-    count "$1" "$why$(difference "$room/wanted" "$room/output")$(cat "$room/errors")"
+    count "$1" "$why$(difference "$room/wanted" "$room/out")$(cat "$room/err")"
 }
 
 # Each answer comes before the next line is sent: of jobs, of moves, of folds, and of the plan in force.
@@ -59,6 +59,57 @@ served_session() {
     ask "move $all_at_0" 'moving 1' 'moved 1'
     ask 'fold' 'folded 1 0'
     end_engine 'serve: a session' 'sound 2 families 3 committed'
+}
+
+# said_so_far LINE..: standard error has these lines so far; it is emptied.
+said_so_far() {
+    printf '%s\n' "$@" > "$room/said"
+    why="$why$(difference "$room/said" "$room/err")"
+    : > "$room/err"
+}
+
+# The rows, by rising root key, as jobs and moves leave them; in a file, which they replace whole. A file that the engine reads or
+# that can't be written is refused, and a name that is no text.
+served_rows() {
+    echo "$all_at_0" > "$room/plan.json"
+    echo 'an older text' > "$room/rows.out"
+    begin_engine --plan "$room/plan.json"
+    opening | tail -n +2 >&8
+    ask 'rows' 'row 5 0 0 10 -' 'row 9 0 0 20 -' 'rows 2'
+    ask 'txn 0 1 9 add 0 0 -3' 'commit 1 17'
+    ask 'txn 0 2 7 put 0 0 1 ab' 'commit 2 ok'
+    ask "rows $room/rows.out" 'rows 3'
+    printf '%s\n' 'row 5 0 0 10 -' 'row 7 0 0 1 ab' 'row 9 0 0 17 -' > "$room/wanted"
+    why="$why$(difference "$room/wanted" "$room/rows.out")"
+    ask "move $four_at_1" 'moving 1' 'moved 1'
+    ask 'rows' 'row 5 0 0 10 -' 'row 7 0 0 1 ab' 'row 9 0 0 17 -' 'rows 3'
+    ask "rows $room/plan.json" 'refused 124'
+    ask "rows $room/none/rows" 'refused 124'
+    ask $'rows \xff' 'fault 126 13'
+    said_so_far "squall: the file '$room/plan.json' can't be written: entity already exists" \
+        "squall: the file '$room/none/rows' can't be written: No such file or directory (os error 2)"
+    echo "$all_at_0" > "$room/wanted"
+    why="$why$(difference "$room/wanted" "$room/plan.json")$(ls "$room" | grep squall-part || true)"
+    ask 'txn 0 3 7 del 0 0' 'commit 3 ok'
+    ask 'rows' 'row 5 0 0 10 -' 'row 9 0 0 17 -' 'rows 2'
+    end_engine 'serve: rows' 'sound 2 families 3 committed'
+}
+
+# While rows move they aren't told, and nothing changes.
+served_rows_in_a_move() {
+    local plan='{"version":1,"partitions":2,"ranges":[[0,50000,OWNER],[50000,4294967296,0]]}'
+    begin_engine
+    {
+        printf '%s\n' "plan ${plan/OWNER/0}" 'config 64 64 1'
+        seq -f 'row %.0f 0 0 1 -' 0 49999
+    } >&8
+    ask 'txn 0 1 5 get 0 0' 'commit 1 1/-'
+    ask "move ${plan/OWNER/1}" 'moving 25'
+    ask 'rows' 'refused 217' 'moved 25'
+    ask "rows $room/rows.out" 'rows 50000'
+    seq -f 'row %.0f 0 0 1 -' 0 49999 > "$room/wanted"
+    why="$why$(difference "$room/wanted" "$room/rows.out")"
+    end_engine 'serve: rows while rows move' 'sound 50000 families 1 committed'
 }
 
 # Lines that ask nothing are told with their numbers, and the engine goes on: one that is none, one that is too long, an id that
@@ -84,7 +135,7 @@ served_faults() {
 # The example, whose answers come in any order.
 served_example() {
     give "$examples/engine.txt" serve
-    grep -v -e ' jobs open$' -e '^at rest$' "$room/output" | sort > "$room/told"
+    grep -v -e ' jobs open$' -e '^at rest$' "$room/out" | sort > "$room/told"
     printf '%s\n' 'abort 4 0 small' 'commit 1 11' 'commit 2 12' 'commit 3 20/-' 'moved 1' 'moving 1' \
         'sound 2 families 3 committed' > "$room/wanted"
     count 'serve: the example' "$(difference "$room/wanted" "$room/told")"
@@ -98,7 +149,7 @@ served_end_in_a_move() {
         seq -f 'txn 0 %.0f 5 add 0 0 1' 1 100
     } > "$room/jobs"
     give "$room/jobs" serve
-    sed 's/^commit .*/commit/' "$room/output" | sort | uniq -c | sed 's/^ *//' > "$room/told"
+    sed 's/^commit .*/commit/' "$room/out" | sort | uniq -c | sed 's/^ *//' > "$room/told"
     printf '%s\n' '100 commit' '1 moved 1' '1 moving 1' '1 sound 2 families 100 committed' > "$room/wanted"
     count 'serve: an end in a move' "$([ "$ended" = 0 ] || echo "status $ended; ")$(difference "$room/wanted" "$room/told")"
 }
@@ -107,7 +158,7 @@ served_end_in_a_move() {
 served_moves() {
     local owner from=1 plan='{"version":1,"partitions":2,"ranges":[[0,8,OWNER],[8,4294967296,0]]}'
     {
-        printf '%s\n' "plan ${plan/OWNER/0}" 'config 1 64 1' 'row 5 0 0 0 -'
+        printf '%s\n' "plan ${plan/OWNER/0}" 'config 64 64 1' 'row 5 0 0 0 -'
         for owner in 1 0 1 0; do
             seq -f 'txn 0 %.0f 5 add 0 0 1' "$from" $((from + 499))
             echo "move ${plan/OWNER/$owner}"
@@ -115,10 +166,10 @@ served_moves() {
         done
     } > "$room/jobs"
     give "$room/jobs" serve --fold-after 700
-    grep '^commit ' "$room/output" | cut -d ' ' -f 3 | sort -n > "$room/numbers"
+    grep '^commit ' "$room/out" | cut -d ' ' -f 3 | sort -n > "$room/numbers"
     seq 1 2000 > "$room/wanted"
     count 'serve: numbers of a root key that moves' "$(difference "$room/wanted" "$room/numbers")"
-    tail -n 1 "$room/output" > "$room/end"
+    tail -n 1 "$room/out" > "$room/end"
     echo 'sound 1 families 2000 committed' > "$room/wanted"
     count 'serve: the end of its moves' "$([ "$ended" = 0 ] || echo "status $ended; ")$(difference "$room/wanted" "$room/end")"
 }
@@ -134,7 +185,7 @@ served_files() {
     echo "$all_at_0" > "$room/plan.json"
     opening | grep '^row ' > "$room/rows.txt"
     printf '%s\n' '5,0,0,10,' '9,0,0,20,' > "$room/rows.csv"
-    printf '%s\n' 'config 1 64 1' 'txn 0 1 5 add 0 0 5' > "$room/more"
+    printf '%s\n' 'config 64 64 1' 'txn 0 1 5 add 0 0 5' > "$room/more"
     printf '%s\n' 'commit 1 15' 'sound 2 families 1 committed' > "$room/wanted"
     for rows in rows.txt rows.csv; do
         give "$room/more" serve --plan "$room/plan.json" --rows "$room/$rows"
@@ -153,10 +204,10 @@ served_headers() {
         tr ';' '\n' <<< "$text" > "$room/header"
         give "$room/header" serve
         echo "fault $fault $line" > "$room/wanted"
-        said=$(cat "$room/errors")
+        said=$(cat "$room/err")
         case $said in "squall: line $line: fault $fault: "?*) said= ;; esac
         if [ "$ended" != 2 ]; then said="$said status $ended"; fi
-        count "serve: a header with fault $fault in line $line" "$said$(difference "$room/wanted" "$room/output")"
+        count "serve: a header with fault $fault in line $line" "$said$(difference "$room/wanted" "$room/out")"
     done <<END
 121|1|
 121|1|config 1 64 1
@@ -177,7 +228,7 @@ served_closed_output() {
     ended=0
     wait "$engine" || ended=$?
     exec 8>&-
-    count 'serve: a closed output' "$why$([ "$ended" = 2 ] || echo "status $ended; ")$(cat "$room/errors")"
+    count 'serve: a closed output' "$why$([ "$ended" = 2 ] || echo "status $ended; ")$(cat "$room/err")"
     said 124 > "$room/said"
     write_nowhere 'serve: a full device' "$examples/engine.txt" serve
 }
@@ -186,6 +237,8 @@ try_serve() {
     local engine why rows
     trap '' PIPE
     served_session
+    served_rows
+    served_rows_in_a_move
     served_faults
     served_closed_output
     trap - PIPE
